@@ -1,0 +1,11 @@
+pub mod Mentions
+pub mod Symbols
+pub mod Values
+pub mod Memory
+pub mod Operations
+pub mod Effect
+pub mod Cost
+pub mod Run
+pub mod Start
+pub mod Meaning
+pub mod Laws

@@ -1,0 +1,17 @@
+//! The laws of the meaning, each as the contract of a function that does nothing.
+ghost use Rattle.il_ast.specs.Laws.{EndsStay, OutputGrows, DepthIsEnough};
+
+/// An end other than `Turns`, and the output with it, is the same at every greater number of turns.
+pub fn ends_stay()
+    ensures { EndsStay }
+{}
+
+/// The output at fewer turns is a beginning of that at more.
+pub fn output_grows()
+    ensures { OutputGrows }
+{}
+
+/// The depth of calls that the meaning allows is enough: beyond the turns it changes nothing.
+pub fn depth_is_enough()
+    ensures { DepthIsEnough }
+{}

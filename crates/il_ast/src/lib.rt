@@ -1,0 +1,24 @@
+//! The tree of a text of the QBE intermediate language (its integer part), and what it means.
+//!
+//! `Text` is the tree of one text, as the reader makes it; `Program` is several texts in which every
+//! global name has its meaning. Both are plain data with public fields, in which lists are `Seq` (and
+//! `Few` where a list is nearly always short); a clause sees each as the list of its items.
+//! Temporaries, labels and global names are interned: an operand holds the number of its name.
+//!
+//! The folder `specs` says what a program means, in full and with no other crate's help: values,
+//! memory, operations, the effect of one turn, runs, calls, the start, the stack, weight and price.
+//! The laws of that meaning stand as contracts in `laws`.
+#![tactic(auto)]
+
+pub mod block;
+pub mod datum;
+pub mod function;
+pub mod instruction;
+pub mod laws;
+pub mod list;
+pub mod name;
+pub mod operand;
+pub mod operation;
+pub mod program;
+pub mod text;
+pub mod value;

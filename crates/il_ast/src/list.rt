@@ -1,0 +1,109 @@
+//! Lists that a contract sees as the list of their items.
+ghost use Rattle.std.specs.Prelude.{◌≡◌, [], ◌∷◌, ◌++◌, length, OnOk, OnErr};
+
+use smallvec::SmallVec;
+use std::alloc::{AllocError, Global};
+use std::marker::Model;
+
+/// A list on the heap. An empty one takes no memory.
+#[derive(Drop)]
+pub struct Seq<T> {
+    items: Vec<T>,
+}
+
+impl<T> Model for Seq<T> {
+    ghost use Rattle.std.specs.Prelude.{List};
+
+    ghost Value = { List T };
+
+    ghost view = { λ s. s.items.items };
+}
+
+impl<T: Drop> Seq<T> {
+    /// The empty list, which takes no memory.
+    pub fn new(alloc: Global) -> Self
+        ensures { result ≡ [] }
+    {
+        Seq {
+            items: Vec::new(alloc),
+        }
+    }
+
+    /// The items of a vector, in their order.
+    pub fn from_vec(items: Vec<T>) -> Self
+        ensures { result ≡ items.items }
+    {
+        Seq { items }
+    }
+
+    /// The number of items.
+    pub fn len(&self) -> usize
+        ensures { result ≡ length self.now }
+    {
+        self.items.len()
+    }
+
+    /// The items as a slice.
+    pub fn as_slice(&self) -> &[T]
+        ensures { result.now ≡ self.now }
+    {
+        self.items.as_slice()
+    }
+
+    /// Puts an item at the end. Where memory is refused the list stays as it was.
+    pub fn push(&mut self, item: T) -> Result<(), AllocError>
+        ensures ok { OnOk result (self.new ≡ self.old ++ item ∷ []) }
+        ensures err { OnErr result (self.new ≡ self.old) }
+    {
+        self.items.push(item)?;
+        Ok(())
+    }
+}
+
+/// A list of which up to four items stand in the value itself, and more on the heap.
+#[derive(Drop)]
+pub struct Few<T> {
+    items: SmallVec<T, 4, Global>,
+}
+
+impl<T> Model for Few<T> {
+    ghost use Rattle.std.specs.Prelude.{List};
+
+    ghost Value = { List T };
+
+    ghost view = { λ s. s.items.items };
+}
+
+impl<T: Default + Drop> Few<T> {
+    /// The empty list, which takes no memory.
+    pub fn new(alloc: Global) -> Self
+        ensures { result ≡ [] }
+    {
+        Few {
+            items: SmallVec::new(alloc),
+        }
+    }
+
+    /// The number of items.
+    pub fn len(&self) -> usize
+        ensures { result ≡ length self.now }
+    {
+        self.items.len()
+    }
+
+    /// The items as a slice.
+    pub fn as_slice(&self) -> &[T]
+        ensures { result.now ≡ self.now }
+    {
+        self.items.as_slice()
+    }
+
+    /// Puts an item at the end. Where memory is refused the list stays as it was.
+    pub fn push(&mut self, item: T) -> Result<(), AllocError>
+        ensures ok { OnOk result (self.new ≡ self.old ++ item ∷ []) }
+        ensures err { OnErr result (self.new ≡ self.old) }
+    {
+        self.items.push(item)?;
+        Ok(())
+    }
+}
