@@ -1,0 +1,190 @@
+-- `instruction_of` is the inverse of the encoding table: it gives i for the word of i, and i only for that word.
+use Rattle.std.proofs.Common.{◌≡◌, ℕ, ◌+◌, ◌*◌, ◌^◌, ◌<◌, Bool, true, false, arith, refl, ap, sym, ◌∙◌, lit<, eq-eqb, eqb-true, ne_eqb}
+use Rattle.std.specs.Prelude.{Some, None, ◌==◌, ◌↔◌, if◌then◌else◌}
+use Rattle.rv_isa.specs.Formats.{part, low_bits}
+use Rattle.rv_isa.specs.Encoding.{word, branch_row, load_row, store_row, imm_row, shift_row, shiftw_row, reg_row, regw_row}
+use Rattle.rv_isa.specs.Decoding.{candidate, instruction_of}
+use Rattle.rv_isa.proofs.FieldLemmas.{reads_joined}
+use Rattle.rv_isa.proofs.DecodingLemmas.{lui_back, auipc_back, jal_back, jalr_back, branch_back, load_back, store_back, imm_back, addiw_back, shift_back, shiftw_back, reg_back, regw_back, fence_back, ecall_back, ebreak_back, low_bits_13_below, low_bits_21_below}
+use Rattle.rv_isa.specs.declared.instruction.Instr.{Instr}
+use Rattle.rv_isa.specs.declared.instruction.Instr.TheVariants.{Lui, Auipc, Jal, Jalr, Branch, Load, Store, Imm, Addiw, Shift, ShiftW, Reg, RegW, Fence, Ecall, Ebreak}
+use Rattle.rv_isa.specs.declared.instruction.BranchOp.{BranchOp}
+use Rattle.rv_isa.specs.declared.instruction.BranchOp.TheVariants.{Beq, Bne, Blt, Bge, Bltu, Bgeu}
+use Rattle.rv_isa.specs.declared.instruction.LoadOp.{LoadOp}
+use Rattle.rv_isa.specs.declared.instruction.LoadOp.TheVariants.{Lb, Lh, Lw, Ld, Lbu, Lhu, Lwu}
+use Rattle.rv_isa.specs.declared.instruction.StoreOp.{StoreOp}
+use Rattle.rv_isa.specs.declared.instruction.StoreOp.TheVariants.{Sb, Sh, Sw, Sd}
+use Rattle.rv_isa.specs.declared.instruction.ImmOp.{ImmOp}
+use Rattle.rv_isa.specs.declared.instruction.ImmOp.TheVariants.{Addi, Slti, Sltiu, Xori, Ori, Andi}
+use Rattle.rv_isa.specs.declared.instruction.ShiftOp.{ShiftOp}
+use Rattle.rv_isa.specs.declared.instruction.ShiftOp.TheVariants.{Slli, Srli, Srai}
+use Rattle.rv_isa.specs.declared.instruction.ShiftWOp.{ShiftWOp}
+use Rattle.rv_isa.specs.declared.instruction.ShiftWOp.TheVariants.{Slliw, Srliw, Sraiw}
+use Rattle.rv_isa.specs.declared.instruction.RegOp.{RegOp}
+use Rattle.rv_isa.specs.declared.instruction.RegOp.TheVariants.{Add, Sub, Sll, Slt, Sltu, Xor, Srl, Sra, Or, And, Mul, Mulh, Mulhsu, Mulhu, Div, Divu, Rem, Remu}
+use Rattle.rv_isa.specs.declared.instruction.RegWOp.{RegWOp}
+use Rattle.rv_isa.specs.declared.instruction.RegWOp.TheVariants.{Addw, Subw, Sllw, Srlw, Sraw, Mulw, Divw, Divuw, Remw, Remuw}
+
+-- ---- rows are in range
+
+branch_row_fits : (op : BranchOp) → branch_row op < 8
+branch_row_fits Beq = lit< tt
+branch_row_fits Bne = lit< tt
+branch_row_fits Blt = lit< tt
+branch_row_fits Bge = lit< tt
+branch_row_fits Bltu = lit< tt
+branch_row_fits Bgeu = lit< tt
+
+load_row_fits : (op : LoadOp) → load_row op < 8
+load_row_fits Lb = lit< tt
+load_row_fits Lh = lit< tt
+load_row_fits Lw = lit< tt
+load_row_fits Ld = lit< tt
+load_row_fits Lbu = lit< tt
+load_row_fits Lhu = lit< tt
+load_row_fits Lwu = lit< tt
+
+store_row_fits : (op : StoreOp) → store_row op < 8
+store_row_fits Sb = lit< tt
+store_row_fits Sh = lit< tt
+store_row_fits Sw = lit< tt
+store_row_fits Sd = lit< tt
+
+imm_row_fits : (op : ImmOp) → imm_row op < 8
+imm_row_fits Addi = lit< tt
+imm_row_fits Slti = lit< tt
+imm_row_fits Sltiu = lit< tt
+imm_row_fits Xori = lit< tt
+imm_row_fits Ori = lit< tt
+imm_row_fits Andi = lit< tt
+
+shift_row_fits : (op : ShiftOp) → ((shift_row op).0 < 8) × ((shift_row op).1 < 64)
+shift_row_fits Slli = (lit< tt, lit< tt)
+shift_row_fits Srli = (lit< tt, lit< tt)
+shift_row_fits Srai = (lit< tt, lit< tt)
+
+shiftw_row_fits : (op : ShiftWOp) → ((shiftw_row op).0 < 8) × ((shiftw_row op).1 < 128)
+shiftw_row_fits Slliw = (lit< tt, lit< tt)
+shiftw_row_fits Srliw = (lit< tt, lit< tt)
+shiftw_row_fits Sraiw = (lit< tt, lit< tt)
+
+reg_row_fits : (op : RegOp) → ((reg_row op).0 < 8) × ((reg_row op).1 < 128)
+reg_row_fits Add = (lit< tt, lit< tt)
+reg_row_fits Sub = (lit< tt, lit< tt)
+reg_row_fits Sll = (lit< tt, lit< tt)
+reg_row_fits Slt = (lit< tt, lit< tt)
+reg_row_fits Sltu = (lit< tt, lit< tt)
+reg_row_fits Xor = (lit< tt, lit< tt)
+reg_row_fits Srl = (lit< tt, lit< tt)
+reg_row_fits Sra = (lit< tt, lit< tt)
+reg_row_fits Or = (lit< tt, lit< tt)
+reg_row_fits And = (lit< tt, lit< tt)
+reg_row_fits Mul = (lit< tt, lit< tt)
+reg_row_fits Mulh = (lit< tt, lit< tt)
+reg_row_fits Mulhsu = (lit< tt, lit< tt)
+reg_row_fits Mulhu = (lit< tt, lit< tt)
+reg_row_fits Div = (lit< tt, lit< tt)
+reg_row_fits Divu = (lit< tt, lit< tt)
+reg_row_fits Rem = (lit< tt, lit< tt)
+reg_row_fits Remu = (lit< tt, lit< tt)
+
+regw_row_fits : (op : RegWOp) → ((regw_row op).0 < 8) × ((regw_row op).1 < 128)
+regw_row_fits Addw = (lit< tt, lit< tt)
+regw_row_fits Subw = (lit< tt, lit< tt)
+regw_row_fits Sllw = (lit< tt, lit< tt)
+regw_row_fits Srlw = (lit< tt, lit< tt)
+regw_row_fits Sraw = (lit< tt, lit< tt)
+regw_row_fits Mulw = (lit< tt, lit< tt)
+regw_row_fits Divw = (lit< tt, lit< tt)
+regw_row_fits Divuw = (lit< tt, lit< tt)
+regw_row_fits Remw = (lit< tt, lit< tt)
+regw_row_fits Remuw = (lit< tt, lit< tt)
+
+-- ---- `candidate` gives every instruction back
+
+candidate-word : (i : Instr) → candidate (word i) ≡ i
+candidate-word (Lui rd field) =
+    let f = field.in_range in
+    lui_back _ rd field (reads_joined 0x37 rd.number (part field.value 2 0) (part field.value 7 3) (part field.value 12 8) (part field.value 19 13)
+    (lit< tt) rd.in_range (omega arith) (omega arith) (omega arith) (omega arith))
+candidate-word (Auipc rd field) =
+    let f = field.in_range in
+    auipc_back _ rd field (reads_joined 0x17 rd.number (part field.value 2 0) (part field.value 7 3) (part field.value 12 8) (part field.value 19 13)
+    (lit< tt) rd.in_range (omega arith) (omega arith) (omega arith) (omega arith))
+candidate-word (Jal rd offset) =
+    let n = low_bits 21 offset.value in
+    let below : n < 2097152 = low_bits_21_below offset.value in
+    jal_back _ rd offset n refl (reads_joined 0x6f rd.number (part n 14 12) (part n 19 15) (part n 4 1 * 2 + part n 11 11) (part n 20 20 * 2 ^ 6 + part n 10 5)
+    (lit< tt) rd.in_range (omega arith) (omega arith) (omega arith) (omega arith))
+candidate-word (Jalr rd rs1 offset) =
+    let n = low_bits 12 offset.value in
+    jalr_back _ rd rs1 offset (reads_joined 0x67 rd.number 0 rs1.number (part n 4 0) (part n 11 5)
+    (lit< tt) rd.in_range (lit< tt) rs1.in_range (omega arith) (omega arith))
+candidate-word (Branch op rs1 rs2 offset) =
+    let n = low_bits 13 offset.value in
+    let below : n < 8192 = low_bits_13_below offset.value in
+    branch_back _ op rs1 rs2 offset n refl (reads_joined 0x63 (part n 4 1 * 2 + part n 11 11) (branch_row op) rs1.number rs2.number (part n 12 12 * 2 ^ 6 + part n 10 5)
+    (lit< tt) (omega arith) (branch_row_fits op) rs1.in_range rs2.in_range (omega arith))
+candidate-word (Load op rd rs1 offset) =
+    let n = low_bits 12 offset.value in
+    load_back _ op rd rs1 offset (reads_joined 0x03 rd.number (load_row op) rs1.number (part n 4 0) (part n 11 5)
+    (lit< tt) rd.in_range (load_row_fits op) rs1.in_range (omega arith) (omega arith))
+candidate-word (Store op rs1 rs2 offset) =
+    let n = low_bits 12 offset.value in
+    store_back _ op rs1 rs2 offset (reads_joined 0x23 (part n 4 0) (store_row op) rs1.number rs2.number (part n 11 5)
+    (lit< tt) (omega arith) (store_row_fits op) rs1.in_range rs2.in_range (omega arith))
+candidate-word (Imm op rd rs1 immediate) =
+    let n = low_bits 12 immediate.value in
+    imm_back _ op rd rs1 immediate (reads_joined 0x13 rd.number (imm_row op) rs1.number (part n 4 0) (part n 11 5)
+    (lit< tt) rd.in_range (imm_row_fits op) rs1.in_range (omega arith) (omega arith))
+candidate-word (Addiw rd rs1 immediate) =
+    let n = low_bits 12 immediate.value in
+    addiw_back _ rd rs1 immediate (reads_joined 0x1b rd.number 0 rs1.number (part n 4 0) (part n 11 5)
+    (lit< tt) rd.in_range (lit< tt) rs1.in_range (omega arith) (omega arith))
+candidate-word (Shift op rd rs1 amount) =
+    let row = shift_row_fits op in
+    shift_back _ op rd rs1 amount (reads_joined 0x13 rd.number (shift_row op).0 rs1.number (part amount.value 4 0) ((shift_row op).1 * 2 + part amount.value 5 5)
+    (lit< tt) rd.in_range row.0 rs1.in_range (omega arith) (omega (arith, row.1)))
+candidate-word (ShiftW op rd rs1 amount) =
+    let row = shiftw_row_fits op in
+    shiftw_back _ op rd rs1 amount (reads_joined 0x1b rd.number (shiftw_row op).0 rs1.number amount.value (shiftw_row op).1
+    (lit< tt) rd.in_range row.0 rs1.in_range amount.in_range row.1)
+candidate-word (Reg op rd rs1 rs2) =
+    let row = reg_row_fits op in
+    reg_back _ op rd rs1 rs2 (reads_joined 0x33 rd.number (reg_row op).0 rs1.number rs2.number (reg_row op).1
+    (lit< tt) rd.in_range row.0 rs1.in_range rs2.in_range row.1)
+candidate-word (RegW op rd rs1 rs2) =
+    let row = regw_row_fits op in
+    regw_back _ op rd rs1 rs2 (reads_joined 0x3b rd.number (regw_row op).0 rs1.number rs2.number (regw_row op).1
+    (lit< tt) rd.in_range row.0 rs1.in_range rs2.in_range row.1)
+candidate-word Fence = fence_back
+candidate-word Ecall = ecall_back
+candidate-word Ebreak = ebreak_back
+
+pub instruction_of-word : (i : Instr) → instruction_of (word i) ≡ Some i
+unfolding instruction_of
+instruction_of-word i =
+    let e = candidate-word i in
+    let t : (word (candidate (word i)) == word i) ≡ true = eq-eqb _ _ (ap word e) in
+    rw t (ap Some e)
+
+-- what a choice between a value and none was
+chosen : (b : Bool) (x i : Instr) → (if b then Some x else None) ≡ Some i → (b ≡ true) × (x ≡ i)
+chosen true x i e = (refl, cc)
+chosen false x i e = absurd (cc)
+
+pub word_of-instruction : (w : ℕ) (i : Instr) → instruction_of w ≡ Some i → word i ≡ w
+unfolding instruction_of
+word_of-instruction w i e =
+    let both = chosen (word (candidate w) == w) (candidate w) i e in
+    ap word (sym both.1) ∙ eqb-true _ _ both.0
+
+pub decodes : (w : ℕ) (i : Instr) → (instruction_of w ≡ Some i) ↔ (word i ≡ w)
+decodes w i = (word_of-instruction w i, λ e. ap instruction_of (sym e) ∙ instruction_of-word i)
+
+-- a candidate with another word: there is no instruction
+pub not_decoded : (w : ℕ) (i : Instr) → i ≡ candidate w → (word i ≡ w → ⊥) → instruction_of w ≡ None
+unfolding instruction_of
+not_decoded w i e differs =
+    let t : (word (candidate w) == w) ≡ false = ne_eqb _ _ (λ h. differs (ap word e ∙ h)) in
+    rw t refl

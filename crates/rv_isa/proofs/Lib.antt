@@ -1,0 +1,4 @@
+pub mod DecodingLaws
+pub mod DecodingLemmas
+pub mod FieldLemmas
+pub mod Same

@@ -1,0 +1,5 @@
+pub mod Decoding
+pub mod Encoding
+pub mod Formats
+pub mod Readings
+pub mod Text
