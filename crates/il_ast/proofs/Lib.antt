@@ -1,2 +1,3 @@
 pub mod GoingOn
 pub mod SameDepth
+pub mod Computed

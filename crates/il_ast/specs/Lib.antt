@@ -9,3 +9,5 @@ pub mod Run
 pub mod Start
 pub mod Meaning
 pub mod Laws
+pub mod ExamplePrograms
+pub mod Examples

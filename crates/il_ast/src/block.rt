@@ -1,7 +1,8 @@
 //! Basic blocks (QBE IL, "Blocks" and "Phi").
+use crate::few::Few;
 use crate::instruction::{Inst, Jump, Lined};
-use crate::list::{Few, Seq};
-use crate::name::Label;
+use crate::label::Label;
+use crate::list::Seq;
 use crate::operand::{Dest, Val};
 
 /// The value that a phi takes where its block is entered from the block of this label.

@@ -1,7 +1,7 @@
 //! Data definitions (QBE IL, "Data").
 use crate::list::Seq;
-use crate::name::Symbol;
 use crate::operation::Size;
+use crate::symbol::Symbol;
 
 /// One item of a field.
 #[derive(Drop)]

@@ -5,8 +5,10 @@ ghost use Rattle.std.proofs.Props.{props};
 
 use crate::block::Block;
 use crate::list::Seq;
-use crate::name::{Name, Symbol, Temp};
+use crate::name::Name;
 use crate::operation::Class;
+use crate::symbol::Symbol;
+use crate::temp::Temp;
 
 /// A parameter.
 #[derive(Clone, Copy, Debug, PartialEq, Eq)]

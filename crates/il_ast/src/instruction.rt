@@ -1,6 +1,6 @@
 //! Instructions and jumps (QBE IL, "Instructions" and "Jumps").
-use crate::list::Few;
-use crate::name::Label;
+use crate::few::Few;
+use crate::label::Label;
 use crate::operand::{Arg, Dest, Val};
 use crate::operation::{Alignment, BinaryOp, Size, UnaryOp};
 

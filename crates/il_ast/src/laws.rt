@@ -1,4 +1,5 @@
 //! The laws of the meaning, each as the contract of a function that does nothing.
+ghost use Rattle.il_ast.specs.Examples.{Examples};
 ghost use Rattle.il_ast.specs.Laws.{EndsStay, OutputGrows, DepthIsEnough};
 
 /// An end other than `Turns`, and the output with it, is the same at every greater number of turns.
@@ -14,4 +15,9 @@ pub fn output_grows()
 /// The depth of calls that the meaning allows is enough: beyond the turns it changes nothing.
 pub fn depth_is_enough()
     ensures { DepthIsEnough }
+{}
+
+/// What the definitions give for some small programs.
+pub fn examples_are_computed()
+    ensures { Examples }
 {}

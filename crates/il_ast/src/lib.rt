@@ -12,13 +12,17 @@
 
 pub mod block;
 pub mod datum;
+pub mod few;
 pub mod function;
 pub mod instruction;
+pub mod label;
 pub mod laws;
 pub mod list;
 pub mod name;
 pub mod operand;
 pub mod operation;
 pub mod program;
+pub mod symbol;
+pub mod temp;
 pub mod text;
 pub mod value;

@@ -1,7 +1,6 @@
-//! Lists that a contract sees as the list of their items.
+//! A list that a contract sees as the list of its items.
 ghost use Rattle.std.specs.Prelude.{◌≡◌, [], ◌∷◌, ◌++◌, length, OnOk, OnErr};
 
-use smallvec::SmallVec;
 use std::alloc::{AllocError, Global};
 use std::marker::Model;
 
@@ -60,50 +59,19 @@ impl<T: Drop> Seq<T> {
     }
 }
 
-/// A list of which up to four items stand in the value itself, and more on the heap.
-#[derive(Drop)]
-pub struct Few<T> {
-    items: SmallVec<T, 4, Global>,
-}
+#[cfg(test)]
+mod tests {
+    use super::*;
+    use std::test::Fail;
 
-impl<T> Model for Few<T> {
-    ghost use Rattle.std.specs.Prelude.{List};
-
-    ghost Value = { List T };
-
-    ghost view = { λ s. s.items.items };
-}
-
-impl<T: Default + Drop> Few<T> {
-    /// The empty list, which takes no memory.
-    pub fn new(alloc: Global) -> Self
-        ensures { result ≡ [] }
-    {
-        Few {
-            items: SmallVec::new(alloc),
+    #[test]
+    fn holds_what_was_pushed(rt: HostRuntime) -> Result<(), Fail> {
+        let mut numbers = Seq::new(rt.alloc());
+        for number in 0..9u8 {
+            numbers.push(number)?;
         }
-    }
-
-    /// The number of items.
-    pub fn len(&self) -> usize
-        ensures { result ≡ length self.now }
-    {
-        self.items.len()
-    }
-
-    /// The items as a slice.
-    pub fn as_slice(&self) -> &[T]
-        ensures { result.now ≡ self.now }
-    {
-        self.items.as_slice()
-    }
-
-    /// Puts an item at the end. Where memory is refused the list stays as it was.
-    pub fn push(&mut self, item: T) -> Result<(), AllocError>
-        ensures ok { OnOk result (self.new ≡ self.old ++ item ∷ []) }
-        ensures err { OnErr result (self.new ≡ self.old) }
-    {
-        self.items.push(item)?;
+        assert_eq!(rt; numbers.as_slice(), [0, 1, 2, 3, 4, 5, 6, 7, 8].as_slice());
+        assert_eq!(rt; numbers.len(), 9);
         Ok(())
     }
 }

@@ -1,6 +1,7 @@
 //! Operands and destinations.
-use crate::name::{Symbol, Temp};
 use crate::operation::Class;
+use crate::symbol::Symbol;
+use crate::temp::Temp;
 
 /// An operand: an integer modulo 2^64, a temporary, or a global name.
 #[derive(Clone, Copy, Debug, PartialEq, Eq)]
