@@ -1,5 +1,14 @@
+pub mod Arithmetic
 pub mod Decoding
 pub mod Encoding
+pub mod Examples
 pub mod Formats
+pub mod Labelled
+pub mod Laws
+pub mod Memory
 pub mod Readings
+pub mod Runs
+pub mod Start
+pub mod State
+pub mod Step
 pub mod Text

@@ -11,12 +11,30 @@
 //!
 //! Of `fence` there is one form, that of all accesses before and after; other words of that opcode are unknown, as are compressed instructions.
 //!
+//! ## The machine
+//!
+//! `specs/` also defines the machine that runs these instructions, for whoever emits code or runs it:
+//!
+//! - `State`: pc, the registers, a byte and a [`permission::Permission`] for each address, and the output (`State.antt`, `Memory.antt`);
+//! - `act` and `step`: what an instruction does, and the next state or the `Stop` of a state (`Arithmetic.antt`, `Step.antt`), with the faults of
+//!   [`fault::Fault`] and the system calls write and exit;
+//! - `runs`: that many steps, or up to the first stop, which counts as one; `Comes`: from one state to another (`Runs.antt`);
+//! - `StartsWith`: the stack and the argument words at the start (`Start.antt`);
+//! - `Stand`: what it means that [`labelled::Item`]s stand at an address (`Labelled.antt`).
+//!
+//! The module [`laws`] has what is proved of them. The choices that the manual leaves to an environment: an unknown word, a fetch of bytes that may
+//! not be executed and a jump to an address that is no multiple of 4 are faults; loads and stores take any address; `fence` does nothing; `ebreak` stops.
+//!
 //! The crate stands on `bits` and std. The formats, `specs/Formats.antt`, and the table follow the RISC-V unprivileged ISA manual.
 #![tactic(auto)]
 
 pub mod decode;
 pub mod encode;
+pub mod fault;
 pub mod instruction;
+pub mod labelled;
+pub mod laws;
+pub mod permission;
 pub mod ranges;
 #[cfg(test)]
 mod tests;

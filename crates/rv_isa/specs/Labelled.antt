@@ -1,0 +1,73 @@
+-- What it means that labelled code stands at an address. An item has no meaning of its own: it stands between two addresses where the machine,
+-- coming to the first, does what the item says, in a bounded number of instructions.
+use Rattle.std.specs.Prelude.{◌≡◌, ◌≢◌, ℕ, ◌+◌, ◌%◌, ◌^◌, ◌<◌, ◌≤◌, true, if◌then◌else◌, List, [], ◌∷◌, Some}
+use Rattle.rv_isa.specs.State.{State, register}
+use Rattle.rv_isa.specs.Memory.{number_at, allowed}
+use Rattle.rv_isa.specs.Arithmetic.{taken}
+use Rattle.rv_isa.specs.Decoding.{instruction_of}
+use Rattle.rv_isa.specs.Runs.{Comes}
+use Rattle.rv_isa.specs.declared.permission.Permission.{Permission}
+use Rattle.rv_isa.specs.declared.ranges.Register.{Register}
+use Rattle.rv_isa.specs.declared.instruction.Instr.{Instr}
+use Rattle.rv_isa.specs.declared.labelled.Item.{Item}
+use Rattle.rv_isa.specs.declared.labelled.Item.TheVariants.{Plain, Label, Branch, Goto, Address}
+
+-- what stays while a program runs: the permissions, and the bytes that may be executed
+pub record Ground : Type 0 where
+  pub allows : ℕ → Permission
+  pub code : ℕ → ℕ
+
+-- the machine stands on this ground, and holds numbers in range
+pub record Fixed (g : Ground) (s : State) : Type 0 where
+  pub permissions : s.allows ≡ g.allows
+  pub code_here : (a : ℕ) → (g.allows a).executable ≡ true → s.bytes a ≡ g.code a
+  pub words : (n : ℕ) → s.registers n < 2 ^ 64
+  pub small : (a : ℕ) → s.bytes a < 256
+
+-- the word of i stands at `a`, and can be executed
+pub record InstrAt (g : Ground) (a : ℕ) (i : Instr) : Type 0 where
+  pub fetched : allowed (λ x. (g.allows x).executable) a 4 ≡ true
+  pub decoded : instruction_of (number_at g.code a 4) ≡ Some i
+  pub aligned : a % 4 ≡ 0
+  pub inside : a + 4 < 2 ^ 64
+
+-- in 1 to `most` instructions the machine comes from s to the address `to`; all else stays but x31
+pub record Moves (g : Ground) (most to : ℕ) (s : State) : Type 0 where
+  pub count : ℕ
+  pub after : State
+  pub comes : Comes s count after
+  pub at_least_one : 0 < count
+  pub at_most : count ≤ most
+  pub place : after.pc ≡ to
+  pub fixed : Fixed g after
+  pub output : after.output ≡ s.output
+  pub bytes : after.bytes ≡ s.bytes
+  pub registers : (n : ℕ) → n ≢ 31 → after.registers n ≡ s.registers n
+
+-- in 1 to `most` instructions the machine comes from s to the address `to`, with the value v in rd; all else stays
+pub record Gets (g : Ground) (most to : ℕ) (rd : Register) (v : ℕ) (s : State) : Type 0 where
+  pub count : ℕ
+  pub after : State
+  pub comes : Comes s count after
+  pub at_least_one : 0 < count
+  pub at_most : count ≤ most
+  pub place : after.pc ≡ to
+  pub fixed : Fixed g after
+  pub output : after.output ≡ s.output
+  pub bytes : after.bytes ≡ s.bytes
+  pub value : after.registers rd.number ≡ v
+  pub registers : (n : ℕ) → n ≢ rd.number → after.registers n ≡ s.registers n
+
+-- the item stands from a up to b, with labels and globals at these addresses
+unfoldable pub Stands : (g : Ground) (label global : ℕ → ℕ) → Item → (a b : ℕ) → Type 0
+Stands g label global (Plain i) a b = InstrAt g a i × (b ≡ a + 4)
+Stands g label global (Label l) a b = (label l ≡ a) × (b ≡ a)
+Stands g label global (Branch op rs1 rs2 l) a b =
+    (s : State) → Fixed g s → s.pc ≡ a → Moves g 3 (if taken op (register s rs1) (register s rs2) then label l else b) s
+Stands g label global (Goto l) a b = (s : State) → Fixed g s → s.pc ≡ a → Moves g 2 (label l) s
+Stands g label global (Address rd n) a b = (s : State) → Fixed g s → s.pc ≡ a → Gets g 2 b rd (global n) s
+
+-- the items stand one after another from a on
+unfoldable pub Stand : (g : Ground) (label global : ℕ → ℕ) → List Item → (a : ℕ) → Type 0
+Stand g label global [] a = Unit {0}
+Stand g label global (i ∷ is) a = (b : ℕ) × Stands g label global i a b × Stand g label global is b

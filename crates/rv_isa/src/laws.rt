@@ -1,0 +1,37 @@
+//! Laws of the machine's definitions, each as the contract of a function that does nothing.
+
+ghost use Rattle.rv_isa.specs.Examples.{Examples};
+ghost use Rattle.rv_isa.specs.Laws.{AboveStays, BelowStays, OthersStay, RunsCompose, StepActs, StepsCome, StoredIsRead, WordsDecode};
+
+/// The word of an instruction is decoded as that instruction.
+pub fn words_decode()
+    ensures { WordsDecode }
+{}
+
+/// Where an instruction's word stands at pc and can be executed, a step does what the instruction says.
+pub fn step_acts()
+    ensures { StepActs }
+{}
+
+/// Runs of the machine compose, and count their instructions exactly.
+pub fn runs_compose()
+    ensures step { StepsCome }
+    ensures compose { RunsCompose }
+{}
+
+/// A stored number is read back.
+pub fn stored_is_read()
+    ensures { StoredIsRead }
+{}
+
+/// A store changes its own bytes alone.
+pub fn others_stay()
+    ensures below { BelowStays }
+    ensures above { AboveStays }
+    ensures passing { OthersStay }
+{}
+
+/// What the definitions give in the manual's corner cases.
+pub fn examples_are_computed()
+    ensures { Examples }
+{}
