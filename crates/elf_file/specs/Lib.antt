@@ -1,0 +1,5 @@
+pub mod Flags
+pub mod Headers
+pub mod Loaded
+pub mod Conditions
+pub mod File
