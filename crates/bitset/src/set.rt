@@ -1,0 +1,138 @@
+ghost use Rattle.std.specs.Prelude.{◌≡◌, ◌<◌, ℕ, IfOk, Bool, false, ◌==◌, ◌||◌, ◌&&◌, not, MatchBool};
+ghost use Rattle.bitset.specs.Bits.{Grew, SameMembers, is_member};
+
+use crate::words::{add_number, minus_words, no_words, union_words};
+use std::alloc::{AllocError, Global};
+use std::marker::Model;
+
+/// A set of numbers below a length that is fixed when it is made.
+#[derive(Debug, Drop)]
+pub struct BitSet {
+    length: usize,
+    words: Vec<u64>,
+}
+
+impl Model for BitSet {
+    ghost use Rattle.bitset.specs.Bits.{Bits, IsBits};
+
+    ghost Value = { Bits };
+
+    ghost view = { λ s. record { length = s.length; words = s.words.items } };
+
+    ghost invariant = { λ s. IsBits (record { length = s.length; words = s.words.items }) };
+}
+
+impl BitSet {
+    /// The empty set of numbers below `length`.
+    ///
+    /// # Errors
+    ///
+    /// Only where memory was refused.
+    pub fn new(alloc: Global, length: usize) -> Result<BitSet, AllocError>
+        ensures length { IfOk result (λ s. s.length ≡ length) }
+        ensures empty { IfOk result (λ s. (i : ℕ) → is_member s i ≡ false) }
+    {
+        let words = no_words(alloc, length.div_ceil(64))?;
+        Ok(BitSet { length, words })
+    }
+
+    /// The length: every number of the set is below it.
+    pub fn len(&self) -> usize
+        ensures { result ≡ self.now.length }
+    {
+        self.length
+    }
+
+    /// Whether `i` is in the set.
+    pub fn contains(&self, i: usize) -> bool
+        requires { i < self.now.length }
+        ensures { result ≡ is_member self.now i }
+    {
+        (self.words[i / 64] >> (i % 64)) & 1 == 1
+    }
+
+    /// Adds `i` to the set.
+    pub fn insert(&mut self, i: usize)
+        requires { i < self.old.length }
+        ensures length { self.new.length ≡ self.old.length }
+        ensures members { (j : ℕ) → is_member self.new j ≡ (j == i || is_member self.old j) }
+    {
+        add_number(self.words.as_mut_slice(), i);
+    }
+
+    /// Adds the numbers of `other`, a set of the same length, and says whether the set grew.
+    pub fn union_into(&mut self, other: &BitSet) -> bool
+        requires { self.old.length ≡ other.now.length }
+        ensures length { self.new.length ≡ self.old.length }
+        ensures members { (i : ℕ) → is_member self.new i ≡ (is_member self.old i || is_member other.now i) }
+
+        // Where the answer is true some number came in, and where it is false none did.
+        ensures grew { MatchBool result (Grew self.old.words self.new.words) (SameMembers self.old.words self.new.words) }
+    {
+        union_words(self.words.as_mut_slice(), &other.words)
+    }
+
+    /// Takes out the numbers of `other`, a set of the same length.
+    pub fn minus(&mut self, other: &BitSet)
+        requires { self.old.length ≡ other.now.length }
+        ensures length { self.new.length ≡ self.old.length }
+        ensures members { (i : ℕ) → is_member self.new i ≡ (is_member self.old i && not (is_member other.now i)) }
+    {
+        minus_words(self.words.as_mut_slice(), &other.words);
+    }
+}
+
+#[cfg(test)]
+mod tests {
+    use super::*;
+    use std::process::Abort;
+    use std::test::Fail;
+
+    /// The multiples of `step` below the length.
+    fn multiples(
+        rt: &impl Abort,
+        alloc: Global,
+        length: usize,
+        step: usize,
+    ) -> Result<BitSet, AllocError> {
+        let mut set = BitSet::new(alloc, length)?;
+        for i in 0..length {
+            if i.is_multiple_of(step) {
+                assert!(rt; i < set.len());
+                set.insert(i);
+            }
+        }
+        Ok(set)
+    }
+
+    #[test]
+    fn sets_of_each_size(rt: HostRuntime) -> Result<(), Fail> {
+        for length in [0, 1, 63, 64, 65, 511, 512, 513] {
+            let mut set = multiples(&rt, rt.alloc(), length, 2)?;
+            let threes = multiples(&rt, rt.alloc(), length, 3)?;
+            assert!(rt; set.len() == length && threes.len() == length);
+            assert_eq!(rt; set.union_into(&threes), length > 3, "{length} numbers");
+            assert!(rt; set.len() == length);
+            assert!(rt; !set.union_into(&threes), "{length} numbers, again");
+            for i in 0..length {
+                assert!(rt; i < set.len());
+                assert_eq!(rt;
+                    set.contains(i),
+                    i % 2 == 0 || i % 3 == 0,
+                    "{i} of {length}"
+                );
+            }
+            assert!(rt; set.len() == length);
+            set.minus(&threes);
+            for i in 0..length {
+                assert!(rt; i < set.len());
+                assert_eq!(rt;
+                    set.contains(i),
+                    i % 2 == 0 && i % 3 != 0,
+                    "{i} of {length}, less"
+                );
+            }
+        }
+        Ok(())
+    }
+}
