@@ -1,0 +1,122 @@
+-- What a span of cells is worth, cell by cell.
+use Rattle.std.proofs.Common.{◌≡◌, ℕ, zero, suc, ◌+◌, ◌*◌, ◌^◌, ◌<◌, ◌≤◌, Bool, true, false, List, [], ◌∷◌, take, drop, refl, ap, sym, subst, ◌∙◌, arith, cond}
+use Rattle.std.proofs.Math.Nat.{pow-suc, pow-le-pow_right}
+use Rattle.std.specs.Prelude.{slice_get, nat_eq, ◌&&◌, Option, Some, None}
+use Rattle.std.specs.Option.{option_map}
+use Rattle.il_ast.specs.declared.value.Value.{Value}
+use Rattle.il_ast.specs.declared.value.Value.TheVariants.{Integer}
+use Rattle.il_ast.specs.declared.value.Cell.{Cell}
+use Rattle.il_ast.specs.declared.value.Cell.TheVariants.{Plain, Part, Blank}
+use Rattle.il_ast.specs.Values.{number_of, same_value}
+use Rattle.il_ast.specs.Memory.{plain_bytes, are_parts_from, value_of}
+use Rattle.il_mem.specs.Cells.{plain_byte, part_value, is_part_of}
+use Rattle.il_mem.proofs.Spans.{span_at, get_span}
+
+-- ---- parts
+
+and_assoc : (a b c : Bool) → a && (b && c) ≡ (a && b) && c
+and_assoc true b c = refl
+and_assoc false b c = refl
+
+parts_first : (k : ℕ) (v : Value) (x : Cell) (rest : List Cell) → are_parts_from k v (x ∷ rest) ≡ is_part_of v k x && are_parts_from (k + 1) v rest
+parts_first k v (Plain b) rest = refl
+parts_first k v (Part u i) rest = and_assoc (same_value u v) (nat_eq i k) (are_parts_from (k + 1) v rest)
+parts_first k v Blank rest = refl
+
+pub parts_at : (cells : List Cell) (from n k : ℕ) (v : Value) (x : Cell) → k < n → slice_get cells (from + k) ≡ Some x → are_parts_from k v (drop k (take n (drop from cells))) ≡ is_part_of v k x && are_parts_from (k + 1) v (drop (k + 1) (take n (drop from cells)))
+parts_at cells from n k v x lt h = ap (are_parts_from k v) (span_at cells from n k x lt h) ∙ parts_first k v x _
+
+pub parts_go_on : (cells : List Cell) (from n k : ℕ) (v : Value) (x : Cell) (goal : Bool) → k < n → slice_get cells (from + k) ≡ Some x → is_part_of v k x ≡ true → are_parts_from k v (drop k (take n (drop from cells))) ≡ goal → are_parts_from (k + 1) v (drop (k + 1) (take n (drop from cells))) ≡ goal
+parts_go_on cells from n k v x goal lt h hit inv =
+    ap (λ b. b && are_parts_from (k + 1) v (drop (k + 1) (take n (drop from cells)))) (sym hit)
+    ∙ (sym (parts_at cells from n k v x lt h) ∙ inv)
+
+pub parts_stop : (cells : List Cell) (from n k : ℕ) (v : Value) (x : Cell) (goal : Bool) → k < n → slice_get cells (from + k) ≡ Some x → is_part_of v k x ≡ false → are_parts_from k v (drop k (take n (drop from cells))) ≡ goal → false ≡ goal
+parts_stop cells from n k v x goal lt h miss inv =
+    ap (λ b. b && are_parts_from (k + 1) v (drop (k + 1) (take n (drop from cells)))) (sym miss)
+    ∙ (sym (parts_at cells from n k v x lt h) ∙ inv)
+
+-- ---- bytes
+
+number_in : List Cell → Option ℕ
+number_in cells = option_map number_of (plain_bytes cells)
+
+pub number_cons : (b n : ℕ) (bytes : Option (List ℕ)) → option_map number_of bytes ≡ Some n → option_map number_of (option_map (λ bs. b ∷ bs) bytes) ≡ Some (n * 256 + b)
+number_cons b n None h = cc
+number_cons b n (Some bs) h =
+    let same : number_of bs ≡ n = cc in
+    let sum : b + 256 * number_of bs ≡ n * 256 + b = omega arith in
+    ap (λ (k : ℕ). Some k) sum
+
+plain_is : (x : Cell) (b : ℕ) → plain_byte x ≡ Some b → x ≡ Plain b
+plain_is (Plain c) b h = let e : c ≡ b = cc in ap (λ (n : ℕ). Plain n) e
+plain_is (Part v i) b h = cc
+plain_is Blank b h = cc
+
+pub number_goes_on : (cells : List Cell) (from n k left m b : ℕ) (x : Cell) → k < n → left ≡ k + 1 → slice_get cells (from + k) ≡ Some x → plain_byte x ≡ Some b → option_map number_of (plain_bytes (drop left (take n (drop from cells)))) ≡ Some m → option_map number_of (plain_bytes (drop k (take n (drop from cells)))) ≡ Some (m * 256 + b)
+number_goes_on cells from n k left m b x lt e h plain inv =
+    let first : drop k (take n (drop from cells)) ≡ Plain b ∷ drop (k + 1) (take n (drop from cells)) =
+    span_at cells from n k x lt h ∙ ap (λ y. y ∷ drop (k + 1) (take n (drop from cells))) (plain_is x b plain) in
+    let rest : option_map number_of (plain_bytes (drop (k + 1) (take n (drop from cells)))) ≡ Some m =
+    ap (λ j. option_map number_of (plain_bytes (drop j (take n (drop from cells))))) (sym e) ∙ inv in
+    ap (λ s. option_map number_of (plain_bytes s)) first ∙ number_cons b m (plain_bytes (drop (k + 1) (take n (drop from cells)))) rest
+
+none_mapped : {A B : Type 0} (f : A → B) (o : Option A) → o ≡ None → option_map f o ≡ None
+none_mapped f None h = refl
+none_mapped f (Some x) h = cc
+
+plain_none : (cells : List Cell) (k : ℕ) (x : Cell) → slice_get cells k ≡ Some x → plain_byte x ≡ None → plain_bytes cells ≡ None
+plain_none [] k x h miss = cc
+plain_none (Plain b ∷ cells) zero x h miss = let e : Plain b ≡ x = cc in let bad : Some b ≡ None = ap plain_byte e ∙ miss in cc
+plain_none (Plain b ∷ cells) (suc k) x h miss = none_mapped (λ bs. b ∷ bs) (plain_bytes cells) (plain_none cells k x h miss)
+plain_none (Part v i ∷ cells) k x h miss = refl
+plain_none (Blank ∷ cells) k x h miss = refl
+
+pub number_stops : (cells : List Cell) (from n k : ℕ) (x : Cell) → k < n → slice_get cells (from + k) ≡ Some x → plain_byte x ≡ None → option_map number_of (plain_bytes (take n (drop from cells))) ≡ None
+number_stops cells from n k x lt h miss =
+    none_mapped number_of (plain_bytes (take n (drop from cells))) (plain_none (take n (drop from cells)) k x (get_span cells from n k x lt h) miss)
+
+-- ---- bounds
+
+pub more_bytes : (m b j : ℕ) → m < 256 ^ j → b < 256 → m * 256 + b < 256 ^ suc j
+more_bytes m b j lt small = let e : 256 ^ suc j ≡ 256 ^ j * 256 = pow-suc 256 j in omega arith
+
+pub fits_long : (m j : ℕ) → m < 256 ^ j → j ≤ 8 → m < 2 ^ 64
+fits_long m j lt le =
+    let most : 256 ^ j ≤ 256 ^ 8 = pow-le-pow_right (omega arith) le in
+    let e : 256 ^ 8 ≡ 2 ^ 64 = refl in
+    omega arith
+
+-- ---- values
+
+span_first : (cells : List Cell) (from n : ℕ) (x : Cell) → 0 < n → slice_get cells from ≡ Some x → take n (drop from cells) ≡ x ∷ drop 1 (take n (drop from cells))
+span_first cells from n x lt h =
+    let here : slice_get cells (from + 0) ≡ Some x = (let e : from + 0 ≡ from = omega arith in rw e h) in
+    span_at cells from n 0 x lt here
+
+first_part : (x : Cell) (v : Value) (rest : List Cell) → part_value x ≡ Some v → value_of (x ∷ rest) ≡ cond (are_parts_from 0 v (x ∷ rest)) (Some v) None
+first_part (Plain b) v rest h = cc
+first_part (Part u i) v rest h = let e : u ≡ v = cc in ap (λ w. cond (are_parts_from 0 w (Part u i ∷ rest)) (Some w) None) e
+first_part Blank v rest h = cc
+
+first_other : (x : Cell) (rest : List Cell) → part_value x ≡ None → value_of (x ∷ rest) ≡ option_map (λ (n : ℕ). Integer n) (option_map number_of (plain_bytes (x ∷ rest)))
+first_other (Plain b) rest h = refl
+first_other (Part u i) rest h = cc
+first_other Blank rest h = refl
+
+-- a span that begins with a part has the value of its parts, or none
+pub value_of_parts : (cells : List Cell) (from n : ℕ) (x : Cell) (v : Value) (r : Bool) → 0 < n → slice_get cells from ≡ Some x → part_value x ≡ Some v → r ≡ are_parts_from 0 v (take n (drop from cells)) → cond r (Some v) None ≡ value_of (take n (drop from cells))
+value_of_parts cells from n x v r lt h part e =
+    let P = λ (s : List Cell). value_of s ≡ cond (are_parts_from 0 v s) (Some v) None in
+    let whole : value_of (take n (drop from cells)) ≡ cond (are_parts_from 0 v (take n (drop from cells))) (Some v) None =
+    subst P (sym (span_first cells from n x lt h)) (first_part x v _ part) in
+    ap (λ b. cond b (Some v) None) e ∙ sym whole
+
+-- any other span has the number of its bytes, or none
+pub value_of_bytes : (cells : List Cell) (from n : ℕ) (x : Cell) → 0 < n → slice_get cells from ≡ Some x → part_value x ≡ None → value_of (take n (drop from cells)) ≡ option_map (λ (n : ℕ). Integer n) (option_map number_of (plain_bytes (take n (drop from cells))))
+value_of_bytes cells from n x lt h other =
+    let P = λ (s : List Cell). value_of s ≡ option_map (λ (n : ℕ). Integer n) (option_map number_of (plain_bytes s)) in
+    subst P (sym (span_first cells from n x lt h)) (first_other x _ other)
+
+pub value_of_number : (cells : List Cell) (from n : ℕ) (x : Cell) (r : Option ℕ) → 0 < n → slice_get cells from ≡ Some x → part_value x ≡ None → r ≡ option_map number_of (plain_bytes (take n (drop from cells))) → option_map (λ (n : ℕ). Integer n) r ≡ value_of (take n (drop from cells))
+value_of_number cells from n x r lt h other e = ap (option_map (λ (n : ℕ). Integer n)) e ∙ sym (value_of_bytes cells from n x lt h other)

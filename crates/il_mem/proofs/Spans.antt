@@ -1,0 +1,84 @@
+-- The cells of a span, one after another.
+use Rattle.std.proofs.Common.{◌≡◌, ◌≢◌, ℕ, zero, suc, ◌+◌, ◌-◌, ◌<◌, ◌≤◌, List, [], ◌∷◌, ◌++◌, length, take, drop, refl, ap, ◌∙◌, arith}
+use Rattle.std.specs.Prelude.{slice_get, slice_set, Some}
+use Rattle.il_ast.specs.declared.value.Cell.{Cell}
+use Rattle.il_mem.specs.Written.{written}
+
+-- what stands at k is the first of what is left from there
+pub drop_at : {A : Type 0} (s : List A) (k : ℕ) (x : A) → slice_get s k ≡ Some x → drop k s ≡ x ∷ drop (k + 1) s
+drop_at [] k x h = cc
+drop_at (y ∷ s) zero x h = cc
+drop_at (y ∷ s) (suc k) x h =
+    let e : suc k + 1 ≡ suc (k + 1) = omega arith in rw e (drop_at s k x h)
+
+pub get_take : {A : Type 0} (s : List A) (n k : ℕ) (x : A) → k < n → slice_get s k ≡ Some x → slice_get (take n s) k ≡ Some x
+get_take s zero k x lt h = absurd (omega arith)
+get_take [] (suc n) k x lt h = h
+get_take (y ∷ s) (suc n) zero x lt h = h
+get_take (y ∷ s) (suc n) (suc k) x lt h = get_take s n k x (omega arith) h
+
+pub get_drop : {A : Type 0} (s : List A) (from k : ℕ) → slice_get (drop from s) k ≡ slice_get s (from + k)
+get_drop s zero k = let e : 0 + k ≡ k = omega arith in rw e
+get_drop [] (suc from) k = refl
+get_drop (y ∷ s) (suc from) k = let e : suc from + k ≡ suc (from + k) = omega arith in rw e (get_drop s from k)
+
+-- the cell at `from + k` is the one at k of the span
+pub get_span : {A : Type 0} (s : List A) (from n k : ℕ) (x : A) → k < n → slice_get s (from + k) ≡ Some x → slice_get (take n (drop from s)) k ≡ Some x
+get_span s from n k x lt h = get_take (drop from s) n k x lt (get_drop s from k ∙ h)
+
+-- the span from k on begins with that cell
+pub span_at : {A : Type 0} (s : List A) (from n k : ℕ) (x : A) → k < n → slice_get s (from + k) ≡ Some x → drop k (take n (drop from s)) ≡ x ∷ drop (k + 1) (take n (drop from s))
+span_at s from n k x lt h = drop_at (take n (drop from s)) k x (get_span s from n k x lt h)
+
+pub length_take : {A : Type 0} (n : ℕ) (s : List A) → n ≤ length s → length (take n s) ≡ n
+length_take zero s h = refl
+length_take (suc n) [] h = absurd (omega arith)
+length_take (suc n) (y ∷ s) h = ap suc (length_take n s (omega arith))
+
+pub length_drop : {A : Type 0} (n : ℕ) (s : List A) → length (drop n s) ≡ length s - n
+length_drop zero s = omega arith
+length_drop (suc n) [] = omega arith
+length_drop (suc n) (y ∷ s) = let h : length (drop n s) ≡ length s - n = length_drop n s in omega arith
+
+pub length_span : {A : Type 0} (s : List A) (from n : ℕ) → from + n ≤ length s → length (take n (drop from s)) ≡ n
+length_span s from n h =
+    let e : length (drop from s) ≡ length s - from = length_drop from s in
+    length_take n (drop from s) (omega arith)
+
+-- nothing is left past the end of a span
+pub drop_all : {A : Type 0} (s : List A) (n : ℕ) → length s ≤ n → drop n s ≡ []
+drop_all [] zero h = refl
+drop_all [] (suc n) h = refl
+drop_all (y ∷ s) zero h = absurd (omega arith)
+drop_all (y ∷ s) (suc n) h = drop_all s n (omega arith)
+
+-- ---- writing
+
+-- the cells before a place stay
+written_later : (to : ℕ) (xs : List Cell) (c : Cell) (cells : List Cell) → written (suc to) xs (c ∷ cells) ≡ c ∷ written to xs cells
+written_later to [] c cells = refl
+written_later to (x ∷ xs) c cells =
+    let e : suc to + 1 ≡ suc (to + 1) = omega arith in rw e (written_later (to + 1) xs c (slice_set cells to x))
+
+written_first : (xs cells : List Cell) → length xs ≤ length cells → written 0 xs cells ≡ xs ++ drop (length xs) cells
+written_first [] cells h = refl
+written_first (x ∷ xs) [] h = absurd (omega arith)
+written_first (x ∷ xs) (c ∷ cells) h =
+    let e : 0 + 1 ≡ suc zero = omega arith in
+    rw e (written_later 0 xs x cells ∙ ap (λ ys. x ∷ ys) (written_first xs cells (omega arith)))
+
+pub written_is : (to : ℕ) (xs cells : List Cell) → to + length xs ≤ length cells → written to xs cells ≡ take to cells ++ (xs ++ drop (to + length xs) cells)
+written_is zero xs cells h =
+    let e : 0 + length xs ≡ length xs = omega arith in rw e (written_first xs cells (omega arith))
+written_is (suc to) xs [] h = absurd (omega arith)
+written_is (suc to) xs (c ∷ cells) h =
+    let e : suc to + length xs ≡ suc (to + length xs) = omega arith in
+    rw e (written_later to xs c cells ∙ ap (λ ys. c ∷ ys) (written_is to xs cells (omega arith)))
+
+-- another place stays
+pub get_other : {A : Type 0} (s : List A) (i j : ℕ) (x : A) → j ≢ i → slice_get (slice_set s i x) j ≡ slice_get s j
+get_other [] i j x ne = refl
+get_other (y ∷ s) zero zero x ne = absurd (ne refl)
+get_other (y ∷ s) zero (suc j) x ne = refl
+get_other (y ∷ s) (suc i) zero x ne = refl
+get_other (y ∷ s) (suc i) (suc j) x ne = get_other s i j x (omega arith)
