@@ -1,8 +1,9 @@
 -- What a function weighs, and how much stack it needs: numbers of its text alone.
-use Rattle.std.specs.Prelude.{ℕ, ◌+◌, ◌-◌, ◌*◌, ◌/◌, max, List, [], ◌∷◌, length}
+use Rattle.std.specs.Prelude.{ℕ, ◌+◌, ◌-◌, ◌*◌, ◌/◌, max, List, [], ◌∷◌, length, Option, Some, None}
 use Rattle.std.specs.List.{sum_by}
 use Rattle.il_ast.specs.declared.instruction.Inst.{Inst}
 use Rattle.il_ast.specs.declared.instruction.Inst.TheVariants.{Alloc, Blit, Call}
+use Rattle.il_ast.specs.declared.instruction.Jump.{Jump}
 use Rattle.il_ast.specs.declared.instruction.Lined.{Lined}
 use Rattle.il_ast.specs.declared.block.Phi.{Phi}
 use Rattle.il_ast.specs.declared.block.Block.{Block}
@@ -20,9 +21,13 @@ inst_weight (Blit from to count) = blit_weight count
 inst_weight (Call to callee args) = call_weight args
 inst_weight i = 1
 
+abbrev pub end_weight : Option (Lined Jump) → ℕ
+end_weight None = 0
+end_weight (Some j) = 1
+
 abbrev pub block_weight : Block → ℕ
 block_weight b =
-    2 + sum_by (λ (p : Phi). length p.args) b.phis + sum_by (λ (i : Lined Inst). inst_weight i.item) b.insts
+    1 + end_weight b.jump + sum_by (λ (p : Phi). length p.args) b.phis + sum_by (λ (i : Lined Inst). inst_weight i.item) b.insts
 
 abbrev pub weight : Func → ℕ
 weight f = length f.params + sum_by block_weight f.blocks

@@ -213,6 +213,11 @@ jump_effect env from here m (Return None) = Returns None (free_all m here.owned)
 jump_effect env from here m (Return (Some a)) = return_value env here m env.func.result a
 jump_effect env from here m HaltJump = Ends Halt
 
+-- a block without a jump, which no program has, has no meaning
+abbrev pub end_effect : Env → (from : ℕ) → Locals → Memory → Option (Lined Jump) → Effect
+end_effect env from here m None = Ends Undefined
+end_effect env from here m (Some j) = jump_effect env from here m j.item
+
 -- after an instruction at place k of block b
 abbrev pub after_inst : (block next : ℕ) → Locals → InstEffect → Effect
 after_inst b k here (Done weight now m) = Goes weight (record { block = b; next = k + 1; locals = now }) m
@@ -222,7 +227,7 @@ after_inst b k here Fails = Ends Undefined
 -- the instruction, or the jump where none is left
 abbrev pub turn_in : Env → Activation → Memory → Block → Option (Lined Inst) → Effect
 turn_in env a m b (Some i) = after_inst a.block a.next a.locals (inst_effect env.globals a.locals m i.item)
-turn_in env a m b None = jump_effect env b.label a.locals m b.jump.item
+turn_in env a m b None = end_effect env b.label a.locals m b.jump
 
 abbrev pub turn_of : Env → Activation → Memory → Option Block → Effect
 turn_of env a m None = Ends Undefined

@@ -51,7 +51,7 @@ abbrev pub from : ℕ → Val → PhiArg
 from l a = record { from = l; value = a }
 
 abbrev pub block : ℕ → List Phi → List Inst → Jump → Block
-block l phis insts jump = record { line = 1; label = l; phis = phis; insts = map lined insts; jump = record { line = 1; item = jump } }
+block l phis insts jump = record { line = 1; label = l; phis = phis; insts = map lined insts; jump = Some (record { line = 1; item = jump }) }
 
 abbrev pub param : Dest → Param
 param d = record { line = 1; temp = d.temp; class = d.class }

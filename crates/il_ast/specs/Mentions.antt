@@ -56,9 +56,13 @@ temps_in_jump (Return None) = []
 temps_in_jump (Return (Some a)) = temps_in_value a
 temps_in_jump Halt = []
 
+abbrev pub temps_at_end : Option (Lined Jump) → List ℕ
+temps_at_end None = []
+temps_at_end (Some j) = temps_in_jump j.item
+
 abbrev pub temps_in_block : Block → List ℕ
 temps_in_block b =
-    flat_map temps_in_phi b.phis ++ (flat_map (λ (i : Lined Inst). temps_in_inst i.item) b.insts ++ temps_in_jump b.jump.item)
+    flat_map temps_in_phi b.phis ++ (flat_map (λ (i : Lined Inst). temps_in_inst i.item) b.insts ++ temps_at_end b.jump)
 
 -- the temporaries that a function with these parameters and blocks names, in the order of its text
 abbrev pub temps_of : List Param → List Block → List ℕ
@@ -72,9 +76,13 @@ labels_in_jump (Branch a nonzero otherwise) = nonzero ∷ otherwise ∷ []
 labels_in_jump (Return a) = []
 labels_in_jump Halt = []
 
+abbrev pub labels_at_end : Option (Lined Jump) → List ℕ
+labels_at_end None = []
+labels_at_end (Some j) = labels_in_jump j.item
+
 abbrev pub labels_in_block : Block → List ℕ
 labels_in_block b =
-    b.label ∷ (flat_map (λ (p : Phi). flat_map (λ (a : PhiArg). a.from ∷ []) p.args) b.phis ++ labels_in_jump b.jump.item)
+    b.label ∷ (flat_map (λ (p : Phi). flat_map (λ (a : PhiArg). a.from ∷ []) p.args) b.phis ++ labels_at_end b.jump)
 
 -- the labels that these blocks name, in the order of the text
 abbrev pub labels_of : List Block → List ℕ

@@ -1,5 +1,5 @@
 -- Which global names a text mentions, in the order of the text.
-use Rattle.std.specs.Prelude.{ℕ, List, [], ◌∷◌, ◌++◌, Some, None}
+use Rattle.std.specs.Prelude.{ℕ, List, [], ◌∷◌, ◌++◌, Option, Some, None}
 use Rattle.std.specs.List.{flat_map}
 use Rattle.il_ast.specs.declared.operand.Val.{Val}
 use Rattle.il_ast.specs.declared.operand.Val.TheVariants.{Int, Temp, Global}
@@ -41,12 +41,16 @@ symbols_in_jump (Return None) = []
 symbols_in_jump (Return (Some a)) = symbols_in_value a
 symbols_in_jump Halt = []
 
+abbrev pub symbols_at_end : Option (Lined Jump) → List ℕ
+symbols_at_end None = []
+symbols_at_end (Some j) = symbols_in_jump j.item
+
 abbrev pub symbols_in_phi : Phi → List ℕ
 symbols_in_phi p = flat_map (λ (a : PhiArg). symbols_in_value a.value) p.args
 
 abbrev pub symbols_in_block : Block → List ℕ
 symbols_in_block b =
-    flat_map symbols_in_phi b.phis ++ (flat_map (λ (i : Lined Inst). symbols_in_inst i.item) b.insts ++ symbols_in_jump b.jump.item)
+    flat_map symbols_in_phi b.phis ++ (flat_map (λ (i : Lined Inst). symbols_in_inst i.item) b.insts ++ symbols_at_end b.jump)
 
 abbrev pub symbols_in_item : Item → List ℕ
 symbols_in_item (NumberItem n) = []

@@ -29,7 +29,8 @@ pub struct Phi {
     pub args: Few<PhiArg>,
 }
 
-/// A basic block. A block that is written without a jump has one to the next block of the text.
+/// A basic block. A block that is written without a jump has one to the next block of the text; the
+/// last block of a function may lack one, which is against a rule and means nothing.
 #[derive(Drop)]
 pub struct Block {
     /// the line of the label
@@ -37,5 +38,5 @@ pub struct Block {
     pub label: Label,
     pub phis: Seq<Phi>,
     pub insts: Seq<Lined<Inst>>,
-    pub jump: Lined<Jump>,
+    pub jump: Option<Lined<Jump>>,
 }
