@@ -5,3 +5,4 @@ pub mod MemoryLemmas
 pub mod RunLemmas
 pub mod Same
 pub mod StepLemmas
+pub mod StayLemmas
