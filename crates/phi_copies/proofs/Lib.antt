@@ -1,0 +1,5 @@
+pub mod Placing
+pub mod Progress
+pub mod Paths
+pub mod Loops
+pub mod Carrying
