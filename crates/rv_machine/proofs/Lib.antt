@@ -1,0 +1,11 @@
+pub mod Arguments
+pub mod AtOnce
+pub mod HighHalf
+pub mod MappedSpans
+pub mod Spans
+pub mod StepLaws
+pub mod DecodedLaws
+pub mod RunEnding
+pub mod RegionLemmas
+pub mod WholeLemmas
+pub mod PageLemmas

@@ -1,0 +1,13 @@
+use Rattle.std.proofs.Common.{◌≡◌, ◌<◌, ◌^◌, FitsSigned, ◌∙◌, pos}
+use Rattle.std.specs.Int.{w64}
+use Rattle.std.proofs.lemmas.Int.{to_z-of_z}
+use Rattle.rv_machine.proofs.HighHalf.{high_half, signed_by_unsigned, wide_signed, wide_unsigned}
+use Rattle.rv_machine.proofs.arithmetic.high_of_signed_by_unsigned.Goals as goal
+
+pub returns : goal.returns
+returns c =
+    let fa : FitsSigned w64 c.args.a = c.ranges.a in
+    let fb : c.args.b < 2 ^ 64 = c.ranges.b.fits in
+    let ea : c.from.result ≡ c.args.a = c.from.ensures ∙ to_z-of_z w64 c.args.a fa in
+    high_half c.args.a (pos c.args.b) c.cast_unsigned.result (wide_signed c.args.a fa) (wide_unsigned c.args.b fb) (signed_by_unsigned c.args.a c.args.b fa fb)
+    (rw (ea, c.from-2.ensures) at c.cast_unsigned.ensures)

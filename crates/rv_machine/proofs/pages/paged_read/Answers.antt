@@ -1,0 +1,12 @@
+use Rattle.std.proofs.Common.{arith, sym}
+use Rattle.rv_machine.specs.Width.{bytes_of}
+use Rattle.rv_machine.proofs.PageLemmas.{read-made, read-unmade}
+use Rattle.rv_machine.proofs.pages.paged_read.Goals as goal
+
+pub returns-in_default : goal.returns-in_default
+returns-in_default c =
+    read-unmade c.args.regions.now c.args.pages.now c.args.at (bytes_of c.args.width) c.read.result c.in_default.ensures (omega (arith, c.if-place-bytes.false, c.bytes.ensures)) c.read.ensures
+
+pub returns : goal.returns
+returns c =
+    read-made c.args.regions.now c.args.pages.now c.args.at (bytes_of c.args.width) c.number.result c.in-Some.page.now c.deref.result.now c.requires (sym c.in-Some.ensures) c.ranges.at.fits (omega (arith, c.if-place-bytes.false, c.bytes.ensures)) c.if-not-page.false c.deref.ensures.value c.number.ensures.value c.number.ensures.small

@@ -1,0 +1,12 @@
+pub mod Access
+pub mod Decoded
+pub mod Machine
+pub mod Mapped
+pub mod Pages
+pub mod Regions
+pub mod Registers
+pub mod Runs
+pub mod Start
+pub mod Steps
+pub mod Width
+pub mod Words
