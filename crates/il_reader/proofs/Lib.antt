@@ -1,0 +1,4 @@
+pub mod Exact
+pub mod Tokens
+pub mod Lists
+pub mod Operands

@@ -1,0 +1,18 @@
+//! From the bytes of a text to its tree.
+//!
+//! `specs/Reads.antt` says which tree a text has: `Reads bytes text` is the grammar of the language as a
+//! relation, one definition for each rule (`Grammar`, `Reads`), in a notation in which they read like
+//! the grammar. A rule relates the state before, what is read, and the state after (`Rules`); the state
+//! has the bytes that are left, the line, and the names so far (`State`). Names are numbered in order of
+//! first appearance. A block without a jump, not the last of its function, stands for one that goes to
+//! the next.
+//!
+//! `specs/Steps.antt` and `specs/Reading.antt` have the rules of tokens, lists and operands as functions
+//! of the state, and `proofs` shows each of these exact: it reads what its rule says, and all of it
+//! (`Exact`). The rules of instructions and definitions have no such function yet, and there is no
+//! reader yet.
+//!
+//! It stands on `il_lex` for the tokens and on `il_ast` for the tree.
+#![tactic(auto)]
+
+pub mod error;
