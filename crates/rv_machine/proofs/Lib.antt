@@ -9,3 +9,4 @@ pub mod RunEnding
 pub mod RegionLemmas
 pub mod WholeLemmas
 pub mod PageLemmas
+pub mod StartLaws

@@ -29,6 +29,7 @@ mod at_once;
 mod decoded;
 mod fill;
 pub mod flat_ram;
+pub mod laws;
 mod lookup;
 pub mod machine;
 mod page;
