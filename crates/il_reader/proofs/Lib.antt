@@ -2,3 +2,4 @@ pub mod Exact
 pub mod Tokens
 pub mod Lists
 pub mod Operands
+pub mod Jumps

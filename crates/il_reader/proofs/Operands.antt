@@ -24,7 +24,7 @@ use Rattle.il_reader.proofs.Exact.{Exact, Anything, give_exact, bind, either_exa
 use Rattle.il_reader.proofs.Tokens.{spelled, spelled_exact, piece_exact, integer_exact, temp_exact, label_exact, symbol_exact}
 
 -- what a table gives is spelled so
-table_sound : {A : Type 0} (spelling : A → List ℕ) (xs : List A) (text : List ℕ) (x : A) → reading.word_in (reading.table spelling xs) text ≡ Some x → text ≡ spelling x
+pub table_sound : {A : Type 0} (spelling : A → List ℕ) (xs : List A) (text : List ℕ) (x : A) → reading.word_in (reading.table spelling xs) text ≡ Some x → text ≡ spelling x
 table_sound spelling [] text x e = absurd (none-some x e)
 table_sound spelling (y ∷ ys) text x e = cond_cases (λ o. o ≡ Some x → text ≡ spelling x) (pointwise nat_eq text (spelling y)) (Some y) (reading.word_in (reading.table spelling ys) text)
     (λ t h. (bytes_decides text (spelling y)).0 t ∙ ap spelling (same_Some y x h))
@@ -65,7 +65,7 @@ store_exact = spelled_exact store_word reading.store_of (table_sound store_word 
 
 -- values
 
-integer_sees : (test : Kind → Bool) (b : Bool) → ((n : ℕ) → test (Natural n) ≡ b) → ((n : ℕ) → test (Negative n) ≡ b) → (s : State) (n : ℕ) (s' : State) → rule.integer s n s' → step.sees test s ≡ b
+pub integer_sees : (test : Kind → Bool) (b : Bool) → ((n : ℕ) → test (Natural n) ≡ b) → ((n : ℕ) → test (Negative n) ≡ b) → (s : State) (n : ℕ) (s' : State) → rule.integer s n s' → step.sees test s ≡ b
 integer_sees test b plain minus s n s' h = ⊎_elim (λ w. sees_token test (Natural n) s w.0 s' w.1 ∙ plain n) (λ w. sees_token test (Negative n) s w.0 s' w.1 ∙ minus n) h
 
 pub value_exact : Exact reading.value grammar.value Anything

@@ -7,9 +7,9 @@
 //! first appearance. A block without a jump, not the last of its function, stands for one that goes to
 //! the next.
 //!
-//! `specs/Steps.antt` and `specs/Reading.antt` have the rules of tokens, lists and operands as functions
+//! `specs/Steps.antt` and `specs/Reading.antt` have the rules of tokens, lists, operands and jumps as functions
 //! of the state, and `proofs` shows each of these exact: it reads what its rule says, and all of it
-//! (`Exact`). The rules of instructions and definitions have no such function yet, and there is no
+//! (`Exact`). The other rules of instructions and definitions have no such function yet, and there is no
 //! reader yet.
 //!
 //! It stands on `il_lex` for the tokens and on `il_ast` for the tree.
