@@ -24,7 +24,7 @@ pointer_bytes at (w ∷ ws) = to_le_bytes w64 at ++ pointer_bytes (at + length w
 
 -- the argument range: the number of words; a pointer to each and a null pointer; an empty environment's null pointer;
 -- an empty auxiliary vector, of 16 zero bytes; the words
-abbrev pub argument_bytes : List (List ℕ) → List ℕ
+unfoldable pub argument_bytes : List (List ℕ) → List ℕ
 argument_bytes words =
     to_le_bytes w64 (length words) ++ pointer_bytes (stack_top + 40 + 8 * length words) words ++ replicate 32 0 ++ word_bytes words
 
