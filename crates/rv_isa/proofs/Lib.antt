@@ -6,3 +6,5 @@ pub mod RunLemmas
 pub mod Same
 pub mod StepLemmas
 pub mod StayLemmas
+pub mod RangeLemmas
+pub mod KeepLemmas

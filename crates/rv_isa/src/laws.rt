@@ -1,7 +1,7 @@
 //! Laws of the machine's definitions, each as the contract of a function that does nothing.
 
 ghost use Rattle.rv_isa.specs.Examples.{Examples};
-ghost use Rattle.rv_isa.specs.Laws.{AboveStays, BelowStays, OthersStay, RunsCompose, StepActs, StepStays, StepsCome, StoredIsRead, WordsDecode};
+ghost use Rattle.rv_isa.specs.Laws.{AboveStays, BelowStays, OthersStay, RunsCompose, StepActs, StepKeeps, StepStays, StepsCome, StoredIsRead, WordsDecode};
 
 /// The word of an instruction is decoded as that instruction.
 pub fn words_decode()
@@ -29,6 +29,11 @@ pub fn others_stay()
     ensures below { BelowStays }
     ensures above { AboveStays }
     ensures passing { OthersStay }
+{}
+
+/// A step keeps numbers in range: pc and registers below 2^64, bytes below 256.
+pub fn step_keeps()
+    ensures { StepKeeps }
 {}
 
 /// No step changes permissions, or bytes that may not be written: code that may not be written stays.
