@@ -116,7 +116,7 @@ unary_operation_exact = said (step.keyword reading.unary_of) (chosen (step.word_
     (choose_exact (step.word_test reading.unary_of))
 
 -- what the next word is where a word is read
-sees_word_of : (test : List ℕ → Bool) (s : State) (text : List ℕ) (s' : State) → rule.token WordKind s text s' → reading.sees_word test s ≡ test text
+pub sees_word_of : (test : List ℕ → Bool) (s : State) (text : List ℕ) (s' : State) → rule.token WordKind s text s' → reading.sees_word test s ≡ test text
 sees_word_of test s text s' h =
     let later : drop (length h.0) s.rest ≡ text ++ h.1 = ap (drop (length h.0)) h.2.split ∙ drop_at h.0 (text ++ h.1) (length h.0) refl in
     ap (reading.ahead_is test s.rest) (next_complete s.rest WordKind h.0 text h.1 h.2)

@@ -1,9 +1,9 @@
 -- The rules of operands and operations as functions of the state.
-use Rattle.std.specs.Prelude.{ℕ, Bool, true, false, if◌then◌else◌, nat_eq, List, [], ◌∷◌, ◌++◌, codes, take, drop, Option, Some, None}
+use Rattle.std.specs.Prelude.{ℕ, Bool, true, false, if◌then◌else◌, nat_eq, List, [], ◌∷◌, ◌++◌, codes, is_some, take, drop, Option, Some, None}
 use Rattle.std.specs.Cmp.Lexicographic.{pointwise}
-use Rattle.il_lex.specs.declared.kind.Symbol.TheVariants.{Comma, Equals}
+use Rattle.il_lex.specs.declared.kind.Symbol.TheVariants.{Comma, Equals, LeftParen, RightParen}
 use Rattle.il_lex.specs.declared.kind.Kind.{Kind}
-use Rattle.il_lex.specs.declared.kind.Kind.TheVariants.{Natural, Negative, Temp as TempKind, Global as GlobalKind, Word as WordKind}
+use Rattle.il_lex.specs.declared.kind.Kind.TheVariants.{Symbol, Natural, Negative, Temp as TempKind, Global as GlobalKind, Label as LabelKind, Word as WordKind, Newline}
 use Rattle.il_ast.specs.declared.operation.Class.{Class}
 use Rattle.il_ast.specs.declared.operation.Class.TheVariants.{W, L}
 use Rattle.il_ast.specs.declared.operation.Size.{Size}
@@ -21,16 +21,18 @@ use Rattle.il_ast.specs.declared.operand.Val.TheVariants.{Int, Temp, Global}
 use Rattle.il_ast.specs.declared.operand.Dest.{Dest}
 use Rattle.il_ast.specs.declared.operand.Arg.{Arg}
 use Rattle.il_ast.specs.declared.block.PhiArg.{PhiArg}
+use Rattle.il_ast.specs.declared.block.Phi.{Phi}
+use Rattle.il_ast.specs.declared.instruction.Lined.{Lined}
 use Rattle.il_reader.specs.Words.{class_word, size_word, unary_word, binary_word, alloc_word, store_word}
 use Rattle.il_lex.specs.declared.scan.Ahead.{Ahead}
 use Rattle.il_lex.specs.declared.scan.Ahead.TheVariants.{End, Bad, Found}
 use Rattle.il_lex.specs.Scan.{scan}
 use Rattle.il_ast.specs.declared.instruction.Inst.{Inst}
-use Rattle.il_ast.specs.declared.instruction.Inst.TheVariants.{Store, Blit}
+use Rattle.il_ast.specs.declared.instruction.Inst.TheVariants.{Unary, Binary, Alloc, Store, Blit, Call}
 use Rattle.il_ast.specs.declared.instruction.Jump.{Jump}
 use Rattle.il_ast.specs.declared.instruction.Jump.TheVariants.{Goto, Branch, Return, Halt}
 use Rattle.il_reader.specs.State.{State}
-use Rattle.il_reader.specs.Steps.{Step, ◌>>=◌, ◌>>◌, give, piece, keyword, word, natural, maybe, either, sees, integer, temp, label, symbol}
+use Rattle.il_reader.specs.Steps.{commas, many, newline, Step, ◌>>=◌, ◌>>◌, give, piece, keyword, word, natural, maybe, either, sees, integer, temp, label, symbol}
 
 -- what a word means in a table of words
 abbrev pub word_in : {A : Type 0} → List (List ℕ × A) → List ℕ → Option A
@@ -182,3 +184,126 @@ jump =
     either (sees_word (is_text (codes "jmp"))) goto
     (either (sees_word (is_text (codes "jnz"))) branch
     (either (sees_word (is_text (codes "ret"))) returning halt))
+
+-- what comes behind a destination
+pub data Head : Type 0 where
+  PhiHead CallHead AllocHead UnaryHead OtherHead : Head
+
+abbrev pub head_of : List ℕ → Head
+head_of text =
+    if is_text (codes "phi") text then PhiHead
+    else (if is_text (codes "call") text then CallHead
+    else (if is_some (alloc_of text) then AllocHead
+    else (if is_some (unary_of text) then UnaryHead
+    else OtherHead)))
+
+abbrev pub headed : (List ℕ → Bool) → Option (Dest × State) → Bool
+headed test None = false
+headed test (Some x) = sees_word test x.1
+
+-- whether a destination comes next, and then a word that passes a test
+abbrev pub sees_head : (List ℕ → Bool) → State → Bool
+sees_head test s = headed test (destination s)
+
+abbrev pub is_alloc : Head → Bool
+is_alloc AllocHead = true
+is_alloc _ = false
+
+abbrev pub is_unary : Head → Bool
+is_unary UnaryHead = true
+is_unary _ = false
+
+abbrev pub is_other : Head → Bool
+is_other OtherHead = true
+is_other _ = false
+
+abbrev pub is_word : Kind → Bool
+is_word WordKind = true
+is_word _ = false
+
+abbrev pub is_comma : Kind → Bool
+is_comma (Symbol Comma) = true
+is_comma _ = false
+
+abbrev pub unary : Step Inst
+unary = do
+  to ← destination
+  op ← keyword unary_of
+  v ← value
+  give (Unary to op v)
+
+abbrev pub binary : Step Inst
+binary = do
+  to ← destination
+  op ← keyword binary_of
+  a ← value
+  comma
+  b ← value
+  give (Binary to op a b)
+
+abbrev pub allocation : Step Inst
+allocation = do
+  to ← destination
+  alignment ← keyword alloc_of
+  size ← natural
+  give (Alloc to alignment size)
+
+abbrev pub arguments : Step (List Arg)
+arguments s = if sees is_word s then commas (sees is_comma) comma (sees is_word) argument s else Some ([], s)
+
+abbrev pub call : Step Inst
+call = do
+  to ← maybe (sees is_temp) destination
+  word (codes "call")
+  callee ← value
+  piece LeftParen
+  args ← arguments
+  piece RightParen
+  give (Call to callee args)
+
+abbrev pub is_label : Kind → Bool
+is_label LabelKind = true
+is_label _ = false
+
+abbrev pub line : Step ℕ
+line s = Some (s.line, s)
+
+abbrev pub lined : {A : Type 0} → Step A → Step (Lined A)
+lined p = do
+  n ← line
+  x ← p
+  give (record { line = n; item = x })
+
+abbrev pub instruction : Step Inst
+instruction =
+    either (sees_head (λ text. is_unary (head_of text))) unary
+    (either (sees_head (λ text. is_other (head_of text))) binary
+    (either (sees_head (λ text. is_alloc (head_of text))) allocation
+    (either (sees_word (λ text. is_some (store_of text))) storing
+    (either (sees_word (is_text (codes "blit"))) blit call))))
+
+abbrev pub phi : Step Phi
+phi = do
+  n ← line
+  to ← destination
+  word (codes "phi")
+  args ← commas (sees is_comma) comma (sees is_label) phi_argument
+  give (record { line = n; to = to; args = args })
+
+abbrev pub is_newline : Kind → Bool
+is_newline Newline = true
+is_newline _ = false
+
+-- the ends of lines, at least one
+abbrev pub line_ends : Step (List (Unit {0}))
+line_ends = do
+  x ← newline
+  xs ← many (sees is_newline) newline
+  give (x ∷ xs)
+
+-- what stands on lines of its own
+abbrev pub on_line : {A : Type 0} → Step A → Step A
+on_line p = do
+  x ← p
+  line_ends
+  give x

@@ -7,10 +7,10 @@
 //! first appearance. A block without a jump, not the last of its function, stands for one that goes to
 //! the next.
 //!
-//! `specs/Steps.antt` and `specs/Reading.antt` have the rules of tokens, lists, operands and jumps as functions
-//! of the state, and `proofs` shows each of these exact: it reads what its rule says, and all of it
-//! (`Exact`). The other rules of instructions and definitions have no such function yet, and there is no
-//! reader yet.
+//! `specs/Steps.antt` and `specs/Reading.antt` have the rules up to phis, instructions and jumps on their
+//! lines as functions of the state, and `proofs` shows each of these exact: it reads what its rule says,
+//! wherever its rule says so (`Exact`). The rules of blocks and definitions have no such function yet,
+//! and there is no reader yet.
 //!
 //! It stands on `il_lex` for the tokens and on `il_ast` for the tree.
 #![tactic(auto)]
