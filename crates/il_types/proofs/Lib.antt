@@ -1,0 +1,4 @@
+pub mod Largest
+pub mod FirstLemmas
+pub mod CoveringLemmas
+pub mod FaultLemmas

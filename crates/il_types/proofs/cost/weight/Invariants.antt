@@ -1,0 +1,8 @@
+use Rattle.std.proofs.Common.{◌≡◌, ◌+◌, take, length}
+use Rattle.std.specs.List.{sum_by}
+use Rattle.il_types.specs.Capped.{capped}
+use Rattle.il_ast.specs.Cost.{block_weight}
+use Rattle.il_types.proofs.cost.weight.Given as goal
+
+abbrev pub invariant-loop-block : goal.invariant-loop-block
+invariant-loop-block l = l.total ≡ capped (length l.function.params + sum_by block_weight (take l.block-index l.blocks))

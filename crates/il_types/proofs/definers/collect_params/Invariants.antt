@@ -1,0 +1,7 @@
+use Rattle.std.proofs.Common.{◌≡◌, ◌++◌, take}
+use Rattle.std.specs.List.{flat_map}
+use Rattle.il_types.specs.Sites.{param_definers}
+use Rattle.il_types.proofs.definers.collect_params.Given as goal
+
+abbrev pub invariant-loop-param : goal.invariant-loop-param
+invariant-loop-param l = l.found.items ≡ l.fn.found.items ++ flat_map param_definers (take l.param-index l.params)

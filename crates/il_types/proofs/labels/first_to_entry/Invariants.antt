@@ -1,0 +1,8 @@
+use Rattle.std.proofs.Common.{◌≡◌, drop}
+use Rattle.il_types.specs.First.{when, first}
+use Rattle.il_types.specs.declared.site.Site.{Site}
+use Rattle.il_types.specs.Locals.{is_entry}
+use Rattle.il_types.proofs.labels.first_to_entry.Given as goal
+
+abbrev pub invariant-loop-site : goal.invariant-loop-site
+invariant-loop-site l = first (λ (s : Site). when (is_entry l.blocks s.number) s.line) (drop l.site-index l.sites) ≡ first (λ (s : Site). when (is_entry l.blocks s.number) s.line) l.sites

@@ -1,0 +1,7 @@
+use Rattle.std.proofs.Common.{◌≡◌, ◌++◌, take}
+use Rattle.std.specs.List.{flat_map}
+use Rattle.il_types.specs.Sites.{inst_operands}
+use Rattle.il_types.proofs.operands.collect_insts.Given as goal
+
+abbrev pub invariant-loop-inst : goal.invariant-loop-inst
+invariant-loop-inst l = l.found.items ≡ l.fn.found.items ++ flat_map inst_operands (take l.inst-index l.insts)

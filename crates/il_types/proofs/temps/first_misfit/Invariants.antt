@@ -1,0 +1,9 @@
+use Rattle.std.proofs.Common.{◌≡◌, drop}
+use Rattle.std.specs.Prelude.{not}
+use Rattle.il_types.specs.First.{when, first}
+use Rattle.il_types.specs.declared.site.Operand.{Operand}
+use Rattle.il_types.specs.Tables.{value_fits}
+use Rattle.il_types.proofs.temps.first_misfit.Given as goal
+
+abbrev pub invariant-loop-operand : goal.invariant-loop-operand
+invariant-loop-operand l = first (λ (o : Operand). when (not (value_fits l.words o.class o.value)) o.line) (drop l.operand-index l.operands) ≡ first (λ (o : Operand). when (not (value_fits l.words o.class o.value)) o.line) l.operands

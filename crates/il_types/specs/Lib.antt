@@ -1,0 +1,12 @@
+pub mod Capped
+pub mod Parts
+pub mod Sites
+pub mod Marks
+pub mod First
+pub mod Locals
+pub mod Tables
+pub mod Covering
+pub mod RuleNumber
+pub mod Rules
+pub mod Faults
+pub mod Refusals

@@ -1,0 +1,38 @@
+//! The rules of a good text, and the measures of a function.
+//!
+//! `check::check` takes a text's tree exactly where it breaks none of the fourteen rules and passes no
+//! limit of one text; a `Checked` carries that as an invariant of its type. What it refuses breaks
+//! the rule that is named, at the line of the first place that breaks it, or passes a limit; only
+//! want of memory says nothing of the text.
+//!
+//! The rules are definitions in `specs`, as the line of the first place of the tree that breaks a rule:
+//! `Locals` has those of one function, `Rules` those of data and of a text, and the limits. They speak
+//! of the tree alone; the code uses tables. `cost` has what a function weighs and how much stack it
+//! needs, as `il_ast` defines them.
+//!
+//! Each rule goes over a function once, with marks by number, but that of phis, which goes over a
+//! block's predecessors once for each label of a phi. The crate stands on `il_ast` for the tree and on
+//! `thiserror` for the texts of refusals.
+#![tactic(auto)]
+
+pub mod check;
+pub mod checked;
+pub mod cost;
+mod definers;
+pub mod error;
+mod faults;
+mod globals;
+mod insts;
+mod labels;
+pub mod limits;
+mod marks;
+mod objects;
+mod operands;
+mod phis;
+mod repeats;
+pub mod rule;
+mod site;
+mod sites;
+mod temps;
+#[cfg(test)]
+mod tests;
