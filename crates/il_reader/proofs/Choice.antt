@@ -28,7 +28,7 @@ use Rattle.il_reader.proofs.Operands.{destination_exact}
 use Rattle.il_reader.proofs.Jumps.{sees_word_of, storing_exact, blit_exact}
 use Rattle.il_reader.proofs.Instructions.{unary_exact, binary_exact, allocation_exact, call_exact, destination_begins}
 
-unary_head : (op : UnaryOp) → reading.head_of (unary_word op) ≡ reading.UnaryHead
+unary_head : (op : UnaryOp) → reading.head_of (unary_word op) ≡ reading.Head.UnaryHead
 unary_head Neg = refl
 unary_head Copy = refl
 unary_head (Extend SignedWord) = refl
@@ -45,7 +45,7 @@ unary_head (Load UnsignedHalf) = refl
 unary_head (Load SignedByte) = refl
 unary_head (Load UnsignedByte) = refl
 
-binary_head : (op : BinaryOp) → reading.head_of (binary_word op) ≡ reading.OtherHead
+binary_head : (op : BinaryOp) → reading.head_of (binary_word op) ≡ reading.Head.OtherHead
 binary_head Add = refl
 binary_head Sub = refl
 binary_head Mul = refl
@@ -80,7 +80,7 @@ binary_head (Compare UnsignedLess L) = refl
 binary_head (Compare UnsignedGreaterEqual L) = refl
 binary_head (Compare UnsignedGreater L) = refl
 
-alloc_head : (a : Alignment) → reading.head_of (alloc_word a) ≡ reading.AllocHead
+alloc_head : (a : Alignment) → reading.head_of (alloc_word a) ≡ reading.Head.AllocHead
 alloc_head Four = refl
 alloc_head Eight = refl
 alloc_head Sixteen = refl
@@ -127,15 +127,15 @@ call_word test no' s i s' h = at h.0 h.1 h.3.1 h.2 h.3.2
     at None m m' d t = sees_word_of test s (codes "call") m' (subst (λ m. rule.token WordKind m (codes "call") m') d t) ∙ no'
     at (Some to) m m' d t = temp_no_word test s (37 ∷ d.2.0) d.2.1 d.2.2
 
-unary_sees : (test : reading.Head → Bool) (b : Bool) → test reading.UnaryHead ≡ b → (s : State) (i : Inst) (s' : State) → grammar.unary s i s' → reading.sees_head (OfHead test) s ≡ b
+unary_sees : (test : reading.Head → Bool) (b : Bool) → test reading.Head.UnaryHead ≡ b → (s : State) (i : Inst) (s' : State) → grammar.unary s i s' → reading.sees_head (OfHead test) s ≡ b
 unary_sees test b is s i s' h = ⊎_elim
     (λ w. head_sees (OfHead test) s h.0 h.1 (unary_word h.3.0) h.3.1 h.2 w ∙ ap test (unary_head h.3.0) ∙ is)
     (λ w. head_sees (OfHead test) s h.0 h.1 (codes "loadw") h.3.1 h.2 w.1 ∙ is) h.3.2
 
-binary_sees : (test : reading.Head → Bool) (b : Bool) → test reading.OtherHead ≡ b → (s : State) (i : Inst) (s' : State) → grammar.binary s i s' → reading.sees_head (OfHead test) s ≡ b
+binary_sees : (test : reading.Head → Bool) (b : Bool) → test reading.Head.OtherHead ≡ b → (s : State) (i : Inst) (s' : State) → grammar.binary s i s' → reading.sees_head (OfHead test) s ≡ b
 binary_sees test b is s i s' h = head_sees (OfHead test) s h.0 h.1 (binary_word h.3.0) h.3.1 h.2 h.3.2 ∙ ap test (binary_head h.3.0) ∙ is
 
-allocation_sees : (test : reading.Head → Bool) (b : Bool) → test reading.AllocHead ≡ b → (s : State) (i : Inst) (s' : State) → grammar.allocation s i s' → reading.sees_head (OfHead test) s ≡ b
+allocation_sees : (test : reading.Head → Bool) (b : Bool) → test reading.Head.AllocHead ≡ b → (s : State) (i : Inst) (s' : State) → grammar.allocation s i s' → reading.sees_head (OfHead test) s ≡ b
 allocation_sees test b is s i s' h = head_sees (OfHead test) s h.0 h.1 (alloc_word h.3.0) h.3.1 h.2 h.3.2 ∙ ap test (alloc_head h.3.0) ∙ is
 
 storing_no_head : (test : List ℕ → Bool) (s : State) (i : Inst) (s' : State) → grammar.storing s i s' → reading.sees_head test s ≡ false

@@ -4,4 +4,7 @@ pub mod Words
 pub mod Grammar
 pub mod Reads
 pub mod Steps
+pub mod Operands
+pub mod Sentences
+pub mod Statements
 pub mod Reading
