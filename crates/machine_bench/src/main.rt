@@ -1,0 +1,81 @@
+//! How fast the machine runs. For example, for a thousand million instructions:
+//!
+//!     time out/machine_bench alu flat 1000000000
+//!     time out/machine_bench memory paged 1000000000
+//!
+//! `alu` is a loop of operations and a branch, `memory` one with a load and a store; `flat` and `paged` are the kinds of memory. Without words it runs
+//! a thousand instructions of `alu` over flat memory.
+#![tactic(auto)]
+
+use elf_file::{read_image, write_image};
+use obj_link::Image;
+use rv_machine::flat_ram::FlatRam;
+use rv_machine::machine::Machine;
+use rv_machine::page_ram::PageRam;
+use rv_machine::ram::Ram;
+use rv_machine::stop::Stop;
+use std::alloc::Global;
+use std::{env, io};
+
+/// addi a0, a0, 1; xor a1, a1, a0; slli a2, a0, 3; add a3, a3, a2; addi t0, t0, -1; bne t0, x0, back to the first
+const ALU: [u32; 6] = [
+    0x0015_0513,
+    0x00a5_c5b3,
+    0x0035_1613,
+    0x00c6_86b3,
+    0xfff2_8293,
+    0xfe02_96e3,
+];
+
+/// lui s0, 0x11; ld a1, 0(s0); add a1, a1, a0; sd a1, 8(s0); addi a0, a0, 1; addi t0, t0, -1; bne t0, x0, back to the load
+const MEMORY: [u32; 7] = [
+    0x0001_1437,
+    0x0004_3583,
+    0x00a5_85b3,
+    0x00b4_3423,
+    0x0015_0513,
+    0xfff2_8293,
+    0xfe02_96e3,
+];
+
+/// Runs the code for so many instructions; `None` where there is no memory for it.
+fn stop_of<R: Ram>(alloc: Global, code: &[u32], limit: u64) -> Option<Stop> {
+    let code = code.to_vec(alloc).ok()?;
+    let data = vec![in alloc; 0u8; 16].ok()?;
+    if code.is_empty() || code.len() > 100 || data.len() != 16 {
+        return None;
+    }
+    let file = write_image(alloc, &Image::new(code, data)).ok()?;
+    let loaded = read_image(alloc, file.as_slice()).ok()?;
+    let machine: Machine<R> = Machine::start(alloc, &loaded, &[]).ok()?;
+    let (_, stop) = machine.run(alloc, limit);
+    Some(stop)
+}
+
+fn main(rt: HostRuntime) -> io::Result<()> {
+    let mut memory = false;
+    let mut paged = false;
+    let mut limit = 1000u64;
+    for word in env::args(&rt)? {
+        match word.as_str() {
+            "memory" => memory = true,
+            "paged" => paged = true,
+            other => limit = other.parse::<u64>().unwrap_or(limit),
+        }
+    }
+    let code = if memory {
+        MEMORY.as_slice()
+    } else {
+        ALU.as_slice()
+    };
+    let stop = if paged {
+        stop_of::<PageRam>(rt.alloc(), code, limit)
+    } else {
+        stop_of::<FlatRam>(rt.alloc(), code, limit)
+    };
+    match stop {
+        Some(Stop::Limit) => println!(rt; "{limit} instructions"),
+        Some(other) => println!(rt; "{other:?}"),
+        None => println!(rt; "no memory"),
+    }
+}
