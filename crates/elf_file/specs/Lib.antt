@@ -3,3 +3,4 @@ pub mod Headers
 pub mod Loaded
 pub mod Conditions
 pub mod File
+pub mod Stands

@@ -4,8 +4,9 @@
 //! starts from, or refuses it by a number.
 //!
 //! - `write_image` gives exactly `file_of` of `specs/File.antt`: the file's header, a program header for the code and one for the data if there is
-//!   any, the code's words on the second page, the data on the page after them. That file loads as the image: its code can be executed and neither
-//!   read nor written, its data can be read and written.
+//!   any, the code's words on the second page, the data on the page after them. That file loads as the image, and `Stands` of `specs/Stands.antt` says
+//!   by address what that is: each word of the code, which can be executed and neither read nor written, each byte of the data, which can be read
+//!   and written, and nothing else.
 //! - `read_image` accepts exactly the files that keep `Loads` of `specs/Conditions.antt`, a record of conditions by the names of ELF's fields, and
 //!   gives exactly the entry, addresses, flags and bytes that `Loads` tells of. What it refuses does not keep a condition that the refusal names,
 //!   but for want of memory. Bytes of the file that no header speaks of do not count.

@@ -1,5 +1,6 @@
 ghost use Rattle.std.specs.Prelude.{◌≡◌, ◌++◌, ◌*◌, ◌<◌, ◌≤◌, ◌^◌, List, length, IfOk, OnOk, vec_len};
 ghost use Rattle.obj_link.specs.Image.{IsImage};
+ghost use Rattle.elf_file.specs.Stands.{Stands};
 ghost use Rattle.elf_file.specs.Conditions.{Loads, e_ident};
 ghost use Rattle.std.specs.List.{flat_map};
 ghost use Rattle.elf_file.specs.File.{data_offset, executable_of, fields_bytes, file_header_fields, file_of, header_for, headers_bytes, padded, program_header_fields, segment_header, with_code};
@@ -148,6 +149,9 @@ fn data_offset(image: &Image) -> u64
 pub fn write_image(alloc: Global, image: &Image) -> Result<Vec<u8>, AllocError>
     ensures file { IfOk result (λ v. v.items ≡ file_of image.now) }
     ensures loads { IfOk result (λ v. Loads v.items (executable_of image.now)) }
+
+    // What the file loads as is the image: each word and each byte at its address, and nothing else.
+    ensures stands { IfOk result (λ _. Stands image.now (executable_of image.now)) }
 {
     let data_bytes = image.data();
     let offset = data_offset(image);

@@ -1,5 +1,6 @@
 use Rattle.std.proofs.Common.{length, sym, ap, arith, ◌∙◌}
 use Rattle.std.proofs.lemmas.Bool.Decides.{nat_tests}
+use Rattle.elf_file.proofs.Standing.{Stands-executable_of}
 use Rattle.elf_file.proofs.Writing.{loads-file, file-code, file-data, fits-before_data}
 use Rattle.elf_file.proofs.write.write_image.Goals as goal
 
@@ -37,3 +38,9 @@ returns-clause-file c =
 pub returns-clause-loads : goal.returns-clause-loads
 returns-clause-loads c =
     loads-file c.args.image.now c.extend_from_slice.new.self.items c.data-data_bytes.ensures.image (returns-clause-file c)
+
+pub returns-then-is_empty-clause-stands : goal.returns-then-is_empty-clause-stands
+returns-then-is_empty-clause-stands c = Stands-executable_of c.args.image.now
+
+pub returns-clause-stands : goal.returns-clause-stands
+returns-clause-stands c = Stands-executable_of c.args.image.now
