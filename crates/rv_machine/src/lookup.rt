@@ -6,7 +6,7 @@ ghost use Rattle.rv_isa.specs.Memory.{number_at, stored};
 ghost use Rattle.rv_machine.specs.Mapped.{IsRead, IsWritten, is_mapped};
 ghost use Rattle.rv_isa.specs.State.{updated};
 ghost use Rattle.std.specs.Bool.{OnFalse, OnTrue};
-ghost use Rattle.rv_machine.specs.Regions.{AllFull, IsSpan, IsWhole, Overwrites, contains, has_address, region_at, region_byte, region_permission, spans, touches};
+ghost use Rattle.rv_machine.specs.Regions.{AllFull, IsFirst, IsWhole, Overwrites, contains, has_address, region_at, region_byte, region_permission, spans, touches};
 ghost use Rattle.rv_machine.specs.Width.{bytes_of};
 
 use crate::regions::{NOTHING_ALLOWED, Region, number, write_number};
@@ -180,25 +180,21 @@ fn reaches(at: u64, more: u64, region: &Region) -> bool
 }
 
 /// Whether the region has all of the addresses from `at` to `at + more`.
-fn spans(at: u64, more: u64, region: &Region) -> bool
+pub fn spans(at: u64, more: u64, region: &Region) -> bool
     requires { at + more < 2 ^ 64 }
     ensures { result ≡ spans at (more + 1) region.now }
 {
     region.address <= at && at + more < region.address + region.size
 }
 
-/// The region that has all of the addresses from `at` to `at + more`, if no region before it has one of them.
-pub fn span_of(regions: &[Region], at: u64, more: u64) -> Option<usize>
+/// The first region that has one of the addresses from `at` to `at + more`.
+pub fn first_of(regions: &[Region], at: u64, more: u64) -> Option<usize>
     requires { at + more < 2 ^ 64 }
-    ensures { IfSome result (IsSpan at (more + 1) regions.now) }
+    ensures { IfSome result (IsFirst at (more + 1) regions.now) }
 {
     for (k, region) in regions.iter().enumerate() {
         if reaches(at, more, region) {
-            return if spans(at, more, region) {
-                Some(k)
-            } else {
-                None
-            };
+            return Some(k);
         }
     }
     None

@@ -1,16 +1,16 @@
 //! The pages of a memory.
 
-ghost use Rattle.std.specs.Prelude.{◌≡◌, ℕ, ◌+◌, ◌-◌, ◌*◌, ◌≤◌, ◌<◌, ◌^◌, true, IsSome, IfSome, List, slice_index, IfOk, OnOk, Some, length};
+ghost use Rattle.std.specs.Prelude.{◌≡◌, ℕ, ◌+◌, ◌-◌, ◌*◌, ◌%◌, ◌≤◌, ◌<◌, ◌^◌, true, IsSome, IfSome, List, slice_index, IfOk, OnOk, OnSome, Some, length};
 ghost use Rattle.std.specs.Option.{option_copied};
 ghost use Rattle.std.specs.Bool.{OnFalse, OnTrue};
 ghost use Rattle.rv_isa.specs.State.{updated};
 ghost use Rattle.rv_machine.specs.declared.regions.Region.{Region};
 ghost use Rattle.rv_machine.specs.Mapped.{IsRead, IsWritten};
-ghost use Rattle.rv_machine.specs.Pages.{AllPermit, IsCopy, IsCopyOf, PageOverwrites, WritesPage, is_made, page_in, paged_byte};
+ghost use Rattle.rv_machine.specs.Pages.{AllPermit, IsCopy, IsCopyOf, IsPartCopy, PageOverwrites, WritesPage, is_made, page_in, paged_byte};
 ghost use Rattle.rv_machine.specs.Regions.{region_byte, region_permission};
 ghost use Rattle.rv_machine.specs.Width.{bytes_of};
 
-use crate::lookup::{byte_at, read, span_of};
+use crate::lookup::{byte_at, first_of, read, spans};
 use crate::page::{PAGE_SIZE, Page};
 use crate::regions::{Region, filled, number, write_number};
 use crate::width::Width;
@@ -59,6 +59,8 @@ fn page_in_region(alloc: Global, region: &Region, k: u64) -> Result<Page, AllocE
     let bytes = filled(alloc, part_of(region, PAGE_SIZE * k), PAGE_SIZE as usize)?;
     Ok(Page {
         bytes,
+        low: 0,
+        high: PAGE_SIZE as usize,
         readable: region.permission.readable,
         writable: region.permission.writable,
     })
@@ -77,14 +79,36 @@ fn page_bytes(alloc: Global, regions: &[Region], k: u64) -> Result<Vec<u8>, Allo
     Ok(bytes)
 }
 
-/// Page `k`, of which nothing is known: it can be read and written byte by byte alone.
-fn page_of_many(alloc: Global, regions: &[Region], k: u64) -> Result<Page, AllocError>
+/// Page `k`, of which some addresses lie in the region and others may not.
+fn page_with(alloc: Global, regions: &[Region], region: &Region, k: u64) -> Result<Page, AllocError>
+    requires { k < 2 ^ 52 }
+    ensures { IfOk result (IsPartCopy regions.now region.now k) }
+{
+    let bytes = page_bytes(alloc, regions, k)?;
+    let start = PAGE_SIZE * k;
+    let low = region.address.saturating_sub(start).min(PAGE_SIZE);
+    let high = (region.address + region.size)
+        .saturating_sub(start)
+        .min(PAGE_SIZE);
+    Ok(Page {
+        bytes,
+        low: low as usize,
+        high: high as usize,
+        readable: region.permission.readable,
+        writable: region.permission.writable,
+    })
+}
+
+/// Page `k`, of which nothing is known: it is read and written byte by byte.
+fn page_of_none(alloc: Global, regions: &[Region], k: u64) -> Result<Page, AllocError>
     requires { k < 2 ^ 52 }
     ensures { IfOk result (IsCopy regions.now k) }
 {
     let bytes = page_bytes(alloc, regions, k)?;
     Ok(Page {
         bytes,
+        low: 0,
+        high: 0,
         readable: false,
         writable: false,
     })
@@ -95,9 +119,14 @@ fn new_page(alloc: Global, regions: &[Region], k: u64) -> Result<Page, AllocErro
     requires { k < 2 ^ 52 }
     ensures { IfOk result (IsCopy regions.now k) }
 {
-    match span_of(regions, PAGE_SIZE * k, PAGE_SIZE - 1) {
-        Some(i) => page_in_region(alloc, &regions[i], k),
-        None => page_of_many(alloc, regions, k),
+    let Some(i) = first_of(regions, PAGE_SIZE * k, PAGE_SIZE - 1) else {
+        return page_of_none(alloc, regions, k);
+    };
+    let region = &regions[i];
+    if spans(PAGE_SIZE * k, PAGE_SIZE - 1, region) {
+        page_in_region(alloc, region, k)
+    } else {
+        page_with(alloc, regions, region, k)
     }
 }
 
@@ -166,26 +195,35 @@ fn write_at(pages: &mut [Option<Page>], k: usize, place: usize, width: Width, va
     }
 }
 
-/// The number at `at`, where its bytes may be read and lie in one page.
+/// The number at `at`, where its bytes may be read and lie in one page and one region.
 #[inline(always)]
 pub fn paged_read(regions: &[Region], pages: &[Option<Page>], at: u64, width: Width) -> Option<u64>
     requires { AllPermit regions.now pages.now }
     ensures { IfSome result (IsRead (region_permission regions.now) (paged_byte regions.now pages.now) at (bytes_of width)) }
 {
     let place = (at % PAGE_SIZE) as usize;
-    if place + width.bytes() as usize > PAGE_SIZE as usize {
-        return None;
-    }
+    let end = place + width.bytes() as usize;
     let Some(page) = page_of(pages, (at / PAGE_SIZE) as usize) else {
-        return read(regions, at, width);
+        return read_unmade(regions, at, width);
     };
-    if !page.readable {
+    if !page.readable || place < page.low || page.high < end {
         return None;
     }
     Some(number(&page.bytes[place..], width))
 }
 
-/// Writes the low bytes of a number at `at`, where they may be written and lie in one page that was made, and says whether it did.
+/// The number at `at` as the regions have it, where its bytes may be read and lie in one page and one region.
+fn read_unmade(regions: &[Region], at: u64, width: Width) -> Option<u64>
+    ensures read { IfSome result (IsRead (region_permission regions.now) (region_byte regions.now) at (bytes_of width)) }
+    ensures room { OnSome result (at % 4096 + bytes_of width ≤ 4096) }
+{
+    if at % PAGE_SIZE + width.bytes() > PAGE_SIZE {
+        return None;
+    }
+    read(regions, at, width)
+}
+
+/// Writes the low bytes of a number at `at`, where they may be written and lie in one page that was made and in one region, and says whether it did.
 #[inline(always)]
 pub fn paged_write(pages: &mut [Option<Page>], at: u64, width: Width, value: u64) -> bool
     ensures done { (rs : List Region) → AllPermit rs pages.old → OnTrue result (IsWritten (region_permission rs) (paged_byte rs pages.old) (paged_byte rs pages.new) at (bytes_of width) value) }
@@ -194,13 +232,11 @@ pub fn paged_write(pages: &mut [Option<Page>], at: u64, width: Width, value: u64
 {
     let k = (at / PAGE_SIZE) as usize;
     let place = (at % PAGE_SIZE) as usize;
-    if place + width.bytes() as usize > PAGE_SIZE as usize {
-        return false;
-    }
+    let end = place + width.bytes() as usize;
     let Some(page) = page_of(pages, k) else {
         return false;
     };
-    if !page.writable {
+    if !page.writable || place < page.low || page.high < end {
         return false;
     }
     write_at(pages, k, place, width, value);

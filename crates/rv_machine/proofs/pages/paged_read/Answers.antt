@@ -5,8 +5,8 @@ use Rattle.rv_machine.proofs.pages.paged_read.Goals as goal
 
 pub returns-in_default : goal.returns-in_default
 returns-in_default c =
-    read-unmade c.args.regions.now c.args.pages.now c.args.at (bytes_of c.args.width) c.read.result c.in_default.ensures (omega (arith, c.if-place-bytes.false, c.bytes.ensures)) c.read.ensures
+    read-unmade c.args.regions.now c.args.pages.now c.args.at (bytes_of c.args.width) c.read_unmade.result c.in_default.ensures c.read_unmade.ensures.room c.read_unmade.ensures.read
 
 pub returns : goal.returns
 returns c =
-    read-made c.args.regions.now c.args.pages.now c.args.at (bytes_of c.args.width) c.number.result c.in-Some.page.now c.deref.result.now c.requires (sym c.in-Some.ensures) c.ranges.at.fits (omega (arith, c.if-place-bytes.false, c.bytes.ensures)) c.if-not-page.false c.deref.ensures.value c.number.ensures.value c.number.ensures.small
+    read-made c.args.regions.now c.args.pages.now c.args.at (bytes_of c.args.width) c.number.result c.in-Some.page.now c.deref.result.now c.requires (sym c.in-Some.ensures) c.ranges.at.fits c.if-place-page.false (omega (arith, c.if-page-end.false, c.bytes.ensures)) c.if-not-page.false c.deref.ensures.value c.number.ensures.value c.number.ensures.small

@@ -8,7 +8,7 @@ write_at-requires-clause-long c = within-of c.args.pages.now (c.args.at / 4096) 
 
 pub returns-clause-done : goal.returns-clause-done
 returns-clause-done c =
-    λ rs all. write-done rs c.args.at (bytes_of c.args.width) c.args.value c.args.pages.now c.write_at.new.pages c.in-Some.page.now all c.in-Some.ensures c.ranges.at.fits (omega (arith, c.if-place-bytes.false, c.bytes.ensures)) c.if-not-page.false c.write_at.ensures
+    λ rs all. write-done rs c.args.at (bytes_of c.args.width) c.args.value c.args.pages.now c.write_at.new.pages c.in-Some.page.now all c.in-Some.ensures c.ranges.at.fits c.if-place-page.false (omega (arith, c.if-page-end.false, c.bytes.ensures)) c.if-not-page.false c.write_at.ensures
 
 pub returns-clause-permits : goal.returns-clause-permits
 returns-clause-permits c =
