@@ -2,12 +2,12 @@
 ghost use Rattle.std.specs.Prelude.{◌≡◌, ◌+◌, ◌^◌, ◌<◌, ◌≤◌, [], length, Some, None, IfOk, OnOk, OnErr, OnSome, IfNone};
 ghost use Rattle.il_ast.specs.Values.{byte_count};
 ghost use Rattle.std.specs.Option.{option_and_then};
-ghost use Rattle.il_ast.specs.Memory.{load, store, copy, fresh, free, cells_at, write_at, cells_for, value_of};
+ghost use Rattle.il_ast.specs.Memory.{size_at, load, store, copy, fresh, free, cells_at, write_at, cells_for, value_of};
 ghost use Rattle.il_mem.specs.Places.{place_in, copied_place, Gives};
 
 use crate::block::Block;
 use crate::change::{shift_at, store_at};
-use crate::numbered::{add_block, drop_block, load_from};
+use crate::numbered::{add_block, drop_block, load_from, size_of};
 use crate::transfer::transfer;
 use il_ast::operation::Size;
 use il_ast::value::Value;
@@ -79,6 +79,17 @@ impl BlockMemory {
     {
         if block < self.made {
             drop_block(&mut self.live, block);
+        }
+    }
+
+    /// The size of a live block, in bytes.
+    pub fn size(&self, block: BlockId) -> Option<usize>
+        ensures { result ≡ size_at self.now block }
+    {
+        if block < self.made {
+            size_of(&self.live, block)
+        } else {
+            None
         }
     }
 

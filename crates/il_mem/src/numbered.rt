@@ -1,6 +1,6 @@
 //! Blocks found by their numbers.
-ghost use Rattle.std.specs.Prelude.{◌≡◌, ◌≢◌, ℕ, ◌<◌, ◌≤◌, Some, None, OnOk, OnErr};
-ghost use Rattle.std.specs.Option.{option_and_then};
+ghost use Rattle.std.specs.Prelude.{◌≡◌, ◌≢◌, ℕ, ◌<◌, ◌≤◌, length, Some, None, OnOk, OnErr};
+ghost use Rattle.std.specs.Option.{option_and_then, option_map};
 ghost use Rattle.std.specs.Ordering.{nat_cmp};
 ghost use Rattle.std.specs.BTreeMap.{get};
 ghost use Rattle.il_ast.specs.Memory.{span, value_of};
@@ -32,6 +32,16 @@ pub fn drop_block(live: &mut BTreeMap<u128, Block>, key: u128)
     ensures others { (q : ℕ) → q ≢ key → get nat_cmp live.new q ≡ get nat_cmp live.old q }
 {
     let _ = live.remove(&key);
+}
+
+/// The size of the block of a number.
+pub fn size_of(live: &BTreeMap<u128, Block>, key: u128) -> Option<usize>
+    ensures { result ≡ option_map length (get nat_cmp live.now key) }
+{
+    match live.get(&key) {
+        Some(block) => Some(block.len()),
+        None => None,
+    }
 }
 
 /// The value of so many cells, 1 to 8, of the block of a number.

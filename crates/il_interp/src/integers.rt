@@ -1,0 +1,161 @@
+//! Operations on integers.
+ghost use Rattle.std.specs.Prelude.{◌≡◌, false};
+ghost use Rattle.il_ast.specs.declared.operation.Class.TheVariants.{W, L};
+ghost use Rattle.il_ast.specs.declared.operation.BinaryOp.TheVariants.{Div, Rem, Sar, Shr, Shl};
+ghost use Rattle.il_ast.specs.Operations.{holds, on_integers, extended};
+ghost use Rattle.il_interp.specs.Comparison.{is_comparison};
+
+use il_ast::operation::{BinaryOp, Condition, Extension};
+
+/// The operation on two words, where it is no comparison.
+pub fn on_words(op: BinaryOp, a: u32, b: u32) -> Option<u32>
+    ensures { is_comparison op ≡ false → result ≡ on_integers op W a b }
+{
+    match op {
+        BinaryOp::Add => Some(a.wrapping_add(b)),
+        BinaryOp::Sub => Some(a.wrapping_sub(b)),
+        BinaryOp::Mul => Some(a.wrapping_mul(b)),
+        BinaryOp::And => Some(a & b),
+        BinaryOp::Or => Some(a | b),
+        BinaryOp::Xor => Some(a ^ b),
+        BinaryOp::Div => word_div(a, b),
+        BinaryOp::Rem => word_rem(a, b),
+        BinaryOp::Udiv => if b == 0 { None } else { Some(a / b) },
+        BinaryOp::Urem => if b == 0 { None } else { Some(a % b) },
+        BinaryOp::Sar => Some((a.cast_signed() >> (b % 32)).cast_unsigned()),
+        BinaryOp::Shr => Some(a >> (b % 32)),
+        BinaryOp::Shl => Some(a << (b % 32)),
+        BinaryOp::Compare(_, _) => None,
+    }
+}
+
+/// The operation on two longs, where it is no comparison.
+pub fn on_longs(op: BinaryOp, a: u64, b: u64) -> Option<u64>
+    ensures { is_comparison op ≡ false → result ≡ on_integers op L a b }
+{
+    match op {
+        BinaryOp::Add => Some(a.wrapping_add(b)),
+        BinaryOp::Sub => Some(a.wrapping_sub(b)),
+        BinaryOp::Mul => Some(a.wrapping_mul(b)),
+        BinaryOp::And => Some(a & b),
+        BinaryOp::Or => Some(a | b),
+        BinaryOp::Xor => Some(a ^ b),
+        BinaryOp::Div => long_div(a, b),
+        BinaryOp::Rem => long_rem(a, b),
+        BinaryOp::Udiv => if b == 0 { None } else { Some(a / b) },
+        BinaryOp::Urem => if b == 0 { None } else { Some(a % b) },
+        BinaryOp::Sar => Some((a.cast_signed() >> (b % 64)).cast_unsigned()),
+        BinaryOp::Shr => Some(a >> (b % 64)),
+        BinaryOp::Shl => Some(a << (b % 64)),
+        BinaryOp::Compare(_, _) => None,
+    }
+}
+
+fn word_div(a: u32, b: u32) -> Option<u32>
+    ensures { result ≡ on_integers Div W a b }
+{
+    if b == 0 || (a == 0x8000_0000 && b == 0xffff_ffff) {
+        None
+    } else {
+        Some((a.cast_signed() / b.cast_signed()).cast_unsigned())
+    }
+}
+
+fn word_rem(a: u32, b: u32) -> Option<u32>
+    ensures { result ≡ on_integers Rem W a b }
+{
+    if b == 0 || (a == 0x8000_0000 && b == 0xffff_ffff) {
+        None
+    } else {
+        Some((a.cast_signed() % b.cast_signed()).cast_unsigned())
+    }
+}
+
+fn long_div(a: u64, b: u64) -> Option<u64>
+    ensures { result ≡ on_integers Div L a b }
+{
+    if b == 0 || (a == 0x8000_0000_0000_0000 && b == u64::MAX) {
+        None
+    } else {
+        Some((a.cast_signed() / b.cast_signed()).cast_unsigned())
+    }
+}
+
+fn long_rem(a: u64, b: u64) -> Option<u64>
+    ensures { result ≡ on_integers Rem L a b }
+{
+    if b == 0 || (a == 0x8000_0000_0000_0000 && b == u64::MAX) {
+        None
+    } else {
+        Some((a.cast_signed() % b.cast_signed()).cast_unsigned())
+    }
+}
+
+/// Whether a condition holds of two words.
+pub fn words_hold(on: Condition, a: u32, b: u32) -> bool
+    ensures { result ≡ holds on W a b }
+{
+    match on {
+        Condition::Equal => a == b,
+        Condition::NotEqual => a != b,
+        Condition::SignedLessEqual => a.cast_signed() <= b.cast_signed(),
+        Condition::SignedLess => a.cast_signed() < b.cast_signed(),
+        Condition::SignedGreaterEqual => a.cast_signed() >= b.cast_signed(),
+        Condition::SignedGreater => a.cast_signed() > b.cast_signed(),
+        Condition::UnsignedLessEqual => a <= b,
+        Condition::UnsignedLess => a < b,
+        Condition::UnsignedGreaterEqual => a >= b,
+        Condition::UnsignedGreater => a > b,
+    }
+}
+
+/// Whether a condition holds of two longs.
+pub fn longs_hold(on: Condition, a: u64, b: u64) -> bool
+    ensures { result ≡ holds on L a b }
+{
+    match on {
+        Condition::Equal => a == b,
+        Condition::NotEqual => a != b,
+        Condition::SignedLessEqual => a.cast_signed() <= b.cast_signed(),
+        Condition::SignedLess => a.cast_signed() < b.cast_signed(),
+        Condition::SignedGreaterEqual => a.cast_signed() >= b.cast_signed(),
+        Condition::SignedGreater => a.cast_signed() > b.cast_signed(),
+        Condition::UnsignedLessEqual => a <= b,
+        Condition::UnsignedLess => a < b,
+        Condition::UnsignedGreaterEqual => a >= b,
+        Condition::UnsignedGreater => a > b,
+    }
+}
+
+/// The low bits of a number, widened to a word.
+pub fn to_word(extension: Extension, number: u64) -> u32
+    ensures { result ≡ extended extension W number }
+{
+    match extension {
+        Extension::SignedWord | Extension::UnsignedWord => (number % 0x1_0000_0000) as u32,
+        Extension::SignedHalf => i32::from(
+            ((number % 0x1_0000) as u16).cast_signed(),
+        ).cast_unsigned(),
+        Extension::UnsignedHalf => (number % 0x1_0000) as u32,
+        Extension::SignedByte => i32::from(((number % 0x100) as u8).cast_signed()).cast_unsigned(),
+        Extension::UnsignedByte => (number % 0x100) as u32,
+    }
+}
+
+/// The low bits of a number, widened to a long.
+pub fn to_long(extension: Extension, number: u64) -> u64
+    ensures { result ≡ extended extension L number }
+{
+    match extension {
+        Extension::SignedWord => i64::from(
+            ((number % 0x1_0000_0000) as u32).cast_signed(),
+        ).cast_unsigned(),
+        Extension::UnsignedWord => number % 0x1_0000_0000,
+        Extension::SignedHalf => i64::from(
+            ((number % 0x1_0000) as u16).cast_signed(),
+        ).cast_unsigned(),
+        Extension::UnsignedHalf => number % 0x1_0000,
+        Extension::SignedByte => i64::from(((number % 0x100) as u8).cast_signed()).cast_unsigned(),
+        Extension::UnsignedByte => number % 0x100,
+    }
+}

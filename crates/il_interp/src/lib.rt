@@ -1,0 +1,10 @@
+//! The interpreter of the intermediate language (begun): its operations.
+//!
+//! `operate::operate_one` and `operate::operate_two` are exactly the operations of the language's
+//! definition (`il_ast`, `specs/Operations`): on integers, on pointers and functions, and loads; none
+//! where the operation is undefined. They take no memory.
+#![tactic(auto)]
+
+mod integers;
+pub mod operate;
+mod places;

@@ -1,0 +1,153 @@
+//! The operations of the language.
+ghost use Rattle.std.specs.Prelude.{◌≡◌, ◌<◌, ◌^◌};
+ghost use Rattle.std.specs.Option.{option_and_then};
+ghost use Rattle.il_ast.specs.declared.operation.Class.TheVariants.{W};
+ghost use Rattle.il_ast.specs.Values.{byte_count, in_place};
+ghost use Rattle.il_ast.specs.Operations.{operand_class, left_class, right_class, on_integers, extension_bytes, widened, operate_one, operate_two};
+ghost use Rattle.il_interp.specs.Negated.{negated};
+ghost use Rattle.il_interp.specs.Operands.{FitsPlace};
+
+use crate::integers::{longs_hold, on_longs, on_words, to_long, to_word, words_hold};
+use crate::places::on_places;
+use il_ast::operation::{BinaryOp, Class, Extension, Size, UnaryOp};
+use il_ast::value::Value;
+use il_mem::memory::BlockMemory;
+
+/// What a place of a class takes of a value: the low 32 bits of an integer for a word, any value for a
+/// long.
+pub fn in_place(class: Class, value: Value) -> Option<Value>
+    ensures { result ≡ in_place class value }
+{
+    match class {
+        Class::W => match value {
+            Value::Integer(n) => Some(Value::Integer(n % 0x1_0000_0000)),
+            Value::Pointer { .. } | Value::Function(_) => None,
+        },
+        Class::L => Some(value),
+    }
+}
+
+/// The operation on two values, each of the class of its place; none where it is undefined.
+#[tactic(auto, unfolding(il_ast::specs::Operations::operate_two))]
+pub fn operate_two(
+    memory: &BlockMemory,
+    op: BinaryOp,
+    class: Class,
+    left: Value,
+    right: Value,
+) -> Option<Value>
+    requires left { FitsPlace (left_class op class) left }
+    requires right { FitsPlace (right_class op class) right }
+    ensures { result ≡ operate_two memory.now op class left right }
+{
+    match (left, right) {
+        (Value::Integer(a), Value::Integer(b)) => match on_integers(op, class, a, b) {
+            Some(n) => Some(Value::Integer(n)),
+            None => None,
+        },
+        _ => on_places(memory, op, left, right),
+    }
+}
+
+/// The operation on two integers, each of the class of its place.
+fn on_integers(op: BinaryOp, class: Class, a: u64, b: u64) -> Option<u64>
+    requires left { left_class op class ≡ W → a < 2 ^ 32 }
+    requires right { right_class op class ≡ W → b < 2 ^ 32 }
+    ensures { result ≡ on_integers op class a b }
+{
+    match op {
+        BinaryOp::Compare(on, Class::W) => Some(u64::from(words_hold(on, a as u32, b as u32))),
+        BinaryOp::Compare(on, Class::L) => Some(u64::from(longs_hold(on, a, b))),
+        _ => match class {
+            Class::W => match on_words(op, a as u32, b as u32) {
+                Some(n) => Some(u64::from(n)),
+                None => None,
+            },
+            Class::L => on_longs(op, a, b),
+        },
+    }
+}
+
+/// The operation on one value of the class of its place; none where it is undefined.
+#[tactic(auto, unfolding(il_ast::specs::Operations::operate_one))]
+pub fn operate_one(memory: &BlockMemory, op: UnaryOp, class: Class, value: Value) -> Option<Value>
+    requires { FitsPlace (operand_class op class) value }
+    ensures { result ≡ operate_one memory.now op class value }
+{
+    match op {
+        UnaryOp::Neg => negated(class, value),
+        UnaryOp::Copy => Some(value),
+        UnaryOp::Extend(extension) => widened(extension, class, value),
+        UnaryOp::LoadLong => memory.load(value, Size::Long),
+        UnaryOp::Load(extension) => match memory.load(value, extension_size(extension)) {
+            Some(loaded) => widened(extension, class, loaded),
+            None => None,
+        },
+    }
+}
+
+fn negated(class: Class, value: Value) -> Option<Value>
+    requires { FitsPlace class value }
+    ensures { result ≡ negated class value }
+{
+    match value {
+        Value::Integer(n) => Some(Value::Integer(match class {
+            Class::W => u64::from((n as u32).wrapping_neg()),
+            Class::L => n.wrapping_neg(),
+        })),
+        Value::Pointer { .. } | Value::Function(_) => None,
+    }
+}
+
+fn widened(extension: Extension, class: Class, value: Value) -> Option<Value>
+    ensures { result ≡ widened extension class value }
+{
+    match value {
+        Value::Integer(n) => Some(Value::Integer(match class {
+            Class::W => u64::from(to_word(extension, n)),
+            Class::L => to_long(extension, n),
+        })),
+        Value::Pointer { .. } | Value::Function(_) => None,
+    }
+}
+
+fn extension_size(extension: Extension) -> Size
+    ensures { byte_count result ≡ extension_bytes extension }
+{
+    match extension {
+        Extension::SignedWord | Extension::UnsignedWord => Size::Word,
+        Extension::SignedHalf | Extension::UnsignedHalf => Size::Half,
+        Extension::SignedByte | Extension::UnsignedByte => Size::Byte,
+    }
+}
+
+#[cfg(test)]
+mod tests {
+    use super::*;
+    use il_ast::operation::Condition;
+    use std::test::Fail;
+
+    #[test]
+    fn integers_and_pointers(rt: HostRuntime) -> Result<(), Fail> {
+        let mut memory = BlockMemory::new(rt.alloc());
+        let block = memory.fresh(4)?;
+        let minus_seven = Value::Integer(0xffff_fff9);
+        let quotient = operate_two(
+            &memory,
+            BinaryOp::Div,
+            Class::W,
+            minus_seven,
+            Value::Integer(2),
+        );
+        assert_eq!(rt; quotient, Some(Value::Integer(0xffff_fffd)));
+        let pointer = Value::Pointer { block, offset: 1 };
+        let moved = operate_two(&memory, BinaryOp::Add, Class::L, Value::Integer(3), pointer);
+        assert_eq!(rt; moved, Some(Value::Pointer { block, offset: 4 }));
+        let equal = BinaryOp::Compare(Condition::Equal, Class::L);
+        let null = operate_two(&memory, equal, Class::W, Value::Integer(0), pointer);
+        assert_eq!(rt; null, Some(Value::Integer(0)));
+        let shifted = operate_two(&memory, BinaryOp::Shl, Class::L, pointer, Value::Integer(1));
+        assert_eq!(rt; shifted, None);
+        Ok(())
+    }
+}
