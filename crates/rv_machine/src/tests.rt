@@ -1,5 +1,8 @@
 //! What the contracts cannot say: that a machine does what the manual says, in its cases, and that calls succeed. Words come from the LLVM assembler.
 
+mod refusing;
+
+use self::refusing::Refusing;
 use crate::flat_ram::FlatRam;
 use crate::machine::Machine;
 use crate::page_ram::PageRam;
@@ -425,5 +428,28 @@ fn words_past_their_limits(rt: HostRuntime) -> Result<(), Fail> {
             Err(error) => assert!(rt; error == StartError::Arguments),
         }
     }
+    Ok(())
+}
+
+// A store of 8 bytes of which the second page is refused stops for memory, and nothing has changed.
+#[test]
+fn second_page_refused(rt: HostRuntime) -> Result<(), Fail> {
+    let mut machine: Machine<Refusing<PageRam>> = started(&rt, rt.alloc(), &ACROSS_PAGES)?;
+    let mut stop = Ok(());
+    for _ in 0..15 {
+        if stop == Ok(()) {
+            stop = machine.step();
+        }
+    }
+    assert_eq!(rt; stop, Err(Stop::Memory));
+    // At the store, the eleventh word, with the address and the number in their registers.
+    assert_eq!(rt; machine.pc, 0x10028);
+    assert_eq!(rt; machine.register(X5), 0x0fff_effc);
+    assert_eq!(rt; machine.register(X6), 0x1122_3344_5566_7788);
+    assert_eq!(rt; machine.step(), Err(Stop::Memory));
+    // ld x7, 0(x5) in its place reads what stood there: zeros.
+    machine.pc = 0x1002c;
+    assert_eq!(rt; machine.step(), Ok(()));
+    assert_eq!(rt; machine.register(X10), 0);
     Ok(())
 }
