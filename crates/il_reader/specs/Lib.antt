@@ -8,3 +8,5 @@ pub mod Operands
 pub mod Sentences
 pub mod Statements
 pub mod Reading
+pub mod Blocks
+pub mod Definitions

@@ -7,12 +7,13 @@
 //! first appearance. A block without a jump, not the last of its function, stands for one that goes to
 //! the next.
 //!
-//! `specs/Steps.antt` and `specs/Reading.antt` have the rules up to phis, instructions and jumps on their
-//! lines as functions of the state, and `proofs` shows each of these exact: it reads what its rule says,
-//! wherever its rule says so (`Exact`). The rules of blocks and definitions have no such function yet,
-//! and there is no reader yet.
+//! `specs/Steps.antt`, `Reading.antt`, `Blocks.antt` and `Definitions.antt` have the rules as functions of
+//! the state, each looking at no more than the next token. `proofs` shows those up to phis, instructions
+//! and jumps on their lines exact: such a function reads what its rule says, wherever its rule says so
+//! (`Exact`). That is still to be shown of blocks and definitions, and there is no reader yet.
 //!
 //! It stands on `il_lex` for the tokens and on `il_ast` for the tree.
 #![tactic(auto)]
 
 pub mod error;
+pub mod statement;

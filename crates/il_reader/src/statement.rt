@@ -1,0 +1,24 @@
+//! What a line of a block before its jump is.
+use il_ast::block::Phi;
+use il_ast::instruction::{Inst, Lined};
+use il_ast::operation::{Alignment, BinaryOp, UnaryOp};
+
+/// What the word behind a destination and `=` and a class asks for.
+#[derive(Clone, Copy, Debug, PartialEq, Eq)]
+pub enum Operation {
+    /// `phi`
+    Phi,
+    /// `call`
+    Call,
+    /// `alloc4`, `alloc8`, `alloc16`
+    Alloc(Alignment),
+    Unary(UnaryOp),
+    Binary(BinaryOp),
+}
+
+/// A line of a block before its jump.
+#[derive(Drop)]
+pub enum Statement {
+    Phi(Phi),
+    Inst(Lined<Inst>),
+}
