@@ -6,3 +6,5 @@ pub mod Jumps
 pub mod Instructions
 pub mod Choice
 pub mod Statements
+pub mod Interning
+pub mod LookAhead

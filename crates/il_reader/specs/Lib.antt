@@ -10,3 +10,4 @@ pub mod Statements
 pub mod Reading
 pub mod Blocks
 pub mod Definitions
+pub mod Gives

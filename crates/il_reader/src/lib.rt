@@ -16,4 +16,8 @@
 #![tactic(auto)]
 
 pub mod error;
+mod fault;
+mod kinds;
+mod names;
+mod reader;
 pub mod statement;

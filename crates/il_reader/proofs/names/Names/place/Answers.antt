@@ -1,0 +1,13 @@
+use Rattle.std.proofs.Common.{ap, ◌∙◌}
+use Rattle.std.specs.Prelude.{map}
+use Rattle.il_reader.specs.State.{place, with_name}
+use Rattle.il_reader.proofs.Interning.{place_is, with_name_is}
+use Rattle.il_reader.proofs.names.Names.place.Goals as goal
+
+pub returns-clause-value : goal.returns-clause-value
+returns-clause-value c =
+    c.in_ok-place.ensures.index ∙ place_is c.args.name.now c.self.inside.names.keys ∙ ap (place c.args.name.now) c.self.view_is
+
+pub returns-clause-names : goal.returns-clause-names
+returns-clause-names c =
+    ap (map (λ n. n.now)) c.in_ok-place.ensures.keys ∙ with_name_is c.args.name c.self.inside.names.keys ∙ ap (with_name c.args.name.now) c.self.view_is

@@ -1,0 +1,48 @@
+//! Names, numbered in order of first appearance.
+ghost use Rattle.std.specs.Prelude.{◌≡◌, [], OnOk, IfOk};
+ghost use Rattle.il_reader.specs.State.{place, with_name};
+
+use indexmap::IndexSet;
+use std::alloc::{AllocError, Global};
+use std::marker::Model;
+
+/// Names, each once, in order of first appearance. They lie in the text.
+#[derive(Drop)]
+pub(crate) struct Names<'a> {
+    names: IndexSet<&'a [u8]>,
+}
+
+impl<'a> Model for Names<'a> {
+    ghost use Rattle.std.specs.Prelude.{ℕ, List, map};
+
+    ghost Value = { List (List ℕ) };
+
+    ghost view = { λ n. map (λ name. name.now) n.names.keys };
+}
+
+impl<'a> Names<'a> {
+    /// No names.
+    pub(crate) fn new(alloc: Global) -> Self
+        ensures { result ≡ [] }
+    {
+        Names {
+            names: IndexSet::new(alloc),
+        }
+    }
+
+    /// The place of a name, which comes behind the others where it is new.
+    pub(crate) fn place(&mut self, name: &'a [u8]) -> Result<usize, AllocError>
+        ensures value { IfOk result (λ n. n ≡ place name.now self.old) }
+        ensures names { OnOk result (self.new ≡ with_name name.now self.old) }
+    {
+        let (place, _) = self.names.insert_full(name)?;
+        Ok(place)
+    }
+
+    /// Forgets them all.
+    pub(crate) fn clear(&mut self)
+        ensures { self.new ≡ [] }
+    {
+        self.names.clear();
+    }
+}

@@ -1,0 +1,195 @@
+//! Where the reading of a text stands.
+ghost use Rattle.std.specs.Prelude.{◌≡◌, Some, None};
+ghost use Rattle.std.specs.Result.{MatchResult};
+ghost use Rattle.il_lex.specs.Line.{line_ends};
+ghost use Rattle.il_reader.specs.declared.fault.Fault.TheVariants.{Syntax};
+
+use crate::fault::Fault;
+use crate::kinds::{
+    integer_test, label_test, natural_test, newline_test, piece_test, symbol_test, temp_test,
+    word_test,
+};
+use crate::names::Names;
+use il_ast::label::Label;
+use il_ast::symbol::Symbol as Global;
+use il_ast::temp::Temp;
+use il_lex::kind::{Kind, Symbol};
+use il_lex::scan::{Ahead, scan};
+use std::alloc;
+use std::marker::Model;
+
+/// Reads a text from its front to its end. A clause sees the bytes that are left, their line, and the
+/// names that have appeared.
+#[derive(Drop)]
+pub(crate) struct Reader<'a> {
+    alloc: alloc::Global,
+    rest: &'a [u8],
+    /// the token at the front of `rest`
+    ahead: Ahead,
+    /// the line of `rest`, from 1
+    line: usize,
+    /// the line of the token that was read last, from 1
+    last_line: usize,
+    temps: Names<'a>,
+    labels: Names<'a>,
+    symbols: Names<'a>,
+}
+
+impl<'a> Model for Reader<'a> {
+    ghost use Rattle.std.specs.Prelude.{◌≡◌, ◌+◌, ◌<◌, ◌≤◌, ◌^◌, length};
+    ghost use Rattle.il_lex.specs.Scan.{scan};
+    ghost use Rattle.il_reader.specs.State.{State};
+
+    ghost Value = { State };
+
+    ghost view = { λ r. record { rest = r.rest.now; line = r.line; temps = r.temps; labels = r.labels; symbols = r.symbols } };
+
+    ghost invariant = { λ r. (r.ahead ≡ scan r.rest.now) × (r.line + length r.rest.now < 2 ^ 64) × (1 ≤ r.line) × (1 ≤ r.last_line) };
+}
+
+fn line_ends(kind: Kind) -> usize
+    ensures { result ≡ line_ends kind }
+{
+    match kind {
+        Kind::Newline => 1,
+        _ => 0,
+    }
+}
+
+impl<'a> Reader<'a> {
+    ghost use Rattle.std.specs.Prelude.{◌≡◌};
+    ghost use Rattle.il_lex.specs.Scan.{scan};
+    ghost use Rattle.il_reader.specs.State.{start};
+    ghost use Rattle.il_reader.specs.Gives.{Gives, GivesText};
+    ghost use Rattle.il_reader.specs.Steps.{next, newline, piece, natural, integer, keyword, temp, label, symbol};
+
+    /// The start of a text.
+    pub(crate) fn new(alloc: alloc::Global, text: &'a [u8]) -> Reader<'a>
+        ensures { result ≡ start text.now }
+    {
+        Reader {
+            alloc,
+            rest: text,
+            ahead: scan(text),
+            line: 1,
+            last_line: 1,
+            temps: Names::new(alloc),
+            labels: Names::new(alloc),
+            symbols: Names::new(alloc),
+        }
+    }
+
+    /// What stands next.
+    pub(crate) fn ahead(&self) -> Ahead
+        ensures { result ≡ scan self.now.rest }
+    {
+        self.ahead
+    }
+
+    /// Reads the next token, whatever it is: its kind and text.
+    pub(crate) fn next(&mut self) -> Result<(Kind, &'a [u8]), Fault>
+        ensures { MatchResult result (λ token. next self.old ≡ Some ((token.0, token.1.now), self.new)) (λ e. e ≡ Syntax → next self.old ≡ None) }
+    {
+        self.last_line = self.line;
+        match self.ahead {
+            Ahead::Found { kind, gap, len } => {
+                let (_, token) = self.rest.split_at(gap);
+                let (text, rest) = token.split_at(len);
+                self.rest = rest;
+                self.ahead = scan(rest);
+                self.line += line_ends(kind);
+                Ok((kind, text))
+            }
+            Ahead::End => Err(Fault::Syntax),
+            Ahead::Bad => Err(Fault::Syntax),
+        }
+    }
+
+    /// Reads the end of a line.
+    pub(crate) fn newline(&mut self) -> Result<(), Fault>
+        ensures { Gives newline self.old self.new result }
+    {
+        let (kind, text) = self.next()?;
+        match newline_test(kind, text) {
+            Some(()) => Ok(()),
+            None => Err(Fault::Syntax),
+        }
+    }
+
+    /// Reads a symbol.
+    pub(crate) fn piece(&mut self, mark: Symbol) -> Result<(), Fault>
+        ensures { Gives (piece mark) self.old self.new result }
+    {
+        let (kind, text) = self.next()?;
+        match piece_test(mark, kind, text) {
+            Some(()) => Ok(()),
+            None => Err(Fault::Syntax),
+        }
+    }
+
+    /// Reads a number without a minus sign.
+    pub(crate) fn natural(&mut self) -> Result<u64, Fault>
+        ensures { Gives natural self.old self.new result }
+    {
+        let (kind, text) = self.next()?;
+        match natural_test(kind, text) {
+            Some(number) => Ok(number),
+            None => Err(Fault::Syntax),
+        }
+    }
+
+    /// Reads a number, modulo 2^64.
+    pub(crate) fn integer(&mut self) -> Result<u64, Fault>
+        ensures { Gives integer self.old self.new result }
+    {
+        let (kind, text) = self.next()?;
+        match integer_test(kind, text) {
+            Some(number) => Ok(number),
+            None => Err(Fault::Syntax),
+        }
+    }
+
+    /// Reads a word.
+    pub(crate) fn word(&mut self) -> Result<&'a [u8], Fault>
+        ensures { GivesText (keyword Some) self.old self.new result }
+    {
+        let (kind, text) = self.next()?;
+        match word_test(kind, text) {
+            Some(word) => Ok(word),
+            None => Err(Fault::Syntax),
+        }
+    }
+
+    /// Reads a temporary.
+    pub(crate) fn temp(&mut self) -> Result<Temp, Fault>
+        ensures { Gives temp self.old self.new result }
+    {
+        let (kind, text) = self.next()?;
+        match temp_test(kind, text) {
+            Some(name) => Ok(Temp::at(self.temps.place(name)?)),
+            None => Err(Fault::Syntax),
+        }
+    }
+
+    /// Reads a label.
+    pub(crate) fn label(&mut self) -> Result<Label, Fault>
+        ensures { Gives label self.old self.new result }
+    {
+        let (kind, text) = self.next()?;
+        match label_test(kind, text) {
+            Some(name) => Ok(Label::at(self.labels.place(name)?)),
+            None => Err(Fault::Syntax),
+        }
+    }
+
+    /// Reads a global name.
+    pub(crate) fn symbol(&mut self) -> Result<Global, Fault>
+        ensures { Gives symbol self.old self.new result }
+    {
+        let (kind, text) = self.next()?;
+        match symbol_test(kind, text) {
+            Some(name) => Ok(Global::at(self.symbols.place(name)?)),
+            None => Err(Fault::Syntax),
+        }
+    }
+}
