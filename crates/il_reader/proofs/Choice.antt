@@ -85,7 +85,7 @@ alloc_head Four = refl
 alloc_head Eight = refl
 alloc_head Sixteen = refl
 
-store_head : (c : Size) → is_some (reading.store_of (store_word c)) ≡ true
+pub store_head : (c : Size) → is_some (reading.store_of (store_word c)) ≡ true
 store_head Byte = refl
 store_head Half = refl
 store_head Word = refl
@@ -110,7 +110,7 @@ no_head test s h = at (reading.destination s) refl
 temp_no_word : (test : List ℕ → Bool) (s : State) (text : List ℕ) (s' : State) → rule.token TempKind s text s' → reading.sees_word test s ≡ false
 temp_no_word test s text s' h = ap (reading.ahead_is test s.rest) (next_complete s.rest TempKind h.0 text h.1 h.2)
 
-word_no_temp : (s : State) (text : List ℕ) (s' : State) → rule.token WordKind s text s' → step.sees reading.is_temp s ≡ false
+pub word_no_temp : (s : State) (text : List ℕ) (s' : State) → rule.token WordKind s text s' → step.sees reading.is_temp s ≡ false
 word_no_temp s text s' h = sees_token reading.is_temp WordKind s text s' h
 
 call_head : (test : List ℕ → Bool) → test (codes "call") ≡ false → (s : State) (i : Inst) (s' : State) → grammar.call s i s' → reading.sees_head test s ≡ false

@@ -93,7 +93,7 @@ apart_ahead p q h End e = refl
 apart_ahead p q h Bad e = refl
 apart_ahead p q h (Found kind gap len) e = h kind e
 
-closing_no_comma : (k : Kind) → is_closing k ≡ true → reading.is_comma k ≡ false
+pub closing_no_comma : (k : Kind) → is_closing k ≡ true → reading.is_comma k ≡ false
 closing_no_comma (Symbol Comma) h = absurd (false≢true h)
 closing_no_comma (Symbol Equals) h = refl
 closing_no_comma (Symbol LeftBrace) h = refl
@@ -110,7 +110,7 @@ closing_no_comma (Natural n) h = refl
 closing_no_comma (Negative n) h = refl
 closing_no_comma Quoted h = refl
 
-closing_no_word : (k : Kind) → is_closing k ≡ true → reading.is_word k ≡ false
+pub closing_no_word : (k : Kind) → is_closing k ≡ true → reading.is_word k ≡ false
 closing_no_word (Symbol m) h = refl
 closing_no_word Newline h = refl
 closing_no_word WordKind h = absurd (false≢true h)
@@ -130,7 +130,7 @@ arguments_some = commas_exact (step.sees reading.is_comma) (step.sees reading.is
     (piece_exact Comma) argument_exact
 
 -- a rule, or nothing with this value
-or_nothing : {A : Type 0} (look : State → Bool) (p : step.Step A) (r : rule.Rule A) (x : A) (Follow : State → Type 0)
+pub or_nothing : {A : Type 0} (look : State → Bool) (p : step.Step A) (r : rule.Rule A) (x : A) (Follow : State → Type 0)
     → ((s : State) (y : A) (s' : State) → r s y s' → look s ≡ true) → ((s : State) → Follow s → look s ≡ false) → Exact p r Follow
     → Exact (λ s. cond (look s) (p s) (Some (x, s))) (rule.◌∥◌ r (rule.give x)) Follow
 or_nothing look p r x Follow begins ends e = record {

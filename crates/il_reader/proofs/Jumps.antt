@@ -98,7 +98,7 @@ unary_rows = Neg ∷ Copy
     ∷ Extend SignedWord ∷ Extend UnsignedWord ∷ Extend SignedHalf ∷ Extend UnsignedHalf ∷ Extend SignedByte ∷ Extend UnsignedByte ∷ LoadLong
     ∷ Load SignedWord ∷ Load UnsignedWord ∷ Load SignedHalf ∷ Load UnsignedHalf ∷ Load SignedByte ∷ Load UnsignedByte ∷ []
 
-unary_sound : (text : List ℕ) (op : UnaryOp) → reading.unary_of text ≡ Some op → (text ≡ unary_word op) ⊎ ((op ≡ Load SignedWord) × (text ≡ codes "loadw"))
+pub unary_sound : (text : List ℕ) (op : UnaryOp) → reading.unary_of text ≡ Some op → (text ≡ unary_word op) ⊎ ((op ≡ Load SignedWord) × (text ≡ codes "loadw"))
 unary_sound text op e =
     cond_cases (λ o. o ≡ Some op → (text ≡ unary_word op) ⊎ ((op ≡ Load SignedWord) × (text ≡ codes "loadw"))) (pointwise nat_eq text (codes "loadw")) (Some (Load SignedWord)) (reading.word_in (reading.table unary_word unary_rows) text)
     (λ t h. inr (sym (same_Some (Load SignedWord) op h), (bytes_decides text (codes "loadw")).0 t))

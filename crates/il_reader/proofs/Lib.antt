@@ -8,3 +8,6 @@ pub mod Choice
 pub mod Statements
 pub mod Interning
 pub mod LookAhead
+pub mod ExactStatements
+pub mod Shorter
+pub mod ExactBlocks

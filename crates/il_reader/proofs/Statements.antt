@@ -67,7 +67,7 @@ phi_argument_less s a s' h =
     let last : length s'.rest ≡ length h.3.1.rest = ap (λ m. length m.rest) h.3.3.1 in
     omega arith
 
-phi_arguments_exact : Exact (step.commas (step.sees reading.is_comma) reading.comma (step.sees reading.is_label) reading.phi_argument) (rule.commas grammar.comma grammar.phi_argument) LineEnds
+pub phi_arguments_exact : Exact (step.commas (step.sees reading.is_comma) reading.comma (step.sees reading.is_label) reading.phi_argument) (rule.commas grammar.comma grammar.phi_argument) LineEnds
 phi_arguments_exact = commas_exact (step.sees reading.is_comma) (step.sees reading.is_label) reading.comma grammar.comma reading.phi_argument grammar.phi_argument Anything Anything LineEnds
     comma_begins phi_argument_begins
     (λ s h. apart_ahead is_newline reading.is_comma newline_no_comma (scan s.rest) h)
@@ -87,10 +87,10 @@ phi_exact =
 abbrev pub LineGoesOn : State → Type 0
 LineGoesOn s = step.sees reading.is_newline s ≡ false
 
-newline_begins : (s : State) (x : Unit {0}) (s' : State) → rule.newline s x s' → step.sees reading.is_newline s ≡ true
+pub newline_begins : (s : State) (x : Unit {0}) (s' : State) → rule.newline s x s' → step.sees reading.is_newline s ≡ true
 newline_begins s x s' h = sees_token reading.is_newline Newline s h.0 h.1 h.2
 
-newline_less : (s : State) (x : Unit {0}) (s' : State) → rule.newline s x s' → length s'.rest < length s.rest
+pub newline_less : (s : State) (x : Unit {0}) (s' : State) → rule.newline s x s' → length s'.rest < length s.rest
 newline_less s x s' h = subst (λ m. length m.rest < length s.rest) (sym h.3.1) (token_less Newline s h.0 h.1 h.2)
 
 pub newlines_exact : Exact (step.many (step.sees reading.is_newline) step.newline) rule.newlines LineGoesOn

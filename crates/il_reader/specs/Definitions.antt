@@ -225,12 +225,12 @@ definition = do
   either (sees_word (is_text (codes "data"))) (object exported >>= λ d. give (ObjectOf d)) (function exported >>= λ f. give (FunctionOf f))
 
 -- the ends of lines between definitions
-abbrev pub gap : Step (Unit {0})
-gap = line_ends >> give tt
+abbrev pub between : Step (Unit {0})
+between = line_ends >> give tt
 
 abbrev pub definitions : Step (List DefinitionParts)
 definitions =
-    newlines >> (λ s. if sees is_word s then commas (sees is_newline) gap (sees is_word) definition s else Some ([], s))
+    newlines >> (λ s. if sees is_word s then commas (sees is_newline) between (sees is_word) definition s else Some ([], s))
 
 -- the parts of a text
 pub record TextParts : Type 0 where
