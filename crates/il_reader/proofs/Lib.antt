@@ -11,3 +11,6 @@ pub mod LookAhead
 pub mod ExactStatements
 pub mod Shorter
 pub mod ExactBlocks
+pub mod KindTests
+pub mod ExactFunctions
+pub mod ExactData
