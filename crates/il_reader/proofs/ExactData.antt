@@ -30,7 +30,7 @@ use Rattle.il_reader.proofs.Statements.{line_exact, LineGoesOn, newlines_exact}
 use Rattle.il_reader.proofs.ExactStatements.{made_exact}
 use Rattle.il_reader.proofs.ExactFunctions.{is_brace, BraceNext}
 use Rattle.il_reader.proofs.KindTests.{apart, within}
-use Rattle.il_reader.proofs.Shorter.{Shortens, keeps, give_keeps, then_keeps, first_shortens, either_shortens, maybe_keeps, some_shortens, newlines_keep, word_shortens, piece_shortens, natural_shortens, integer_shortens, string_shortens, symbol_shortens}
+use Rattle.il_reader.proofs.Shorter.{Shortens, keeps, give_keeps, line_keeps, then_keeps, first_shortens, either_shortens, maybe_keeps, some_shortens, commas_shortens, newlines_keep, word_shortens, piece_shortens, natural_shortens, integer_shortens, string_shortens, symbol_shortens}
 
 pub spaced_exact : {A : Type 0} (p : step.Step A) (r : rule.Rule A) → Exact p r Anything → Exact (definitions.spaced p) (reads.spaced r) LineGoesOn
 spaced_exact p r e =
@@ -230,7 +230,7 @@ SpacedComma = reads.spaced grammar.comma
 spaced_comma_begins : (s : State) (x : Unit {0}) (s' : State) → SpacedComma s x s' → step.sees reading.is_comma s ≡ true
 spaced_comma_begins s x s' h = sees_token reading.is_comma (Symbol Comma) s h.2.0 h.2.1 h.2.2
 
-word_line_goes_on : (s : State) → step.sees reading.is_word s ≡ true → LineGoesOn s
+pub word_line_goes_on : (s : State) → step.sees reading.is_word s ≡ true → LineGoesOn s
 word_line_goes_on s h = apart reading.is_word reading.is_newline (refl, refl, refl, refl, refl, refl, refl, refl, refl, refl, refl, refl, λ n. refl, λ n. refl, refl) s h
 
 field_list_exact : Exact (step.commas (step.sees reading.is_comma) (definitions.spaced reading.comma) (step.sees reading.is_word) definitions.field)
@@ -306,6 +306,19 @@ alignment_exact = maybe_exact (step.sees reading.is_word) definitions.aligned Al
 abbrev pub Objects : Bool → rule.Rule DataDef
 Objects exported = rule.◌>>=◌ Head λ head. rule.◌>>=◌ reads.alignment λ a. rule.◌>>=◌ Braced λ xs.
     rule.give (record { line = head.0; exported = exported; name = head.1; alignment = unwrap_or a 8; fields = xs })
+
+pub objects_shorten : (exported : Bool) → Shortens (Objects exported)
+objects_shorten exported =
+    first_shortens Head _ (first_shortens (reads.spaced (rule.word (codes "data"))) _ (spaced_shortens (rule.word (codes "data")) (word_shortens (codes "data"))) λ _.
+    then_keeps rule.line _ line_keeps λ n.
+    then_keeps (reads.spaced rule.symbol) _ (keeps _ (spaced_shortens rule.symbol symbol_shortens)) λ name.
+    then_keeps (reads.spaced (rule.piece Equals)) _ (keeps _ (spaced_shortens (rule.piece Equals) (piece_shortens Equals))) λ _. give_keeps _) λ head.
+    then_keeps reads.alignment _ (maybe_keeps Aligned (keeps Aligned (first_shortens (reads.spaced (rule.word (codes "align"))) _ (spaced_shortens (rule.word (codes "align")) (word_shortens (codes "align"))) λ _.
+    keeps _ (spaced_shortens rule.natural natural_shortens)))) λ a.
+    then_keeps Braced _ (then_keeps (reads.spaced (rule.piece LeftBrace)) _ (keeps _ (spaced_shortens (rule.piece LeftBrace) (piece_shortens LeftBrace))) λ _.
+    then_keeps (rule.commas SpacedComma (rule.◌∥◌ reads.items reads.zeros)) _
+    (keeps _ (commas_shortens SpacedComma (rule.◌∥◌ reads.items reads.zeros) (keeps SpacedComma (spaced_shortens grammar.comma (piece_shortens Comma))) field_shortens)) λ xs.
+    then_keeps (rule.piece RightBrace) _ (keeps _ (piece_shortens RightBrace)) λ _. give_keeps xs) λ xs. give_keeps _
 
 opened : (s : State) (xs : List Field) (s' : State) → Braced s xs s' → Opens s
 opened s xs s' h = sees_token OpenNext (Symbol LeftBrace) s h.2.2.0 h.2.2.1 h.2.2.2

@@ -1,5 +1,5 @@
 -- Functions.
-use Rattle.std.proofs.Common.{◌≡◌, ℕ, Bool, true, false, List, [], ◌∷◌, Option, Some, refl, sym, ap, ◌∙◌, subst}
+use Rattle.std.proofs.Common.{◌≡◌, ℕ, Bool, true, false, List, [], ◌∷◌, length, arith, Option, Some, refl, sym, ap, ◌∙◌, subst}
 use Rattle.std.specs.Prelude.{codes}
 use Rattle.std.proofs.lemmas.Option.{some_pair_parts}
 use Rattle.il_lex.specs.declared.kind.Symbol.TheVariants.{Comma, LeftBrace, RightBrace, LeftParen, RightParen}
@@ -31,7 +31,7 @@ use Rattle.il_reader.proofs.Statements.{line_exact, LineGoesOn, line_ends_exact,
 use Rattle.il_reader.proofs.ExactStatements.{made_exact}
 use Rattle.il_reader.proofs.ExactBlocks.{ends_block, BlockEnds, block_exact}
 use Rattle.il_reader.proofs.KindTests.{apart, within}
-use Rattle.il_reader.proofs.Shorter.{Shortens, keeps, give_keeps, line_keeps, then_keeps, first_shortens, second_shortens, maybe_keeps, many_keeps, some_shortens, newline_shortens, label_shortens, class_shortens, temp_shortens, on_line_shortens, phi_shortens, instruction_keeps, jump_keeps}
+use Rattle.il_reader.proofs.Shorter.{Keeps, Shortens, keeps, give_keeps, line_keeps, then_keeps, first_shortens, second_shortens, maybe_keeps, many_keeps, listed_keeps, comma_keeps, some_shortens, piece_shortens, word_shortens, symbol_shortens, newline_shortens, newlines_keep, label_shortens, class_shortens, temp_shortens, on_line_shortens, phi_shortens, instruction_keeps, jump_keeps}
 
 -- ---- parameters
 
@@ -207,6 +207,29 @@ functions_exact exported =
       temps = names.0;
       labels = names.1;
     })
+
+forget_keeps : Keeps rule.forget_names
+forget_keeps = record { no_more = λ s x s' h. let e : length s'.rest ≡ length s.rest = ap (λ m. length m.rest) h in omega arith }
+
+names_keep : Keeps rule.function_names
+names_keep = record { no_more = λ s x s' h. let e : length s'.rest ≡ length s.rest = ap (λ m. length m.rest) h.1 in omega arith }
+
+pub functions_shorten : (exported : Bool) → Shortens (Functions exported)
+functions_shorten exported =
+    first_shortens Head _ (first_shortens (rule.word (codes "function")) _ (word_shortens (codes "function")) λ _.
+    then_keeps rule.forget_names _ forget_keeps λ _.
+    then_keeps (rule.maybe grammar.class) _ (maybe_keeps grammar.class (keeps grammar.class class_shortens)) λ result.
+    then_keeps rule.line _ line_keeps λ n.
+    then_keeps rule.symbol _ (keeps rule.symbol symbol_shortens) λ name. give_keeps _) λ head.
+    then_keeps Params _ (then_keeps (rule.piece LeftParen) _ (keeps _ (piece_shortens LeftParen)) λ _.
+    then_keeps (rule.listed grammar.comma reads.parameter) _ (listed_keeps grammar.comma reads.parameter comma_keeps parameter_shortens) λ params.
+    then_keeps (rule.piece RightParen) _ (keeps _ (piece_shortens RightParen)) λ _.
+    then_keeps rule.newlines _ newlines_keep λ _. give_keeps params) λ params.
+    then_keeps Blocks _ (then_keeps (rule.piece LeftBrace) _ (keeps _ (piece_shortens LeftBrace)) λ _.
+    then_keeps (rule.some rule.newline) _ (keeps _ (some_shortens rule.newline newline_shortens)) λ _.
+    then_keeps (rule.some reads.block) _ (keeps _ (some_shortens reads.block block_shortens)) λ bs.
+    then_keeps (rule.piece RightBrace) _ (keeps _ (piece_shortens RightBrace)) λ _. give_keeps _) λ bs.
+    then_keeps rule.function_names _ names_keep λ names. give_keeps _
 
 -- what has the parts is read
 pub function_there : (exported : Bool) (s : State) (f : Func) (s' : State) → Functions exported s (function_parts f) s' → reads.function exported s (Function f) s'

@@ -14,3 +14,5 @@ pub mod ExactBlocks
 pub mod KindTests
 pub mod ExactFunctions
 pub mod ExactData
+pub mod ExactTexts
+pub mod OneTree

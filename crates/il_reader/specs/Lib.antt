@@ -11,3 +11,4 @@ pub mod Reading
 pub mod Blocks
 pub mod Definitions
 pub mod Gives
+pub mod Laws

@@ -8,9 +8,9 @@
 //! the next.
 //!
 //! `specs/Steps.antt`, `Reading.antt`, `Blocks.antt` and `Definitions.antt` have the rules as functions of
-//! the state, each looking at no more than the next token. `proofs` shows those up to phis, instructions
-//! and jumps on their lines exact: such a function reads what its rule says, wherever its rule says so
-//! (`Exact`). That is still to be shown of blocks and definitions, and there is no reader yet.
+//! the state, each looking at no more than the next token. `proofs` shows each exact (`Exact`): it reads
+//! what its rule says, wherever its rule says so, up to a whole text, of which `text_step` gives the parts
+//! of its tree. So a text has at most one tree (`laws`). There is no reader yet.
 //!
 //! It stands on `il_lex` for the tokens and on `il_ast` for the tree.
 #![tactic(auto)]
@@ -18,6 +18,7 @@
 pub mod error;
 mod fault;
 mod kinds;
+pub mod laws;
 mod names;
 mod reader;
 pub mod statement;
