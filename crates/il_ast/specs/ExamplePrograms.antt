@@ -1,10 +1,9 @@
 -- Small programs, as trees, on which the definitions are tried.
-use Rattle.std.specs.Prelude.{◌≡◌, ℕ, zero, suc, ◌^◌, List, [], ◌∷◌, length, map, Option, Some, None, true, false, refl}
+use Rattle.std.specs.Prelude.{◌≡◌, ℕ, zero, suc, List, [], ◌∷◌, length, map, Some, None, true, false, refl}
 use Rattle.il_ast.specs.declared.operation.Class.{Class}
 use Rattle.il_ast.specs.declared.operation.Class.TheVariants.{W, L}
 use Rattle.il_ast.specs.declared.operation.Size.TheVariants.{Byte, Word, Long}
 use Rattle.il_ast.specs.declared.operation.Extension.TheVariants.{SignedWord, UnsignedByte}
-use Rattle.il_ast.specs.declared.operation.UnaryOp.{UnaryOp}
 use Rattle.il_ast.specs.declared.operation.UnaryOp.TheVariants.{Copy, LoadLong, Load}
 use Rattle.il_ast.specs.declared.operation.Condition.TheVariants.{Equal, SignedLess}
 use Rattle.il_ast.specs.declared.operation.BinaryOp.{BinaryOp}

@@ -11,3 +11,5 @@ pub mod Meaning
 pub mod Laws
 pub mod ExamplePrograms
 pub mod Examples
+pub mod Logged
+pub mod Keeps

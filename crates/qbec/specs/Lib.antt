@@ -1,0 +1,3 @@
+pub mod Knot
+pub mod Natives
+pub mod Functions
