@@ -16,3 +16,7 @@ pub mod ExactFunctions
 pub mod ExactData
 pub mod ExactTexts
 pub mod OneTree
+pub mod Rounds
+pub mod Keywords
+pub mod BlockLines
+pub mod Binding

@@ -1,10 +1,17 @@
 -- What a function of the reader answers.
-use Rattle.std.specs.Prelude.{◌≡◌, ℕ, List, Some, None, Result}
+use Rattle.std.specs.Prelude.{◌≡◌, ℕ, Bool, true, false, if◌then◌else◌, List, [], ◌∷◌, ◌++◌, Option, Some, None, option_and_then, Result}
 use Rattle.std.specs.Borrow.{Bor}
+use Rattle.std.specs.Option.{option_map}
 use Rattle.std.specs.Result.{MatchResult}
 use Rattle.il_reader.specs.declared.fault.Fault.{Fault}
 use Rattle.il_reader.specs.declared.fault.Fault.TheVariants.{Syntax}
+use Rattle.il_ast.specs.declared.block.Phi.{Phi}
+use Rattle.il_ast.specs.declared.instruction.Lined.{Lined}
+use Rattle.il_ast.specs.declared.instruction.Inst.{Inst}
+use Rattle.il_reader.specs.declared.statement.Statement.{Statement}
+use Rattle.il_reader.specs.declared.statement.Statement.TheVariants.{Phi as PhiLine, Inst as InstLine}
 use Rattle.il_reader.specs.State.{State}
+use Rattle.il_reader.specs.Blocks.{Lines}
 use Rattle.il_reader.specs.Steps.{Step}
 
 -- what a step reads and the state afterwards, and a syntax error only where the step reads nothing
@@ -14,3 +21,32 @@ Gives step old new result = MatchResult result (λ x. step old ≡ Some (x, new)
 -- the same of a step that reads a text
 abbrev pub GivesText : Step (List ℕ) → State → State → Result (Bor (List ℕ)) Fault → Type 0
 GivesText step old new result = MatchResult result (λ text. step old ≡ Some (text.now, new)) (λ e. e ≡ Syntax → step old ≡ None)
+
+-- a table of words, as the code keeps it
+abbrev pub rows_of : {A : Type 0} → List (Bor (List ℕ) × A) → List (List ℕ × A)
+rows_of [] = []
+rows_of (row ∷ rows) = (row.0.now, row.1) ∷ rows_of rows
+
+-- what a step reads, behind what has been read
+abbrev pub appended : {A : Type 0} → List A → Option (List A × State) → Option (List A × State)
+appended xs read = option_map (λ x. (xs ++ x.0, x.1)) read
+
+-- the item that a step reads, behind what has been read
+abbrev pub pushed : {A : Type 0} → List A → Option (A × State) → Option (List A × State)
+pushed xs read = option_map (λ x. (xs ++ x.0 ∷ [], x.1)) read
+
+-- the state behind what a step reads
+abbrev pub passed : {A : Type 0} → Option (A × State) → Option State
+passed read = option_map (λ x. x.1) read
+
+-- lines of a block, behind the phis and instructions that have been read
+abbrev pub with_lines : List Phi → List (Lined Inst) → Option (Lines × State) → Option (Lines × State)
+with_lines phis insts read = option_map (λ x. ((phis ++ x.0.0, insts ++ x.0.1), x.1)) read
+
+-- a line of a block behind others, and whether an instruction is among them
+abbrev pub one_line : Bool → List Phi → List (Lined Inst) → Statement → State → Option ((Lines × Bool) × State)
+one_line begun phis insts (PhiLine phi) s = if begun then None else Some (((phis ++ phi ∷ [], insts), false), s)
+one_line begun phis insts (InstLine inst) s = Some (((phis, insts ++ inst ∷ []), true), s)
+
+abbrev pub with_line : Bool → List Phi → List (Lined Inst) → Option (Statement × State) → Option ((Lines × Bool) × State)
+with_line begun phis insts read = option_and_then (λ x. one_line begun phis insts x.0 x.1) read

@@ -1,56 +1,115 @@
-//! What kinds of token there are.
+//! What stands next, and what a token is.
 ghost use Rattle.std.specs.Prelude.{◌≡◌, Some, drop};
 ghost use Rattle.std.specs.Option.{option_copied};
-ghost use Rattle.il_reader.specs.Steps.{newline_test, piece_test, natural_test, integer_test, temp_test, label_test, symbol_test, word_test};
+ghost use Rattle.il_reader.specs.Steps.{kind_is, newline_test, piece_test, natural_test, integer_test, temp_test, label_test, symbol_test, word_test};
 ghost use Rattle.il_reader.specs.Reading.{is_number, is_temp, is_value, is_comma, is_word, is_label, is_newline};
+ghost use Rattle.il_reader.specs.Definitions.{is_quoted, is_plus, is_item};
 
 use il_lex::kind::{Kind, Symbol};
+use il_lex::scan::Ahead;
 
-pub(crate) fn is_newline(kind: Kind) -> bool
-    ensures { result ≡ is_newline kind }
+/// Whether the end of a line comes next.
+pub(crate) fn is_newline(ahead: Ahead) -> bool
+    ensures { result ≡ kind_is is_newline ahead }
 {
-    matches!(kind, Kind::Newline)
+    match ahead {
+        Ahead::Found { kind, .. } => matches!(kind, Kind::Newline),
+        _ => false,
+    }
 }
 
-pub(crate) fn is_comma(kind: Kind) -> bool
-    ensures { result ≡ is_comma kind }
+/// Whether a comma comes next.
+pub(crate) fn is_comma(ahead: Ahead) -> bool
+    ensures { result ≡ kind_is is_comma ahead }
 {
-    matches!(kind, Kind::Symbol(Symbol::Comma))
+    match ahead {
+        Ahead::Found { kind, .. } => matches!(kind, Kind::Symbol(Symbol::Comma)),
+        _ => false,
+    }
 }
 
-pub(crate) fn is_word(kind: Kind) -> bool
-    ensures { result ≡ is_word kind }
+/// Whether a word comes next.
+pub(crate) fn is_word(ahead: Ahead) -> bool
+    ensures { result ≡ kind_is is_word ahead }
 {
-    matches!(kind, Kind::Word)
+    match ahead {
+        Ahead::Found { kind, .. } => matches!(kind, Kind::Word),
+        _ => false,
+    }
 }
 
-pub(crate) fn is_label(kind: Kind) -> bool
-    ensures { result ≡ is_label kind }
+/// Whether a label comes next.
+pub(crate) fn is_label(ahead: Ahead) -> bool
+    ensures { result ≡ kind_is is_label ahead }
 {
-    matches!(kind, Kind::Label)
+    match ahead {
+        Ahead::Found { kind, .. } => matches!(kind, Kind::Label),
+        _ => false,
+    }
 }
 
-pub(crate) fn is_temp(kind: Kind) -> bool
-    ensures { result ≡ is_temp kind }
+/// Whether a temporary comes next.
+pub(crate) fn is_temp(ahead: Ahead) -> bool
+    ensures { result ≡ kind_is is_temp ahead }
 {
-    matches!(kind, Kind::Temp)
+    match ahead {
+        Ahead::Found { kind, .. } => matches!(kind, Kind::Temp),
+        _ => false,
+    }
 }
 
-pub(crate) fn is_number(kind: Kind) -> bool
-    ensures { result ≡ is_number kind }
+/// Whether a number comes next.
+pub(crate) fn is_number(ahead: Ahead) -> bool
+    ensures { result ≡ kind_is is_number ahead }
 {
-    matches!(kind, Kind::Natural(_) | Kind::Negative(_))
+    match ahead {
+        Ahead::Found { kind, .. } => matches!(kind, Kind::Natural(_) | Kind::Negative(_)),
+        _ => false,
+    }
 }
 
-/// Whether a value begins with such a token.
-pub(crate) fn is_value(kind: Kind) -> bool
-    ensures { result ≡ is_value kind }
+/// Whether a value comes next.
+pub(crate) fn is_value(ahead: Ahead) -> bool
+    ensures { result ≡ kind_is is_value ahead }
 {
-    match kind {
-        Kind::Natural(_) => true,
-        Kind::Negative(_) => true,
-        Kind::Temp => true,
-        Kind::Global => true,
+    match ahead {
+        Ahead::Found { kind, .. } => matches!(
+            kind,
+            Kind::Natural(_) | Kind::Negative(_) | Kind::Temp | Kind::Global
+        ),
+        _ => false,
+    }
+}
+
+/// Whether a string comes next.
+pub(crate) fn is_quoted(ahead: Ahead) -> bool
+    ensures { result ≡ kind_is is_quoted ahead }
+{
+    match ahead {
+        Ahead::Found { kind, .. } => matches!(kind, Kind::Quoted),
+        _ => false,
+    }
+}
+
+/// Whether a plus sign comes next.
+pub(crate) fn is_plus(ahead: Ahead) -> bool
+    ensures { result ≡ kind_is is_plus ahead }
+{
+    match ahead {
+        Ahead::Found { kind, .. } => matches!(kind, Kind::Symbol(Symbol::Plus)),
+        _ => false,
+    }
+}
+
+/// Whether an item of data comes next.
+pub(crate) fn is_item(ahead: Ahead) -> bool
+    ensures { result ≡ kind_is is_item ahead }
+{
+    match ahead {
+        Ahead::Found { kind, .. } => matches!(
+            kind,
+            Kind::Natural(_) | Kind::Negative(_) | Kind::Global | Kind::Quoted
+        ),
         _ => false,
     }
 }

@@ -15,10 +15,17 @@
 //! It stands on `il_lex` for the tokens and on `il_ast` for the tree.
 #![tactic(auto)]
 
+mod arguments;
+mod block;
 pub mod error;
 mod fault;
+mod jump;
 mod kinds;
 pub mod laws;
+mod lines;
 mod names;
+mod operand;
 mod reader;
+mod spacing;
 pub mod statement;
+mod words;

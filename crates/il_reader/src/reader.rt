@@ -10,6 +10,7 @@ use crate::kinds::{
     word_test,
 };
 use crate::names::Names;
+use crate::words::is_text;
 use il_ast::label::Label;
 use il_ast::symbol::Symbol as Global;
 use il_ast::temp::Temp;
@@ -57,11 +58,13 @@ fn line_ends(kind: Kind) -> usize
 }
 
 impl<'a> Reader<'a> {
-    ghost use Rattle.std.specs.Prelude.{◌≡◌};
+    ghost use Rattle.std.specs.Prelude.{◌≡◌, suc, ℕ, Bool, false, List, length};
+    ghost use Rattle.std.specs.Option.{option_copied, option_map_or};
     ghost use Rattle.il_lex.specs.Scan.{scan};
     ghost use Rattle.il_reader.specs.State.{start};
+    ghost use Rattle.il_reader.specs.Reading.{sees_word, is_text};
     ghost use Rattle.il_reader.specs.Gives.{Gives, GivesText};
-    ghost use Rattle.il_reader.specs.Steps.{next, newline, piece, natural, integer, keyword, temp, label, symbol};
+    ghost use Rattle.il_reader.specs.Steps.{next, newline, piece, natural, integer, keyword, word as the_word, temp, label, symbol};
 
     /// The start of a text.
     pub(crate) fn new(alloc: alloc::Global, text: &'a [u8]) -> Reader<'a>
@@ -84,6 +87,53 @@ impl<'a> Reader<'a> {
         ensures { result ≡ scan self.now.rest }
     {
         self.ahead
+    }
+
+    /// The word that stands next, if one does.
+    pub(crate) fn word_ahead(&self) -> Option<&'a [u8]>
+        ensures { (test : List ℕ → Bool) → sees_word test self.now ≡ option_map_or test (option_copied result) false }
+    {
+        match self.ahead {
+            Ahead::Found {
+                kind: Kind::Word,
+                gap,
+                len,
+            } => {
+                let (_, token) = self.rest.split_at(gap);
+                let (text, _) = token.split_at(len);
+                Some(text)
+            }
+            _ => None,
+        }
+    }
+
+    /// Whether a word comes next.
+    pub(crate) fn sees_text(&self, word: &[u8]) -> bool
+        ensures { result ≡ sees_word (is_text word.now) self.now }
+    {
+        match self.word_ahead() {
+            Some(text) => is_text(word, text),
+            None => false,
+        }
+    }
+
+    /// Where what is read is kept.
+    pub(crate) fn alloc(&self) -> alloc::Global {
+        self.alloc
+    }
+
+    /// The line of the bytes that are left, from 1.
+    pub(crate) fn line(&self) -> usize
+        ensures { result ≡ self.now.line }
+    {
+        self.line
+    }
+
+    /// One more than the bytes that are left: how often a loop goes round at most.
+    pub(crate) fn rounds(&self) -> usize
+        ensures { result ≡ suc (length self.now.rest) }
+    {
+        self.rest.len() + 1
     }
 
     /// Reads the next token, whatever it is: its kind and text.
@@ -157,6 +207,18 @@ impl<'a> Reader<'a> {
         match word_test(kind, text) {
             Some(word) => Ok(word),
             None => Err(Fault::Syntax),
+        }
+    }
+
+    /// Reads this word.
+    pub(crate) fn keyword(&mut self, word: &[u8]) -> Result<(), Fault>
+        ensures { Gives (the_word word.now) self.old self.new result }
+    {
+        let text = self.word()?;
+        if is_text(word, text) {
+            Ok(())
+        } else {
+            Err(Fault::Syntax)
         }
     }
 

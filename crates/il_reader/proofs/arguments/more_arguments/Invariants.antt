@@ -1,0 +1,10 @@
+use Rattle.std.proofs.Common.{◌≡◌, ◌-◌, suc, length}
+use Rattle.il_reader.specs.Steps.{sees, separated}
+use Rattle.il_reader.specs.Reading.{argument, comma, is_comma, is_word}
+use Rattle.il_reader.specs.Gives.{appended}
+use Rattle.il_reader.proofs.arguments.more_arguments.Given as goal
+
+abbrev pub invariant-loop : goal.invariant-loop
+invariant-loop l =
+    appended l.args (separated (l.end - l.counter) (sees is_comma) comma (sees is_word) argument l.reader)
+    ≡ appended l.fn.args (separated (suc (length l.fn.reader.rest)) (sees is_comma) comma (sees is_word) argument l.fn.reader)

@@ -1,0 +1,12 @@
+use Rattle.std.proofs.Common.{sym, ◌∙◌, rules}
+use Rattle.il_reader.specs.Steps.{sees}
+use Rattle.il_reader.specs.Reading.{phi_argument, comma, is_comma, is_label}
+use Rattle.il_reader.proofs.Rounds.{separated_more}
+use Rattle.il_reader.proofs.arguments.more_phi_arguments.Goals as goal
+
+pub loop-preserved : goal.loop-preserved
+loop-preserved c =
+    sym (separated_more c.rounds-end.result c.loop.counter (sees is_comma) comma (sees is_label) phi_argument
+    c.loop.args c.push_phi_argument.new.args c.loop.reader c.piece.new.self c.push_phi_argument.new.reader
+    c.loop-test.true (search rules) (search rules) (search rules) c.in_ok-push_phi_argument.ensures)
+    ∙ c.loop.invariant
