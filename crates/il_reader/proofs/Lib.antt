@@ -20,3 +20,4 @@ pub mod Rounds
 pub mod Keywords
 pub mod BlockLines
 pub mod Binding
+pub mod Falling

@@ -4,7 +4,7 @@ use Rattle.std.specs.Prelude.{option_and_then}
 use Rattle.std.proofs.lemmas.Option.{some_pair_parts}
 use Rattle.il_reader.specs.State.{State}
 use Rattle.il_reader.specs.Steps.{Step, repeated, separated, commas}
-use Rattle.il_reader.specs.Gives.{appended, pushed, passed}
+use Rattle.il_reader.specs.Gives.{appended, pushed, passed, some}
 
 less_one : (n i : ℕ) → i < n → n - i ≡ suc (n - (i + 1))
 less_one n i h = omega arith
@@ -72,3 +72,11 @@ repeated_passed n i look p s t h l e =
     ∙ ap (λ b. passed (cond b (read (p s)) (Some ([], s)))) l
     ∙ ap (λ o. passed (read o)) e
     ∙ passed_round tt (repeated k look p t)
+
+pub some_pushed : {A : Type 0} (look : State → Bool) (p : Step A) (ys : List A) (s m : State)
+    → pushed [] (p s) ≡ Some (ys, m)
+    → some look p s ≡ appended ys (repeated (suc (length m.rest)) look p m)
+some_pushed look p ys s m e =
+    let more = λ (t : State). repeated (suc (length t.rest)) look p t in
+    sym (nothing_before (option_and_then (λ x. option_and_then (λ xs. Some (x.0 ∷ xs.0, xs.1)) (more x.1)) (p s)))
+    ∙ one_round [] ys (p s) m more e

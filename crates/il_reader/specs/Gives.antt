@@ -6,13 +6,16 @@ use Rattle.std.specs.Result.{MatchResult}
 use Rattle.il_reader.specs.declared.fault.Fault.{Fault}
 use Rattle.il_reader.specs.declared.fault.Fault.TheVariants.{Syntax}
 use Rattle.il_ast.specs.declared.block.Phi.{Phi}
+use Rattle.il_ast.specs.declared.block.Block.{Block}
 use Rattle.il_ast.specs.declared.instruction.Lined.{Lined}
 use Rattle.il_ast.specs.declared.instruction.Inst.{Inst}
 use Rattle.il_reader.specs.declared.statement.Statement.{Statement}
 use Rattle.il_reader.specs.declared.statement.Statement.TheVariants.{Phi as PhiLine, Inst as InstLine}
 use Rattle.il_reader.specs.State.{State}
+use Rattle.il_reader.specs.Reads.{falling, jump_to}
 use Rattle.il_reader.specs.Blocks.{Lines}
-use Rattle.il_reader.specs.Steps.{Step}
+use Rattle.il_reader.specs.Definitions.{blocks}
+use Rattle.il_reader.specs.Steps.{Step, ◌>>=◌, give, many}
 
 -- what a step reads and the state afterwards, and a syntax error only where the step reads nothing
 abbrev pub Gives : {A : Type 0} → Step A → State → State → Result A Fault → Type 0
@@ -50,3 +53,24 @@ one_line begun phis insts (InstLine inst) s = Some (((phis, insts ++ inst ∷ []
 
 abbrev pub with_line : Bool → List Phi → List (Lined Inst) → Option (Statement × State) → Option ((Lines × Bool) × State)
 with_line begun phis insts read = option_and_then (λ x. one_line begun phis insts x.0 x.1) read
+
+-- a step at least once, then as often as the next token tells
+abbrev pub some : {A : Type 0} → (State → Bool) → Step A → Step (List A)
+some look p = p >>= λ x. many look p >>= λ xs. give (x ∷ xs)
+
+-- a block before the next, to which it goes where it has no jump
+abbrev pub fell : Block → Block → Block
+fell last next =
+    record { line = last.line; label = last.label; phis = last.phis; insts = last.insts; jump = Some (jump_to next last.jump) }
+
+-- the next block, and the one before it behind the others
+abbrev pub next_fallen : List Block → Block → Option (Block × State) → Option ((List Block × Block) × State)
+next_fallen blocks last read = option_map (λ x. ((blocks ++ fell last x.0 ∷ [], x.0), x.1)) read
+
+-- the blocks behind one, and that one, behind the others
+abbrev pub fallen : List Block → Block → Option (List Block × State) → Option (List Block × State)
+fallen blocks last read = option_map (λ x. (blocks ++ falling (last ∷ x.0), x.1)) read
+
+-- blocks of which one without a jump goes to the next
+abbrev pub falling_blocks : Step (List Block)
+falling_blocks = blocks >>= λ bs. give (falling bs)

@@ -1,7 +1,8 @@
 //! What stands next, and what a token is.
 ghost use Rattle.std.specs.Prelude.{◌≡◌, Some, drop};
-ghost use Rattle.std.specs.Option.{option_copied};
-ghost use Rattle.il_reader.specs.Steps.{kind_is, newline_test, piece_test, natural_test, integer_test, temp_test, label_test, symbol_test, word_test};
+ghost use Rattle.std.specs.Option.{option_copied, option_map};
+ghost use Rattle.il_lex.specs.Scan.{string_bytes};
+ghost use Rattle.il_reader.specs.Steps.{kind_is, newline_test, piece_test, natural_test, integer_test, temp_test, label_test, symbol_test, string_test, word_test};
 ghost use Rattle.il_reader.specs.Reading.{is_number, is_temp, is_value, is_comma, is_word, is_label, is_newline};
 ghost use Rattle.il_reader.specs.Definitions.{is_quoted, is_plus, is_item};
 
@@ -199,6 +200,16 @@ pub(crate) fn word_test<'a>(kind: Kind, text: &'a [u8]) -> Option<&'a [u8]>
 {
     match kind {
         Kind::Word => Some(text),
+        _ => None,
+    }
+}
+
+/// The text of a string, with its quotes.
+pub(crate) fn string_test<'a>(kind: Kind, text: &'a [u8]) -> Option<&'a [u8]>
+    ensures { option_map string_bytes (option_copied result) ≡ string_test kind text.now }
+{
+    match kind {
+        Kind::Quoted => Some(text),
         _ => None,
     }
 }

@@ -17,8 +17,10 @@
 
 mod arguments;
 mod block;
+mod datum;
 pub mod error;
 mod fault;
+mod function;
 mod jump;
 mod kinds;
 pub mod laws;

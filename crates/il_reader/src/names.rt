@@ -1,7 +1,9 @@
 //! Names, numbered in order of first appearance.
-ghost use Rattle.std.specs.Prelude.{◌≡◌, [], OnOk, IfOk};
+ghost use Rattle.std.specs.Prelude.{◌≡◌, [], map, OnOk, IfOk};
 ghost use Rattle.il_reader.specs.State.{place, with_name};
 
+use il_ast::list::Seq;
+use il_ast::name::Name;
 use indexmap::IndexSet;
 use std::alloc::{AllocError, Global};
 use std::marker::Model;
@@ -45,4 +47,22 @@ impl<'a> Names<'a> {
     {
         self.names.clear();
     }
+
+    /// A list of them.
+    pub(crate) fn list(&self, alloc: Global) -> Result<Seq<Name>, AllocError>
+        ensures { IfOk result (λ names. names ≡ self.now) }
+    {
+        copied(alloc, self.names.as_slice())
+    }
+}
+
+fn copied(alloc: Global, names: &[&[u8]]) -> Result<Seq<Name>, AllocError>
+    ensures { IfOk result (λ copies. copies ≡ map (λ name. name.now) names.now) }
+{
+    let mut copies = Seq::new(alloc);
+    for name in names {
+        let bytes = Vec::from_slice(alloc, name)?;
+        copies.push(Seq::from_vec(bytes))?;
+    }
+    Ok(copies)
 }

@@ -6,17 +6,21 @@ ghost use Rattle.il_reader.specs.declared.fault.Fault.TheVariants.{Syntax};
 
 use crate::fault::Fault;
 use crate::kinds::{
-    integer_test, label_test, natural_test, newline_test, piece_test, symbol_test, temp_test,
-    word_test,
+    integer_test, label_test, natural_test, newline_test, piece_test, string_test, symbol_test,
+    temp_test, word_test,
 };
 use crate::names::Names;
 use crate::words::is_text;
 use il_ast::label::Label;
+use il_ast::list::Seq;
+use il_ast::name::Name;
 use il_ast::symbol::Symbol as Global;
 use il_ast::temp::Temp;
 use il_lex::kind::{Kind, Symbol};
+use il_lex::quoted::string_bytes;
 use il_lex::scan::{Ahead, scan};
 use std::alloc;
+use std::alloc::AllocError;
 use std::marker::Model;
 
 /// Reads a text from its front to its end. A clause sees the bytes that are left, their line, and the
@@ -58,13 +62,13 @@ fn line_ends(kind: Kind) -> usize
 }
 
 impl<'a> Reader<'a> {
-    ghost use Rattle.std.specs.Prelude.{◌≡◌, suc, ℕ, Bool, false, List, length};
+    ghost use Rattle.std.specs.Prelude.{◌≡◌, suc, ℕ, Bool, false, List, [], length, IfOk};
     ghost use Rattle.std.specs.Option.{option_copied, option_map_or};
     ghost use Rattle.il_lex.specs.Scan.{scan};
     ghost use Rattle.il_reader.specs.State.{start};
     ghost use Rattle.il_reader.specs.Reading.{sees_word, is_text};
     ghost use Rattle.il_reader.specs.Gives.{Gives, GivesText};
-    ghost use Rattle.il_reader.specs.Steps.{next, newline, piece, natural, integer, keyword, word as the_word, temp, label, symbol};
+    ghost use Rattle.il_reader.specs.Steps.{next, newline, piece, natural, integer, string, keyword, word as the_word, temp, label, symbol};
 
     /// The start of a text.
     pub(crate) fn new(alloc: alloc::Global, text: &'a [u8]) -> Reader<'a>
@@ -210,6 +214,17 @@ impl<'a> Reader<'a> {
         }
     }
 
+    /// Reads a string: the bytes that it stands for.
+    pub(crate) fn string(&mut self) -> Result<Seq<u8>, Fault>
+        ensures { Gives string self.old self.new result }
+    {
+        let (kind, text) = self.next()?;
+        match string_test(kind, text) {
+            Some(text) => Ok(Seq::from_vec(string_bytes(self.alloc, text)?)),
+            None => Err(Fault::Syntax),
+        }
+    }
+
     /// Reads this word.
     pub(crate) fn keyword(&mut self, word: &[u8]) -> Result<(), Fault>
         ensures { Gives (the_word word.now) self.old self.new result }
@@ -220,6 +235,35 @@ impl<'a> Reader<'a> {
         } else {
             Err(Fault::Syntax)
         }
+    }
+
+    /// Forgets the temporaries and labels: another function has its own.
+    pub(crate) fn forget_names(&mut self)
+        ensures { self.new ≡ record self.old { temps = []; labels = [] } }
+    {
+        self.temps.clear();
+        self.labels.clear();
+    }
+
+    /// The names of the function's temporaries, in order of first appearance.
+    pub(crate) fn temps(&self) -> Result<Seq<Name>, AllocError>
+        ensures { IfOk result (λ names. names ≡ self.now.temps) }
+    {
+        self.temps.list(self.alloc)
+    }
+
+    /// The names of the function's labels, in order of first appearance.
+    pub(crate) fn labels(&self) -> Result<Seq<Name>, AllocError>
+        ensures { IfOk result (λ names. names ≡ self.now.labels) }
+    {
+        self.labels.list(self.alloc)
+    }
+
+    /// The global names of the text, in order of first appearance.
+    pub(crate) fn symbols(&self) -> Result<Seq<Name>, AllocError>
+        ensures { IfOk result (λ names. names ≡ self.now.symbols) }
+    {
+        self.symbols.list(self.alloc)
     }
 
     /// Reads a temporary.
