@@ -1,3 +1,4 @@
 pub mod GoingOn
 pub mod SameDepth
+pub mod Pacing
 pub mod Computed

@@ -1,6 +1,6 @@
 //! The laws of the meaning, each as the contract of a function that does nothing.
 ghost use Rattle.il_ast.specs.Examples.{Examples};
-ghost use Rattle.il_ast.specs.Laws.{EndsStay, OutputGrows, DepthIsEnough};
+ghost use Rattle.il_ast.specs.Laws.{EndsStay, OutputGrows, DepthIsEnough, TurnsAreSpent, OutputComesFirst};
 
 /// An end other than `Turns`, and the output with it, is the same at every greater number of turns.
 pub fn ends_stay()
@@ -15,6 +15,16 @@ pub fn output_grows()
 /// The depth of calls that the meaning allows is enough: beyond the turns it changes nothing.
 pub fn depth_is_enough()
     ensures { DepthIsEnough }
+{}
+
+/// A run that is out of turns has done them all.
+pub fn turns_are_spent()
+    ensures { TurnsAreSpent }
+{}
+
+/// What a run puts out before it becomes undefined or runs out of stack, it puts out while it goes on.
+pub fn output_comes_first()
+    ensures { OutputComesFirst }
 {}
 
 /// What the definitions give for some small programs.
