@@ -1,6 +1,6 @@
 -- Calls on the machine, by the integer calling convention (RISC-V ELF psABI, "Integer Calling Convention", LP64): arguments in x10 to x17 and then on the
 -- stack, a result in x10, the return address in x1, the stack pointer in x2, and registers that a callee keeps.
-use Rattle.std.specs.Prelude.{◌≡◌, ◌≢◌, ℕ, ◌+◌, ◌-◌, ◌*◌, ◌%◌, ◌^◌, ◌<◌, ◌≤◌, Bool, true, ◌&&◌, ◌||◌, nat_le, List, length, slice_get, Option, Some, None}
+use Rattle.std.specs.Prelude.{◌≡◌, ◌≢◌, ℕ, ◌+◌, ◌-◌, ◌*◌, ◌%◌, ◌^◌, ◌<◌, ◌≤◌, Bool, true, false, ◌&&◌, ◌||◌, nat_le, List, length, slice_get, Option, Some, None}
 use Rattle.bits.specs.Words.{sign_extended}
 use Rattle.il_ast.specs.declared.operation.Class.{Class}
 use Rattle.il_ast.specs.declared.operation.Class.TheVariants.{W, L}
@@ -16,20 +16,23 @@ pub record World : Type 0 where
   pub bottom : ℕ
   pub top : ℕ
 
--- the stack can be read and written; what can be written can't be executed
+-- an address whose byte can be read and written, and not executed
+pub record IsUsable (g : Ground) (x : ℕ) : Type 0 where
+  pub readable : (g.allows x).readable ≡ true
+  pub writable : (g.allows x).writable ≡ true
+  pub no_code : (g.allows x).executable ≡ false
+  pub small : x < 2 ^ 64
+
+-- the stack is the program's to use
 pub record IsWorld (w : World) : Type 0 where
-  pub readable : (x : ℕ) → w.bottom ≤ x → x < w.top → (w.ground.allows x).readable ≡ true
-  pub writable : (x : ℕ) → w.bottom ≤ x → x < w.top → (w.ground.allows x).writable ≡ true
-  pub apart : (x : ℕ) → (w.ground.allows x).writable ≡ true → (w.ground.allows x).executable ≢ true
+  pub usable : (x : ℕ) → w.bottom ≤ x → x < w.top → IsUsable w.ground x
   pub above_zero : 0 < w.bottom
   pub small : w.top < 2 ^ 63
 
 -- the machine has the bytes that are known, and may access what can be accessed
 pub record HoldsSpots (g : Ground) (f : Spots) (s : State) : Type 0 where
   pub known : (x n : ℕ) → f x ≡ Known n → s.bytes x ≡ n
-  pub readable : (x : ℕ) → f x ≢ Away → (g.allows x).readable ≡ true
-  pub writable : (x : ℕ) → f x ≢ Away → (g.allows x).writable ≡ true
-  pub small : (x : ℕ) → f x ≢ Away → x < 2 ^ 64
+  pub usable : (x : ℕ) → f x ≢ Away → IsUsable g x
 
 -- how a number of this class stands in a register or in eight bytes of the stack: of 32 bits, it is sign-extended
 abbrev pub passed : Class → ℕ → ℕ

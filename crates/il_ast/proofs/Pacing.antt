@@ -25,7 +25,7 @@ use Rattle.il_ast.specs.declared.value.End.TheVariants.{Exit, Halt, Undefined, S
 use Rattle.il_ast.specs.Memory.{Memory, cells_at, plain_bytes}
 use Rattle.il_ast.specs.Cost.{need}
 use Rattle.il_ast.specs.Effect.{Env, Activation, Call, InstEffect, Done, Asks, Fails, Locals, Effect, Goes, Calls, Returns, Ends, assign, inst_effect, operand, phi_values, entered, enter_at, enter_place, place_of, branch_to, branched, returned, return_value, jump_effect, end_effect, after_inst, turn_in, turn_of, effect}
-use Rattle.il_ast.specs.Run.{Spent, nothing, one_turn, one_call, both, Outcome, Returned, Ended, after, Callees, Rest, receive, resume, perform, run, begun, body}
+use Rattle.il_ast.specs.Run.{Spent, nothing, one_turn, one_call, both, Outcome, Returned, Ended, after, Callees, Rest, resume, perform, run, begun, body}
 use Rattle.il_ast.specs.Start.{globals_of, start_memory}
 use Rattle.il_ast.specs.Meaning.{call_fits, call_function, put_out, write_bytes, write_integer, write_call, exit_call, call_named, callees, main_call, stack_room, outcome}
 use Rattle.il_ast.specs.Laws.{TurnsAreSpent, StillGoes, OutputComesFirst}
@@ -81,13 +81,13 @@ behind_turn g (suc u) = g u
 goes_behind : (f : Paced) (w t : ℕ) (output : List ℕ) → GoesAt f t output → GoesAt (behind_turn (λ u. after (one_turn w) (f u))) (suc t) output
 goes_behind f w t output h =
     let few = h.few in
-    record
-      { k = suc h.k
-      ; spent = both (one_turn w) h.spent
-      ; few = omega arith
-      ; going = ap (after (one_turn w)) h.going
-      ; is = h.is
-      }
+    record {
+      k = suc h.k;
+      spent = both (one_turn w) h.spent;
+      few = omega arith;
+      going = ap (after (one_turn w)) h.going;
+      is = h.is;
+    }
 
 fails_behind : (f : Paced) (w t : ℕ) (output : List ℕ) → FailsAt f t output → FailsAt (behind_turn (λ u. after (one_turn w) (f u))) (suc t) output
 fails_behind f w t output (inl h) = inl h
@@ -128,23 +128,23 @@ follows_at f g t s fits h k few =
 goes_after : (f g : Paced) (t : ℕ) (s : Spent) → s.turns ≤ t → Follows f g t s → (output : List ℕ) → GoesAt g (t - s.turns) output → GoesAt f t (s.output ++ output)
 goes_after f g t s fits h output at =
     let few = at.few in
-    record
-      { k = s.turns + at.k
-      ; spent = both s at.spent
-      ; few = omega arith
-      ; going = follows_at f g t s fits h at.k at.few ∙ ap (after s) at.going
-      ; is = ap (λ xs. s.output ++ xs) at.is
-      }
+    record {
+      k = s.turns + at.k;
+      spent = both s at.spent;
+      few = omega arith;
+      going = follows_at f g t s fits h at.k at.few ∙ ap (after s) at.going;
+      is = ap (λ xs. s.output ++ xs) at.is;
+    }
 
 fails_after : (f g : Paced) (t : ℕ) (s : Spent) → s.turns ≤ t → Follows f g t s → g 0 ≡ Ended nothing Turns → (output : List ℕ) → FailsAt g (t - s.turns) output → FailsAt f t (s.output ++ output)
 fails_after f g t s fits h start output (inl none) =
-    inr (record
-      { k = s.turns + 0
-      ; spent = both s nothing
-      ; few = omega arith
-      ; going = follows_at f g t s fits h 0 (omega arith) ∙ ap (after s) start
-      ; is = ap (λ xs. s.output ++ xs) (sym none)
-      })
+    inr (record {
+      k = s.turns + 0;
+      spent = both s nothing;
+      few = omega arith;
+      going = follows_at f g t s fits h 0 (omega arith) ∙ ap (after s) start;
+      is = ap (λ xs. s.output ++ xs) (sym none);
+    })
 fails_after f g t s fits h start output (inr at) = inr (goes_after f g t s fits h output at)
 
 ends_after : (f g : Paced) (t : ℕ) (s : Spent) → s.turns ≤ t → Follows f g t s → g 0 ≡ Ended nothing Turns → (q : Spent) (e : End) → EndsAt g (t - s.turns) q e → EndsAt f t (both s q) e
@@ -161,12 +161,12 @@ before_after f g t s fits h output v (inr at) = inr (goes_after f g t s fits h o
 after_goes_so : (f g : Paced) (t : ℕ) (s : Spent) → s.turns ≤ t → Follows f g t s → g 0 ≡ Ended nothing Turns → (o : Outcome) → GoesSo g (t - s.turns) o → GoesSo f t (after s o)
 after_goes_so f g t s fits h start (Returned q v m) at =
     let inner = at.fits in
-    record
-      { fits = omega arith
-      ; same =
-          λ u low high. h u (omega arith) high ∙ ap (after s) (at.same (u - s.turns) (omega arith) (omega arith))
-      ; before = before_after f g t s fits h q.output v at.before
-      }
+    record {
+      fits = omega arith;
+      same =
+          λ u low high. h u (omega arith) high ∙ ap (after s) (at.same (u - s.turns) (omega arith) (omega arith));
+      before = before_after f g t s fits h q.output v at.before;
+    }
 after_goes_so f g t s fits h start (Ended q e) at = ends_after f g t s fits h start q e at
 
 -- ---- calls
@@ -218,11 +218,11 @@ resume_goes_so rest t h (Some to) a c (Ended s e) at = resumed_end rest (Some to
 
 returned_first : (v : Option Value) (m : Memory) (t : ℕ) → GoesSo (behind_turn (λ u. Returned (one_turn 1) v m)) (suc t) (Returned (one_turn 1) v m)
 returned_first v m t =
-    record
-      { fits = omega arith
-      ; same = same
-      ; before = inr (record { k = 0; spent = nothing; few = omega arith; going = refl; is = refl })
-      }
+    record {
+      fits = omega arith;
+      same = same;
+      before = inr (record { k = 0; spent = nothing; few = omega arith; going = refl; is = refl });
+    }
   where
     same : (u : ℕ) → 1 ≤ u → u ≤ suc t → behind_turn (λ n. Returned (one_turn 1) v m) u ≡ Returned (one_turn 1) v m
     same zero le up = absurd (omega arith)
@@ -340,11 +340,11 @@ again_ends f g t same s Turns at = at
 
 again : (f g : Paced) (t : ℕ) → ((u : ℕ) → u ≤ t → f u ≡ g u) → (o : Outcome) → GoesSo f t o → GoesSo g t o
 again f g t same (Returned s v m) at =
-    record
-      { fits = at.fits
-      ; same = λ u low high. sym (same u high) ∙ at.same u low high
-      ; before = again_before f g t same s.output v at.before
-      }
+    record {
+      fits = at.fits;
+      same = λ u low high. sym (same u high) ∙ at.same u low high;
+      before = again_before f g t same s.output v at.before;
+    }
 again f g t same (Ended s e) at = again_ends f g t same s e at
 
 run_goes : (env : Env) (c : Callees) (room k t : ℕ) → t ≤ k → AllGoSo t c → (a : Activation) (m : Memory) → GoesSo (λ n. run env c room k n a m) t (run env c room k t a m)
@@ -356,10 +356,10 @@ run_goes env c room (suc k) (suc t) le cs a m =
     again (behind_turn (λ n. perform c room (run env c room k) n m (effect env a m))) (λ n. run env c room (suc k) n a m) (suc t)
     (λ u few. run_is env c room k u a m) (run env c room (suc k) (suc t) a m)
     (turn_goes c room (run env c room k) t cs
-    (record
-      { start = λ b n. run_starts env c room k b n
-      ; goes = λ u b n few. run_goes env c room k u (omega arith) (λ call v r o lt. cs call v r o (omega arith)) b n
-      })
+    (record {
+      start = λ b n. run_starts env c room k b n;
+      goes = λ u b n few. run_goes env c room k u (omega arith) (λ call v r o lt. cs call v r o (omega arith)) b n;
+    })
     m (effect env a m) (effect_alone env a m))
 
 -- ---- calls of functions
@@ -492,13 +492,13 @@ turns_are_spent p words n s is = subst (λ o. GoesSo (λ k. callees p (suc n) (m
 still_goes : (p : Program) (words : List (List ℕ)) (n : ℕ) (output : List ℕ) → FailsAt (λ k. callees p (suc n) (main_call p words) k stack_room (start_memory p words)) n output → (output ≡ []) ⊎ StillGoes p words n output
 still_goes p words n output (inl none) = inl none
 still_goes p words n output (inr at) =
-    inr (record
-      { turns = at.k
-      ; spent = at.spent
-      ; fewer = at.few
-      ; going = sym (same_outcome p words n at.k at.few) ∙ at.going
-      ; output_is = at.is
-      })
+    inr (record {
+      turns = at.k;
+      spent = at.spent;
+      fewer = at.few;
+      going = sym (same_outcome p words n at.k at.few) ∙ at.going;
+      output_is = at.is;
+    })
 
 pub output_comes_first : OutputComesFirst
 output_comes_first p words n s (Exit k) is failure = absurd failure

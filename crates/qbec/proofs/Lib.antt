@@ -4,3 +4,5 @@ pub mod Trivial
 pub mod Called
 pub mod NativeCalls
 pub mod Tied
+pub mod Entered
+pub mod Executed

@@ -1,3 +1,6 @@
 pub mod Knot
 pub mod Natives
 pub mod Functions
+pub mod Start
+pub mod Headline
+pub mod Whole
