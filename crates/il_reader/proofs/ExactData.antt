@@ -224,7 +224,7 @@ field_shortens = either_shortens _ _
     (first_shortens (reads.spaced (rule.word (codes "z"))) _ (spaced_shortens (rule.word (codes "z")) (word_shortens (codes "z"))) λ _.
     then_keeps (reads.spaced rule.natural) _ (keeps _ (spaced_shortens rule.natural natural_shortens)) λ n. give_keeps _)
 
-abbrev SpacedComma : rule.Rule (Unit {0})
+abbrev pub SpacedComma : rule.Rule (Unit {0})
 SpacedComma = reads.spaced grammar.comma
 
 spaced_comma_begins : (s : State) (x : Unit {0}) (s' : State) → SpacedComma s x s' → step.sees reading.is_comma s ≡ true
@@ -249,7 +249,7 @@ field_list_exact = commas_exact (step.sees reading.is_comma) (step.sees reading.
 
 -- ---- data definitions
 
-abbrev Head : rule.Rule (ℕ × ℕ)
+abbrev pub Head : rule.Rule (ℕ × ℕ)
 Head = rule.◌>>◌ (reads.spaced (rule.word (codes "data"))) (rule.◌>>=◌ rule.line λ n. rule.◌>>=◌ (reads.spaced rule.symbol) λ name.
     rule.◌>>◌ (reads.spaced (rule.piece Equals)) (rule.give (n, name)))
 
@@ -264,7 +264,7 @@ head_exact =
     (spaced_exact step.symbol rule.symbol symbol_exact) λ name.
     made_exact _ _ (λ _. (n, name)) LineGoesOn (spaced_exact (step.piece Equals) (rule.piece Equals) (piece_exact Equals))
 
-abbrev Braced : rule.Rule (List Field)
+abbrev pub Braced : rule.Rule (List Field)
 Braced = rule.◌>>◌ (reads.spaced (rule.piece LeftBrace)) (rule.◌>>=◌ (rule.commas SpacedComma (rule.◌∥◌ reads.items reads.zeros)) λ xs.
     rule.◌>>◌ (rule.piece RightBrace) (rule.give xs))
 
@@ -290,7 +290,7 @@ Opens s = step.sees OpenNext s ≡ true
 opens_goes_on : (s : State) → Opens s → LineGoesOn s
 opens_goes_on s h = apart OpenNext reading.is_newline (refl, refl, refl, refl, refl, refl, refl, refl, refl, refl, refl, refl, λ n. refl, λ n. refl, refl) s h
 
-abbrev Aligned : rule.Rule ℕ
+abbrev pub Aligned : rule.Rule ℕ
 Aligned = rule.◌>>◌ (reads.spaced (rule.word (codes "align"))) (reads.spaced rule.natural)
 
 alignment_exact : Exact definitions.alignment reads.alignment Opens

@@ -65,7 +65,7 @@ parameters_exact = or_nothing (step.sees reading.is_word) _ _ [] Closing
     comma_less parameter_shortens.less (λ s h. tt) (λ s h. tt) (λ s h. tt) (λ s h. tt)
     (piece_exact Comma) parameter_exact)
 
-abbrev Params : rule.Rule (List Param)
+abbrev pub Params : rule.Rule (List Param)
 Params = rule.◌>>◌ (rule.piece LeftParen) (rule.◌>>=◌ (rule.listed grammar.comma reads.parameter) λ params.
     rule.◌>>◌ (rule.piece RightParen) (rule.◌>>◌ rule.newlines (rule.give params)))
 
@@ -95,7 +95,7 @@ names_exact = record {
 abbrev NoWord : State → Type 0
 NoWord s = step.sees reading.is_word s ≡ false
 
-abbrev Head : rule.Rule (Option Class × (ℕ × ℕ))
+abbrev pub Head : rule.Rule (Option Class × (ℕ × ℕ))
 Head = rule.◌>>◌ (rule.word (codes "function")) (rule.◌>>◌ rule.forget_names (rule.◌>>=◌ (rule.maybe grammar.class) λ result.
     rule.◌>>=◌ rule.line λ n. rule.◌>>=◌ rule.symbol λ name. rule.give (result, (n, name))))
 
@@ -160,7 +160,7 @@ blocks_exact =
     before s [] s' h f = brace_ends s (subst BraceNext h f)
     before s (b ∷ bs) s' h f = label_ends s (block_begins s b h.0 h.1)
 
-abbrev Blocks : rule.Rule (List Block)
+abbrev pub Blocks : rule.Rule (List Block)
 Blocks = rule.◌>>◌ (rule.piece LeftBrace) (rule.◌>>◌ (rule.some rule.newline) (rule.◌>>=◌ (rule.some reads.block) λ bs.
     rule.◌>>◌ (rule.piece RightBrace) (rule.give (reads.falling bs))))
 

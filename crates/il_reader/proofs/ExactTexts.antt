@@ -41,7 +41,7 @@ record Begins (s : State) : Type 0 where
   pub no_export : reading.sees_word (reading.is_text (codes "export")) s ≡ false
   pub goes_on : LineGoesOn s
 
-abbrev Exported : rule.Rule Bool
+abbrev pub Exported : rule.Rule Bool
 Exported = rule.◌>>◌ (rule.word (codes "export")) (rule.◌>>◌ rule.newlines (rule.give true))
 
 exporting_exact : Exact definitions.exporting (rule.◌∥◌ Exported (rule.give false)) Begins
@@ -51,7 +51,7 @@ exporting_exact = or_nothing (reading.sees_word (reading.is_text (codes "export"
     (bind (step.word (codes "export")) (rule.word (codes "export")) _ _ Begins (word_exact (codes "export")) λ _.
     made_exact definitions.newlines rule.newlines (λ _. true) Begins (weaker definitions.newlines rule.newlines LineGoesOn Begins (λ s h. h.goes_on) newlines_exact))
 
-abbrev Choice : Bool → rule.Rule DefinitionParts
+abbrev pub Choice : Bool → rule.Rule DefinitionParts
 Choice exported = rule.◌∥◌ (rule.◌>>=◌ (Objects exported) λ d. rule.give (ObjectOf d)) (rule.◌>>=◌ (Functions exported) λ f. rule.give (FunctionOf f))
 
 choice_word : (exported : Bool) (test : List ℕ → Bool) (b : Bool) → test (codes "data") ≡ b → (s : State) (x : DefinitionParts) (s' : State)
@@ -83,7 +83,7 @@ choice_exact exported = either_exact (reading.sees_word (reading.is_text (codes 
     (made_exact (definitions.function exported) (Functions exported) FunctionOf Anything (functions_exact exported))
 
 -- the parts of a definition
-abbrev Parts : rule.Rule DefinitionParts
+abbrev pub Parts : rule.Rule DefinitionParts
 Parts = rule.◌>>=◌ (rule.◌∥◌ Exported (rule.give false)) Choice
 
 parts_exact : Exact definitions.definition Parts Anything
@@ -147,7 +147,7 @@ parts_shorten = second_shortens (rule.◌∥◌ Exported (rule.give false)) _
 
 -- ---- all definitions
 
-abbrev Between : rule.Rule (Unit {0})
+abbrev pub Between : rule.Rule (Unit {0})
 Between = rule.◌>>◌ (rule.some rule.newline) (rule.give tt)
 
 between_exact : Exact definitions.between Between LineGoesOn
@@ -157,7 +157,7 @@ between_exact = made_exact reading.line_ends (rule.some rule.newline) (λ _. tt)
 abbrev TextEnds : State → Type 0
 TextEnds s = scan s.rest ≡ End
 
-abbrev Several : rule.Rule (List DefinitionParts)
+abbrev pub Several : rule.Rule (List DefinitionParts)
 Several = rule.commas Between Parts
 
 several_exact : Exact (step.commas (step.sees reading.is_newline) definitions.between (step.sees reading.is_word) definitions.definition) Several TextEnds
@@ -172,10 +172,10 @@ several_exact = commas_exact (step.sees reading.is_newline) (step.sees reading.i
     (λ s h. tt) (λ s h. tt)
     between_exact parts_exact
 
-abbrev AllParts : rule.Rule (List DefinitionParts)
+abbrev pub AllParts : rule.Rule (List DefinitionParts)
 AllParts = rule.◌>>◌ rule.newlines (rule.◌∥◌ Several (rule.give []))
 
-all_parts_exact : Exact definitions.definitions AllParts TextEnds
+pub all_parts_exact : Exact definitions.definitions AllParts TextEnds
 all_parts_exact =
     bind_before definitions.newlines rule.newlines _ _ LineGoesOn TextEnds
     (λ _ s xs s' h f. ⊎_elim (λ w. word_line_goes_on s (parts_begin s w.0 w.1 w.2)) (λ w. ap (step.kind_is reading.is_newline) (subst TextEnds w.1 f)) h)

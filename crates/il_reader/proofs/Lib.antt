@@ -21,3 +21,9 @@ pub mod Keywords
 pub mod BlockLines
 pub mod Binding
 pub mod Falling
+pub mod InOrder
+pub mod Mentioned
+pub mod Definers
+pub mod Namings
+pub mod MentionedNames
+pub mod Ordered
