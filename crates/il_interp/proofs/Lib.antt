@@ -1,0 +1,2 @@
+pub mod PileLemmas
+pub mod Unwinding

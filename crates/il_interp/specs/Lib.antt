@@ -1,3 +1,5 @@
 pub mod Comparison
 pub mod Operands
 pub mod Negated
+pub mod Popped
+pub mod Machine

@@ -8,3 +8,5 @@
 mod integers;
 pub mod operate;
 mod places;
+mod slots;
+mod state;

@@ -1,1 +1,12 @@
 pub mod Image
+pub mod Shown
+pub mod Names
+pub mod Main
+pub mod Limits
+pub mod Program
+pub mod Tables
+pub mod Refusals
+pub mod Joined
+pub mod Linked
+pub mod ProgramOf
+pub mod Laws

@@ -1,4 +1,18 @@
-//! # The linked image of a program
+//! # Linking texts, and the linked image of a program
+//!
+//! [`resolve::resolve`] links texts that keep the rules: it gives each global name of each text its meaning, or refuses the texts. Texts are a
+//! program exactly where `IsProgram` of `specs/Program.antt` holds, and are at most one ([`laws::at_most_one_program`]). An answer is that program,
+//! and a refusal, aside want of memory, says what is true of the texts and comes only where they are no program. A [`linked::Linked`] borrows
+//! the functions and data of the texts and says what each name means by numbers, so that nothing later looks up a name.
+//!
+//! The work goes over the definitions once, with a look-up in a hash table for each definition and for each name that a text mentions.
+//!
+//! | Definitions | Subject |
+//! |---|---|
+//! | `specs/Names`, `specs/Main`, `specs/Limits` | what names mean; the function that a program begins with; limits over all texts |
+//! | `specs/Program`, `specs/Refusals` | when texts are a program; what a refusal says |
+//!
+//! # The image
 //!
 //! [`Image`] is what linking gives and what an executable file is written from: the instruction words of the code and the bytes of the data, with
 //! all names filled in by addresses. The crate fixes where both stand in memory.
@@ -14,9 +28,23 @@
 //! Every image keeps `IsImage` of `specs/Image.antt`: it has at least one word of code, its data is a multiple of [`SLOT`], 16, bytes, and all of it
 //! lies below `IMAGE_END`. Whoever makes an image shows this once, at [`Image::new`]; each reader hands it on.
 //!
-//! Clauses see an image as `Contents`: the list of its words and the list of its bytes. The crate stands on std alone.
+//! Clauses see an image as `Contents`: the list of its words and the list of its bytes.
+//!
+//! The crate stands on `il_ast` and `il_types`, and on `thiserror` for the texts of refusals.
 #![tactic(auto)]
 
+pub mod error;
+mod exports;
 mod image;
+pub mod laws;
+pub mod limits;
+pub mod linked;
+mod main_function;
+mod names;
+pub mod resolve;
+mod tables;
+mod targets;
+#[cfg(test)]
+mod tests;
 
 pub use image::{CODE_START, IMAGE_END, Image, PAGE, SLOT};

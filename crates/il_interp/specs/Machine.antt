@@ -1,0 +1,129 @@
+-- A machine that runs a program turn by turn, with a list of the activations that wait for a result.
+use Rattle.std.specs.Prelude.{ℕ, zero, suc, ◌-◌, nat_lt, if◌then◌else◌, List, [], ◌∷◌, ◌++◌, map, length, replicate, slice_get, slice_set, Option, Some, None}
+use Rattle.il_ast.specs.declared.operation.Class.TheVariants.{W, L}
+use Rattle.il_ast.specs.declared.operand.Dest.{Dest}
+use Rattle.il_ast.specs.declared.function.Param.{Param}
+use Rattle.il_ast.specs.declared.function.Func.{Func}
+use Rattle.il_ast.specs.declared.program.Placed.{Placed}
+use Rattle.il_ast.specs.declared.program.Program.{Program}
+use Rattle.il_ast.specs.declared.value.Callee.{Callee}
+use Rattle.il_ast.specs.declared.value.Callee.TheVariants.{Defined, SystemWrite, SystemExit}
+use Rattle.il_ast.specs.declared.value.Value.{Value}
+use Rattle.il_ast.specs.declared.value.End.{End}
+use Rattle.il_ast.specs.declared.value.End.TheVariants.{Undefined, Stack, Turns}
+use Rattle.il_ast.specs.Memory.{Memory}
+use Rattle.il_ast.specs.Cost.{need}
+use Rattle.il_ast.specs.Effect.{Env, Activation, Call, Effect, Goes, Calls, Returns, Ends, effect}
+use Rattle.il_ast.specs.Run.{Outcome, Returned, Ended, with_args}
+use Rattle.il_ast.specs.Start.{globals_of, start_memory}
+use Rattle.il_ast.specs.Meaning.{call_fits, write_call, exit_call, stack_room, main_call, end_of, Behaviour}
+use Rattle.il_interp.specs.declared.state.Frame.{Frame}
+use Rattle.il_interp.specs.declared.state.State.{State}
+
+-- what a turn leads to: the run goes on, or it is over, with its output
+pub data Next : Type 0 where
+  On : State → Next
+  Over : List ℕ → End → Next
+
+abbrev pub act_of : Frame → Activation
+act_of f = record { block = f.block; next = f.next; locals = record { temps = f.temps; owned = f.owned } }
+
+abbrev pub standing : Frame → Activation → Frame
+standing f a = record f { block = a.block; next = a.next; temps = a.locals.temps; owned = a.locals.owned }
+
+abbrev pub env_of : Program → Placed Func → Env
+env_of p f = record { func = f.item; globals = globals_of p f.text }
+
+-- ---- results of calls
+
+-- a result that is wanted is written, and one that is missing is undefined
+abbrev pub received : State → Option Dest → Option Value → Next
+received st None v = On st
+received st (Some to) None = Over st.output Undefined
+received st (Some to) (Some v) = On (record st { frame = record st.frame { temps = slice_set st.frame.temps to.temp (Some v) } })
+
+-- the return of the activation above these
+abbrev pub return_to : List ℕ → Memory → Option Value → List Frame → Next
+return_to out m v [] = Over out (end_of v)
+return_to out m v (f ∷ fs) = received (record { frame = f; below = fs; memory = m; output = out }) f.waits v
+
+-- ---- calls
+
+abbrev pub first_frame : ℕ → ℕ → Func → List Value → Frame
+first_frame k room f args =
+    record {
+      function = k;
+      room = room - need f;
+      block = 0;
+      next = 0;
+      temps = with_args (replicate (length f.temps) None) f.params args;
+      owned = [];
+      waits = None;
+    }
+
+abbrev pub entered : State → Option Dest → Call → ℕ → Func → State
+entered st to call k f =
+    record {
+      frame = first_frame k st.frame.room f call.args;
+      below = record st.frame { waits = to } ∷ st.below;
+      memory = st.memory;
+      output = st.output;
+    }
+
+abbrev pub function_step : State → Option Dest → Call → ℕ → Option (Placed Func) → Next
+function_step st to call k None = Over st.output Undefined
+function_step st to call k (Some f) =
+    if call_fits call (map (λ (x : Param). x.class) f.item.params) f.item.result
+    then (if nat_lt st.frame.room (need f.item) then Over st.output Stack else On (entered st to call k f.item))
+    else Over st.output Undefined
+
+abbrev pub native_step : State → Option Dest → Outcome → Next
+native_step st to (Returned s v m) = received (record st { memory = m; output = st.output ++ s.output }) to v
+native_step st to (Ended s e) = Over (st.output ++ s.output) e
+
+abbrev pub named_step : Program → State → Option Dest → Call → Callee → Next
+named_step p st to call (Defined k) = function_step st to call k (slice_get p.functions k)
+named_step p st to call SystemWrite =
+    if call_fits call (W ∷ L ∷ L ∷ []) (Some L) then native_step st to (write_call call.args st.memory) else Over st.output Undefined
+named_step p st to call SystemExit =
+    if call_fits call (W ∷ []) None then native_step st to (exit_call call.args) else Over st.output Undefined
+
+-- ---- turns
+
+abbrev pub react : Program → State → Effect → Next
+react p st (Goes w a m) = On (record st { frame = standing st.frame a; memory = m })
+react p st (Calls w call to a) = named_step p (record st { frame = standing st.frame a }) to call call.callee
+react p st (Returns v m) = return_to st.output m v st.below
+react p st (Ends e) = Over st.output e
+
+abbrev pub turn_in_function : Program → State → Option (Placed Func) → Next
+turn_in_function p st None = Over st.output Undefined
+turn_in_function p st (Some f) = react p st (effect (env_of p f) (act_of st.frame) st.memory)
+
+-- one turn
+unfoldable pub step : Program → State → Next
+step p st = turn_in_function p st (slice_get p.functions st.frame.function)
+
+abbrev pub go_on : (State → Behaviour) → Next → Behaviour
+go_on rest (On st) = rest st
+go_on rest (Over out e) = record { output = out; ending = e }
+
+-- so many turns
+unfoldable pub machine : Program → ℕ → State → Behaviour
+machine p zero st = record { output = st.output; ending = Turns }
+machine p (suc n) st = go_on (machine p n) (step p st)
+
+-- ---- the start
+
+abbrev pub main_frame : Memory → Call → ℕ → Option (Placed Func) → Next
+main_frame m call k None = Over [] Undefined
+main_frame m call k (Some f) =
+    if call_fits call (map (λ (x : Param). x.class) f.item.params) f.item.result
+    then (if nat_lt stack_room (need f.item)
+    then Over [] Stack
+    else On (record { frame = first_frame k stack_room f.item call.args; below = []; memory = m; output = [] }))
+    else Over [] Undefined
+
+-- `main` is called
+unfoldable pub started : Program → List (List ℕ) → Next
+started p words = main_frame (start_memory p words) (main_call p words) p.main (slice_get p.functions p.main)

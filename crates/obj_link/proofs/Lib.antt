@@ -1,0 +1,5 @@
+pub mod NameLemmas
+pub mod ExportLemmas
+pub mod TargetLemmas
+pub mod OwnLemmas
+pub mod ProgramLemmas

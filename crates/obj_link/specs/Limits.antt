@@ -1,0 +1,39 @@
+-- The limits over all texts of a program.
+use Rattle.std.specs.Prelude.{ℕ, ◌*◌, ◌^◌, Bool, nat_le, ◌&&◌, List, length}
+use Rattle.std.specs.List.{sum_by}
+use Rattle.il_ast.specs.declared.operation.Size.{Size}
+use Rattle.il_ast.specs.declared.datum.Item.{Item}
+use Rattle.il_ast.specs.declared.datum.Item.TheVariants.{Int, Bytes, Address}
+use Rattle.il_ast.specs.declared.datum.Field.{Field}
+use Rattle.il_ast.specs.declared.datum.Field.TheVariants.{Items, Zeros}
+use Rattle.il_ast.specs.declared.datum.DataDef.{DataDef}
+use Rattle.il_ast.specs.declared.function.Func.{Func}
+use Rattle.il_ast.specs.declared.program.Placed.{Placed}
+use Rattle.il_ast.specs.Values.{byte_count}
+use Rattle.il_ast.specs.Cost.{round_16, weight}
+use Rattle.il_types.specs.declared.checked.Checked.{Checked}
+
+-- how many bytes a datum has
+abbrev pub item_size : Size → Item → ℕ
+item_size size (Int n) = byte_count size
+item_size size (Bytes bytes) = length bytes
+item_size size (Address g offset) = 8
+
+abbrev pub field_size : Field → ℕ
+field_size (Items size items) = sum_by (item_size size) items
+field_size (Zeros n) = n
+
+abbrev pub object_size : DataDef → ℕ
+object_size d = sum_by field_size d.fields
+
+abbrev pub total_weight : List (Placed Func) → ℕ
+total_weight functions = sum_by (λ (f : Placed Func). weight f.item) functions
+
+-- the bytes of all data, each datum rounded up to 16
+abbrev pub total_size : List (Placed DataDef) → ℕ
+total_size objects = sum_by (λ (d : Placed DataDef). round_16 (object_size d.item)) objects
+
+abbrev pub within_limits : List Checked → List (Placed Func) → List (Placed DataDef) → Bool
+within_limits texts functions objects =
+    nat_le (length texts) 256
+    && (nat_le (length functions) 10000 && (nat_le (total_weight functions) 200000 && nat_le (total_size objects) (16 * 2 ^ 20)))
