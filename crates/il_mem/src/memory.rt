@@ -295,4 +295,22 @@ mod tests {
         assert_eq!(rt; memory.load(pointer(block, 4), Size::Long), None, "dead");
         Ok(())
     }
+
+    // Run with an allocation refused (`rt try --test --fail-alloc N`), this shows that what was there stays.
+    #[test]
+    fn refused_growth_changes_nothing(rt: HostRuntime) -> Result<(), Fail> {
+        let mut memory = BlockMemory::new(rt.alloc());
+        let Ok(block) = memory.fresh(8) else {
+            assert_eq!(rt; memory.made(), 0);
+            return Ok(());
+        };
+        let _ = memory.store(pointer(block, 0), Value::Integer(7), Size::Long);
+        match memory.fresh(16) {
+            Ok(id) => assert_eq!(rt; (id, memory.size(1)), (1, Some(16))),
+            Err(_) => assert_eq!(rt; (memory.made(), memory.size(1)), (1, None)),
+        }
+        let kept = memory.load(pointer(block, 0), Size::Long);
+        assert_eq!(rt; kept, Some(Value::Integer(7)));
+        Ok(())
+    }
 }
