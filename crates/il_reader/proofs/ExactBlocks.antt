@@ -32,10 +32,9 @@ use Rattle.il_reader.proofs.Exact.{Exact, said, weaker, bind, bind_before, sees_
 use Rattle.il_reader.proofs.Tokens.{label_exact}
 use Rattle.il_reader.proofs.Lists.{maybe_exact}
 use Rattle.il_reader.proofs.Jumps.{sees_word_of}
-use Rattle.il_reader.proofs.Instructions.{apart_ahead, destination_begins}
-use Rattle.il_reader.proofs.Choice.{word_no_temp}
+use Rattle.il_reader.proofs.KindTests.{apart}
 use Rattle.il_reader.proofs.Statements.{line_exact, LineGoesOn, line_ends_exact, on_line_exact, jump_line_exact}
-use Rattle.il_reader.proofs.ExactStatements.{Statements, statement_exact, made_exact}
+use Rattle.il_reader.proofs.ExactStatements.{word_no_temp, destination_begins, Statements, statement_exact, made_exact}
 use Rattle.il_reader.proofs.Shorter.{on_line_shortens, keeps, phi_shortens, instruction_keeps}
 
 -- ---- one line
@@ -50,19 +49,19 @@ same_phi p q x e f = let g : PhiLine p ≡ PhiLine q = e ∙ f in cc
 same_inst : (i j : Lined Inst) (x : Statement) → InstLine i ≡ x → x ≡ InstLine j → i ≡ j
 same_inst i j x e f = let g : InstLine i ≡ InstLine j = e ∙ f in cc
 
-apart : {A : Type 0} (p : Phi) (i : Lined Inst) (x : Statement) → PhiLine p ≡ x → x ≡ InstLine i → A
-apart p i x e f = let g : PhiLine p ≡ InstLine i = e ∙ f in absurd (cc)
+phi_is_no_inst : {A : Type 0} (p : Phi) (i : Lined Inst) (x : Statement) → PhiLine p ≡ x → x ≡ InstLine i → A
+phi_is_no_inst p i x e f = let g : PhiLine p ≡ InstLine i = e ∙ f in absurd (cc)
 
-apart' : {A : Type 0} (p : Phi) (i : Lined Inst) (x : Statement) → InstLine i ≡ x → x ≡ PhiLine p → A
-apart' p i x e f = let g : InstLine i ≡ PhiLine p = e ∙ f in absurd (cc)
+inst_is_no_phi : {A : Type 0} (p : Phi) (i : Lined Inst) (x : Statement) → InstLine i ≡ x → x ≡ PhiLine p → A
+inst_is_no_phi p i x e f = let g : InstLine i ≡ PhiLine p = e ∙ f in absurd (cc)
 
 there : (s : State) (x : Statement) (s' : State) → reads.on_line Statements s x s' → Line s x s'
 there s (PhiLine p) s' h = ⊎_elim
     (λ w. let same = same_phi p w.0 h.0 h.3.3.0 w.3.0 in
     (p, h.1, subst (λ m. grammar.phi s p m) (sym w.3.1) (subst (λ q. grammar.phi s q w.1) (sym same) w.2), (h.3.0, h.3.1, h.3.2, (refl, h.3.3.1))))
-    (λ w. apart p w.0 h.0 h.3.3.0 w.3.0) h.2
+    (λ w. phi_is_no_inst p w.0 h.0 h.3.3.0 w.3.0) h.2
 there s (InstLine i) s' h = ⊎_elim
-    (λ w. apart' w.0 i h.0 h.3.3.0 w.3.0)
+    (λ w. inst_is_no_phi w.0 i h.0 h.3.3.0 w.3.0)
     (λ w. let same = same_inst i w.0 h.0 h.3.3.0 w.3.0 in
     (i, h.1, subst (λ m. grammar.instruction s i m) (sym w.3.1) (subst (λ q. grammar.instruction s q w.1) (sym same) w.2), (h.3.0, h.3.1, h.3.2, (refl, h.3.3.1)))) h.2
 
@@ -217,32 +216,16 @@ ends_block _ = false
 abbrev pub BlockEnds : State → Type 0
 BlockEnds s = step.sees ends_block s ≡ true
 
-pub ends_no_word : (k : Kind) → ends_block k ≡ true → reading.is_word k ≡ false
-ends_no_word (Symbol m) h = refl
-ends_no_word Newline h = refl
-ends_no_word WordKind h = absurd (false≢true h)
-ends_no_word GlobalKind h = refl
-ends_no_word TempKind h = refl
-ends_no_word LabelKind h = refl
-ends_no_word (Natural n) h = refl
-ends_no_word (Negative n) h = refl
-ends_no_word Quoted h = refl
+pub ends_no_word : (s : State) → BlockEnds s → step.sees reading.is_word s ≡ false
+ends_no_word s h = apart ends_block reading.is_word (refl, refl, refl, refl, refl, refl, refl, refl, refl, refl, refl, refl, λ n. refl, λ n. refl, refl) s h
 
-ends_no_newline : (k : Kind) → ends_block k ≡ true → reading.is_newline k ≡ false
-ends_no_newline (Symbol m) h = refl
-ends_no_newline Newline h = absurd (false≢true h)
-ends_no_newline WordKind h = refl
-ends_no_newline GlobalKind h = refl
-ends_no_newline TempKind h = refl
-ends_no_newline LabelKind h = refl
-ends_no_newline (Natural n) h = refl
-ends_no_newline (Negative n) h = refl
-ends_no_newline Quoted h = refl
+ends_no_newline : (s : State) → BlockEnds s → LineGoesOn s
+ends_no_newline s h = apart ends_block reading.is_newline (refl, refl, refl, refl, refl, refl, refl, refl, refl, refl, refl, refl, λ n. refl, λ n. refl, refl) s h
 
 block_end_stops : (s : State) → BlockEnds s → Stops s
 block_end_stops s h = record {
   no_statement = at (scan s.rest) h;
-  goes_on = apart_ahead ends_block reading.is_newline ends_no_newline (scan s.rest) h;
+  goes_on = ends_no_newline s h;
 }
   where
     kind : (k : Kind) (gap len : ℕ) → ends_block k ≡ true → SeesOf (λ text. not (blocks.is_jump text)) s.rest (Found k gap len) ≡ false
@@ -282,7 +265,7 @@ end_stops s (Some j) s' h f = (jump_begins s j s' h).1
 end_exact : Exact (step.maybe (step.sees reading.is_word) (reading.on_line (reading.lined reading.jump))) (rule.maybe (reads.on_line grammar.jump)) BlockEnds
 end_exact = maybe_exact (step.sees reading.is_word) (reading.on_line (reading.lined reading.jump)) (reads.on_line grammar.jump) BlockEnds
     (λ s j s' h. (jump_begins s j s' h).0)
-    (λ s h. apart_ahead ends_block reading.is_word ends_no_word (scan s.rest) h)
+    ends_no_word
     (weaker (reading.on_line (reading.lined reading.jump)) (reads.on_line grammar.jump) LineGoesOn BlockEnds (λ s h. (block_end_stops s h).goes_on) jump_line_exact)
 
 abbrev Whole : rule.Rule Block

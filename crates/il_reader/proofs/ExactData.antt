@@ -40,10 +40,6 @@ spaced_exact p r e =
 pub spaced_shortens : {A : Type 0} (r : rule.Rule A) → Shortens r → Shortens (reads.spaced r)
 spaced_shortens r h = first_shortens r _ h λ x. then_keeps rule.newlines _ newlines_keep λ _. give_keeps x
 
--- a word, and a symbol, go on the line
-word_goes_on : (s : State) (text : List ℕ) (s' : State) → rule.token WordKind s text s' → LineGoesOn s
-word_goes_on s text s' h = sees_token reading.is_newline WordKind s text s' h
-
 -- ---- items
 
 -- what comes behind an item

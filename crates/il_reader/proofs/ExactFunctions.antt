@@ -5,7 +5,6 @@ use Rattle.std.proofs.lemmas.Option.{some_pair_parts}
 use Rattle.il_lex.specs.declared.kind.Symbol.TheVariants.{Comma, LeftBrace, RightBrace, LeftParen, RightParen}
 use Rattle.il_lex.specs.declared.kind.Kind.{Kind}
 use Rattle.il_lex.specs.declared.kind.Kind.TheVariants.{Symbol, Global as GlobalKind, Label as LabelKind, Word as WordKind}
-use Rattle.il_lex.specs.Scan.{scan}
 use Rattle.il_ast.specs.declared.operation.Class.{Class}
 use Rattle.il_ast.specs.declared.block.Block.{Block}
 use Rattle.il_ast.specs.declared.function.Param.{Param}
@@ -24,9 +23,9 @@ use Rattle.il_reader.specs.Definitions as definitions
 use Rattle.il_reader.specs.Definitions.{FunctionParts, function_parts}
 use Rattle.il_reader.proofs.Exact.{Exact, Anything, give_exact, weaker, bind, bind_before, sees_token, many_exact}
 use Rattle.il_reader.proofs.Tokens.{word_exact, piece_exact, temp_exact, symbol_exact}
-use Rattle.il_reader.proofs.Lists.{maybe_exact, commas_exact}
+use Rattle.il_reader.proofs.Lists.{or_nothing, maybe_exact, commas_exact}
 use Rattle.il_reader.proofs.Operands.{class_exact}
-use Rattle.il_reader.proofs.Instructions.{Closing, is_closing, closing_no_comma, closing_no_word, apart_ahead, comma_begins, comma_less, or_nothing}
+use Rattle.il_reader.proofs.ArgumentLists.{Closing, is_closing, closing_no_comma, closing_no_word, comma_begins}
 use Rattle.il_reader.proofs.Statements.{line_exact, LineGoesOn, line_ends_exact, newlines_exact}
 use Rattle.il_reader.proofs.ExactStatements.{made_exact}
 use Rattle.il_reader.proofs.ExactBlocks.{ends_block, BlockEnds, block_exact}
@@ -57,12 +56,12 @@ parameter_shortens =
 parameters_exact : Exact definitions.parameters (rule.listed grammar.comma reads.parameter) Closing
 parameters_exact = or_nothing (step.sees reading.is_word) _ _ [] Closing
     (λ s xs s' h. parameter_begins s h.0 h.1 h.2)
-    (λ s h. apart_ahead is_closing reading.is_word closing_no_word (scan s.rest) h)
+    closing_no_word
     (commas_exact (step.sees reading.is_comma) (step.sees reading.is_word) reading.comma grammar.comma definitions.parameter reads.parameter Anything Anything Closing
     comma_begins parameter_begins
-    (λ s h. apart_ahead is_closing reading.is_comma closing_no_comma (scan s.rest) h)
-    (λ s h. apart_ahead is_closing reading.is_word closing_no_word (scan s.rest) h)
-    comma_less parameter_shortens.less (λ s h. tt) (λ s h. tt) (λ s h. tt) (λ s h. tt)
+    closing_no_comma
+    closing_no_word
+    (piece_shortens Comma).less parameter_shortens.less (λ s h. tt) (λ s h. tt) (λ s h. tt) (λ s h. tt)
     (piece_exact Comma) parameter_exact)
 
 abbrev pub Params : rule.Rule (List Param)

@@ -1,12 +1,12 @@
 -- A line of a block before its jump, read with a look at no more than the next token.
-use Rattle.std.proofs.Common.{◌≡◌, ◌⊎◌, inl, inr, ℕ, false, List, [], ◌∷◌, ◌++◌, Option, Some, None, refl, sym, ap, ◌∙◌, ⊎_elim, subst}
+use Rattle.std.proofs.Common.{◌≡◌, ◌⊎◌, inl, inr, ℕ, false, List, [], ◌∷◌, ◌++◌, Option, Some, None, refl, sym, ap, ◌∙◌, ⊎_elim, subst, true}
 use Rattle.std.specs.Prelude.{nat_eq, codes, is_some}
 use Rattle.std.specs.Option.{option_map}
 use Rattle.std.specs.Cmp.Lexicographic.{pointwise, bytes_decides}
 use Rattle.std.proofs.lemmas.Option.{same_Some, none-some}
 use Rattle.il_lex.proofs.Runs.{cond_cases}
 use Rattle.il_lex.specs.declared.kind.Symbol.TheVariants.{LeftParen, RightParen, Comma}
-use Rattle.il_lex.specs.declared.kind.Kind.TheVariants.{Symbol, Word as WordKind}
+use Rattle.il_lex.specs.declared.kind.Kind.TheVariants.{Symbol, Word as WordKind, Temp as TempKind}
 use Rattle.il_ast.specs.declared.operation.Class.TheVariants.{W, L}
 use Rattle.il_ast.specs.declared.operation.Extension.TheVariants.{SignedWord, UnsignedWord, SignedHalf, UnsignedHalf, SignedByte, UnsignedByte}
 use Rattle.il_ast.specs.declared.operation.UnaryOp.{UnaryOp}
@@ -15,6 +15,8 @@ use Rattle.il_ast.specs.declared.operation.Condition.TheVariants.{Equal, NotEqua
 use Rattle.il_ast.specs.declared.operation.BinaryOp.{BinaryOp}
 use Rattle.il_ast.specs.declared.operation.BinaryOp.TheVariants.{Add, Sub, Mul, And, Or, Xor, Div, Rem, Udiv, Urem, Sar, Shr, Shl, Compare}
 use Rattle.il_ast.specs.declared.operation.Alignment.{Alignment}
+use Rattle.il_ast.specs.declared.operation.Size.{Size}
+use Rattle.il_ast.specs.declared.operation.Size.TheVariants.{Byte, Half, Word, Long}
 use Rattle.il_ast.specs.declared.operation.Alignment.TheVariants.{Four, Eight, Sixteen}
 use Rattle.il_ast.specs.declared.operand.Dest.{Dest}
 use Rattle.il_ast.specs.declared.instruction.Inst.{Inst}
@@ -34,9 +36,22 @@ use Rattle.il_reader.proofs.Exact.{Exact, Anything, give_exact, said, weaker, bi
 use Rattle.il_reader.proofs.Tokens.{keyword_from, word_exact, piece_exact, natural_exact}
 use Rattle.il_reader.proofs.Operands.{table_sound, value_exact, destination_exact}
 use Rattle.il_reader.proofs.Jumps.{unary_sound, sees_word_of, storing_exact, blit_exact, LineEnds}
-use Rattle.il_reader.proofs.Instructions.{Closing, is_closing, arguments_exact, destination_begins}
-use Rattle.il_reader.proofs.Choice.{store_head, word_no_temp}
+use Rattle.il_reader.proofs.ArgumentLists.{Closing, is_closing, arguments_exact}
 use Rattle.il_reader.proofs.Statements.{line_exact, phi_arguments_exact}
+
+-- ---- how lines begin
+
+pub destination_begins : (s : State) (d : Dest) (s' : State) → grammar.destination s d s' → step.sees reading.is_temp s ≡ true
+destination_begins s d s' h = sees_token reading.is_temp TempKind s (37 ∷ h.2.0) h.2.1 h.2.2
+
+pub word_no_temp : (s : State) (text : List ℕ) (s' : State) → rule.token WordKind s text s' → step.sees reading.is_temp s ≡ false
+word_no_temp s text s' h = sees_token reading.is_temp WordKind s text s' h
+
+store_head : (c : Size) → is_some (reading.store_of (store_word c)) ≡ true
+store_head Byte = refl
+store_head Half = refl
+store_head Word = refl
+store_head Long = refl
 
 -- ---- the word behind a destination
 

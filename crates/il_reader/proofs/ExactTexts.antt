@@ -25,8 +25,7 @@ use Rattle.il_reader.specs.Definitions as definitions
 use Rattle.il_reader.specs.Definitions.{FunctionParts, DefinitionParts, FunctionOf, ObjectOf, definition_parts, function_parts, TextParts, text_parts, text_step}
 use Rattle.il_reader.proofs.Exact.{Exact, Anything, weaker, bind, bind_before, either_exact, sees_token}
 use Rattle.il_reader.proofs.Tokens.{word_exact}
-use Rattle.il_reader.proofs.Lists.{commas_exact}
-use Rattle.il_reader.proofs.Instructions.{or_nothing}
+use Rattle.il_reader.proofs.Lists.{or_nothing, commas_exact}
 use Rattle.il_reader.proofs.Jumps.{sees_word_of}
 use Rattle.il_reader.proofs.Statements.{LineGoesOn, newlines_exact, line_ends_exact}
 use Rattle.il_reader.proofs.ExactStatements.{made_exact}
@@ -263,11 +262,6 @@ at_end : (rest : List ℕ) (a : Ahead) → IsAhead rest a → definitions.is_end
 at_end rest End h e = h
 at_end rest Bad h e = absurd (false≢true e)
 at_end rest (Found kind gap len) h e = absurd (false≢true e)
-
-end_scan : (a : Ahead) → definitions.is_end a ≡ true → a ≡ End
-end_scan End e = refl
-end_scan Bad e = absurd (false≢true e)
-end_scan (Found kind gap len) e = absurd (false≢true e)
 
 -- what has these parts is read
 pub text_sound : (bytes : List ℕ) (t : Text) → text_step bytes ≡ Some (text_parts t) → Reads bytes t

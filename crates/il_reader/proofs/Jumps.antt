@@ -7,91 +7,26 @@ use Rattle.std.proofs.lemmas.Option.{same_Some}
 use Rattle.il_lex.proofs.Runs.{cond_cases}
 use Rattle.il_lex.proofs.Exact.{next_complete}
 use Rattle.il_lex.specs.declared.kind.Symbol.TheVariants.{Comma}
-use Rattle.il_lex.specs.declared.kind.Kind.{Kind}
-use Rattle.il_lex.specs.declared.kind.Kind.TheVariants.{Symbol as Mark, Natural, Negative, Temp as TempKind, Global as GlobalKind, Label as LabelKind, Word as WordKind, Quoted, Newline}
-use Rattle.il_lex.specs.declared.scan.Ahead.{Ahead}
-use Rattle.il_lex.specs.declared.scan.Ahead.TheVariants.{End, Bad, Found}
-use Rattle.il_lex.specs.Scan.{scan}
-use Rattle.std.proofs.lemmas.Bool.{false≢true}
-use Rattle.il_ast.specs.declared.operation.Class.TheVariants.{W, L}
+use Rattle.il_lex.specs.declared.kind.Kind.TheVariants.{Temp as TempKind, Global as GlobalKind, Word as WordKind}
 use Rattle.il_ast.specs.declared.operation.Extension.TheVariants.{SignedWord, UnsignedWord, SignedHalf, UnsignedHalf, SignedByte, UnsignedByte}
 use Rattle.il_ast.specs.declared.operation.UnaryOp.{UnaryOp}
 use Rattle.il_ast.specs.declared.operation.UnaryOp.TheVariants.{Neg, Copy, Extend, LoadLong, Load}
-use Rattle.il_ast.specs.declared.operation.Condition.TheVariants.{Equal, NotEqual, SignedLessEqual, SignedLess, SignedGreaterEqual, SignedGreater, UnsignedLessEqual, UnsignedLess, UnsignedGreaterEqual, UnsignedGreater}
-use Rattle.il_ast.specs.declared.operation.BinaryOp.{BinaryOp}
-use Rattle.il_ast.specs.declared.operation.BinaryOp.TheVariants.{Add, Sub, Mul, And, Or, Xor, Div, Rem, Udiv, Urem, Sar, Shr, Shl, Compare}
 use Rattle.il_ast.specs.declared.operand.Val.{Val}
 use Rattle.il_ast.specs.declared.instruction.Inst.TheVariants.{Store, Blit}
 use Rattle.il_ast.specs.declared.instruction.Jump.TheVariants.{Goto, Branch, Return, Halt}
 use Rattle.il_reader.specs.State.{State}
-use Rattle.il_reader.specs.Words.{unary_word, binary_word}
+use Rattle.il_reader.specs.Words.{unary_word}
 use Rattle.il_reader.specs.Rules as rule
 use Rattle.il_reader.specs.Grammar as grammar
 use Rattle.il_reader.specs.Steps as step
 use Rattle.il_reader.specs.Reading as reading
-use Rattle.il_reader.proofs.Exact.{Exact, Anything, give_exact, said, weaker, bind, bind_before, either_exact, choose_exact, chosen, sees_token}
-use Rattle.il_reader.proofs.Tokens.{spelled_exact, keyword_from, word_exact, piece_exact, natural_exact, label_exact}
+use Rattle.il_reader.proofs.Exact.{Exact, Anything, give_exact, weaker, bind, bind_before, either_exact, sees_token}
+use Rattle.il_reader.proofs.Tokens.{word_exact, piece_exact, natural_exact, label_exact}
 use Rattle.il_reader.proofs.Lists.{maybe_exact}
+use Rattle.il_reader.proofs.KindTests.{apart}
 use Rattle.il_reader.proofs.Operands.{table_sound, value_exact, store_exact, integer_sees}
 
 -- the words of operations
-
-binary_found : (op : BinaryOp) → reading.binary_of (binary_word op) ≡ Some op
-binary_found Add = refl
-binary_found Sub = refl
-binary_found Mul = refl
-binary_found And = refl
-binary_found Or = refl
-binary_found Xor = refl
-binary_found Div = refl
-binary_found Rem = refl
-binary_found Udiv = refl
-binary_found Urem = refl
-binary_found Sar = refl
-binary_found Shr = refl
-binary_found Shl = refl
-binary_found (Compare Equal W) = refl
-binary_found (Compare NotEqual W) = refl
-binary_found (Compare SignedLessEqual W) = refl
-binary_found (Compare SignedLess W) = refl
-binary_found (Compare SignedGreaterEqual W) = refl
-binary_found (Compare SignedGreater W) = refl
-binary_found (Compare UnsignedLessEqual W) = refl
-binary_found (Compare UnsignedLess W) = refl
-binary_found (Compare UnsignedGreaterEqual W) = refl
-binary_found (Compare UnsignedGreater W) = refl
-binary_found (Compare Equal L) = refl
-binary_found (Compare NotEqual L) = refl
-binary_found (Compare SignedLessEqual L) = refl
-binary_found (Compare SignedLess L) = refl
-binary_found (Compare SignedGreaterEqual L) = refl
-binary_found (Compare SignedGreater L) = refl
-binary_found (Compare UnsignedLessEqual L) = refl
-binary_found (Compare UnsignedLess L) = refl
-binary_found (Compare UnsignedGreaterEqual L) = refl
-binary_found (Compare UnsignedGreater L) = refl
-
-pub binary_operation_exact : Exact (step.keyword reading.binary_of) grammar.binary_operation Anything
-binary_operation_exact = spelled_exact binary_word reading.binary_of
-    (table_sound binary_word (Add ∷ Sub ∷ Mul ∷ And ∷ Or ∷ Xor ∷ Div ∷ Rem ∷ Udiv ∷ Urem ∷ Sar ∷ Shr ∷ Shl ∷ (reading.compared W ++ reading.compared L)))
-    binary_found
-
-unary_found : (op : UnaryOp) → reading.unary_of (unary_word op) ≡ Some op
-unary_found Neg = refl
-unary_found Copy = refl
-unary_found (Extend SignedWord) = refl
-unary_found (Extend UnsignedWord) = refl
-unary_found (Extend SignedHalf) = refl
-unary_found (Extend UnsignedHalf) = refl
-unary_found (Extend SignedByte) = refl
-unary_found (Extend UnsignedByte) = refl
-unary_found LoadLong = refl
-unary_found (Load SignedWord) = refl
-unary_found (Load UnsignedWord) = refl
-unary_found (Load SignedHalf) = refl
-unary_found (Load UnsignedHalf) = refl
-unary_found (Load SignedByte) = refl
-unary_found (Load UnsignedByte) = refl
 
 abbrev unary_rows : List UnaryOp
 unary_rows = Neg ∷ Copy
@@ -104,17 +39,6 @@ unary_sound text op e =
     (λ t h. inr (sym (same_Some (Load SignedWord) op h), (bytes_decides text (codes "loadw")).0 t))
     (λ n h. inl (table_sound unary_word unary_rows text op h)) e
 
-pub unary_operation_exact : Exact (step.keyword reading.unary_of) grammar.unary_operation Anything
-unary_operation_exact = said (step.keyword reading.unary_of) (chosen (step.word_test reading.unary_of)) grammar.unary_operation Anything
-    (λ s op s' h.
-    let parts = keyword_from reading.unary_of h.0 h.1 op h.3 in
-    let t : rule.token WordKind s h.1 s' = subst (λ kind. rule.token kind s h.1 s') parts.0 h.2 in
-    ⊎_elim (λ e. inl (subst (λ text. rule.token WordKind s text s') e t)) (λ w. inr (w.0, subst (λ text. rule.token WordKind s text s') w.1 t)) (unary_sound h.1 op parts.1))
-    (λ s op s' h. ⊎_elim
-    (λ w. (WordKind, unary_word op, w, unary_found op))
-    (λ w. (WordKind, codes "loadw", w.1, ap Some (sym w.0))) h)
-    (choose_exact (step.word_test reading.unary_of))
-
 -- what the next word is where a word is read
 pub sees_word_of : (test : List ℕ → Bool) (s : State) (text : List ℕ) (s' : State) → rule.token WordKind s text s' → reading.sees_word test s ≡ test text
 sees_word_of test s text s' h =
@@ -123,12 +47,8 @@ sees_word_of test s text s' h =
     ∙ ap test (ap (take (length text)) later ∙ take_at text h.1 (length text) refl)
 
 -- the end of a line comes next
-abbrev pub is_newline : Kind → Bool
-is_newline Newline = true
-is_newline _ = false
-
 abbrev pub LineEnds : State → Type 0
-LineEnds s = step.sees is_newline s ≡ true
+LineEnds s = step.sees reading.is_newline s ≡ true
 
 pub storing_exact : Exact reading.storing grammar.storing Anything
 storing_exact =
@@ -165,24 +85,8 @@ branch_exact =
     give_exact (Branch v nonzero otherwise)
 
 -- no value begins where a line ends
-newline_no_value : (kind : Kind) → is_newline kind ≡ true → reading.is_value kind ≡ false
-newline_no_value (Mark m) h = refl
-newline_no_value Newline h = refl
-newline_no_value WordKind h = refl
-newline_no_value GlobalKind h = absurd (false≢true h)
-newline_no_value TempKind h = absurd (false≢true h)
-newline_no_value LabelKind h = refl
-newline_no_value (Natural n) h = absurd (false≢true h)
-newline_no_value (Negative n) h = absurd (false≢true h)
-newline_no_value Quoted h = refl
-
-no_value_ahead : (a : Ahead) → step.kind_is is_newline a ≡ true → step.kind_is reading.is_value a ≡ false
-no_value_ahead End h = refl
-no_value_ahead Bad h = refl
-no_value_ahead (Found kind gap len) h = newline_no_value kind h
-
 no_value : (s : State) → LineEnds s → step.sees reading.is_value s ≡ false
-no_value s h = no_value_ahead (scan s.rest) h
+no_value s h = apart reading.is_newline reading.is_value (refl, refl, refl, refl, refl, refl, refl, refl, refl, refl, refl, refl, λ n. refl, λ n. refl, refl) s h
 
 value_begins : (s : State) (v : Val) (s' : State) → grammar.value s v s' → step.sees reading.is_value s ≡ true
 value_begins s v s' h = ⊎_elim

@@ -3,8 +3,7 @@ pub mod Tokens
 pub mod Lists
 pub mod Operands
 pub mod Jumps
-pub mod Instructions
-pub mod Choice
+pub mod ArgumentLists
 pub mod Statements
 pub mod Interning
 pub mod LookAhead

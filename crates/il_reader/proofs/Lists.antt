@@ -1,5 +1,5 @@
 -- Lists with commas, and what may be left out.
-use Rattle.std.proofs.Common.{◌≡◌, ℕ, zero, suc, ◌<◌, Bool, true, false, cond, List, [], ◌∷◌, length, Option, Some, None, refl, sym, ap, ◌∙◌, arith, subst}
+use Rattle.std.proofs.Common.{◌≡◌, inl, inr, ⊎_elim, ℕ, zero, suc, ◌<◌, Bool, true, false, cond, List, [], ◌∷◌, length, Option, Some, None, refl, sym, ap, ◌∙◌, arith, subst}
 use Rattle.std.specs.Prelude.{option_and_then}
 use Rattle.std.proofs.lemmas.Option.{option_and_then_some, some_pair_parts, none-some}
 use Rattle.il_lex.proofs.Runs.{cond_cases}
@@ -29,6 +29,19 @@ maybe_exact {A} look p r Follow begins ends e = record {
     complete s (Some x) s' h f =
         ap (λ b. cond b (option_and_then (λ x. Some (Some x.0, x.1)) (p s)) (Some (None, s))) (begins s x s' h)
         ∙ ap (option_and_then (λ x. Some (Some x.0, x.1))) (e.complete s x s' h f)
+
+-- a rule, or nothing with this value
+pub or_nothing : {A : Type 0} (look : State → Bool) (p : step.Step A) (r : rule.Rule A) (x : A) (Follow : State → Type 0)
+    → ((s : State) (y : A) (s' : State) → r s y s' → look s ≡ true) → ((s : State) → Follow s → look s ≡ false) → Exact p r Follow
+    → Exact (λ s. cond (look s) (p s) (Some (x, s))) (rule.◌∥◌ r (rule.give x)) Follow
+or_nothing look p r x Follow begins ends e = record {
+  sound = λ s y s' h. cond_cases (λ q. q ≡ Some (y, s') → rule.◌∥◌ r (rule.give x) s y s') (look s) (p s) (Some (x, s))
+      (λ t f. inl (e.sound s y s' f))
+      (λ n f. let parts = some_pair_parts x y s s' f in inr (sym parts.0, sym parts.1)) h;
+  complete = λ s y s' h f. ⊎_elim
+      (λ w. ap (λ b. cond b (p s) (Some (x, s))) (begins s y s' w) ∙ e.complete s y s' w f)
+      (λ w. ap (λ b. cond b (p s) (Some (x, s))) (ends s (subst Follow w.1 f)) ∙ ap (λ z. Some (z, s)) (sym w.0) ∙ ap (λ m. Some (y, m)) (sym w.1)) h;
+}
 
 module _ {A : Type 0} (is_comma begins : State → Bool) (comma : step.Step (Unit {0})) (rc : rule.Rule (Unit {0})) (p : step.Step A) (r : rule.Rule A)
     (BeforeItem BeforeComma Follow : State → Type 0)

@@ -11,11 +11,9 @@ use Rattle.il_ast.specs.declared.operation.Class.{Class}
 use Rattle.il_ast.specs.declared.operation.Class.TheVariants.{W, L}
 use Rattle.il_ast.specs.declared.operation.Size.{Size}
 use Rattle.il_ast.specs.declared.operation.Size.TheVariants.{Byte, Half, Word, Long}
-use Rattle.il_ast.specs.declared.operation.Alignment.{Alignment}
-use Rattle.il_ast.specs.declared.operation.Alignment.TheVariants.{Four, Eight, Sixteen}
 use Rattle.il_ast.specs.declared.operand.Val.TheVariants.{Int, Temp, Global}
 use Rattle.il_reader.specs.State.{State}
-use Rattle.il_reader.specs.Words.{class_word, size_word, alloc_word, store_word}
+use Rattle.il_reader.specs.Words.{class_word, size_word, store_word}
 use Rattle.il_reader.specs.Rules as rule
 use Rattle.il_reader.specs.Grammar as grammar
 use Rattle.il_reader.specs.Steps as step
@@ -40,11 +38,6 @@ size_found Half = refl
 size_found Word = refl
 size_found Long = refl
 
-alloc_found : (a : Alignment) → reading.alloc_of (alloc_word a) ≡ Some a
-alloc_found Four = refl
-alloc_found Eight = refl
-alloc_found Sixteen = refl
-
 store_found : (c : Size) → reading.store_of (store_word c) ≡ Some c
 store_found Byte = refl
 store_found Half = refl
@@ -56,9 +49,6 @@ class_exact = spelled_exact class_word reading.class_of (table_sound class_word 
 
 pub size_exact : Exact (step.keyword reading.size_of) (spelled size_word) Anything
 size_exact = spelled_exact size_word reading.size_of (table_sound size_word (Byte ∷ Half ∷ Word ∷ Long ∷ [])) size_found
-
-pub alloc_exact : Exact (step.keyword reading.alloc_of) grammar.alloc Anything
-alloc_exact = spelled_exact alloc_word reading.alloc_of (table_sound alloc_word (Four ∷ Eight ∷ Sixteen ∷ [])) alloc_found
 
 pub store_exact : Exact (step.keyword reading.store_of) grammar.store Anything
 store_exact = spelled_exact store_word reading.store_of (table_sound store_word (Byte ∷ Half ∷ Word ∷ Long ∷ [])) store_found
