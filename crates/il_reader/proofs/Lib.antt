@@ -26,3 +26,4 @@ pub mod Definers
 pub mod Namings
 pub mod MentionedNames
 pub mod Ordered
+pub mod Computed

@@ -12,3 +12,4 @@ pub mod Blocks
 pub mod Definitions
 pub mod Gives
 pub mod Laws
+pub mod Examples
