@@ -27,3 +27,4 @@ pub mod Namings
 pub mod MentionedNames
 pub mod Ordered
 pub mod Computed
+pub mod WholeText

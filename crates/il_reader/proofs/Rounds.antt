@@ -1,6 +1,7 @@
 -- One round of the loops that read lists.
-use Rattle.std.proofs.Common.{◌≡◌, ℕ, suc, ◌+◌, ◌-◌, ◌<◌, Bool, true, cond, List, [], ◌∷◌, ◌++◌, Option, Some, None, refl, sym, ap, ◌∙◌, arith, append_assoc, length}
+use Rattle.std.proofs.Common.{◌≡◌, ℕ, suc, ◌+◌, ◌-◌, ◌<◌, Bool, true, false, cond, List, [], ◌∷◌, ◌++◌, Option, Some, None, refl, sym, ap, ◌∙◌, arith, append_assoc, length}
 use Rattle.std.specs.Prelude.{option_and_then}
+use Rattle.std.proofs.lemmas.List.{append-nil}
 use Rattle.std.proofs.lemmas.Option.{some_pair_parts}
 use Rattle.il_reader.specs.State.{State}
 use Rattle.il_reader.specs.Steps.{Step, repeated, separated, commas}
@@ -80,3 +81,45 @@ some_pushed look p ys s m e =
     let more = λ (t : State). repeated (suc (length t.rest)) look p t in
     sym (nothing_before (option_and_then (λ x. option_and_then (λ xs. Some (x.0 ∷ xs.0, xs.1)) (more x.1)) (p s)))
     ∙ one_round [] ys (p s) m more e
+
+pub appended_none : {A : Type 0} (xs : List A) (o : Option (List A × State)) → appended xs o ≡ None → o ≡ None
+appended_none xs None e = refl
+appended_none xs (Some x) e = let h : Some (xs ++ x.0, x.1) ≡ None = e in cc
+
+-- nothing stands behind the last comma
+pub separated_last : {A : Type 0} (n i : ℕ) (is_comma : State → Bool) (comma : Step (Unit {0})) (begins : State → Bool) (p : Step A) (xs : List A) (s m : State)
+    → i < n → is_comma s ≡ true → comma s ≡ Some (tt, m) → begins m ≡ false
+    → appended xs (separated (n - i) is_comma comma begins p s) ≡ Some (xs, m)
+separated_last n i is_comma comma begins p xs s m h l c b =
+    let k = n - (i + 1) in
+    let read = λ (m : State). option_and_then (λ x. option_and_then (λ zs. Some (x.0 ∷ zs.0, zs.1)) (separated k is_comma comma begins p x.1)) (p m) in
+    let item = λ (c : Unit {0} × State). cond (begins c.1) (read c.1) (Some ([], c.1)) in
+    ap (λ j. appended xs (separated j is_comma comma begins p s)) (less_one n i h)
+    ∙ ap (λ b. appended xs (cond b (option_and_then item (comma s)) (Some ([], s)))) l
+    ∙ ap (λ o. appended xs (option_and_then item o)) c
+    ∙ ap (λ b. appended xs (cond b (read m) (Some ([], m)))) b
+    ∙ ap (λ ys. Some (ys, m)) (append-nil xs)
+
+pub separated_no_comma : {A : Type 0} (n i : ℕ) (is_comma : State → Bool) (comma : Step (Unit {0})) (begins : State → Bool) (p : Step A) (s : State)
+    → i < n → is_comma s ≡ true → comma s ≡ None
+    → separated (n - i) is_comma comma begins p s ≡ None
+separated_no_comma n i is_comma comma begins p s h l c =
+    let k = n - (i + 1) in
+    let read = λ (m : State). option_and_then (λ x. option_and_then (λ zs. Some (x.0 ∷ zs.0, zs.1)) (separated k is_comma comma begins p x.1)) (p m) in
+    let item = λ (c : Unit {0} × State). cond (begins c.1) (read c.1) (Some ([], c.1)) in
+    ap (λ j. separated j is_comma comma begins p s) (less_one n i h)
+    ∙ ap (λ b. cond b (option_and_then item (comma s)) (Some ([], s))) l
+    ∙ ap (option_and_then item) c
+
+pub separated_no_item : {A : Type 0} (n i : ℕ) (is_comma : State → Bool) (comma : Step (Unit {0})) (begins : State → Bool) (p : Step A) (s m : State)
+    → i < n → is_comma s ≡ true → comma s ≡ Some (tt, m) → begins m ≡ true → p m ≡ None
+    → separated (n - i) is_comma comma begins p s ≡ None
+separated_no_item {A} n i is_comma comma begins p s m h l c b e =
+    let k = n - (i + 1) in
+    let more = λ (o : Option (A × State)). option_and_then (λ x. option_and_then (λ zs. Some (x.0 ∷ zs.0, zs.1)) (separated k is_comma comma begins p x.1)) o in
+    let item = λ (c : Unit {0} × State). cond (begins c.1) (more (p c.1)) (Some ([], c.1)) in
+    ap (λ j. separated j is_comma comma begins p s) (less_one n i h)
+    ∙ ap (λ b. cond b (option_and_then item (comma s)) (Some ([], s))) l
+    ∙ ap (option_and_then item) c
+    ∙ ap (λ b. cond b (more (p m)) (Some ([], m))) b
+    ∙ ap more e

@@ -1,21 +1,24 @@
 -- What a function of the reader answers.
-use Rattle.std.specs.Prelude.{◌≡◌, ℕ, Bool, true, false, if◌then◌else◌, List, [], ◌∷◌, ◌++◌, Option, Some, None, option_and_then, Result}
+use Rattle.std.specs.Prelude.{◌≡◌, ℕ, Bool, true, false, if◌then◌else◌, List, [], ◌∷◌, ◌++◌, map, Option, Some, None, option_and_then, Result}
 use Rattle.std.specs.Borrow.{Bor}
 use Rattle.std.specs.Option.{option_map}
 use Rattle.std.specs.Result.{MatchResult}
 use Rattle.il_reader.specs.declared.fault.Fault.{Fault}
 use Rattle.il_reader.specs.declared.fault.Fault.TheVariants.{Syntax}
+use Rattle.il_lex.specs.Scan.{scan}
 use Rattle.il_ast.specs.declared.block.Phi.{Phi}
 use Rattle.il_ast.specs.declared.block.Block.{Block}
 use Rattle.il_ast.specs.declared.instruction.Lined.{Lined}
 use Rattle.il_ast.specs.declared.instruction.Inst.{Inst}
+use Rattle.il_ast.specs.declared.text.Definition.{Definition}
 use Rattle.il_reader.specs.declared.statement.Statement.{Statement}
 use Rattle.il_reader.specs.declared.statement.Statement.TheVariants.{Phi as PhiLine, Inst as InstLine}
 use Rattle.il_reader.specs.State.{State}
 use Rattle.il_reader.specs.Reads.{falling, jump_to}
 use Rattle.il_reader.specs.Blocks.{Lines}
-use Rattle.il_reader.specs.Definitions.{blocks}
-use Rattle.il_reader.specs.Steps.{Step, ◌>>=◌, give, many}
+use Rattle.il_reader.specs.Definitions.{blocks, between, definition, DefinitionParts, definition_parts, definitions, is_end}
+use Rattle.il_reader.specs.Steps.{Step, ◌>>=◌, give, many, commas, sees}
+use Rattle.il_reader.specs.Reading.{is_newline, is_word}
 
 -- what a step reads and the state afterwards, and a syntax error only where the step reads nothing
 abbrev pub Gives : {A : Type 0} → Step A → State → State → Result A Fault → Type 0
@@ -74,3 +77,18 @@ fallen blocks last read = option_map (λ x. (blocks ++ falling (last ∷ x.0), x
 -- blocks of which one without a jump goes to the next
 abbrev pub falling_blocks : Step (List Block)
 falling_blocks = blocks >>= λ bs. give (falling bs)
+
+-- the parts of definitions
+abbrev pub parts_of : List Definition → List DefinitionParts
+parts_of definitions = map definition_parts definitions
+
+-- definitions, which may be none
+abbrev pub definition_list : Step (List DefinitionParts)
+definition_list s = if sees is_word s then commas (sees is_newline) between (sees is_word) definition s else Some ([], s)
+
+-- the definitions of a text, where nothing is left behind them
+abbrev pub to_the_end : List DefinitionParts → Step (List DefinitionParts)
+to_the_end parts s = if is_end (scan s.rest) then Some (parts, s) else None
+
+abbrev pub whole_text : Step (List DefinitionParts)
+whole_text = definitions >>= to_the_end

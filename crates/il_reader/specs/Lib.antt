@@ -13,3 +13,4 @@ pub mod Definitions
 pub mod Gives
 pub mod Laws
 pub mod Examples
+pub mod Answers

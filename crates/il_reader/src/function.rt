@@ -7,7 +7,7 @@ ghost use Rattle.il_reader.specs.Reads.{jump_to};
 ghost use Rattle.il_reader.specs.Steps.{sees, separated, repeated, maybe, piece};
 ghost use Rattle.il_reader.specs.Reading.{on_line, class, comma, is_comma, is_label, is_word};
 ghost use Rattle.il_reader.specs.Blocks.{block};
-ghost use Rattle.il_reader.specs.Definitions.{parameter, parameters, function_head, function_params, function_body};
+ghost use Rattle.il_reader.specs.Definitions.{parameter, parameters, function_head, function_params, function_body, function, function_parts};
 
 use crate::block::block;
 use crate::fault::Fault;
@@ -16,7 +16,7 @@ use crate::operand::class;
 use crate::reader::Reader;
 use crate::spacing::{line_ends, newlines};
 use il_ast::block::Block;
-use il_ast::function::Param;
+use il_ast::function::{Func, Param};
 use il_ast::instruction::{Jump, Lined};
 use il_ast::list::Seq;
 use il_ast::operation::Class;
@@ -80,6 +80,7 @@ fn function_params(reader: &mut Reader<'_>) -> Result<Seq<Param>, Fault>
 }
 
 /// What stands before a function's parameters.
+#[derive(Clone, Copy)]
 struct Head {
     result: Option<Class>,
     /// the line of the name
@@ -199,4 +200,27 @@ fn function_body(reader: &mut Reader<'_>) -> Result<Seq<Block>, Fault>
     let blocks = falling_blocks(reader)?;
     reader.piece(Symbol::RightBrace)?;
     Ok(blocks)
+}
+
+/// Reads a function behind the word that exports it.
+pub(crate) fn function(reader: &mut Reader<'_>, exported: bool) -> Result<Func, Fault>
+    ensures { MatchResult result
+        (λ read. function exported reader.old ≡ Some (function_parts read, reader.new))
+        (λ e. e ≡ Syntax → function exported reader.old ≡ None) }
+{
+    let Head { result, line, name } = function_head(reader)?;
+    let params = function_params(reader)?;
+    let blocks = function_body(reader)?;
+    let temps = reader.temps()?;
+    let labels = reader.labels()?;
+    Ok(Func {
+        line,
+        exported,
+        name,
+        result,
+        params,
+        blocks,
+        temps,
+        labels,
+    })
 }

@@ -7,12 +7,23 @@
 //! first appearance. A block without a jump, not the last of its function, stands for one that goes to
 //! the next.
 //!
-//! `specs/Steps.antt`, `Reading.antt`, `Blocks.antt` and `Definitions.antt` have the rules as functions of
-//! the state, each looking at no more than the next token. `proofs` shows each exact (`Exact`): it reads
-//! what its rule says, wherever its rule says so, up to a whole text, of which `text_step` gives the parts
-//! of its tree. So a text has at most one tree (`laws`). There is no reader yet.
+//! # What it promises
 //!
-//! It stands on `il_lex` for the tokens and on `il_ast` for the tree.
+//! `read` answers just that, both ways: a tree that it answers is one that the text has, and where the
+//! text has a tree it answers that one, unless memory is refused. A refusal names a line of the text.
+//! A text has at most one tree (`laws`). It goes through the bytes once, and looks at no more than the
+//! next token.
+//!
+//! # How
+//!
+//! `specs/Steps.antt`, `Reading.antt`, `Blocks.antt` and `Definitions.antt` have the rules as functions of
+//! the state. `proofs` shows each exact (`Exact`): it reads what its rule says, wherever its rule says so,
+//! up to a whole text, of which `text_step` gives the parts of its tree. Each function of the code answers
+//! what its function of the state says (`Gives`). The state is that of `Reader`, which keeps the next
+//! token; names are slices of the text, kept in sets in order of first appearance (`Names`).
+//!
+//! It stands on `il_lex` for the tokens, on `il_ast` for the tree, on `indexmap` for the sets of names
+//! and on `thiserror` for the refusals.
 #![tactic(auto)]
 
 mod arguments;
@@ -27,7 +38,9 @@ pub mod laws;
 mod lines;
 mod names;
 mod operand;
+pub mod read;
 mod reader;
 mod spacing;
 pub mod statement;
+mod text;
 mod words;

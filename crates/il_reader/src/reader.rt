@@ -33,8 +33,8 @@ pub(crate) struct Reader<'a> {
     ahead: Ahead,
     /// the line of `rest`, from 1
     line: usize,
-    /// the line of the token that was read last, from 1
-    last_line: usize,
+    /// how many bytes were left before the token that was read last
+    left_before: usize,
     temps: Names<'a>,
     labels: Names<'a>,
     symbols: Names<'a>,
@@ -49,7 +49,7 @@ impl<'a> Model for Reader<'a> {
 
     ghost view = { λ r. record { rest = r.rest.now; line = r.line; temps = r.temps; labels = r.labels; symbols = r.symbols } };
 
-    ghost invariant = { λ r. (r.ahead ≡ scan r.rest.now) × (r.line + length r.rest.now < 2 ^ 64) × (1 ≤ r.line) × (1 ≤ r.last_line) };
+    ghost invariant = { λ r. (r.ahead ≡ scan r.rest.now) × (r.line + length r.rest.now < 2 ^ 64) };
 }
 
 fn line_ends(kind: Kind) -> usize
@@ -62,11 +62,12 @@ fn line_ends(kind: Kind) -> usize
 }
 
 impl<'a> Reader<'a> {
-    ghost use Rattle.std.specs.Prelude.{◌≡◌, suc, ℕ, Bool, false, List, [], length, IfOk};
+    ghost use Rattle.std.specs.Prelude.{◌≡◌, suc, ℕ, Bool, true, false, List, [], length, IfOk};
     ghost use Rattle.std.specs.Option.{option_copied, option_map_or};
     ghost use Rattle.il_lex.specs.Scan.{scan};
     ghost use Rattle.il_reader.specs.State.{start};
     ghost use Rattle.il_reader.specs.Reading.{sees_word, is_text};
+    ghost use Rattle.il_reader.specs.Definitions.{is_end};
     ghost use Rattle.il_reader.specs.Gives.{Gives, GivesText};
     ghost use Rattle.il_reader.specs.Steps.{next, newline, piece, natural, integer, string, keyword, word as the_word, temp, label, symbol};
 
@@ -79,7 +80,7 @@ impl<'a> Reader<'a> {
             rest: text,
             ahead: scan(text),
             line: 1,
-            last_line: 1,
+            left_before: text.len(),
             temps: Names::new(alloc),
             labels: Names::new(alloc),
             symbols: Names::new(alloc),
@@ -144,7 +145,7 @@ impl<'a> Reader<'a> {
     pub(crate) fn next(&mut self) -> Result<(Kind, &'a [u8]), Fault>
         ensures { MatchResult result (λ token. next self.old ≡ Some ((token.0, token.1.now), self.new)) (λ e. e ≡ Syntax → next self.old ≡ None) }
     {
-        self.last_line = self.line;
+        self.left_before = self.rest.len();
         match self.ahead {
             Ahead::Found { kind, gap, len } => {
                 let (_, token) = self.rest.split_at(gap);
@@ -156,6 +157,24 @@ impl<'a> Reader<'a> {
             }
             Ahead::End => Err(Fault::Syntax),
             Ahead::Bad => Err(Fault::Syntax),
+        }
+    }
+
+    /// How many bytes were left before the token, or what is no token, at which the reader looked last.
+    pub(crate) fn left_before(&self) -> usize {
+        self.left_before
+    }
+
+    /// Reads the end of the text.
+    pub(crate) fn finish(&mut self) -> Result<(), Fault>
+        ensures { MatchResult result
+            (λ _. (is_end (scan self.old.rest) ≡ true) × (self.new ≡ self.old))
+            (λ e. e ≡ Syntax → is_end (scan self.old.rest) ≡ false) }
+    {
+        self.left_before = self.rest.len();
+        match self.ahead {
+            Ahead::End => Ok(()),
+            _ => Err(Fault::Syntax),
         }
     }
 

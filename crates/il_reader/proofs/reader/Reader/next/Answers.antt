@@ -18,6 +18,4 @@ invariant_of-self c =
     let ends = line_ends-bound c.in-Found.kind in (
       c.scan-self-inside.ensures.value,
       omega (arith, w.within, w.some, ends, c.line_ends.ensures, c.split_at.ensures.back_len, c.split_at-in-Found.ensures.back_len, c.self.invariant.1),
-      omega (arith, c.self.invariant.2),
-      c.self.invariant.2,
     )

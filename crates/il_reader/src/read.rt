@@ -1,0 +1,77 @@
+//! Reading the tree of a text.
+ghost use Rattle.std.specs.Prelude.{◌≡◌, ◌≤◌, length, None, Some, IfOk, IfErr};
+ghost use Rattle.std.specs.Result.{MatchResult};
+ghost use Rattle.il_lex.specs.Line.{lines_in, line_at};
+ghost use Rattle.il_ast.specs.declared.text.Text.{Text};
+ghost use Rattle.il_reader.specs.declared.fault.Fault.TheVariants.{Syntax};
+ghost use Rattle.il_reader.specs.State.{start};
+ghost use Rattle.il_reader.specs.Reads.{Reads};
+ghost use Rattle.il_reader.specs.Answers.{IsTree, NamesLine};
+ghost use Rattle.il_reader.specs.Definitions.{text_step, text_parts};
+
+use crate::error::ReadError;
+use crate::fault::Fault;
+use crate::reader::Reader;
+use crate::text::whole_text;
+use il_ast::text::Text;
+use std::alloc::Global;
+
+/// Reads a text of the language to its tree.
+///
+/// `ReadError::Syntax` says that the text is not in the grammar, and names the line of the token, or of
+/// what is no token, at which the reading stopped. `ReadError::Memory` says that memory was refused.
+pub fn read(alloc: Global, text: &[u8]) -> Result<Text, ReadError>
+    ensures found { IfOk result (λ tree. Reads text.now tree) }
+    ensures only { (tree : Text) → Reads text.now tree → IsTree tree result }
+    ensures line { IfErr result (NamesLine text.now) }
+{
+    let mut reader = Reader::new(alloc, text);
+    match tree(&mut reader, text) {
+        Ok(tree) => Ok(tree),
+        Err(Fault::Memory) => Err(ReadError::Memory),
+        Err(Fault::Syntax) => {
+            let at = text.len().saturating_sub(reader.left_before());
+            let line = line_at(text, at);
+            Err(ReadError::Syntax { line })
+        }
+    }
+}
+
+/// Reads a text from its start.
+fn tree(reader: &mut Reader<'_>, text: &[u8]) -> Result<Text, Fault>
+    requires { reader.old ≡ start text.now }
+    ensures { MatchResult result
+        (λ tree. text_step text.now ≡ Some (text_parts tree))
+        (λ e. e ≡ Syntax → text_step text.now ≡ None) }
+{
+    let definitions = whole_text(reader)?;
+    let symbols = reader.symbols()?;
+    Ok(Text {
+        definitions,
+        symbols,
+        lines: line_at(text, text.len()),
+        bytes: text.len(),
+    })
+}
+
+/// The line of the place behind the first `at` bytes of a text, from 1.
+fn line_at(text: &[u8], at: usize) -> usize
+    requires { at ≤ length text.now }
+    ensures { result ≡ line_at text.now at }
+{
+    line_feeds(&text[..at]) + 1
+}
+
+/// How many of the bytes end a line.
+fn line_feeds(bytes: &[u8]) -> usize
+    ensures value { result ≡ lines_in bytes.now }
+    ensures bound { result ≤ length bytes.now }
+{
+    let mut count = 0;
+    for byte in bytes {
+        if *byte == b'\n' {
+            count += 1;
+        }
+    }
+    count
+}
