@@ -6,3 +6,5 @@ pub mod NativeCalls
 pub mod Tied
 pub mod Entered
 pub mod Executed
+pub mod ExampleLayers
+pub mod ExampleStart

@@ -4,3 +4,4 @@ pub mod Functions
 pub mod Start
 pub mod Headline
 pub mod Whole
+pub mod Example

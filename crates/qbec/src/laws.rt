@@ -1,6 +1,10 @@
 //! The theorem that joins the layers, each part as the contract of a function that does nothing.
 ghost use Rattle.qbec.specs.Functions.{CallsAreKept};
+ghost use Rattle.qbec.specs.Headline.{Executes};
 ghost use Rattle.qbec.specs.Whole.{ProgramIsExecuted};
+ghost use Rattle.qbec.specs.Example.{state};
+ghost use Rattle.il_ast.specs.ExamplePrograms.{halts};
+ghost use Rattle.std.specs.Prelude.{[]};
 
 /// Where the machine keeps each function if it keeps the calls that this makes, it keeps all calls, however deep they nest.
 pub fn calls_are_kept()
@@ -11,4 +15,10 @@ pub fn calls_are_kept()
 /// return it exits, it executes the program.
 pub fn program_is_executed()
     ensures { ProgramIsExecuted }
+{}
+
+/// What the theorem asks can be met: a machine with three instructions executes the program whose `main` halts. Its function is kept by layers, with a code
+/// on blocks and one on bytes.
+pub fn example_is_executed()
+    ensures { Executes halts [] state }
 {}
