@@ -1,35 +1,33 @@
 -- The layers of the example keep its one function.
-use Rattle.std.proofs.Common.{◌≡◌, ℕ, zero, suc, ◌+◌, ◌-◌, ◌*◌, ◌%◌, ◌^◌, ◌<◌, ◌≤◌, List, [], ◌∷◌, ◌++◌, map, refl, sym, ◌∙◌, subst, ap, arith, lit<, lit≤}
-use Rattle.std.specs.Prelude.{slice_get, Option, Some, None}
+use Rattle.std.proofs.Common.{◌≡◌, ℕ, zero, suc, ◌-◌, List, [], ◌∷◌, ◌++◌, map, refl, sym, ◌∙◌, subst, ap, arith, lit<, lit≤}
+use Rattle.std.specs.Prelude.{Option, Some}
 use Rattle.il_ast.specs.declared.operation.Class.TheVariants.{W}
 use Rattle.il_ast.specs.declared.operation.Class.{Class}
 use Rattle.il_ast.specs.declared.function.Param.{Param}
 use Rattle.il_ast.specs.declared.program.Placed.{Placed}
 use Rattle.il_ast.specs.declared.function.Func.{Func}
-use Rattle.il_ast.specs.declared.value.Callee.TheVariants.{Defined}
 use Rattle.il_ast.specs.declared.value.End.TheVariants.{Halt, Turns}
 use Rattle.il_ast.specs.Memory.{Memory}
 use Rattle.il_ast.specs.Cost.{need}
 use Rattle.il_ast.specs.Start.{globals_of}
 use Rattle.il_ast.specs.Effect.{effect}
-use Rattle.il_ast.specs.Run.{nothing, one_turn, one_call, Spent, Outcome, Ended, Callees, run, begun}
+use Rattle.il_ast.specs.Run.{nothing, one_turn, one_call, Outcome, Callees, run, begun}
 use Rattle.il_ast.specs.ExamplePrograms.{halts}
 use Rattle.il_ast.specs.Logged.{Entry, Logged}
-use Rattle.il_ast.specs.Keeps.{Given, Body, Log, KeepsMeaning}
+use Rattle.il_ast.specs.Keeps.{Given, Log, KeepsMeaning}
 use Rattle.rv_isa.specs.declared.instruction.Instr.TheVariants.{Ebreak}
 use Rattle.rv_isa.specs.State.{State}
 use Rattle.rv_isa.specs.Memory.{number_at, each_of}
 use Rattle.rv_isa.specs.Decoding.{instruction_of, candidate_at}
-use Rattle.rv_isa.specs.Step.{Broken, step as machine_step}
+use Rattle.rv_isa.specs.Step.{Broken}
 use Rattle.rv_isa.specs.Runs.{Stopped, runs, then_run}
-use Rattle.rv_isa.specs.Labelled.{Ground, Fixed, InstrAt}
+use Rattle.rv_isa.specs.Labelled.{Fixed, InstrAt}
 use Rattle.rv_isa.proofs.StepLemmas.{step_at}
 use Rattle.rv_isa.proofs.RunLemmas.{comes_here}
 use Rattle.flat_code.specs.Spots.{Spots, Bases}
 use Rattle.flat_code.specs.Flat.{FlatGiven, FlatAsked, FlatOutcome, FlatEnded, flat_after, ShowsOutcome, KeepsFlat, Plays}
-use Rattle.abi_frames.specs.Calls.{Ready}
-use Rattle.abi_frames.specs.Performs.{Performs, PerformsAt, KeepsFrame}
-use Rattle.qbec.specs.Knot.{Setting, IsSetting, KeepsBody, Layers}
+use Rattle.abi_frames.specs.Performs.{Performs, KeepsFrame}
+use Rattle.qbec.specs.Knot.{IsSetting, KeepsBody, Layers}
 use Rattle.qbec.specs.Functions.{body_of, FunctionsKept}
 use Rattle.qbec.specs.Example.{setting, halting, flat_halting, begin, step, flat_begin, flat_step}
 use Rattle.qbec.proofs.Answer.{grown_same}
@@ -102,16 +100,16 @@ machine_kept sp j good clear log r n logged all s ready =
 
 example_layers : Layers setting 0x10000 128 0 0 [] (Some W) [] [] (body_of halts main_function) begin step flat_begin flat_step
 example_layers =
-    record
-      { meaning = meaning_kept
-      ; flat = flat_kept
-      ; machine = machine_kept
-      ; names = tt
-      ; area_fits = omega arith
-      ; frame_fits = omega arith
-      ; some = lit< tt
-      ; aligned = refl
-      }
+    record {
+      meaning = meaning_kept;
+      flat = flat_kept;
+      machine = machine_kept;
+      names = tt;
+      area_fits = omega arith;
+      frame_fits = omega arith;
+      some = lit< tt;
+      aligned = refl;
+    }
 
 pub functions_kept : IsSetting setting → FunctionsKept setting halts
 functions_kept is zero at f found here =

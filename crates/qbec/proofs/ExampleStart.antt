@@ -1,23 +1,20 @@
 -- The example meets all that the theorem asks.
-use Rattle.std.proofs.Common.{◌≡◌, ◌≢◌, ℕ, zero, suc, ◌+◌, ◌-◌, ◌*◌, ◌%◌, ◌^◌, ◌<◌, ◌≤◌, Bool, true, false, List, [], ◌∷◌, length, refl, sym, ◌∙◌, subst, ap, arith, lit<, lit≤}
+use Rattle.std.proofs.Common.{◌≡◌, ◌≢◌, ℕ, zero, suc, ◌+◌, ◌-◌, ◌%◌, ◌^◌, ◌<◌, ◌≤◌, Bool, true, false, List, [], ◌∷◌, refl, sym, ◌∙◌, subst, ap, arith, lit<, lit≤}
 use Rattle.std.proofs.lemmas.Bool.Decides.{nat_tests}
-use Rattle.std.specs.Prelude.{◌==◌, ◌&&◌, if◌then◌else◌, nat_le, nat_lt, slice_get, unwrap_or, replicate, Option, Some, None, Ok, Err}
+use Rattle.std.specs.Prelude.{◌==◌, ◌&&◌, if◌then◌else◌, nat_le, nat_lt, slice_get, unwrap_or, replicate, Some, None, Ok, Err}
 use Rattle.std.proofs.lemmas.Option.{slice_get_past}
-use Rattle.std.specs.Prelude.{pos, negsuc, ◌≤ℤ◌}
+use Rattle.std.specs.Prelude.{pos}
 use Rattle.std.proofs.lemmas.Int.{ints}
 use Rattle.bits.specs.Words.{sign_extended, Fits12}
-use Rattle.il_ast.specs.declared.operation.Class.{Class}
-use Rattle.il_ast.specs.declared.operation.Class.TheVariants.{W, L}
+use Rattle.il_ast.specs.declared.operation.Class.TheVariants.{W}
 use Rattle.il_ast.specs.declared.value.Callee.{Callee}
 use Rattle.il_ast.specs.declared.value.Callee.TheVariants.{Defined, SystemWrite, SystemExit}
 use Rattle.il_ast.specs.declared.value.Cell.{Cell}
 use Rattle.il_ast.specs.declared.value.Cell.TheVariants.{Plain}
-use Rattle.il_ast.specs.Memory.{Memory, block_at}
+use Rattle.il_ast.specs.Memory.{block_at}
 use Rattle.il_ast.specs.Start.{start_memory}
 use Rattle.il_ast.specs.Meaning.{stack_room}
 use Rattle.il_ast.specs.ExamplePrograms.{halts}
-use Rattle.rv_isa.specs.declared.permission.Permission.{Permission}
-use Rattle.rv_isa.specs.declared.ranges.Register.{Register}
 use Rattle.rv_isa.specs.declared.instruction.Instr.{Instr}
 use Rattle.rv_isa.specs.declared.instruction.Instr.TheVariants.{Imm, Ecall}
 use Rattle.rv_isa.specs.declared.instruction.ImmOp.TheVariants.{Addi}
@@ -30,10 +27,9 @@ use Rattle.rv_isa.proofs.DecodingLaws.{instruction_of-word}
 use Rattle.rv_isa.specs.Start.{stack_top, stack_bottom, read_and_write}
 use Rattle.rv_isa.specs.Labelled.{Fixed, InstrAt}
 use Rattle.rv_isa.proofs.RunLemmas.{comes_here}
-use Rattle.flat_code.specs.Spots.{Spot, Away, Known, IsPlaced, AreEntries, ShowsCell, ShowsMemory}
-use Rattle.flat_code.specs.Flat.{FlatGiven}
-use Rattle.abi_frames.specs.Calls.{IsUsable, IsWorld, HoldsSpots, GoodStack, Ready, passed}
-use Rattle.qbec.specs.Knot.{Setting, IsSetting}
+use Rattle.flat_code.specs.Spots.{Away, Known, IsPlaced, ShowsCell, ShowsMemory}
+use Rattle.abi_frames.specs.Calls.{IsUsable, IsWorld, HoldsSpots, Ready, passed}
+use Rattle.qbec.specs.Knot.{IsSetting}
 use Rattle.qbec.specs.Natives.{NativesPerform}
 use Rattle.qbec.specs.Start.{ExitsWith, CallsMain}
 use Rattle.qbec.specs.Headline.{Executes}
@@ -49,12 +45,12 @@ in_stack x low high = grind (arith, nat_tests)
 usable : (x : ℕ) → stack_bottom ≤ x → x < stack_top + 40 → IsUsable setting.world.ground x
 usable x low high =
     let is : is_code x ≡ read_and_write = in_stack x low high in
-    record
-      { readable = ap (λ p. p.readable) is
-      ; writable = ap (λ p. p.writable) is
-      ; no_code = ap (λ p. p.executable) is
-      ; small = omega arith
-      }
+    record {
+      readable = ap (λ p. p.readable) is;
+      writable = ap (λ p. p.writable) is;
+      no_code = ap (λ p. p.executable) is;
+      small = omega arith;
+    }
 
 world : IsWorld setting.world
 world = record { usable = λ x low high. usable x low (omega arith); above_zero = lit< tt; small = lit< tt }
@@ -71,15 +67,15 @@ entry_is SystemExit a h = absurd (nothing a h)
 
 pub setting_is : IsSetting setting
 setting_is =
-    record
-      { world = world
-      ; entries =
-          record
-            { distinct = λ f g a h k. (entry_is f a h).0 ∙ sym (entry_is g a k).0
-            ; small = λ f a h. subst (λ x. x < 2 ^ 64) (sym (entry_is f a h).1) (lit< tt)
-            }
-      ; aligned = λ f a h. ap (λ x. x % 4) (entry_is f a h).1
-      }
+    record {
+      world = world;
+      entries =
+          record {
+            distinct = λ f g a h k. (entry_is f a h).0 ∙ sym (entry_is g a k).0;
+            small = λ f a h. subst (λ x. x < 2 ^ 64) (sym (entry_is f a h).1) (lit< tt);
+          };
+      aligned = λ f a h. ap (λ x. x % 4) (entry_is f a h).1;
+    }
 
 pub natives : NativesPerform setting
 natives = record { write = λ at sp j h good. absurd (nothing at h); exit = λ at sp j h good. absurd (nothing at h) }
@@ -140,19 +136,19 @@ registers_small n = of_tests (n == 1) (n == 2)
 
 fixed : Fixed setting.world.ground state
 fixed =
-    record
-      { permissions = refl
-      ; code_here = λ a h. refl
-      ; words = registers_small
-      ; small = λ a. small_at code_bytes code_small (a - 0x10000)
-      }
+    record {
+      permissions = refl;
+      code_here = λ a h. refl;
+      words = registers_small;
+      small = λ a. small_at code_bytes code_small (a - 0x10000);
+    }
 
 holds : HoldsSpots setting.world.ground spot state
 holds =
-    record
-      { known = λ x n h. let low = (spot_is x n h).low in byte_beyond x (omega arith) ∙ sym (spot_is x n h).zero_byte
-      ; usable = λ x h. let r = reached x h in let low = r.0 in let high = r.1 in usable x (omega arith) (omega arith)
-      }
+    record {
+      known = λ x n h. let low = (spot_is x n h).low in byte_beyond x (omega arith) ∙ sym (spot_is x n h).zero_byte;
+      usable = λ x h. let r = reached x h in let low = r.0 in let high = r.1 in usable x (omega arith) (omega arith);
+    }
 
 -- ---- the start memory: one block of eight zero bytes
 
@@ -185,12 +181,12 @@ shown b a k cells c h at found =
 
 memory : ShowsMemory entry base (start_memory halts []) spot
 memory =
-    record
-      { placed = placed
-      ; cells = shown
-      ; apart = λ b c a d xs ys differ h k at dt. absurd (differ ((one_block b xs h).0 ∙ sym (one_block c ys k).0))
-      ; bytes = λ x n h. subst (λ m. m < 256) (sym (spot_is x n h).zero_byte) (lit< tt)
-      }
+    record {
+      placed = placed;
+      cells = shown;
+      apart = λ b c a d xs ys differ h k at dt. absurd (differ ((one_block b xs h).0 ∙ sym (one_block c ys k).0));
+      bytes = λ x n h. subst (λ m. m < 256) (sym (spot_is x n h).zero_byte) (lit< tt);
+    }
 
 -- ---- behind the return of `main`
 
@@ -236,52 +232,52 @@ exits : (u : State) (n : ℕ) → Fixed setting.world.ground u → u.pc ≡ 0x10
 unfolding runs
 exits u n f here result =
     let status : u.registers 10 % 256 ≡ n % 256 = ap (λ x. x % 256) result ∙ sext_low n in
-    record
-      { steps = 2
-      ; last = numbered u
-      ; few = lit≤ tt
-      ; stopped =
+    record {
+      steps = 2;
+      last = numbered u;
+      few = lit≤ tt;
+      stopped =
           ap (then_run (runs 1) u) (number_step u f here)
-          ∙ (ap (then_run (runs 0) (numbered u)) (exit_step u f here) ∙ ap (λ k. Stopped (Exited k) (numbered u)) status)
-      ; output = refl
-      }
+          ∙ (ap (then_run (runs 0) (numbered u)) (exit_step u f here) ∙ ap (λ k. Stopped (Exited k) (numbered u)) status);
+      output = refl;
+    }
 
 -- ---- the whole
 
 ready : (turns : ℕ) → Ready setting.world 0x10000 stack_top [] (record { turns = turns; room = stack_room; args = []; memory = spot }) state
 ready turns =
-    record
-      { fixed = fixed
-      ; place = refl
-      ; stack_pointer = refl
-      ; return_address = refl
-      ; in_registers = λ k n c few class arg. absurd (nothing c class)
-      ; on_stack = λ k n c few class arg. absurd (nothing c class)
-      ; below_top = lit≤ tt
-      ; memory = holds
-      }
+    record {
+      fixed = fixed;
+      place = refl;
+      stack_pointer = refl;
+      return_address = refl;
+      in_registers = λ k n c few class arg. absurd (nothing c class);
+      on_stack = λ k n c few class arg. absurd (nothing c class);
+      below_top = lit≤ tt;
+      memory = holds;
+    }
 
 calls_main : CallsMain setting halts [] state
 calls_main =
-    record
-      { at = 0x10000
-      ; is_main = refl
-      ; sp = stack_top
-      ; stack = record { above = lit≤ tt; below = lit≤ tt; aligned = refl }
-      ; memory = spot
-      ; shows = memory
-      ; clear = λ x low high. spot_away x high
-      ; args = []
-      ; args_show = tt
-      ; steps = 0
-      ; called = state
-      ; comes = comes_here state
-      ; output = refl
-      ; ready = ready
-      ; leaving = 2
-      ; leaves = exits
-      ; price = lit≤ tt
-      }
+    record {
+      at = 0x10000;
+      is_main = refl;
+      sp = stack_top;
+      stack = record { above = lit≤ tt; below = lit≤ tt; aligned = refl };
+      memory = spot;
+      shows = memory;
+      clear = λ x low high. spot_away x high;
+      args = [];
+      args_show = tt;
+      steps = 0;
+      called = state;
+      comes = comes_here state;
+      output = refl;
+      ready = ready;
+      leaving = 2;
+      leaves = exits;
+      price = lit≤ tt;
+    }
 
 pub example_is_executed : Executes halts [] state
 example_is_executed =

@@ -1,6 +1,5 @@
 -- A machine and a program of one function, `main`, that halts: what the theorem asks can be met.
 use Rattle.std.specs.Prelude.{ℕ, zero, suc, ◌+◌, ◌-◌, ◌==◌, ◌&&◌, nat_le, nat_lt, true, false, if◌then◌else◌, List, [], ◌∷◌, slice_get, unwrap_or, Option, Some, None}
-use Rattle.il_ast.specs.declared.program.Program.{Program}
 use Rattle.il_ast.specs.declared.value.Callee.{Callee}
 use Rattle.il_ast.specs.declared.value.Callee.TheVariants.{Defined, SystemWrite, SystemExit}
 use Rattle.il_ast.specs.declared.value.End.TheVariants.{Halt, Turns}
@@ -52,11 +51,11 @@ spot a = if nat_le (stack_top + 8) a && nat_lt a (stack_top + 16) then Known 0 e
 
 abbrev pub setting : Setting
 setting =
-    record
-      { world = record { ground = record { allows = is_code; code = byte }; bottom = stack_bottom; top = stack_top }
-      ; entries = entry
-      ; start = base
-      }
+    record {
+      world = record { ground = record { allows = is_code; code = byte }; bottom = stack_bottom; top = stack_top };
+      entries = entry;
+      start = base;
+    }
 
 -- a code that halts in its first turn: on blocks, and on bytes
 abbrev pub halting : ℕ → Outcome
