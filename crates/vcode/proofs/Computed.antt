@@ -1,0 +1,47 @@
+-- The examples, by computing them.
+use Rattle.std.proofs.Common.{refl}
+use Rattle.il_ast.specs.Memory.{load, store, copy}
+use Rattle.il_ast.specs.Operations.{operate_one, operate_two}
+use Rattle.il_ast.specs.Logged.{Logged}
+use Rattle.vcode.specs.Operations.{operate, loaded}
+use Rattle.vcode.specs.Step.{line_step, jump_step, step}
+use Rattle.vcode.specs.Examples.{Examples}
+
+pub examples : Examples
+unfolding load store copy operate_one operate_two Logged operate loaded line_step jump_step step
+examples =
+    record {
+      sums = (refl, refl);
+      out_of_turns = (refl, refl);
+      out_of_the_last = (refl, refl);
+      word_is_extended = (refl, refl);
+      word_is_read = (refl, refl);
+      long_is_cut = (refl, refl);
+      low_bits_decide = (refl, refl);
+      nonzero = (refl, refl);
+      calls_and_adds = (refl, (refl, refl));
+      caller_forgets = (refl, (refl, refl));
+      result_is_missing = (refl, (refl, refl));
+      ends_in_the_call = (refl, (refl, refl));
+      turns_end_after_it = (refl, (refl, refl));
+      callee_keeps_x9 = (refl, (refl, refl));
+      callee_keeps_x18 = (refl, (refl, refl));
+      callee_changes_x5 = (refl, (refl, refl));
+      callee_changes_x17 = (refl, (refl, refl));
+      callee_changes_x28 = (refl, (refl, refl));
+      virtual_is_kept = (refl, (refl, refl));
+      loaded_word = (refl, refl);
+      loaded_byte = (refl, refl);
+      pointer_is_kept = (refl, refl);
+      pointers_compare = (refl, refl);
+      words_compare = (refl, refl);
+      weight_alone = (refl, refl);
+      halt_ends = (refl, refl);
+      nowhere = (refl, refl);
+      sum_is_regular = record { few_params = refl; inside = refl; first = refl; small = refl; paid = refl; paced = refl };
+      sum_names_two = refl;
+      one_is_too_few = refl;
+      caller_names_places = refl;
+      scratch_is_no_place = refl;
+      memory_takes_16 = refl;
+    }

@@ -1,0 +1,9 @@
+pub mod Operations
+pub mod Places
+pub mod Step
+pub mod Cost
+pub mod Regular
+pub mod Named
+pub mod ExampleCodes
+pub mod Examples
+pub mod Laws

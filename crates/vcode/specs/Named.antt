@@ -1,0 +1,71 @@
+-- The places that a code names.
+use Rattle.std.specs.Prelude.{ℕ, Bool, true, not, ◌&&◌, nat_lt, nat_le, List, [], ◌∷◌, Option, Some, None}
+use Rattle.std.specs.List.{list_all, list_any}
+use Rattle.vcode.specs.declared.place.Operand.{Operand}
+use Rattle.vcode.specs.declared.place.Operand.TheVariants.{At}
+use Rattle.vcode.specs.declared.place.Destination.{Destination}
+use Rattle.vcode.specs.declared.place.Location.{Location}
+use Rattle.vcode.specs.declared.place.Location.TheVariants.{Register, Slot}
+use Rattle.vcode.specs.declared.line.Line.{Line}
+use Rattle.vcode.specs.declared.line.Line.TheVariants.{Tick, Set, Operate, Load, Store, Alloc, Blit, Call}
+use Rattle.vcode.specs.declared.line.Jump.{Jump}
+use Rattle.vcode.specs.declared.line.Jump.TheVariants.{Goto, Branch, Return, Halt}
+use Rattle.vcode.specs.declared.code.Block.{Block}
+use Rattle.vcode.specs.declared.code.Code.{Code}
+use Rattle.vcode.specs.Places.{same_location}
+
+-- each place that is read or written passes the test
+abbrev pub operand_keeps : {P : Type 0} → (P → Bool) → Operand P → Bool
+operand_keeps test (At p) = test p
+operand_keeps test a = true
+
+abbrev pub wanted_keeps : {P : Type 0} → (P → Bool) → Option (Destination P) → Bool
+wanted_keeps test None = true
+wanted_keeps test (Some d) = test d.place
+
+abbrev pub line_keeps : {P : Type 0} → (P → Bool) → Line P → Bool
+line_keeps test (Tick turn w) = true
+line_keeps test (Set to a) = test to && operand_keeps test a
+line_keeps test (Operate to op a b) = test to && (operand_keeps test a && operand_keeps test b)
+line_keeps test (Load to op at) = test to && operand_keeps test at
+line_keeps test (Store size a at) = operand_keeps test a && operand_keeps test at
+line_keeps test (Alloc to size) = test to
+line_keeps test (Blit from to count) = operand_keeps test from && operand_keeps test to
+line_keeps test (Call to callee args) = wanted_keeps test to && (operand_keeps test callee && list_all (λ a. operand_keeps test a.value) args)
+
+abbrev pub jump_keeps : {P : Type 0} → (P → Bool) → Jump P → Bool
+jump_keeps test (Goto k) = true
+jump_keeps test (Branch on nonzero otherwise) = operand_keeps test on
+jump_keeps test (Return None) = true
+jump_keeps test (Return (Some a)) = operand_keeps test a
+jump_keeps test Halt = true
+
+abbrev pub block_keeps : {P : Type 0} → (P → Bool) → Block P → Bool
+block_keeps test b = list_all (line_keeps test) b.lines && jump_keeps test b.jump
+
+abbrev pub keeps_places : {P : Type 0} → (P → Bool) → Code P → Bool
+keeps_places test f = list_all (λ d. test d.place) f.params && list_all (block_keeps test) f.blocks
+
+-- ---- virtual registers
+
+abbrev pub is_below : ℕ → ℕ → Bool
+is_below registers p = nat_lt p registers
+
+-- ---- registers and slots
+
+-- x5 to x27; x28 to x31 are free for the instructions that a line becomes
+abbrev pub is_place : (slots : ℕ) → Location → Bool
+is_place slots (Register r) = nat_le 5 r && nat_le r 27
+is_place slots (Slot s) = nat_lt s slots
+
+-- a parameter's slot is reached by one instruction
+abbrev pub is_near : Location → Bool
+is_near (Register r) = true
+is_near (Slot s) = nat_lt s 128
+
+abbrev pub are_near : List (Destination Location) → Bool
+are_near params = list_all (λ (d : Destination Location). is_near d.place) params
+
+abbrev pub are_distinct : List (Destination Location) → Bool
+are_distinct [] = true
+are_distinct (d ∷ ds) = not (list_any (λ (e : Destination Location). same_location d.place e.place) ds) && are_distinct ds

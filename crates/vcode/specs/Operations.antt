@@ -1,0 +1,54 @@
+-- How values stand in places, and what the operations give: those of the machine on integers (Unprivileged ISA manual), the source's rules on pointers and functions.
+use Rattle.std.specs.Prelude.{◌%◌, ◌^◌, Option, Some, None}
+use Rattle.std.specs.Option.{option_and_then}
+use Rattle.bits.specs.Words.{sign_extended}
+use Rattle.il_ast.specs.declared.operation.Class.{Class}
+use Rattle.il_ast.specs.declared.operation.Class.TheVariants.{W, L}
+use Rattle.il_ast.specs.declared.operation.BinaryOp.TheVariants.{Add, Sub, Compare}
+use Rattle.il_ast.specs.declared.operation.Condition.{Condition}
+use Rattle.il_ast.specs.declared.value.Value.{Value}
+use Rattle.il_ast.specs.declared.value.Value.TheVariants.{Integer, Pointer, Function}
+use Rattle.il_ast.specs.Values.{in_place}
+use Rattle.il_ast.specs.Memory.{Memory, load}
+use Rattle.il_ast.specs.Operations.{on_places, operate_two}
+use Rattle.rv_isa.specs.declared.instruction.RegOp.{RegOp}
+use Rattle.rv_isa.specs.declared.instruction.RegOp.TheVariants.{Add as AddLong, Sub as SubLong}
+use Rattle.rv_isa.specs.declared.instruction.LoadOp.{LoadOp}
+use Rattle.rv_isa.specs.declared.instruction.LoadOp.TheVariants.{Ld}
+use Rattle.rv_isa.specs.Arithmetic.{reg_value, regw_value}
+use Rattle.rv_isa.specs.Step.{load_size, load_value}
+use Rattle.vcode.specs.declared.line.Operation.{Operation}
+use Rattle.vcode.specs.declared.line.Operation.TheVariants.{Reg, RegW, Compare as CompareValues}
+
+-- how a value of this class stands in a place: a word sign-extended to 64 bits, any other value as it is
+abbrev pub held : Class → Value → Value
+held W (Integer n) = Integer (sign_extended (n % 2 ^ 32))
+held W (Pointer b o) = Pointer b o
+held W (Function f) = Function f
+held L v = v
+
+-- of a pointer or a function: what may be added and subtracted
+abbrev pub reg_on_places : Memory → RegOp → Value → Value → Option Value
+reg_on_places m AddLong u v = on_places m Add u v
+reg_on_places m SubLong u v = on_places m Sub u v
+reg_on_places m op u v = None
+
+-- each operand is read in a place of class k
+abbrev pub compare : Memory → Condition → Class → Value → Value → Option Value
+compare m on k u v = option_and_then (λ a. option_and_then (λ b. operate_two m (Compare on k) W a b) (in_place k v)) (in_place k u)
+
+unfoldable pub operate : Memory → Operation → Value → Value → Option Value
+operate m (Reg op) (Integer a) (Integer b) = Some (Integer (reg_value op a b))
+operate m (Reg op) u v = reg_on_places m op u v
+operate m (RegW op) (Integer a) (Integer b) = Some (Integer (regw_value op a b))
+operate m (RegW op) u v = None
+operate m (CompareValues on k) u v = compare m on k u v
+
+-- a number that was loaded, extended; any other value stands in eight bytes, and only `ld` reads these
+abbrev pub extended : LoadOp → Value → Option Value
+extended op (Integer n) = Some (Integer (load_value op n))
+extended Ld v = Some v
+extended op v = None
+
+unfoldable pub loaded : Memory → LoadOp → Value → Option Value
+loaded m op at = option_and_then (extended op) (load m (load_size op) at)

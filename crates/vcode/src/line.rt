@@ -1,0 +1,80 @@
+//! Lines of code, and what ends a block.
+use crate::place::{Argument, Destination, Operand};
+use il_ast::list::Seq;
+use il_ast::operation::{Class, Condition, Size};
+use rv_isa::instruction::{LoadOp, RegOp, RegWOp};
+
+/// An operation on two operands.
+#[derive(Clone, Copy, Debug, PartialEq, Eq)]
+pub enum Operation {
+    /// of the machine, on 64 bits
+    Reg(RegOp),
+    /// of the machine, on the low 32 bits, with a result that is sign-extended
+    RegW(RegWOp),
+    /// the source's comparison of two values of a class
+    Compare(Condition, Class),
+}
+
+/// A line of code over places P.
+#[derive(Drop)]
+pub enum Line<P> {
+    /// Spends weight, and begins a turn of the source if `turn`. All other lines spend nothing but what their calls spend.
+    Tick {
+        turn: bool,
+        weight: u32,
+    },
+    /// `to` takes the operand's value as it is.
+    Set {
+        to: P,
+        value: Operand<P>,
+    },
+    Operate {
+        to: P,
+        operation: Operation,
+        left: Operand<P>,
+        right: Operand<P>,
+    },
+    /// `to` takes what memory has, extended to 64 bits as the machine's load does.
+    Load {
+        to: P,
+        op: LoadOp,
+        at: Operand<P>,
+    },
+    Store {
+        size: Size,
+        value: Operand<P>,
+        at: Operand<P>,
+    },
+    /// `to` takes a pointer to a fresh block of that many bytes, which lives until the return.
+    Alloc {
+        to: P,
+        size: u64,
+    },
+    /// Copies that many bytes.
+    Blit {
+        from: Operand<P>,
+        to: Operand<P>,
+        count: u64,
+    },
+    Call {
+        to: Option<Destination<P>>,
+        callee: Operand<P>,
+        args: Seq<Argument<P>>,
+    },
+}
+
+/// What ends a block. Blocks are named by their place in the function.
+#[derive(Clone, Copy, Debug, PartialEq, Eq)]
+pub enum Jump<P> {
+    Goto(usize),
+    /// to `nonzero` where the word is not 0, else to `otherwise`
+    Branch {
+        on: Operand<P>,
+        nonzero: usize,
+        otherwise: usize,
+    },
+    /// from the function, with a value of its result's class or with none
+    Return(Option<Operand<P>>),
+    /// ends the run
+    Halt,
+}
