@@ -14,7 +14,7 @@ use Rattle.abi_frames.specs.Calls.{World, GoodStack}
 use Rattle.qbec.specs.Knot.{Setting, IsSetting, KeptBody, KeepsBody, Layers}
 use Rattle.qbec.proofs.Answer.{grown_same, answer}
 
-shows_grown : (e : Entries) (p q : Bases) → Grown p q → (v : Value) (x : ℕ) → Shows e p v x → Shows e q v x
+pub shows_grown : (e : Entries) (p q : Bases) → Grown p q → (v : Value) (x : ℕ) → Shows e p v x → Shows e q v x
 shows_grown e p q g (Integer n) x h = h
 shows_grown e p q g (Pointer b o) x h = (h.0, g b h.0 h.1, h.2)
 shows_grown e p q g (Function f) x h = h

@@ -8,3 +8,7 @@ pub mod Entered
 pub mod Executed
 pub mod ExampleLayers
 pub mod ExampleStart
+pub mod Blocks
+pub mod StartBytes
+pub mod StartMemory
+pub mod Running

@@ -5,3 +5,5 @@ pub mod Start
 pub mod Headline
 pub mod Whole
 pub mod Example
+pub mod Places
+pub mod Executable

@@ -2,6 +2,7 @@
 ghost use Rattle.qbec.specs.Functions.{CallsAreKept};
 ghost use Rattle.qbec.specs.Headline.{Executes};
 ghost use Rattle.qbec.specs.Whole.{ProgramIsExecuted};
+ghost use Rattle.qbec.specs.Executable.{ExecutableRuns};
 ghost use Rattle.qbec.specs.Example.{state};
 ghost use Rattle.il_ast.specs.ExamplePrograms.{halts};
 ghost use Rattle.std.specs.Prelude.{[]};
@@ -21,4 +22,10 @@ pub fn program_is_executed()
 /// on blocks and one on bytes.
 pub fn example_is_executed()
     ensures { Executes halts [] state }
+{}
+
+/// From every start of an executable with argument words within their limits: where the data stands in the file, the functions are kept, and the start code
+/// comes to a call of `main`, the machine executes the program.
+pub fn executable_runs()
+    ensures { ExecutableRuns }
 {}
