@@ -1,13 +1,9 @@
 -- Blocks at addresses, one list beside the other: from them the memory that they show.
-use Rattle.std.proofs.Common.{◌≡◌, ◌≢◌, ◌⊎◌, inl, inr, ℕ, zero, suc, ◌+◌, ◌*◌, ◌%◌, ◌^◌, ◌<◌, ◌≤◌, List, [], ◌∷◌, ◌++◌, length, map, replicate, refl, sym, ◌∙◌, subst, ap, arith}
-use Rattle.std.specs.Prelude.{slice_get, Option, Some, None}
-use Rattle.std.specs.Int.{w64, byte_at, to_le_bytes}
+use Rattle.std.proofs.Common.{◌≡◌, ◌≢◌, ◌⊎◌, inl, inr, ℕ, zero, suc, ◌+◌, ◌^◌, ◌<◌, ◌≤◌, List, [], ◌∷◌, ◌++◌, length, refl, sym, ◌∙◌, subst, ap, arith}
+use Rattle.std.specs.Prelude.{slice_get, Some, None}
 use Rattle.il_ast.specs.declared.value.Cell.{Cell}
-use Rattle.il_ast.specs.declared.value.Cell.TheVariants.{Plain, Part, Blank}
-use Rattle.il_ast.specs.declared.value.Value.{Value}
-use Rattle.il_ast.specs.declared.value.Value.TheVariants.{Pointer}
-use Rattle.il_ast.specs.Memory.{Memory, block_at, parts}
-use Rattle.flat_code.specs.Spots.{Spot, Away, Known, Spots, Bases, Entries, Shows, ShowsCell, IsPlaced, ShowsMemory}
+use Rattle.il_ast.specs.Memory.{Memory, block_at}
+use Rattle.flat_code.specs.Spots.{Known, Spots, Bases, Entries, ShowsCell, ShowsMemory}
 
 -- ---- one block
 
@@ -125,9 +121,10 @@ apart_append [] n [] qs low high below above b c side h k = k
 apart_append [] n (q ∷ ps) qs low high below above b c side h k = absurd b
 apart_append (x ∷ m) n [] qs low high below above b c side h k = absurd b
 apart_append (None ∷ m) n (q ∷ ps) qs low high below above b c side h k = absurd b
-apart_append (Some cells ∷ m) n (q ∷ ps) qs low high below above b c side h k =
-    (each_append q (length cells) m n ps qs low high b.2 h.0 (apart_from below above q (length cells) (by_side side) n qs c),
-    apart_append m n ps qs low high below above b.2 c side h.1 k)
+apart_append (Some cells ∷ m) n (q ∷ ps) qs low high below above b c side h k = (
+  each_append q (length cells) m n ps qs low high b.2 h.0 (apart_from below above q (length cells) (by_side side) n qs c),
+  apart_append m n ps qs low high below above b.2 c side h.1 k,
+)
   where
     by_side : (high ≤ below) ⊎ (above ≤ low) → (q + length cells ≤ below) ⊎ (above ≤ q)
     by_side (inl s) = let l = b.1 in inl (omega arith)
@@ -195,18 +192,18 @@ apart_at (Some zs ∷ m) (q ∷ ps) h (suc b) (suc c) a d xs ys differ is also a
 
 pub shows_all : (e : Entries) (places : List ℕ) (f : Spots) (m : Memory) → AllShow e (λ b. slice_get places b) f m places → AllApart m places → ((x n : ℕ) → f x ≡ Known n → n < 256) → ShowsMemory e (λ b. slice_get places b) m f
 shows_all e places f m all apart bytes =
-    record
-      { placed =
+    record {
+      placed =
           λ b cells is.
-              let r = found_at e (λ k. slice_get places k) f m places all b cells is in
-              record { base = r.at; is = r.here; some = r.shows.some; above_zero = r.shows.above_zero; below_end = r.shows.below_end }
-      ; cells =
+          let r = found_at e (λ k. slice_get places k) f m places all b cells is in
+          record { base = r.at; is = r.here; some = r.shows.some; above_zero = r.shows.above_zero; below_end = r.shows.below_end };
+      cells =
           λ b a k cells c is at found.
-              let r = found_at e (λ j. slice_get places j) f m places all b cells is in
-              let same : Some r.at ≡ Some a = sym r.here ∙ at in
-              let here : r.at ≡ a = cc in
-              subst (λ x. ShowsCell e (λ j. slice_get places j) c (f (x + k))) here
-              (shown_at e (λ j. slice_get places j) f cells r.at r.shows.cells_show k c found)
-      ; apart = λ b c a d xs ys differ is also at dt. apart_at m places apart b c a d xs ys differ is also at dt
-      ; bytes = bytes
-      }
+          let r = found_at e (λ j. slice_get places j) f m places all b cells is in
+          let same : Some r.at ≡ Some a = sym r.here ∙ at in
+          let here : r.at ≡ a = cc in
+          subst (λ x. ShowsCell e (λ j. slice_get places j) c (f (x + k))) here
+          (shown_at e (λ j. slice_get places j) f cells r.at r.shows.cells_show k c found);
+      apart = λ b c a d xs ys differ is also at dt. apart_at m places apart b c a d xs ys differ is also at dt;
+      bytes = bytes;
+    }

@@ -190,11 +190,13 @@ memory =
 
 -- ---- behind the return of `main`
 
+in_twelve_bits : Fits12 (pos 93)
+in_twelve_bits = (grind (arith, ints), grind (arith, ints))
+
 abbrev exit_number : Instr
-exit_number = Imm Addi (record { number = 17; in_range = lit< tt }) (record { number = 0; in_range = lit< tt }) (record { value = pos 93; in_range = fits })
-  where
-    fits : Fits12 (pos 93)
-    fits = (grind (arith, ints), grind (arith, ints))
+exit_number =
+    Imm Addi (record { number = 17; in_range = lit< tt }) (record { number = 0; in_range = lit< tt })
+    (record { value = pos 93; in_range = in_twelve_bits })
 
 sext_low : (n : ℕ) → sign_extended (n % 2 ^ 32) % 256 ≡ n % 256
 sext_low n = grind (arith, ints)

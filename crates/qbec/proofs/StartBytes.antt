@@ -1,17 +1,15 @@
 -- The bytes of the argument range, one after another, and the blocks of the start that they show.
-use Rattle.std.proofs.Common.{◌≡◌, ◌⊎◌, inl, inr, ℕ, zero, suc, ◌+◌, ◌*◌, ◌%◌, ◌^◌, ◌<◌, ◌≤◌, List, [], ◌∷◌, ◌++◌, length, map, replicate, refl, sym, ◌∙◌, subst, ap, arith, length-append, append_assoc}
-use Rattle.std.specs.Prelude.{slice_get, slice_index, Option, Some, None}
-use Rattle.std.specs.Int.{w64, byte_at, to_le_bytes}
-use Rattle.il_ast.specs.declared.value.Cell.{Cell}
-use Rattle.il_ast.specs.declared.value.Cell.TheVariants.{Plain, Part, Blank}
-use Rattle.il_ast.specs.declared.value.Value.{Value}
+use Rattle.std.proofs.Common.{◌≡◌, inl, ℕ, suc, ◌+◌, ◌%◌, ◌^◌, ◌<◌, ◌≤◌, List, [], ◌∷◌, ◌++◌, length, map, refl, ◌∙◌, subst, ap, arith, length-append}
+use Rattle.std.specs.Prelude.{Some}
+use Rattle.std.specs.Int.{w64, to_le_bytes}
+use Rattle.il_ast.specs.declared.value.Cell.TheVariants.{Plain}
 use Rattle.il_ast.specs.declared.value.Value.TheVariants.{Pointer}
 use Rattle.il_ast.specs.Memory.{Memory, parts}
-use Rattle.il_ast.specs.Start.{word_cells, pointers_from, list_cells}
+use Rattle.il_ast.specs.Start.{word_cells, pointers_from}
 use Rattle.rv_isa.specs.Start.{pointer_bytes, word_bytes}
-use Rattle.flat_code.specs.Spots.{Spot, Known, Spots, Bases, Entries}
+use Rattle.flat_code.specs.Spots.{Known, Spots, Bases, Entries}
 use Rattle.qbec.specs.Places.{word_places}
-use Rattle.qbec.proofs.Blocks.{SpotsShow, spots_append, BlockShows, AllShow, EachApart, AllApart, Between, apart_from}
+use Rattle.qbec.proofs.Blocks.{SpotsShow, spots_append, AllShow, AllApart, Between, apart_from}
 
 -- these bytes are known from an address upward
 abbrev pub BytesKnown : Spots → List ℕ → ℕ → Type 0
@@ -48,14 +46,14 @@ words_shown e p f (w ∷ ws) at positive small h =
     let size : length (w ++ 0 ∷ []) ≡ length w + 1 = length-append w (0 ∷ []) in
     let whole : length ((w ++ 0 ∷ []) ++ word_bytes ws) ≡ length (w ++ 0 ∷ []) + length (word_bytes ws) = length-append (w ++ 0 ∷ []) (word_bytes ws) in
     let cells : length (word_cells w) ≡ length w + 1 = length_word w in (
-      record
-        { some = omega arith
-        ; above_zero = positive
-        ; below_end = omega arith
-        ; cells_show = plain_shown e p f (w ++ 0 ∷ []) at parts.0
-        },
+      record {
+        some = omega arith;
+        above_zero = positive;
+        below_end = omega arith;
+        cells_show = plain_shown e p f (w ++ 0 ∷ []) at parts.0;
+      },
       words_shown e p f ws (at + (length w + 1)) (omega arith) (omega arith)
-      (subst (λ n. BytesKnown f (word_bytes ws) (at + n)) size parts.1),
+          (subst (λ n. BytesKnown f (word_bytes ws) (at + n)) size parts.1),
     )
 
 pub words_between : (ws : List (List ℕ)) (at low high : ℕ) → low ≤ at → at + length (word_bytes ws) ≤ high → Between low high (map (λ (w : List ℕ). Some (word_cells w)) ws) (word_places at ws)
@@ -70,10 +68,11 @@ pub words_apart : (ws : List (List ℕ)) (at : ℕ) → AllApart (map (λ (w : L
 words_apart [] at = tt
 words_apart (w ∷ ws) at =
     let cells : length (word_cells w) ≡ length w + 1 = length_word w in
-    let next = at + (length w + 1) in
-    (apart_from next (next + length (word_bytes ws)) at (length (word_cells w)) (inl (omega arith)) (map (λ (v : List ℕ). Some (word_cells v)) ws) (word_places next ws)
-    (words_between ws next next (next + length (word_bytes ws)) (omega arith) (omega arith)),
-    words_apart ws next)
+    let next = at + (length w + 1) in (
+      apart_from next (next + length (word_bytes ws)) at (length (word_cells w)) (inl (omega arith)) (map (λ (v : List ℕ). Some (word_cells v)) ws) (word_places next ws)
+          (words_between ws next next (next + length (word_bytes ws)) (omega arith) (omega arith)),
+      words_apart ws next,
+    )
 
 -- ---- the argument list
 
@@ -87,10 +86,16 @@ pointer_shown e p f b target at small here h =
     let whole : target ≡ (target + 0) % 2 ^ 64 = omega arith in
     let v : (x : ℕ) × (p b ≡ Some x) × (target ≡ (x + 0) % 2 ^ 64) = (target, here, whole) in (
       (target, v, h.0),
-      ((target, v, h.1.0),
-      ((target, v, h.1.1.0),
-      ((target, v, h.1.1.1.0),
-      ((target, v, h.1.1.1.1.0), ((target, v, h.1.1.1.1.1.0), ((target, v, h.1.1.1.1.1.1.0), ((target, v, h.1.1.1.1.1.1.1.0), tt))))))),
+      (
+        (target, v, h.1.0),
+        (
+          (target, v, h.1.1.0),
+          (
+            (target, v, h.1.1.1.0),
+            ((target, v, h.1.1.1.1.0), ((target, v, h.1.1.1.1.1.0), ((target, v, h.1.1.1.1.1.1.0), ((target, v, h.1.1.1.1.1.1.1.0), tt)))),
+          ),
+        ),
+      ),
     )
 
 pub pointers_shown : (e : Entries) (p : Bases) (f : Spots) (ws : List (List ℕ)) (b first at : ℕ) → first + length (word_bytes ws) < 2 ^ 64 → StandFrom p b (word_places first ws) → BytesKnown f (pointer_bytes first ws) at → SpotsShow e p f (pointers_from b (length ws)) at

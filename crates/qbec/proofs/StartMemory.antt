@@ -1,11 +1,9 @@
 -- The memory that a program starts in is shown by the bytes of its executable and of its argument words.
-use Rattle.std.proofs.Common.{◌≡◌, ◌≢◌, ◌⊎◌, inl, inr, ℕ, zero, suc, ◌+◌, ◌*◌, ◌%◌, ◌^◌, ◌<◌, ◌≤◌, Bool, true, false, List, [], ◌∷◌, ◌++◌, length, map, replicate, refl, sym, ◌∙◌, subst, ap, arith, lit<, length-append}
+use Rattle.std.proofs.Common.{◌≡◌, ◌≢◌, inl, inr, ℕ, zero, suc, ◌+◌, ◌*◌, ◌^◌, ◌<◌, ◌≤◌, Bool, true, false, List, [], ◌∷◌, ◌++◌, length, map, replicate, refl, sym, ◌∙◌, subst, ap, arith, lit<, length-append}
 use Rattle.std.proofs.lemmas.Bool.Decides.{nat_tests}
 use Rattle.std.specs.Prelude.{◌&&◌, ◌||◌, nat_le, nat_lt, if◌then◌else◌, slice_get, slice_index, Option, Some, None}
 use Rattle.std.specs.Int.{w64, byte_at, to_le_bytes}
 use Rattle.il_ast.specs.declared.program.Program.{Program}
-use Rattle.il_ast.specs.declared.program.Placed.{Placed}
-use Rattle.il_ast.specs.declared.datum.DataDef.{DataDef}
 use Rattle.il_ast.specs.declared.value.Cell.{Cell}
 use Rattle.il_ast.specs.declared.value.Cell.TheVariants.{Plain, Part, Blank}
 use Rattle.il_ast.specs.Memory.{Memory}
@@ -14,7 +12,7 @@ use Rattle.rv_isa.specs.State.{State}
 use Rattle.rv_isa.specs.Start.{stack_top, stack_bottom, argument_bytes, pointer_bytes, word_bytes}
 use Rattle.elf_file.specs.Loaded.{Executable, byte_in}
 use Rattle.rv_machine.specs.Start.{Starts}
-use Rattle.flat_code.specs.Spots.{Spot, Away, Known, Spots, Bases, Entries, Grown, Shows, ShowsCell, ShowsMemory}
+use Rattle.flat_code.specs.Spots.{Spot, Away, Known, Spots, Bases, Entries, Grown, ShowsCell, ShowsMemory}
 use Rattle.qbec.specs.Places.{Places, CellStands, CellsStand, BlocksStand, DataStands, word_places, first_word, start_places, setting_of, start_spots}
 use Rattle.qbec.proofs.LayersKeep.{shows_grown}
 use Rattle.qbec.proofs.Blocks.{SpotsShow, spots_append, BlockShows, AllShow, all_append, AllApart, Between, apart_from, apart_append, shows_all}
@@ -74,12 +72,12 @@ objects_shown e p q g f byte low high positive small d cells (x ∷ ds) from [] 
 objects_shown e p q g f byte low high positive small d cells (x ∷ ds) from (at ∷ places) le h =
     let above = h.0 in
     let fits = h.1 in (
-      record
-        { some = h.2
-        ; above_zero = omega arith
-        ; below_end = omega arith
-        ; cells_show = cells_shown e p q g f byte low high d (cells x) at (omega arith) fits h.3
-        },
+      record {
+        some = h.2;
+        above_zero = omega arith;
+        below_end = omega arith;
+        cells_show = cells_shown e p q g f byte low high d (cells x) at (omega arith) fits h.3;
+      },
       objects_shown e p q g f byte low high positive small d cells ds (at + length (cells x)) places (omega arith) h.4,
     )
 
@@ -95,19 +93,21 @@ objects_apart : {D : Type 0} (e : Entries) (p : Bases) (byte : ℕ → Option �
 objects_apart e p byte high cells [] from places h = tt
 objects_apart e p byte high cells (x ∷ ds) from [] h = absurd h
 objects_apart e p byte high cells (x ∷ ds) from (at ∷ places) h =
-    let next = at + length (cells x) in
-    (apart_from next high at (length (cells x)) (inl (omega arith)) (map (λ y. Some (cells y)) ds) places
-    (objects_between e p byte high cells ds next next places (omega arith) h.4),
-    objects_apart e p byte high cells ds next places h.4)
+    let next = at + length (cells x) in (
+      apart_from next high at (length (cells x)) (inl (omega arith)) (map (λ y. Some (cells y)) ds) places
+          (objects_between e p byte high cells ds next next places (omega arith) h.4),
+      objects_apart e p byte high cells ds next places h.4,
+    )
 
 -- ---- the argument range
 
 known_from : (f : Spots) (bs : List ℕ) (at : ℕ) → ((k : ℕ) → k < length bs → f (at + k) ≡ Known (slice_index bs k)) → BytesKnown f bs at
 known_from f [] at h = tt
 known_from f (b ∷ bs) at h =
-    let here : at ≡ at + 0 = omega arith in
-    (ap f here ∙ h 0 (omega arith),
-    known_from f bs (at + 1) (λ k lt. let next : at + 1 + k ≡ at + suc k = omega arith in ap f next ∙ h (suc k) (omega arith)))
+    let here : at ≡ at + 0 = omega arith in (
+      ap f here ∙ h 0 (omega arith),
+      known_from f bs (at + 1) (λ k lt. let next : at + 1 + k ≡ at + suc k = omega arith in ap f next ∙ h (suc k) (omega arith)),
+    )
 
 length_pointers : (at : ℕ) (ws : List (List ℕ)) → length (pointer_bytes at ws) ≡ 8 * length ws
 length_pointers at [] = refl
@@ -138,11 +138,11 @@ ranges f words h =
     let zeros = known_split f (replicate 8 0) (replicate 24 0) (stack_top + length (count ++ pointers)) two.1 in
     let list_end : stack_top + length (count ++ pointers) ≡ stack_top + 8 + 8 * length words = omega arith in
     let texts_at : stack_top + length ((count ++ pointers) ++ replicate 32 0) ≡ first_word words = omega arith in
-    record
-      { pointers = three.1
-      ; zeros = subst (λ a. BytesKnown f (replicate 8 0) a) list_end zeros.0
-      ; texts = subst (λ a. BytesKnown f (word_bytes words) a) texts_at one.1
-      }
+    record {
+      pointers = three.1;
+      zeros = subst (λ a. BytesKnown f (replicate 8 0) a) list_end zeros.0;
+      texts = subst (λ a. BytesKnown f (word_bytes words) a) texts_at one.1;
+    }
 
 list_shown : (e : Entries) (p : Bases) (f : Spots) (words : List (List ℕ)) (b : ℕ) → first_word words + length (word_bytes words) < 2 ^ 64 → StandFrom p b (word_places (first_word words) words) → Ranges f words → SpotsShow e p f (list_cells b (length words)) (stack_top + 8)
 list_shown e p f words b small places r =
@@ -186,7 +186,7 @@ length_arguments words =
     let both : length (count ++ pointers) ≡ 8 + length pointers = length-append count pointers in
     let all : length ((count ++ pointers) ++ replicate 32 0) ≡ length (count ++ pointers) + 32 = length-append (count ++ pointers) (replicate 32 0) in
     let whole : length (((count ++ pointers) ++ replicate 32 0) ++ word_bytes words) ≡ length ((count ++ pointers) ++ replicate 32 0) + length (word_bytes words) =
-        length-append ((count ++ pointers) ++ replicate 32 0) (word_bytes words)
+    length-append ((count ++ pointers) ++ replicate 32 0) (word_bytes words)
     in
     omega arith
 
@@ -239,36 +239,36 @@ start_shown p at x words s starts there few short =
     let below = there.below in
     let grown : Grown (λ b. slice_get at.objects b) q = λ b a h. get_within at.objects later b a h in
     let known : DataKnown f (byte_in x) at.low at.high =
-        record { bytes = s.bytes; known = λ a low high. spot_in_data at words s a low high; same = λ a b h. starts.bytes a b h }
+    record { bytes = s.bytes; known = λ a low high. spot_in_data at words s a low high; same = λ a b h. starts.bytes a b h }
     in
     let arguments : BytesKnown f (argument_bytes words) stack_top =
-        known_from f (argument_bytes words) stack_top
-        (λ k lt. spot_in_arguments at words s (stack_top + k) (omega arith) (omega arith) ∙ ap Known (starts.begins.arguments k lt))
+    known_from f (argument_bytes words) stack_top
+    (λ k lt. spot_in_arguments at words s (stack_top + k) (omega arith) (omega arith) ∙ ap Known (starts.begins.arguments k lt))
     in
     let parts = ranges f words arguments in
     let end : first_word words + length (word_bytes words) < 2 ^ 64 = omega arith in
     let count = objects_count p at x there in
     let standing : StandFrom q (length p.objects) (word_places (first_word words) words) =
-        stand_by q (word_places (first_word words) words) ((stack_top + 8) ∷ []) (length p.objects)
-        (λ j. ap (λ n. slice_get places (n + j)) count ∙ get_behind at.objects later j)
+    stand_by q (word_places (first_word words) words) ((stack_top + 8) ∷ []) (length p.objects)
+    (λ j. ap (λ n. slice_get places (n + j)) count ∙ get_behind at.objects later j)
     in
     let objects = map (λ d. Some (object_cells p d)) p.objects in
     let high_small : at.high < 2 ^ 64 = omega arith in
     let first_positive : 0 < first_word words = omega arith in
     let list_size = length_list (length p.objects) (length words) in
     let list_block : BlockShows e q f list (stack_top + 8) =
-        record
-          { some = omega arith
-          ; above_zero = lit< tt
-          ; below_end = omega arith
-          ; cells_show = list_shown e q f words (length p.objects) end standing parts
-          }
+    record {
+      some = omega arith;
+      above_zero = lit< tt;
+      below_end = omega arith;
+      cells_show = list_shown e q f words (length p.objects) end standing parts;
+    }
     in
     let all_blocks : AllShow e q f (start_memory p words) places =
-        all_append e q f objects (texts ++ Some list ∷ []) at.objects later
-        (objects_shown e (λ b. slice_get at.objects b) q grown f (byte_in x) at.low at.high there.positive high_small known (object_cells p) p.objects at.low at.objects (omega arith) there.objects)
-        (all_append e q f texts (Some list ∷ []) (word_places (first_word words) words) ((stack_top + 8) ∷ [])
-        (words_shown e q f words (first_word words) first_positive end parts.texts) (list_block, tt))
+    all_append e q f objects (texts ++ Some list ∷ []) at.objects later
+    (objects_shown e (λ b. slice_get at.objects b) q grown f (byte_in x) at.low at.high there.positive high_small known (object_cells p) p.objects at.low at.objects (omega arith) there.objects)
+    (all_append e q f texts (Some list ∷ []) (word_places (first_word words) words) ((stack_top + 8) ∷ [])
+    (words_shown e q f words (first_word words) first_positive end parts.texts) (list_block, tt))
     in
     let range_end = stack_top + length (argument_bytes words) in
     let low_list = stack_top + 8 in
@@ -276,18 +276,18 @@ start_shown p at x words s starts there few short =
     let texts_between = words_between words (first_word words) (first_word words) range_end (omega arith) (omega arith) in
     let list_between : Between low_list high_list (Some list ∷ []) ((stack_top + 8) ∷ []) = (omega arith, omega arith, tt) in
     let later_apart : AllApart (texts ++ Some list ∷ []) later =
-        apart_append texts (Some list ∷ []) (word_places (first_word words) words) ((stack_top + 8) ∷ []) (first_word words) range_end low_list high_list
-        texts_between list_between (inr (omega arith)) (words_apart words (first_word words)) (tt, tt)
+    apart_append texts (Some list ∷ []) (word_places (first_word words) words) ((stack_top + 8) ∷ []) (first_word words) range_end low_list high_list
+    texts_between list_between (inr (omega arith)) (words_apart words (first_word words)) (tt, tt)
     in
     let later_between : Between low_list range_end (texts ++ Some list ∷ []) later =
-        between_append low_list range_end texts (Some list ∷ []) (word_places (first_word words) words) ((stack_top + 8) ∷ [])
-        (words_between words (first_word words) low_list range_end (omega arith) (omega arith)) (omega arith, omega arith, tt)
+    between_append low_list range_end texts (Some list ∷ []) (word_places (first_word words) words) ((stack_top + 8) ∷ [])
+    (words_between words (first_word words) low_list range_end (omega arith) (omega arith)) (omega arith, omega arith, tt)
     in
     let apart : AllApart (start_memory p words) places =
-        apart_append objects (texts ++ Some list ∷ []) at.objects later at.low at.high low_list range_end
-        (objects_between e (λ b. slice_get at.objects b) (byte_in x) at.high (object_cells p) p.objects at.low at.low at.objects (omega arith) there.objects)
-        later_between (inl (omega arith))
-        (objects_apart e (λ b. slice_get at.objects b) (byte_in x) at.high (object_cells p) p.objects at.low at.objects there.objects) later_apart
+    apart_append objects (texts ++ Some list ∷ []) at.objects later at.low at.high low_list range_end
+    (objects_between e (λ b. slice_get at.objects b) (byte_in x) at.high (object_cells p) p.objects at.low at.low at.objects (omega arith) there.objects)
+    later_between (inl (omega arith))
+    (objects_apart e (λ b. slice_get at.objects b) (byte_in x) at.high (object_cells p) p.objects at.low at.objects there.objects) later_apart
     in
     shows_all e places f (start_memory p words) all_blocks apart
     (λ y n h. subst (λ m. m < 256) (spot_byte at words s y n h) (starts.begins.state.bytes y))

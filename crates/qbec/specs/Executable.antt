@@ -1,5 +1,5 @@
 -- The theorem of the whole, from every start of an executable: what its file, its functions, `write` and `exit`, and its start code owe.
-use Rattle.std.specs.Prelude.{◌≡◌, ℕ, ◌+◌, ◌*◌, ◌%◌, ◌≤◌, List, [], ◌∷◌, length, slice_get, Some}
+use Rattle.std.specs.Prelude.{◌≡◌, ℕ, ◌+◌, ◌%◌, ◌≤◌, List, [], ◌∷◌, length, slice_get, Some}
 use Rattle.il_ast.specs.declared.operation.Class.TheVariants.{W}
 use Rattle.il_ast.specs.declared.function.Param.{Param}
 use Rattle.il_ast.specs.declared.program.Program.{Program}

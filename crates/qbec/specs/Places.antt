@@ -9,7 +9,7 @@ use Rattle.rv_isa.specs.State.{State}
 use Rattle.rv_isa.specs.Start.{stack_top, stack_bottom, argument_bytes}
 use Rattle.elf_file.specs.declared.flags.Flags.TheVariants.{ReadWrite}
 use Rattle.elf_file.specs.Loaded.{Executable, byte_in, flags_in}
-use Rattle.flat_code.specs.Spots.{Spot, Away, Known, Spots, Bases, Entries, Shows}
+use Rattle.flat_code.specs.Spots.{Away, Known, Spots, Bases, Entries, Shows}
 use Rattle.qbec.specs.Knot.{Setting}
 
 -- the address of each function and of each datum, and the range that has the data
@@ -64,11 +64,11 @@ start_places objects words = objects ++ (word_places (first_word words) words ++
 -- what stays while the executable runs from s with these words
 abbrev pub setting_of : Places → List (List ℕ) → State → Setting
 setting_of at words s =
-    record
-      { world = record { ground = record { allows = s.allows; code = s.bytes }; bottom = stack_bottom; top = stack_top }
-      ; entries = at.entries
-      ; start = λ b. slice_get (start_places at.objects words) b
-      }
+    record {
+      world = record { ground = record { allows = s.allows; code = s.bytes }; bottom = stack_bottom; top = stack_top };
+      entries = at.entries;
+      start = λ b. slice_get (start_places at.objects words) b;
+    }
 
 -- at the start all bytes of the data and of the argument range are known
 abbrev pub start_spots : Places → List (List ℕ) → State → Spots
