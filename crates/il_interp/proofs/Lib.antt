@@ -1,2 +1,6 @@
 pub mod PileLemmas
 pub mod Unwinding
+pub mod ListLemmas
+pub mod PlaceLemmas
+pub mod NativeLemmas
+pub mod CallLemmas

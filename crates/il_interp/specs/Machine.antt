@@ -1,6 +1,8 @@
 -- A machine that runs a program turn by turn, with a list of the activations that wait for a result.
 use Rattle.std.specs.Prelude.{ℕ, zero, suc, ◌-◌, nat_lt, if◌then◌else◌, List, [], ◌∷◌, ◌++◌, map, length, replicate, slice_get, slice_set, Option, Some, None}
+use Rattle.std.specs.Option.{option_map}
 use Rattle.il_ast.specs.declared.operation.Class.TheVariants.{W, L}
+use Rattle.il_ast.specs.declared.operand.Arg.{Arg}
 use Rattle.il_ast.specs.declared.operand.Dest.{Dest}
 use Rattle.il_ast.specs.declared.function.Param.{Param}
 use Rattle.il_ast.specs.declared.function.Func.{Func}
@@ -13,7 +15,7 @@ use Rattle.il_ast.specs.declared.value.End.{End}
 use Rattle.il_ast.specs.declared.value.End.TheVariants.{Undefined, Stack, Turns}
 use Rattle.il_ast.specs.Memory.{Memory}
 use Rattle.il_ast.specs.Cost.{need}
-use Rattle.il_ast.specs.Effect.{Env, Activation, Call, Effect, Goes, Calls, Returns, Ends, effect}
+use Rattle.il_ast.specs.Effect.{Env, Activation, Locals, Call, InstEffect, after_inst, Effect, Goes, Calls, Returns, Ends, effect}
 use Rattle.il_ast.specs.Run.{Outcome, Returned, Ended, with_args}
 use Rattle.il_ast.specs.Start.{globals_of, start_memory}
 use Rattle.il_ast.specs.Meaning.{call_fits, write_call, exit_call, stack_room, main_call, end_of, Behaviour}
@@ -127,3 +129,22 @@ main_frame m call k (Some f) =
 -- `main` is called
 unfoldable pub started : Program → List (List ℕ) → Next
 started p words = main_frame (start_memory p words) (main_call p words) p.main (slice_get p.functions p.main)
+
+-- ---- pieces of a turn
+
+abbrev pub locals_of : Frame → Locals
+locals_of f = record { temps = f.temps; owned = f.owned }
+
+-- what an instruction leads to
+abbrev pub inst_next : Program → State → InstEffect → Next
+inst_next p st e = react p st (after_inst st.frame.block st.frame.next (locals_of st.frame) e)
+
+-- what was done in place: the state, and the end where the run is over
+abbrev pub stepped : State → Option End → Next
+stepped st None = On st
+stepped st (Some e) = Over st.output e
+
+-- a call of this function with these arguments
+abbrev pub call_of : Callee → Option Dest → List Arg → List Value → Call
+call_of f to args values =
+    record { callee = f; classes = map (λ (a : Arg). a.class) args; wants = option_map (λ (d : Dest). d.class) to; args = values }

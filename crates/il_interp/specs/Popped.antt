@@ -1,8 +1,8 @@
 -- A pile whose top was taken.
-use Rattle.std.specs.Prelude.{List, ◌∷◌, Option, Some, None}
+use Rattle.std.specs.Prelude.{◌≡◌, List, [], ◌∷◌, Option, Some, None}
 use Rattle.il_interp.specs.declared.state.Frame.{Frame}
 
--- what the pile was before: nothing was taken from an empty one
-abbrev pub popped_from : Option Frame → List Frame → List Frame
-popped_from None frames = frames
-popped_from (Some frame) frames = frame ∷ frames
+-- the top was taken, or nothing from an empty pile
+abbrev pub IsPopped : List Frame → Option Frame → List Frame → Type 0
+IsPopped old None new = old ≡ []
+IsPopped old (Some frame) new = old ≡ frame ∷ new

@@ -5,8 +5,17 @@
 //! where the operation is undefined. They take no memory.
 #![tactic(auto)]
 
+mod call;
+mod classes;
+mod instruction;
 mod integers;
+mod jump;
+mod native;
+mod operand;
 pub mod operate;
 mod places;
+mod prepare;
+mod prepared;
 mod slots;
 mod state;
+mod turn;

@@ -1,6 +1,6 @@
 //! Where a run stands.
 ghost use Rattle.std.specs.Prelude.{◌≡◌, [], ◌∷◌, ◌++◌, List, OnOk, OnErr};
-ghost use Rattle.il_interp.specs.Popped.{popped_from};
+ghost use Rattle.il_interp.specs.Popped.{IsPopped};
 
 use crate::slots::Slots;
 use il_ast::list::Seq;
@@ -72,7 +72,7 @@ impl Pile {
     /// Takes the one on top.
     #[tactic(auto, using(crate::proofs::PileLemmas::popped))]
     pub fn pop(&mut self) -> Option<Frame>
-        ensures { self.old ≡ popped_from result self.new }
+        ensures { IsPopped self.old result self.new }
     {
         self.frames.pop()
     }

@@ -70,3 +70,19 @@ pub shown_part : (marks : List Mark) (old new : List Value) (cells : List Cell) 
 shown_part marks old new cells at i v d e same h lt =
     joined-set_part marks new at i v lt
     ∙ (ap (λ xs. slice_set xs at (PartCell v i)) (h marks ∙ e) ∙ ap (λ x. slice_set cells at x) (sym same))
+
+-- ---- one more cell
+
+joined-push_blank : (marks : List Mark) (values : List Value) → joined (marks ++ Blank ∷ []) values ≡ joined marks values ++ BlankCell ∷ []
+joined-push_blank [] [] = refl
+joined-push_blank [] (v ∷ values) = refl
+joined-push_blank (m ∷ marks) [] = ap (λ cells. cell_of m (Integer 0) ∷ cells) (joined-push_blank marks [])
+joined-push_blank (m ∷ marks) (v ∷ values) = ap (λ cells. cell_of m v ∷ cells) (joined-push_blank marks values)
+
+pub pushed_blank : (marks new : List Mark) (values kept : List Value) (cells : List Cell) → new ≡ marks ++ Blank ∷ [] → kept ≡ values → joined marks values ≡ cells → joined new kept ≡ cells ++ BlankCell ∷ []
+pushed_blank marks new values kept cells n k e =
+    ap (λ xs. joined xs kept) n ∙ (ap (joined (marks ++ Blank ∷ [])) k ∙ (joined-push_blank marks values ∙ ap (λ xs. xs ++ BlankCell ∷ []) e))
+
+pub set_last : {A : Type 0} (xs : List A) (x y : A) → slice_set (xs ++ x ∷ []) (length xs) y ≡ xs ++ y ∷ []
+set_last [] x y = refl
+set_last (z ∷ xs) x y = ap (λ ys. z ∷ ys) (set_last xs x y)

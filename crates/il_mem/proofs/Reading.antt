@@ -1,6 +1,7 @@
 -- What a span of cells is worth, cell by cell.
-use Rattle.std.proofs.Common.{◌≡◌, ℕ, zero, suc, ◌+◌, ◌*◌, ◌^◌, ◌<◌, ◌≤◌, Bool, true, false, List, [], ◌∷◌, take, drop, refl, ap, sym, subst, ◌∙◌, arith, cond}
+use Rattle.std.proofs.Common.{◌≡◌, ℕ, zero, suc, ◌+◌, ◌*◌, ◌^◌, ◌<◌, ◌≤◌, Bool, true, false, List, [], ◌∷◌, ◌++◌, take, drop, append_assoc, refl, ap, sym, subst, ◌∙◌, arith, cond}
 use Rattle.std.proofs.Math.Nat.{pow-suc, pow-le-pow_right}
+use Rattle.std.proofs.lemmas.List.{append-nil}
 use Rattle.std.specs.Prelude.{slice_get, nat_eq, ◌&&◌, Option, Some, None}
 use Rattle.std.specs.Option.{option_map}
 use Rattle.il_ast.specs.declared.value.Value.{Value}
@@ -120,3 +121,55 @@ value_of_bytes cells from n x lt h other =
 
 pub value_of_number : (cells : List Cell) (from n : ℕ) (x : Cell) (r : Option ℕ) → 0 < n → slice_get cells from ≡ Some x → part_value x ≡ None → r ≡ option_map number_of (plain_bytes (take n (drop from cells))) → option_map (λ (n : ℕ). Integer n) r ≡ value_of (take n (drop from cells))
 value_of_number cells from n x r lt h other e = ap (option_map (λ (n : ℕ). Integer n)) e ∙ sym (value_of_bytes cells from n x lt h other)
+
+-- ---- all bytes of a span
+
+-- the bytes found so far stand before those that are still to be found
+abbrev pub bytes_then : List ℕ → Option (List ℕ) → Option (List ℕ)
+bytes_then found None = None
+bytes_then found (Some rest) = Some (found ++ rest)
+
+bytes_join : (found : List ℕ) (b : ℕ) (o : Option (List ℕ)) → bytes_then found (option_map (λ bytes. b ∷ bytes) o) ≡ bytes_then (found ++ b ∷ []) o
+bytes_join found b None = refl
+bytes_join found b (Some rest) = ap Some (sym (append_assoc found (b ∷ []) rest))
+
+bytes_first : (x : Cell) (b : ℕ) (rest : List Cell) → plain_byte x ≡ Some b → plain_bytes (x ∷ rest) ≡ option_map (λ bytes. b ∷ bytes) (plain_bytes rest)
+bytes_first (Plain a) b rest h = let same : a ≡ b = cc in ap (λ y. option_map (λ bytes. y ∷ bytes) (plain_bytes rest)) same
+bytes_first (Part v i) b rest h = cc
+bytes_first Blank b rest h = cc
+
+bytes_no_first : (x : Cell) (rest : List Cell) → plain_byte x ≡ None → plain_bytes (x ∷ rest) ≡ None
+bytes_no_first (Plain a) rest h = cc
+bytes_no_first (Part v i) rest h = refl
+bytes_no_first Blank rest h = refl
+
+pub bytes_go_on : (cells : List Cell) (from n k : ℕ) (x : Cell) (b : ℕ) (found : List ℕ) (whole : Option (List ℕ)) → k < n → slice_get cells (from + k) ≡ Some x → plain_byte x ≡ Some b → whole ≡ bytes_then found (plain_bytes (drop k (take n (drop from cells)))) → whole ≡ bytes_then (found ++ b ∷ []) (plain_bytes (drop (k + 1) (take n (drop from cells))))
+bytes_go_on cells from n k x b found whole lt h hit inv =
+    inv
+    ∙ (ap (λ xs. bytes_then found (plain_bytes xs)) (span_at cells from n k x lt h)
+    ∙ (ap (bytes_then found) (bytes_first x b (drop (k + 1) (take n (drop from cells))) hit)
+    ∙ bytes_join found b (plain_bytes (drop (k + 1) (take n (drop from cells))))))
+
+pub bytes_stop : (cells : List Cell) (from n k : ℕ) (x : Cell) (found : List ℕ) (whole : Option (List ℕ)) → k < n → slice_get cells (from + k) ≡ Some x → plain_byte x ≡ None → whole ≡ bytes_then found (plain_bytes (drop k (take n (drop from cells)))) → whole ≡ None
+bytes_stop cells from n k x found whole lt h miss inv =
+    inv
+    ∙ (ap (λ xs. bytes_then found (plain_bytes xs)) (span_at cells from n k x lt h)
+    ∙ ap (bytes_then found) (bytes_no_first x (drop (k + 1) (take n (drop from cells))) miss))
+
+pub bytes_begin : (o : Option (List ℕ)) → o ≡ bytes_then [] o
+bytes_begin None = refl
+bytes_begin (Some bytes) = refl
+
+pub bytes_end : (cells : List Cell) (n k : ℕ) (found : List ℕ) (whole : Option (List ℕ)) → n ≤ k → whole ≡ bytes_then found (plain_bytes (drop k (take n cells))) → whole ≡ Some found
+bytes_end cells n k found whole le inv =
+    inv ∙ (ap (λ xs. bytes_then found (plain_bytes xs)) (none_left cells n k le) ∙ ap Some (append-nil found))
+  where
+    none_left : (xs : List Cell) (a b : ℕ) → a ≤ b → drop b (take a xs) ≡ []
+    none_left [] zero zero l = refl
+    none_left [] zero (suc b) l = refl
+    none_left [] (suc a) zero l = absurd (omega arith)
+    none_left [] (suc a) (suc b) l = refl
+    none_left (x ∷ xs) zero zero l = refl
+    none_left (x ∷ xs) zero (suc b) l = refl
+    none_left (x ∷ xs) (suc a) zero l = absurd (omega arith)
+    none_left (x ∷ xs) (suc a) (suc b) l = none_left xs a b (omega arith)

@@ -1,5 +1,5 @@
 //! One block: its cells, in little room.
-ghost use Rattle.std.specs.Prelude.{◌≡◌, ◌+◌, ◌<◌, ◌≤◌, [], length, replicate, slice_get, slice_set, vec_capacity, Some, IfOk};
+ghost use Rattle.std.specs.Prelude.{◌≡◌, ◌+◌, ◌<◌, ◌≤◌, [], ◌∷◌, ◌++◌, length, replicate, slice_get, slice_set, vec_capacity, Some, IfOk, OnOk};
 ghost use Rattle.il_ast.specs.declared.value.Cell.TheVariants.{Blank};
 ghost use Rattle.il_mem.specs.Shown.{ShowsSame};
 
@@ -61,6 +61,25 @@ impl Block {
             marks: Vec::new(alloc),
             values: Vec::new(alloc),
         }
+    }
+
+    /// Puts a cell at the end.
+    pub fn push(&mut self, cell: Cell) -> Result<(), AllocError>
+        ensures { OnOk result (self.new ≡ self.old ++ cell ∷ []) }
+    {
+        let at = self.len();
+        self.push_blank()?;
+        self.set(at, cell);
+        Ok(())
+    }
+
+    fn push_blank(&mut self) -> Result<(), AllocError>
+        ensures { OnOk result (self.new ≡ self.old ++ Blank ∷ []) }
+    {
+        let most = self.marks.len() + 1;
+        self.values.reserve(most.saturating_sub(self.values.len()))?;
+        self.marks.push(Mark::Blank)?;
+        Ok(())
     }
 
     /// The number of cells.

@@ -1,13 +1,13 @@
 //! The memory: its blocks by number.
-ghost use Rattle.std.specs.Prelude.{◌≡◌, ◌+◌, ◌^◌, ◌<◌, ◌≤◌, [], length, Some, None, IfOk, OnOk, OnErr, OnSome, IfNone};
+ghost use Rattle.std.specs.Prelude.{◌≡◌, ◌+◌, ◌^◌, ◌<◌, ◌≤◌, [], ◌∷◌, ◌++◌, length, Some, None, IfOk, OnOk, OnErr, OnSome, IfNone, MatchOption};
 ghost use Rattle.il_ast.specs.Values.{byte_count};
 ghost use Rattle.std.specs.Option.{option_and_then};
-ghost use Rattle.il_ast.specs.Memory.{size_at, load, store, copy, fresh, free, cells_at, write_at, cells_for, value_of};
+ghost use Rattle.il_ast.specs.Memory.{size_at, load, store, copy, fresh, free, cells_at, write_at, cells_for, value_of, plain_bytes};
 ghost use Rattle.il_mem.specs.Places.{place_in, copied_place, Gives};
 
 use crate::block::Block;
 use crate::change::{shift_at, store_at};
-use crate::numbered::{add_block, drop_block, load_from, size_of};
+use crate::numbered::{add_block, bytes_from, drop_block, load_from, size_of};
 use crate::transfer::transfer;
 use il_ast::operation::Size;
 use il_ast::value::Value;
@@ -65,8 +65,18 @@ impl BlockMemory {
         ensures ok { OnOk result (self.new ≡ fresh self.old size) }
         ensures err { OnErr result (self.new ≡ self.old) }
     {
-        let id = self.made;
         let block = Block::blank(self.alloc, size)?;
+        self.add(block)
+    }
+
+    /// Takes a block that was made by its cells. Where memory is refused nothing changes.
+    pub fn add(&mut self, block: Block) -> Result<BlockId, AllocError>
+        requires { length self.old + 1 < 2 ^ 128 }
+        ensures number { IfOk result (λ id. id ≡ length self.old) }
+        ensures ok { OnOk result (self.new ≡ self.old ++ Some block ∷ []) }
+        ensures err { OnErr result (self.new ≡ self.old) }
+    {
+        let id = self.made;
         add_block(&mut self.live, id, block)?;
         self.made = id + 1;
         Ok(id)
@@ -101,6 +111,23 @@ impl BlockMemory {
         match place_of(at) {
             Some(place) => self.load_place(place, bytes_in(size)),
             None => None,
+        }
+    }
+
+    /// The bytes of so many cells from an offset of a block. None where the span isn't wholly inside a
+    /// live block, or a cell isn't a byte.
+    pub fn bytes(
+        &self,
+        block: BlockId,
+        offset: u64,
+        count: u64,
+    ) -> Result<Option<Vec<u8>>, AllocError>
+        ensures { IfOk result (λ found. MatchOption found (option_and_then plain_bytes (cells_at self.now block offset count) ≡ None) (λ bytes. option_and_then plain_bytes (cells_at self.now block offset count) ≡ Some bytes.items)) }
+    {
+        if block < self.made {
+            bytes_from(self.alloc, &self.live, block, offset, count)
+        } else {
+            Ok(None)
         }
     }
 

@@ -1,15 +1,15 @@
 //! Blocks found by their numbers.
-ghost use Rattle.std.specs.Prelude.{◌≡◌, ◌≢◌, ℕ, ◌<◌, ◌≤◌, length, Some, None, OnOk, OnErr};
+ghost use Rattle.std.specs.Prelude.{◌≡◌, ◌≢◌, ℕ, ◌<◌, ◌≤◌, length, Some, None, OnOk, OnErr, IfOk, MatchOption};
 ghost use Rattle.std.specs.Option.{option_and_then, option_map};
 ghost use Rattle.std.specs.Ordering.{nat_cmp};
 ghost use Rattle.std.specs.BTreeMap.{get};
-ghost use Rattle.il_ast.specs.Memory.{span, value_of};
+ghost use Rattle.il_ast.specs.Memory.{span, value_of, plain_bytes};
 
 use crate::block::Block;
 use crate::change::has_span;
-use crate::read::read;
+use crate::read::{read, read_bytes};
 use il_ast::value::Value;
-use std::alloc::AllocError;
+use std::alloc::{AllocError, Global};
 use std::collections::BTreeMap;
 
 /// Puts a block under a number. Where memory is refused nothing changes.
@@ -58,6 +58,38 @@ pub fn load_from(
     match live.get(&key) {
         Some(block) => load_block(block, offset, count),
         None => None,
+    }
+}
+
+/// The bytes of so many cells of the block of a number.
+pub fn bytes_from(
+    alloc: Global,
+    live: &BTreeMap<u128, Block>,
+    key: u128,
+    offset: u64,
+    count: u64,
+) -> Result<Option<Vec<u8>>, AllocError>
+    ensures { IfOk result (λ found. MatchOption found (option_and_then plain_bytes (option_and_then (span offset count) (get nat_cmp live.now key)) ≡ None) (λ bytes. option_and_then plain_bytes (option_and_then (span offset count) (get nat_cmp live.now key)) ≡ Some bytes.items)) }
+{
+    match live.get(&key) {
+        Some(block) => block_bytes(alloc, block, offset as usize, count as usize),
+        None => Ok(None),
+    }
+}
+
+/// The bytes of so many cells of a block.
+fn block_bytes(
+    alloc: Global,
+    block: &Block,
+    from: usize,
+    count: usize,
+) -> Result<Option<Vec<u8>>, AllocError>
+    ensures { IfOk result (λ found. MatchOption found (option_and_then plain_bytes (span from count block.now) ≡ None) (λ bytes. option_and_then plain_bytes (span from count block.now) ≡ Some bytes.items)) }
+{
+    if has_span(block, from, count) {
+        read_bytes(alloc, block, from, count)
+    } else {
+        Ok(None)
     }
 }
 

@@ -1,5 +1,5 @@
 //! Reading a value from the cells of a block.
-ghost use Rattle.std.specs.Prelude.{◌≡◌, ◌+◌, ◌<◌, ◌≤◌, length, take, drop, IfSome};
+ghost use Rattle.std.specs.Prelude.{◌≡◌, ◌+◌, ◌<◌, ◌≤◌, length, take, drop, Some, None, IfSome, IfOk, MatchOption};
 ghost use Rattle.std.specs.Option.{option_map};
 ghost use Rattle.il_ast.specs.Values.{number_of, same_callee, same_value};
 ghost use Rattle.il_ast.specs.Memory.{plain_bytes, are_parts_from, value_of};
@@ -7,6 +7,7 @@ ghost use Rattle.il_mem.specs.Cells.{plain_byte, part_value, is_part_of};
 
 use crate::block::Block;
 use il_ast::value::{Callee, Cell, Value};
+use std::alloc::{AllocError, Global};
 
 /// The value of `count` cells from a place on, 1 to 8: of eight parts in order the value, of bytes
 /// their number, lowest first; else none.
@@ -59,6 +60,28 @@ fn read_number(block: &Block, from: usize, count: usize) -> Option<u64>
         }
     }
     Some(number)
+}
+
+/// The bytes of `count` cells from a place on, or none where one isn't a byte.
+pub fn read_bytes(
+    alloc: Global,
+    block: &Block,
+    from: usize,
+    count: usize,
+) -> Result<Option<Vec<u8>>, AllocError>
+    requires { from + count ≤ length block.now }
+    ensures { IfOk result (λ found. MatchOption found (plain_bytes (take count (drop from block.now)) ≡ None) (λ bytes. plain_bytes (take count (drop from block.now)) ≡ Some bytes.items)) }
+{
+    let length = block.len();
+    prove!(count <= length);
+    let mut bytes = Vec::new(alloc);
+    for k in 0..count {
+        match byte_of(block.get(from + k)) {
+            Some(byte) => bytes.push(byte)?,
+            None => return Ok(None),
+        }
+    }
+    Ok(Some(bytes))
 }
 
 /// Whether `count` cells from a place on are the eight parts of a value, in order.

@@ -152,3 +152,15 @@ pub fn need(function: &Func) -> u64
     let bytes = alloc_area(function) + 8 * slots;
     (bytes + 15) / 16 * 16
 }
+
+/// The same of any function; a number that would pass 64 bits stays at the largest one.
+pub fn capped_need(function: &Func) -> u64
+    ensures { result ≡ capped (need function.now) }
+{
+    let slots = (function.temps.len() as u64)
+        .saturating_add(phi_count(function))
+        .saturating_add(args_past_eight(function))
+        .saturating_add(16);
+    let bytes = alloc_area(function).saturating_add(slots.saturating_mul(8));
+    bytes.div_ceil(16).saturating_mul(16)
+}

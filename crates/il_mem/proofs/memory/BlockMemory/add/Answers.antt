@@ -1,10 +1,10 @@
-use Rattle.std.proofs.Common.{◌≡◌, ◌∙◌, sym, ap, length, arith}
+use Rattle.std.proofs.Common.{◌≡◌, ◌∙◌, sym, ap, length, arith, ◌++◌, ◌∷◌, []}
 use Rattle.std.specs.Prelude.{Some}
 use Rattle.std.specs.Ordering.{nat_cmp}
 use Rattle.std.specs.BTreeMap.{get}
-use Rattle.il_ast.specs.Memory.{Memory, fresh}
+use Rattle.il_ast.specs.Memory.{Memory}
 use Rattle.il_mem.proofs.BlocksLemmas.{length-blocks, fresh_made}
-use Rattle.il_mem.proofs.memory.BlockMemory.fresh.Goals as goal
+use Rattle.il_mem.proofs.memory.BlockMemory.add.Goals as goal
 
 pub overflow_add-self : goal.overflow_add-self
 overflow_add-self c =
@@ -16,6 +16,6 @@ returns-clause-number c = sym (length-blocks _ 0 c.self.inside.made) ∙ ap leng
 
 pub returns-clause-ok : goal.returns-clause-ok
 returns-clause-ok c =
-    fresh_made (get nat_cmp c.self.inside.live) (get nat_cmp c.add_block.new.live) c.self.inside.made _
-    (c.in_ok-add_block.ensures.here ∙ ap (λ cells. Some cells) c.in_ok-block.ensures) c.in_ok-add_block.ensures.others
-    ∙ ap (λ (m : Memory). fresh m c.args.size) c.self.view_is
+    fresh_made (get nat_cmp c.self.inside.live) (get nat_cmp c.add_block.new.live) c.self.inside.made c.args.block
+    c.in_ok-add_block.ensures.here c.in_ok-add_block.ensures.others
+    ∙ ap (λ (m : Memory). m ++ Some c.args.block ∷ []) c.self.view_is

@@ -1,0 +1,11 @@
+use Rattle.std.proofs.Common.{◌≡◌, drop}
+use Rattle.il_ast.specs.Start.{globals_of}
+use Rattle.il_ast.specs.Effect.{all_operands}
+use Rattle.obj_link.specs.ProgramOf.{program}
+use Rattle.il_interp.proofs.ListLemmas.{found_then}
+use Rattle.il_interp.proofs.operand.all_operands.Given as goal
+
+abbrev pub invariant-loop-arg : goal.invariant-loop-arg
+invariant-loop-arg l =
+    all_operands (globals_of (program l.linked) l.text) l.temps l.args
+    ≡ found_then l.values.items (all_operands (globals_of (program l.linked) l.text) l.temps (drop l.arg-index l.args))

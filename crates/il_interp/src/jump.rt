@@ -1,0 +1,252 @@
+//! Jumps.
+ghost use Rattle.std.specs.Prelude.{◌≡◌, List, map, Some, None, slice_get, IfOk, OnOk, MatchBool, MatchOption, nat_eq};
+ghost use Rattle.std.specs.List.{find};
+ghost use Rattle.il_ast.specs.declared.block.PhiArg.{PhiArg as PhiArgOf};
+ghost use Rattle.il_ast.specs.declared.instruction.Jump.TheVariants.{Return};
+ghost use Rattle.il_ast.specs.Start.{globals_of};
+ghost use Rattle.il_ast.specs.Memory.{free_all};
+ghost use Rattle.il_ast.specs.Effect.{branch_to, phi_value, phi_values, with_phis, enter, jump_effect};
+ghost use Rattle.il_ast.specs.Meaning.{end_of};
+ghost use Rattle.obj_link.specs.Shown.{shown};
+ghost use Rattle.obj_link.specs.ProgramOf.{program};
+ghost use Rattle.il_interp.specs.Prepared.{program_of};
+ghost use Rattle.il_interp.specs.Machine.{env_of, locals_of, received, return_to, react, stepped};
+
+use crate::operand::operand;
+use crate::prepare::place_at;
+use crate::prepared::Prepared;
+use crate::slots::Slots;
+use crate::state::State;
+use il_ast::block::{Phi, PhiArg};
+use il_ast::function::Func;
+use il_ast::instruction::Jump;
+use il_ast::label::Label;
+use il_ast::operand::{Dest, Val};
+use il_ast::operation::Class;
+use il_ast::program::Placed;
+use il_ast::value::{End, Value};
+use il_mem::memory::BlockMemory;
+use obj_link::linked::Linked;
+use std::alloc::AllocError;
+
+/// The argument of a phi for the block come from.
+fn argument(args: &[PhiArg], from: Label) -> Option<PhiArg>
+    ensures { result ≡ find (λ (a : PhiArgOf). nat_eq a.from from) args.now }
+{
+    for arg in args {
+        if arg.from.number() == from.number() {
+            return Some(*arg);
+        }
+    }
+    None
+}
+
+/// The value of a phi where its block is entered from this one.
+fn phi_value(
+    linked: &Linked<'_>,
+    text: usize,
+    temps: &Slots,
+    from: Label,
+    phi: &Phi,
+) -> Option<Value>
+    ensures { result ≡ phi_value (globals_of (program linked.now) text) temps.now from phi.now }
+{
+    match argument(phi.args.as_slice(), from) {
+        Some(arg) => operand(linked, text, temps, phi.to.class, arg.value),
+        None => None,
+    }
+}
+
+/// Reads the values of phis, of which none is written yet. Answers whether there is one for each.
+fn read_phis(
+    linked: &Linked<'_>,
+    text: usize,
+    temps: &Slots,
+    from: Label,
+    phis: &[Phi],
+    values: &mut Vec<Value>,
+) -> Result<bool, AllocError>
+    ensures { IfOk result (λ all. MatchBool all (phi_values (globals_of (program linked.now) text) temps.now from phis.now ≡ Some values.new.items) (phi_values (globals_of (program linked.now) text) temps.now from phis.now ≡ None)) }
+{
+    values.clear();
+    for phi in phis {
+        match phi_value(linked, text, temps, from, phi) {
+            Some(value) => values.push(value)?,
+            None => return Ok(false),
+        }
+    }
+    Ok(true)
+}
+
+/// Writes the values of phis.
+fn write_phis(temps: &mut Slots, phis: &[Phi], values: &[Value])
+    ensures { temps.new ≡ with_phis temps.old phis.now values.now }
+{
+    match phis {
+        [] => {}
+        [phi, phis @ ..] => match values {
+            [] => {}
+            [value, values @ ..] => {
+                temps.set(phi.to.temp.number(), *value);
+                write_phis(temps, phis, values);
+            }
+        },
+    }
+}
+
+/// A jump to a label from the block of another one.
+pub fn enter(
+    prepared: &Prepared<'_>,
+    function: &Placed<&Func>,
+    from: Label,
+    state: &mut State,
+    label: Label,
+    values: &mut Vec<Value>,
+) -> Result<Option<End>, AllocError>
+    requires { slice_get (program_of prepared.now).functions state.old.frame.function ≡ Some (shown function.now) }
+    ensures { IfOk result (λ end. react (program_of prepared.now) state.old (enter (env_of (program_of prepared.now) (shown function.now)) from (locals_of state.old.frame) state.old.memory label) ≡ stepped state.new end) }
+{
+    let place = match place_at(prepared, state.frame.function, label.number()) {
+        Some(place) => place,
+        None => return Ok(Some(End::Undefined)),
+    };
+    match function.item.blocks.as_slice().get(place) {
+        Some(block) => {
+            let phis = block.phis.as_slice();
+            if read_phis(
+                prepared.linked,
+                function.text,
+                &state.frame.temps,
+                from,
+                phis,
+                values,
+            )? {
+                write_phis(&mut state.frame.temps, phis, values.as_slice());
+                state.frame.block = place;
+                state.frame.next = 0;
+                Ok(None)
+            } else {
+                Ok(Some(End::Undefined))
+            }
+        }
+        None => Ok(Some(End::Undefined)),
+    }
+}
+
+/// Makes blocks of memory dead.
+fn free_all(memory: &mut BlockMemory, blocks: &[u128])
+    ensures { memory.new ≡ free_all memory.old blocks.now }
+{
+    for block in blocks {
+        memory.free(*block);
+    }
+}
+
+/// Gives a result to the activation that has waited for it.
+pub fn receive(state: &mut State, to: &Option<Dest>, value: Option<Value>) -> Option<End>
+    ensures { received state.old to.now value ≡ stepped state.new result }
+{
+    match *to {
+        None => None,
+        Some(to) => match value {
+            None => Some(End::Undefined),
+            Some(found) => {
+                state.frame.temps.set(to.temp.number(), found);
+                None
+            }
+        },
+    }
+}
+
+/// The end that the return of `main` is.
+fn end_of(value: Option<Value>) -> End
+    ensures { result ≡ end_of value }
+{
+    match value {
+        Some(Value::Integer(n)) => End::Exit((n % 256) as u8),
+        _ => End::Undefined,
+    }
+}
+
+/// The return of the activation that has its turn.
+fn give_back(state: &mut State, value: Option<Value>) -> Option<End>
+    ensures { return_to state.old.output (free_all state.old.memory state.old.frame.owned) value state.old.below ≡ stepped state.new result }
+{
+    free_all(&mut state.memory, state.frame.owned.as_slice());
+    match state.below.pop() {
+        Some(frame) => {
+            let to = frame.waits;
+            state.frame = frame;
+            receive(state, &to, value)
+        }
+        None => Some(end_of(value)),
+    }
+}
+
+/// Where a branch goes.
+fn branch_to(value: Value, nonzero: Label, otherwise: Label) -> Label
+    ensures { result ≡ branch_to value nonzero otherwise }
+{
+    match value {
+        Value::Integer(n) => if n == 0 { otherwise } else { nonzero },
+        Value::Pointer { .. } | Value::Function(_) => otherwise,
+    }
+}
+
+/// `ret`
+fn returns(
+    linked: &Linked<'_>,
+    function: &Placed<&Func>,
+    from: Label,
+    state: &mut State,
+    value: Option<Val>,
+) -> Option<End>
+    ensures { react (program linked.now) state.old (jump_effect (env_of (program linked.now) (shown function.now)) from (locals_of state.old.frame) state.old.memory (Return value)) ≡ stepped state.new result }
+{
+    match value {
+        None => give_back(state, None),
+        Some(value) => match function.item.result {
+            None => Some(End::Undefined),
+            Some(class) => match operand(linked, function.text, &state.frame.temps, class, value) {
+                Some(found) => give_back(state, Some(found)),
+                None => Some(End::Undefined),
+            },
+        },
+    }
+}
+
+/// A jump from the block of a label.
+pub fn jump(
+    prepared: &Prepared<'_>,
+    function: &Placed<&Func>,
+    from: Label,
+    state: &mut State,
+    jump: Jump,
+    values: &mut Vec<Value>,
+) -> Result<Option<End>, AllocError>
+    requires { slice_get (program_of prepared.now).functions state.old.frame.function ≡ Some (shown function.now) }
+    ensures { IfOk result (λ end. react (program_of prepared.now) state.old (jump_effect (env_of (program_of prepared.now) (shown function.now)) from (locals_of state.old.frame) state.old.memory jump) ≡ stepped state.new end) }
+{
+    match jump {
+        Jump::Goto(label) => enter(prepared, function, from, state, label, values),
+        Jump::Branch {
+            on,
+            nonzero,
+            otherwise,
+        } => match operand(
+            prepared.linked,
+            function.text,
+            &state.frame.temps,
+            Class::W,
+            on,
+        ) {
+            Some(found) => {
+                let label = branch_to(found, nonzero, otherwise);
+                enter(prepared, function, from, state, label, values)
+            }
+            None => Ok(Some(End::Undefined)),
+        },
+        Jump::Return(value) => Ok(returns(prepared.linked, function, from, state, value)),
+        Jump::Halt => Ok(Some(End::Halt)),
+    }
+}

@@ -1,0 +1,99 @@
+//! What is worked out once, before a run.
+ghost use Rattle.std.specs.Prelude.{◌≡◌, ℕ, ◌+◌, ◌<◌, length, map, cond, nat_eq, slice_get, Some, None, IfOk, OnOk};
+ghost use Rattle.std.specs.Option.{option_or, option_map};
+ghost use Rattle.il_ast.specs.Cost.{need};
+ghost use Rattle.il_ast.specs.Effect.{place_of};
+ghost use Rattle.il_types.specs.Capped.{capped};
+ghost use Rattle.obj_link.specs.Shown.{shown};
+ghost use Rattle.il_interp.specs.Places.{needs_of, place_in, placed, places_of};
+ghost use Rattle.il_interp.specs.Prepared.{program_of};
+ghost use Rattle.il_ast.specs.declared.function.Func.{Func as FuncOf};
+ghost use Rattle.il_ast.specs.declared.program.Placed.{Placed as PlacedOf};
+
+use crate::prepared::Prepared;
+use il_ast::block::Block;
+use il_ast::function::Func;
+use il_ast::list::Seq;
+use il_ast::program::Placed;
+use il_types::cost::capped_need;
+use obj_link::linked::Linked;
+use std::alloc::{AllocError, Global};
+
+/// Prepares a program to be run.
+pub fn prepare<'a>(alloc: Global, linked: &'a Linked<'a>) -> Result<Prepared<'a>, AllocError>
+    ensures { IfOk result (λ prepared. prepared.linked.now ≡ linked.now) }
+{
+    let needs = needs(alloc, linked.functions.as_slice())?;
+    let places = places(alloc, linked.functions.as_slice())?;
+    Ok(Prepared {
+        linked,
+        needs,
+        places,
+    })
+}
+
+fn needs(alloc: Global, functions: &[Placed<&Func>]) -> Result<Vec<u64>, AllocError>
+    ensures { IfOk result (λ needs. needs.items ≡ needs_of (map shown functions.now)) }
+{
+    let mut needs = Vec::new(alloc);
+    for function in functions {
+        needs.push(capped_need(function.item))?;
+    }
+    Ok(needs)
+}
+
+fn places(alloc: Global, functions: &[Placed<&Func>]) -> Result<Vec<Seq<Option<usize>>>, AllocError>
+    ensures { IfOk result (λ tables. (k l : ℕ) → placed tables.items k l ≡ places_of (map shown functions.now) k l) }
+{
+    let mut tables = Vec::new(alloc);
+    for function in functions {
+        let table = block_places(alloc, function.item.blocks.as_slice())?;
+        tables.push(Seq::from_vec(table))?;
+    }
+    Ok(tables)
+}
+
+/// Where the block of each label stands.
+fn block_places(alloc: Global, blocks: &[Block]) -> Result<Vec<Option<usize>>, AllocError>
+    ensures { IfOk result (λ table. (l : ℕ) → place_in table.items l ≡ place_of blocks.now l) }
+{
+    let mut table = Vec::new(alloc);
+    for (place, block) in blocks.iter().enumerate() {
+        set_place(&mut table, block.label.number(), place)?;
+    }
+    Ok(table)
+}
+
+/// Gives a label its place, unless it has one.
+fn set_place(table: &mut Vec<Option<usize>>, label: usize, place: usize) -> Result<(), AllocError>
+    ensures { OnOk result ((l : ℕ) → place_in table.new.items l ≡ option_or (place_in table.old.items l) (cond (nat_eq label l) (Some place) None)) }
+{
+    while table.len() <= label {
+        table.push(None)?;
+    }
+    if table[label].is_none() {
+        table[label] = Some(place);
+    }
+    Ok(())
+}
+
+/// How much room a function needs; a number that would pass 64 bits stays at the largest one.
+#[tactic(auto, using(crate::proofs::ListLemmas::mapped))]
+pub fn need_at(prepared: &Prepared<'_>, number: usize) -> Option<u64>
+    ensures { result ≡ option_map (λ (f : PlacedOf FuncOf). capped (need f.item)) (slice_get (program_of prepared.now).functions number) }
+{
+    prepared.needs.get(number).copied()
+}
+
+/// Where the block of a label stands in a function.
+pub fn place_at(prepared: &Prepared<'_>, number: usize, label: usize) -> Option<usize>
+    ensures { result ≡ places_of (program_of prepared.now).functions number label }
+{
+    match prepared.places.get(number) {
+        Some(table) => match table.as_slice().get(label) {
+            Some(place) => *place,
+            None => None,
+        },
+        None => None,
+    }
+}
