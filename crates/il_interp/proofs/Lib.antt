@@ -4,3 +4,5 @@ pub mod ListLemmas
 pub mod PlaceLemmas
 pub mod NativeLemmas
 pub mod CallLemmas
+pub mod StartLemmas
+pub mod RunLemmas

@@ -1,6 +1,6 @@
 -- The predefined functions: answers without output, and calls with wrong arguments.
-use Rattle.std.proofs.Common.{◌≡◌, ◌≢◌, ℕ, List, [], ◌∷◌, ◌++◌, length, refl, ap, ◌∙◌, arith}
-use Rattle.std.specs.Prelude.{Option, Some, None}
+use Rattle.std.proofs.Common.{◌≡◌, ◌≢◌, ℕ, List, [], ◌∷◌, ◌++◌, length, refl, ap, ◌∙◌}
+use Rattle.std.specs.Prelude.{Option, Some}
 use Rattle.std.proofs.lemmas.List.{append-nil}
 use Rattle.il_ast.specs.declared.operand.Dest.{Dest}
 use Rattle.il_ast.specs.declared.value.Value.{Value}
@@ -8,10 +8,10 @@ use Rattle.il_ast.specs.declared.value.Value.TheVariants.{Integer, Pointer, Func
 use Rattle.il_ast.specs.declared.value.End.{End}
 use Rattle.il_ast.specs.declared.value.End.TheVariants.{Undefined}
 use Rattle.il_ast.specs.Memory.{Memory}
-use Rattle.il_ast.specs.Run.{Spent, nothing, Outcome, Ended}
+use Rattle.il_ast.specs.Run.{Spent, nothing, Ended}
 use Rattle.il_ast.specs.Meaning.{answered, write_call, exit_call}
 use Rattle.il_interp.specs.declared.state.State.{State}
-use Rattle.il_interp.specs.Machine.{Next, Over, received, native_step}
+use Rattle.il_interp.specs.Machine.{Over, received, native_step}
 
 pub answer_is : (st : State) (to : Option Dest) (n : ℕ) → native_step st to (answered [] n st.memory) ≡ received st to (Some (Integer n))
 answer_is st to n = ap (λ out. received (record st { output = out }) to (Some (Integer n))) (append-nil st.output)

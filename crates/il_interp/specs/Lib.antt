@@ -6,3 +6,5 @@ pub mod Machine
 pub mod Places
 pub mod Prepared
 pub mod Room
+pub mod Words
+pub mod Begun

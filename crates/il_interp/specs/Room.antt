@@ -1,6 +1,5 @@
 -- The room that a called function leaves to its own calls.
 use Rattle.std.specs.Prelude.{◌≡◌, ℕ, ◌-◌, true, false, nat_lt, Option, Some, None}
-use Rattle.std.specs.Option.{MatchOption}
 use Rattle.il_ast.specs.declared.function.Func.{Func}
 use Rattle.il_ast.specs.declared.program.Placed.{Placed}
 use Rattle.il_ast.specs.Cost.{need}

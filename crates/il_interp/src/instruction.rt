@@ -99,7 +99,7 @@ pub fn binary(
 }
 
 /// More blocks than any run makes: one a turn, with those of the start.
-const MOST_BLOCKS: u128 = u128::MAX - 1;
+pub const MOST_BLOCKS: u128 = u128::MAX - 1;
 
 /// `to = alloc size`
 #[tactic(auto, unfolding(il_ast::specs::Effect::inst_effect))]

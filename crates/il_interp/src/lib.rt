@@ -1,21 +1,41 @@
-//! The interpreter of the intermediate language (begun): its operations.
+//! The interpreter of the intermediate language: exactly the meaning of a program.
 //!
-//! `operate::operate_one` and `operate::operate_two` are exactly the operations of the language's
-//! definition (`il_ast`, `specs/Operations`): on integers, on pointers and functions, and loads; none
-//! where the operation is undefined. They take no memory.
+//! [`interpret::interpret`] runs a linked program with argument words for at most so many turns, and
+//! answers exactly the output and the end of the program's meaning (`il_ast`, `specs/Meaning`). It
+//! refuses exactly the argument words that pass a limit ([`words::are_arguments`]); else only want of
+//! memory stops it. It is total, whatever the program.
+//!
+//! The meaning is a recursion on calls. The interpreter keeps a list of activations in its place
+//! (`state`), and `turn` does one turn. `specs/Machine` defines that machine, `turn::turn` is exactly
+//! its step, and `proofs/Unwinding` shows that it gives what the meaning gives.
+//!
+//! Before a run `prepare` works out how much room each function needs and where the block of each label
+//! stands, so that a jump and a call search for nothing; a temporary is a slot of its activation. Phi
+//! values are found among the arguments of a phi one by one, and a block of memory takes a logarithm of
+//! the number of live ones.
+//!
+//! `operate::operate_one` and `operate::operate_two` are exactly the operations of the language
+//! (`il_ast`, `specs/Operations`). The crate stands on `il_ast`, `il_mem`, `il_types` and `obj_link`, and
+//! on `thiserror` for the texts of refusals.
 #![tactic(auto)]
 
 mod call;
 mod classes;
+pub mod error;
 mod instruction;
 mod integers;
+pub mod interpret;
 mod jump;
 mod native;
+mod object;
 mod operand;
 pub mod operate;
 mod places;
 mod prepare;
 mod prepared;
+mod run;
 mod slots;
+mod start;
 mod state;
 mod turn;
+pub mod words;
