@@ -13,3 +13,4 @@ pub mod ExamplePrograms
 pub mod Examples
 pub mod Logged
 pub mod Keeps
+pub mod Simulation
