@@ -12,7 +12,7 @@ use Rattle.flat_code.specs.Flat.{FlatGiven}
 
 -- the memory that the machine runs on: permissions and code, and where the stack lies
 pub record World : Type 0 where
-  pub ground : Ground
+  pub memory_map : Ground
   pub bottom : ℕ
   pub top : ℕ
 
@@ -25,7 +25,7 @@ pub record IsUsable (g : Ground) (x : ℕ) : Type 0 where
 
 -- the stack is the program's to use
 pub record IsWorld (w : World) : Type 0 where
-  pub usable : (x : ℕ) → w.bottom ≤ x → x < w.top → IsUsable w.ground x
+  pub usable : (x : ℕ) → w.bottom ≤ x → x < w.top → IsUsable w.memory_map x
   pub above_zero : 0 < w.bottom
   pub small : w.top < 2 ^ 63
 
@@ -47,7 +47,7 @@ pub record GoodStack (w : World) (sp bytes : ℕ) : Type 0 where
 
 -- the machine has come to `at` by a call with arguments of these classes; all that isn't said here holds anything
 pub record Ready (w : World) (at sp : ℕ) (classes : List Class) (j : FlatGiven) (s : State) : Type 0 where
-  pub fixed : Fixed w.ground s
+  pub fixed : Fixed w.memory_map s
   pub place : s.pc ≡ at
   pub stack_pointer : s.registers 2 ≡ sp
   pub return_address : s.registers 1 % 4 ≡ 0
@@ -62,7 +62,7 @@ pub record Ready (w : World) (at sp : ℕ) (classes : List Class) (j : FlatGiven
       → slice_get j.args k ≡ Some n
       → number_at s.bytes (sp + 8 * (k - 8)) 8 ≡ passed c n
   pub below_top : sp + 8 * (length classes - 8) ≤ w.top
-  pub memory : HoldsSpots w.ground j.memory s
+  pub memory : HoldsSpots w.memory_map j.memory s
 
 -- the registers that a callee leaves as they were: x2 to x4, x8, x9, x18 to x27
 abbrev pub is_kept : ℕ → Bool
@@ -77,8 +77,8 @@ ResultIn (Some c) (Some n) u = u.registers 10 ≡ passed c n
 -- The machine has come back from a call, which began in s with the stack pointer sp and these spots, and left the spots `now`.
 -- From the stack pointer upward it has changed no byte that the program may not access.
 pub record Back (w : World) (sp : ℕ) (before : Spots) (s : State) (now : Spots) (u : State) : Type 0 where
-  pub fixed : Fixed w.ground u
+  pub fixed : Fixed w.memory_map u
   pub place : u.pc ≡ s.registers 1
   pub kept : (n : ℕ) → is_kept n ≡ true → u.registers n ≡ s.registers n
-  pub memory : HoldsSpots w.ground now u
+  pub memory : HoldsSpots w.memory_map now u
   pub others : (x : ℕ) → sp ≤ x → before x ≡ Away → u.bytes x ≡ s.bytes x

@@ -68,21 +68,21 @@ flat_kept low high base le lt small log i o args fine n logged p j entries names
 
 -- ---- the machine: one instruction
 
-breaks_at : InstrAt setting.world.ground 0x10000 Ebreak
+breaks_at : InstrAt setting.world.memory_map 0x10000 Ebreak
 unfolding number_at each_of instruction_of candidate_at
 breaks_at = record { fetched = refl; decoded = refl; aligned = refl; inside = lit< tt }
 
-break_stops : (s : State) → Fixed setting.world.ground s → s.pc ≡ 0x10000 → runs 1 s ≡ Stopped Broken s
+break_stops : (s : State) → Fixed setting.world.memory_map s → s.pc ≡ 0x10000 → runs 1 s ≡ Stopped Broken s
 unfolding runs
 break_stops s fixed here =
     ap (λ r. then_run (λ t. runs 0 t) s r)
-    (step_at setting.world.ground s Ebreak fixed (subst (λ a. InstrAt setting.world.ground a Ebreak) (sym here) breaks_at))
+    (step_at setting.world.memory_map s Ebreak fixed (subst (λ a. InstrAt setting.world.memory_map a Ebreak) (sym here) breaks_at))
 
 append_nil : (xs : List ℕ) → xs ≡ xs ++ []
 append_nil [] = refl
 append_nil (x ∷ xs) = ap (λ ys. x ∷ ys) (append_nil xs)
 
-halting_performs : (sp : ℕ) (before : Spots) (s : State) → Fixed setting.world.ground s → s.pc ≡ 0x10000 → (t : ℕ) → Performs setting.world sp (Some W) before s (flat_after one_call (flat_halting t))
+halting_performs : (sp : ℕ) (before : Spots) (s : State) → Fixed setting.world.memory_map s → s.pc ≡ 0x10000 → (t : ℕ) → Performs setting.world sp (Some W) before s (flat_after one_call (flat_halting t))
 halting_performs sp before s fixed here zero =
     record { steps = 0; after = s; comes = comes_here s; price = omega arith; pace = omega arith; output = append_nil s.output }
 halting_performs sp before s fixed here (suc n) =

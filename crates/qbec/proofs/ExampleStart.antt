@@ -42,7 +42,7 @@ use Rattle.qbec.specs.Example.{code_bytes, byte, is_code, register, state, entry
 in_stack : (x : ℕ) → stack_bottom ≤ x → x < stack_top + 40 → is_code x ≡ read_and_write
 in_stack x low high = grind (arith, nat_tests)
 
-usable : (x : ℕ) → stack_bottom ≤ x → x < stack_top + 40 → IsUsable setting.world.ground x
+usable : (x : ℕ) → stack_bottom ≤ x → x < stack_top + 40 → IsUsable setting.world.memory_map x
 usable x low high =
     let is : is_code x ≡ read_and_write = in_stack x low high in
     record {
@@ -134,7 +134,7 @@ registers_small n = of_tests (n == 1) (n == 2)
     of_tests false true = lit< tt
     of_tests false false = lit< tt
 
-fixed : Fixed setting.world.ground state
+fixed : Fixed setting.world.memory_map state
 fixed =
     record {
       permissions = refl;
@@ -143,7 +143,7 @@ fixed =
       small = λ a. small_at code_bytes code_small (a - 0x10000);
     }
 
-holds : HoldsSpots setting.world.ground spot state
+holds : HoldsSpots setting.world.memory_map spot state
 holds =
     record {
       known = λ x n h. let low = (spot_is x n h).low in byte_beyond x (omega arith) ∙ sym (spot_is x n h).zero_byte;
@@ -201,11 +201,11 @@ exit_number =
 sext_low : (n : ℕ) → sign_extended (n % 2 ^ 32) % 256 ≡ n % 256
 sext_low n = grind (arith, ints)
 
-number_stands : InstrAt setting.world.ground 0x10004 exit_number
+number_stands : InstrAt setting.world.memory_map 0x10004 exit_number
 unfolding number_at each_of
 number_stands = record { fetched = refl; decoded = instruction_of-word exit_number; aligned = refl; inside = lit< tt }
 
-ecall_stands : InstrAt setting.world.ground 0x10008 Ecall
+ecall_stands : InstrAt setting.world.memory_map 0x10008 Ecall
 unfolding number_at each_of
 ecall_stands = record { fetched = refl; decoded = instruction_of-word Ecall; aligned = refl; inside = lit< tt }
 
@@ -213,7 +213,7 @@ ecall_stands = record { fetched = refl; decoded = instruction_of-word Ecall; ali
 abbrev numbered : State → State
 numbered u = record u { pc = (u.pc + 4) % 2 ^ 64; registers = updated u.registers 17 93 }
 
-numbered_fixed : (u : State) → Fixed setting.world.ground u → Fixed setting.world.ground (numbered u)
+numbered_fixed : (u : State) → Fixed setting.world.memory_map u → Fixed setting.world.memory_map (numbered u)
 numbered_fixed u f =
     record { permissions = f.permissions; code_here = f.code_here; words = λ n. of_test (n == 17) n; small = f.small }
   where
@@ -221,16 +221,16 @@ numbered_fixed u f =
     of_test true n = lit< tt
     of_test false n = f.words n
 
-number_step : (u : State) → Fixed setting.world.ground u → u.pc ≡ 0x10004 → step u ≡ Ok (numbered u)
+number_step : (u : State) → Fixed setting.world.memory_map u → u.pc ≡ 0x10004 → step u ≡ Ok (numbered u)
 number_step u f here =
-    step_at setting.world.ground u exit_number f (subst (λ a. InstrAt setting.world.ground a exit_number) (sym here) number_stands)
+    step_at setting.world.memory_map u exit_number f (subst (λ a. InstrAt setting.world.memory_map a exit_number) (sym here) number_stands)
 
-exit_step : (u : State) → Fixed setting.world.ground u → u.pc ≡ 0x10004 → step (numbered u) ≡ Err (Exited (u.registers 10 % 256))
+exit_step : (u : State) → Fixed setting.world.memory_map u → u.pc ≡ 0x10004 → step (numbered u) ≡ Err (Exited (u.registers 10 % 256))
 exit_step u f here =
     let next : 0x10008 ≡ (numbered u).pc = ap (λ a. (a + 4) % 2 ^ 64) (sym here) in
-    step_at setting.world.ground (numbered u) Ecall (numbered_fixed u f) (subst (λ a. InstrAt setting.world.ground a Ecall) next ecall_stands)
+    step_at setting.world.memory_map (numbered u) Ecall (numbered_fixed u f) (subst (λ a. InstrAt setting.world.memory_map a Ecall) next ecall_stands)
 
-exits : (u : State) (n : ℕ) → Fixed setting.world.ground u → u.pc ≡ 0x10004 → u.registers 10 ≡ passed W n → ExitsWith 2 n u
+exits : (u : State) (n : ℕ) → Fixed setting.world.memory_map u → u.pc ≡ 0x10004 → u.registers 10 ≡ passed W n → ExitsWith 2 n u
 unfolding runs
 exits u n f here result =
     let status : u.registers 10 % 256 ≡ n % 256 = ap (λ x. x % 256) result ∙ sext_low n in

@@ -17,7 +17,7 @@ use Rattle.qbec.specs.Executable.{main_numbers, ExecutableRuns}
 use Rattle.qbec.proofs.StartMemory.{objects_count, get_behind, start_shown, stack_clear}
 use Rattle.qbec.proofs.Executed.{program_is_executed}
 
-usable : (at : Places) (x : Executable) (words : List (List ℕ)) (s : State) → Starts x words s → (a : ℕ) → stack_bottom ≤ a → a < stack_top → IsUsable (setting_of at words s).world.ground a
+usable : (at : Places) (x : Executable) (words : List (List ℕ)) (s : State) → Starts x words s → (a : ℕ) → stack_bottom ≤ a → a < stack_top → IsUsable (setting_of at words s).world.memory_map a
 usable at x words s starts a low high =
     let is : s.allows a ≡ read_and_write = starts.begins.usable a low (omega arith) in
     record {

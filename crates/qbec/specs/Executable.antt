@@ -39,7 +39,7 @@ pub record StartRuns (at : Places) (p : Program) (words : List (List ℕ)) (s : 
   pub ready : (turns : ℕ) → Ready (setting_of at words s).world main sp (main_call p words).classes
       (record { turns = turns; room = stack_room; args = main_numbers words (params_of (slice_get p.functions p.main)); memory = start_spots at words s }) called
   pub leaving : ℕ
-  pub leaves : (u : State) (n : ℕ) → Fixed (setting_of at words s).world.ground u → u.pc ≡ called.registers 1 → u.registers 10 ≡ passed W n → ExitsWith leaving n u
+  pub leaves : (u : State) (n : ℕ) → Fixed (setting_of at words s).world.memory_map u → u.pc ≡ called.registers 1 → u.registers 10 ≡ passed W n → ExitsWith leaving n u
   pub price : steps + leaving ≤ 256
 
 abbrev pub ExecutableRuns : Type 0

@@ -65,7 +65,7 @@ start_places objects words = objects ++ (word_places (first_word words) words ++
 abbrev pub setting_of : Places → List (List ℕ) → State → Setting
 setting_of at words s =
     record {
-      world = record { ground = record { allows = s.allows; code = s.bytes }; bottom = stack_bottom; top = stack_top };
+      world = record { memory_map = record { allows = s.allows; code = s.bytes }; bottom = stack_bottom; top = stack_top };
       entries = at.entries;
       start = λ b. slice_get (start_places at.objects words) b;
     }

@@ -39,5 +39,5 @@ pub record CallsMain (c : Setting) (p : Program) (words : List (List ℕ)) (s : 
   pub output : called.output ≡ []
   pub ready : (turns : ℕ) → Ready c.world at sp (main_call p words).classes (record { turns = turns; room = stack_room; args = args; memory = memory }) called
   pub leaving : ℕ
-  pub leaves : (u : State) (n : ℕ) → Fixed c.world.ground u → u.pc ≡ called.registers 1 → u.registers 10 ≡ passed W n → ExitsWith leaving n u
+  pub leaves : (u : State) (n : ℕ) → Fixed c.world.memory_map u → u.pc ≡ called.registers 1 → u.registers 10 ≡ passed W n → ExitsWith leaving n u
   pub price : steps + leaving ≤ 256

@@ -12,3 +12,4 @@ pub mod Start
 pub mod State
 pub mod Step
 pub mod Text
+pub mod Laid

@@ -1,0 +1,40 @@
+-- What the words of laid-out code owe to the labelled code that they were made from.
+use Rattle.std.specs.Prelude.{◌≡◌, ℕ, ◌+◌, ◌*◌, ◌%◌, ◌^◌, ◌<◌, true, List, [], ◌∷◌, length, slice_get, slice_set, Some}
+use Rattle.bits.specs.Words.{upper_field, lower_field}
+use Rattle.rv_isa.specs.Formats.{u_type, i_type}
+use Rattle.rv_isa.specs.Memory.{number_at, allowed}
+use Rattle.rv_isa.specs.Labelled.{Ground, Stand}
+use Rattle.rv_isa.specs.declared.ranges.Register.{Register}
+use Rattle.rv_isa.specs.declared.labelled.Item.{Item}
+
+-- these words stand from an address upward, and can be executed
+pub record WordsStand (g : Ground) (at : ℕ) (words : List ℕ) : Type 0 where
+  pub aligned : at % 4 ≡ 0
+  pub inside : at + 4 * length words < 2 ^ 64
+  pub here : (k w : ℕ) → slice_get words k ≡ Some w → number_at g.code (at + 4 * k) 4 ≡ w
+  pub executable : (k w : ℕ) → slice_get words k ≡ Some w → allowed (λ a. (g.allows a).executable) (at + 4 * k) 4 ≡ true
+
+-- two words, from number `word` on, that wait for the address of a global
+pub record Hole : Type 0 where
+  pub word : ℕ
+  pub register : Register
+  pub global : ℕ
+
+-- `lui` and `addiw` make the address
+abbrev pub fill : (ℕ → ℕ) → List ℕ → Hole → List ℕ
+fill global words h =
+    slice_set
+    (slice_set words h.word (u_type 0x37 h.register.number (upper_field (global h.global))))
+    (h.word + 1) (i_type 0x1b 0 h.register.number h.register.number (lower_field (global h.global)))
+
+abbrev pub filled : (ℕ → ℕ) → List ℕ → List Hole → List ℕ
+filled global words [] = words
+filled global words (h ∷ holes) = filled global (fill global words h) holes
+
+-- Wherever the words stand with addresses filled in that 31 bits hold, the labelled code stands there.
+abbrev pub LaysOut : List Item → List ℕ → List Hole → Type 0
+LaysOut items words holes =
+    (g : Ground) (at : ℕ) (global : ℕ → ℕ)
+    → ((n : ℕ) → global n < 2 ^ 31)
+    → WordsStand g at (filled global words holes)
+    → (label : ℕ → ℕ) × Stand g label global items at
