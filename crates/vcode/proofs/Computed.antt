@@ -44,4 +44,16 @@ examples =
       caller_names_places = refl;
       scratch_is_no_place = refl;
       memory_takes_16 = refl;
+      callers = refl;
+      callees = refl;
+      to_the_first = refl;
+      to_the_second = refl;
+      past_the_last = refl;
+      blocks_of_memory = refl;
+      too_dear = refl;
+      paid = refl;
+      paid_too_late = refl;
+      far_parameter = refl;
+      near_parameter = refl;
+      one_place_for_two = refl;
     }

@@ -1,5 +1,5 @@
 -- What the definitions give for the example codes.
-use Rattle.std.specs.Prelude.{◌≡◌, ℕ, ◌+◌, ◌-◌, ◌^◌, List, [], ◌∷◌, Some, None, true, false}
+use Rattle.std.specs.Prelude.{◌≡◌, ℕ, ◌+◌, ◌-◌, ◌^◌, Bool, List, [], ◌∷◌, Some, None, true, false}
 use Rattle.il_ast.specs.declared.operation.Class.TheVariants.{W, L}
 use Rattle.il_ast.specs.declared.value.Callee.TheVariants.{Defined}
 use Rattle.il_ast.specs.declared.value.Value.{Value}
@@ -9,14 +9,19 @@ use Rattle.il_ast.specs.Memory.{Memory}
 use Rattle.il_ast.specs.Run.{Spent, Outcome, Returned, Ended}
 use Rattle.il_ast.specs.Logged.{Entry, Logged}
 use Rattle.il_ast.specs.Keeps.{Asked, Given, Log}
-use Rattle.vcode.specs.declared.place.Operand.TheVariants.{At, Number}
+use Rattle.std.specs.List.{list_all, list_any}
+use Rattle.vcode.specs.declared.place.Operand.TheVariants.{At, Number, Name}
+use Rattle.vcode.specs.declared.line.Line.TheVariants.{Tick, Set, Alloc}
+use Rattle.vcode.specs.declared.line.Jump.{Jump}
+use Rattle.vcode.specs.declared.line.Jump.TheVariants.{Goto, Branch, Halt as HaltJump}
 use Rattle.vcode.specs.declared.place.Location.TheVariants.{Register, Slot}
 use Rattle.vcode.specs.declared.code.Code.{Code}
-use Rattle.vcode.specs.Places.{Places, virtual, located}
-use Rattle.vcode.specs.Regular.{IsRegular, area}
-use Rattle.vcode.specs.Named.{keeps_places, is_below, is_place}
+use Rattle.vcode.specs.Places.{Places, virtual, is_callers, located}
+use Rattle.vcode.specs.Regular.{leads_inside, allocs_first, IsRegular, area}
+use Rattle.vcode.specs.Named.{keeps_places, is_below, is_place, are_near, are_distinct}
+use Rattle.vcode.specs.Cost.{is_paid}
 use Rattle.vcode.specs.Step.{begin, step}
-use Rattle.vcode.specs.ExampleCodes.{sum, word_as, long_as_word, is_nonzero, caller, keeping, keeping_virtual, loads_word, loads_byte, keeps_pointer, compares_pointers, compares_words, heavy, halts, leads_nowhere}
+use Rattle.vcode.specs.ExampleCodes.{block, destination, sum, word_as, long_as_word, is_nonzero, caller, keeping, keeping_virtual, loads_word, loads_byte, keeps_pointer, compares_pointers, compares_words, heavy, halts, leads_nowhere}
 
 abbrev pub given : (turns : ℕ) → List Value → Given
 given t args = record { turns = t; room = 4096; args = args; memory = [] }
@@ -50,6 +55,10 @@ call o =
       };
       went = o;
     }
+
+-- jumps in a function of three blocks
+abbrev pub are_inside : Jump ℕ → Bool
+are_inside jump = leads_inside 3 jump
 
 abbrev pub in_call : Spent
 in_call = record { turns = 2; weight = 4; calls = 1; output = 72 ∷ [] }
@@ -108,3 +117,15 @@ pub record Examples : Type 0 where
   pub caller_names_places : keeps_places (is_place 1) (caller (At (Slot 0))) ≡ true
   pub scratch_is_no_place : keeps_places (is_place 1) (caller (At (Register 28))) ≡ false
   pub memory_takes_16 : area loads_word ≡ 16
+  pub callers : list_all (λ (r : ℕ). is_callers (Register r)) (1 ∷ 5 ∷ 6 ∷ 7 ∷ 10 ∷ 11 ∷ 12 ∷ 13 ∷ 14 ∷ 15 ∷ 16 ∷ 17 ∷ 28 ∷ 29 ∷ 30 ∷ 31 ∷ []) ≡ true
+  pub callees : list_any (λ (r : ℕ). is_callers (Register r)) (0 ∷ 2 ∷ 3 ∷ 4 ∷ 8 ∷ 9 ∷ 18 ∷ 19 ∷ 20 ∷ 21 ∷ 22 ∷ 23 ∷ 24 ∷ 25 ∷ 26 ∷ 27 ∷ []) ≡ false
+  pub to_the_first : are_inside (Goto 0) ≡ false
+  pub to_the_second : are_inside (Goto 1) ≡ true
+  pub past_the_last : are_inside (Branch (Number 0) 1 3) ≡ false
+  pub blocks_of_memory : allocs_first {P = ℕ} (block [] (Goto 1) ∷ block (Alloc 0 8 ∷ []) HaltJump ∷ []) ≡ false
+  pub too_dear : is_paid {P = ℕ} (block (Tick true 1 ∷ Set 0 (Number 4096) ∷ Set 1 (Number 4096) ∷ Set 2 (Number 4096) ∷ []) HaltJump) ≡ false
+  pub paid : is_paid {P = ℕ} (block (Tick true 1 ∷ Set 0 (Number 4096) ∷ Set 1 (Number 4096) ∷ Set 2 (Name 0) ∷ []) HaltJump) ≡ true
+  pub paid_too_late : is_paid {P = ℕ} (block (Set 0 (Number 1) ∷ Tick true 1 ∷ []) HaltJump) ≡ false
+  pub far_parameter : are_near (destination (Slot 128) L ∷ []) ≡ false
+  pub near_parameter : are_near (destination (Slot 127) L ∷ []) ≡ true
+  pub one_place_for_two : are_distinct (destination (Slot 1) L ∷ destination (Register 1) L ∷ destination (Slot 1) W ∷ []) ≡ false
