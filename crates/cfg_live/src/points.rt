@@ -1,0 +1,199 @@
+//! The points of a function: its instructions and jumps.
+ghost use Rattle.std.specs.Prelude.{◌≡◌, ◌++◌, [], ◌∷◌, drop, length, slice_get, OnOk, IfOk};
+ghost use Rattle.cfg_live.specs.Points.{with_line, with_lines, with_block, with_blocks, jump_uses, next_line, next_lines, next_block, next_blocks, with_start, jump_next, uses, starts, starts_after, graph_of};
+
+use crate::graph::Graph;
+use crate::uses::{Uses, jump_reads, line_reads, line_writes};
+use il_ast::list::Seq;
+use std::alloc::{AllocError, Global};
+use vcode::code::Block;
+use vcode::function::VFunc;
+use vcode::line::{Jump, Line};
+
+fn push_line(alloc: Global, uses: &mut Vec<Uses>, line: &Line<u32>) -> Result<(), AllocError>
+    ensures { OnOk result (uses.new.items ≡ with_line uses.old.items line.now) }
+{
+    if let Line::Tick { .. } = line {
+        return Ok(());
+    }
+    let reads = line_reads(alloc, line)?;
+    uses.push(Uses {
+        reads,
+        writes: line_writes(line),
+    })?;
+    Ok(())
+}
+
+fn push_lines(alloc: Global, uses: &mut Vec<Uses>, lines: &[Line<u32>]) -> Result<(), AllocError>
+    ensures { OnOk result (uses.new.items ≡ with_lines uses.old.items lines.now) }
+{
+    for line in lines {
+        push_line(alloc, uses, line)?;
+    }
+    Ok(())
+}
+
+fn push_block(alloc: Global, uses: &mut Vec<Uses>, block: &Block<u32>) -> Result<(), AllocError>
+    ensures { OnOk result (uses.new.items ≡ with_block uses.old.items block.now) }
+{
+    push_lines(alloc, uses, block.lines.as_slice())?;
+    let reads = jump_reads(alloc, &block.jump)?;
+    uses.push(Uses {
+        reads,
+        writes: None,
+    })?;
+    Ok(())
+}
+
+fn push_blocks(
+    alloc: Global,
+    uses: &mut Vec<Uses>,
+    firsts: &mut Vec<usize>,
+    blocks: &[Block<u32>],
+) -> Result<(), AllocError>
+    ensures uses { OnOk result (uses.new.items ≡ with_blocks uses.old.items blocks.now) }
+    ensures firsts { OnOk result (firsts.new.items ≡ firsts.old.items ++ starts_after uses.old.items blocks.now) }
+{
+    for block in blocks {
+        firsts.push(uses.len())?;
+        push_block(alloc, uses, block)?;
+    }
+    Ok(())
+}
+
+// What each point reads and writes, and the first point of each block.
+fn uses_and_starts(
+    alloc: Global,
+    blocks: &[Block<u32>],
+) -> Result<(Vec<Uses>, Vec<usize>), AllocError>
+    ensures uses { IfOk result (λ v. v.0.items ≡ uses blocks.now) }
+    ensures starts { IfOk result (λ v. v.1.items ≡ starts blocks.now) }
+{
+    let mut uses = Vec::new(alloc);
+    let mut firsts = Vec::new(alloc);
+    push_blocks(alloc, &mut uses, &mut firsts, blocks)?;
+    Ok((uses, firsts))
+}
+
+fn push_start(next: &mut Seq<usize>, first: Option<usize>) -> Result<(), AllocError>
+    ensures { OnOk result (next.new ≡ with_start next.old first) }
+{
+    match first {
+        Some(point) => next.push(point),
+        None => Ok(()),
+    }
+}
+
+fn next_of_jump(alloc: Global, firsts: &[usize], jump: &Jump<u32>) -> Result<Seq<usize>, AllocError>
+    ensures { IfOk result (λ v. v ≡ jump_next firsts.now jump.now) }
+{
+    let mut next = Seq::new(alloc);
+    match jump {
+        Jump::Goto(block) => push_start(&mut next, firsts.get(*block).copied())?,
+        Jump::Branch {
+            nonzero,
+            otherwise,
+            ..
+        } => {
+            push_start(&mut next, firsts.get(*nonzero).copied())?;
+            push_start(&mut next, firsts.get(*otherwise).copied())?;
+        }
+        Jump::Return(_) => {}
+        Jump::Halt => {}
+    }
+    Ok(next)
+}
+
+fn push_next(alloc: Global, nexts: &mut Vec<Seq<usize>>, line: &Line<u32>) -> Result<(), AllocError>
+    ensures { OnOk result (nexts.new.items ≡ next_line nexts.old.items line.now) }
+{
+    if let Line::Tick { .. } = line {
+        return Ok(());
+    }
+    let mut next = Seq::new(alloc);
+    next.push(nexts.len() + 1)?;
+    nexts.push(next)?;
+    Ok(())
+}
+
+fn push_next_lines(
+    alloc: Global,
+    nexts: &mut Vec<Seq<usize>>,
+    lines: &[Line<u32>],
+) -> Result<(), AllocError>
+    ensures { OnOk result (nexts.new.items ≡ next_lines nexts.old.items lines.now) }
+{
+    for line in lines {
+        push_next(alloc, nexts, line)?;
+    }
+    Ok(())
+}
+
+fn push_next_block(
+    alloc: Global,
+    firsts: &[usize],
+    nexts: &mut Vec<Seq<usize>>,
+    block: &Block<u32>,
+) -> Result<(), AllocError>
+    ensures { OnOk result (nexts.new.items ≡ next_block firsts.now nexts.old.items block.now) }
+{
+    push_next_lines(alloc, nexts, block.lines.as_slice())?;
+    let next = next_of_jump(alloc, firsts, &block.jump)?;
+    nexts.push(next)?;
+    Ok(())
+}
+
+fn push_next_blocks(
+    alloc: Global,
+    firsts: &[usize],
+    nexts: &mut Vec<Seq<usize>>,
+    blocks: &[Block<u32>],
+) -> Result<(), AllocError>
+    ensures { OnOk result (nexts.new.items ≡ next_blocks firsts.now nexts.old.items blocks.now) }
+{
+    for block in blocks {
+        push_next_block(alloc, firsts, nexts, block)?;
+    }
+    Ok(())
+}
+
+/// The points of a function: what each reads and writes, and which may come next. A jump leads to the first point of each block that it names.
+///
+/// # Errors
+///
+/// Only where memory was refused.
+pub fn graph(alloc: Global, function: &VFunc) -> Result<Graph, AllocError>
+    ensures { IfOk result (λ g. g ≡ graph_of function.now.code) }
+{
+    let blocks = function.code.blocks.as_slice();
+    let (uses, firsts) = uses_and_starts(alloc, blocks)?;
+    let mut nexts = Vec::new(alloc);
+    push_next_blocks(alloc, &firsts, &mut nexts, blocks)?;
+    Ok(Graph {
+        uses: Seq::from_vec(uses),
+        nexts: Seq::from_vec(nexts),
+    })
+}
+
+#[cfg(test)]
+mod tests {
+    use super::*;
+    use std::test::Fail;
+    use vcode::code::Code;
+
+    #[test]
+    fn nothing_has_no_points(rt: HostRuntime) -> Result<(), Fail> {
+        let function = VFunc {
+            code: Code {
+                result: None,
+                params: Seq::new(rt.alloc()),
+                blocks: Seq::new(rt.alloc()),
+            },
+            registers: 0,
+        };
+        let graph = graph(rt.alloc(), &function)?;
+        assert_eq!(rt; graph.uses.len(), 0);
+        assert_eq!(rt; graph.nexts.len(), 0);
+        Ok(())
+    }
+}
