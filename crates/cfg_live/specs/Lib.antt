@@ -1,3 +1,5 @@
 pub mod Registers
 pub mod Points
 pub mod Paths
+pub mod Rows
+pub mod Laws
