@@ -4,7 +4,7 @@ use Rattle.bits.specs.Words.{upper_field, lower_field}
 use Rattle.rv_isa.specs.Formats.{u_type, i_type}
 use Rattle.rv_isa.specs.Memory.{number_at, allowed}
 use Rattle.rv_isa.specs.Labelled.{Ground, Stand}
-use Rattle.rv_isa.specs.declared.ranges.Register.{Register}
+use Rattle.rv_isa.specs.declared.code.Hole.{Hole}
 use Rattle.rv_isa.specs.declared.labelled.Item.{Item}
 
 -- these words stand from an address upward, and can be executed
@@ -13,12 +13,6 @@ pub record WordsStand (g : Ground) (at : ℕ) (words : List ℕ) : Type 0 where
   pub inside : at + 4 * length words < 2 ^ 64
   pub here : (k w : ℕ) → slice_get words k ≡ Some w → number_at g.code (at + 4 * k) 4 ≡ w
   pub executable : (k w : ℕ) → slice_get words k ≡ Some w → allowed (λ a. (g.allows a).executable) (at + 4 * k) 4 ≡ true
-
--- two words, from number `word` on, that wait for the address of a global
-pub record Hole : Type 0 where
-  pub word : ℕ
-  pub register : Register
-  pub global : ℕ
 
 -- `lui` and `addiw` make the address
 abbrev pub fill : (ℕ → ℕ) → List ℕ → Hole → List ℕ

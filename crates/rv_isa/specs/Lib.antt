@@ -13,3 +13,5 @@ pub mod State
 pub mod Step
 pub mod Text
 pub mod Laid
+pub mod Labels
+pub mod Words

@@ -1,27 +1,77 @@
 //! Labelled code: instructions whose jumps name labels and whose addresses name globals, before places are known.
 
+ghost use Rattle.std.specs.Prelude.{◌≡◌};
+ghost use Rattle.rv_isa.specs.Labels.{IsLabelled};
+
 use crate::instruction::{BranchOp, Instr};
 use crate::ranges::Register;
+use std::marker::Model;
 
 /// An item of labelled code. The items of a function stand one after another; laying them out may use x31 for long jumps.
 #[derive(Clone, Copy, PartialEq, Eq, Debug)]
 pub enum Item {
     /// An instruction with known operands.
     Plain(Instr),
-    /// A place that branches and jumps of the function can name, each number at most once.
-    Label(u32),
+    /// A place that branches and jumps of the function can name, each number once.
+    Label(usize),
     /// A branch to a label, of at most three instructions.
     Branch {
         op: BranchOp,
         rs1: Register,
         rs2: Register,
-        label: u32,
+        label: usize,
     },
     /// A jump to a label, of one or two instructions.
-    Goto(u32),
+    Goto(usize),
     /// The address of a global, by its number, into a register: two instructions.
     Address {
         rd: Register,
-        global: u32,
+        global: usize,
     },
+}
+
+/// The labelled code of a function.
+///
+/// Its labels are the numbers below a count, and each stands in the code once. No item names x31, no address is wanted in x0,
+/// and the longest form of the code has a word at least and fewer than 2^28.
+#[derive(Drop, Debug)]
+pub struct LabelledCode {
+    items: Vec<Item>,
+    labels: usize,
+}
+
+impl Model for LabelledCode {
+    ghost use Rattle.rv_isa.specs.Labels.{LabelledItems, IsLabelled};
+
+    ghost Value = { LabelledItems };
+
+    ghost view = { λ c. record { items = c.items.items; labels = c.labels } };
+
+    ghost invariant = { λ c. IsLabelled (record { items = c.items.items; labels = c.labels }) };
+}
+
+impl LabelledCode {
+    /// The code of these items, whose labels are the numbers below `labels`.
+    pub fn new(items: Vec<Item>, labels: usize) -> LabelledCode
+        requires { IsLabelled (record { items = items.items; labels = labels }) }
+        ensures { result ≡ record { items = items.items; labels = labels } }
+    {
+        LabelledCode { items, labels }
+    }
+
+    /// The items, in order.
+    pub fn items(&self) -> &[Item]
+        ensures value { result.now ≡ self.now.items }
+        ensures labelled { IsLabelled self.now }
+    {
+        self.items.as_slice()
+    }
+
+    /// How many labels the code has: they are the numbers below.
+    pub fn labels(&self) -> usize
+        ensures value { result ≡ self.now.labels }
+        ensures labelled { IsLabelled self.now }
+    {
+        self.labels
+    }
 }

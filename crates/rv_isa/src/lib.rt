@@ -22,12 +22,19 @@
 //! - `StartsWith`: the stack and the argument words at the start (`Start.antt`);
 //! - `Stand`: what it means that [`labelled::Item`]s stand at an address (`Labelled.antt`).
 //!
+//! ## Code of functions
+//!
+//! - [`labelled::LabelledCode`] is code with labels, whose invariants are `IsLabelled` of `specs/Labels.antt`;
+//! - [`code::Code`] is the words made of it, with holes for addresses, whose invariants are `IsCode` of `specs/Words.antt`;
+//! - `LaysOut` says that such words stand for such code wherever they are put (`Laid.antt`).
+//!
 //! The module [`laws`] has what is proved of them. The choices that the manual leaves to an environment: an unknown word, a fetch of bytes that may
 //! not be executed and a jump to an address that is no multiple of 4 are faults; loads and stores take any address; `fence` does nothing; `ebreak` stops.
 //!
 //! The crate stands on `bits` and std. The formats, `specs/Formats.antt`, and the table follow the RISC-V unprivileged ISA manual.
 #![tactic(auto)]
 
+pub mod code;
 pub mod decode;
 pub mod encode;
 pub mod fault;

@@ -1,0 +1,63 @@
+//! Laid-out code: words, and where in them the addresses of globals are filled in.
+
+ghost use Rattle.std.specs.Prelude.{◌≡◌};
+ghost use Rattle.rv_isa.specs.Words.{IsCode};
+
+use crate::ranges::Register;
+use std::marker::Model;
+
+/// Two words that wait for the address of a global.
+#[derive(Clone, Copy, PartialEq, Eq, Debug)]
+pub struct Hole {
+    /// The number of the first of the two words.
+    pub word: usize,
+    /// The register that takes the address.
+    pub register: Register,
+    /// The number of the global.
+    pub global: usize,
+}
+
+/// The words of a function.
+///
+/// There is one at least. The holes lie in order and apart, each with its two words among the function's.
+#[derive(Drop, Debug)]
+pub struct Code {
+    words: Vec<u32>,
+    holes: Vec<Hole>,
+}
+
+impl Model for Code {
+    ghost use Rattle.rv_isa.specs.Words.{Words, IsCode};
+
+    ghost Value = { Words };
+
+    ghost view = { λ c. record { words = c.words.items; holes = c.holes.items } };
+
+    ghost invariant = { λ c. IsCode (record { words = c.words.items; holes = c.holes.items }) };
+}
+
+impl Code {
+    /// The code of these words and holes.
+    pub fn new(words: Vec<u32>, holes: Vec<Hole>) -> Code
+        requires { IsCode (record { words = words.items; holes = holes.items }) }
+        ensures { result ≡ record { words = words.items; holes = holes.items } }
+    {
+        Code { words, holes }
+    }
+
+    /// The words, in order.
+    pub fn words(&self) -> &[u32]
+        ensures value { result.now ≡ self.now.words }
+        ensures code { IsCode self.now }
+    {
+        self.words.as_slice()
+    }
+
+    /// The holes, in order.
+    pub fn holes(&self) -> &[Hole]
+        ensures value { result.now ≡ self.now.holes }
+        ensures code { IsCode self.now }
+    {
+        self.holes.as_slice()
+    }
+}
