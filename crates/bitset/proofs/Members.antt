@@ -7,7 +7,7 @@ use Rattle.std.proofs.lemmas.Bool.{cases_lt}
 use Rattle.std.proofs.lemmas.Bool.Decides.{nat_tests}
 use Rattle.std.proofs.lemmas.List.{get_or_past, get_or_default}
 use Rattle.std.proofs.Common.{get_or-set_same, get_or-set_other}
-use Rattle.std.proofs.lemmas.Nat.Bits.{bit_at-lt, bit_at-zero, bit_at_or, bit_at_and, bit_at_not, bit_at_set_same, bit_at_set_other, shr_and_one, same_from_bits, bit_at_above}
+use Rattle.std.proofs.lemmas.Nat.Bits.{bit_at-lt, bit_at-zero, bit_at_or, bit_at_and, bit_at_not, bit_at_set_same, bit_at_set_other, bit_at_clear_same, bit_at_clear_other, shr_and_one, same_from_bits, bit_at_above}
 use Rattle.bitset.specs.Bits.{Grew, SameMembers, is_set}
 use Rattle.bitset.specs.Words.{UnionIn, ChangedIn, MinusBelow}
 
@@ -213,3 +213,56 @@ added words i j within false e =
 
 pub is_set-with_number : (words : List ℕ) (i : ℕ) → i / 64 < length words → (j : ℕ) → is_set (with_number words i) j ≡ ((j == i) || is_set words j)
 is_set-with_number words i within j = added words i j within (j == i) refl
+
+-- the word of a number with its bit cleared
+unfoldable pub without_number : List ℕ → ℕ → List ℕ
+without_number words i = slice_set words (i / 64) (bit_and (get_or words (i / 64) 0) (bit_not w64 (1 * 2 ^ (i % 64) % 2 ^ 64)))
+
+cleared_bit : (words : List ℕ) (i : ℕ) → i / 64 < length words → is_set (without_number words i) i ≡ false
+unfolding is_set without_number
+cleared_bit words i within =
+    ap (λ w. bit_at w (i % 64) == 1) (get_or-set_same words (i / 64) (bit_and (get_or words (i / 64) 0) (bit_not w64 (1 * 2 ^ (i % 64) % 2 ^ 64))) 0 within)
+    ∙ ap (λ b. b == 1) (bit_at_clear_same w64 (get_or words (i / 64) 0) (i % 64) (omega arith))
+
+stays_other_bit : (words : List ℕ) (i j : ℕ) → i / 64 < length words → j / 64 ≡ i / 64 → j % 64 ≢ i % 64 → is_set (without_number words i) j ≡ is_set words j
+unfolding is_set without_number
+stays_other_bit words i j within same differ =
+    let w = get_or words (i / 64) 0 in
+    ap (λ k. bit_at (get_or (slice_set words (i / 64) (bit_and w (bit_not w64 (1 * 2 ^ (i % 64) % 2 ^ 64)))) k 0) (j % 64) == 1) same
+    ∙ ap (λ v. bit_at v (j % 64) == 1) (get_or-set_same words (i / 64) (bit_and w (bit_not w64 (1 * 2 ^ (i % 64) % 2 ^ 64))) 0 within)
+    ∙ ap (λ b. b == 1) (bit_at_clear_other w64 w (i % 64) (omega arith) (j % 64) (omega arith) differ)
+    ∙ ap (λ k. bit_at (get_or words k 0) (j % 64) == 1) (sym same)
+
+stays_other_word : (words : List ℕ) (i j : ℕ) → j / 64 ≢ i / 64 → is_set (without_number words i) j ≡ is_set words j
+unfolding is_set without_number
+stays_other_word words i j differ =
+    ap (λ w. bit_at w (j % 64) == 1) (get_or-set_other words (i / 64) (j / 64) (bit_and (get_or words (i / 64) 0) (bit_not w64 (1 * 2 ^ (i % 64) % 2 ^ 64))) 0 differ)
+
+kept_but : (b : Bool) → (b && not false) ≡ b
+kept_but true = refl
+kept_but false = refl
+
+lost : (b : Bool) → (b && not true) ≡ false
+lost true = refl
+lost false = refl
+
+same_or_not : (m n : ℕ) → (m ≡ n) ⊎ (m ≢ n)
+same_or_not m n = elim (cases_lt m n) [ inl low ↦ inr (λ p. omega arith) | inr high ↦ at_least m n high ]
+  where
+    at_least : (m n : ℕ) → n ≤ m → (m ≡ n) ⊎ (m ≢ n)
+    at_least m n h = elim (eq-or-lt_of_le h) [ inl same ↦ inl (sym same) | inr low ↦ inr (λ p. omega arith) ]
+
+-- clearing the bit of a number takes out that number alone
+taken_out : (words : List ℕ) (i j : ℕ) → i / 64 < length words → (here : Bool) → (j == i) ≡ here → is_set (without_number words i) j ≡ (is_set words j && not here)
+taken_out words i j within true e =
+    let is : i ≡ j = grind (arith, nat_tests) in
+    ap (λ k. is_set (without_number words i) k) (sym is) ∙ cleared_bit words i within ∙ sym (lost (is_set words j))
+taken_out words i j within false e =
+    let differ : j ≢ i = λ p. grind (arith, nat_tests) in
+    elim (same_or_not (j / 64) (i / 64)) [
+      | inl same ↦ stays_other_bit words i j within same (λ rest. differ (omega arith))
+      | inr other ↦ stays_other_word words i j other
+    ] ∙ sym (kept_but (is_set words j))
+
+pub is_set-without_number : (words : List ℕ) (i : ℕ) → i / 64 < length words → (j : ℕ) → is_set (without_number words i) j ≡ (is_set words j && not (j == i))
+is_set-without_number words i within j = taken_out words i j within (j == i) refl

@@ -1,7 +1,7 @@
-ghost use Rattle.std.specs.Prelude.{◌≡◌, ◌<◌, ℕ, IfOk, Bool, false, ◌==◌, ◌||◌, ◌&&◌, not, MatchBool};
+ghost use Rattle.std.specs.Prelude.{◌≡◌, ◌<◌, ℕ, IfOk, Bool, true, false, ◌==◌, ◌||◌, ◌&&◌, not, MatchBool};
 ghost use Rattle.bitset.specs.Bits.{Grew, SameMembers, is_member};
 
-use crate::words::{add_number, minus_words, no_words, union_words};
+use crate::words::{add_number, drop_all, drop_number, minus_words, no_words, union_words};
 use std::alloc::{AllocError, Global};
 use std::marker::Model;
 
@@ -38,7 +38,8 @@ impl BitSet {
 
     /// The length: every number of the set is below it.
     pub fn len(&self) -> usize
-        ensures { result ≡ self.now.length }
+        ensures length { result ≡ self.now.length }
+        ensures below { (i : ℕ) → is_member self.now i ≡ true → i < self.now.length }
     {
         self.length
     }
@@ -58,6 +59,23 @@ impl BitSet {
         ensures members { (j : ℕ) → is_member self.new j ≡ (j == i || is_member self.old j) }
     {
         add_number(self.words.as_mut_slice(), i);
+    }
+
+    /// Takes `i` out of the set.
+    pub fn remove(&mut self, i: usize)
+        requires { i < self.old.length }
+        ensures length { self.new.length ≡ self.old.length }
+        ensures members { (j : ℕ) → is_member self.new j ≡ (is_member self.old j && not (j == i)) }
+    {
+        drop_number(self.words.as_mut_slice(), i);
+    }
+
+    /// Takes all numbers out of the set.
+    pub fn clear(&mut self)
+        ensures length { self.new.length ≡ self.old.length }
+        ensures empty { (i : ℕ) → is_member self.new i ≡ false }
+    {
+        drop_all(self.words.as_mut_slice());
     }
 
     /// Adds the numbers of `other`, a set of the same length, and says whether the set grew.
@@ -105,6 +123,16 @@ mod tests {
         Ok(set)
     }
 
+    /// Whether some number is in the set.
+    fn has_some(set: &BitSet) -> bool {
+        for i in 0..set.len() {
+            if i < set.len() && set.contains(i) {
+                return true;
+            }
+        }
+        false
+    }
+
     #[test]
     fn sets_of_each_size(rt: HostRuntime) -> Result<(), Fail> {
         for length in [0, 1, 63, 64, 65, 511, 512, 513] {
@@ -132,6 +160,14 @@ mod tests {
                     "{i} of {length}, less"
                 );
             }
+            if length > 2 {
+                assert!(rt; set.len() == length);
+                set.remove(2);
+                assert!(rt; set.len() == length);
+                assert!(rt; !set.contains(2) && (length < 5 || set.contains(4)));
+            }
+            set.clear();
+            assert!(rt; set.len() == length && !has_some(&set), "{length}, cleared");
         }
         Ok(())
     }

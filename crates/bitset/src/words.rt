@@ -111,6 +111,23 @@ pub fn add_number(words: &mut [u64], i: usize)
     words[i / 64] |= 1 << (i % 64);
 }
 
+/// Takes the number `i` out of those of the words.
+pub fn drop_number(words: &mut [u64], i: usize)
+    requires { i / 64 < length words.old }
+    ensures same_length { length words.new ≡ length words.old }
+    ensures members { (j : ℕ) → is_set words.new j ≡ (is_set words.old j && not (j == i)) }
+{
+    words[i / 64] &= !(1 << (i % 64));
+}
+
+/// Takes all numbers out of the words.
+pub fn drop_all(words: &mut [u64])
+    ensures same_length { length words.new ≡ length words.old }
+    ensures empty { (i : ℕ) → is_set words.new i ≡ false }
+{
+    words.fill(0);
+}
+
 /// `count` words with no number.
 pub fn no_words(alloc: Global, count: usize) -> Result<Vec<u64>, AllocError>
     ensures number { IfOk result (λ words. length words.items ≡ count) }

@@ -1,1 +1,4 @@
 mod Exact
+pub mod Marks
+pub mod Unset
+pub mod Whole

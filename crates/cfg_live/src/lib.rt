@@ -6,13 +6,22 @@
 //! The points are instructions and jumps, numbered from 0 in the order of the text; ticks are none. `specs/Points.antt` has them with what they read and
 //! write and which may come next, `specs/Paths.antt` what live means. [`points::graph`] makes them of a function.
 //!
-//! The sets of live registers are not here yet: so far the crate has the points, the definition, and the law that sets with what is read or live behind, and
-//! with nothing that has no path, are exact ([`laws`]).
+//! [`live::live`] answers a [`sets::Live`], whose `holds` says whether a register is live right before a point, both ways exactly; [`live::live_in`] does so
+//! of any graph. It has a set for each point, a bit for each register. The sets grow from empty ones in sweeps over the points, until a sweep changes none;
+//! between these it goes along a postorder of the graph and back, so that the order of the blocks matters little. That such sets are exact is a law of its own
+//! ([`laws`]). Only what makes sets and lists wants memory; `holds` takes none.
 //!
 //! The crate stands on `vcode` for the code and on `bitset` for sets.
 #![tactic(auto)]
 
+mod flow;
 pub mod graph;
 pub mod laws;
+pub mod live;
+mod order;
 pub mod points;
+pub mod sets;
+mod sweep;
+#[cfg(test)]
+mod tests;
 pub mod uses;

@@ -1,0 +1,90 @@
+//! Sweeps over the points, which let the sets grow until they are closed.
+ghost use Rattle.std.specs.Prelude.{◌≡◌, ◌<◌, ◌||◌, ◌&&◌, nat_eq, ℕ, true, false, length, slice_get, Some, MatchBool};
+ghost use Rattle.bitset.specs.Bits.{Bits, is_member};
+ghost use Rattle.cfg_live.specs.Rows.{holds, AreSized, SameMarks, Stable, Went, Changed};
+
+use crate::flow::flow;
+use crate::graph::Graph;
+use bitset::BitSet;
+
+// Joins the set to that of a point, and says whether that grew.
+fn grow(rows: &mut [BitSet], set: &BitSet, point: usize) -> bool
+    requires sized { AreSized set.now.length rows.old }
+    requires inside { point < length rows.old }
+    ensures as_many { length rows.new ≡ length rows.old }
+    ensures lengths { (p : ℕ) (s : Bits) → slice_get rows.new p ≡ Some s → s.length ≡ set.now.length }
+    ensures members { (q r : ℕ) → holds rows.new q r ≡ (holds rows.old q r || (nat_eq q point && is_member set.now r)) }
+    ensures grew { MatchBool result ((r : ℕ) × (holds rows.old point r ≡ false) × (holds rows.new point r ≡ true)) (SameMarks rows.old rows.new) }
+{
+    rows[point].union_into(set)
+}
+
+// Lets the set of a point grow by what flows into it, and says whether it did.
+fn visit(rows: &mut [BitSet], set: &mut BitSet, graph: &Graph, point: usize) -> bool
+    requires sized { AreSized set.old.length rows.old }
+    requires inside { point < length rows.old }
+    ensures length { set.new.length ≡ set.old.length }
+    ensures went { Went graph.now set.old.length rows.old rows.new }
+    ensures changed { Changed set.old.length rows.old rows.new result }
+    ensures stable { result ≡ false → Stable graph.now set.old.length rows.new point }
+{
+    flow(set, rows, graph, point);
+    grow(rows, set, point)
+}
+
+// Visits a point, if it has a set.
+#[tactic(auto, using(crate::proofs::Marks::went_nowhere))]
+fn visit_if_there(rows: &mut [BitSet], set: &mut BitSet, graph: &Graph, point: usize)
+    requires { AreSized set.old.length rows.old }
+    ensures length { set.new.length ≡ set.old.length }
+    ensures went { Went graph.now set.old.length rows.old rows.new }
+{
+    if point < rows.len() {
+        visit(rows, set, graph, point);
+    }
+}
+
+// Visits the points in this order.
+pub(crate) fn sweep_along(rows: &mut [BitSet], set: &mut BitSet, graph: &Graph, order: &[usize])
+    requires { AreSized set.old.length rows.old }
+    ensures length { set.new.length ≡ set.old.length }
+    ensures went { Went graph.now set.old.length rows.old rows.new }
+{
+    for point in order {
+        visit_if_there(rows, set, graph, *point);
+    }
+}
+
+// Visits each point, and says whether a set grew.
+fn sweep(rows: &mut [BitSet], set: &mut BitSet, graph: &Graph) -> bool
+    requires { AreSized set.old.length rows.old }
+    ensures length { set.new.length ≡ set.old.length }
+    ensures went { Went graph.now set.old.length rows.old rows.new }
+    ensures changed { Changed set.old.length rows.old rows.new result }
+    ensures stable { result ≡ false → (p : ℕ) → p < length rows.new → Stable graph.now set.old.length rows.new p }
+{
+    let mut changed = false;
+    for point in 0..rows.len() {
+        changed |= visit(rows, set, graph, point);
+    }
+    changed
+}
+
+/// Lets the sets grow until each point is stable. Between sweeps over all points it goes along `order` and back, in which most of the growth is meant to come.
+pub(crate) fn settle(
+    rows: &mut [BitSet],
+    set: &mut BitSet,
+    graph: &Graph,
+    order: &[usize],
+    back: &[usize],
+)
+    requires { AreSized set.old.length rows.old }
+    ensures length { set.new.length ≡ set.old.length }
+    ensures went { Went graph.now set.old.length rows.old rows.new }
+    ensures stable { (p : ℕ) → p < length rows.new → Stable graph.now set.old.length rows.new p }
+{
+    while sweep(rows, set, graph) {
+        sweep_along(rows, set, graph, order);
+        sweep_along(rows, set, graph, back);
+    }
+}
