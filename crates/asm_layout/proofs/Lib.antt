@@ -1,0 +1,7 @@
+pub mod Distances
+pub mod Running
+pub mod Standing
+pub mod Filling
+pub mod WordRanges
+pub mod TestLemmas
+pub mod Whole

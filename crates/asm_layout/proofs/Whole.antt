@@ -1,0 +1,137 @@
+-- The words of a function, in the forms that are chosen, are laid out for its labelled code.
+use Rattle.std.proofs.Common.{◌≡◌, ℕ, zero, suc, ◌+◌, ◌*◌, ◌<◌, ◌≤◌, List, [], ◌∷◌, length, refl, subst, arith, replicate, Bool, true, false}
+use Rattle.std.proofs.lemmas.List.{length-replicate}
+use Rattle.std.proofs.lemmas.Bool.{and_parts}
+use Rattle.std.proofs.lemmas.Bool.Decides.{nat_tests}
+use Rattle.std.specs.List.{list_all}
+use Rattle.std.specs.Prelude.{slice_index, nat_lt}
+use Rattle.rv_isa.specs.Labels.{LabelledItems, IsLabelled, longest, longest_size, times_labelled, is_label, has_label_below}
+use Rattle.rv_isa.specs.Labelled.{Stand}
+use Rattle.rv_isa.specs.Laid.{LaysOut, filled}
+use Rattle.rv_isa.specs.Words.{IsCode}
+use Rattle.rv_isa.specs.declared.labelled.Item.{Item}
+use Rattle.rv_isa.specs.declared.labelled.Item.TheVariants.{Plain, Label, Branch, Goto, Address}
+use Rattle.asm_layout.specs.declared.reach.Reach.{Reach}
+use Rattle.asm_layout.specs.declared.reach.Reach.TheVariants.{Short, Middle, Far}
+use Rattle.asm_layout.specs.Forms.{reach_of, jump_size, branch_size, size, words_with, no_address, AllFit, far_of, places_of, words_of, holes_of}
+use Rattle.asm_layout.proofs.Distances.{Ahead, Walk, chosen_end, end_ahead, all_fit}
+use Rattle.asm_layout.proofs.Standing.{items_stand, words_end}
+use Rattle.asm_layout.proofs.Filling.{all_filled, all_lie}
+use Rattle.asm_layout.proofs.WordRanges.{small_at, all_small}
+
+zeros : (n l : ℕ) → slice_index (replicate n 0) l ≡ 0
+zeros zero l = refl
+zeros (suc n) zero = refl
+zeros (suc n) (suc l) = zeros n l
+
+none_behind : (a b : ℕ) → a ≡ 0 → b ≡ 0 → Ahead a b 0 0
+none_behind a b e k = record { real = omega arith; no_longer = omega arith }
+
+pub begin : (c : LabelledItems) → IsLabelled c → Walk (far_of c) (places_of c) 0 0 (replicate c.labels 0) (replicate c.labels 0) c.items
+begin c is =
+    let near = is.near in
+    record {
+      longest_are = refl;
+      chosen_are = refl;
+      same = refl;
+      behind = λ l. none_behind (slice_index (replicate c.labels 0) l) (slice_index (replicate c.labels 0) l) (zeros c.labels l) (zeros c.labels l);
+      not_longer = omega arith;
+      near = omega arith;
+    }
+
+-- ---- each label stands once, or not at all
+
+no_label : (n l : ℕ) (i : Item) → n ≤ l → has_label_below n i ≡ true → is_label l i ≡ false
+no_label n l (Plain x) le h = refl
+no_label n l (Label m) le h = grind (arith, nat_tests)
+no_label n l (Branch op rs1 rs2 m) le h = refl
+no_label n l (Goto m) le h = refl
+no_label n l (Address rd m) le h = refl
+
+none_of : (n l : ℕ) (items : List Item) → n ≤ l → list_all (has_label_below n) items ≡ true → times_labelled l items ≡ 0
+none_of n l [] le h = refl
+none_of n l (i ∷ items) le h =
+    let both = and_parts (has_label_below n i) (list_all (has_label_below n) items) h in
+    rw (no_label n l i le both.0, none_of n l items le both.1) refl
+
+one_at_most : (c : LabelledItems) → IsLabelled c → (l : ℕ) → times_labelled l c.items ≤ 1
+one_at_most c is l = by_test (nat_lt l c.labels) refl
+  where
+    by_test : (b : Bool) → nat_lt l c.labels ≡ b → times_labelled l c.items ≤ 1
+    by_test true e = let once = is.once l (grind (arith, nat_tests)) in omega arith
+    by_test false e = let none = none_of c.labels l c.items (grind (arith, nat_tests)) is.labels in omega arith
+
+-- ---- the whole
+
+pub lays_out : (c : LabelledItems) → IsLabelled c → LaysOut c.items (words_of c) (holes_of c)
+lays_out c is g at global addresses stand =
+    let walk = begin c is in
+    let same : filled global (words_of c) (holes_of c) ≡ words_with (far_of c) (places_of c) global 0 [] c.items =
+    all_filled (far_of c) (places_of c) global 0 [] [] c.items refl in
+    let ws : List ℕ = filled global (words_of c) (holes_of c) in
+    let here : at + 4 * 0 ≡ at = omega arith in (
+      (λ l. at + 4 * slice_index (places_of c) l),
+      subst (λ a. Stand g (λ l. at + 4 * slice_index (places_of c) l) global c.items a) here
+          (items_stand g at global (far_of c) (places_of c) ws 0 [] (replicate c.labels 0) (replicate c.labels 0) c.labels c.items
+          (record { walk = walk; whole = same; stand = stand; addresses = addresses })
+          (record { below = is.labels; once = one_at_most c is; registers = is.registers })
+          (length-replicate c.labels 0)),
+    )
+
+-- ---- sizes
+
+jump_some : (r : Reach) → 0 < jump_size r
+jump_some Short = omega arith
+jump_some Middle = omega arith
+jump_some Far = omega arith
+
+branch_some : (r : Reach) → 0 < branch_size r
+branch_some Short = omega arith
+branch_some Middle = omega arith
+branch_some Far = omega arith
+
+size_some : (far : List ℕ) (f : ℕ) (i : Item) → 0 < longest i → 0 < size far f i
+size_some far f (Plain x) h = omega arith
+size_some far f (Label l) h = absurd (omega arith)
+size_some far f (Branch op rs1 rs2 l) h = branch_some (reach_of f (slice_index far l))
+size_some far f (Goto l) h = jump_some (reach_of f (slice_index far l))
+size_some far f (Address rd n) h = omega arith
+
+end_after : (far : List ℕ) (f p : ℕ) (items : List Item) → 0 < longest_size items → p < chosen_end far f p items
+unfolding chosen_end
+end_after far f p [] h = absurd (omega arith)
+end_after far f p (i ∷ items) h =
+    by_test (nat_lt 0 (longest i)) refl (λ some. end_after far (f + longest i) (p + size far f i) items some)
+  where
+    by_test : (b : Bool) → nat_lt 0 (longest i) ≡ b
+        → (0 < longest_size items → p + size far f i < chosen_end far (f + longest i) (p + size far f i) items)
+        → p < chosen_end far (f + longest i) (p + size far f i) items
+    by_test true e next =
+        let some = size_some far f i (grind (arith, nat_tests)) in
+        let rest = end_ahead far (f + longest i) (p + size far f i) items in
+        let real = rest.real in
+        omega arith
+    by_test false e next =
+        let none : longest i ≡ 0 = grind (arith, nat_tests) in
+        let rest = next (omega arith) in
+        omega arith
+
+pub not_longer : (c : LabelledItems) → IsLabelled c → length (words_of c) ≤ longest_size c.items
+not_longer c is =
+    let end = words_end (far_of c) (places_of c) no_address 0 [] c.items in
+    let ahead = end_ahead (far_of c) 0 0 c.items in
+    let no_longer = ahead.no_longer in
+    omega arith
+
+pub is_code : (c : LabelledItems) → IsLabelled c → IsCode (record { words = words_of c; holes = holes_of c })
+is_code c is =
+    let end = words_end (far_of c) (places_of c) no_address 0 [] c.items in
+    let after = end_after (far_of c) 0 0 c.items is.not_empty in
+    record {
+      has_words = omega arith;
+      words = small_at (words_of c) (all_small (far_of c) (places_of c) no_address 0 [] c.items tt);
+      holes = all_lie (far_of c) (places_of c) 0 [] [] c.items refl;
+    }
+
+pub forms_fit : (c : LabelledItems) → IsLabelled c → AllFit (far_of c) (places_of c) 0 0 c.items
+forms_fit c is = all_fit (far_of c) (places_of c) 0 0 (replicate c.labels 0) (replicate c.labels 0) c.items (begin c is)

@@ -1,0 +1,31 @@
+//! Words for labelled code.
+
+ghost use Rattle.std.specs.Prelude.{◌<◌, ◌≤◌, length, IfOk};
+ghost use Rattle.rv_isa.specs.Labels.{longest_size};
+ghost use Rattle.rv_isa.specs.Laid.{LaysOut};
+
+use crate::emit::{push_holes, push_words};
+use crate::places::{chosen_places, longest_places};
+use rv_isa::code::Code;
+use rv_isa::labelled::LabelledCode;
+use std::alloc::{AllocError, Global};
+
+/// The words of a function's labelled code, with holes for the addresses of globals.
+///
+/// Wherever the words stand, with addresses below 2^31 filled in, the labelled code stands. There is one word at least, and no more
+/// than the items' longest forms take. Memory is all that can be wanting.
+#[tactic(auto, using(crate::proofs::Whole::lays_out, crate::proofs::Whole::is_code, crate::proofs::Whole::not_longer, crate::proofs::Whole::forms_fit))]
+pub fn layout(alloc: Global, code: LabelledCode) -> Result<Code, AllocError>
+    ensures laid { IfOk result (λ out. LaysOut code.items out.words out.holes) }
+    ensures some { IfOk result (λ out. 0 < length out.words) }
+    ensures not_longer { IfOk result (λ out. length out.words ≤ longest_size code.items) }
+{
+    let items = code.items();
+    let far = longest_places(alloc, code.labels(), items)?;
+    let places = chosen_places(alloc, code.labels(), far.as_slice(), items)?;
+    let mut words = Vec::new(alloc);
+    push_words(&mut words, far.as_slice(), places.as_slice(), items)?;
+    let mut holes = Vec::new(alloc);
+    push_holes(&mut holes, far.as_slice(), items)?;
+    Ok(Code::new(words, holes))
+}
