@@ -128,4 +128,4 @@ pub record Examples : Type 0 where
   pub paid_too_late : is_paid {P = ℕ} (block (Set 0 (Number 1) ∷ Tick true 1 ∷ []) HaltJump) ≡ false
   pub far_parameter : are_near (destination (Slot 128) L ∷ []) ≡ false
   pub near_parameter : are_near (destination (Slot 127) L ∷ []) ≡ true
-  pub one_place_for_two : are_distinct (destination (Slot 1) L ∷ destination (Register 1) L ∷ destination (Slot 1) W ∷ []) ≡ false
+  pub one_place_for_two : are_distinct located (destination (Slot 1) L ∷ destination (Register 1) L ∷ destination (Slot 1) W ∷ []) ≡ false

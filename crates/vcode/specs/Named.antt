@@ -12,7 +12,7 @@ use Rattle.vcode.specs.declared.line.Jump.{Jump}
 use Rattle.vcode.specs.declared.line.Jump.TheVariants.{Goto, Branch, Return, Halt}
 use Rattle.vcode.specs.declared.code.Block.{Block}
 use Rattle.vcode.specs.declared.code.Code.{Code}
-use Rattle.vcode.specs.Places.{same_location}
+use Rattle.vcode.specs.Places.{Places}
 
 -- each place that is read or written passes the test
 abbrev pub operand_keeps : {P : Type 0} → (P → Bool) → Operand P → Bool
@@ -46,10 +46,19 @@ block_keeps test b = list_all (line_keeps test) b.lines && jump_keeps test b.jum
 abbrev pub keeps_places : {P : Type 0} → (P → Bool) → Code P → Bool
 keeps_places test f = list_all (λ d. test d.place) f.params && list_all (block_keeps test) f.blocks
 
+-- no two parameters have one place
+abbrev pub are_distinct : {P : Type 0} → Places P → List (Destination P) → Bool
+are_distinct c [] = true
+are_distinct c (d ∷ ds) = not (list_any (λ e. c.same d.place e.place) ds) && are_distinct c ds
+
 -- ---- virtual registers
 
 abbrev pub is_below : ℕ → ℕ → Bool
 is_below registers p = nat_lt p registers
+
+-- a parameter's register has a slot of its number that one instruction reaches
+abbrev pub are_low : List (Destination ℕ) → Bool
+are_low params = list_all (λ (d : Destination ℕ). nat_lt d.place 128) params
 
 -- ---- registers and slots
 
@@ -65,7 +74,3 @@ is_near (Slot s) = nat_lt s 128
 
 abbrev pub are_near : List (Destination Location) → Bool
 are_near params = list_all (λ (d : Destination Location). is_near d.place) params
-
-abbrev pub are_distinct : List (Destination Location) → Bool
-are_distinct [] = true
-are_distinct (d ∷ ds) = not (list_any (λ (e : Destination Location). same_location d.place e.place) ds) && are_distinct ds

@@ -1,0 +1,26 @@
+use Rattle.std.proofs.Common.{sym, subst}
+use Rattle.std.specs.Prelude.{IsTrue}
+use Rattle.vcode.specs.declared.place.Location.{Location}
+use Rattle.vcode.specs.declared.code.Code.{Code}
+use Rattle.vcode.specs.Named.{keeps_places, is_place, are_near, are_distinct}
+use Rattle.vcode.specs.Places.{located}
+use Rattle.vcode.specs.Regular.{IsRegular}
+use Rattle.alloc_check.specs.Kept.{Keeps}
+use Rattle.alloc_check.proofs.InSlots.{slots_keep}
+use Rattle.alloc_check.proofs.Regular.{slots_regular, slots_known, slots_near, slots_apart}
+use Rattle.alloc_check.proofs.spill_all.spill_all.Goals as goal
+
+pub invariant_of-result : goal.invariant_of-result
+invariant_of-result c =
+    let e = sym c.in_ok-code.ensures in
+    let v = c.args.function.now.code in
+    record {
+      regular = subst (λ (l : Code Location). IsRegular l) e (slots_regular v c.args.function.now.regular);
+      known = subst (λ (l : Code Location). IsTrue (keeps_places (is_place c.args.function.now.registers) l)) e (slots_known c.args.function.now.registers v c.args.function.now.known);
+      near = subst (λ (l : Code Location). IsTrue (are_near l.params)) e (slots_near v.params c.args.function.now.low);
+      apart = subst (λ (l : Code Location). IsTrue (are_distinct located l.params)) e (slots_apart v.params c.args.function.now.distinct);
+    }
+
+pub returns-clause-kept : goal.returns-clause-kept
+returns-clause-kept c =
+    subst (λ (l : Code Location). Keeps c.args.function.now.code l) (sym c.in_ok-code.ensures) (slots_keep c.args.function.now.code)
