@@ -3,3 +3,10 @@ pub mod Progress
 pub mod Paths
 pub mod Loops
 pub mod Carrying
+pub mod Counting
+pub mod EdgePlaces
+pub mod EntryNumbers
+pub mod Lowering
+pub mod MoreKnown
+pub mod PlaceTable
+pub mod TwoRounds

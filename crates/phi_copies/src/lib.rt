@@ -1,28 +1,34 @@
-//! Copies that are done at once, put in an order.
+//! # Phis, made into copies
 //!
-//! The phis of a block all read before one of them is written, and so do the moves of a call's
-//! arguments. Code does one move after another, so a move must wait until what it overwrites has been
-//! read; a cycle, as a swap, needs one place more.
+//! The phis of a block all read before one of them is written. Code does one copy after another, so what is still to be read must not be overwritten.
 //!
-//! `sequence` answers such an order. Places are numbers, and the scratch place is one that no move
-//! names. Done one after another, the moves of the answer leave in each destination what its source
-//! held before, and change no other place but scratch. For n moves between two places the answer has
-//! at most n + n / 2; a move of a place to itself is left out. Each of them goes to a destination of
-//! the given moves or to scratch. What holds of places with numbers in them holds of any values
-//! (`does_at_once` in `proofs/Carrying.antt`).
+//! `lower::lower` takes a function's phis away: `no_phi::NoPhi` has the function's blocks with their instructions as they are, and for each block an ending in the
+//! place of its jump, [`ending::Ending`]: what turn and weight it spends, copies, and where it leaves to. The phis of a block are done where the block is entered
+//! from: each operand is read into a temporary of the phi's own, and then each is written. After a branch they stand in a block of their own, an edge, so that they
+//! are done on that way alone. The lowered function keeps what the function means, turn for turn (`specs/Endings` has what it does, `specs/Lowered` what it is,
+//! `specs/Keeping` what it owes; `laws::lowering_keeps`). The work is linear in the function, but that an argument of a phi is searched among the phi's.
 //!
-//! `specs/Moves.antt` says what moves leave; `specs/Order.antt` has what is true while they are put in
-//! order. The work is one look-up in an ordered map for each move, and otherwise linear.
+//! `sequence::sequence` puts copies that are to be done at once in an order. Places are numbers, and the scratch place is one that no move names. Done one after
+//! another, the moves of the answer leave in each destination what its source held before, and change no other place but scratch. For n moves between two places
+//! the answer has at most n + n / 2; a move of a place to itself is left out. Each of them goes to a destination of the given moves or to scratch. What holds of
+//! places with numbers in them holds of any values (`does_at_once` in `proofs/Carrying.antt`). `specs/Moves.antt` says what moves leave; `specs/Order.antt` has
+//! what is true while they are put in order. The work is one look-up in an ordered map for each move, and otherwise linear.
 //!
-//! # How
+//! The order is made from its end. From a move the way goes to the one that writes what it reads, and on from there, until nothing writes it or a visited move
+//! comes. The moves of the way are placed from its end back, each in front of those that are placed. If the way meets itself, its end is placed with the scratch
+//! place for its source, and the move to scratch stands before the cycle.
 //!
-//! The order is made from its end. From a move the way goes to the one that writes what it reads, and
-//! on from there, until nothing writes it or a visited move comes. The moves of the way are placed from
-//! its end back, each in front of those that are placed. If the way meets itself, its end is placed with
-//! the scratch place for its source, and the move to scratch stands before the cycle.
+//! The crate stands on `il_ast` for functions and their meaning, and on `il_types` for the rules that they keep.
 #![tactic(auto)]
 
+mod copies;
+mod edges;
+pub mod ending;
+pub mod laws;
+pub mod lower;
+mod map;
 pub mod moves;
+pub mod no_phi;
 pub mod sequence;
 #[cfg(test)]
 mod tests;

@@ -1,0 +1,105 @@
+//! What is worked out once for a function.
+ghost use Rattle.std.specs.Prelude.{◌≡◌, ℕ, length, cond, nat_eq, slice_get, Some, None, IfOk, OnOk};
+ghost use Rattle.std.specs.Option.{option_or};
+ghost use Rattle.il_ast.specs.Effect.{place_of};
+ghost use Rattle.phi_copies.specs.Good.{IsGoodFunction};
+ghost use Rattle.phi_copies.specs.Lowered.{target, phis_at};
+ghost use Rattle.phi_copies.specs.Map.{place_in, first_numbers};
+ghost use Rattle.std.proofs.Props.{props};
+
+use il_ast::block::{Block, Phi};
+use il_ast::function::Func;
+use il_ast::label::Label;
+use std::alloc::{AllocError, Global};
+
+/// A function, with the place of each label's block and the number of the first temporary for each block's phis.
+#[derive(Drop)]
+pub struct Map<'a> {
+    pub func: &'a Func,
+    pub places: Vec<Option<usize>>,
+    pub firsts: Vec<usize>,
+    pub ghost good: { IsGoodFunction func.now } by { Prim.hlevel props },
+    pub ghost places_are: { (l : ℕ) → place_in places.items l ≡ place_of func.now.blocks l } by { Prim.hlevel props },
+    pub ghost firsts_are: { firsts.items ≡ first_numbers (length func.now.temps) func.now.blocks } by { Prim.hlevel props },
+}
+
+/// Works out the map of a function.
+pub fn map_of<'a>(alloc: Global, func: &'a Func) -> Result<Map<'a>, AllocError>
+    requires { IsGoodFunction func.now }
+    ensures { IfOk result (λ map. map.func.now ≡ func.now) }
+{
+    let places = block_places(alloc, func.blocks.as_slice())?;
+    let firsts = count_phis(alloc, func)?;
+    Ok(Map {
+        func,
+        places,
+        firsts,
+    })
+}
+
+/// Where the block of each label stands.
+fn block_places(alloc: Global, blocks: &[Block]) -> Result<Vec<Option<usize>>, AllocError>
+    ensures { IfOk result (λ table. (l : ℕ) → place_in table.items l ≡ place_of blocks.now l) }
+{
+    let mut table = Vec::new(alloc);
+    for (place, block) in blocks.iter().enumerate() {
+        set_place(&mut table, block.label.number(), place)?;
+    }
+    Ok(table)
+}
+
+/// Gives a label its place, unless it has one.
+fn set_place(table: &mut Vec<Option<usize>>, label: usize, place: usize) -> Result<(), AllocError>
+    ensures { OnOk result ((l : ℕ) → place_in table.new.items l ≡ option_or (place_in table.old.items l) (cond (nat_eq label l) (Some place) None)) }
+{
+    while table.len() <= label {
+        table.push(None)?;
+    }
+    if table[label].is_none() {
+        table[label] = Some(place);
+    }
+    Ok(())
+}
+
+/// The number of the first temporary for each block's phis.
+fn count_phis(alloc: Global, func: &Func) -> Result<Vec<usize>, AllocError>
+    requires { IsGoodFunction func.now }
+    ensures { IfOk result (λ firsts. firsts.items ≡ first_numbers (length func.now.temps) func.now.blocks) }
+{
+    let mut firsts = Vec::new(alloc);
+    let mut number = func.temps.len();
+    for block in func.blocks.as_slice() {
+        firsts.push(number)?;
+        number += block.phis.len();
+    }
+    Ok(firsts)
+}
+
+/// The place of a label's block, 0 where there is none.
+#[tactic(auto, using(crate::proofs::PlaceTable::found, crate::proofs::PlaceTable::found_none))]
+pub fn target(map: &Map<'_>, label: Label) -> usize
+    ensures { result ≡ target map.now.func.now.blocks label }
+{
+    match map.places.get(label.number()) {
+        Some(Some(place)) => *place,
+        Some(None) => 0,
+        None => 0,
+    }
+}
+
+/// The phis of the block at a place.
+pub fn phis_at<'a>(map: &Map<'a>, place: usize) -> &'a [Phi]
+    ensures { result.now ≡ phis_at map.now.func.now.blocks place }
+{
+    match map.func.blocks.as_slice().get(place) {
+        Some(block) => block.phis.as_slice(),
+        None => &[],
+    }
+}
+
+/// The number of the first temporary for the phis of the block at a place.
+pub fn first_number(map: &Map<'_>, place: usize) -> Option<usize>
+    ensures { result ≡ slice_get map.now.firsts.items place }
+{
+    map.firsts.get(place).copied()
+}
