@@ -3,3 +3,4 @@ pub mod ExportLemmas
 pub mod TargetLemmas
 pub mod OwnLemmas
 pub mod ProgramLemmas
+pub mod ThereLemmas

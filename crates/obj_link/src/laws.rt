@@ -1,7 +1,13 @@
 //! The laws of linking, each as the contract of a function that does nothing.
-ghost use Rattle.obj_link.specs.Laws.{AtMostOneProgram};
+ghost use Rattle.obj_link.specs.Laws.{AtMostOneProgram, ProgramsHaveWhatNamesMean};
 
 /// Texts are at most one program.
 pub fn at_most_one_program()
     ensures { AtMostOneProgram }
+{}
+
+/// Each symbol of each text of a program means a function or datum of it, by its number, or a
+/// predefined function; and `main` is the number of a function of one of the two forms.
+pub fn programs_have_what_names_mean()
+    ensures { ProgramsHaveWhatNamesMean }
 {}
