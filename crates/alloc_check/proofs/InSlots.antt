@@ -27,8 +27,8 @@ use Rattle.vcode.specs.declared.line.Jump.TheVariants.{Goto, Branch, Return, Hal
 use Rattle.vcode.specs.declared.code.Block.{Block}
 use Rattle.vcode.specs.declared.code.Code.{Code}
 use Rattle.vcode.specs.Operations.{held, operate, loaded}
-use Rattle.vcode.specs.Places.{Values, unknown, put, kept, virtual, located}
-use Rattle.vcode.specs.Step.{State, bound, begin, value_of, read, read_all, goes_on, sets, changes, weighs, ticks, receives, resumes, calls, line_step, branches, returns, jump_step, block_step, step_in, step}
+use Rattle.vcode.specs.Places.{Values, unknown, put, assign, kept, virtual, located}
+use Rattle.vcode.specs.Step.{State, bound, begin, value_of, read, read_all, goes_on, sets, takes, changes, weighs, ticks, receives, resumes, calls, line_step, branches, returns, jump_step, block_step, step_in, step}
 use Rattle.alloc_check.specs.Placed.{placed_operand, placed_argument, placed_destination, placed_line, placed_jump, placed_block, in_slots}
 use Rattle.alloc_check.specs.Kept.{Keeps}
 
@@ -96,6 +96,15 @@ sets_goes s el r (Some v) m =
 
 sets_goes_by : (s : State ℕ) (el : Values Location) (r : ℕ) (o p : Option Value) → p ≡ o → Mirror s.values el → Goes (sets virtual s r o) (sets located (carry s el) (Slot r) p)
 sets_goes_by s el r o p e m = subst (λ (q : Option Value). Goes (sets virtual s r o) (sets located (carry s el) (Slot r) q)) (sym e) (sets_goes s el r o m)
+
+mirror_assign : (ev : Values ℕ) (el : Values Location) (r : ℕ) (o p : Option Value) → p ≡ o → Mirror ev el → Mirror (assign virtual r o ev) (assign located (Slot r) p el)
+mirror_assign ev el r o p e m q =
+    ap (λ (x : Option Value). if nat_eq q r then x else el (Slot q)) e ∙ ap (λ (x : Option Value). if nat_eq q r then o else x) (m q)
+
+takes_goes : (s : State ℕ) (el : Values Location) (r : ℕ) (o p : Option Value) → p ≡ o → Mirror s.values el → Goes (takes virtual s r o) (takes located (carry s el) (Slot r) p)
+takes_goes s el r o p e m =
+    (carry (record s { next = s.next + 1; values = assign virtual r o s.values }) (assign located (Slot r) p el), refl,
+      (assign located (Slot r) p el, refl, mirror_assign s.values el r o p e m))
 
 changes_goes : (s : State ℕ) (el : Values Location) (o : Option Memory) → Mirror s.values el → Goes (changes s o) (changes (carry s el) o)
 changes_goes s el None m = λ f. absurd f
@@ -173,7 +182,7 @@ line_goes : (globals : List Value) (i : Given) (s : State ℕ) (el : Values Loca
 unfolding line_step
 line_goes globals i s el (Tick turn w) m = tick_goes i s el turn w m
 line_goes globals i s el (Set to a) m =
-    sets_goes_by s el to (value_of globals s.values a) (value_of globals el (placed_operand Slot a)) (same_value globals s.values el a m) m
+    takes_goes s el to (value_of globals s.values a) (value_of globals el (placed_operand Slot a)) (same_value globals s.values el a m) m
 line_goes globals i s el (Operate to op a b) m =
     sets_goes_by s el to
     (option_and_then (λ u. option_and_then (λ v. operate s.memory op u v) (value_of globals s.values b)) (value_of globals s.values a))

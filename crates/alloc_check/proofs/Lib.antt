@@ -1,2 +1,3 @@
 pub mod InSlots
 pub mod Regular
+pub mod Agreeing

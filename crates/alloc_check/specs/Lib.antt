@@ -1,2 +1,4 @@
 pub mod Placed
 pub mod Kept
+pub mod Owners
+pub mod Certified

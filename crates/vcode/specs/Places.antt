@@ -18,6 +18,10 @@ unknown p = None
 abbrev pub put : {P : Type 0} → Places P → P → Value → Values P → Values P
 put c p v values q = if c.same q p then Some v else values q
 
+-- the place takes what there is, known or not
+abbrev pub assign : {P : Type 0} → Places P → P → Option Value → Values P → Values P
+assign c p o values q = if c.same q p then o else values q
+
 -- after a call
 abbrev pub kept : {P : Type 0} → Places P → Values P → Values P
 kept c values p = if c.forgets p then None else values p

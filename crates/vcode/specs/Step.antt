@@ -1,5 +1,6 @@
 -- What a line or a jump of the code does: one step into the next state, an end, or a call, for both kinds of places. A tick begins a turn of the source where it
--- says so; no turn begins where none is left. Words are read by their low 32 bits. What reads an unknown place is undefined.
+-- says so; no turn begins where none is left. Words are read by their low 32 bits. What reads an unknown
+-- place is undefined, but for `Set`, which makes its place unknown too.
 use Rattle.std.specs.Prelude.{ℕ, ◌+◌, ◌-◌, Bool, true, false, nat_eq, nat_lt, if◌then◌else◌, List, [], ◌∷◌, ◌++◌, map, length, slice_get, Option, Some, None}
 use Rattle.std.specs.Option.{option_map, option_and_then}
 use Rattle.il_ast.specs.declared.operation.Class.{Class}
@@ -24,7 +25,7 @@ use Rattle.vcode.specs.declared.line.Jump.TheVariants.{Goto, Branch, Return, Hal
 use Rattle.vcode.specs.declared.code.Block.{Block}
 use Rattle.vcode.specs.declared.code.Code.{Code}
 use Rattle.vcode.specs.Operations.{held, operate, loaded}
-use Rattle.vcode.specs.Places.{Places, Values, unknown, put, kept}
+use Rattle.vcode.specs.Places.{Places, Values, unknown, put, assign, kept}
 
 -- the block and the line in it that are next, what places hold, the memory, the blocks that `alloc` made, and what was spent
 pub record State (P : Type 0) : Type 0 where
@@ -83,6 +84,9 @@ abbrev pub sets : {P : Type 0} → Places P → State P → P → Option Value �
 sets c s p None = fails s
 sets c s p (Some v) = goes_on (record s { values = put c p v s.values })
 
+abbrev pub takes : {P : Type 0} → Places P → State P → P → Option Value → Event (State P) Asked Outcome
+takes c s p o = goes_on (record s { values = assign c p o s.values })
+
 abbrev pub changes : {P : Type 0} → State P → Option Memory → Event (State P) Asked Outcome
 changes s None = fails s
 changes s (Some m) = goes_on (record s { memory = m })
@@ -123,7 +127,7 @@ calls c i s to args f vs = fails s
 
 unfoldable pub line_step : {P : Type 0} → Places P → List Value → Given → State P → Line P → Event (State P) Asked Outcome
 line_step c globals i s (Tick turn w) = ticks i s turn w
-line_step c globals i s (Set to a) = sets c s to (value_of globals s.values a)
+line_step c globals i s (Set to a) = takes c s to (value_of globals s.values a)
 line_step c globals i s (Operate to op a b) =
     sets c s to
     (option_and_then (λ u. option_and_then (λ v. operate s.memory op u v) (value_of globals s.values b)) (value_of globals s.values a))

@@ -23,7 +23,7 @@ pub enum Line<P> {
         turn: bool,
         weight: u32,
     },
-    /// `to` takes the operand's value as it is.
+    /// `to` takes what the operand holds as it is; where that is unknown, so is `to`.
     Set {
         to: P,
         value: Operand<P>,

@@ -1,0 +1,121 @@
+-- What a certificate makes of virtual code, and what makes it right.
+use Rattle.std.specs.Prelude.{ℕ, ◌+◌, Bool, true, false, not, ◌&&◌, ◌||◌, nat_eq, List, [], ◌∷◌, ◌++◌, map, slice_get, Option, Some, None}
+use Rattle.std.specs.List.{list_all, list_any}
+use Rattle.std.specs.Option.{option_map_or}
+use Rattle.vcode.specs.declared.place.Location.{Location}
+use Rattle.vcode.specs.declared.place.Location.TheVariants.{Slot}
+use Rattle.vcode.specs.declared.place.Operand.TheVariants.{At}
+use Rattle.vcode.specs.declared.place.Destination.{Destination}
+use Rattle.vcode.specs.declared.line.Line.{Line}
+use Rattle.vcode.specs.declared.line.Line.TheVariants.{Tick, Set}
+use Rattle.vcode.specs.declared.line.Jump.{Jump}
+use Rattle.vcode.specs.declared.line.Jump.TheVariants.{Goto, Branch, Return, Halt}
+use Rattle.vcode.specs.declared.code.Block.{Block}
+use Rattle.vcode.specs.declared.code.Code.{Code}
+use Rattle.regalloc.specs.declared.certificate.Equality.{Equality}
+use Rattle.regalloc.specs.declared.certificate.Transfer.{Transfer}
+use Rattle.regalloc.specs.declared.certificate.Certificate.{Certificate}
+use Rattle.alloc_check.specs.Placed.{Layout, placed_line, placed_jump}
+use Rattle.alloc_check.specs.Owners.{Owners, nobody, own_put, moved, known, operand_held, all_hold, owns, after_line}
+
+-- ---- what it says of a point or a block; nothing where it is too short
+
+abbrev pub moves_at : Certificate → ℕ → List Transfer
+moves_at c p = option_map_or (λ (ms : List Transfer). ms) (slice_get c.moves p) []
+
+abbrev pub starts_at : Certificate → ℕ → List Equality
+starts_at c k = option_map_or (λ (es : List Equality). es) (slice_get c.starts k) []
+
+-- the place of the register by the first equality that names it
+abbrev pub place_by : List Equality → Layout
+place_by [] r = Slot 0
+place_by (e ∷ es) r = option_map_or (λ (q : Location). q) (here (nat_eq e.register r) e.place) (place_by es r)
+  where
+    here : Bool → Location → Option Location
+    here true q = Some q
+    here false q = None
+
+abbrev pub layout_at : Certificate → ℕ → Layout
+layout_at c p = option_map_or place_by (slice_get c.places p) (place_by [])
+
+-- ---- the code
+
+abbrev pub transfers : List Transfer → List (Line Location)
+transfers ms = map (λ m. Set m.to (At m.from)) ms
+
+-- lines from point p on, moves before each point; last those before the jump
+abbrev pub certified_lines : Certificate → ℕ → List (Line ℕ) → List (Line Location)
+certified_lines c p [] = transfers (moves_at c p)
+certified_lines c p (Tick turn w ∷ lines) = Tick turn w ∷ certified_lines c p lines
+certified_lines c p (l ∷ lines) = transfers (moves_at c p) ++ placed_line (layout_at c p) l ∷ certified_lines c (p + 1) lines
+
+-- the point of the jump behind these lines
+abbrev pub jump_point : ℕ → List (Line ℕ) → ℕ
+jump_point p [] = p
+jump_point p (Tick turn w ∷ lines) = jump_point p lines
+jump_point p (l ∷ lines) = jump_point (p + 1) lines
+
+abbrev pub certified_block : Certificate → ℕ → Block ℕ → Block Location
+certified_block c p b =
+    record { lines = certified_lines c p b.lines; jump = placed_jump (layout_at c (jump_point p b.lines)) b.jump }
+
+abbrev pub certified_blocks : Certificate → ℕ → List (Block ℕ) → List (Block Location)
+certified_blocks c p [] = []
+certified_blocks c p (b ∷ blocks) = certified_block c p b ∷ certified_blocks c (jump_point p b.lines + 1) blocks
+
+-- each parameter at the place that the certificate has for it
+abbrev pub certified_params : List (Destination ℕ) → List Location → List (Destination Location)
+certified_params [] qs = []
+certified_params (d ∷ ds) [] = []
+certified_params (d ∷ ds) (q ∷ qs) = record { place = q; class = d.class } ∷ certified_params ds qs
+
+abbrev pub placed_by : Code ℕ → Certificate → Code Location
+placed_by v c =
+    record { result = v.result; params = certified_params v.params c.params; blocks = certified_blocks c 0 v.blocks }
+
+-- ---- what makes it right
+
+-- a jump finds what it reads, and what its targets ask for
+abbrev pub jump_right : Certificate → Owners → Layout → Jump ℕ → Bool
+jump_right c own f (Goto k) = all_hold own (starts_at c k)
+jump_right c own f (Branch on nonzero otherwise) = operand_held own f on && (all_hold own (starts_at c nonzero) && all_hold own (starts_at c otherwise))
+jump_right c own f (Return None) = true
+jump_right c own f (Return (Some a)) = operand_held own f a
+jump_right c own f Halt = true
+
+-- each line from point p on finds what it reads, and so does the jump
+abbrev pub lines_right : Certificate → ℕ → Owners → Jump ℕ → List (Line ℕ) → Bool
+lines_right c p own j [] = jump_right c (moved (moves_at c p) own) (layout_at c p) j
+lines_right c p own j (Tick turn w ∷ lines) = lines_right c p own j lines
+lines_right c p own j (l ∷ lines) =
+    option_map_or (λ (o : Owners). lines_right c (p + 1) o j lines) (after_line (moved (moves_at c p) own) (layout_at c p) l) false
+
+-- block k, from point p, begins with what the certificate says of it
+abbrev pub blocks_right : Certificate → (p k : ℕ) → List (Block ℕ) → Bool
+blocks_right c p k [] = true
+blocks_right c p k (b ∷ blocks) =
+    lines_right c p (known (starts_at c k) nobody) b.jump b.lines && blocks_right c (jump_point p b.lines + 1) (k + 1) blocks
+
+-- on entry each parameter's place is its own
+abbrev pub own_params : List (Destination ℕ) → List Location → Owners → Owners
+own_params [] qs own = own
+own_params (d ∷ ds) [] own = own
+own_params (d ∷ ds) (q ∷ qs) own = own_params ds qs (own_put q d.place own)
+
+abbrev pub is_param : List (Destination ℕ) → ℕ → Bool
+is_param ds r = list_any (λ (d : Destination ℕ). nat_eq r d.place) ds
+
+-- what the first block asks for: of parameters that it holds; other registers have no value yet
+abbrev pub entry_right : Code ℕ → Certificate → Bool
+entry_right v c =
+    list_all (λ (e : Equality). owns (own_params v.params c.params nobody) e.place e.register || not (is_param v.params e.register)) (starts_at c 0)
+
+-- each parameter has a place
+abbrev pub params_placed : List (Destination ℕ) → List Location → Bool
+params_placed [] qs = true
+params_placed (d ∷ ds) [] = false
+params_placed (d ∷ ds) (q ∷ qs) = params_placed ds qs
+
+-- the certificate keeps the code
+abbrev pub is_sound : Code ℕ → Certificate → Bool
+is_sound v c = params_placed v.params c.params && (entry_right v c && blocks_right c 0 0 v.blocks)
