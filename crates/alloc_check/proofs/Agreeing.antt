@@ -1,5 +1,5 @@
 -- What keeps the owners of places and their values in agreement.
-use Rattle.std.proofs.Common.{◌≡◌, ℕ, zero, suc, ◌+◌, Bool, true, false, not, ◌&&◌, ◌||◌, nat_eq, if◌then◌else◌, List, [], ◌∷◌, map, Option, Some, None, refl, sym, ◌∙◌, ap, subst, arith, inl, inr}
+use Rattle.std.proofs.Common.{◌≡◌, ℕ, Bool, true, false, not, ◌&&◌, ◌||◌, nat_eq, if◌then◌else◌, List, [], ◌∷◌, map, Option, Some, None, refl, sym, ◌∙◌, ap, arith, inl, inr}
 use Rattle.std.specs.Prelude.{◌⊎◌}
 use Rattle.std.specs.Option.{option_map, option_and_then, option_map_or}
 use Rattle.std.proofs.lemmas.Bool.Decides.{nat_tests}
@@ -14,12 +14,12 @@ use Rattle.vcode.specs.declared.place.Operand.TheVariants.{At, Number, Name}
 use Rattle.vcode.specs.declared.place.Argument.{Argument}
 use Rattle.vcode.specs.declared.place.Destination.{Destination}
 use Rattle.vcode.specs.Operations.{held}
-use Rattle.vcode.specs.Places.{Values, unknown, put, assign, kept, virtual, located, same_location, is_callers}
+use Rattle.vcode.specs.Places.{Values, put, assign, kept, virtual, located, same_location, is_callers}
 use Rattle.vcode.specs.Step.{bound, value_of, read, read_all}
 use Rattle.regalloc.specs.declared.certificate.Equality.{Equality}
 use Rattle.regalloc.specs.declared.certificate.Transfer.{Transfer}
 use Rattle.alloc_check.specs.Placed.{Layout, placed_operand, placed_argument}
-use Rattle.alloc_check.specs.Owners.{Owners, nobody, Agrees, other_than, own_put, own_move, own_kept, own_also, moved, known, owns, operand_held, args_held, all_hold}
+use Rattle.alloc_check.specs.Owners.{Owners, nobody, Agrees, other_than, own_put, own_move, own_kept, own_also, known, owns, operand_held, args_held, all_hold}
 use Rattle.alloc_check.specs.Certified.{certified_params, own_params, is_param, params_placed}
 
 -- ---- tests

@@ -102,9 +102,11 @@ mirror_assign ev el r o p e m q =
     ap (λ (x : Option Value). if nat_eq q r then x else el (Slot q)) e ∙ ap (λ (x : Option Value). if nat_eq q r then o else x) (m q)
 
 takes_goes : (s : State ℕ) (el : Values Location) (r : ℕ) (o p : Option Value) → p ≡ o → Mirror s.values el → Goes (takes virtual s r o) (takes located (carry s el) (Slot r) p)
-takes_goes s el r o p e m =
-    (carry (record s { next = s.next + 1; values = assign virtual r o s.values }) (assign located (Slot r) p el), refl,
-      (assign located (Slot r) p el, refl, mirror_assign s.values el r o p e m))
+takes_goes s el r o p e m = (
+  carry (record s { next = s.next + 1; values = assign virtual r o s.values }) (assign located (Slot r) p el),
+  refl,
+  (assign located (Slot r) p el, refl, mirror_assign s.values el r o p e m),
+)
 
 changes_goes : (s : State ℕ) (el : Values Location) (o : Option Memory) → Mirror s.values el → Goes (changes s o) (changes (carry s el) o)
 changes_goes s el None m = λ f. absurd f

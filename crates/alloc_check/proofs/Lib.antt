@@ -1,3 +1,4 @@
 pub mod InSlots
 pub mod Regular
 pub mod Agreeing
+pub mod Sound
