@@ -752,3 +752,59 @@ fn many_texts(rt: HostRuntime) -> Result<(), Fail> {
     assert_eq!(rt; said.as_str(), "E6");
     Ok(())
 }
+
+/// A function of so many instructions.
+fn function_of(
+    alloc: Global,
+    text: &mut String,
+    name: &str,
+    count: usize,
+) -> Result<(), AllocError> {
+    let head = format!(in alloc; "export function w ${name}() {{\n@s\n")?;
+    let lines = repeated(alloc, head.as_str(), "%x =w copy 0\n", count, "ret 0\n}\n")?;
+    text.push_str(lines.as_str())
+}
+
+#[test]
+fn many_functions(rt: HostRuntime) -> Result<(), Fail> {
+    let alloc = rt.alloc();
+    for (count, wanted) in [(9_999, "Exit(0) []"), (10_000, "E6")] {
+        let mut text = String::from_str(alloc, ZERO)?;
+        for number in 0..count {
+            writeln!(&mut text, "function $f{number}() {{\n@s\nret\n}}")?;
+        }
+        let said = told(alloc, &[text.as_str()], &[], PLENTY)?;
+        assert_eq!(rt; said.as_str(), wanted, "{count} functions");
+    }
+    Ok(())
+}
+
+#[test]
+fn heavy_functions(rt: HostRuntime) -> Result<(), Fail> {
+    let alloc = rt.alloc();
+    let mut text = String::new(alloc);
+    for name in ["main", "f", "g", "h", "i"] {
+        function_of(alloc, &mut text, name, 39_998)?;
+    }
+    let said = told(alloc, &[text.as_str()], &[], PLENTY)?;
+    assert_eq!(rt; said.as_str(), "Exit(0) []");
+    let said = told(
+        alloc,
+        &[text.as_str(), "function $j() {\n@s\nhlt\n}\n"],
+        &[],
+        PLENTY,
+    )?;
+    assert_eq!(rt; said.as_str(), "E6");
+    Ok(())
+}
+
+#[test]
+fn much_data(rt: HostRuntime) -> Result<(), Fail> {
+    let alloc = rt.alloc();
+    for (count, wanted) in [(16_777_200, "Exit(0) []"), (16_777_201, "E6")] {
+        let data = format!(in alloc; "data $d = {{ b 1 }}\ndata $e = {{ z {count} }}\n")?;
+        let said = told_of_main(alloc, data.as_str(), "ret 0")?;
+        assert_eq!(rt; said.as_str(), wanted, "{count} bytes");
+    }
+    Ok(())
+}
