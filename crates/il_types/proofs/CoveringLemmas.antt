@@ -1,13 +1,14 @@
 -- The list of a block's predecessors serves in the place of all blocks.
-use Rattle.std.proofs.Common.{◌≡◌, ℕ, Bool, true, false, List, [], ◌∷◌, ◌++◌, refl, ap, ◌∙◌, cond}
+use Rattle.std.proofs.Common.{◌≡◌, ◌<◌, ℕ, ◌+◌, Bool, true, false, List, [], ◌∷◌, ◌++◌, length, take, get_or, refl, ap, sym, ◌∙◌, cond}
 use Rattle.std.specs.Prelude.{not, nat_eq, nat_lt, ◌&&◌, ◌||◌}
 use Rattle.std.specs.List.{list_any, list_all}
+use Rattle.std.proofs.lemmas.List.{take_more, flat_map_more}
 use Rattle.il_ast.specs.declared.block.PhiArg.{PhiArg}
 use Rattle.il_ast.specs.declared.block.Phi.{Phi}
 use Rattle.il_ast.specs.declared.block.Block.{Block}
-use Rattle.il_types.specs.First.{when, first}
-use Rattle.il_types.specs.Locals.{jumps_to, names_from, is_predecessor, covers}
-use Rattle.il_types.specs.Covering.{predecessors_of, are_args_right, are_all_named, covers_by}
+use Rattle.il_types.specs.First.{or_else, when, first}
+use Rattle.il_types.specs.Locals.{first_repeated, phi_sites, jumps_to, names_from, is_predecessor, covers, uncovered_in}
+use Rattle.il_types.specs.Covering.{predecessor_in, predecessors_of, are_args_right, are_all_named, covers_by, row, first_uncovered_by, uncovered_by}
 use Rattle.il_types.proofs.FirstLemmas.{first_same}
 
 any_first : (l from label : ℕ) (t : Bool) (rest : List ℕ) → list_any (λ p. nat_eq p from) (cond t (label ∷ []) [] ++ rest) ≡ (nat_eq label from && t) || list_any (λ p. nat_eq p from) rest
@@ -53,3 +54,16 @@ pub first_uncovered : (l : ℕ) (blocks : List Block) (phis : List Phi) → firs
 first_uncovered l blocks phis =
     first_same (λ (p : Phi). when (not (covers_by (predecessors_of l blocks) p.args)) p.line) (λ (p : Phi). when (not (covers blocks l p.args)) p.line)
     (λ p. ap (λ t. when (not t) p.line) (covers-by l blocks p.args)) phis
+
+-- ---- the predecessors of all labels
+
+pub predecessors_further : (blocks : List Block) (i : ℕ) (b : Block) (l : ℕ) → i < length blocks → b ≡ get_or blocks i b → predecessors_of l (take i blocks) ++ cond (jumps_to l b.jump) (b.label ∷ []) [] ≡ predecessors_of l (take (i + 1) blocks)
+predecessors_further blocks i b l lt at =
+    flat_map_more (predecessor_in l) [] (take i blocks) b
+    ∙ sym (ap (predecessors_of l) (take_more blocks i b lt ∙ ap (λ x. take i blocks ++ x ∷ []) (sym at)))
+
+-- the rows have the predecessors of each label
+pub all_uncovered : (rows : List (List ℕ)) (blocks : List Block) → ((l : ℕ) → row rows l ≡ predecessors_of l blocks) → first (uncovered_by rows) blocks ≡ first (uncovered_in blocks) blocks
+all_uncovered rows blocks h =
+    first_same (uncovered_by rows) (uncovered_in blocks)
+    (λ b. ap (or_else (first_repeated (phi_sites b.phis))) (ap (λ ps. first_uncovered_by ps b.phis) (h b.label) ∙ first_uncovered b.label blocks b.phis)) blocks

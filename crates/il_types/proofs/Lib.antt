@@ -2,3 +2,4 @@ pub mod Largest
 pub mod FirstLemmas
 pub mod CoveringLemmas
 pub mod FaultLemmas
+pub mod TallyLemmas

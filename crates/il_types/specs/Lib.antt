@@ -5,6 +5,7 @@ pub mod Marks
 pub mod First
 pub mod Locals
 pub mod Tables
+pub mod Tally
 pub mod Covering
 pub mod RuleNumber
 pub mod Rules

@@ -10,8 +10,8 @@
 //! of the tree alone; the code uses tables. `cost` has what a function weighs and how much stack it
 //! needs, as `il_ast` defines them.
 //!
-//! Each rule goes over a function once, with marks by number, but that of phis, which goes over a
-//! block's predecessors once for each label of a phi. The crate stands on `il_ast` for the tree and on
+//! Each rule goes over a function once, with marks by number; that of phis has a row of predecessors for
+//! each label, and tallies that it clears behind itself. The crate stands on `il_ast` for the tree and on
 //! `thiserror` for the texts of refusals.
 #![tactic(auto)]
 
@@ -29,10 +29,12 @@ mod marks;
 mod objects;
 mod operands;
 mod phis;
+mod predecessors;
 mod repeats;
 pub mod rule;
 mod site;
 mod sites;
+mod tally;
 mod temps;
 #[cfg(test)]
 mod tests;

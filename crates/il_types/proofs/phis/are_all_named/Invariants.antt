@@ -1,6 +1,9 @@
-use Rattle.std.proofs.Common.{◌≡◌, drop}
-use Rattle.il_types.specs.Covering.{are_all_named}
+use Rattle.std.proofs.Common.{◌≡◌, ℕ, drop}
+use Rattle.std.specs.Prelude.{not}
+use Rattle.std.specs.List.{list_all}
+use Rattle.il_types.specs.Tally.{named, is_never}
 use Rattle.il_types.proofs.phis.are_all_named.Given as goal
 
-abbrev pub invariant-loop-predecessor : goal.invariant-loop-predecessor
-invariant-loop-predecessor l = are_all_named l.args (drop l.predecessor-index l.predecessors) ≡ are_all_named l.args l.predecessors
+abbrev pub invariant-loop-label : goal.invariant-loop-label
+invariant-loop-label l =
+    list_all (λ (n : ℕ). not (is_never (named l.tally n))) (drop l.label-index l.labels) ≡ list_all (λ (n : ℕ). not (is_never (named l.tally n))) l.labels

@@ -1,0 +1,10 @@
+use Rattle.std.proofs.Common.{◌≡◌, drop}
+use Rattle.il_types.specs.First.{first}
+use Rattle.il_types.specs.Tally.{NothingNamed}
+use Rattle.il_types.specs.Covering.{uncovered_by}
+use Rattle.il_types.proofs.phis.uncovered_in.Given as goal
+
+abbrev pub invariant-loop-block : goal.invariant-loop-block
+invariant-loop-block l =
+    (first (uncovered_by l.rows) (drop l.block-index l.blocks) ≡ first (uncovered_by l.rows) l.blocks)
+    × (NothingNamed l.tally.items × NothingNamed l.leading.items)
