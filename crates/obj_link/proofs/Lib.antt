@@ -4,3 +4,8 @@ pub mod TargetLemmas
 pub mod OwnLemmas
 pub mod ProgramLemmas
 pub mod ThereLemmas
+pub mod AddressLemmas
+pub mod CodeLemmas
+pub mod DataLemmas
+pub mod ImageLemmas
+pub mod FitLemmas

@@ -8,7 +8,9 @@ use Rattle.il_ast.specs.declared.program.Target.TheVariants.{Code, Object}
 use Rattle.il_ast.specs.declared.value.Callee.TheVariants.{Defined, SystemWrite, SystemExit}
 use Rattle.il_types.specs.declared.checked.Checked.{Checked}
 use Rattle.obj_link.specs.Main.{is_main}
+use Rattle.rv_isa.specs.Words.{Words}
 use Rattle.obj_link.specs.Program.{IsProgram}
+use Rattle.obj_link.specs.Placed.{AreCodes, FitsBelow}
 
 -- texts are at most one program
 abbrev pub AtMostOneProgram : Type 0
@@ -33,3 +35,7 @@ pub record HasWhatNamesMean (texts : List Checked) (p : Program) : Type 0 where
 
 abbrev pub ProgramsHaveWhatNamesMean : Type 0
 ProgramsHaveWhatNamesMean = (texts : List Checked) (p : Program) → IsProgram texts p → HasWhatNamesMean texts p
+
+-- a program whose functions have words enough for their weight and no more, as `AreCodes` says, fits below the stack
+abbrev pub ProgramsFit : Type 0
+ProgramsFit = (texts : List Checked) (p : Program) (codes : List Words) → IsProgram texts p → AreCodes codes p.functions → FitsBelow p codes

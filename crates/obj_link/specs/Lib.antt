@@ -10,3 +10,6 @@ pub mod Joined
 pub mod Linked
 pub mod ProgramOf
 pub mod Laws
+pub mod Natives
+pub mod Placed
+pub mod DataBytes

@@ -7,10 +7,15 @@
 //!
 //! The work goes over the definitions once, with a look-up in a hash table for each definition and for each name that a text mentions.
 //!
+//! [`place::place`] makes the image of a linked program whose functions have been laid out: the start code, `write` and `exit`, the functions in
+//! order, the data in order, each name filled in by its address. What it makes is `contents_of` of `specs/Placed.antt`, and there is no error but want of
+//! memory; where each function has at most 32 words for each unit of its weight and 256 more, a program always fits ([`laws::programs_fit`]).
+//!
 //! | Definitions | Subject |
 //! |---|---|
 //! | `specs/Names`, `specs/Main`, `specs/Limits` | what names mean; the function that a program begins with; limits over all texts |
 //! | `specs/Program`, `specs/Refusals` | when texts are a program; what a refusal says |
+//! | `specs/Natives`, `specs/Placed` | the first words of every program; its code and data at their addresses |
 //!
 //! # The image
 //!
@@ -30,17 +35,24 @@
 //!
 //! Clauses see an image as `Contents`: the list of its words and the list of its bytes.
 //!
-//! The crate stands on `il_ast` and `il_types`, and on `thiserror` for the texts of refusals.
+//! The crate stands on `il_ast` and `il_types`, on `rv_isa`, `asm_layout` and `bits` for the words of code, and on `thiserror` for the texts of refusals.
 #![tactic(auto)]
 
+mod addresses;
+mod data_bytes;
 pub mod error;
 mod exports;
+mod fill;
 mod image;
 pub mod laws;
 pub mod limits;
 pub mod linked;
 mod main_function;
 mod names;
+mod natives;
+pub mod place;
+#[cfg(test)]
+mod place_tests;
 pub mod resolve;
 mod tables;
 mod targets;

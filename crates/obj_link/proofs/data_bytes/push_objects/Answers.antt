@@ -1,0 +1,12 @@
+use Rattle.std.proofs.Common.{◌≡◌, ◌+◌, ◌++◌, List, drop, map, ap, sym, ◌∙◌, append_assoc}
+use Rattle.std.specs.List.{flat_map}
+use Rattle.obj_link.specs.Shown.{shown}
+use Rattle.obj_link.specs.DataBytes.{slot_bytes}
+use Rattle.obj_link.proofs.DataLemmas.{object_after}
+use Rattle.obj_link.proofs.data_bytes.push_objects.Goals as goal
+
+pub loop-object-preserved : goal.loop-object-preserved
+loop-object-preserved c =
+    object_after c.args.addresses.now c.args.targets.now c.args.objects.now c.loop-object.object-index c.object-item.result c.loop-object.bytes.items
+    c.push_object.new.bytes.items c.loop-object-test.true c.object-item.is c.in_ok-push_object.ensures
+    ∙ c.loop-object.invariant

@@ -1,0 +1,48 @@
+-- The words with which every program begins: its start, and the predefined functions `write` and `exit`.
+-- System calls have Linux's numbers for RISC-V, 64 and 93, in x17; x10 to x12 have their arguments, as they have a function's.
+use Rattle.std.specs.Prelude.{ℕ, ◌+◌, List, [], ◌∷◌, pos}
+use Rattle.bits.specs.Words.{upper_field, lower_field}
+use Rattle.rv_isa.specs.Formats.{i_type, u_type}
+use Rattle.obj_link.specs.Image.{code_start}
+
+abbrev pub load_double : (rd rs1 offset : ℕ) → ℕ
+load_double rd rs1 offset = i_type 0x03 3 rd rs1 (pos offset)
+
+abbrev pub add_immediate : (rd rs1 immediate : ℕ) → ℕ
+add_immediate rd rs1 immediate = i_type 0x13 0 rd rs1 (pos immediate)
+
+abbrev pub jump_to : (rd rs1 : ℕ) → ℕ
+jump_to rd rs1 = i_type 0x67 0 rd rs1 (pos 0)
+
+abbrev pub system_call : ℕ
+system_call = 0x00000073
+
+-- The argument range begins at x2 with the number of words and then has the list of them. `main` is called with both, and what it returns is the status
+-- that the program exits with.
+abbrev pub start_words : (main : ℕ) → List ℕ
+start_words main =
+    load_double 10 2 0
+    ∷ add_immediate 11 2 8
+    ∷ u_type 0x37 5 (upper_field main)
+    ∷ i_type 0x1b 0 5 5 (lower_field main)
+    ∷ jump_to 1 5
+    ∷ add_immediate 17 0 93
+    ∷ system_call
+    ∷ []
+
+-- the system call does what `write` does, with the same arguments and the same result
+abbrev pub write_words : List ℕ
+write_words = add_immediate 17 0 64 ∷ system_call ∷ jump_to 0 1 ∷ []
+
+abbrev pub exit_words : List ℕ
+exit_words = add_immediate 17 0 93 ∷ system_call ∷ []
+
+-- where the two stand, and the first function of the program
+abbrev pub write_address : ℕ
+write_address = code_start + 28
+
+abbrev pub exit_address : ℕ
+exit_address = code_start + 40
+
+abbrev pub functions_start : ℕ
+functions_start = code_start + 48

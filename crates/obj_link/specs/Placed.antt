@@ -1,0 +1,134 @@
+-- A program's code and data at their addresses.
+use Rattle.std.specs.Prelude.{ℕ, ◌+◌, ◌-◌, ◌*◌, ◌%◌, ◌^◌, ◌≤◌, List, [], ◌∷◌, ◌++◌, length, map, replicate, slice_get, slice_index, Option, Some, None}
+use Rattle.std.specs.Option.{option_and_then}
+use Rattle.std.specs.Int.{byte_at}
+use Rattle.std.specs.List.{flat_map}
+use Rattle.il_ast.specs.declared.datum.DataDef.{DataDef}
+use Rattle.il_ast.specs.declared.function.Func.{Func}
+use Rattle.il_ast.specs.declared.program.Placed.{Placed}
+use Rattle.il_ast.specs.declared.program.Program.{Program}
+use Rattle.il_ast.specs.declared.program.Target.{Target}
+use Rattle.il_ast.specs.declared.program.Target.TheVariants.{Code, Object}
+use Rattle.il_ast.specs.declared.value.Callee.{Callee}
+use Rattle.il_ast.specs.declared.value.Callee.TheVariants.{Defined, SystemWrite, SystemExit}
+use Rattle.il_ast.specs.declared.value.Cell.{Cell}
+use Rattle.il_ast.specs.declared.value.Cell.TheVariants.{Plain, Part, Blank}
+use Rattle.il_ast.specs.declared.value.Value.{Value}
+use Rattle.il_ast.specs.declared.value.Value.TheVariants.{Integer, Pointer, Function}
+use Rattle.il_ast.specs.Cost.{weight, round_16}
+use Rattle.il_ast.specs.Start.{object_cells}
+use Rattle.rv_isa.specs.Words.{Words, IsCode}
+use Rattle.rv_isa.specs.Laid.{filled}
+use Rattle.obj_link.specs.declared.addresses.Addresses.{Addresses}
+use Rattle.obj_link.specs.Image.{Contents, code_start, image_end, round_to_page}
+use Rattle.obj_link.specs.Limits.{object_size}
+use Rattle.obj_link.specs.Natives.{start_words, write_words, exit_words, write_address, exit_address, functions_start}
+
+-- ---- addresses
+
+-- functions stand one after another
+abbrev pub function_addresses : (at : ℕ) → List Words → List ℕ
+function_addresses at [] = []
+function_addresses at (c ∷ codes) = at ∷ function_addresses (at + 4 * length c.words) codes
+
+-- where the last one ends
+abbrev pub functions_end : (at : ℕ) → List Words → ℕ
+functions_end at [] = at
+functions_end at (c ∷ codes) = functions_end (at + 4 * length c.words) codes
+
+-- data stand one after another, each from a multiple of 16
+abbrev pub object_addresses : (at : ℕ) → List (Placed DataDef) → List ℕ
+object_addresses at [] = []
+object_addresses at (d ∷ ds) = at ∷ object_addresses (at + round_16 (object_size d.item)) ds
+
+-- where the last one's slot ends
+abbrev pub objects_end : (at : ℕ) → List (Placed DataDef) → ℕ
+objects_end at [] = at
+objects_end at (d ∷ ds) = objects_end (at + round_16 (object_size d.item)) ds
+
+-- the data begin on the first page after the code
+abbrev pub objects_start : List Words → ℕ
+objects_start codes = code_start + round_to_page (functions_end functions_start codes - code_start)
+
+abbrev pub addresses_of : Program → List Words → Addresses
+addresses_of p codes = record {
+  functions = function_addresses functions_start codes;
+  objects = object_addresses (objects_start codes) p.objects;
+}
+
+-- ---- what names are worth
+
+abbrev pub callee_address : Addresses → Callee → ℕ
+callee_address a (Defined k) = slice_index a.functions k
+callee_address a SystemWrite = write_address
+callee_address a SystemExit = exit_address
+
+abbrev pub target_address : Addresses → Option Target → ℕ
+target_address a None = 0
+target_address a (Some (Code f)) = callee_address a f
+target_address a (Some (Object k)) = slice_index a.objects k
+
+-- the meaning of name n of text t
+abbrev pub meaning : List (List Target) → (t n : ℕ) → Option Target
+meaning targets t n = option_and_then (λ ts. slice_get ts n) (slice_get targets t)
+
+abbrev pub name_address : Addresses → List (List Target) → (t n : ℕ) → ℕ
+name_address a targets t n = target_address a (meaning targets t n)
+
+-- ---- code
+
+-- each function's words, with the addresses of its text's names
+abbrev pub functions_words : Addresses → List (List Target) → List Words → List (Placed Func) → List ℕ
+functions_words a targets [] fs = []
+functions_words a targets (c ∷ codes) [] = []
+functions_words a targets (c ∷ codes) (f ∷ fs) = filled (name_address a targets f.text) c.words c.holes ++ functions_words a targets codes fs
+
+abbrev pub code_of : Addresses → Program → List Words → List ℕ
+code_of a p codes =
+    start_words (callee_address a (Defined p.main)) ++ write_words ++ exit_words ++ functions_words a p.targets codes p.functions
+
+-- ---- data
+
+-- the number that stands for a value
+abbrev pub value_number : Addresses → Value → ℕ
+value_number a (Integer n) = n
+value_number a (Pointer b o) = (slice_index a.objects b + o) % 2 ^ 64
+value_number a (Function f) = callee_address a f
+
+-- a blank cell is zero
+abbrev pub cell_byte : Addresses → Cell → ℕ
+cell_byte a (Plain b) = b
+cell_byte a (Part v k) = byte_at k (value_number a v)
+cell_byte a Blank = 0
+
+-- zeros after the bytes, up to a multiple of 16
+unfoldable pub in_slots : List ℕ → List ℕ
+in_slots bytes = bytes ++ replicate (round_16 (length bytes) - length bytes) 0
+
+abbrev pub object_bytes : Addresses → Program → Placed DataDef → List ℕ
+object_bytes a p d = in_slots (map (cell_byte a) (object_cells p d))
+
+-- ---- the whole
+
+abbrev pub contents_with : Addresses → Program → List Words → Contents
+contents_with a p codes = record { code = code_of a p codes; data_bytes = flat_map (object_bytes a p) p.objects }
+
+-- the image of a program whose functions have these words
+abbrev pub contents_of : Program → List Words → Contents
+contents_of p codes = contents_with (addresses_of p codes) p codes
+
+-- all of it lies below the stack
+abbrev pub FitsBelow : Program → List Words → Type 0
+FitsBelow p codes = objects_end (objects_start codes) p.objects ≤ image_end
+
+-- each keeps what the words of a function keep
+abbrev pub EveryCode : List Words → Type 0
+EveryCode [] = Unit {0}
+EveryCode (c ∷ codes) = IsCode c × EveryCode codes
+
+-- one code for each function, of at most 32 words for each unit of its weight and 256 more
+abbrev pub AreCodes : List Words → List (Placed Func) → Type 0
+AreCodes [] [] = Unit {0}
+AreCodes [] (f ∷ fs) = ⊥
+AreCodes (c ∷ codes) [] = ⊥
+AreCodes (c ∷ codes) (f ∷ fs) = (length c.words ≤ 32 * weight f.item + 256) × AreCodes codes fs
