@@ -1,10 +1,9 @@
 -- What is placed is an image, and its data are those of the definitions.
-use Rattle.std.proofs.Common.{◌≡◌, ℕ, zero, suc, ◌+◌, ◌*◌, ◌/◌, ◌%◌, ◌-◌, ◌^◌, ◌<◌, ◌≤◌, Bool, true, false, List, [], ◌∷◌, ◌++◌, length, map, replicate, get_or, refl, sym, ◌∙◌, ap, subst, arith, lit<, mod-lt, length-append}
-use Rattle.std.specs.Prelude.{nat_eq, nat_lt, if◌then◌else◌, slice_get, slice_index, slice_set, Option, Some, None}
+use Rattle.std.proofs.Common.{◌≡◌, ℕ, zero, suc, ◌+◌, ◌*◌, ◌/◌, ◌%◌, ◌-◌, ◌^◌, ◌<◌, ◌≤◌, Bool, true, false, List, [], ◌∷◌, ◌++◌, length, map, replicate, refl, sym, ◌∙◌, ap, subst, arith, lit<, length-append}
+use Rattle.std.specs.Prelude.{nat_eq, if◌then◌else◌, slice_get, slice_index, slice_set, Option, Some, None}
 use Rattle.std.specs.Option.{option_and_then, option_map}
-use Rattle.std.specs.Int.{w64, to_le_bytes, byte_at}
+use Rattle.std.specs.Int.{w64, to_le_bytes}
 use Rattle.std.specs.List.{flat_map, sum_by}
-use Rattle.std.proofs.lemmas.Bool.Decides.{nat_tests}
 use Rattle.std.proofs.lemmas.List.{length-replicate, map-append}
 use Rattle.std.proofs.lemmas.List.Sums.{sum_by-cons}
 use Rattle.std.proofs.lemmas.Option.{slice_get-map}
@@ -19,15 +18,14 @@ use Rattle.il_ast.specs.declared.program.Placed.{Placed}
 use Rattle.il_ast.specs.declared.program.Program.{Program}
 use Rattle.il_ast.specs.declared.program.Target.{Target}
 use Rattle.il_ast.specs.declared.program.Target.TheVariants.{Code, Object}
-use Rattle.il_ast.specs.declared.value.Cell.{Cell}
 use Rattle.il_ast.specs.declared.value.Cell.TheVariants.{Plain, Blank}
 use Rattle.il_ast.specs.declared.value.Value.{Value}
-use Rattle.il_ast.specs.declared.value.Value.TheVariants.{Integer, Pointer, Function}
+use Rattle.il_ast.specs.declared.value.Value.TheVariants.{Function}
 use Rattle.il_ast.specs.Values.{bytes_of, byte_count}
 use Rattle.il_ast.specs.Cost.{round_16}
 use Rattle.il_ast.specs.Memory.{parts}
-use Rattle.il_ast.specs.Start.{target_value, values_of, globals_of, address_cells, item_cells, field_cells, object_cells}
-use Rattle.rv_isa.specs.Words.{Words, IsCode}
+use Rattle.il_ast.specs.Start.{target_value, values_of, address_cells, item_cells, field_cells}
+use Rattle.rv_isa.specs.Words.{Words}
 use Rattle.rv_isa.specs.Laid.{filled}
 use Rattle.rv_isa.specs.Formats.{u_type, i_type}
 use Rattle.rv_isa.specs.declared.code.Hole.{Hole}
@@ -37,7 +35,7 @@ use Rattle.il_ast.specs.declared.value.Callee.TheVariants.{Defined}
 use Rattle.asm_layout.proofs.Filling.{filled_length}
 use Rattle.asm_layout.proofs.WordRanges.{small_at, address_words_small}
 use Rattle.obj_link.specs.declared.addresses.Addresses.{Addresses}
-use Rattle.obj_link.specs.Image.{Contents, IsImage, code_start, code_size, data_start, image_end, round_to_page}
+use Rattle.obj_link.specs.Image.{Contents, IsImage, code_start}
 use Rattle.obj_link.specs.Limits.{item_size, field_size, object_size}
 use Rattle.obj_link.specs.Natives.{start_words, write_words, exit_words, functions_start}
 use Rattle.obj_link.specs.Placed.{functions_end, objects_end, objects_start, callee_address, meaning, name_address, functions_words, code_of, value_number, cell_byte, in_slots, object_bytes, addresses_of, contents_of, FitsBelow, EveryCode}

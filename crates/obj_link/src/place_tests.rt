@@ -1,15 +1,29 @@
 //! Tests of placing: words as the GNU assembler gives them, and bytes of data.
 
+ghost use Rattle.obj_link.specs.ProgramOf.{IsLinked};
+
 use crate::addresses::Addresses;
 use crate::data_bytes::push_objects;
+use crate::image::Image;
+use crate::linked::Linked;
 use crate::natives::{push_natives, push_start};
+use crate::place::place;
+use crate::resolve::resolve;
+use crate::tests::{main_text, zeros};
 use il_ast::datum::{DataDef, Field, Item};
 use il_ast::list::Seq;
 use il_ast::operation::Size;
 use il_ast::program::{Placed, Target};
 use il_ast::symbol::Symbol;
 use il_ast::value::Callee;
+use il_types::check::check;
+use il_types::checked::Checked;
+use rv_isa::code::{Code, Hole};
+use rv_isa::ranges::Register;
 use std::alloc::{AllocError, Global};
+use std::test::Fail;
+
+const X10: Register = Register { number: 10 };
 
 #[test]
 fn first_words(rt: HostRuntime) -> Result<(), AllocError> {
@@ -103,5 +117,66 @@ fn data_with_names(rt: HostRuntime) -> Result<(), AllocError> {
         0, 0, 0, 0, 0, 0, 0, 0, 0, 0, 0, 0, 0, 0, 0, 0, 0, 0, 0, 0, 0, 0, 0, 0, 0,
     ];
     assert!(rt; found.as_slice() == expected);
+    Ok(())
+}
+
+// One function of three words, of which two wait for its own address.
+fn code(alloc: Global) -> Result<Code, AllocError> {
+    let words = vec![in alloc; 0x13; 3]?;
+    let holes = vec![in alloc;
+        Hole {
+            word: 0,
+            register: X10,
+            global: 0,
+        },
+    ]?;
+    Ok(Code::new(words, holes))
+}
+
+// The image of texts with one function, which has this code.
+fn image(
+    alloc: Global,
+    texts: &[Checked],
+    linked: &Linked,
+    codes: &[Code],
+) -> Result<Option<Image>, AllocError>
+    requires { IsLinked texts.now linked.now }
+{
+    match codes {
+        [code] => match linked.functions.as_slice() {
+            [_only] => {
+                if code.words().len() <= 256 {
+                    return match place(alloc, codes, linked) {
+                        Ok(image) => Ok(Some(image)),
+                        Err(_) => Ok(None),
+                    };
+                }
+                Ok(None)
+            }
+            _ => Ok(None),
+        },
+        _ => Ok(None),
+    }
+}
+
+#[test]
+fn a_program_of_one_function(rt: HostRuntime) -> Result<(), Fail> {
+    let alloc = rt.alloc();
+    let function = check(alloc, main_text(alloc)?)?;
+    let texts = vec![in alloc; function, check(alloc, zeros(alloc, 5)?)?]?;
+    let codes = vec![in alloc; code(alloc)?]?;
+    let last: &[u32] = &[0x0001_0537, 0x0305_051b, 0x13];
+    match resolve(alloc, texts.as_slice()) {
+        Ok(linked) => match image(alloc, texts.as_slice(), &linked, codes.as_slice())? {
+            Some(image) => {
+                assert_eq!(rt; image.code().len(), 15);
+                assert!(rt; image.code().ends_with(last));
+                assert_eq!(rt; image.data(), [0u8; 16].as_slice());
+                assert_eq!(rt; image.data_start(), 0x11000);
+            }
+            None => assert!(rt; false, "no image"),
+        },
+        Err(error) => assert!(rt; false, "{error}"),
+    }
     Ok(())
 }

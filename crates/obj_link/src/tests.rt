@@ -115,7 +115,7 @@ fn calls_g(alloc: Global) -> Result<Text, AllocError> {
 }
 
 /// `data $d = { z COUNT }`
-fn zeros(alloc: Global, count: u64) -> Result<Text, AllocError> {
+pub fn zeros(alloc: Global, count: u64) -> Result<Text, AllocError> {
     let fields = vec![in alloc; Field::Zeros(count)]?;
     let object = DataDef {
         line: 1,
@@ -134,7 +134,7 @@ fn zeros(alloc: Global, count: u64) -> Result<Text, AllocError> {
     })
 }
 
-fn main_text(alloc: Global) -> Result<Text, AllocError> {
+pub fn main_text(alloc: Global) -> Result<Text, AllocError> {
     returns(alloc, b"main", true, Some(Class::W))
 }
 

@@ -1,4 +1,4 @@
-use Rattle.std.proofs.Common.{◌≡◌, ◌+◌, ◌*◌, ◌≤◌, ◌<◌, length, ap, arith}
+use Rattle.std.proofs.Common.{length, ap, arith}
 use Rattle.obj_link.proofs.AddressLemmas.{function_room}
 use Rattle.obj_link.proofs.addresses.functions_end.Goals as goal
 

@@ -1,4 +1,4 @@
-use Rattle.std.proofs.Common.{◌≡◌, ◌+◌, ◌≤◌, ◌<◌, arith}
+use Rattle.std.proofs.Common.{arith}
 use Rattle.obj_link.proofs.AddressLemmas.{object_room}
 use Rattle.obj_link.proofs.addresses.object_addresses.Goals as goal
 

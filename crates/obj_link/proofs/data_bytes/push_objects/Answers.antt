@@ -1,7 +1,4 @@
-use Rattle.std.proofs.Common.{◌≡◌, ◌+◌, ◌++◌, List, drop, map, ap, sym, ◌∙◌, append_assoc}
-use Rattle.std.specs.List.{flat_map}
-use Rattle.obj_link.specs.Shown.{shown}
-use Rattle.obj_link.specs.DataBytes.{slot_bytes}
+use Rattle.std.proofs.Common.{◌∙◌}
 use Rattle.obj_link.proofs.DataLemmas.{object_after}
 use Rattle.obj_link.proofs.data_bytes.push_objects.Goals as goal
 

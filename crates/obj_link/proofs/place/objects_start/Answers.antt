@@ -1,6 +1,6 @@
-use Rattle.std.proofs.Common.{◌≡◌, ◌+◌, ◌*◌, ◌/◌, ◌≤◌, ◌<◌, arith}
+use Rattle.std.proofs.Common.{arith}
 use Rattle.obj_link.specs.ProgramOf.{program}
-use Rattle.obj_link.proofs.ImageLemmas.{Ends, ends}
+use Rattle.obj_link.proofs.ImageLemmas.{ends}
 use Rattle.obj_link.proofs.place.objects_start.Goals as goal
 
 pub functions_end-end-requires : goal.functions_end-end-requires
