@@ -1,5 +1,5 @@
 -- How values stand in places, and what the operations give: those of the machine on integers (Unprivileged ISA manual), the source's rules on pointers and functions.
-use Rattle.std.specs.Prelude.{◌%◌, ◌^◌, Option, Some, None}
+use Rattle.std.specs.Prelude.{ℕ, ◌%◌, ◌^◌, Option, Some, None}
 use Rattle.std.specs.Option.{option_and_then}
 use Rattle.bits.specs.Words.{sign_extended}
 use Rattle.il_ast.specs.declared.operation.Class.{Class}
@@ -14,7 +14,7 @@ use Rattle.il_ast.specs.Operations.{on_places, operate_two}
 use Rattle.rv_isa.specs.declared.instruction.RegOp.{RegOp}
 use Rattle.rv_isa.specs.declared.instruction.RegOp.TheVariants.{Add as AddLong, Sub as SubLong}
 use Rattle.rv_isa.specs.declared.instruction.LoadOp.{LoadOp}
-use Rattle.rv_isa.specs.declared.instruction.LoadOp.TheVariants.{Ld}
+use Rattle.rv_isa.specs.declared.instruction.LoadOp.TheVariants.{Lb, Lh, Lw, Ld, Lbu, Lhu, Lwu}
 use Rattle.rv_isa.specs.Arithmetic.{reg_value, regw_value}
 use Rattle.rv_isa.specs.Step.{load_size, load_value}
 use Rattle.vcode.specs.declared.line.Operation.{Operation}
@@ -44,9 +44,19 @@ operate m (RegW op) (Integer a) (Integer b) = Some (Integer (regw_value op a b))
 operate m (RegW op) u v = None
 operate m (CompareValues on k) u v = compare m on k u v
 
+-- the lowest bytes of a number, as many as a load reads; eight are all
+abbrev pub narrowed : LoadOp → ℕ → ℕ
+narrowed Lb n = n % 2 ^ 8
+narrowed Lbu n = n % 2 ^ 8
+narrowed Lh n = n % 2 ^ 16
+narrowed Lhu n = n % 2 ^ 16
+narrowed Lw n = n % 2 ^ 32
+narrowed Lwu n = n % 2 ^ 32
+narrowed Ld n = n
+
 -- a number that was loaded, extended; any other value stands in eight bytes, and only `ld` reads these
 abbrev pub extended : LoadOp → Value → Option Value
-extended op (Integer n) = Some (Integer (load_value op n))
+extended op (Integer n) = Some (Integer (load_value op (narrowed op n)))
 extended Ld v = Some v
 extended op v = None
 

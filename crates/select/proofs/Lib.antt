@@ -1,0 +1,9 @@
+pub mod BlockLines
+pub mod Ending
+pub mod Going
+pub mod Numbers
+pub mod OperationLines
+pub mod Registers
+pub mod Selecting
+pub mod Widening
+pub mod Yielding

@@ -1,0 +1,9 @@
+-- What is proved of selected code.
+use Rattle.il_ast.specs.declared.function.Func.{Func}
+use Rattle.phi_copies.specs.Endings.{Endings}
+use Rattle.select.specs.Selected.{selected}
+use Rattle.select.specs.Typed.{IsTyped}
+use Rattle.select.specs.Keeping.{KeepsEndings}
+
+abbrev pub SelectionKeeps : Type 0
+SelectionKeeps = (f : Func) (code : Endings) → IsTyped f code → KeepsEndings f code (selected f code)
