@@ -16,7 +16,7 @@ use Rattle.phi_copies.proofs.TwoRounds.{get_past, AllBelow}
 -- ---- temporaries
 
 -- each is less than n
-abbrev AllLess : ℕ → List ℕ → Type 0
+abbrev pub AllLess : ℕ → List ℕ → Type 0
 AllLess n [] = Unit {0}
 AllLess n (x ∷ xs) = (x < n) × AllLess n xs
 
@@ -28,7 +28,7 @@ less_right : (n : ℕ) (xs ys : List ℕ) → AllLess n (xs ++ ys) → AllLess n
 less_right n [] ys h = h
 less_right n (x ∷ xs) ys h = less_right n xs ys h.1
 
-come_up : (n k : ℕ) (xs : List ℕ) → come_after n xs ≡ Some k → (n ≤ k) × AllLess k xs
+pub come_up : (n k : ℕ) (xs : List ℕ) → come_after n xs ≡ Some k → (n ≤ k) × AllLess k xs
 come_up n k [] h = (let e : n ≡ k = cc in omega (arith, e), tt)
 come_up n k (x ∷ xs) h = by (come_up n k xs) (come_up (n + 1) k xs) (nat_lt x n) (nat_eq x n) refl refl h
   where

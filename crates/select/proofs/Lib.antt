@@ -1,9 +1,11 @@
 pub mod BlockLines
 pub mod Ending
 pub mod Going
+pub mod LoweredTyping
 pub mod Numbers
 pub mod OperationLines
 pub mod Registers
 pub mod Selecting
+pub mod Typing
 pub mod Widening
 pub mod Yielding

@@ -1,3 +1,4 @@
+pub mod Classes
 pub mod Keeping
 pub mod Laws
 pub mod Selected
