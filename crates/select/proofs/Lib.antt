@@ -1,11 +1,17 @@
 pub mod BlockLines
+pub mod EachBlock
 pub mod Ending
 pub mod Going
+pub mod Known
 pub mod LoweredTyping
 pub mod Numbers
+pub mod Parameters
+pub mod Paying
 pub mod OperationLines
 pub mod Registers
+pub mod Regular
 pub mod Selecting
 pub mod Typing
+pub mod UsedPlaces
 pub mod Widening
 pub mod Yielding

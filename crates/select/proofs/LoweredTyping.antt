@@ -43,7 +43,7 @@ use Rattle.select.proofs.Typing.{Among, among_left, among_right, among_at, neith
 
 -- ---- where a thing among others comes from
 
-split_among : {A : Type 0} (x : A) (xs ys : List A) → Among x (xs ++ ys) → Among x xs ⊎ Among x ys
+pub split_among : {A : Type 0} (x : A) (xs ys : List A) → Among x (xs ++ ys) → Among x xs ⊎ Among x ys
 split_among x [] ys h = inr h
 split_among x (y ∷ xs) ys (inl e) = inl (inl e)
 split_among {A} x (y ∷ xs) ys (inr h) = by (split_among x xs ys h)
@@ -105,12 +105,12 @@ block_temp b d h = by (split_among d (flat_map phi_definers b.phis) (flat_map in
         (among_left (temp_of d) (flat_map (λ (i : Lined Inst). temps_in_inst i.item) b.insts) _
         (map_among inst_definers (λ (i : Lined Inst). temps_in_inst i.item) temp_of (λ i e. item_temp i.line i.item e) b.insts d a))
 
-less_among : (n : ℕ) (xs : List ℕ) (x : ℕ) → AllLess n xs → Among x xs → x < n
+pub less_among : (n : ℕ) (xs : List ℕ) (x : ℕ) → AllLess n xs → Among x xs → x < n
 less_among n [] x h a = absurd a
 less_among n (y ∷ xs) x h (inl e) = subst (λ k. k < n) (sym e) h.0
 less_among n (y ∷ xs) x h (inr a) = less_among n xs x h.1 a
 
-own_temps : (f : Func) → OwnTemps f
+pub own_temps : (f : Func) → OwnTemps f
 unfolding temp_of
 own_temps f d a =
     less_among (length f.temps) (temps_of f.params f.blocks) d.temp (come_up 0 (length f.temps) (temps_of f.params f.blocks) f.temps_in_order).1
@@ -132,11 +132,11 @@ operand_is f good o a = operand_fits f (own_temps f) (good.rules OperandFits) (g
 -- ---- instructions
 
 pub record InstAt (f : Func) (b : Block) (i : Lined Inst) : Type 0 where
-  defines : (d : Definer) → Among d (inst_definers i) → Among d (definers_of f)
-  reads_all : (o : Operand) → Among o (inst_operands i) → Among o (operands_of f)
-  right : has_wrong_result i.item ≡ false
+  pub defines : (d : Definer) → Among d (inst_definers i) → Among d (definers_of f)
+  pub reads_all : (o : Operand) → Among o (inst_operands i) → Among o (operands_of f)
+  pub right : has_wrong_result i.item ≡ false
 
-inst_at : (f : Func) → IsGoodFunction f → (k j : ℕ) (b : Block) (i : Lined Inst) → slice_get f.blocks k ≡ Some b → slice_get b.insts j ≡ Some i → InstAt f b i
+pub inst_at : (f : Func) → IsGoodFunction f → (k j : ℕ) (b : Block) (i : Lined Inst) → slice_get f.blocks k ≡ Some b → slice_get b.insts j ≡ Some i → InstAt f b i
 inst_at f good k j b i here at =
     record {
       defines = λ d a. among_right d (flat_map param_definers f.params) (flat_map block_definers f.blocks)
@@ -193,7 +193,7 @@ item_fits f good b line (Call (Some to) callee args) i = (
 -- ---- the copies of phis
 
 -- where a phi stands among all phis
-phi_place : (blocks : List Block) (k j : ℕ) (b : Block) (p : Phi) → slice_get blocks k ≡ Some b → slice_get b.phis j ≡ Some p → slice_get (all_phis blocks) (phis_before blocks k + j) ≡ Some p
+pub phi_place : (blocks : List Block) (k j : ℕ) (b : Block) (p : Phi) → slice_get blocks k ≡ Some b → slice_get b.phis j ≡ Some p → slice_get (all_phis blocks) (phis_before blocks k + j) ≡ Some p
 phi_place [] k j b p here at = absurd (let no : ⊥ = cc in no)
 phi_place (c ∷ blocks) zero j b p here at =
     let same : c ≡ b = cc in
@@ -209,7 +209,7 @@ record PhiFits (f : Func) (n : ℕ) (p : Phi) : Type 0 where
   destination : classes_in f p.to.temp ≡ p.to.class
   arguments : (a : PhiArg) → Among a p.args → Fits (classes_in f) p.to.class a.value
 
-phi_argument_at : (p : Phi) (args : List PhiArg) (a : PhiArg) → Among a args → Among (operand_at p.line p.to.class a.value) (flat_map (λ (x : PhiArg). operand_at p.line p.to.class x.value ∷ []) args)
+pub phi_argument_at : (p : Phi) (args : List PhiArg) (a : PhiArg) → Among a args → Among (operand_at p.line p.to.class a.value) (flat_map (λ (x : PhiArg). operand_at p.line p.to.class x.value ∷ []) args)
 phi_argument_at p [] a h = absurd h
 phi_argument_at p (x ∷ args) a (inl e) = inl (ap (λ (y : PhiArg). operand_at p.line p.to.class y.value) e)
 phi_argument_at p (x ∷ args) a (inr h) = inr (phi_argument_at p args a h)
@@ -232,7 +232,7 @@ phi_fits f good k j b p here at =
           (among_left _ (flat_map phi_operands b.phis) (flat_map inst_operands b.insts ++ end_operands b.jump) (among_at phi_operands b.phis j p _ at (phi_argument_at p p.args a h))));
     }
 
-find_among : (from : ℕ) (args : List PhiArg) (a : PhiArg) → find (λ (x : PhiArg). nat_eq x.from from) args ≡ Some a → Among a args
+pub find_among : (from : ℕ) (args : List PhiArg) (a : PhiArg) → find (λ (x : PhiArg). nat_eq x.from from) args ≡ Some a → Among a args
 find_among from [] a h = absurd (let no : ⊥ = cc in no)
 find_among from (x ∷ args) a h = by (nat_eq x.from from) h (find_among from args a)
   where
@@ -364,7 +364,7 @@ params_fit : (f : Func) → IsGoodFunction f → (ps : List Param) → ((p : Par
 params_fit f good [] each = tt
 params_fit f good (p ∷ ps) each = (takes f good (record { line = p.line; temp = p.temp; class = p.class }) (each p (inl refl)), params_fit f good ps (λ q a. each q (inr a)))
 
-param_among : (ps : List Param) (p : Param) → Among p ps → Among (record { line = p.line; temp = p.temp; class = p.class }) (flat_map param_definers ps)
+pub param_among : (ps : List Param) (p : Param) → Among p ps → Among (record { line = p.line; temp = p.temp; class = p.class }) (flat_map param_definers ps)
 param_among [] p h = absurd h
 param_among (q ∷ ps) p (inl e) = inl (ap (λ (x : Param). record { line = x.line; temp = x.temp; class = x.class }) e)
 param_among (q ∷ ps) p (inr h) = inr (param_among ps p h)

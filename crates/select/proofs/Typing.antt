@@ -128,7 +128,7 @@ pub not_false : (b : Bool) → not b ≡ false → b ≡ true
 not_false true h = refl
 not_false false h = sym h
 
-either_true : (a b : Bool) → (a || b) ≡ true → (a ≡ true) ⊎ (b ≡ true)
+pub either_true : (a b : Bool) → (a || b) ≡ true → (a ≡ true) ⊎ (b ≡ true)
 either_true true b h = inl refl
 either_true false b h = inr h
 
@@ -136,7 +136,7 @@ same_number : (a b : Bool) → (a && b) ≡ true → a ≡ true
 same_number true b h = refl
 same_number false b h = h
 
-assigned_own : (f : Func) → OwnTemps f → (c : Class) (t : ℕ) → is_given c t (definers_of f) ≡ true → t < length f.temps
+pub assigned_own : (f : Func) → OwnTemps f → (c : Class) (t : ℕ) → is_given c t (definers_of f) ≡ true → t < length f.temps
 assigned_own f own c t h =
     let r = found_any (λ (d : Definer). nat_eq d.temp t && same_class d.class c) (definers_of f) h in
     let e = same_number (nat_eq r.item.temp t) (same_class r.item.class c) r.passes in

@@ -1,4 +1,5 @@
 pub mod Classes
+pub mod Invariants
 pub mod Keeping
 pub mod Laws
 pub mod Selected

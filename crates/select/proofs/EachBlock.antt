@@ -1,0 +1,157 @@
+-- What holds of every block of the virtual code of a lowered function, and where its jumps lead.
+use Rattle.std.proofs.Common.{◌≡◌, ℕ, suc, ◌+◌, ◌<◌, ◌≤◌, Bool, true, false, not, cond, nat_eq, ◌&&◌, ◌||◌, List, [], ◌∷◌, ◌++◌, length, map, refl, sym, ◌∙◌, ap, subst, arith, ◌⊎◌, inl, inr}
+use Rattle.std.specs.Prelude.{Option, Some, None}
+use Rattle.std.specs.List.{list_all, list_any, flat_map, position_from}
+use Rattle.std.proofs.lemmas.Iterator.Adapters.{position_from-zero}
+use Rattle.std.proofs.lemmas.List.{length-append}
+use Rattle.il_ast.specs.declared.operand.Val.{Val}
+use Rattle.il_ast.specs.declared.instruction.Jump.{Jump}
+use Rattle.il_ast.specs.declared.instruction.Jump.TheVariants.{Goto, Branch, Return, Halt}
+use Rattle.il_ast.specs.declared.instruction.Lined.{Lined}
+use Rattle.il_ast.specs.declared.block.Phi.{Phi}
+use Rattle.il_ast.specs.declared.block.Block.{Block}
+use Rattle.il_ast.specs.declared.function.Func.{Func}
+use Rattle.il_ast.specs.Effect.{place_of}
+use Rattle.il_types.specs.declared.rule.Rule.TheVariants.{KnownLabels, EntryNotTarget}
+use Rattle.il_types.specs.declared.site.Site.{Site}
+use Rattle.il_types.specs.First.{when, first}
+use Rattle.il_types.specs.Sites.{jump_sites, end_sites, block_targets, targets_of, sources_of}
+use Rattle.il_types.specs.Locals.{is_label, is_entry}
+use Rattle.phi_copies.specs.declared.ending.Ending.{Ending}
+use Rattle.phi_copies.specs.declared.ending.Leave.TheVariants.{Goto as GotoBlock}
+use Rattle.phi_copies.specs.Good.{IsGoodFunction}
+use Rattle.phi_copies.specs.Lowered.{target, phis_at, entry_copies, edge_with, edge, jump_edges, end_edges, block_edges, all_edges, block_ending, all_endings}
+use Rattle.vcode.specs.declared.code.Block.{Block as VirtualBlock}
+use Rattle.select.specs.Selected.{block_of, edge_of, blocks_of}
+use Rattle.select.proofs.Typing.{Among, among_left, among_right, neither_first, not_broken, none_among, not_false}
+
+-- ---- blocks, and the edges behind them
+
+-- of each block and the number of its first edge
+abbrev pub EachBlock : Func → (VirtualBlock ℕ → Bool) → (total : ℕ) → List Block → Type 0
+EachBlock f test total bs =
+    (b : Block) (m : ℕ) → Among b bs → m + length (block_edges f b) ≤ total → test (block_of b (block_ending f m b)) ≡ true
+
+pub blocks_all : (f : Func) (test : VirtualBlock ℕ → Bool) (total n : ℕ) (bs : List Block) (rest : List (VirtualBlock ℕ)) → n + length (all_edges f bs) ≡ total → EachBlock f test total bs → list_all test rest ≡ true → list_all test (blocks_of bs (all_endings f n bs) ++ rest) ≡ true
+blocks_all f test total n [] rest sum each h = h
+blocks_all f test total n (b ∷ bs) rest sum each h =
+    let long = length-append (block_edges f b) (all_edges f bs) in
+    both (test (block_of b (block_ending f n b))) _ (each b n (inl refl) (omega (arith, sum, long)))
+    (blocks_all f test total (n + length (block_edges f b)) bs rest (omega (arith, sum, long)) (λ c m a. each c m (inr a)) h)
+  where
+    both : (x y : Bool) → x ≡ true → y ≡ true → (x && y) ≡ true
+    both true y e g = g
+    both false y e g = e
+
+-- a block of a function that ends in a branch one of whose labels this is
+pub record Branches (b : Block) (l : ℕ) : Type 0 where
+  pub jump : Lined Jump
+  pub ends : b.jump ≡ Some jump
+  pub on : Val
+  pub nonzero : ℕ
+  pub otherwise : ℕ
+  pub is : jump.item ≡ Branch on nonzero otherwise
+  pub label : (l ≡ nonzero) ⊎ (l ≡ otherwise)
+
+abbrev pub edge_for : Func → (from k : ℕ) → List Phi → Ending
+edge_for f from k phis = record { turn = false; weight = length phis; copies = entry_copies f from k; leave = GotoBlock k }
+
+abbrev pub EachEdge : Func → (VirtualBlock ℕ → Bool) → List Block → Type 0
+EachEdge f test bs =
+    (b : Block) (l : ℕ) (p : Phi) (ps : List Phi) → Among b bs → Branches b l → phis_at f.blocks (target f.blocks l) ≡ p ∷ ps → test (edge_of (edge_for f b.label (target f.blocks l) (p ∷ ps))) ≡ true
+
+pub all_both : {A : Type 0} (test : A → Bool) (xs ys : List A) → list_all test xs ≡ true → list_all test ys ≡ true → list_all test (xs ++ ys) ≡ true
+all_both test [] ys h k = k
+all_both test (x ∷ xs) ys h k = by (test x) h (all_both test xs ys)
+  where
+    by : (b : Bool) → (b && list_all test xs) ≡ true → (list_all test xs ≡ true → list_all test ys ≡ true → list_all test (xs ++ ys) ≡ true) → (b && list_all test (xs ++ ys)) ≡ true
+    by true e rest = rest e k
+    by false e rest = e
+
+map_both : {A B : Type 0} (g : A → B) (xs ys : List A) → map g (xs ++ ys) ≡ map g xs ++ map g ys
+map_both g [] ys = refl
+map_both g (x ∷ xs) ys = ap (λ zs. g x ∷ zs) (map_both g xs ys)
+
+pub edges_all : (f : Func) (test : VirtualBlock ℕ → Bool) (bs : List Block) → EachEdge f test bs → list_all test (map edge_of (all_edges f bs)) ≡ true
+edges_all f test [] each = refl
+edges_all f test (b ∷ bs) each =
+    ap (list_all test) (map_both edge_of (block_edges f b) (all_edges f bs))
+    ∙ all_both test (map edge_of (block_edges f b)) (map edge_of (all_edges f bs)) (by b.jump refl) (edges_all f test bs (λ c l p ps a. each c l p ps (inr a)))
+  where
+    side : (l : ℕ) (ps : List Phi) → Branches b l → phis_at f.blocks (target f.blocks l) ≡ ps → list_all test (map edge_of (edge_with f b.label (target f.blocks l) ps)) ≡ true
+    side l [] br e = refl
+    side l (p ∷ ps) br e = ap (λ x. x && true) (each b l p ps (inl refl) br e)
+
+    by_jump : (j : Lined Jump) (x : Jump) → b.jump ≡ Some j → j.item ≡ x → list_all test (map edge_of (jump_edges f b.label x)) ≡ true
+    by_jump j (Goto l) e i = refl
+    by_jump j (Branch on nonzero otherwise) e i =
+        ap (list_all test) (map_both edge_of (edge f b.label (target f.blocks nonzero)) (edge f b.label (target f.blocks otherwise)))
+        ∙ all_both test (map edge_of (edge f b.label (target f.blocks nonzero))) (map edge_of (edge f b.label (target f.blocks otherwise)))
+        (side nonzero (phis_at f.blocks (target f.blocks nonzero)) (record { jump = j; ends = e; on = on; nonzero = nonzero; otherwise = otherwise; is = i; label = inl refl }) refl)
+        (side otherwise (phis_at f.blocks (target f.blocks otherwise)) (record { jump = j; ends = e; on = on; nonzero = nonzero; otherwise = otherwise; is = i; label = inr refl }) refl)
+    by_jump j (Return a) e i = refl
+    by_jump j Halt e i = refl
+
+    by : (j : Option (Lined Jump)) → b.jump ≡ j → list_all test (map edge_of (end_edges f b.label j)) ≡ true
+    by None e = refl
+    by (Some j) e = by_jump j j.item e refl
+
+-- ---- labels
+
+record Position {A : Type 0} (p : A → Bool) (i : ℕ) (xs : List A) : Type 0 where
+  place : ℕ
+  is : position_from p i xs ≡ Some place
+  above : i ≤ place
+  below : place < i + length xs
+
+found_at : {A : Type 0} (p : A → Bool) (i : ℕ) (xs : List A) → list_any p xs ≡ true → Position p i xs
+found_at p i [] h = absurd (let no : ⊥ = cc in no)
+found_at p i (x ∷ xs) h = by (p x) refl h (found_at p (i + 1) xs)
+  where
+    by : (b : Bool) → p x ≡ b → (b || list_any p xs) ≡ true → (list_any p xs ≡ true → Position p (i + 1) xs) → Position p i (x ∷ xs)
+    by true e g rest = record { place = i; is = ap (λ b. cond b (Some i) (position_from p (i + 1) xs)) e; above = omega arith; below = omega arith }
+    by false e g rest =
+        let r = rest g in
+        let above = r.above in
+        let below = r.below in
+        record { place = r.place; is = ap (λ b. cond b (Some i) (position_from p (i + 1) xs)) e ∙ r.is; above = omega (arith, above); below = omega (arith, below) }
+
+-- a label that a block of the function has, and the first has not, is a block's behind the first
+pub record IsTarget (f : Func) (l : ℕ) : Type 0 where
+  pub place : ℕ
+  pub is : place_of f.blocks l ≡ Some place
+  pub not_first : 0 < place
+  pub within : place < length f.blocks
+
+target_found : (f : Func) (blocks : List Block) (l : ℕ) → f.blocks ≡ blocks → is_label blocks l ≡ true → is_entry blocks l ≡ false → IsTarget f l
+target_found f [] l e known entry = absurd (let no : ⊥ = cc in no)
+target_found f (b ∷ blocks) l e known entry =
+    let r = found_at (λ (c : Block). nat_eq c.label l) 1 blocks (sym (ap (λ x. x || list_any (λ (c : Block). nat_eq c.label l) blocks) entry) ∙ known) in
+    let long : length f.blocks ≡ suc (length blocks) = ap length e in
+    let above = r.above in
+    let below = r.below in
+    record {
+      place = r.place;
+      is =
+          ap (λ bs. place_of bs l) e
+          ∙ position_from-zero (λ (c : Block). nat_eq c.label l) (b ∷ blocks)
+          ∙ ap (λ x. cond x (Some 0) (position_from (λ (c : Block). nat_eq c.label l) 1 blocks)) entry
+          ∙ r.is;
+      not_first = omega (arith, above);
+      within = omega (arith, below, long);
+    }
+
+-- a label that a jump names
+pub is_target : (f : Func) → IsGoodFunction f → (b : Block) (j : Lined Jump) (l line : ℕ) → Among b f.blocks → b.jump ≡ Some j → Among (record { line = line; number = l }) (jump_sites j.line j.item) → IsTarget f l
+is_target f good b j l line a jump site =
+    let s : Site = record { line = line; number = l } in
+    let here : Among s (targets_of f) = flat f.blocks a in
+    let known = none_among (λ (x : Site). when (not (is_label f.blocks x.number)) x.line) (targets_of f) s
+    (neither_first (first (λ (x : Site). when (not (is_label f.blocks x.number)) x.line) (targets_of f)) (first (λ (x : Site). when (not (is_label f.blocks x.number)) x.line) (sources_of f)) (good.rules KnownLabels)) here in
+    let entry = none_among (λ (x : Site). when (is_entry f.blocks x.number) x.line) (targets_of f) s (good.rules EntryNotTarget) here in
+    target_found f f.blocks l refl (not_false (is_label f.blocks l) (not_broken (not (is_label f.blocks l)) line known)) (not_broken (is_entry f.blocks l) line entry)
+  where
+    flat : (bs : List Block) → Among b bs → Among (record { line = line; number = l }) (flat_map block_targets bs)
+    flat [] h = absurd h
+    flat (c ∷ bs) (inl e) = among_left _ (block_targets c) _ (subst (λ (x : Block). Among (record { line = line; number = l }) (end_sites x.jump)) e (subst (λ o. Among (record { line = line; number = l }) (end_sites o)) (sym jump) site))
+    flat (c ∷ bs) (inr h) = among_right _ (block_targets c) _ (flat bs h)

@@ -1,0 +1,269 @@
+-- The virtual code of a lowered function of a good text names registers below its count, and its parameters have low ones of their own.
+use Rattle.std.proofs.Common.{◌≡◌, ℕ, ◌+◌, ◌<◌, ◌≤◌, Bool, true, not, nat_eq, ◌&&◌, List, [], ◌∷◌, ◌++◌, length, map, refl, sym, ◌∙◌, ap, subst, arith, ◌⊎◌, inl, inr}
+use Rattle.std.specs.Prelude.{slice_get, Option, Some, None}
+use Rattle.std.specs.List.{list_all, flat_map, find}
+use Rattle.std.proofs.lemmas.Bool.Decides.{nat_tests}
+use Rattle.il_ast.specs.declared.operation.Class.TheVariants.{W, L}
+use Rattle.il_ast.specs.declared.operand.Val.{Val}
+use Rattle.il_ast.specs.declared.operand.Val.TheVariants.{Int, Temp, Global}
+use Rattle.il_ast.specs.declared.operand.Arg.{Arg}
+use Rattle.il_ast.specs.declared.instruction.Inst.{Inst}
+use Rattle.il_ast.specs.declared.instruction.Inst.TheVariants.{Unary, Binary, Alloc as AllocInst, Store as StoreInst, Blit as BlitInst, Call as CallInst}
+use Rattle.il_ast.specs.declared.instruction.Jump.{Jump}
+use Rattle.il_ast.specs.declared.instruction.Jump.TheVariants.{Goto, Branch, Return, Halt}
+use Rattle.il_ast.specs.declared.instruction.Lined.{Lined}
+use Rattle.il_ast.specs.declared.block.Phi.{Phi}
+use Rattle.il_ast.specs.declared.block.PhiArg.{PhiArg}
+use Rattle.il_ast.specs.declared.block.Block.{Block}
+use Rattle.il_ast.specs.declared.function.Param.{Param}
+use Rattle.il_ast.specs.declared.function.Func.{Func}
+use Rattle.il_ast.specs.Cost.{phi_count}
+use Rattle.il_ast.specs.Operations.{operand_class, left_class, right_class}
+use Rattle.il_ast.specs.Effect.{stored_class}
+use Rattle.il_types.specs.declared.rule.Rule.TheVariants.{DefinedTemporaries}
+use Rattle.il_types.specs.declared.site.Definer.{Definer}
+use Rattle.il_types.specs.declared.site.Operand.{Operand as Reading}
+use Rattle.il_types.specs.First.{when, first}
+use Rattle.il_types.specs.Sites.{definer, param_definers, phi_definers, inst_definers, block_definers, definers_of, operand_at, phi_operands, inst_operands, arg_operands, jump_operands, end_operands, block_operands, operands_of}
+use Rattle.il_types.specs.Marks.{is_given}
+use Rattle.il_types.specs.Locals.{is_defined, in_returns, returned_breaks, breaks_in, value_returned}
+use Rattle.phi_copies.specs.declared.ending.Assignment.{Assignment}
+use Rattle.phi_copies.specs.declared.ending.Ending.{Ending}
+use Rattle.phi_copies.specs.Good.{IsGoodFunction}
+use Rattle.phi_copies.specs.Lowered.{value_or_zero, source, reads, writes, copies_of, phis_of, phis_before, entry_copies, target, all_edges, jump_ending, end_ending, block_ending, all_endings, lowered}
+use Rattle.phi_copies.proofs.EdgePlaces.{phis_counted}
+use Rattle.vcode.specs.declared.place.Operand.{Operand}
+use Rattle.vcode.specs.declared.place.Argument.{Argument}
+use Rattle.vcode.specs.Named.{operand_keeps, line_keeps, jump_keeps, block_keeps, keeps_places, is_below}
+use Rattle.select.specs.Selected.{operand_of, argument_of, inst_lines, turn_lines, all_lines, copy_lines, assignment_lines, ending_lines, jump_of, block_of, edge_of, blocks_of, parameter_of, selected}
+use Rattle.select.proofs.Typing.{Among, among_left, among_right, neither_first, neither_second, not_broken, none_among, not_false, either_true, assigned_own}
+use Rattle.select.proofs.LoweredTyping.{there, own_temps, find_among, phi_argument_at, param_among}
+use Rattle.select.proofs.EachBlock.{blocks_all, edges_all, all_both}
+use Rattle.select.proofs.UsedPlaces.{AllKeep, copy_sets, unary_sets, binary_sets, sets_keep, and_both}
+
+-- how many registers there are: one for each temporary, and one for each phi
+abbrev pub registers : Func → ℕ
+registers f = length f.temps + phi_count f
+
+abbrev Below : Func → ℕ → Bool
+Below f = is_below (registers f)
+
+below : (f : Func) (n : ℕ) → n < registers f → Below f n ≡ true
+below f n h = grind (arith, nat_tests)
+
+own_below : (f : Func) (n : ℕ) → n < length f.temps → Below f n ≡ true
+own_below f n h = below f n (omega (arith, h))
+
+-- ---- operands
+
+defined_keeps : (f : Func) (a : Val) → is_defined (definers_of f) a ≡ true → operand_keeps (Below f) (operand_of a) ≡ true
+defined_keeps f (Int n) h = refl
+defined_keeps f (Global g) h = refl
+defined_keeps f (Temp t) h = by (either_true (is_given W t (definers_of f)) (is_given L t (definers_of f)) h)
+  where
+    by : (is_given W t (definers_of f) ≡ true) ⊎ (is_given L t (definers_of f) ≡ true) → Below f t ≡ true
+    by (inl e) = own_below f t (assigned_own f (own_temps f) W t e)
+    by (inr e) = own_below f t (assigned_own f (own_temps f) L t e)
+
+reading_keeps : (f : Func) → IsGoodFunction f → (o : Reading) → Among o (operands_of f) → operand_keeps (Below f) (operand_of o.value) ≡ true
+reading_keeps f good o a =
+    let all = neither_first (first (λ (x : Reading). when (not (is_defined (definers_of f) x.value)) x.line) (operands_of f)) (in_returns (λ v. not (is_defined (definers_of f) v)) f.blocks) (good.rules DefinedTemporaries) in
+    defined_keeps f o.value
+    (not_false (is_defined (definers_of f) o.value) (not_broken (not (is_defined (definers_of f) o.value)) o.line (none_among (λ (x : Reading). when (not (is_defined (definers_of f) x.value)) x.line) (operands_of f) o all a)))
+
+-- ---- instructions
+
+-- what an instruction defines and reads, the function does
+record Within (f : Func) (line : ℕ) (x : Inst) : Type 0 where
+  defines : (d : Definer) → Among d (inst_definers (record { line = line; item = x })) → d.temp < length f.temps
+  reads_all : (o : Reading) → Among o (inst_operands (record { line = line; item = x })) → operand_keeps (Below f) (operand_of o.value) ≡ true
+
+only : (test : ℕ → Bool) (a : Operand ℕ) → operand_keeps test a ≡ true → AllKeep test (a ∷ [])
+only test a h b (inl e) = ap (operand_keeps test) e ∙ h
+only test a h b (inr m) = absurd m
+
+two : (test : ℕ → Bool) (a c : Operand ℕ) → operand_keeps test a ≡ true → operand_keeps test c ≡ true → AllKeep test (a ∷ c ∷ [])
+two test a c h k b (inl e) = ap (operand_keeps test) e ∙ h
+two test a c h k b (inr (inl e)) = ap (operand_keeps test) e ∙ k
+two test a c h k b (inr (inr m)) = absurd m
+
+args_keep : (f : Func) (line : ℕ) (args : List Arg) → ((o : Reading) → Among o (arg_operands line args) → operand_keeps (Below f) (operand_of o.value) ≡ true) → list_all (λ (a : Argument ℕ). operand_keeps (Below f) a.value) (map argument_of args) ≡ true
+args_keep f line [] each = refl
+args_keep f line (a ∷ args) each =
+    and_both (operand_keeps (Below f) (operand_of a.value)) _ (each (operand_at line a.class a.value) (inl refl)) (args_keep f line args (λ o h. each o (inr h)))
+
+inst_keeps : (f : Func) (line : ℕ) (x : Inst) → Within f line x → list_all (line_keeps (Below f)) (inst_lines x) ≡ true
+inst_keeps f line (Unary to op a) w =
+    sets_keep (Below f) to.temp (operand_of a ∷ []) _ (own_below f to.temp (w.defines (definer line to) (inl refl)))
+    (only (Below f) (operand_of a) (w.reads_all (operand_at line (operand_class op to.class) a) (inl refl))) (unary_sets to.temp op to.class (operand_of a))
+inst_keeps f line (Binary to op a b) w =
+    sets_keep (Below f) to.temp (operand_of a ∷ operand_of b ∷ []) _ (own_below f to.temp (w.defines (definer line to) (inl refl)))
+    (two (Below f) (operand_of a) (operand_of b) (w.reads_all (operand_at line (left_class op to.class) a) (inl refl)) (w.reads_all (operand_at line (right_class op to.class) b) (inr (inl refl))))
+    (binary_sets to.temp op to.class (operand_of a) (operand_of b))
+inst_keeps f line (AllocInst to alignment size) w = ap (λ b. b && true) (own_below f to.temp (w.defines (definer line to) (inl refl)))
+inst_keeps f line (StoreInst size a at) w =
+    and_both (operand_keeps (Below f) (operand_of a) && operand_keeps (Below f) (operand_of at)) true
+    (and_both _ _ (w.reads_all (operand_at line (stored_class size) a) (inl refl)) (w.reads_all (operand_at line L at) (inr (inl refl)))) refl
+inst_keeps f line (BlitInst from to count) w =
+    and_both (operand_keeps (Below f) (operand_of from) && operand_keeps (Below f) (operand_of to)) true
+    (and_both _ _ (w.reads_all (operand_at line L from) (inl refl)) (w.reads_all (operand_at line L to) (inr (inl refl)))) refl
+inst_keeps f line (CallInst None callee args) w =
+    and_both (operand_keeps (Below f) (operand_of callee) && list_all (λ (a : Argument ℕ). operand_keeps (Below f) a.value) (map argument_of args)) true
+    (and_both _ _ (w.reads_all (operand_at line L callee) (inl refl)) (args_keep f line args (λ o h. w.reads_all o (inr h)))) refl
+inst_keeps f line (CallInst (Some to) callee args) w =
+    and_both (Below f to.temp && (operand_keeps (Below f) (operand_of callee) && list_all (λ (a : Argument ℕ). operand_keeps (Below f) a.value) (map argument_of args))) true
+    (and_both _ _ (own_below f to.temp (w.defines (definer line to) (inl refl)))
+    (and_both _ _ (w.reads_all (operand_at line L callee) (inl refl)) (args_keep f line args (λ o h. w.reads_all o (inr h))))) refl
+
+-- ---- the instructions of a block
+
+flat_among : {A B : Type 0} (g : A → List B) (xs : List A) (x : A) (y : B) → Among x xs → Among y (g x) → Among y (flat_map g xs)
+flat_among g [] x y a h = absurd a
+flat_among g (z ∷ xs) x y (inl e) h = among_left y (g z) (flat_map g xs) (subst (λ v. Among y (g v)) e h)
+flat_among g (z ∷ xs) x y (inr a) h = among_right y (g z) (flat_map g xs) (flat_among g xs x y a h)
+
+within : (f : Func) → IsGoodFunction f → (b : Block) (i : Lined Inst) → Among b f.blocks → Among i b.insts → Within f i.line i.item
+within f good b i here at =
+    record {
+      defines = λ d a. own_temps f d
+          (among_right d (flat_map param_definers f.params) (flat_map block_definers f.blocks)
+          (flat_among block_definers f.blocks b d here (among_right d (flat_map phi_definers b.phis) (flat_map inst_definers b.insts) (flat_among inst_definers b.insts i d at a))));
+      reads_all = λ o a. reading_keeps f good o
+          (flat_among block_operands f.blocks b o here
+          (among_right o (flat_map phi_operands b.phis) (flat_map inst_operands b.insts ++ end_operands b.jump)
+          (among_left o (flat_map inst_operands b.insts) (end_operands b.jump) (flat_among inst_operands b.insts i o at a))));
+    }
+
+insts_keep : (f : Func) → IsGoodFunction f → (b : Block) → Among b f.blocks → (insts : List (Lined Inst)) → ((i : Lined Inst) → Among i insts → Among i b.insts) → list_all (line_keeps (Below f)) (all_lines insts) ≡ true
+insts_keep f good b here [] sub = refl
+insts_keep f good b here (i ∷ insts) sub =
+    all_both (line_keeps (Below f)) (turn_lines i) (all_lines insts) (inst_keeps f i.line i.item (within f good b i here (sub i (inl refl))))
+    (insts_keep f good b here insts (λ j a. sub j (inr a)))
+
+-- ---- copies
+
+record CopyKeeps (f : Func) (c : Assignment) : Type 0 where
+  to : c.to.temp < registers f
+  value : operand_keeps (Below f) (operand_of c.value) ≡ true
+
+abbrev AllCopies : Func → List Assignment → Type 0
+AllCopies f [] = Unit {0}
+AllCopies f (c ∷ cs) = CopyKeeps f c × AllCopies f cs
+
+assignments_keep : (f : Func) (cs : List Assignment) → AllCopies f cs → list_all (line_keeps (Below f)) (assignment_lines cs) ≡ true
+assignments_keep f [] h = refl
+assignments_keep f (c ∷ cs) h =
+    all_both (line_keeps (Below f)) (copy_lines c.to.temp c.to.class (operand_of c.value)) (assignment_lines cs)
+    (sets_keep (Below f) c.to.temp (operand_of c.value ∷ []) _ (below f c.to.temp h.0.to) (only (Below f) (operand_of c.value) h.0.value) (copy_sets c.to.temp c.to.class (operand_of c.value)))
+    (assignments_keep f cs h.1)
+
+copies_both : (f : Func) (cs ds : List Assignment) → AllCopies f cs → AllCopies f ds → AllCopies f (cs ++ ds)
+copies_both f [] ds h k = k
+copies_both f (c ∷ cs) ds h k = (h.0, copies_both f cs ds h.1 k)
+
+-- a phi of the function
+record PhiKnown (f : Func) (p : Phi) : Type 0 where
+  own : p.to.temp < length f.temps
+  arguments : (a : PhiArg) → Among a p.args → operand_keeps (Below f) (operand_of a.value) ≡ true
+
+source_keeps : (f : Func) (from : ℕ) (p : Phi) → PhiKnown f p → operand_keeps (Below f) (operand_of (source from p)) ≡ true
+source_keeps f from p k = by (find (λ (x : PhiArg). nat_eq x.from from) p.args) refl
+  where
+    by : (o : Option PhiArg) → find (λ (x : PhiArg). nat_eq x.from from) p.args ≡ o → operand_keeps (Below f) (operand_of (value_or_zero o)) ≡ true
+    by None e = refl
+    by (Some a) e = k.arguments a (find_among from p.args a e)
+
+reads_keep : (f : Func) (from n : ℕ) (ps : List Phi) → n + length ps ≤ registers f → ((p : Phi) → Among p ps → PhiKnown f p) → AllCopies f (reads from n ps)
+reads_keep f from n [] le each = tt
+reads_keep f from n (p ∷ ps) le each =
+    (record { to = omega (arith, le); value = source_keeps f from p (each p (inl refl)) }, reads_keep f from (n + 1) ps (omega (arith, le)) (λ q a. each q (inr a)))
+
+writes_keep : (f : Func) (n : ℕ) (ps : List Phi) → n + length ps ≤ registers f → ((p : Phi) → Among p ps → PhiKnown f p) → AllCopies f (writes n ps)
+writes_keep f n [] le each = tt
+writes_keep f n (p ∷ ps) le each =
+    let own = (each p (inl refl)).own in
+    (record { to = omega (arith, own); value = below f n (omega (arith, le)) }, writes_keep f (n + 1) ps (omega (arith, le)) (λ q a. each q (inr a)))
+
+phi_known : (f : Func) → IsGoodFunction f → (b : Block) (p : Phi) → Among b f.blocks → Among p b.phis → PhiKnown f p
+phi_known f good b p here at =
+    record {
+      own = own_temps f (definer p.line p.to)
+          (among_right _ (flat_map param_definers f.params) (flat_map block_definers f.blocks)
+          (flat_among block_definers f.blocks b _ here (among_left _ (flat_map phi_definers b.phis) (flat_map inst_definers b.insts) (flat_among phi_definers b.phis p _ at (inl refl)))));
+      arguments = λ a h. reading_keeps f good (operand_at p.line p.to.class a.value)
+          (flat_among block_operands f.blocks b _ here
+          (among_left _ (flat_map phi_operands b.phis) (flat_map inst_operands b.insts ++ end_operands b.jump) (flat_among phi_operands b.phis p _ at (phi_argument_at p p.args a h))));
+    }
+
+entry_keeps : (f : Func) → IsGoodFunction f → (from k : ℕ) → AllCopies f (entry_copies f from k)
+entry_keeps f good from k = by (slice_get f.blocks k) refl
+  where
+    by : (b : Option Block) → slice_get f.blocks k ≡ b → AllCopies f (copies_of from (length f.temps + phis_before f.blocks k) (phis_of b))
+    by None e = tt
+    by (Some b) e =
+        let n = length f.temps + phis_before f.blocks k in
+        let all = phis_counted f.blocks k b e in
+        let known = λ (p : Phi) (a : Among p b.phis). phi_known f good b p (there f.blocks k b e) a in
+        copies_both f (reads from n b.phis) (writes n b.phis) (reads_keep f from n b.phis (omega (arith, all)) known) (writes_keep f n b.phis (omega (arith, all)) known)
+
+-- ---- jumps
+
+return_keeps : (f : Func) → IsGoodFunction f → (b : Block) (j : Lined Jump) (x : Val) → Among b f.blocks → b.jump ≡ Some j → j.item ≡ Return (Some x) → operand_keeps (Below f) (operand_of x) ≡ true
+return_keeps f good b j x a jump item =
+    let all = neither_second (first (λ (o : Reading). when (not (is_defined (definers_of f) o.value)) o.line) (operands_of f)) (in_returns (λ v. not (is_defined (definers_of f) v)) f.blocks) (good.rules DefinedTemporaries) in
+    defined_keeps f x
+    (not_false (is_defined (definers_of f) x)
+    (not_broken (not (is_defined (definers_of f) x)) j.line
+    (sym (ap (returned_breaks (λ v. not (is_defined (definers_of f) v))) jump ∙ ap (λ y. breaks_in (λ v. not (is_defined (definers_of f) v)) j.line (value_returned y)) item)
+    ∙ none_among (λ (c : Block). returned_breaks (λ v. not (is_defined (definers_of f) v)) c.jump) f.blocks b all a)))
+
+-- the copies and the jump of an ending
+record EndingKeeps (f : Func) (e : Ending) : Type 0 where
+  copies : AllCopies f e.copies
+  leaves : jump_keeps (Below f) (jump_of e.leave) ≡ true
+
+jump_ending_keeps : (f : Func) → IsGoodFunction f → (b : Block) (j : Lined Jump) (x : Jump) (m : ℕ) → Among b f.blocks → b.jump ≡ Some j → j.item ≡ x → EndingKeeps f (jump_ending f b.label m x)
+jump_ending_keeps f good b j (Goto l) m a e i = record { copies = entry_keeps f good b.label (target f.blocks l); leaves = refl }
+jump_ending_keeps f good b j (Branch on nonzero otherwise) m a e i =
+    record {
+      copies = tt;
+      leaves = reading_keeps f good (operand_at j.line W on)
+          (flat_among block_operands f.blocks b _ a
+          (among_right _ (flat_map phi_operands b.phis) (flat_map inst_operands b.insts ++ end_operands b.jump)
+          (among_right _ (flat_map inst_operands b.insts) (end_operands b.jump)
+          (subst (λ o. Among (operand_at j.line W on) (end_operands o)) (sym e) (subst (λ y. Among (operand_at j.line W on) (jump_operands j.line y)) (sym i) (inl refl))))));
+    }
+jump_ending_keeps f good b j (Return None) m a e i = record { copies = tt; leaves = refl }
+jump_ending_keeps f good b j (Return (Some x)) m a e i = record { copies = tt; leaves = return_keeps f good b j x a e i }
+jump_ending_keeps f good b j Halt m a e i = record { copies = tt; leaves = refl }
+
+end_ending_keeps : (f : Func) → IsGoodFunction f → (b : Block) (j : Option (Lined Jump)) (m : ℕ) → Among b f.blocks → b.jump ≡ j → EndingKeeps f (end_ending f b.label m j)
+end_ending_keeps f good b None m a e = record { copies = tt; leaves = refl }
+end_ending_keeps f good b (Some j) m a e = jump_ending_keeps f good b j j.item m a e refl
+
+-- ---- blocks
+
+block_of_keeps : (f : Func) → IsGoodFunction f → (b : Block) (m : ℕ) → Among b f.blocks → block_keeps (Below f) (block_of b (block_ending f m b)) ≡ true
+block_of_keeps f good b m a =
+    let e = end_ending_keeps f good b b.jump m a refl in
+    and_both (list_all (line_keeps (Below f)) (all_lines b.insts ++ ending_lines (block_ending f m b))) _
+    (all_both (line_keeps (Below f)) (all_lines b.insts) (ending_lines (block_ending f m b)) (insts_keep f good b a b.insts (λ i h. h)) (assignments_keep f (block_ending f m b).copies e.copies))
+    e.leaves
+
+blocks_keep : (f : Func) → IsGoodFunction f → list_all (block_keeps (Below f)) (blocks_of f.blocks (all_endings f 0 f.blocks) ++ map edge_of (all_edges f f.blocks)) ≡ true
+blocks_keep f good =
+    blocks_all f (block_keeps (Below f)) (0 + length (all_edges f f.blocks)) 0 f.blocks (map edge_of (all_edges f f.blocks)) refl
+    (λ b m a le. block_of_keeps f good b m a)
+    (edges_all f (block_keeps (Below f)) f.blocks
+    (λ b l p ps a br e. and_both (list_all (line_keeps (Below f)) (assignment_lines (entry_copies f b.label (target f.blocks l)))) true (assignments_keep f (entry_copies f b.label (target f.blocks l)) (entry_keeps f good b.label (target f.blocks l))) refl))
+
+params_keep : (f : Func) (ps : List Param) → ((p : Param) → Among p ps → Among p f.params) → list_all (λ d. Below f d.place) (map parameter_of ps) ≡ true
+params_keep f [] sub = refl
+params_keep f (p ∷ ps) sub =
+    and_both (Below f p.temp) _
+    (own_below f p.temp (own_temps f (record { line = p.line; temp = p.temp; class = p.class }) (among_left _ (flat_map param_definers f.params) (flat_map block_definers f.blocks) (param_among f.params p (sub p (inl refl))))))
+    (params_keep f ps (λ q a. sub q (inr a)))
+
+pub known : (f : Func) → IsGoodFunction f → keeps_places (is_below (registers f)) (selected f (lowered f)) ≡ true
+unfolding selected lowered
+known f good = and_both (list_all (λ d. Below f d.place) (map parameter_of f.params)) _ (params_keep f f.params (λ p a. a)) (blocks_keep f good)

@@ -1,0 +1,298 @@
+-- The weight of ticks pays for the lines behind them.
+use Rattle.std.proofs.Common.{◌≡◌, ℕ, suc, ◌+◌, ◌-◌, ◌*◌, ◌≤◌, Bool, true, false, cond, nat_le, ◌&&◌, List, [], ◌∷◌, ◌++◌, length, map, refl, sym, ◌∙◌, ap, subst, arith, append_assoc}
+use Rattle.std.specs.Prelude.{Option, Some, None}
+use Rattle.std.proofs.lemmas.Bool.Decides.{nat_tests}
+use Rattle.std.proofs.lemmas.List.{length-map, length-append, append-nil}
+use Rattle.il_ast.specs.declared.operation.Class.{Class}
+use Rattle.il_ast.specs.declared.operation.Class.TheVariants.{W, L}
+use Rattle.il_ast.specs.declared.operation.Extension.{Extension}
+use Rattle.il_ast.specs.declared.operation.Extension.TheVariants.{SignedWord, UnsignedWord, SignedHalf, UnsignedHalf, SignedByte, UnsignedByte}
+use Rattle.il_ast.specs.declared.operation.UnaryOp.{UnaryOp}
+use Rattle.il_ast.specs.declared.operation.UnaryOp.TheVariants.{Neg, Copy, Extend, LoadLong, Load as LoadNarrow}
+use Rattle.il_ast.specs.declared.operation.BinaryOp.{BinaryOp}
+use Rattle.il_ast.specs.declared.operation.BinaryOp.TheVariants.{Add, Sub, Mul, And, Or, Xor, Div, Rem, Udiv, Urem, Sar, Shr, Shl, Compare as CompareOf}
+use Rattle.il_ast.specs.declared.operand.Val.{Val}
+use Rattle.il_ast.specs.declared.instruction.Inst.{Inst}
+use Rattle.il_ast.specs.declared.instruction.Inst.TheVariants.{Unary, Binary, Alloc as AllocInst, Store as StoreInst, Blit as BlitInst, Call as CallInst}
+use Rattle.il_ast.specs.declared.instruction.Jump.{Jump as SourceJump}
+use Rattle.il_ast.specs.declared.instruction.Jump.TheVariants.{Goto as GotoLabel, Branch as BranchLabel, Return as ReturnVal, Halt as HaltJump}
+use Rattle.il_ast.specs.declared.instruction.Lined.{Lined}
+use Rattle.il_ast.specs.declared.block.Phi.{Phi}
+use Rattle.il_ast.specs.declared.function.Func.{Func}
+use Rattle.il_ast.specs.Cost.{inst_weight}
+use Rattle.phi_copies.specs.declared.ending.Assignment.{Assignment}
+use Rattle.phi_copies.specs.declared.ending.Ending.{Ending}
+use Rattle.phi_copies.specs.Lowered.{reads, writes, phis_before, phis_at, entry_copies, target, jump_ending, end_ending}
+use Rattle.rv_isa.specs.declared.instruction.RegOp.{RegOp}
+use Rattle.rv_isa.specs.declared.instruction.RegOp.TheVariants.{Add as AddReg, Sub as SubReg, Sll as SllReg, Srl as SrlReg, Sra as SraReg, Xor as XorReg, Or as OrReg, And as AndReg, Mul as MulReg, Div as DivReg, Divu as DivuReg, Rem as RemReg, Remu as RemuReg}
+use Rattle.rv_isa.specs.declared.instruction.RegWOp.TheVariants.{Addw, Subw, Sllw, Srlw, Sraw, Mulw, Divw, Divuw, Remw, Remuw}
+use Rattle.rv_isa.specs.declared.instruction.LoadOp.{LoadOp}
+use Rattle.rv_isa.specs.declared.instruction.LoadOp.TheVariants.{Ld}
+use Rattle.phi_copies.specs.declared.ending.Leave.TheVariants.{Goto as GotoBlock, Return as ReturnWith}
+use Rattle.vcode.specs.declared.line.Operation.{Operation}
+use Rattle.vcode.specs.declared.line.Operation.TheVariants.{Reg, RegW, Compare}
+use Rattle.vcode.specs.declared.place.Operand.{Operand}
+use Rattle.vcode.specs.declared.place.Operand.TheVariants.{At, Number, Name}
+use Rattle.vcode.specs.declared.line.Line.{Line}
+use Rattle.vcode.specs.declared.line.Line.TheVariants.{Tick, Set, Operate, Load, Store, Alloc, Blit, Call}
+use Rattle.vcode.specs.declared.line.Jump.{Jump}
+use Rattle.vcode.specs.Cost.{is_immediate, operand_cost, operation_cost, line_cost, jump_cost, affords}
+use Rattle.select.specs.Selected.{operand_of, argument_of, extend_lines, copy_lines, load_of, low_reg, unary_lines, binary_lines, inst_lines, turn_lines, all_lines, assignment_lines, ending_lines, jump_of}
+
+-- ---- lines that are no ticks
+
+abbrev pub IsQuiet : Line ℕ → Type 0
+IsQuiet (Tick turn w) = ⊥
+IsQuiet (Set to a) = Unit {0}
+IsQuiet (Operate to op a b) = Unit {0}
+IsQuiet (Load to op at) = Unit {0}
+IsQuiet (Store size a at) = Unit {0}
+IsQuiet (Alloc to size) = Unit {0}
+IsQuiet (Blit from to count) = Unit {0}
+IsQuiet (Call to callee args) = Unit {0}
+
+abbrev Pays : ℕ → Jump ℕ → Line ℕ → List (Line ℕ) → Bool
+Pays c jump l ls = nat_le (line_cost l) c && affords (c - line_cost l) jump ls
+
+quiet_pays : (c : ℕ) (jump : Jump ℕ) (l : Line ℕ) (ls : List (Line ℕ)) → IsQuiet l → affords c jump (l ∷ ls) ≡ Pays c jump l ls
+quiet_pays c jump (Tick turn w) ls q = absurd q
+quiet_pays c jump (Set to a) ls q = refl
+quiet_pays c jump (Operate to op a b) ls q = refl
+quiet_pays c jump (Load to op at) ls q = refl
+quiet_pays c jump (Store size a at) ls q = refl
+quiet_pays c jump (Alloc to size) ls q = refl
+quiet_pays c jump (Blit from to count) ls q = refl
+quiet_pays c jump (Call to callee args) ls q = refl
+
+le_true : (a b : ℕ) → a ≤ b → nat_le a b ≡ true
+le_true a b h = grind (arith, nat_tests)
+
+le_of : (a b : ℕ) → nat_le a b ≡ true → a ≤ b
+le_of a b h = grind (arith, nat_tests)
+
+and_true : (a b : Bool) → a ≡ true → b ≡ true → (a && b) ≡ true
+and_true true b h k = k
+and_true false b h k = h
+
+and_left : (a b : Bool) → (a && b) ≡ true → a ≡ true
+and_left true b h = refl
+and_left false b h = h
+
+and_right : (a b : Bool) → (a && b) ≡ true → b ≡ true
+and_right true b h = h
+and_right false b h = absurd (let no : ⊥ = cc in no)
+
+-- more credit pays for as much
+quiet_more : (c d : ℕ) (jump : Jump ℕ) (l : Line ℕ) (ls : List (Line ℕ)) → ((x y : ℕ) → x ≤ y → affords x jump ls ≡ true → affords y jump ls ≡ true) → IsQuiet l → c ≤ d → affords c jump (l ∷ ls) ≡ true → affords d jump (l ∷ ls) ≡ true
+quiet_more c d jump l ls rest q le h =
+    let n = line_cost l in
+    let paid = sym (quiet_pays c jump l ls q) ∙ h in
+    let first = le_of n c (and_left (nat_le n c) (affords (c - n) jump ls) paid) in
+    quiet_pays d jump l ls q
+    ∙ and_true (nat_le n d) (affords (d - n) jump ls) (le_true n d (omega (arith, first, le)))
+    (rest (c - n) (d - n) (omega (arith, le)) (and_right (nat_le n c) (affords (c - n) jump ls) paid))
+
+pub affords_more : (c d : ℕ) (jump : Jump ℕ) (ls : List (Line ℕ)) → c ≤ d → affords c jump ls ≡ true → affords d jump ls ≡ true
+affords_more c d jump [] le h = let cost = le_of (jump_cost jump) c h in le_true (jump_cost jump) d (omega (arith, cost, le))
+affords_more c d jump (Tick turn w ∷ ls) le h = affords_more (c + 32 * w) (d + 32 * w) jump ls (omega (arith, le)) h
+affords_more c d jump (Set to a ∷ ls) le h = quiet_more c d jump (Set to a) ls (λ x y. affords_more x y jump ls) tt le h
+affords_more c d jump (Operate to op a b ∷ ls) le h = quiet_more c d jump (Operate to op a b) ls (λ x y. affords_more x y jump ls) tt le h
+affords_more c d jump (Load to op at ∷ ls) le h = quiet_more c d jump (Load to op at) ls (λ x y. affords_more x y jump ls) tt le h
+affords_more c d jump (Store size a at ∷ ls) le h = quiet_more c d jump (Store size a at) ls (λ x y. affords_more x y jump ls) tt le h
+affords_more c d jump (Alloc to size ∷ ls) le h = quiet_more c d jump (Alloc to size) ls (λ x y. affords_more x y jump ls) tt le h
+affords_more c d jump (Blit from to count ∷ ls) le h = quiet_more c d jump (Blit from to count) ls (λ x y. affords_more x y jump ls) tt le h
+affords_more c d jump (Call to callee args ∷ ls) le h = quiet_more c d jump (Call to callee args) ls (λ x y. affords_more x y jump ls) tt le h
+
+-- ---- what lines cost together
+
+abbrev pub Costs : List (Line ℕ) → ℕ → Type 0
+Costs [] n = Unit {0}
+Costs (l ∷ ls) n = IsQuiet l × (line_cost l ≤ n) × Costs ls (n - line_cost l)
+
+-- what lines cost is paid for, and what is left pays for the rest
+pub costs_paid : (ls rest : List (Line ℕ)) (n c : ℕ) (jump : Jump ℕ) → Costs ls n → n ≤ c → affords (c - n) jump rest ≡ true → affords c jump (ls ++ rest) ≡ true
+costs_paid [] rest n c jump h le paid = affords_more (c - n) c jump rest (omega arith) paid
+costs_paid (l ∷ ls) rest n c jump h le paid =
+    let k = line_cost l in
+    let few = h.1 in
+    let same : c - k - (n - k) ≡ c - n = omega (arith, few, le) in
+    quiet_pays c jump l (ls ++ rest) h.0
+    ∙ and_true (nat_le k c) (affords (c - k) jump (ls ++ rest)) (le_true k c (omega (arith, few, le)))
+    (costs_paid ls rest (n - k) (c - k) jump h.2 (omega (arith, le)) (ap (λ m. affords m jump rest) same ∙ paid))
+
+pub costs_more : (ls : List (Line ℕ)) (n m : ℕ) → n ≤ m → Costs ls n → Costs ls m
+costs_more [] n m le h = tt
+costs_more (l ∷ ls) n m le h = let few = h.1 in (h.0, omega (arith, few, le), costs_more ls (n - line_cost l) (m - line_cost l) (omega (arith, le)) h.2)
+
+pub costs_both : (ls ks : List (Line ℕ)) (n m : ℕ) → Costs ls n → Costs ks m → Costs (ls ++ ks) (n + m)
+costs_both [] ks n m h k = costs_more ks m (n + m) (omega arith) k
+costs_both (l ∷ ls) ks n m h k =
+    let few = h.1 in
+    let same : n - line_cost l + m ≡ n + m - line_cost l = omega (arith, few) in
+    (h.0, omega (arith, few), subst (Costs (ls ++ ks)) same (costs_both ls ks (n - line_cost l) m h.2 k))
+
+-- ---- operands
+
+number_cost : (b : Bool) → cond b 1 9 ≤ 9
+number_cost true = omega arith
+number_cost false = omega arith
+
+operand_few : (a : Operand ℕ) → operand_cost a ≤ 9
+operand_few (At p) = omega arith
+operand_few (Number n) = number_cost (is_immediate n)
+operand_few (Name g) = omega arith
+
+-- ---- instructions
+
+one : (l : Line ℕ) (n : ℕ) → IsQuiet l → line_cost l ≤ n → Costs (l ∷ []) n
+one l n q h = (q, h, tt)
+
+copy_costs : (t : ℕ) (k : Class) (a : Operand ℕ) → Costs (copy_lines t k a) 14
+copy_costs t W a = let few = operand_few a in (tt, omega (arith, few), tt)
+copy_costs t L a = let few = operand_few a in (tt, omega (arith, few), tt)
+
+-- ---- endings
+
+pub assignments_cost : (cs : List Assignment) → Costs (assignment_lines cs) (14 * length cs)
+assignments_cost [] = tt
+assignments_cost (c ∷ cs) =
+    let sum : 14 + 14 * length cs ≡ 14 * length (c ∷ cs) = omega arith in
+    subst (Costs (assignment_lines (c ∷ cs))) sum
+    (costs_both (copy_lines c.to.temp c.to.class (operand_of c.value)) (assignment_lines cs) 14 (14 * length cs) (copy_costs c.to.temp c.to.class (operand_of c.value)) (assignments_cost cs))
+
+operation_few : (op : Operation) → operation_cost op ≤ 6
+operation_few (Reg op) = omega arith
+operation_few (RegW op) = omega arith
+operation_few (Compare on k) = omega arith
+
+operate_costs : (t : ℕ) (op : Operation) (a b : Operand ℕ) → Costs (Operate t op a b ∷ []) 32
+operate_costs t op a b =
+    let x = operand_few a in
+    let y = operand_few b in
+    let z = operation_few op in
+    (tt, omega (arith, x, y, z), tt)
+
+low_costs : (t : ℕ) (op : RegOp) (a b : Operand ℕ) → Costs (low_reg t op a b) 32
+low_costs t op a b = let x = operand_few a in let y = operand_few b in (tt, omega (arith, x, y), (tt, omega (arith, x, y), tt))
+
+extend_costs : (t : ℕ) (e : Extension) (a : Operand ℕ) → Costs (extend_lines t e a) 32
+extend_costs t SignedWord a = operate_costs t (RegW Addw) a (Number 0)
+extend_costs t UnsignedWord a = let x = operand_few a in (tt, omega (arith, x), (tt, omega (arith, x), tt))
+extend_costs t SignedHalf a = let x = operand_few a in (tt, omega (arith, x), (tt, omega (arith, x), tt))
+extend_costs t UnsignedHalf a = let x = operand_few a in (tt, omega (arith, x), (tt, omega (arith, x), tt))
+extend_costs t SignedByte a = let x = operand_few a in (tt, omega (arith, x), (tt, omega (arith, x), tt))
+extend_costs t UnsignedByte a = operate_costs t (Reg AndReg) a (Number 255)
+
+load_costs : (t : ℕ) (op : LoadOp) (a : Operand ℕ) → Costs (Load t op a ∷ []) 32
+load_costs t op a = let x = operand_few a in (tt, omega (arith, x), tt)
+
+unary_costs : (t : ℕ) (op : UnaryOp) (k : Class) (a : Operand ℕ) → Costs (unary_lines t op k a) 32
+unary_costs t Neg W a = operate_costs t (RegW Subw) (Number 0) a
+unary_costs t Neg L a = operate_costs t (Reg SubReg) (Number 0) a
+unary_costs t Copy k a = costs_more (copy_lines t k a) 14 32 (omega arith) (copy_costs t k a)
+unary_costs t (Extend e) k a = extend_costs t e a
+unary_costs t LoadLong k a = load_costs t Ld a
+unary_costs t (LoadNarrow e) k a = load_costs t (load_of e k) a
+
+binary_costs : (t : ℕ) (op : BinaryOp) (k : Class) (a b : Operand ℕ) → Costs (binary_lines t op k a b) 32
+binary_costs t Add W a b = operate_costs t (RegW Addw) a b
+binary_costs t Add L a b = operate_costs t (Reg AddReg) a b
+binary_costs t Sub W a b = operate_costs t (RegW Subw) a b
+binary_costs t Sub L a b = operate_costs t (Reg SubReg) a b
+binary_costs t Mul W a b = operate_costs t (RegW Mulw) a b
+binary_costs t Mul L a b = operate_costs t (Reg MulReg) a b
+binary_costs t And W a b = low_costs t AndReg a b
+binary_costs t And L a b = operate_costs t (Reg AndReg) a b
+binary_costs t Or W a b = low_costs t OrReg a b
+binary_costs t Or L a b = operate_costs t (Reg OrReg) a b
+binary_costs t Xor W a b = low_costs t XorReg a b
+binary_costs t Xor L a b = operate_costs t (Reg XorReg) a b
+binary_costs t Div W a b = operate_costs t (RegW Divw) a b
+binary_costs t Div L a b = operate_costs t (Reg DivReg) a b
+binary_costs t Rem W a b = operate_costs t (RegW Remw) a b
+binary_costs t Rem L a b = operate_costs t (Reg RemReg) a b
+binary_costs t Udiv W a b = operate_costs t (RegW Divuw) a b
+binary_costs t Udiv L a b = operate_costs t (Reg DivuReg) a b
+binary_costs t Urem W a b = operate_costs t (RegW Remuw) a b
+binary_costs t Urem L a b = operate_costs t (Reg RemuReg) a b
+binary_costs t Sar W a b = operate_costs t (RegW Sraw) a b
+binary_costs t Sar L a b = operate_costs t (Reg SraReg) a b
+binary_costs t Shr W a b = operate_costs t (RegW Srlw) a b
+binary_costs t Shr L a b = operate_costs t (Reg SrlReg) a b
+binary_costs t Shl W a b = operate_costs t (RegW Sllw) a b
+binary_costs t Shl L a b = operate_costs t (Reg SllReg) a b
+binary_costs t (CompareOf on j) k a b = operate_costs t (Compare on j) a b
+
+inst_costs : (x : Inst) → Costs (inst_lines x) (32 * inst_weight x)
+inst_costs (Unary to op a) = unary_costs to.temp op to.class (operand_of a)
+inst_costs (Binary to op a b) = binary_costs to.temp op to.class (operand_of a) (operand_of b)
+inst_costs (AllocInst to alignment size) = (tt, omega arith, tt)
+inst_costs (StoreInst size a at) =
+    let x = operand_few (operand_of a) in let y = operand_few (operand_of at) in (tt, omega (arith, x, y), tt)
+inst_costs (BlitInst from to count) =
+    let x = operand_few (operand_of from) in let y = operand_few (operand_of to) in (tt, omega (arith, x, y), tt)
+inst_costs (CallInst to callee args) =
+    let long : length (map argument_of args) ≡ length args = length-map args argument_of in
+    (tt, omega (arith, long), tt)
+
+-- ---- blocks
+
+-- an ending whose weight pays for its copies and its jump
+abbrev pub EndingPays : Ending → Type 0
+EndingPays e = 14 * length e.copies + jump_cost (jump_of e.leave) ≤ 32 * e.weight
+
+pub ending_pays : (e : Ending) → EndingPays e → affords 0 (jump_of e.leave) (ending_lines e) ≡ true
+ending_pays e h =
+    let n = 14 * length e.copies in
+    let enough : jump_cost (jump_of e.leave) ≤ 0 + 32 * e.weight - n = omega (arith, h) in
+    subst (λ ls. affords (0 + 32 * e.weight) (jump_of e.leave) ls ≡ true) (append-nil (assignment_lines e.copies))
+    (costs_paid (assignment_lines e.copies) [] n (0 + 32 * e.weight) (jump_of e.leave) (assignments_cost e.copies) (omega (arith, h))
+    (le_true (jump_cost (jump_of e.leave)) (0 + 32 * e.weight - n) enough))
+
+pub insts_pay : (insts : List (Lined Inst)) (jump : Jump ℕ) (rest : List (Line ℕ)) → affords 0 jump rest ≡ true → affords 0 jump (all_lines insts ++ rest) ≡ true
+insts_pay [] jump rest h = h
+insts_pay (i ∷ insts) jump rest h =
+    let n = 32 * inst_weight i.item in
+    let left : 0 ≡ 0 + n - n = omega arith in
+    ap (λ ls. affords 0 jump ls) (append_assoc (turn_lines i) (all_lines insts) rest)
+    ∙ costs_paid (inst_lines i.item) (all_lines insts ++ rest) n (0 + n) jump (inst_costs i.item) (omega arith)
+    (subst (λ m. affords m jump (all_lines insts ++ rest) ≡ true) left (insts_pay insts jump rest h))
+
+-- ---- the endings of a lowered function
+
+length_reads : (from n : ℕ) (ps : List Phi) → length (reads from n ps) ≡ length ps
+length_reads from n [] = refl
+length_reads from n (p ∷ ps) = ap suc (length_reads from (n + 1) ps)
+
+length_writes : (n : ℕ) (ps : List Phi) → length (writes n ps) ≡ length ps
+length_writes n [] = refl
+length_writes n (p ∷ ps) = ap suc (length_writes (n + 1) ps)
+
+length_copies : (f : Func) (from k : ℕ) → length (entry_copies f from k) ≡ 2 * length (phis_at f.blocks k)
+length_copies f from k =
+    let n = length f.temps + phis_before f.blocks k in
+    let ps = phis_at f.blocks k in
+    let r = length_reads from n ps in
+    let w = length_writes n ps in
+    let all = length-append (reads from n ps) (writes n ps) in
+    omega (arith, r, w, all)
+
+return_few : (a : Option Val) → jump_cost (jump_of (ReturnWith a)) ≤ 32
+return_few None = omega arith
+return_few (Some a) = let x = operand_few (operand_of a) in omega (arith, x)
+
+jump_ending_pays : (f : Func) (from number : ℕ) (j : SourceJump) → EndingPays (jump_ending f from number j)
+jump_ending_pays f from number (GotoLabel l) = let c = length_copies f from (target f.blocks l) in omega (arith, c)
+jump_ending_pays f from number (BranchLabel on nonzero otherwise) = let x = operand_few (operand_of on) in omega (arith, x)
+jump_ending_pays f from number (ReturnVal a) = let x = return_few a in omega (arith, x)
+jump_ending_pays f from number HaltJump = omega arith
+
+pub end_ending_pays : (f : Func) (from number : ℕ) (j : Option (Lined SourceJump)) → EndingPays (end_ending f from number j)
+end_ending_pays f from number None = omega arith
+end_ending_pays f from number (Some j) = jump_ending_pays f from number j.item
+
+pub edge_pays : (f : Func) (from k : ℕ) (p : Phi) (ps : List Phi) → phis_at f.blocks k ≡ p ∷ ps → EndingPays (record { turn = false; weight = length (p ∷ ps); copies = entry_copies f from k; leave = GotoBlock k })
+edge_pays f from k p ps e =
+    let c = length_copies f from k in
+    let n : length (phis_at f.blocks k) ≡ suc (length ps) = ap length e in
+    omega (arith, c, n)

@@ -1,0 +1,371 @@
+-- The virtual code of a lowered function of a good text is regular.
+use Rattle.std.proofs.Common.{◌≡◌, ℕ, suc, ◌+◌, ◌<◌, ◌≤◌, Bool, true, false, not, nat_lt, nat_le, ◌&&◌, ◌||◌, List, [], ◌∷◌, ◌++◌, length, map, refl, sym, ◌∙◌, ap, subst, arith, append_assoc, ◌⊎◌, inl, inr}
+use Rattle.std.specs.Prelude.{Option, Some, None}
+use Rattle.std.specs.Option.{option_map}
+use Rattle.std.specs.List.{list_all, list_any, sum_by}
+use Rattle.std.proofs.lemmas.Bool.Decides.{nat_tests}
+use Rattle.std.proofs.lemmas.List.{length-append, length-map}
+use Rattle.std.proofs.lemmas.List.Sums.{sum_by-cons, sum_by-append}
+use Rattle.il_ast.specs.declared.instruction.Inst.{Inst}
+use Rattle.il_ast.specs.declared.instruction.Inst.TheVariants.{Unary, Binary, Alloc as AllocInst, Store as StoreInst, Blit as BlitInst, Call as CallInst}
+use Rattle.il_ast.specs.declared.instruction.Jump.{Jump}
+use Rattle.il_ast.specs.declared.instruction.Jump.TheVariants.{Goto, Branch, Return, Halt}
+use Rattle.il_ast.specs.declared.instruction.Lined.{Lined}
+use Rattle.il_ast.specs.declared.block.Phi.{Phi}
+use Rattle.il_ast.specs.declared.block.Block.{Block}
+use Rattle.il_ast.specs.declared.function.Func.{Func}
+use Rattle.il_ast.specs.Cost.{inst_weight, block_weight, weight, alloc_bytes as inst_bytes, alloc_area}
+use Rattle.il_types.specs.declared.rule.Rule.TheVariants.{AllocInEntry}
+use Rattle.il_types.specs.First.{when, first}
+use Rattle.il_types.specs.Sites.{jump_sites}
+use Rattle.il_types.specs.Locals.{is_alloc as is_alloc_inst, in_insts, has_wrong_size, wrong_alloc_in}
+use Rattle.phi_copies.specs.declared.ending.Assignment.{Assignment}
+use Rattle.phi_copies.specs.declared.ending.Ending.{Ending}
+use Rattle.phi_copies.specs.Good.{IsGoodFunction}
+use Rattle.phi_copies.specs.Lowered.{or_zero, target, phis_at, entry_copies, edge_with, edge, jump_edges, end_edges, block_edges, all_edges, past_edge, branch_target, jump_ending, end_ending, block_ending, all_endings, lowered}
+use Rattle.vcode.specs.declared.line.Line.{Line}
+use Rattle.vcode.specs.declared.line.Line.TheVariants.{Tick, Alloc, Store, Blit, Call}
+use Rattle.vcode.specs.declared.code.Block.{Block as VirtualBlock}
+use Rattle.vcode.specs.Cost.{is_paid}
+use Rattle.vcode.specs.Regular.{is_target as is_target_in, leads_inside, is_alloc, allocs_first, alloc_bytes, turns_of, IsRegular}
+use Rattle.select.specs.Selected.{operand_of, destination_of, argument_of, inst_lines, turn_lines, all_lines, copy_lines, assignment_lines, ending_lines, jump_of, block_of, edge_of, blocks_of, parameter_of, selected}
+use Rattle.select.proofs.Typing.{Among, neither_first, neither_second, not_broken, none_among}
+use Rattle.select.proofs.Paying.{ending_pays, insts_pay, end_ending_pays, edge_pays}
+use Rattle.select.proofs.EachBlock.{blocks_all, Branches, edge_for, edges_all, IsTarget, is_target}
+use Rattle.select.proofs.UsedPlaces.{copy_sets, unary_sets, binary_sets, no_alloc, no_area, no_turn, and_both}
+
+-- ---- tests
+
+lt_true : (a b : ℕ) → a < b → nat_lt a b ≡ true
+lt_true a b h = grind (arith, nat_tests)
+
+le_true : (a b : ℕ) → a ≤ b → nat_le a b ≡ true
+le_true a b h = grind (arith, nat_tests)
+
+le_of : (a b : ℕ) → nat_le a b ≡ true → a ≤ b
+le_of a b h = grind (arith, nat_tests)
+
+and_left : (a b : Bool) → (a && b) ≡ true → a ≡ true
+and_left true b h = refl
+and_left false b h = h
+
+and_right : (a b : Bool) → (a && b) ≡ true → b ≡ true
+and_right true b h = h
+and_right false b h = absurd (let no : ⊥ = cc in no)
+
+neither : (p : Line ℕ → Bool) (xs ys : List (Line ℕ)) → list_any p xs ≡ false → list_any p ys ≡ false → list_any p (xs ++ ys) ≡ false
+neither p [] ys h k = k
+neither p (x ∷ xs) ys h k = by (p x) h (neither p xs ys)
+  where
+    by : (b : Bool) → (b || list_any p xs) ≡ false → (list_any p xs ≡ false → list_any p ys ≡ false → list_any p (xs ++ ys) ≡ false) → (b || list_any p (xs ++ ys)) ≡ false
+    by true e rest = e
+    by false e rest = rest e k
+
+-- ---- every block is paid for
+
+paid_blocks : (f : Func) → list_all is_paid (blocks_of f.blocks (all_endings f 0 f.blocks) ++ map edge_of (all_edges f f.blocks)) ≡ true
+paid_blocks f =
+    blocks_all f is_paid (0 + length (all_edges f f.blocks)) 0 f.blocks (map edge_of (all_edges f f.blocks)) refl
+    (λ b m a le. insts_pay b.insts (jump_of (block_ending f m b).leave) (ending_lines (block_ending f m b)) (ending_pays (block_ending f m b) (end_ending_pays f b.label m b.jump)))
+    (edges_all f is_paid f.blocks (λ b l p ps a br e. ending_pays (edge_for f b.label (target f.blocks l) (p ∷ ps)) (edge_pays f b.label (target f.blocks l) p ps e)))
+
+-- ---- jumps lead to blocks behind the first
+
+length_blocks : (f : Func) (n : ℕ) (bs : List Block) → length (blocks_of bs (all_endings f n bs)) ≡ length bs
+length_blocks f n [] = refl
+length_blocks f n (b ∷ bs) = ap suc (length_blocks f (n + length (block_edges f b)) bs)
+
+-- all blocks
+abbrev total : Func → ℕ
+total f = length f.blocks + length (all_edges f f.blocks)
+
+total_is : (f : Func) → length (blocks_of f.blocks (all_endings f 0 f.blocks) ++ map edge_of (all_edges f f.blocks)) ≡ total f
+total_is f =
+    length-append (blocks_of f.blocks (all_endings f 0 f.blocks)) (map edge_of (all_edges f f.blocks))
+    ∙ ap (λ n. n + length (map edge_of (all_edges f f.blocks))) (length_blocks f 0 f.blocks)
+    ∙ ap (λ n. length f.blocks + n) (length-map (all_edges f f.blocks) edge_of)
+
+inside_at : (n k : ℕ) → 0 < k → k < n → is_target_in n k ≡ true
+inside_at n k h j = and_both (nat_lt 0 k) (nat_lt k n) (lt_true 0 k h) (lt_true k n j)
+
+label_inside : (f : Func) (l : ℕ) → IsTarget f l → is_target_in (total f) (target f.blocks l) ≡ true
+label_inside f l t =
+    let first = t.not_first in
+    let within = t.within in
+    ap (λ o. is_target_in (total f) (or_zero o)) t.is ∙ inside_at (total f) t.place first (omega (arith, within))
+
+-- a branch, past an edge or not
+side_inside : (f : Func) (l number : ℕ) (phis : List Phi) → IsTarget f l → (0 < length phis → number < length (all_edges f f.blocks)) → is_target_in (total f) (past_edge f number (target f.blocks l) phis) ≡ true
+side_inside f l number [] t h = label_inside f l t
+side_inside f l number (p ∷ ps) t h =
+    let within = h (omega arith) in
+    let some = t.within in
+    inside_at (total f) (length f.blocks + number) (omega (arith, some)) (omega (arith, within))
+
+edge_long : (f : Func) (from k : ℕ) (phis : List Phi) → 0 < length phis → length (edge_with f from k phis) ≡ 1
+edge_long f from k [] h = absurd (omega (arith, h))
+edge_long f from k (p ∷ ps) h = refl
+
+jump_inside : (f : Func) → IsGoodFunction f → (b : Block) (j : Lined Jump) (x : Jump) (m : ℕ) → Among b f.blocks → b.jump ≡ Some j → j.item ≡ x → m + length (block_edges f b) ≤ length (all_edges f f.blocks) → leads_inside (total f) (jump_of (jump_ending f b.label m x).leave) ≡ true
+jump_inside f good b j (Goto l) m a e i le =
+    label_inside f l (is_target f good b j l j.line a e (subst (λ y. Among (record { line = j.line; number = l }) (jump_sites j.line y)) (sym i) (inl refl)))
+jump_inside f good b j (Branch on nonzero otherwise) m a e i le =
+    let from = b.label in
+    let t1 = target f.blocks nonzero in
+    let t2 = target f.blocks otherwise in
+    let one = is_target f good b j nonzero j.line a e (subst (λ y. Among (record { line = j.line; number = nonzero }) (jump_sites j.line y)) (sym i) (inl refl)) in
+    let two = is_target f good b j otherwise j.line a e (subst (λ y. Among (record { line = j.line; number = otherwise }) (jump_sites j.line y)) (sym i) (inr (inl refl))) in
+    let edges : block_edges f b ≡ edge f from t1 ++ edge f from t2 = ap (end_edges f from) e ∙ ap (jump_edges f from) i in
+    let long : length (block_edges f b) ≡ length (edge f from t1) + length (edge f from t2) = ap length edges ∙ length-append (edge f from t1) (edge f from t2) in
+    and_both (is_target_in (total f) (branch_target f m t1)) (is_target_in (total f) (branch_target f (m + length (edge f from t1)) t2))
+    (side_inside f nonzero m (phis_at f.blocks t1) one (λ h. let n = edge_long f from t1 (phis_at f.blocks t1) h in omega (arith, n, long, le)))
+    (side_inside f otherwise (m + length (edge f from t1)) (phis_at f.blocks t2) two (λ h. let n = edge_long f from t2 (phis_at f.blocks t2) h in omega (arith, n, long, le)))
+jump_inside f good b j (Return v) m a e i le = refl
+jump_inside f good b j Halt m a e i le = refl
+
+end_inside : (f : Func) → IsGoodFunction f → (b : Block) (j : Option (Lined Jump)) (m : ℕ) → Among b f.blocks → b.jump ≡ j → m + length (block_edges f b) ≤ length (all_edges f f.blocks) → leads_inside (total f) (jump_of (end_ending f b.label m j).leave) ≡ true
+end_inside f good b None m a e le = refl
+end_inside f good b (Some j) m a e le = jump_inside f good b j j.item m a e refl le
+
+edge_inside : (f : Func) → IsGoodFunction f → (b : Block) (l : ℕ) → Among b f.blocks → Branches b l → is_target_in (total f) (target f.blocks l) ≡ true
+edge_inside f good b l a br = label_inside f l (is_target f good b br.jump l br.jump.line a br.ends (subst (λ y. Among (record { line = br.jump.line; number = l }) (jump_sites br.jump.line y)) (sym br.is) (by br.label)))
+  where
+    by : (l ≡ br.nonzero) ⊎ (l ≡ br.otherwise) → Among (record { line = br.jump.line; number = l }) (jump_sites br.jump.line (Branch br.on br.nonzero br.otherwise))
+    by (inl e) = inl (ap (λ n. record { line = br.jump.line; number = n }) e)
+    by (inr e) = inr (inl (ap (λ n. record { line = br.jump.line; number = n }) e))
+
+pub inside_blocks : (f : Func) → IsGoodFunction f → list_all (λ (b : VirtualBlock ℕ). leads_inside (total f) b.jump) (blocks_of f.blocks (all_endings f 0 f.blocks) ++ map edge_of (all_edges f f.blocks)) ≡ true
+inside_blocks f good =
+    let none : 0 + length (all_edges f f.blocks) ≡ length (all_edges f f.blocks) = omega arith in
+    blocks_all f (λ (b : VirtualBlock ℕ). leads_inside (total f) b.jump) (length (all_edges f f.blocks)) 0 f.blocks (map edge_of (all_edges f f.blocks)) none
+    (λ b m a le. end_inside f good b b.jump m a refl le)
+    (edges_all f (λ (b : VirtualBlock ℕ). leads_inside (total f) b.jump) f.blocks (λ b l p ps a br e. edge_inside f good b l a br))
+
+-- ---- blocks of memory are made in the first block
+
+inst_no_alloc : (x : Inst) → is_alloc_inst x ≡ false → list_any is_alloc (inst_lines x) ≡ false
+inst_no_alloc (Unary to op a) h = no_alloc to.temp (operand_of a ∷ []) _ (unary_sets to.temp op to.class (operand_of a))
+inst_no_alloc (Binary to op a b) h = no_alloc to.temp (operand_of a ∷ operand_of b ∷ []) _ (binary_sets to.temp op to.class (operand_of a) (operand_of b))
+inst_no_alloc (AllocInst to alignment size) h = absurd (let no : ⊥ = cc in no)
+inst_no_alloc (StoreInst size a at) h = refl
+inst_no_alloc (BlitInst from to count) h = refl
+inst_no_alloc (CallInst to callee args) h = refl
+
+copies_no_alloc : (cs : List Assignment) → list_any is_alloc (assignment_lines cs) ≡ false
+copies_no_alloc [] = refl
+copies_no_alloc (c ∷ cs) =
+    neither is_alloc (copy_lines c.to.temp c.to.class (operand_of c.value)) (assignment_lines cs)
+    (no_alloc c.to.temp (operand_of c.value ∷ []) _ (copy_sets c.to.temp c.to.class (operand_of c.value))) (copies_no_alloc cs)
+
+insts_no_alloc : (insts : List (Lined Inst)) (rest : List (Line ℕ)) → first (λ (i : Lined Inst). when (is_alloc_inst i.item) i.line) insts ≡ None → list_any is_alloc rest ≡ false → list_any is_alloc (all_lines insts ++ rest) ≡ false
+insts_no_alloc [] rest h k = k
+insts_no_alloc (i ∷ insts) rest h k =
+    let here = not_broken (is_alloc_inst i.item) i.line (neither_first (when (is_alloc_inst i.item) i.line) _ h) in
+    ap (list_any is_alloc) (append_assoc (turn_lines i) (all_lines insts) rest)
+    ∙ neither is_alloc (inst_lines i.item) (all_lines insts ++ rest) (inst_no_alloc i.item here)
+    (insts_no_alloc insts rest (neither_second (when (is_alloc_inst i.item) i.line) _ h) k)
+
+abbrev makes_none : VirtualBlock ℕ → Bool
+makes_none b = not (list_any is_alloc b.lines)
+
+none_made : (b : Block) (e : Ending) → first (λ (i : Lined Inst). when (is_alloc_inst i.item) i.line) b.insts ≡ None → makes_none (block_of b e) ≡ true
+none_made b e h = ap not (insts_no_alloc b.insts (ending_lines e) h (copies_no_alloc e.copies))
+
+first_alone : (f : Func) (blocks : List Block) → wrong_alloc_in blocks ≡ None → list_all makes_none (map edge_of (all_edges f f.blocks)) ≡ true → (n : ℕ) → allocs_first (blocks_of blocks (all_endings f n blocks) ++ map edge_of (all_edges f f.blocks)) ≡ true
+first_alone f [] h edges n = by (map edge_of (all_edges f f.blocks)) edges
+  where
+    by : (bs : List (VirtualBlock ℕ)) → list_all makes_none bs ≡ true → allocs_first bs ≡ true
+    by [] e = refl
+    by (b ∷ bs) e = and_right (makes_none b) (list_all makes_none bs) e
+first_alone f (b ∷ blocks) h edges n =
+    let rest = neither_second (in_insts has_wrong_size (b ∷ [])) (in_insts is_alloc_inst blocks) h in
+    blocks_all f makes_none (n + length (block_edges f b) + length (all_edges f blocks)) (n + length (block_edges f b)) blocks (map edge_of (all_edges f f.blocks)) refl
+    (λ c m a le. none_made c (block_ending f m c) (none_among (λ (x : Block). first (λ (i : Lined Inst). when (is_alloc_inst i.item) i.line) x.insts) blocks c rest a)) edges
+
+allocs_are_first : (f : Func) → IsGoodFunction f → allocs_first (blocks_of f.blocks (all_endings f 0 f.blocks) ++ map edge_of (all_edges f f.blocks)) ≡ true
+allocs_are_first f good =
+    first_alone f f.blocks (good.rules AllocInEntry)
+    (edges_all f makes_none f.blocks (λ b l p ps a br e. ap not (copies_no_alloc (entry_copies f b.label (target f.blocks l))))) 0
+
+-- ---- the stack that they take
+
+one_of : (m : Line ℕ → ℕ) (l : Line ℕ) → sum_by m (l ∷ []) ≡ m l
+one_of m l = let all = sum_by-cons m l [] in omega (arith, all)
+
+inst_area : (x : Inst) → sum_by alloc_bytes (inst_lines x) ≡ inst_bytes x
+inst_area (Unary to op a) = no_area to.temp (operand_of a ∷ []) _ (unary_sets to.temp op to.class (operand_of a))
+inst_area (Binary to op a b) = no_area to.temp (operand_of a ∷ operand_of b ∷ []) _ (binary_sets to.temp op to.class (operand_of a) (operand_of b))
+inst_area (AllocInst to alignment size) = one_of alloc_bytes (Alloc to.temp size)
+inst_area (StoreInst size a at) = one_of alloc_bytes (Store size (operand_of a) (operand_of at))
+inst_area (BlitInst from to count) = one_of alloc_bytes (Blit (operand_of from) (operand_of to) count)
+inst_area (CallInst to callee args) = one_of alloc_bytes (Call (option_map destination_of to) (operand_of callee) (map argument_of args))
+
+copies_area : (cs : List Assignment) → sum_by alloc_bytes (assignment_lines cs) ≡ 0
+copies_area [] = refl
+copies_area (c ∷ cs) =
+    let all = sum_by-append alloc_bytes (copy_lines c.to.temp c.to.class (operand_of c.value)) (assignment_lines cs) in
+    let one = no_area c.to.temp (operand_of c.value ∷ []) _ (copy_sets c.to.temp c.to.class (operand_of c.value)) in
+    let rest = copies_area cs in
+    omega (arith, all, one, rest)
+
+ending_area : (e : Ending) → sum_by alloc_bytes (ending_lines e) ≡ 0
+ending_area e =
+    let all = sum_by-cons alloc_bytes (Tick e.turn e.weight) (assignment_lines e.copies) in
+    let rest = copies_area e.copies in
+    omega (arith, all, rest)
+
+insts_area : (insts : List (Lined Inst)) → sum_by alloc_bytes (all_lines insts) ≡ sum_by (λ (i : Lined Inst). inst_bytes i.item) insts
+insts_area [] = refl
+insts_area (i ∷ insts) =
+    let both = sum_by-append alloc_bytes (turn_lines i) (all_lines insts) in
+    let tick = sum_by-cons alloc_bytes (Tick true (inst_weight i.item)) (inst_lines i.item) in
+    let one = inst_area i.item in
+    let rest = insts_area insts in
+    let all = sum_by-cons (λ (x : Lined Inst). inst_bytes x.item) i insts in
+    omega (arith, both, tick, one, rest, all)
+
+abbrev bytes_in : VirtualBlock ℕ → ℕ
+bytes_in b = sum_by alloc_bytes b.lines
+
+block_area : (b : Block) (e : Ending) → bytes_in (block_of b e) ≡ sum_by (λ (i : Lined Inst). inst_bytes i.item) b.insts
+block_area b e =
+    let both = sum_by-append alloc_bytes (all_lines b.insts) (ending_lines e) in
+    let one = insts_area b.insts in
+    let none = ending_area e in
+    omega (arith, both, one, none)
+
+edges_area : (es : List Ending) → sum_by bytes_in (map edge_of es) ≡ 0
+edges_area [] = refl
+edges_area (e ∷ es) =
+    let all = sum_by-cons bytes_in (edge_of e) (map edge_of es) in
+    let one = ending_area e in
+    let rest = edges_area es in
+    omega (arith, all, one, rest)
+
+blocks_area : (f : Func) (n : ℕ) (bs : List Block) → sum_by bytes_in (blocks_of bs (all_endings f n bs)) ≡ sum_by (λ (b : Block). sum_by (λ (i : Lined Inst). inst_bytes i.item) b.insts) bs
+blocks_area f n [] = refl
+blocks_area f n (b ∷ bs) =
+    let all = sum_by-cons bytes_in (block_of b (block_ending f n b)) (blocks_of bs (all_endings f (n + length (block_edges f b)) bs)) in
+    let source = sum_by-cons (λ (c : Block). sum_by (λ (i : Lined Inst). inst_bytes i.item) c.insts) b bs in
+    let one = block_area b (block_ending f n b) in
+    let rest = blocks_area f (n + length (block_edges f b)) bs in
+    omega (arith, all, source, one, rest)
+
+pub area_is : (f : Func) → sum_by bytes_in (blocks_of f.blocks (all_endings f 0 f.blocks) ++ map edge_of (all_edges f f.blocks)) ≡ alloc_area f
+area_is f =
+    let both = sum_by-append bytes_in (blocks_of f.blocks (all_endings f 0 f.blocks)) (map edge_of (all_edges f f.blocks)) in
+    let one = blocks_area f 0 f.blocks in
+    let none = edges_area (all_edges f f.blocks) in
+    omega (arith, both, one, none)
+
+-- ---- the turns of a block
+
+inst_turns : (x : Inst) → sum_by turns_of (inst_lines x) ≡ 0
+inst_turns (Unary to op a) = no_turn to.temp (operand_of a ∷ []) _ (unary_sets to.temp op to.class (operand_of a))
+inst_turns (Binary to op a b) = no_turn to.temp (operand_of a ∷ operand_of b ∷ []) _ (binary_sets to.temp op to.class (operand_of a) (operand_of b))
+inst_turns (AllocInst to alignment size) = one_of turns_of (Alloc to.temp size)
+inst_turns (StoreInst size a at) = one_of turns_of (Store size (operand_of a) (operand_of at))
+inst_turns (BlitInst from to count) = one_of turns_of (Blit (operand_of from) (operand_of to) count)
+inst_turns (CallInst to callee args) = one_of turns_of (Call (option_map destination_of to) (operand_of callee) (map argument_of args))
+
+copies_turns : (cs : List Assignment) → sum_by turns_of (assignment_lines cs) ≡ 0
+copies_turns [] = refl
+copies_turns (c ∷ cs) =
+    let all = sum_by-append turns_of (copy_lines c.to.temp c.to.class (operand_of c.value)) (assignment_lines cs) in
+    let one = no_turn c.to.temp (operand_of c.value ∷ []) _ (copy_sets c.to.temp c.to.class (operand_of c.value)) in
+    let rest = copies_turns cs in
+    omega (arith, all, one, rest)
+
+tick_turns : (turn : Bool) (w : ℕ) → turns_of {P = ℕ} (Tick turn w) ≤ 1
+tick_turns true w = omega arith
+tick_turns false w = omega arith
+
+ending_turns : (e : Ending) → sum_by turns_of (ending_lines e) ≤ 1
+ending_turns e =
+    let all = sum_by-cons turns_of (Tick e.turn e.weight) (assignment_lines e.copies) in
+    let one = tick_turns e.turn e.weight in
+    let rest = copies_turns e.copies in
+    omega (arith, all, one, rest)
+
+insts_turns : (insts : List (Lined Inst)) → sum_by turns_of (all_lines insts) ≡ length insts
+insts_turns [] = refl
+insts_turns (i ∷ insts) =
+    let both = sum_by-append turns_of (turn_lines i) (all_lines insts) in
+    let tick = sum_by-cons turns_of (Tick true (inst_weight i.item)) (inst_lines i.item) in
+    let one = inst_turns i.item in
+    let rest = insts_turns insts in
+    omega (arith, both, tick, one, rest)
+
+some_weight : (x : Inst) → 1 ≤ inst_weight x
+some_weight (Unary to op a) = omega arith
+some_weight (Binary to op a b) = omega arith
+some_weight (AllocInst to alignment size) = omega arith
+some_weight (StoreInst size a at) = omega arith
+some_weight (BlitInst from to count) = omega arith
+some_weight (CallInst to callee args) = omega arith
+
+insts_weigh : (insts : List (Lined Inst)) → length insts ≤ sum_by (λ (i : Lined Inst). inst_weight i.item) insts
+insts_weigh [] = omega arith
+insts_weigh (i ∷ insts) =
+    let all = sum_by-cons (λ (x : Lined Inst). inst_weight x.item) i insts in
+    let one = some_weight i.item in
+    let rest = insts_weigh insts in
+    omega (arith, all, one, rest)
+
+block_weighs : (bs : List Block) (b : Block) → Among b bs → length b.insts + 1 ≤ sum_by block_weight bs
+block_weighs [] b a = absurd a
+block_weighs (c ∷ bs) b (inl e) =
+    let all = sum_by-cons block_weight c bs in
+    let insts = insts_weigh c.insts in
+    let same : length b.insts ≡ length c.insts = ap (λ (x : Block). length x.insts) e in
+    omega (arith, all, insts, same)
+block_weighs (c ∷ bs) b (inr a) =
+    let all = sum_by-cons block_weight c bs in
+    let rest = block_weighs bs b a in
+    omega (arith, all, rest)
+
+few_turns : (f : Func) → IsGoodFunction f → (b : Block) (e : Ending) → Among b f.blocks → sum_by turns_of (all_lines b.insts ++ ending_lines e) ≤ 40000
+few_turns f good b e a =
+    let heavy = le_of (weight f) 40000 (and_left (nat_le (weight f) 40000) _ good.limits) in
+    let block = block_weighs f.blocks b a in
+    let both = sum_by-append turns_of (all_lines b.insts) (ending_lines e) in
+    let insts = insts_turns b.insts in
+    let end = ending_turns e in
+    omega (arith, heavy, block, both, insts, end)
+
+abbrev is_paced : VirtualBlock ℕ → Bool
+is_paced b = nat_le (sum_by turns_of b.lines) 40000
+
+paced_blocks : (f : Func) → IsGoodFunction f → list_all is_paced (blocks_of f.blocks (all_endings f 0 f.blocks) ++ map edge_of (all_edges f f.blocks)) ≡ true
+paced_blocks f good =
+    blocks_all f is_paced (0 + length (all_edges f f.blocks)) 0 f.blocks (map edge_of (all_edges f f.blocks)) refl
+    (λ b m a le. le_true _ 40000 (few_turns f good b (block_ending f m b) a))
+    (edges_all f is_paced f.blocks (λ b l p ps a br e. let one = ending_turns (edge_for f b.label (target f.blocks l) (p ∷ ps)) in le_true _ 40000 (omega (arith, one))))
+
+-- ---- the whole
+
+limits_of : (f : Func) → IsGoodFunction f → (length f.params ≤ 64) × (alloc_area f ≤ 1048576)
+limits_of f good =
+    let behind_weight = and_right (nat_le (weight f) 40000) _ good.limits in
+    let behind_temps = and_right (nat_le (length f.temps) 4000) _ behind_weight in
+    let behind_params = and_right (nat_le (length f.params) 64) _ behind_temps in
+    (le_of (length f.params) 64 (and_left (nat_le (length f.params) 64) _ behind_temps), le_of (alloc_area f) 1048576 (and_left (nat_le (alloc_area f) 1048576) _ behind_params))
+
+pub regular : (f : Func) → IsGoodFunction f → IsRegular (selected f (lowered f))
+unfolding selected lowered
+regular f good =
+    let few = (limits_of f good).0 in
+    let params : length (map parameter_of f.params) ≡ length f.params = length-map f.params parameter_of in
+    let bytes = (limits_of f good).1 in
+    let all = area_is f in
+    record {
+      few_params = le_true (length (map parameter_of f.params)) 64 (omega (arith, few, params));
+      inside = ap (λ n. list_all (λ (b : VirtualBlock ℕ). leads_inside n b.jump) (blocks_of f.blocks (all_endings f 0 f.blocks) ++ map edge_of (all_edges f f.blocks))) (total_is f) ∙ inside_blocks f good;
+      first = allocs_are_first f good;
+      small = le_true _ 1048576 (omega (arith, bytes, all));
+      paid = paid_blocks f;
+      paced = paced_blocks f good;
+    }
+
+pub few_params : (f : Func) → IsGoodFunction f → length f.params ≤ 64
+few_params f good = (limits_of f good).0
