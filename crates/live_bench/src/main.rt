@@ -94,21 +94,29 @@ fn live_at_first(alloc: Global, blocks: u32) -> Result<usize, AllocError> {
     Ok(count)
 }
 
+/// What is measured.
+#[derive(Clone, Copy)]
+enum Measure {
+    Sets,
+    Live,
+    Moves,
+}
+
 fn main(rt: HostRuntime) -> io::Result<()> {
-    let mut what = 'l';
+    let mut measure = Measure::Live;
     let mut size = 10u32;
     for word in env::args(&rt)? {
         match word.as_str() {
-            "sets" => what = 's',
-            "live" => what = 'l',
-            "moves" => what = 'm',
+            "sets" => measure = Measure::Sets,
+            "live" => measure = Measure::Live,
+            "moves" => measure = Measure::Moves,
             other => size = other.parse::<u32>().unwrap_or(size),
         }
     }
-    let count = match what {
-        's' => joins(rt.alloc(), size as usize),
-        'm' => moves::moves_in_sequence(rt.alloc(), size as usize),
-        _ => live_at_first(rt.alloc(), size),
+    let count = match measure {
+        Measure::Sets => joins(rt.alloc(), size as usize),
+        Measure::Live => live_at_first(rt.alloc(), size),
+        Measure::Moves => moves::moves_in_sequence(rt.alloc(), size as usize),
     };
     match count {
         Ok(number) => println!(rt; "{number}")?,
