@@ -35,7 +35,7 @@ use Rattle.phi_copies.proofs.EdgePlaces.{phis_counted}
 use Rattle.vcode.specs.declared.place.Operand.{Operand}
 use Rattle.vcode.specs.declared.place.Argument.{Argument}
 use Rattle.vcode.specs.Named.{operand_keeps, line_keeps, jump_keeps, block_keeps, keeps_places, is_below}
-use Rattle.select.specs.Selected.{operand_of, argument_of, inst_lines, turn_lines, all_lines, copy_lines, assignment_lines, ending_lines, jump_of, block_of, edge_of, blocks_of, parameter_of, selected}
+use Rattle.select.specs.Selected.{operand_of, argument_of, inst_lines, turn_lines, all_lines, copy_lines, assignment_lines, ending_lines, jump_of, block_of, edge_of, blocks_of, parameter_of, selected, binary_lines}
 use Rattle.select.proofs.Typing.{Among, among_left, among_right, neither_first, neither_second, not_broken, none_among, not_false, either_true, assigned_own}
 use Rattle.select.proofs.LoweredTyping.{there, own_temps, find_among, phi_argument_at, param_among}
 use Rattle.select.proofs.EachBlock.{blocks_all, edges_all, all_both}
@@ -45,7 +45,7 @@ use Rattle.select.proofs.UsedPlaces.{AllKeep, copy_sets, unary_sets, binary_sets
 abbrev pub registers : Func → ℕ
 registers f = length f.temps + phi_count f
 
-abbrev Below : Func → ℕ → Bool
+abbrev pub Below : Func → ℕ → Bool
 Below f = is_below (registers f)
 
 below : (f : Func) (n : ℕ) → n < registers f → Below f n ≡ true
@@ -74,9 +74,9 @@ reading_keeps f good o a =
 -- ---- instructions
 
 -- what an instruction defines and reads, the function does
-record Within (f : Func) (line : ℕ) (x : Inst) : Type 0 where
-  defines : (d : Definer) → Among d (inst_definers (record { line = line; item = x })) → d.temp < length f.temps
-  reads_all : (o : Reading) → Among o (inst_operands (record { line = line; item = x })) → operand_keeps (Below f) (operand_of o.value) ≡ true
+pub record Within (f : Func) (line : ℕ) (x : Inst) : Type 0 where
+  pub defines : (d : Definer) → Among d (inst_definers (record { line = line; item = x })) → d.temp < length f.temps
+  pub reads_all : (o : Reading) → Among o (inst_operands (record { line = line; item = x })) → operand_keeps (Below f) (operand_of o.value) ≡ true
 
 only : (test : ℕ → Bool) (a : Operand ℕ) → operand_keeps test a ≡ true → AllKeep test (a ∷ [])
 only test a h b (inl e) = ap (operand_keeps test) e ∙ h
@@ -97,7 +97,7 @@ inst_keeps f line (Unary to op a) w =
     sets_keep (Below f) to.temp (operand_of a ∷ []) _ (own_below f to.temp (w.defines (definer line to) (inl refl)))
     (only (Below f) (operand_of a) (w.reads_all (operand_at line (operand_class op to.class) a) (inl refl))) (unary_sets to.temp op to.class (operand_of a))
 inst_keeps f line (Binary to op a b) w =
-    sets_keep (Below f) to.temp (operand_of a ∷ operand_of b ∷ []) _ (own_below f to.temp (w.defines (definer line to) (inl refl)))
+    sets_keep (Below f) to.temp (operand_of a ∷ operand_of b ∷ []) (binary_lines to.temp op to.class (operand_of a) (operand_of b)) (own_below f to.temp (w.defines (definer line to) (inl refl)))
     (two (Below f) (operand_of a) (operand_of b) (w.reads_all (operand_at line (left_class op to.class) a) (inl refl)) (w.reads_all (operand_at line (right_class op to.class) b) (inr (inl refl))))
     (binary_sets to.temp op to.class (operand_of a) (operand_of b))
 inst_keeps f line (AllocInst to alignment size) w = ap (λ b. b && true) (own_below f to.temp (w.defines (definer line to) (inl refl)))
@@ -122,7 +122,7 @@ flat_among g [] x y a h = absurd a
 flat_among g (z ∷ xs) x y (inl e) h = among_left y (g z) (flat_map g xs) (subst (λ v. Among y (g v)) e h)
 flat_among g (z ∷ xs) x y (inr a) h = among_right y (g z) (flat_map g xs) (flat_among g xs x y a h)
 
-within : (f : Func) → IsGoodFunction f → (b : Block) (i : Lined Inst) → Among b f.blocks → Among i b.insts → Within f i.line i.item
+pub within : (f : Func) → IsGoodFunction f → (b : Block) (i : Lined Inst) → Among b f.blocks → Among i b.insts → Within f i.line i.item
 within f good b i here at =
     record {
       defines = λ d a. own_temps f d
@@ -142,11 +142,11 @@ insts_keep f good b here (i ∷ insts) sub =
 
 -- ---- copies
 
-record CopyKeeps (f : Func) (c : Assignment) : Type 0 where
-  to : c.to.temp < registers f
-  value : operand_keeps (Below f) (operand_of c.value) ≡ true
+pub record CopyKeeps (f : Func) (c : Assignment) : Type 0 where
+  pub to : c.to.temp < registers f
+  pub value : operand_keeps (Below f) (operand_of c.value) ≡ true
 
-abbrev AllCopies : Func → List Assignment → Type 0
+abbrev pub AllCopies : Func → List Assignment → Type 0
 AllCopies f [] = Unit {0}
 AllCopies f (c ∷ cs) = CopyKeeps f c × AllCopies f cs
 
@@ -195,7 +195,7 @@ phi_known f good b p here at =
           (among_left _ (flat_map phi_operands b.phis) (flat_map inst_operands b.insts ++ end_operands b.jump) (flat_among phi_operands b.phis p _ at (phi_argument_at p p.args a h))));
     }
 
-entry_keeps : (f : Func) → IsGoodFunction f → (from k : ℕ) → AllCopies f (entry_copies f from k)
+pub entry_keeps : (f : Func) → IsGoodFunction f → (from k : ℕ) → AllCopies f (entry_copies f from k)
 entry_keeps f good from k = by (slice_get f.blocks k) refl
   where
     by : (b : Option Block) → slice_get f.blocks k ≡ b → AllCopies f (copies_of from (length f.temps + phis_before f.blocks k) (phis_of b))
@@ -218,9 +218,9 @@ return_keeps f good b j x a jump item =
     ∙ none_among (λ (c : Block). returned_breaks (λ v. not (is_defined (definers_of f) v)) c.jump) f.blocks b all a)))
 
 -- the copies and the jump of an ending
-record EndingKeeps (f : Func) (e : Ending) : Type 0 where
-  copies : AllCopies f e.copies
-  leaves : jump_keeps (Below f) (jump_of e.leave) ≡ true
+pub record EndingKeeps (f : Func) (e : Ending) : Type 0 where
+  pub copies : AllCopies f e.copies
+  pub leaves : jump_keeps (Below f) (jump_of e.leave) ≡ true
 
 jump_ending_keeps : (f : Func) → IsGoodFunction f → (b : Block) (j : Lined Jump) (x : Jump) (m : ℕ) → Among b f.blocks → b.jump ≡ Some j → j.item ≡ x → EndingKeeps f (jump_ending f b.label m x)
 jump_ending_keeps f good b j (Goto l) m a e i = record { copies = entry_keeps f good b.label (target f.blocks l); leaves = refl }
@@ -237,7 +237,7 @@ jump_ending_keeps f good b j (Return None) m a e i = record { copies = tt; leave
 jump_ending_keeps f good b j (Return (Some x)) m a e i = record { copies = tt; leaves = return_keeps f good b j x a e i }
 jump_ending_keeps f good b j Halt m a e i = record { copies = tt; leaves = refl }
 
-end_ending_keeps : (f : Func) → IsGoodFunction f → (b : Block) (j : Option (Lined Jump)) (m : ℕ) → Among b f.blocks → b.jump ≡ j → EndingKeeps f (end_ending f b.label m j)
+pub end_ending_keeps : (f : Func) → IsGoodFunction f → (b : Block) (j : Option (Lined Jump)) (m : ℕ) → Among b f.blocks → b.jump ≡ j → EndingKeeps f (end_ending f b.label m j)
 end_ending_keeps f good b None m a e = record { copies = tt; leaves = refl }
 end_ending_keeps f good b (Some j) m a e = jump_ending_keeps f good b j j.item m a e refl
 

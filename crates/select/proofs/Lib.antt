@@ -4,6 +4,7 @@ pub mod Ending
 pub mod Going
 pub mod Known
 pub mod LoweredTyping
+pub mod Narrowing
 pub mod Numbers
 pub mod Parameters
 pub mod Paying
@@ -15,3 +16,4 @@ pub mod Typing
 pub mod UsedPlaces
 pub mod Widening
 pub mod Yielding
+pub mod WholeKept

@@ -34,7 +34,7 @@ use Rattle.vcode.specs.declared.line.Line.{Line}
 use Rattle.vcode.specs.declared.line.Line.TheVariants.{Set, Operate, Load}
 use Rattle.vcode.specs.Operations.{held, reg_on_places, compare, operate, loaded, extended as extended_load}
 use Rattle.vcode.specs.Step.{State}
-use Rattle.select.specs.Selected.{as_word, shifted, extend_lines, load_of, copy_lines, negate_lines, unary_lines, reg, regw, low_reg, binary_lines}
+use Rattle.select.specs.Selected.{as_word, shifted, extend_lines, load_of, copy_lines, negate_lines, unary_lines, binary_lines}
 use Rattle.select.specs.Typed.{HasResult}
 use Rattle.select.proofs.Going.{Setting}
 use Rattle.select.proofs.Numbers.{WordRight, LongRight, ShiftRight, add_word, sub_word, mul_word, shl_word, shr_word, sar_word, div_word, rem_word, udiv_word, urem_word, add_long, sub_long, mul_long, and_long, or_long, xor_long, div_long, rem_long, udiv_long, urem_long, shl_long, shr_long, sar_long}
@@ -75,6 +75,16 @@ as_word_yields c t p a u r =
     (ap (λ k. Integer (sign_extended k)) (word_plus_zero n ∙ sym (word_again n)) ∙ ap (held W) (sym w.read))
     (yields_one c t (as_word p a) p (Integer (sign_extended ((n % 2 ^ 32 + 0 % 2 ^ 32) % 2 ^ 32)))
     (operate_line c t p (RegW Addw) a (Number 0) (Integer n) (Integer 0) _ (r.is ∙ ap Some w.is) refl refl))
+
+-- an operation of the machine, and one of which the low 32 bits count
+abbrev reg : ℕ → RegOp → Operand ℕ → Operand ℕ → List (Line ℕ)
+reg t op a b = Operate t (Reg op) a b ∷ []
+
+abbrev regw : ℕ → RegWOp → Operand ℕ → Operand ℕ → List (Line ℕ)
+regw t op a b = Operate t (RegW op) a b ∷ []
+
+abbrev low_reg : ℕ → RegOp → Operand ℕ → Operand ℕ → List (Line ℕ)
+low_reg t op a b = Operate t (Reg op) a b ∷ as_word t (At t) ∷ []
 
 -- an operation of the machine on words
 word_line : (m : Memory) (rop : RegWOp) (bop : BinaryOp) → WordRight rop bop → (a b : ℕ) (x : Value) → option_map Integer (on_integers bop W (a % 2 ^ 32) (b % 2 ^ 32)) ≡ Some x → Integer (regw_value rop a b) ≡ held W x

@@ -37,7 +37,7 @@ use Rattle.vcode.specs.declared.line.Line.{Line}
 use Rattle.vcode.specs.declared.line.Line.TheVariants.{Tick, Set, Operate, Load, Store, Alloc, Blit, Call}
 use Rattle.vcode.specs.declared.line.Jump.{Jump}
 use Rattle.vcode.specs.Cost.{is_immediate, operand_cost, operation_cost, line_cost, jump_cost, affords}
-use Rattle.select.specs.Selected.{operand_of, argument_of, extend_lines, copy_lines, load_of, low_reg, unary_lines, binary_lines, inst_lines, turn_lines, all_lines, assignment_lines, ending_lines, jump_of}
+use Rattle.select.specs.Selected.{operand_of, argument_of, extend_lines, copy_lines, load_of, as_word, unary_lines, binary_lines, inst_lines, turn_lines, all_lines, assignment_lines, ending_lines, jump_of}
 
 -- ---- lines that are no ticks
 
@@ -172,7 +172,7 @@ operate_costs t op a b =
     let z = operation_few op in
     (tt, omega (arith, x, y, z), tt)
 
-low_costs : (t : ℕ) (op : RegOp) (a b : Operand ℕ) → Costs (low_reg t op a b) 32
+low_costs : (t : ℕ) (op : RegOp) (a b : Operand ℕ) → Costs (Operate t (Reg op) a b ∷ as_word t (At t) ∷ []) 32
 low_costs t op a b = let x = operand_few a in let y = operand_few b in (tt, omega (arith, x, y), (tt, omega (arith, x, y), tt))
 
 extend_costs : (t : ℕ) (e : Extension) (a : Operand ℕ) → Costs (extend_lines t e a) 32

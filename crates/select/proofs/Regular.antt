@@ -28,7 +28,7 @@ use Rattle.vcode.specs.declared.line.Line.TheVariants.{Tick, Alloc, Store, Blit,
 use Rattle.vcode.specs.declared.code.Block.{Block as VirtualBlock}
 use Rattle.vcode.specs.Cost.{is_paid}
 use Rattle.vcode.specs.Regular.{is_target as is_target_in, leads_inside, is_alloc, allocs_first, alloc_bytes, turns_of, IsRegular}
-use Rattle.select.specs.Selected.{operand_of, destination_of, argument_of, inst_lines, turn_lines, all_lines, copy_lines, assignment_lines, ending_lines, jump_of, block_of, edge_of, blocks_of, parameter_of, selected}
+use Rattle.select.specs.Selected.{operand_of, destination_of, argument_of, inst_lines, turn_lines, all_lines, copy_lines, assignment_lines, ending_lines, jump_of, block_of, edge_of, blocks_of, parameter_of, selected, binary_lines}
 use Rattle.select.proofs.Typing.{Among, neither_first, neither_second, not_broken, none_among}
 use Rattle.select.proofs.Paying.{ending_pays, insts_pay, end_ending_pays, edge_pays}
 use Rattle.select.proofs.EachBlock.{blocks_all, Branches, edge_for, edges_all, IsTarget, is_target}
@@ -145,7 +145,7 @@ inside_blocks f good =
 
 inst_no_alloc : (x : Inst) → is_alloc_inst x ≡ false → list_any is_alloc (inst_lines x) ≡ false
 inst_no_alloc (Unary to op a) h = no_alloc to.temp (operand_of a ∷ []) _ (unary_sets to.temp op to.class (operand_of a))
-inst_no_alloc (Binary to op a b) h = no_alloc to.temp (operand_of a ∷ operand_of b ∷ []) _ (binary_sets to.temp op to.class (operand_of a) (operand_of b))
+inst_no_alloc (Binary to op a b) h = no_alloc to.temp (operand_of a ∷ operand_of b ∷ []) (binary_lines to.temp op to.class (operand_of a) (operand_of b)) (binary_sets to.temp op to.class (operand_of a) (operand_of b))
 inst_no_alloc (AllocInst to alignment size) h = absurd (let no : ⊥ = cc in no)
 inst_no_alloc (StoreInst size a at) h = refl
 inst_no_alloc (BlitInst from to count) h = refl
@@ -194,7 +194,7 @@ one_of m l = let all = sum_by-cons m l [] in omega (arith, all)
 
 inst_area : (x : Inst) → sum_by alloc_bytes (inst_lines x) ≡ inst_bytes x
 inst_area (Unary to op a) = no_area to.temp (operand_of a ∷ []) _ (unary_sets to.temp op to.class (operand_of a))
-inst_area (Binary to op a b) = no_area to.temp (operand_of a ∷ operand_of b ∷ []) _ (binary_sets to.temp op to.class (operand_of a) (operand_of b))
+inst_area (Binary to op a b) = no_area to.temp (operand_of a ∷ operand_of b ∷ []) (binary_lines to.temp op to.class (operand_of a) (operand_of b)) (binary_sets to.temp op to.class (operand_of a) (operand_of b))
 inst_area (AllocInst to alignment size) = one_of alloc_bytes (Alloc to.temp size)
 inst_area (StoreInst size a at) = one_of alloc_bytes (Store size (operand_of a) (operand_of at))
 inst_area (BlitInst from to count) = one_of alloc_bytes (Blit (operand_of from) (operand_of to) count)
@@ -262,7 +262,7 @@ area_is f =
 
 inst_turns : (x : Inst) → sum_by turns_of (inst_lines x) ≡ 0
 inst_turns (Unary to op a) = no_turn to.temp (operand_of a ∷ []) _ (unary_sets to.temp op to.class (operand_of a))
-inst_turns (Binary to op a b) = no_turn to.temp (operand_of a ∷ operand_of b ∷ []) _ (binary_sets to.temp op to.class (operand_of a) (operand_of b))
+inst_turns (Binary to op a b) = no_turn to.temp (operand_of a ∷ operand_of b ∷ []) (binary_lines to.temp op to.class (operand_of a) (operand_of b)) (binary_sets to.temp op to.class (operand_of a) (operand_of b))
 inst_turns (AllocInst to alignment size) = one_of turns_of (Alloc to.temp size)
 inst_turns (StoreInst size a at) = one_of turns_of (Store size (operand_of a) (operand_of at))
 inst_turns (BlitInst from to count) = one_of turns_of (Blit (operand_of from) (operand_of to) count)

@@ -2,5 +2,6 @@ pub mod Classes
 pub mod Invariants
 pub mod Keeping
 pub mod Laws
+pub mod Narrow
 pub mod Selected
 pub mod Typed

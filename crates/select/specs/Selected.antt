@@ -1,6 +1,6 @@
 -- Virtual code for a function without phis. A temporary becomes the virtual register of its number. A word stands sign-extended there, and what reads a word takes
 -- the low 32 bits, so that a long needs no conversion in a word's place.
-use Rattle.std.specs.Prelude.{ℕ, true, List, [], ◌∷◌, ◌++◌, map}
+use Rattle.std.specs.Prelude.{ℕ, Bool, true, false, List, [], ◌∷◌, ◌++◌, map}
 use Rattle.std.specs.Option.{option_map}
 use Rattle.il_ast.specs.declared.operation.Class.{Class}
 use Rattle.il_ast.specs.declared.operation.Class.TheVariants.{W, L}
@@ -28,7 +28,6 @@ use Rattle.phi_copies.specs.declared.ending.Ending.{Ending}
 use Rattle.phi_copies.specs.Endings.{Endings}
 use Rattle.rv_isa.specs.declared.instruction.RegOp.{RegOp}
 use Rattle.rv_isa.specs.declared.instruction.RegOp.TheVariants.{Add as AddReg, Sub as SubReg, Sll as SllReg, Srl as SrlReg, Sra as SraReg, Xor as XorReg, Or as OrReg, And as AndReg, Mul as MulReg, Div as DivReg, Divu as DivuReg, Rem as RemReg, Remu as RemuReg}
-use Rattle.rv_isa.specs.declared.instruction.RegWOp.{RegWOp}
 use Rattle.rv_isa.specs.declared.instruction.RegWOp.TheVariants.{Addw, Subw, Sllw, Srlw, Sraw, Mulw, Divw, Divuw, Remw, Remuw}
 use Rattle.rv_isa.specs.declared.instruction.LoadOp.{LoadOp}
 use Rattle.rv_isa.specs.declared.instruction.LoadOp.TheVariants.{Ld, Lw, Lwu, Lh, Lhu, Lb, Lbu}
@@ -36,6 +35,7 @@ use Rattle.vcode.specs.declared.place.Operand.{Operand}
 use Rattle.vcode.specs.declared.place.Operand.TheVariants.{At, Number, Name}
 use Rattle.vcode.specs.declared.place.Destination.{Destination}
 use Rattle.vcode.specs.declared.place.Argument.{Argument}
+use Rattle.vcode.specs.declared.line.Operation.{Operation}
 use Rattle.vcode.specs.declared.line.Operation.TheVariants.{Reg, RegW, Compare as CompareValues}
 use Rattle.vcode.specs.declared.line.Line.{Line}
 use Rattle.vcode.specs.declared.line.Line.TheVariants.{Tick, Set, Operate, Load, Store, Alloc, Blit, Call}
@@ -102,44 +102,48 @@ unary_lines t (LoadNarrow e) c a = Load t (load_of e c) a ∷ []
 
 -- ---- two operands
 
-abbrev pub reg : ℕ → RegOp → Operand ℕ → Operand ℕ → List (Line ℕ)
-reg t op a b = Operate t (Reg op) a b ∷ []
+abbrev pub operation_of : BinaryOp → Class → Operation
+operation_of Add W = RegW Addw
+operation_of Add L = Reg AddReg
+operation_of Sub W = RegW Subw
+operation_of Sub L = Reg SubReg
+operation_of Mul W = RegW Mulw
+operation_of Mul L = Reg MulReg
+operation_of And c = Reg AndReg
+operation_of Or c = Reg OrReg
+operation_of Xor c = Reg XorReg
+operation_of Div W = RegW Divw
+operation_of Div L = Reg DivReg
+operation_of Rem W = RegW Remw
+operation_of Rem L = Reg RemReg
+operation_of Udiv W = RegW Divuw
+operation_of Udiv L = Reg DivuReg
+operation_of Urem W = RegW Remuw
+operation_of Urem L = Reg RemuReg
+operation_of Sar W = RegW Sraw
+operation_of Sar L = Reg SraReg
+operation_of Shr W = RegW Srlw
+operation_of Shr L = Reg SrlReg
+operation_of Shl W = RegW Sllw
+operation_of Shl L = Reg SllReg
+operation_of (Compare on k) c = CompareValues on k
 
-abbrev pub regw : ℕ → RegWOp → Operand ℕ → Operand ℕ → List (Line ℕ)
-regw t op a b = Operate t (RegW op) a b ∷ []
+-- of an operation on all bits the low 32 count for a word
+abbrev pub is_wide : BinaryOp → Class → Bool
+is_wide And W = true
+is_wide And L = false
+is_wide Or W = true
+is_wide Or L = false
+is_wide Xor W = true
+is_wide Xor L = false
+is_wide op c = false
 
--- an operation on bits, of which the low 32 count
-abbrev pub low_reg : ℕ → RegOp → Operand ℕ → Operand ℕ → List (Line ℕ)
-low_reg t op a b = Operate t (Reg op) a b ∷ as_word t (At t) ∷ []
+abbrev pub again_as_word : ℕ → Bool → List (Line ℕ)
+again_as_word t true = as_word t (At t) ∷ []
+again_as_word t false = []
 
 abbrev pub binary_lines : ℕ → BinaryOp → Class → Operand ℕ → Operand ℕ → List (Line ℕ)
-binary_lines t Add W a b = regw t Addw a b
-binary_lines t Add L a b = reg t AddReg a b
-binary_lines t Sub W a b = regw t Subw a b
-binary_lines t Sub L a b = reg t SubReg a b
-binary_lines t Mul W a b = regw t Mulw a b
-binary_lines t Mul L a b = reg t MulReg a b
-binary_lines t And W a b = low_reg t AndReg a b
-binary_lines t And L a b = reg t AndReg a b
-binary_lines t Or W a b = low_reg t OrReg a b
-binary_lines t Or L a b = reg t OrReg a b
-binary_lines t Xor W a b = low_reg t XorReg a b
-binary_lines t Xor L a b = reg t XorReg a b
-binary_lines t Div W a b = regw t Divw a b
-binary_lines t Div L a b = reg t DivReg a b
-binary_lines t Rem W a b = regw t Remw a b
-binary_lines t Rem L a b = reg t RemReg a b
-binary_lines t Udiv W a b = regw t Divuw a b
-binary_lines t Udiv L a b = reg t DivuReg a b
-binary_lines t Urem W a b = regw t Remuw a b
-binary_lines t Urem L a b = reg t RemuReg a b
-binary_lines t Sar W a b = regw t Sraw a b
-binary_lines t Sar L a b = reg t SraReg a b
-binary_lines t Shr W a b = regw t Srlw a b
-binary_lines t Shr L a b = reg t SrlReg a b
-binary_lines t Shl W a b = regw t Sllw a b
-binary_lines t Shl L a b = reg t SllReg a b
-binary_lines t (Compare on k) c a b = Operate t (CompareValues on k) a b ∷ []
+binary_lines t op c a b = Operate t (operation_of op c) a b ∷ again_as_word t (is_wide op c)
 
 -- ---- instructions
 

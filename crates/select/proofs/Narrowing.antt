@@ -1,0 +1,259 @@
+-- In the virtual code of a good function no register and no weight is longer than 32 bits.
+use Rattle.std.proofs.Common.{◌≡◌, ℕ, ◌+◌, ◌<◌, ◌≤◌, ◌^◌, Bool, true, false, nat_le, ◌&&◌, List, [], ◌∷◌, ◌++◌, length, map, refl, sym, ◌∙◌, ap, arith, inl, inr}
+use Rattle.std.specs.Prelude.{slice_get, Option, Some, None}
+use Rattle.std.specs.List.{sum_by, flat_map}
+use Rattle.std.proofs.Math.Nat.{mod-eq_of_lt}
+use Rattle.std.proofs.lemmas.Bool.Decides.{nat_tests}
+use Rattle.std.proofs.lemmas.List.Sums.{sum_by-cons}
+use Rattle.il_ast.specs.declared.operation.Class.TheVariants.{L}
+use Rattle.il_ast.specs.declared.operand.Val.{Val}
+use Rattle.il_ast.specs.declared.operand.Val.TheVariants.{Int, Temp, Global}
+use Rattle.il_ast.specs.declared.operand.Dest.{Dest}
+use Rattle.il_ast.specs.declared.operand.Arg.{Arg}
+use Rattle.il_ast.specs.declared.instruction.Inst.{Inst}
+use Rattle.il_ast.specs.declared.instruction.Inst.TheVariants.{Unary, Binary, Alloc, Store, Blit, Call}
+use Rattle.il_ast.specs.declared.instruction.Jump.{Jump}
+use Rattle.il_ast.specs.declared.instruction.Jump.TheVariants.{Goto, Branch, Return, Halt}
+use Rattle.il_ast.specs.declared.instruction.Lined.{Lined}
+use Rattle.il_ast.specs.declared.block.Phi.{Phi}
+use Rattle.il_ast.specs.declared.block.Block.{Block}
+use Rattle.il_ast.specs.declared.function.Param.{Param}
+use Rattle.il_ast.specs.declared.function.Func.{Func}
+use Rattle.il_ast.specs.Operations.{operand_class, left_class, right_class}
+use Rattle.il_ast.specs.Effect.{stored_class}
+use Rattle.il_ast.specs.Cost.{inst_weight, block_weight, weight}
+use Rattle.il_types.specs.declared.site.Operand.{Operand as Reading}
+use Rattle.il_types.specs.Sites.{definer, param_definers, block_definers, arg_operands, operand_at}
+use Rattle.phi_copies.specs.declared.ending.Assignment.{Assignment}
+use Rattle.phi_copies.specs.declared.ending.Leave.{Leave}
+use Rattle.phi_copies.specs.declared.ending.Leave.TheVariants.{Goto as GotoBlock, Branch as BranchTo, Return as ReturnWith, Halt as HaltRun}
+use Rattle.phi_copies.specs.declared.ending.Ending.{Ending}
+use Rattle.phi_copies.specs.Good.{IsGoodFunction}
+use Rattle.phi_copies.specs.Lowered.{target, phis_of, phis_at, entry_copies, edge_with, edge, jump_edges, end_edges, block_edges, all_edges, jump_ending, end_ending, block_ending, all_endings, lowered}
+use Rattle.phi_copies.proofs.Counting.{is_small}
+use Rattle.phi_copies.proofs.EdgePlaces.{phis_counted}
+use Rattle.vcode.specs.declared.place.Destination.{Destination}
+use Rattle.vcode.specs.declared.line.Line.{Line}
+use Rattle.vcode.specs.declared.line.Line.TheVariants.{Tick}
+use Rattle.vcode.specs.declared.code.Block.{Block as VirtualBlock}
+use Rattle.vcode.specs.declared.code.Code.{Code}
+use Rattle.vcode.specs.Named.{operand_keeps, jump_keeps}
+use Rattle.select.specs.Selected.{operand_of, inst_lines, turn_lines, all_lines, copy_lines, assignment_lines, ending_lines, jump_of, block_of, edge_of, blocks_of, parameter_of, selected}
+use Rattle.select.specs.Narrow.{narrow, narrow_val, narrow_dest, narrow_arg, narrow_parameter, narrow_inst, narrow_turns, narrow_copies, narrow_ending, narrow_leave, narrow_block, narrow_edge, narrow_blocks, narrow_code}
+use Rattle.select.proofs.Typing.{Among, among_left}
+use Rattle.select.proofs.LoweredTyping.{own_temps, param_among}
+use Rattle.select.proofs.Known.{registers, Below, Within, within, AllCopies, entry_keeps, EndingKeeps, end_ending_keeps}
+
+-- ---- operands
+
+pub small : (n : ℕ) → n < 2 ^ 32 → narrow n ≡ n
+small n h = mod-eq_of_lt h
+
+register_small : (f : Func) → IsGoodFunction f → (n : ℕ) → n < registers f → narrow n ≡ n
+register_small f good n h = let few = (is_small f good).temporaries in small n (omega (arith, few, h))
+
+value_small : (f : Func) → IsGoodFunction f → (a : Val) → operand_keeps (Below f) (operand_of a) ≡ true → narrow_val a ≡ a
+value_small f good (Int n) h = refl
+value_small f good (Temp t) h = ap Temp (register_small f good t (let lt : t < registers f = grind (arith, nat_tests) in lt))
+value_small f good (Global g) h = refl
+
+dest_small : (f : Func) → IsGoodFunction f → (d : Dest) → d.temp < registers f → narrow_dest d ≡ d
+dest_small f good d h = let to : ℕ → Dest = λ n. record { temp = n; class = d.class } in ap to (register_small f good d.temp h)
+
+-- ---- instructions
+
+own : (f : Func) (n : ℕ) → n < length f.temps → n < registers f
+own f n h = omega (arith, h)
+
+args_small : (f : Func) → IsGoodFunction f → (line : ℕ) (args : List Arg) → ((o : Reading) → Among o (arg_operands line args) → operand_keeps (Below f) (operand_of o.value) ≡ true) → map narrow_arg args ≡ args
+args_small f good line [] each = refl
+args_small f good line (a ∷ args) each =
+    let with : Val → Arg = λ v. record { class = a.class; value = v } in
+    ap (λ x. x ∷ map narrow_arg args) (ap with (value_small f good a.value (each (operand_at line a.class a.value) (inl refl))))
+    ∙ ap (λ xs. a ∷ xs) (args_small f good line args (λ o h. each o (inr h)))
+
+inst_small : (f : Func) → IsGoodFunction f → (line : ℕ) (x : Inst) → Within f line x → narrow_inst x ≡ x
+inst_small f good line (Unary to op a) w =
+    ap (λ d. Unary d op (narrow_val a)) (dest_small f good to (own f to.temp (w.defines (definer line to) (inl refl))))
+    ∙ ap (λ v. Unary to op v) (value_small f good a (w.reads_all (operand_at line (operand_class op to.class) a) (inl refl)))
+inst_small f good line (Binary to op a b) w =
+    ap (λ d. Binary d op (narrow_val a) (narrow_val b)) (dest_small f good to (own f to.temp (w.defines (definer line to) (inl refl))))
+    ∙ ap (λ v. Binary to op v (narrow_val b)) (value_small f good a (w.reads_all (operand_at line (left_class op to.class) a) (inl refl)))
+    ∙ ap (λ v. Binary to op a v) (value_small f good b (w.reads_all (operand_at line (right_class op to.class) b) (inr (inl refl))))
+inst_small f good line (Alloc to alignment size) w =
+    ap (λ d. Alloc d alignment size) (dest_small f good to (own f to.temp (w.defines (definer line to) (inl refl))))
+inst_small f good line (Store size a at) w =
+    ap (λ v. Store size v (narrow_val at)) (value_small f good a (w.reads_all (operand_at line (stored_class size) a) (inl refl)))
+    ∙ ap (λ v. Store size a v) (value_small f good at (w.reads_all (operand_at line L at) (inr (inl refl))))
+inst_small f good line (Blit from to count) w =
+    ap (λ v. Blit v (narrow_val to) count) (value_small f good from (w.reads_all (operand_at line L from) (inl refl)))
+    ∙ ap (λ v. Blit from v count) (value_small f good to (w.reads_all (operand_at line L to) (inr (inl refl))))
+inst_small f good line (Call None callee args) w =
+    ap (λ v. Call None v (map narrow_arg args)) (value_small f good callee (w.reads_all (operand_at line L callee) (inl refl)))
+    ∙ ap (λ v. Call None callee v) (args_small f good line args (λ o h. w.reads_all o (inr h)))
+inst_small f good line (Call (Some to) callee args) w =
+    ap (λ d. Call (Some d) (narrow_val callee) (map narrow_arg args)) (dest_small f good to (own f to.temp (w.defines (definer line to) (inl refl))))
+    ∙ ap (λ v. Call (Some to) v (map narrow_arg args)) (value_small f good callee (w.reads_all (operand_at line L callee) (inl refl)))
+    ∙ ap (λ v. Call (Some to) callee v) (args_small f good line args (λ o h. w.reads_all o (inr h)))
+
+-- ---- weights
+
+among_sum : {A : Type 0} (g : A → ℕ) (xs : List A) (x : A) → Among x xs → g x ≤ sum_by g xs
+among_sum g [] x a = absurd a
+among_sum g (y ∷ xs) x (inl e) = let all = sum_by-cons g y xs in let same = ap g e in omega (arith, all, same)
+among_sum g (y ∷ xs) x (inr a) = let all = sum_by-cons g y xs in let le = among_sum g xs x a in omega (arith, all, le)
+
+and_first : (a b : Bool) → (a && b) ≡ true → a ≡ true
+and_first true b h = refl
+and_first false b h = h
+
+light : (f : Func) → IsGoodFunction f → weight f ≤ 40000
+light f good =
+    let heavy = and_first (nat_le (weight f) 40000) _ good.limits in
+    let le : weight f ≤ 40000 = grind (arith, nat_tests) in
+    le
+
+weight_small : (f : Func) → IsGoodFunction f → (b : Block) (i : Lined Inst) → Among b f.blocks → Among i b.insts → narrow (inst_weight i.item) ≡ inst_weight i.item
+weight_small f good b i here at =
+    let le = light f good in
+    let of_block = among_sum block_weight f.blocks b here in
+    let of_inst = among_sum (λ (x : Lined Inst). inst_weight x.item) b.insts i at in
+    small (inst_weight i.item) (omega (arith, le, of_block, of_inst))
+
+turns_small : (f : Func) → IsGoodFunction f → (b : Block) → Among b f.blocks → (insts : List (Lined Inst)) → ((i : Lined Inst) → Among i insts → Among i b.insts) → narrow_turns insts ≡ all_lines insts
+turns_small f good b here [] sub = refl
+turns_small f good b here (i ∷ insts) sub =
+    let at = sub i (inl refl) in
+    ap (λ n. (Tick true n ∷ inst_lines (narrow_inst i.item)) ++ narrow_turns insts) (weight_small f good b i here at)
+    ∙ ap (λ x. (Tick true (inst_weight i.item) ∷ inst_lines x) ++ narrow_turns insts) (inst_small f good i.line i.item (within f good b i here at))
+    ∙ ap (λ ls. turn_lines i ++ ls) (turns_small f good b here insts (λ j a. sub j (inr a)))
+
+-- ---- endings
+
+copies_small : (f : Func) → IsGoodFunction f → (cs : List Assignment) → AllCopies f cs → narrow_copies cs ≡ assignment_lines cs
+copies_small f good [] h = refl
+copies_small f good (c ∷ cs) h =
+    ap (λ n. copy_lines n c.to.class (operand_of (narrow_val c.value)) ++ narrow_copies cs) (register_small f good c.to.temp h.0.to)
+    ∙ ap (λ v. copy_lines c.to.temp c.to.class (operand_of v) ++ narrow_copies cs) (value_small f good c.value h.0.value)
+    ∙ ap (λ ls. copy_lines c.to.temp c.to.class (operand_of c.value) ++ ls) (copies_small f good cs h.1)
+
+leave_small : (f : Func) → IsGoodFunction f → (l : Leave) → jump_keeps (Below f) (jump_of l) ≡ true → narrow_leave l ≡ l
+leave_small f good (GotoBlock k) h = refl
+leave_small f good (BranchTo on nonzero otherwise) h = ap (λ v. BranchTo v nonzero otherwise) (value_small f good on h)
+leave_small f good (ReturnWith None) h = refl
+leave_small f good (ReturnWith (Some a)) h = ap (λ v. ReturnWith (Some v)) (value_small f good a h)
+leave_small f good HaltRun h = refl
+
+-- an ending without anything long
+record IsSmallEnding (e : Ending) : Type 0 where
+  lines : narrow_ending e ≡ ending_lines e
+  leave : narrow_leave e.leave ≡ e.leave
+
+ending_small : (f : Func) → IsGoodFunction f → (e : Ending) → EndingKeeps f e → e.weight ≤ 44001 → IsSmallEnding e
+ending_small f good e k le =
+    record {
+      lines = ap (λ n. Tick e.turn n ∷ narrow_copies e.copies) (small e.weight (omega (arith, le))) ∙ ap (λ ls. Tick e.turn e.weight ∷ ls) (copies_small f good e.copies k.copies);
+      leave = leave_small f good e.leave k.leaves;
+    }
+
+phis_few : (f : Func) → IsGoodFunction f → (k : ℕ) → length (phis_at f.blocks k) ≤ 44000
+phis_few f good k = by (slice_get f.blocks k) refl
+  where
+    by : (b : Option Block) → slice_get f.blocks k ≡ b → length (phis_of b) ≤ 44000
+    by None e = omega arith
+    by (Some b) e = let all = phis_counted f.blocks k b e in let few = (is_small f good).temporaries in omega (arith, all, few)
+
+jump_weight : (f : Func) → IsGoodFunction f → (from number : ℕ) (j : Jump) → (jump_ending f from number j).weight ≤ 44001
+jump_weight f good from number (Goto l) = let few = phis_few f good (target f.blocks l) in omega (arith, few)
+jump_weight f good from number (Branch on nonzero otherwise) = omega arith
+jump_weight f good from number (Return a) = omega arith
+jump_weight f good from number Halt = omega arith
+
+end_weight_few : (f : Func) → IsGoodFunction f → (from number : ℕ) (j : Option (Lined Jump)) → (end_ending f from number j).weight ≤ 44001
+end_weight_few f good from number None = omega arith
+end_weight_few f good from number (Some j) = jump_weight f good from number j.item
+
+-- ---- blocks
+
+block_small : (f : Func) → IsGoodFunction f → (b : Block) (n : ℕ) → Among b f.blocks → narrow_block b (block_ending f n b) ≡ block_of b (block_ending f n b)
+block_small f good b n a =
+    let e = block_ending f n b in
+    let s = ending_small f good e (end_ending_keeps f good b b.jump n a refl) (end_weight_few f good b.label n b.jump) in
+    let with : List (Line ℕ) → Leave → VirtualBlock ℕ = λ ls l. record { lines = ls; jump = jump_of l } in
+    ap (λ ls. with (ls ++ narrow_ending e) (narrow_leave e.leave)) (turns_small f good b a b.insts (λ i h. h))
+    ∙ ap (λ ls. with (all_lines b.insts ++ ls) (narrow_leave e.leave)) s.lines
+    ∙ ap (with (all_lines b.insts ++ ending_lines e)) s.leave
+
+blocks_small : (f : Func) → IsGoodFunction f → (n : ℕ) (bs : List Block) → ((b : Block) → Among b bs → Among b f.blocks) → narrow_blocks bs (all_endings f n bs) ≡ blocks_of bs (all_endings f n bs)
+blocks_small f good n [] sub = refl
+blocks_small f good n (b ∷ bs) sub =
+    let rest = all_endings f (n + length (block_edges f b)) bs in
+    ap (λ x. x ∷ narrow_blocks bs rest) (block_small f good b n (sub b (inl refl)))
+    ∙ ap (λ xs. block_of b (block_ending f n b) ∷ xs) (blocks_small f good (n + length (block_edges f b)) bs (λ c a. sub c (inr a)))
+
+-- ---- edges
+
+map_both : {A B : Type 0} (g : A → B) (xs ys : List A) → map g (xs ++ ys) ≡ map g xs ++ map g ys
+map_both g [] ys = refl
+map_both g (x ∷ xs) ys = ap (λ zs. g x ∷ zs) (map_both g xs ys)
+
+abbrev SameEdges : List Ending → Type 0
+SameEdges es = map narrow_edge es ≡ map edge_of es
+
+same_both : (es ds : List Ending) → SameEdges es → SameEdges ds → SameEdges (es ++ ds)
+same_both es ds h k =
+    map_both narrow_edge es ds ∙ ap (λ xs. xs ++ map narrow_edge ds) h ∙ ap (λ xs. map edge_of es ++ xs) k ∙ sym (map_both edge_of es ds)
+
+edge_small : (f : Func) → IsGoodFunction f → (from k : ℕ) → SameEdges (edge f from k)
+edge_small f good from k = by (phis_at f.blocks k) refl
+  where
+    by : (ps : List Phi) → phis_at f.blocks k ≡ ps → SameEdges (edge_with f from k ps)
+    by [] e = refl
+    by (p ∷ ps) e =
+        let few = phis_few f good k in
+        let long = ap length e in
+        let this : Ending = record { turn = false; weight = length (p ∷ ps); copies = entry_copies f from k; leave = GotoBlock k } in
+        let s = ending_small f good this (record { copies = entry_keeps f good from k; leaves = refl }) (omega (arith, few, long)) in
+        let with : List (Line ℕ) → VirtualBlock ℕ = λ ls. record { lines = ls; jump = jump_of (GotoBlock k) } in
+        ap (λ ls. with ls ∷ []) s.lines
+
+jump_edges_small : (f : Func) → IsGoodFunction f → (from : ℕ) (j : Jump) → SameEdges (jump_edges f from j)
+jump_edges_small f good from (Goto l) = refl
+jump_edges_small f good from (Branch on nonzero otherwise) =
+    same_both (edge f from (target f.blocks nonzero)) (edge f from (target f.blocks otherwise)) (edge_small f good from (target f.blocks nonzero)) (edge_small f good from (target f.blocks otherwise))
+jump_edges_small f good from (Return a) = refl
+jump_edges_small f good from Halt = refl
+
+end_edges_small : (f : Func) → IsGoodFunction f → (from : ℕ) (j : Option (Lined Jump)) → SameEdges (end_edges f from j)
+end_edges_small f good from None = refl
+end_edges_small f good from (Some j) = jump_edges_small f good from j.item
+
+edges_small : (f : Func) → IsGoodFunction f → (bs : List Block) → SameEdges (all_edges f bs)
+edges_small f good [] = refl
+edges_small f good (b ∷ bs) = same_both (block_edges f b) (all_edges f bs) (end_edges_small f good b.label b.jump) (edges_small f good bs)
+
+-- ---- all of it
+
+params_small : (f : Func) → IsGoodFunction f → (ps : List Param) → ((p : Param) → Among p ps → Among p f.params) → map narrow_parameter ps ≡ map parameter_of ps
+params_small f good [] sub = refl
+params_small f good (p ∷ ps) sub =
+    let low = own_temps f (record { line = p.line; temp = p.temp; class = p.class }) (among_left _ (flat_map param_definers f.params) (flat_map block_definers f.blocks) (param_among f.params p (sub p (inl refl)))) in
+    ap (λ n. record { place = n; class = p.class } ∷ map narrow_parameter ps) (register_small f good p.temp (own f p.temp low))
+    ∙ ap (λ xs. parameter_of p ∷ xs) (params_small f good ps (λ q a. sub q (inr a)))
+
+pub nothing_long : (f : Func) → IsGoodFunction f → narrow_code f (lowered f) ≡ selected f (lowered f)
+unfolding narrow_code selected lowered
+nothing_long f good =
+    let es = all_endings f 0 f.blocks in
+    let ds = all_edges f f.blocks in
+    let code : List (Destination ℕ) → List (VirtualBlock ℕ) → Code ℕ = λ ps bs. record { result = f.result; params = ps; blocks = bs } in
+    ap (λ ps. code ps (narrow_blocks f.blocks es ++ map narrow_edge ds)) (params_small f good f.params (λ p a. a))
+    ∙ ap (λ bs. code (map parameter_of f.params) (bs ++ map narrow_edge ds)) (blocks_small f good 0 f.blocks (λ b a. a))
+    ∙ ap (λ bs. code (map parameter_of f.params) (blocks_of f.blocks es ++ bs)) (edges_small f good f.blocks)
+
+pub is_selected : (f : Func) → IsGoodFunction f → (es ds : List Ending) → es ≡ all_endings f 0 f.blocks → ds ≡ all_edges f f.blocks → narrow_code f (record { endings = es; edges = ds }) ≡ selected f (lowered f)
+unfolding lowered
+is_selected f good es ds e d =
+    ap (λ xs. narrow_code f (record { endings = xs; edges = ds })) e
+    ∙ ap (λ xs. narrow_code f (record { endings = all_endings f 0 f.blocks; edges = xs })) d
+    ∙ nothing_long f good

@@ -1,0 +1,94 @@
+-- Virtual code with registers and weights of 32 bits: whatever is longer loses its high bits. Nothing is in a function of a good text, whose virtual code is then
+-- `selected`. No public promise names what stands here.
+use Rattle.std.specs.Prelude.{ℕ, ◌%◌, ◌^◌, true, List, [], ◌∷◌, ◌++◌, map}
+use Rattle.std.specs.Option.{option_map}
+use Rattle.il_ast.specs.declared.operand.Val.{Val}
+use Rattle.il_ast.specs.declared.operand.Val.TheVariants.{Int, Temp, Global}
+use Rattle.il_ast.specs.declared.operand.Dest.{Dest}
+use Rattle.il_ast.specs.declared.operand.Arg.{Arg}
+use Rattle.il_ast.specs.declared.instruction.Inst.{Inst}
+use Rattle.il_ast.specs.declared.instruction.Inst.TheVariants.{Unary, Binary, Alloc, Store, Blit, Call}
+use Rattle.il_ast.specs.declared.instruction.Lined.{Lined}
+use Rattle.il_ast.specs.declared.block.Block.{Block}
+use Rattle.il_ast.specs.declared.function.Param.{Param}
+use Rattle.il_ast.specs.declared.function.Func.{Func}
+use Rattle.il_ast.specs.Cost.{inst_weight}
+use Rattle.phi_copies.specs.declared.ending.Assignment.{Assignment}
+use Rattle.phi_copies.specs.declared.ending.Leave.{Leave}
+use Rattle.phi_copies.specs.declared.ending.Leave.TheVariants.{Goto, Branch, Return, Halt}
+use Rattle.phi_copies.specs.declared.ending.Ending.{Ending}
+use Rattle.phi_copies.specs.Endings.{Endings}
+use Rattle.vcode.specs.declared.place.Destination.{Destination}
+use Rattle.vcode.specs.declared.line.Line.{Line}
+use Rattle.vcode.specs.declared.line.Line.TheVariants.{Tick}
+use Rattle.vcode.specs.declared.code.Block.{Block as VirtualBlock}
+use Rattle.vcode.specs.declared.code.Code.{Code}
+use Rattle.select.specs.Selected.{operand_of, copy_lines, inst_lines, jump_of}
+
+abbrev pub narrow : ℕ → ℕ
+narrow n = n % 2 ^ 32
+
+-- ---- operands
+
+abbrev pub narrow_val : Val → Val
+narrow_val (Int n) = Int n
+narrow_val (Temp t) = Temp (narrow t)
+narrow_val (Global g) = Global g
+
+abbrev pub narrow_dest : Dest → Dest
+narrow_dest d = record { temp = narrow d.temp; class = d.class }
+
+abbrev pub narrow_arg : Arg → Arg
+narrow_arg a = record { class = a.class; value = narrow_val a.value }
+
+abbrev pub narrow_parameter : Param → Destination ℕ
+narrow_parameter p = record { place = narrow p.temp; class = p.class }
+
+-- ---- instructions
+
+abbrev pub narrow_inst : Inst → Inst
+narrow_inst (Unary to op a) = Unary (narrow_dest to) op (narrow_val a)
+narrow_inst (Binary to op a b) = Binary (narrow_dest to) op (narrow_val a) (narrow_val b)
+narrow_inst (Alloc to alignment size) = Alloc (narrow_dest to) alignment size
+narrow_inst (Store size a at) = Store size (narrow_val a) (narrow_val at)
+narrow_inst (Blit from to count) = Blit (narrow_val from) (narrow_val to) count
+narrow_inst (Call to callee args) = Call (option_map narrow_dest to) (narrow_val callee) (map narrow_arg args)
+
+abbrev pub narrow_turn : Lined Inst → List (Line ℕ)
+narrow_turn i = Tick true (narrow (inst_weight i.item)) ∷ inst_lines (narrow_inst i.item)
+
+abbrev pub narrow_turns : List (Lined Inst) → List (Line ℕ)
+narrow_turns [] = []
+narrow_turns (i ∷ insts) = narrow_turn i ++ narrow_turns insts
+
+-- ---- endings
+
+abbrev pub narrow_copies : List Assignment → List (Line ℕ)
+narrow_copies [] = []
+narrow_copies (c ∷ cs) = copy_lines (narrow c.to.temp) c.to.class (operand_of (narrow_val c.value)) ++ narrow_copies cs
+
+abbrev pub narrow_ending : Ending → List (Line ℕ)
+narrow_ending e = Tick e.turn (narrow e.weight) ∷ narrow_copies e.copies
+
+abbrev pub narrow_leave : Leave → Leave
+narrow_leave (Goto k) = Goto k
+narrow_leave (Branch on nonzero otherwise) = Branch (narrow_val on) nonzero otherwise
+narrow_leave (Return a) = Return (option_map narrow_val a)
+narrow_leave Halt = Halt
+
+-- ---- blocks
+
+abbrev pub narrow_block : Block → Ending → VirtualBlock ℕ
+narrow_block b e = record { lines = narrow_turns b.insts ++ narrow_ending e; jump = jump_of (narrow_leave e.leave) }
+
+abbrev pub narrow_edge : Ending → VirtualBlock ℕ
+narrow_edge e = record { lines = narrow_ending e; jump = jump_of (narrow_leave e.leave) }
+
+abbrev pub narrow_blocks : List Block → List Ending → List (VirtualBlock ℕ)
+narrow_blocks [] es = []
+narrow_blocks (b ∷ bs) [] = []
+narrow_blocks (b ∷ bs) (e ∷ es) = narrow_block b e ∷ narrow_blocks bs es
+
+unfoldable pub narrow_code : Func → Endings → Code ℕ
+narrow_code f code =
+    record { result = f.result; params = map narrow_parameter f.params; blocks = narrow_blocks f.blocks code.endings ++ map narrow_edge code.edges }

@@ -1,0 +1,98 @@
+//! Lines of instructions.
+ghost use Rattle.std.specs.Prelude.{◌≡◌, ◌++◌, OnOk};
+ghost use Rattle.il_ast.specs.Cost.{inst_weight};
+ghost use Rattle.select.specs.Selected.{inst_lines};
+ghost use Rattle.select.specs.Narrow.{narrow, narrow_inst, narrow_turn, narrow_turns};
+
+use crate::operand::{arguments, low_bits, operand, register, wanted};
+use crate::operation::{push_binary, push_unary};
+use il_ast::instruction::{Inst, Lined};
+use il_ast::list::Seq;
+use std::alloc::{AllocError, Global};
+use vcode::line::Line;
+
+/// What an instruction weighs.
+fn weight(inst: &Inst) -> u32
+    ensures { result ≡ narrow (inst_weight inst.now) }
+{
+    match inst {
+        Inst::Call { args, .. } => low_bits(1 + args.as_slice().len() as u64),
+        Inst::Blit { count, .. } => low_bits(1 + count.div_ceil(8)),
+        _ => 1,
+    }
+}
+
+/// Puts the lines of an instruction behind the others.
+fn push_inst(alloc: Global, lines: &mut Seq<Line<u32>>, inst: &Inst) -> Result<(), AllocError>
+    ensures { OnOk result (lines.new ≡ lines.old ++ inst_lines (narrow_inst inst.now)) }
+{
+    match inst {
+        Inst::Unary { to, op, value } => {
+            push_unary(lines, register(to.temp), *op, to.class, operand(*value))
+        }
+        Inst::Binary {
+            to,
+            op,
+            left,
+            right,
+        } => push_binary(
+            lines,
+            register(to.temp),
+            *op,
+            to.class,
+            operand(*left),
+            operand(*right),
+        ),
+        Inst::Alloc { to, size, .. } => lines.push(Line::Alloc {
+            to: register(to.temp),
+            size: *size,
+        }),
+        Inst::Store { size, value, at } => lines.push(Line::Store {
+            size: *size,
+            value: operand(*value),
+            at: operand(*at),
+        }),
+        Inst::Blit { from, to, count } => lines.push(Line::Blit {
+            from: operand(*from),
+            to: operand(*to),
+            count: *count,
+        }),
+        Inst::Call { to, callee, args } => {
+            let args = arguments(alloc, args.as_slice())?;
+            lines.push(Line::Call {
+                to: wanted(*to),
+                callee: operand(*callee),
+                args,
+            })
+        }
+    }
+}
+
+/// Puts an instruction's turn behind the others.
+fn push_turn(
+    alloc: Global,
+    lines: &mut Seq<Line<u32>>,
+    inst: &Lined<Inst>,
+) -> Result<(), AllocError>
+    ensures { OnOk result (lines.new ≡ lines.old ++ narrow_turn inst.now) }
+{
+    lines.push(Line::Tick {
+        turn: true,
+        weight: weight(&inst.item),
+    })?;
+    push_inst(alloc, lines, &inst.item)
+}
+
+/// Puts the turns of a block's instructions behind the others.
+pub(crate) fn push_turns(
+    alloc: Global,
+    lines: &mut Seq<Line<u32>>,
+    insts: &[Lined<Inst>],
+) -> Result<(), AllocError>
+    ensures { OnOk result (lines.new ≡ lines.old ++ narrow_turns insts.now) }
+{
+    for inst in insts {
+        push_turn(alloc, lines, inst)?;
+    }
+    Ok(())
+}

@@ -1,0 +1,101 @@
+//! Operands, and numbers of 32 bits. In a function of a good text no number is longer.
+ghost use Rattle.std.specs.Prelude.{◌≡◌, ◌++◌, map, IfOk, OnOk};
+ghost use Rattle.std.specs.Option.{option_map};
+ghost use Rattle.select.specs.Selected.{operand_of, destination_of, argument_of};
+ghost use Rattle.select.specs.Narrow.{narrow, narrow_val, narrow_dest, narrow_arg, narrow_parameter};
+
+use il_ast::function::Param;
+use il_ast::list::Seq;
+use il_ast::operand::{Arg, Dest, Val};
+use il_ast::temp::Temp;
+use std::alloc::{AllocError, Global};
+use vcode::place::{Argument, Destination, Operand};
+
+/// The low 32 bits of a number.
+pub(crate) fn low_bits(number: u64) -> u32
+    ensures { result ≡ narrow number }
+{
+    (number % 0x1_0000_0000) as u32
+}
+
+/// The virtual register of a temporary.
+pub(crate) fn register(temp: Temp) -> u32
+    ensures { result ≡ narrow temp }
+{
+    low_bits(temp.number() as u64)
+}
+
+pub(crate) fn operand(value: Val) -> Operand<u32>
+    ensures { result ≡ operand_of (narrow_val value) }
+{
+    match value {
+        Val::Int(number) => Operand::Number(number),
+        Val::Temp(temp) => Operand::At(register(temp)),
+        Val::Global(name) => Operand::Name(name),
+    }
+}
+
+/// Where a call's result goes, if it is wanted.
+pub(crate) fn wanted(to: Option<Dest>) -> Option<Destination<u32>>
+    ensures { result ≡ option_map destination_of (option_map narrow_dest to) }
+{
+    match to {
+        Some(dest) => Some(Destination {
+            place: register(dest.temp),
+            class: dest.class,
+        }),
+        None => None,
+    }
+}
+
+fn push_arguments(made: &mut Seq<Argument<u32>>, args: &[Arg]) -> Result<(), AllocError>
+    ensures { OnOk result (made.new ≡ made.old ++ map argument_of (map narrow_arg args.now)) }
+{
+    for arg in args {
+        let value = operand(arg.value);
+        made.push(Argument {
+            class: arg.class,
+            value,
+        })?;
+    }
+    Ok(())
+}
+
+/// The arguments of a call.
+pub(crate) fn arguments(alloc: Global, args: &[Arg]) -> Result<Seq<Argument<u32>>, AllocError>
+    ensures { IfOk result (λ made. made ≡ map argument_of (map narrow_arg args.now)) }
+{
+    let mut made = Seq::new(alloc);
+    push_arguments(&mut made, args)?;
+    Ok(made)
+}
+
+fn parameter(param: &Param) -> Destination<u32>
+    ensures { result ≡ narrow_parameter param.now }
+{
+    Destination {
+        place: register(param.temp),
+        class: param.class,
+    }
+}
+
+fn push_parameters(made: &mut Seq<Destination<u32>>, params: &[Param]) -> Result<(), AllocError>
+    ensures { OnOk result (made.new ≡ made.old ++ map narrow_parameter params.now) }
+{
+    for param in params {
+        made.push(parameter(param))?;
+    }
+    Ok(())
+}
+
+/// The registers of a function's parameters.
+pub(crate) fn parameters(
+    alloc: Global,
+    params: &[Param],
+) -> Result<Seq<Destination<u32>>, AllocError>
+    ensures { IfOk result (λ made. made ≡ map narrow_parameter params.now) }
+{
+    let mut made = Seq::new(alloc);
+    push_parameters(&mut made, params)?;
+    Ok(made)
+}

@@ -1,0 +1,121 @@
+//! Virtual code, made from functions without phis.
+ghost use Rattle.std.specs.Prelude.{◌≡◌, ◌≤◌, ◌+◌, ◌++◌, length, map, IfOk, OnOk};
+ghost use Rattle.il_ast.specs.Cost.{phi_count};
+ghost use Rattle.phi_copies.specs.Lowered.{lowered};
+ghost use Rattle.select.specs.Selected.{selected};
+ghost use Rattle.select.specs.Narrow.{narrow_block, narrow_edge, narrow_blocks, narrow_code};
+ghost use Rattle.select.specs.Keeping.{KeepsVirtual};
+
+use crate::instruction::push_turns;
+use crate::leave::{jump_of, push_ending};
+use crate::operand::{low_bits, parameters};
+use il_ast::block::Block as SourceBlock;
+use il_ast::function::Func;
+use il_ast::list::Seq;
+use phi_copies::ending::Ending;
+use phi_copies::no_phi::NoPhi;
+use std::alloc::{AllocError, Global};
+use vcode::code::{Block, Code};
+use vcode::function::VFunc;
+
+fn block_of(alloc: Global, block: &SourceBlock, ending: &Ending) -> Result<Block<u32>, AllocError>
+    ensures { IfOk result (λ made. made ≡ narrow_block block.now ending.now) }
+{
+    let mut lines = Seq::new(alloc);
+    push_turns(alloc, &mut lines, block.insts.as_slice())?;
+    push_ending(&mut lines, ending)?;
+    Ok(Block {
+        lines,
+        jump: jump_of(ending.leave),
+    })
+}
+
+/// A block with an ending alone.
+fn edge_of(alloc: Global, ending: &Ending) -> Result<Block<u32>, AllocError>
+    ensures { IfOk result (λ made. made ≡ narrow_edge ending.now) }
+{
+    let mut lines = Seq::new(alloc);
+    push_ending(&mut lines, ending)?;
+    Ok(Block {
+        lines,
+        jump: jump_of(ending.leave),
+    })
+}
+
+/// Puts each block with its ending behind the others.
+fn push_blocks(
+    alloc: Global,
+    made: &mut Seq<Block<u32>>,
+    blocks: &[SourceBlock],
+    endings: &[Ending],
+) -> Result<(), AllocError>
+    ensures { OnOk result (made.new ≡ made.old ++ narrow_blocks blocks.now endings.now) }
+{
+    for (number, block) in blocks.iter().enumerate() {
+        match endings.get(number) {
+            Some(ending) => made.push(block_of(alloc, block, ending)?)?,
+            None => return Ok(()),
+        }
+    }
+    Ok(())
+}
+
+fn push_edges(alloc: Global, made: &mut Seq<Block<u32>>, edges: &[Ending]) -> Result<(), AllocError>
+    ensures { OnOk result (made.new ≡ made.old ++ map narrow_edge edges.now) }
+{
+    for ending in edges {
+        made.push(edge_of(alloc, ending)?)?;
+    }
+    Ok(())
+}
+
+#[tactic(auto, unfolding(crate::specs::Narrow::narrow_code))]
+fn code_of(alloc: Global, source: &NoPhi<'_>) -> Result<Code<u32>, AllocError>
+    ensures { IfOk result (λ code. code ≡ narrow_code source.now.func.now (record { endings = source.now.endings; edges = source.now.edges })) }
+{
+    let params = parameters(alloc, source.func.params.as_slice())?;
+    let mut blocks = Seq::new(alloc);
+    push_blocks(
+        alloc,
+        &mut blocks,
+        source.func.blocks.as_slice(),
+        source.endings.as_slice(),
+    )?;
+    push_edges(alloc, &mut blocks, source.edges.as_slice())?;
+    Ok(Code {
+        result: source.func.result,
+        params,
+        blocks,
+    })
+}
+
+/// How many registers a function takes: one for each temporary, and one for each phi.
+fn count_registers(func: &Func) -> usize
+    requires { length func.now.temps + phi_count func.now ≤ 44000 }
+    ensures { result ≡ length func.now.temps + phi_count func.now }
+{
+    let mut number = func.temps.len();
+    for block in func.blocks.as_slice() {
+        number += block.phis.len();
+    }
+    number
+}
+
+/// The virtual code of a function without phis. It has a register for each temporary of the function and each phi, and does what the function means, turn for
+/// turn and for the same weight.
+///
+/// # Errors
+///
+/// Only where memory was refused.
+pub fn select(alloc: Global, source: &NoPhi<'_>) -> Result<VFunc, AllocError>
+    ensures code { IfOk result (λ v. v.code ≡ selected source.now.func.now (lowered source.now.func.now)) }
+    ensures registers { IfOk result (λ v. v.registers ≡ length source.now.func.now.temps + phi_count source.now.func.now) }
+    ensures keeps { IfOk result (λ v. KeepsVirtual source.now.func.now v.code) }
+{
+    let code = code_of(alloc, source)?;
+    let registers = count_registers(source.func);
+    Ok(VFunc {
+        code,
+        registers: low_bits(registers as u64),
+    })
+}
