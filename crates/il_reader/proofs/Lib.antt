@@ -28,3 +28,4 @@ pub mod MentionedNames
 pub mod Ordered
 pub mod Computed
 pub mod WholeText
+pub mod Written

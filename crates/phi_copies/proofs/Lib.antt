@@ -6,6 +6,7 @@ pub mod Carrying
 pub mod Counting
 pub mod EdgePlaces
 pub mod EntryNumbers
+pub mod GoodTexts
 pub mod Lowering
 pub mod MoreKnown
 pub mod PlaceTable
