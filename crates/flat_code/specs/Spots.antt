@@ -55,10 +55,10 @@ ShowsResult e p None (Some x) = ⊥
 ShowsResult e p (Some v) None = ⊥
 ShowsResult e p (Some v) (Some x) = Shows e p v x
 
--- a byte is itself, a part of a value the same byte of its number, a blank cell any byte
+-- a byte is itself, a part of a value the same byte of its number of 64 bits, a blank cell any byte
 abbrev pub ShowsCell : Entries → Bases → Cell → Spot → Type 0
 ShowsCell e p (Plain b) s = s ≡ Known b
-ShowsCell e p (Part v k) s = (x : ℕ) × Shows e p v x × (s ≡ Known (byte_at k x))
+ShowsCell e p (Part v k) s = (x : ℕ) × Shows e p v x × (x < 2 ^ 64) × (s ≡ Known (byte_at k x))
 ShowsCell e p Blank s = s ≢ Away
 
 -- ---- memory
@@ -67,13 +67,13 @@ ShowsCell e p Blank s = s ≢ Away
 pub record IsPlaced (p : Bases) (b : ℕ) (cells : List Cell) : Type 0 where
   pub base : ℕ
   pub is : p b ≡ Some base
-  pub some : 0 < length cells
   pub above_zero : 0 < base
   pub below_end : base + length cells < 2 ^ 64
 
--- each live block stands at its address, live blocks have no address in common, and known bytes are bytes
+-- each live block stands at its address, blocks not yet made have none, live blocks have no address in common, and known bytes are bytes
 pub record ShowsMemory (e : Entries) (p : Bases) (m : Memory) (f : Spots) : Type 0 where
   pub placed : (b : ℕ) (cells : List Cell) → block_at m b ≡ Some cells → IsPlaced p b cells
+  pub unmade : (b : ℕ) → length m ≤ b → p b ≡ None
   pub cells : (b a k : ℕ) (cells : List Cell) (c : Cell)
       → block_at m b ≡ Some cells
       → p b ≡ Some a

@@ -1,5 +1,5 @@
 -- What one turn does: one instruction, or one jump with the phis of the block that it enters (QBE IL, "Instructions", "Jumps", "Phi").
-use Rattle.std.specs.Prelude.{ℕ, ◌+◌, ◌/◌, nat_eq, if◌then◌else◌, List, [], ◌∷◌, ◌++◌, map, length, slice_get, slice_set, Option, Some, None}
+use Rattle.std.specs.Prelude.{ℕ, ◌+◌, ◌/◌, ◌%◌, ◌^◌, nat_eq, if◌then◌else◌, List, [], ◌∷◌, ◌++◌, map, length, slice_get, slice_set, Option, Some, None}
 use Rattle.std.specs.List.{position, find}
 use Rattle.std.specs.Option.{option_map, option_and_then, option_flatten}
 use Rattle.il_ast.specs.declared.operation.Class.{Class}
@@ -53,9 +53,9 @@ pub record Call : Type 0 where
 
 -- ---- operands
 
--- none for a temporary that is not assigned yet
+-- an integer modulo 2^64; none for a temporary that is not assigned yet
 abbrev pub value_at : List Value → List (Option Value) → Val → Option Value
-value_at globals temps (Int n) = Some (Integer n)
+value_at globals temps (Int n) = Some (Integer (n % 2 ^ 64))
 value_at globals temps (Temp t) = option_flatten (slice_get temps t)
 value_at globals temps (Global g) = slice_get globals g
 

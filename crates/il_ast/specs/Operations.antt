@@ -147,7 +147,7 @@ abbrev pub on_places : Memory → BinaryOp → Value → Value → Option Value
 on_places m Add (Pointer b o) (Integer n) = Some (Pointer b ((o + n) % 2 ^ 64))
 on_places m Add (Integer n) (Pointer b o) = Some (Pointer b ((o + n) % 2 ^ 64))
 on_places m Sub (Pointer b o) (Integer n) = Some (Pointer b ((o + (2 ^ 64 - n)) % 2 ^ 64))
-on_places m Sub (Pointer a o) (Pointer b q) = if nat_eq a b then Some (Integer ((o + (2 ^ 64 - q)) % 2 ^ 64)) else None
+on_places m Sub (Pointer a o) (Pointer b q) = if nat_eq a b then Some (Integer ((o + (2 ^ 64 - q % 2 ^ 64)) % 2 ^ 64)) else None
 on_places m (Compare on k) u v = option_map (λ t. Integer (truth t)) (compare_places m on u v)
 on_places m op u v = None
 

@@ -188,6 +188,20 @@ apart_at (None ∷ m) (q ∷ ps) h (suc b) (suc c) a d xs ys differ is also at d
 apart_at (Some zs ∷ m) (q ∷ ps) h (suc b) (suc c) a d xs ys differ is also at dt =
     apart_at m ps h.1 b c a d xs ys (λ e. differ (ap suc e)) is also at dt
 
+-- ---- blocks not yet made
+
+as_many : (e : Entries) (p : Bases) (f : Spots) (m : Memory) (places : List ℕ) → AllShow e p f m places → length places ≡ length m
+as_many e p f [] [] h = refl
+as_many e p f [] (at ∷ places) h = absurd h
+as_many e p f (b ∷ m) [] h = absurd h
+as_many e p f (None ∷ m) (at ∷ places) h = absurd h
+as_many e p f (Some cells ∷ m) (at ∷ places) h = ap suc (as_many e p f m places h.1)
+
+none_beyond : (places : List ℕ) (b : ℕ) → length places ≤ b → slice_get places b ≡ None
+none_beyond [] b h = refl
+none_beyond (at ∷ places) zero h = absurd (omega (arith, h))
+none_beyond (at ∷ places) (suc b) h = none_beyond places b (omega (arith, h))
+
 -- ---- the memory
 
 pub shows_all : (e : Entries) (places : List ℕ) (f : Spots) (m : Memory) → AllShow e (λ b. slice_get places b) f m places → AllApart m places → ((x n : ℕ) → f x ≡ Known n → n < 256) → ShowsMemory e (λ b. slice_get places b) m f
@@ -196,7 +210,8 @@ shows_all e places f m all apart bytes =
       placed =
           λ b cells is.
           let r = found_at e (λ k. slice_get places k) f m places all b cells is in
-          record { base = r.at; is = r.here; some = r.shows.some; above_zero = r.shows.above_zero; below_end = r.shows.below_end };
+          record { base = r.at; is = r.here; above_zero = r.shows.above_zero; below_end = r.shows.below_end };
+      unmade = λ b h. none_beyond places b (subst (λ n. n ≤ b) (sym (as_many e (λ k. slice_get places k) f m places all)) h);
       cells =
           λ b a k cells c is at found.
           let r = found_at e (λ j. slice_get places j) f m places all b cells is in

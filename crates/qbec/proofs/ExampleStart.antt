@@ -169,7 +169,7 @@ placed b cells h =
     let one = one_block b cells h in
     subst (λ cs. IsPlaced base b cs) one.1
     (subst (λ n. IsPlaced base n (replicate 8 (Plain 0))) (sym one.0)
-    (record { base = stack_top + 8; is = refl; some = lit< tt; above_zero = lit< tt; below_end = lit< tt }))
+    (record { base = stack_top + 8; is = refl; above_zero = lit< tt; below_end = lit< tt }))
 
 shown : (b a k : ℕ) (cells : List Cell) (c : Cell) → block_at (start_memory halts []) b ≡ Some cells → base b ≡ Some a → slice_get cells k ≡ Some c → ShowsCell entry base c (spot (a + k))
 shown b a k cells c h at found =
@@ -179,10 +179,15 @@ shown b a k cells c h at found =
     let place : stack_top + 8 ≡ a = cc in
     subst (λ d. ShowsCell entry base d (spot (a + k))) cell.1 (subst (λ x. spot (x + k) ≡ Known 0) place (spot_here k cell.0))
 
+unmade : (b : ℕ) → 1 ≤ b → base b ≡ None
+unmade zero h = absurd (omega (arith, h))
+unmade (suc b) h = refl
+
 memory : ShowsMemory entry base (start_memory halts []) spot
 memory =
     record {
       placed = placed;
+      unmade = unmade;
       cells = shown;
       apart = λ b c a d xs ys differ h k at dt. absurd (differ ((one_block b xs h).0 ∙ sym (one_block c ys k).0));
       bytes = λ x n h. subst (λ m. m < 256) (sym (spot_is x n h).zero_byte) (lit< tt);

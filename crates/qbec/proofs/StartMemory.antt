@@ -57,7 +57,7 @@ not_away s n h e = apart (sym h ∙ e)
 cell_shown : (e : Entries) (p q : Bases) → Grown p q → (f : Spots) (byte : ℕ → Option ℕ) (low high : ℕ) → DataKnown f byte low high → (at : ℕ) → low ≤ at → at < high → (c : Cell) → CellStands e p (byte at) c → ShowsCell e q c (f at)
 cell_shown e p q g f byte low high d at le lt (Plain b) h = d.known at le lt ∙ ap Known (d.same at b h)
 cell_shown e p q g f byte low high d at le lt (Part v k) h =
-    (h.0, shows_grown e p q g v h.0 h.1, d.known at le lt ∙ ap Known (d.same at (byte_at k h.0) h.2))
+    (h.0, shows_grown e p q g v h.0 h.1, h.2, d.known at le lt ∙ ap Known (d.same at (byte_at k h.0) h.3))
 cell_shown e p q g f byte low high d at le lt Blank h = not_away (f at) (d.bytes at) (d.known at le lt)
 
 cells_shown : (e : Entries) (p q : Bases) → Grown p q → (f : Spots) (byte : ℕ → Option ℕ) (low high : ℕ) → DataKnown f byte low high → (cells : List Cell) (at : ℕ) → low ≤ at → at + length cells ≤ high → CellsStand e p byte cells at → SpotsShow e q f cells at

@@ -1,5 +1,5 @@
 -- Where an executable's functions and data stand, and what its file owes of the data.
-use Rattle.std.specs.Prelude.{◌≡◌, ℕ, ◌+◌, ◌*◌, ◌<◌, ◌≤◌, ◌&&◌, ◌||◌, nat_le, nat_lt, if◌then◌else◌, List, [], ◌∷◌, ◌++◌, length, map, slice_get, Option, Some}
+use Rattle.std.specs.Prelude.{◌≡◌, ℕ, ◌+◌, ◌*◌, ◌^◌, ◌<◌, ◌≤◌, ◌&&◌, ◌||◌, nat_le, nat_lt, if◌then◌else◌, List, [], ◌∷◌, ◌++◌, length, map, slice_get, Option, Some}
 use Rattle.std.specs.Int.{byte_at}
 use Rattle.il_ast.specs.declared.program.Program.{Program}
 use Rattle.il_ast.specs.declared.value.Cell.{Cell}
@@ -24,7 +24,7 @@ pub record Places : Type 0 where
 -- a blank cell may be any byte
 abbrev pub CellStands : Entries → Bases → Option ℕ → Cell → Type 0
 CellStands e p found (Plain b) = found ≡ Some b
-CellStands e p found (Part v k) = (x : ℕ) × Shows e p v x × (found ≡ Some (byte_at k x))
+CellStands e p found (Part v k) = (x : ℕ) × Shows e p v x × (x < 2 ^ 64) × (found ≡ Some (byte_at k x))
 CellStands e p found Blank = Unit {0}
 
 -- cells from an address upward

@@ -1,5 +1,5 @@
 -- At most how many instructions of the machine a line becomes, wherever its places are; and that the weight of ticks pays for them, 32 for each unit.
-use Rattle.std.specs.Prelude.{ℕ, ◌+◌, ◌-◌, ◌*◌, ◌/◌, ◌^◌, Bool, ◌&&◌, ◌||◌, nat_lt, nat_le, if◌then◌else◌, List, [], ◌∷◌, length, Option, Some, None}
+use Rattle.std.specs.Prelude.{ℕ, ◌+◌, ◌-◌, ◌*◌, ◌/◌, ◌%◌, ◌^◌, Bool, ◌&&◌, ◌||◌, nat_lt, nat_le, if◌then◌else◌, List, [], ◌∷◌, length, Option, Some, None}
 use Rattle.vcode.specs.declared.place.Operand.{Operand}
 use Rattle.vcode.specs.declared.place.Operand.TheVariants.{At, Number, Name}
 use Rattle.vcode.specs.declared.line.Operation.{Operation}
@@ -10,9 +10,9 @@ use Rattle.vcode.specs.declared.line.Jump.{Jump}
 use Rattle.vcode.specs.declared.line.Jump.TheVariants.{Goto, Branch, Return, Halt}
 use Rattle.vcode.specs.declared.code.Block.{Block}
 
--- a number that one immediate of 12 bits gives
+-- a number that one immediate of 12 bits gives, modulo 2^64
 abbrev pub is_immediate : ℕ → Bool
-is_immediate n = nat_lt n 2048 || nat_le (2 ^ 64 - 2048) n
+is_immediate n = nat_lt (n % 2 ^ 64) 2048 || nat_le (2 ^ 64 - 2048) (n % 2 ^ 64)
 
 -- to have an operand in a register: from a far slot three, a number one or nine, an address two
 abbrev pub operand_cost : {P : Type 0} → Operand P → ℕ

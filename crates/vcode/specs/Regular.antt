@@ -3,7 +3,7 @@ use Rattle.std.specs.Prelude.{ℕ, Bool, true, false, not, ◌&&◌, nat_lt, nat
 use Rattle.std.specs.List.{list_all, list_any, sum_by}
 use Rattle.il_ast.specs.Cost.{round_16}
 use Rattle.vcode.specs.declared.line.Line.{Line}
-use Rattle.vcode.specs.declared.line.Line.TheVariants.{Tick, Alloc}
+use Rattle.vcode.specs.declared.line.Line.TheVariants.{Tick, Alloc, Call}
 use Rattle.vcode.specs.declared.line.Jump.{Jump}
 use Rattle.vcode.specs.declared.line.Jump.TheVariants.{Goto, Branch}
 use Rattle.vcode.specs.declared.code.Block.{Block}
@@ -41,6 +41,19 @@ abbrev pub turns_of : {P : Type 0} → Line P → ℕ
 turns_of (Tick true w) = 1
 turns_of l = 0
 
+-- a call passes at most as many arguments as a function has parameters
+abbrev pub passes_few : {P : Type 0} → Line P → Bool
+passes_few (Call to callee args) = nat_le (length args) 64
+passes_few l = true
+
+abbrev pub weight_of : {P : Type 0} → Line P → ℕ
+weight_of (Tick turn w) = w
+weight_of l = 0
+
+-- the weight of all ticks, each counted once
+abbrev pub code_weight : {P : Type 0} → Code P → ℕ
+code_weight f = sum_by (λ b. sum_by weight_of b.lines) f.blocks
+
 pub record IsRegular {P : Type 0} (f : Code P) : Type 0 where
   pub few_params : IsTrue (nat_le (length f.params) 64)
   pub inside : IsTrue (list_all (λ b. leads_inside (length f.blocks) b.jump) f.blocks)
@@ -48,3 +61,5 @@ pub record IsRegular {P : Type 0} (f : Code P) : Type 0 where
   pub small : IsTrue (nat_le (area f) 1048576)
   pub paid : IsTrue (list_all is_paid f.blocks)
   pub paced : IsTrue (list_all (λ b. nat_le (sum_by turns_of b.lines) 40000) f.blocks)
+  pub few_args : IsTrue (list_all (λ b. list_all passes_few b.lines) f.blocks)
+  pub light : IsTrue (nat_le (code_weight f) 40000)

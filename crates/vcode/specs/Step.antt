@@ -1,7 +1,7 @@
 -- What a line or a jump of the code does: one step into the next state, an end, or a call, for both kinds of places. A tick begins a turn of the source where it
 -- says so; no turn begins where none is left. Words are read by their low 32 bits. What reads an unknown
 -- place is undefined, but for `Set`, which makes its place unknown too.
-use Rattle.std.specs.Prelude.{ℕ, ◌+◌, ◌-◌, Bool, true, false, nat_eq, nat_lt, if◌then◌else◌, List, [], ◌∷◌, ◌++◌, map, length, slice_get, Option, Some, None}
+use Rattle.std.specs.Prelude.{ℕ, ◌+◌, ◌-◌, ◌%◌, ◌^◌, Bool, true, false, nat_eq, nat_lt, if◌then◌else◌, List, [], ◌∷◌, ◌++◌, map, length, slice_get, Option, Some, None}
 use Rattle.std.specs.Option.{option_map, option_and_then}
 use Rattle.il_ast.specs.declared.operation.Class.{Class}
 use Rattle.il_ast.specs.declared.operation.Class.TheVariants.{W}
@@ -59,7 +59,7 @@ begin c f i =
 
 abbrev pub value_of : {P : Type 0} → List Value → Values P → Operand P → Option Value
 value_of globals values (At p) = values p
-value_of globals values (Number n) = Some (Integer n)
+value_of globals values (Number n) = Some (Integer (n % 2 ^ 64))
 value_of globals values (Name g) = slice_get globals g
 
 -- an operand in a place of class k

@@ -1,5 +1,5 @@
 //! Functions in virtual code and in location code.
-ghost use Rattle.std.specs.Prelude.{IsTrue};
+ghost use Rattle.std.specs.Prelude.{◌<◌, IsTrue};
 ghost use Rattle.vcode.specs.Named.{keeps_places, is_below, is_place, are_low, are_near, are_distinct};
 ghost use Rattle.vcode.specs.Places.{virtual, located};
 ghost use Rattle.vcode.specs.Regular.{IsRegular};
@@ -13,6 +13,7 @@ use crate::place::Location;
 pub struct VFunc {
     pub code: Code<u32>,
     pub registers: u32,
+    pub ghost few: { registers < 65536 },
     pub ghost regular: { IsRegular code } by { Prim.hlevel props },
     pub ghost known: { IsTrue (keeps_places (is_below registers) code) },
     pub ghost low: { IsTrue (are_low code.params) },
@@ -25,6 +26,7 @@ pub struct VFunc {
 pub struct LFunc {
     pub code: Code<Location>,
     pub slots: u32,
+    pub ghost few: { slots < 65536 },
     pub ghost regular: { IsRegular code } by { Prim.hlevel props },
     pub ghost known: { IsTrue (keeps_places (is_place slots) code) },
     pub ghost near: { IsTrue (are_near code.params) },
