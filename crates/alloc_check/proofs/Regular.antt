@@ -18,7 +18,7 @@ use Rattle.vcode.specs.declared.code.Code.{Code}
 use Rattle.vcode.specs.Cost.{operand_cost, line_cost, jump_cost, affords, is_paid}
 use Rattle.vcode.specs.Named.{operand_keeps, wanted_keeps, line_keeps, jump_keeps, block_keeps, keeps_places, is_below, is_place, is_near, are_near, are_low, are_distinct}
 use Rattle.vcode.specs.Places.{virtual, located}
-use Rattle.vcode.specs.Regular.{leads_inside, is_alloc, allocs_first, alloc_bytes, area, turns_of, passes_few, weight_of, IsRegular}
+use Rattle.vcode.specs.Regular.{leads_inside, is_alloc, allocs_first, alloc_bytes, area, turns_of, passes_few, IsRegular}
 use Rattle.alloc_check.specs.Placed.{Layout, placed_operand, placed_argument, placed_destination, placed_line, placed_jump, placed_block, in_slots}
 
 -- ---- lists
@@ -135,16 +135,6 @@ few_same f (Alloc to size) = refl
 few_same f (Blit from to count) = refl
 few_same f (Call to callee args) = ap (λ n. nat_le n 64) (map_length (placed_argument f) args)
 
-weight_same : (f : Layout) (l : Line ℕ) → weight_of (placed_line f l) ≡ weight_of l
-weight_same f (Tick turn w) = refl
-weight_same f (Set to a) = refl
-weight_same f (Operate to op a b) = refl
-weight_same f (Load to op at) = refl
-weight_same f (Store size a at) = refl
-weight_same f (Alloc to size) = refl
-weight_same f (Blit from to count) = refl
-weight_same f (Call to callee args) = refl
-
 no_allocs_same : (f : Layout) (b : Block ℕ) → not (list_any is_alloc (placed_block f b).lines) ≡ not (list_any is_alloc b.lines)
 no_allocs_same f b = ap not (any_map is_alloc is_alloc (placed_line f) (alloc_same f) b.lines)
 
@@ -184,12 +174,6 @@ slots_regular v r =
           (all_map (λ (b : Block ℕ). list_all passes_few b.lines) (λ (b : Block Location). list_all passes_few b.lines) (placed_block Slot)
           (λ b. all_map passes_few passes_few (placed_line Slot) (few_same Slot) b.lines) v.blocks))
           r.few_args;
-      light =
-          subst (λ n. IsTrue (nat_le n 40000))
-          (sym
-          (sum_map (λ (b : Block ℕ). sum_by weight_of b.lines) (λ (b : Block Location). sum_by weight_of b.lines) (placed_block Slot)
-          (λ b. sum_map weight_of weight_of (placed_line Slot) (weight_same Slot) b.lines) v.blocks))
-          r.light;
     }
 
 -- ---- the places

@@ -17,6 +17,7 @@ use Rattle.il_ast.specs.declared.function.Func.{Func}
 use Rattle.il_ast.specs.Cost.{inst_weight, block_weight, weight, alloc_bytes as inst_bytes, alloc_area}
 use Rattle.il_types.specs.declared.rule.Rule.TheVariants.{AllocInEntry}
 use Rattle.il_types.specs.First.{when, first}
+use Rattle.il_types.specs.Rules.{has_few_args}
 use Rattle.il_types.specs.Sites.{jump_sites}
 use Rattle.il_types.specs.Locals.{is_alloc as is_alloc_inst, in_insts, has_wrong_size, wrong_alloc_in}
 use Rattle.phi_copies.specs.declared.ending.Assignment.{Assignment}
@@ -27,12 +28,12 @@ use Rattle.vcode.specs.declared.line.Line.{Line}
 use Rattle.vcode.specs.declared.line.Line.TheVariants.{Tick, Alloc, Store, Blit, Call}
 use Rattle.vcode.specs.declared.code.Block.{Block as VirtualBlock}
 use Rattle.vcode.specs.Cost.{is_paid}
-use Rattle.vcode.specs.Regular.{is_target as is_target_in, leads_inside, is_alloc, allocs_first, alloc_bytes, turns_of, IsRegular}
+use Rattle.vcode.specs.Regular.{is_target as is_target_in, leads_inside, is_alloc, allocs_first, alloc_bytes, turns_of, passes_few, IsRegular}
 use Rattle.select.specs.Selected.{operand_of, destination_of, argument_of, inst_lines, turn_lines, all_lines, copy_lines, assignment_lines, ending_lines, jump_of, block_of, edge_of, blocks_of, parameter_of, selected, binary_lines}
 use Rattle.select.proofs.Typing.{Among, neither_first, neither_second, not_broken, none_among}
 use Rattle.select.proofs.Paying.{ending_pays, insts_pay, end_ending_pays, edge_pays}
 use Rattle.select.proofs.EachBlock.{blocks_all, Branches, edge_for, edges_all, IsTarget, is_target}
-use Rattle.select.proofs.UsedPlaces.{copy_sets, unary_sets, binary_sets, no_alloc, no_area, no_turn, and_both}
+use Rattle.select.proofs.UsedPlaces.{copy_sets, unary_sets, binary_sets, no_alloc, no_area, no_turn, all_few, and_both}
 
 -- ---- tests
 
@@ -342,7 +343,56 @@ paced_blocks f good =
     (λ b m a le. le_true _ 40000 (few_turns f good b (block_ending f m b) a))
     (edges_all f is_paced f.blocks (λ b l p ps a br e. let one = ending_turns (edge_for f b.label (target f.blocks l) (p ∷ ps)) in le_true _ 40000 (omega (arith, one))))
 
+-- ---- the arguments of calls
+
+inst_few : (x : Inst) → has_few_args x ≡ true → list_all passes_few (inst_lines x) ≡ true
+inst_few (Unary to op a) h = all_few to.temp (operand_of a ∷ []) _ (unary_sets to.temp op to.class (operand_of a))
+inst_few (Binary to op a b) h = all_few to.temp (operand_of a ∷ operand_of b ∷ []) _ (binary_sets to.temp op to.class (operand_of a) (operand_of b))
+inst_few (AllocInst to alignment size) h = refl
+inst_few (StoreInst size a at) h = refl
+inst_few (BlitInst from to count) h = refl
+inst_few (CallInst to callee args) h = and_both (nat_le (length (map argument_of args)) 64) true (ap (λ n. nat_le n 64) (length-map args argument_of) ∙ h) refl
+
+all_both : (p : Line ℕ → Bool) (xs ys : List (Line ℕ)) → list_all p xs ≡ true → list_all p ys ≡ true → list_all p (xs ++ ys) ≡ true
+all_both p [] ys h k = k
+all_both p (x ∷ xs) ys h k = and_both (p x) (list_all p (xs ++ ys)) (and_left (p x) (list_all p xs) h) (all_both p xs ys (and_right (p x) (list_all p xs) h) k)
+
+copies_few : (cs : List Assignment) → list_all passes_few (assignment_lines cs) ≡ true
+copies_few [] = refl
+copies_few (c ∷ cs) =
+    all_both passes_few (copy_lines c.to.temp c.to.class (operand_of c.value)) (assignment_lines cs)
+    (all_few c.to.temp (operand_of c.value ∷ []) _ (copy_sets c.to.temp c.to.class (operand_of c.value))) (copies_few cs)
+
+insts_few : (insts : List (Lined Inst)) (rest : List (Line ℕ)) → list_all (λ (i : Lined Inst). has_few_args i.item) insts ≡ true → list_all passes_few rest ≡ true → list_all passes_few (all_lines insts ++ rest) ≡ true
+insts_few [] rest h k = k
+insts_few (i ∷ insts) rest h k =
+    ap (list_all passes_few) (append_assoc (turn_lines i) (all_lines insts) rest)
+    ∙ all_both passes_few (inst_lines i.item) (all_lines insts ++ rest)
+    (inst_few i.item (and_left (has_few_args i.item) (list_all (λ (x : Lined Inst). has_few_args x.item) insts) h))
+    (insts_few insts rest (and_right (has_few_args i.item) (list_all (λ (x : Lined Inst). has_few_args x.item) insts) h) k)
+
+abbrev calls_few : Block → Bool
+calls_few b = list_all (λ (i : Lined Inst). has_few_args i.item) b.insts
+
+all_among : (p : Block → Bool) (bs : List Block) (b : Block) → list_all p bs ≡ true → Among b bs → p b ≡ true
+all_among p [] b h a = absurd a
+all_among p (c ∷ bs) b h (inl e) = ap p e ∙ and_left (p c) (list_all p bs) h
+all_among p (c ∷ bs) b h (inr a) = all_among p bs b (and_right (p c) (list_all p bs) h) a
+
+few_blocks : (f : Func) → list_all calls_few f.blocks ≡ true → list_all (λ (b : VirtualBlock ℕ). list_all passes_few b.lines) (blocks_of f.blocks (all_endings f 0 f.blocks) ++ map edge_of (all_edges f f.blocks)) ≡ true
+few_blocks f h =
+    blocks_all f (λ (b : VirtualBlock ℕ). list_all passes_few b.lines) (0 + length (all_edges f f.blocks)) 0 f.blocks (map edge_of (all_edges f f.blocks)) refl
+    (λ b m a le. insts_few b.insts (ending_lines (block_ending f m b)) (all_among calls_few f.blocks b h a) (copies_few (block_ending f m b).copies))
+    (edges_all f (λ (b : VirtualBlock ℕ). list_all passes_few b.lines) f.blocks (λ b l p ps a br e. copies_few (edge_for f b.label (target f.blocks l) (p ∷ ps)).copies))
+
 -- ---- the whole
+
+calls_within : (f : Func) → IsGoodFunction f → list_all calls_few f.blocks ≡ true
+calls_within f good =
+    let behind_weight = and_right (nat_le (weight f) 40000) _ good.limits in
+    let behind_temps = and_right (nat_le (length f.temps) 4000) _ behind_weight in
+    let behind_params = and_right (nat_le (length f.params) 64) _ behind_temps in
+    and_right (nat_le (alloc_area f) 1048576) _ behind_params
 
 limits_of : (f : Func) → IsGoodFunction f → (length f.params ≤ 64) × (alloc_area f ≤ 1048576)
 limits_of f good =
@@ -365,6 +415,7 @@ regular f good =
       small = le_true _ 1048576 (omega (arith, bytes, all));
       paid = paid_blocks f;
       paced = paced_blocks f good;
+      few_args = few_blocks f (calls_within f good);
     }
 
 pub few_params : (f : Func) → IsGoodFunction f → length f.params ≤ 64

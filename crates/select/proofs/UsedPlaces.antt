@@ -15,7 +15,7 @@ use Rattle.vcode.specs.declared.place.Operand.TheVariants.{At, Number, Name}
 use Rattle.vcode.specs.declared.line.Line.{Line}
 use Rattle.vcode.specs.declared.line.Line.TheVariants.{Tick, Set, Operate, Load, Store, Alloc, Blit, Call}
 use Rattle.vcode.specs.Named.{operand_keeps, line_keeps}
-use Rattle.vcode.specs.Regular.{is_alloc, alloc_bytes, turns_of}
+use Rattle.vcode.specs.Regular.{is_alloc, alloc_bytes, turns_of, passes_few}
 use Rattle.select.specs.Selected.{extend_lines, copy_lines, unary_lines, binary_lines}
 use Rattle.select.proofs.Typing.{Among}
 
@@ -109,6 +109,17 @@ no_alloc t xs (Call to callee args ∷ ls) s = absurd s
 
 no_more : (m : Line ℕ → ℕ) (l : Line ℕ) (ls : List (Line ℕ)) → m l ≡ 0 → sum_by m ls ≡ 0 → sum_by m (l ∷ ls) ≡ 0
 no_more m l ls h k = let all = sum_by-cons m l ls in omega (arith, all, h, k)
+
+pub all_few : (t : ℕ) (xs : List (Operand ℕ)) (ls : List (Line ℕ)) → Sets t xs ls → list_all passes_few ls ≡ true
+all_few t xs [] s = refl
+all_few t xs (Tick turn w ∷ ls) s = absurd s
+all_few t xs (Set p a ∷ ls) s = all_few t xs ls s.2
+all_few t xs (Operate p op a b ∷ ls) s = all_few t xs ls s.3
+all_few t xs (Load p op a ∷ ls) s = all_few t xs ls s.2
+all_few t xs (Store size a at ∷ ls) s = absurd s
+all_few t xs (Alloc p size ∷ ls) s = absurd s
+all_few t xs (Blit from to count ∷ ls) s = absurd s
+all_few t xs (Call to callee args ∷ ls) s = absurd s
 
 pub no_area : (t : ℕ) (xs : List (Operand ℕ)) (ls : List (Line ℕ)) → Sets t xs ls → sum_by alloc_bytes ls ≡ 0
 no_area t xs [] s = refl

@@ -40,7 +40,7 @@ examples =
       weight_alone = (refl, refl);
       halt_ends = (refl, refl);
       nowhere = (refl, refl);
-      sum_is_regular = record { few_params = refl; inside = refl; first = refl; small = refl; paid = refl; paced = refl; few_args = refl; light = refl };
+      sum_is_regular = record { few_params = refl; inside = refl; first = refl; small = refl; paid = refl; paced = refl; few_args = refl };
       sum_names_two = refl;
       one_is_too_few = refl;
       caller_names_places = refl;

@@ -50,7 +50,7 @@ abbrev pub weight_of : {P : Type 0} → Line P → ℕ
 weight_of (Tick turn w) = w
 weight_of l = 0
 
--- the weight of all ticks, each counted once
+-- the weight of all ticks, each counted once. No type carries a bound of it: what takes code of at most a weight asks for that by name
 abbrev pub code_weight : {P : Type 0} → Code P → ℕ
 code_weight f = sum_by (λ b. sum_by weight_of b.lines) f.blocks
 
@@ -62,4 +62,3 @@ pub record IsRegular {P : Type 0} (f : Code P) : Type 0 where
   pub paid : IsTrue (list_all is_paid f.blocks)
   pub paced : IsTrue (list_all (λ b. nat_le (sum_by turns_of b.lines) 40000) f.blocks)
   pub few_args : IsTrue (list_all (λ b. list_all passes_few b.lines) f.blocks)
-  pub light : IsTrue (nat_le (code_weight f) 40000)
