@@ -85,6 +85,8 @@ pub record ShowsMemory (e : Entries) (p : Bases) (m : Memory) (f : Spots) : Type
       → block_at m c ≡ Some ys
       → p b ≡ Some a
       → p c ≡ Some d
+      → 0 < length xs
+      → 0 < length ys
       → (a + length xs ≤ d) ⊎ (d + length ys ≤ a)
   pub bytes : (x n : ℕ) → f x ≡ Known n → n < 256
 

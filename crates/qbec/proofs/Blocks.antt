@@ -31,7 +31,6 @@ shown_at e p f (x ∷ cells) at h (suc k) c found =
     subst (λ a. ShowsCell e p c (f a)) same (shown_at e p f cells (at + 1) h.1 k c found)
 
 pub record BlockShows (e : Entries) (p : Bases) (f : Spots) (cells : List Cell) (at : ℕ) : Type 0 where
-  pub some : 0 < length cells
   pub above_zero : 0 < at
   pub below_end : at + length cells < 2 ^ 64
   pub cells_show : SpotsShow e p f cells at
@@ -219,6 +218,6 @@ shows_all e places f m all apart bytes =
           let here : r.at ≡ a = cc in
           subst (λ x. ShowsCell e (λ j. slice_get places j) c (f (x + k))) here
           (shown_at e (λ j. slice_get places j) f cells r.at r.shows.cells_show k c found);
-      apart = λ b c a d xs ys differ is also at dt. apart_at m places apart b c a d xs ys differ is also at dt;
+      apart = λ b c a d xs ys differ is also at dt some other. apart_at m places apart b c a d xs ys differ is also at dt;
       bytes = bytes;
     }

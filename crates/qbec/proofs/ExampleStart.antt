@@ -189,7 +189,7 @@ memory =
       placed = placed;
       unmade = unmade;
       cells = shown;
-      apart = λ b c a d xs ys differ h k at dt. absurd (differ ((one_block b xs h).0 ∙ sym (one_block c ys k).0));
+      apart = λ b c a d xs ys differ h k at dt some other. absurd (differ ((one_block b xs h).0 ∙ sym (one_block c ys k).0));
       bytes = λ x n h. subst (λ m. m < 256) (sym (spot_is x n h).zero_byte) (lit< tt);
     }
 

@@ -12,3 +12,6 @@ pub mod Blocks
 pub mod StartBytes
 pub mod StartMemory
 pub mod Running
+pub mod PlacedWords
+pub mod NativeCode
+pub mod StartCode

@@ -15,7 +15,7 @@ use Rattle.il_ast.specs.declared.value.End.TheVariants.{Exit, Undefined}
 use Rattle.il_ast.specs.Memory.{Memory, block_at, span, cells_at, plain_bytes}
 use Rattle.il_ast.specs.Run.{nothing, Outcome, Ended, Callees}
 use Rattle.il_ast.specs.Meaning.{same_classes, result_fits, call_fits, answered, put_out, write_bytes, write_integer, write_call, exit_call, call_named}
-use Rattle.il_ast.specs.Keeps.{Asked}
+use Rattle.il_ast.specs.Keeps.{Asked, Passes, AreArgs}
 use Rattle.flat_code.specs.Spots.{Known, Spots, Bases, Entries, AllShow, ShowsCell, ShowsMemory}
 use Rattle.flat_code.specs.Flat.{FlatGiven, FlatOutcome, FlatEnded, ShowsOutcome}
 use Rattle.abi_frames.specs.Calls.{GoodStack, Ready}
@@ -151,21 +151,32 @@ goes_write_integer e p wants fits f m memory from (Integer n) x y h =
 goes_write_integer e p wants fits f m memory from (Pointer b o) x y h = goes_wrong e p wants f m _
 goes_write_integer e p wants fits f m memory from (Function g) x y h = goes_wrong e p wants f m _
 
-goes_write : (e : Entries) (p : Bases) (wants : Option Class) → result_fits wants (Some L) ≡ true → (f : Spots) (m : Memory) → ShowsMemory e p m f → (args : List Value) (xs : List ℕ) → AllShow e p args xs → Goes e p wants f m (write_call args m) (flat_write f xs)
-goes_write e p wants fits f m memory [] xs h = goes_wrong e p wants f m (flat_write f xs)
-goes_write e p wants fits f m memory (Pointer b o ∷ vs) xs h = goes_wrong e p wants f m (flat_write f xs)
-goes_write e p wants fits f m memory (Function g ∷ vs) xs h = goes_wrong e p wants f m (flat_write f xs)
-goes_write e p wants fits f m memory (Integer d ∷ []) xs h = goes_wrong e p wants f m (flat_write f xs)
-goes_write e p wants fits f m memory (Integer d ∷ from ∷ []) xs h = goes_wrong e p wants f m (flat_write f xs)
-goes_write e p wants fits f m memory (Integer d ∷ from ∷ count ∷ v ∷ vs) xs h = goes_wrong e p wants f m (flat_write f xs)
-goes_write e p wants fits f m memory (Integer d ∷ from ∷ count ∷ []) (z ∷ x ∷ y ∷ []) h =
+same_integer : (a b : ℕ) → Some (Integer a) ≡ Some (Integer b) → a ≡ b
+same_integer a b h = cc
+
+-- a word is below 2^32
+is_word : (d : ℕ) → Passes W (Integer d) → d % 2 ^ 32 ≡ d
+is_word d h = same_integer (d % 2 ^ 32) d h
+
+goes_write : (e : Entries) (p : Bases) (wants : Option Class) → result_fits wants (Some L) ≡ true → (f : Spots) (m : Memory) → ShowsMemory e p m f → (args : List Value) (xs : List ℕ) → AreArgs (W ∷ L ∷ L ∷ []) args → AllShow e p args xs → Goes e p wants f m (write_call args m) (flat_write f xs)
+goes_write e p wants fits f m memory [] xs typed h = goes_wrong e p wants f m (flat_write f xs)
+goes_write e p wants fits f m memory (Pointer b o ∷ vs) xs typed h = goes_wrong e p wants f m (flat_write f xs)
+goes_write e p wants fits f m memory (Function g ∷ vs) xs typed h = goes_wrong e p wants f m (flat_write f xs)
+goes_write e p wants fits f m memory (Integer d ∷ []) xs typed h = goes_wrong e p wants f m (flat_write f xs)
+goes_write e p wants fits f m memory (Integer d ∷ from ∷ []) xs typed h = goes_wrong e p wants f m (flat_write f xs)
+goes_write e p wants fits f m memory (Integer d ∷ from ∷ count ∷ v ∷ vs) xs typed h = goes_wrong e p wants f m (flat_write f xs)
+goes_write e p wants fits f m memory (Integer d ∷ from ∷ count ∷ []) (z ∷ x ∷ y ∷ []) typed h =
     subst (λ w. Goes e p wants f m (write_call (Integer d ∷ from ∷ count ∷ []) m) (flat_write f (w ∷ x ∷ y ∷ []))) (sym h.0)
+    (subst
+    (λ w. Goes e p wants f m (write_call (Integer d ∷ from ∷ count ∷ []) m)
+    (if nat_eq w 1 then (if nat_eq y 0 then flat_answered [] 0 f else flat_put_out y f (known_bytes f x y)) else flat_answered [] (2 ^ 64 - 9) f))
+    (sym (is_word d typed.0))
     (by_both (nat_eq d 1) (Goes e p wants f m) _ _ _ _ (goes_write_integer e p wants fits f m memory from count x y h.1)
-    (goes_answered e p wants fits f m memory [] (2 ^ 64 - 9)))
-goes_write e p wants fits f m memory (Integer d ∷ from ∷ count ∷ []) [] h = absurd h
-goes_write e p wants fits f m memory (Integer d ∷ from ∷ count ∷ []) (z ∷ []) h = absurd h.1
-goes_write e p wants fits f m memory (Integer d ∷ from ∷ count ∷ []) (z ∷ x ∷ []) h = absurd h.1.1
-goes_write e p wants fits f m memory (Integer d ∷ from ∷ count ∷ []) (z ∷ x ∷ y ∷ w ∷ ws) h = absurd h.1.1.1
+    (goes_answered e p wants fits f m memory [] (2 ^ 64 - 9))))
+goes_write e p wants fits f m memory (Integer d ∷ from ∷ count ∷ []) [] typed h = absurd h
+goes_write e p wants fits f m memory (Integer d ∷ from ∷ count ∷ []) (z ∷ []) typed h = absurd h.1
+goes_write e p wants fits f m memory (Integer d ∷ from ∷ count ∷ []) (z ∷ x ∷ []) typed h = absurd h.1.1
+goes_write e p wants fits f m memory (Integer d ∷ from ∷ count ∷ []) (z ∷ x ∷ y ∷ w ∷ ws) typed h = absurd h.1.1.1
 
 goes_exit : (e : Entries) (p : Bases) (wants : Option Class) (f : Spots) (m : Memory) (args : List Value) (xs : List ℕ) → AllShow e p args xs → Goes e p wants f m (exit_call args) (flat_exit xs)
 goes_exit e p wants f m [] xs h = goes_wrong e p wants f m (flat_exit xs)
@@ -193,7 +204,9 @@ write_kept c p natives calls sp i is =
     (λ fits q j grown shows good.
     let both = both_true (same_classes i.call.classes (W ∷ L ∷ L ∷ [])) (result_fits i.call.wants (Some L)) fits in
     let f = j.given.memory in
-    let goes = goes_write c.entries q i.call.wants both.1 f i.memory shows.given.memory i.call.args j.given.args shows.given.args in
+    let classes = same_classes_are i.call.classes (W ∷ L ∷ L ∷ []) both.0 in
+    let typed : AreArgs (W ∷ L ∷ L ∷ []) i.call.args = subst (λ cs. AreArgs cs i.call.args) classes shows.typed in
+    let goes = goes_write c.entries q i.call.wants both.1 f i.memory shows.given.memory i.call.args j.given.args typed shows.given.args in
     let here : c.entries SystemWrite ≡ Some j.at = subst (λ g. c.entries g ≡ Some j.at) is shows.at in
     let wanted : result_fits j.wants (Some L) ≡ true = subst (λ w. result_fits w (Some L) ≡ true) (sym shows.wants) both.1 in
     record {
@@ -203,7 +216,7 @@ write_kept c p natives calls sp i is =
       shows = goes.shows;
       performs =
           performed c j.at sp j.classes (W ∷ L ∷ L ∷ []) j.wants (Some L) j.given (flat_write f j.given.args) goes.went
-          (shows.classes ∙ same_classes_are i.call.classes (W ∷ L ∷ L ∷ []) both.0) wanted
+          (shows.classes ∙ classes) wanted
           (natives.write j.at sp j.given here (subst (λ r. GoodStack c.world sp r) (sym shows.given.room) good)) goes.either;
     })
     (λ misfit. undefined_kept c sp i nothing)

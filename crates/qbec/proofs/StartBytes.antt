@@ -47,7 +47,6 @@ words_shown e p f (w ∷ ws) at positive small h =
     let whole : length ((w ++ 0 ∷ []) ++ word_bytes ws) ≡ length (w ++ 0 ∷ []) + length (word_bytes ws) = length-append (w ++ 0 ∷ []) (word_bytes ws) in
     let cells : length (word_cells w) ≡ length w + 1 = length_word w in (
       record {
-        some = omega arith;
         above_zero = positive;
         below_end = omega arith;
         cells_show = plain_shown e p f (w ++ 0 ∷ []) at parts.0;

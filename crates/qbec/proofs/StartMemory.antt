@@ -73,12 +73,11 @@ objects_shown e p q g f byte low high positive small d cells (x ∷ ds) from (at
     let above = h.0 in
     let fits = h.1 in (
       record {
-        some = h.2;
         above_zero = omega arith;
         below_end = omega arith;
-        cells_show = cells_shown e p q g f byte low high d (cells x) at (omega arith) fits h.3;
+        cells_show = cells_shown e p q g f byte low high d (cells x) at (omega arith) fits h.2;
       },
-      objects_shown e p q g f byte low high positive small d cells ds (at + length (cells x)) places (omega arith) h.4,
+      objects_shown e p q g f byte low high positive small d cells ds (at + length (cells x)) places (omega arith) h.3,
     )
 
 objects_between : {D : Type 0} (e : Entries) (p : Bases) (byte : ℕ → Option ℕ) (high : ℕ) (cells : D → List Cell) (ds : List D) (from low : ℕ) (places : List ℕ) → low ≤ from → BlocksStand e p byte from high (map cells ds) places → Between low high (map (λ x. Some (cells x)) ds) places
@@ -87,7 +86,7 @@ objects_between e p byte high cells [] from low (at ∷ places) le h = absurd h
 objects_between e p byte high cells (x ∷ ds) from low [] le h = absurd h
 objects_between e p byte high cells (x ∷ ds) from low (at ∷ places) le h =
     let above = h.0 in
-    (omega arith, h.1, objects_between e p byte high cells ds (at + length (cells x)) low places (omega arith) h.4)
+    (omega arith, h.1, objects_between e p byte high cells ds (at + length (cells x)) low places (omega arith) h.3)
 
 objects_apart : {D : Type 0} (e : Entries) (p : Bases) (byte : ℕ → Option ℕ) (high : ℕ) (cells : D → List Cell) (ds : List D) (from : ℕ) (places : List ℕ) → BlocksStand e p byte from high (map cells ds) places → AllApart (map (λ x. Some (cells x)) ds) places
 objects_apart e p byte high cells [] from places h = tt
@@ -95,8 +94,8 @@ objects_apart e p byte high cells (x ∷ ds) from [] h = absurd h
 objects_apart e p byte high cells (x ∷ ds) from (at ∷ places) h =
     let next = at + length (cells x) in (
       apart_from next high at (length (cells x)) (inl (omega arith)) (map (λ y. Some (cells y)) ds) places
-          (objects_between e p byte high cells ds next next places (omega arith) h.4),
-      objects_apart e p byte high cells ds next places h.4,
+          (objects_between e p byte high cells ds next next places (omega arith) h.3),
+      objects_apart e p byte high cells ds next places h.3,
     )
 
 -- ---- the argument range
@@ -171,7 +170,7 @@ blocks_count : {D : Type 0} (e : Entries) (p : Bases) (byte : ℕ → Option ℕ
 blocks_count e p byte high cells [] from [] h = refl
 blocks_count e p byte high cells [] from (at ∷ places) h = absurd h
 blocks_count e p byte high cells (x ∷ ds) from [] h = absurd h
-blocks_count e p byte high cells (x ∷ ds) from (at ∷ places) h = ap suc (blocks_count e p byte high cells ds (at + length (cells x)) places h.4)
+blocks_count e p byte high cells (x ∷ ds) from (at ∷ places) h = ap suc (blocks_count e p byte high cells ds (at + length (cells x)) places h.3)
 
 pub objects_count : (p : Program) (at : Places) (x : Executable) → DataStands p at x → length p.objects ≡ length at.objects
 objects_count p at x there =
@@ -258,7 +257,6 @@ start_shown p at x words s starts there few short =
     let list_size = length_list (length p.objects) (length words) in
     let list_block : BlockShows e q f list (stack_top + 8) =
     record {
-      some = omega arith;
       above_zero = lit< tt;
       below_end = omega arith;
       cells_show = list_shown e q f words (length p.objects) end standing parts;

@@ -7,3 +7,4 @@ pub mod Whole
 pub mod Example
 pub mod Places
 pub mod Executable
+pub mod Executables

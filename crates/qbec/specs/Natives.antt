@@ -31,7 +31,7 @@ flat_put_out n f (Some bytes) = flat_answered bytes n f
 -- `write (w descriptor, l from, l count)`
 abbrev pub flat_write : Spots → List ℕ → FlatOutcome
 flat_write f (d ∷ from ∷ n ∷ []) =
-    if nat_eq d 1
+    if nat_eq (d % 2 ^ 32) 1
     then (if nat_eq n 0 then flat_answered [] 0 f else flat_put_out n f (known_bytes f from n))
     else flat_answered [] (2 ^ 64 - 9) f
 flat_write f args = FlatEnded nothing Undefined

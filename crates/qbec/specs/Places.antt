@@ -38,7 +38,7 @@ BlocksStand e p byte low high [] [] = Unit {0}
 BlocksStand e p byte low high [] (at ∷ places) = ⊥
 BlocksStand e p byte low high (cells ∷ blocks) [] = ⊥
 BlocksStand e p byte low high (cells ∷ blocks) (at ∷ places) =
-    (low ≤ at) × (at + length cells ≤ high) × (0 < length cells) × CellsStand e p byte cells at
+    (low ≤ at) × (at + length cells ≤ high) × CellsStand e p byte cells at
     × BlocksStand e p byte (at + length cells) high blocks places
 
 -- the data of the program stands in the executable, where it can be read and written, below the stack

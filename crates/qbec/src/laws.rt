@@ -4,6 +4,7 @@ ghost use Rattle.qbec.specs.Headline.{Executes};
 ghost use Rattle.qbec.specs.Whole.{ProgramIsExecuted};
 ghost use Rattle.qbec.specs.Executable.{ExecutableRuns};
 ghost use Rattle.qbec.specs.Example.{state};
+ghost use Rattle.qbec.specs.Executables.{PlacedNatives, PlacedStart};
 ghost use Rattle.il_ast.specs.ExamplePrograms.{halts};
 ghost use Rattle.std.specs.Prelude.{[]};
 
@@ -28,4 +29,12 @@ pub fn example_is_executed()
 /// comes to a call of `main`, the machine executes the program.
 pub fn executable_runs()
     ensures { ExecutableRuns }
+{}
+
+pub fn natives_perform()
+    ensures { PlacedNatives }
+{}
+
+pub fn start_runs()
+    ensures { PlacedStart }
 {}

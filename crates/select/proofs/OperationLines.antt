@@ -252,15 +252,15 @@ compare_yields c t p on k j a b u v x r q h =
 
 -- ---- one operand
 
-shifted_yields : (c : Setting) (t : State ℕ) (p : ℕ) (back : RegOp) (bits : ℕ) (a : Operand ℕ) (u y : Value) → Reads c.globals t.values a W u → ((n : ℕ) → u ≡ Integer (n % 2 ^ 32) → Integer (reg_value back (reg_value SllReg n bits) bits) ≡ y) → Yields c t (shifted p back bits a) p y
+shifted_yields : (c : Setting) (t : State ℕ) (p : ℕ) (back : RegOp) (bits : ℕ) → bits % 2 ^ 64 ≡ bits → (a : Operand ℕ) (u y : Value) → Reads c.globals t.values a W u → ((n : ℕ) → u ≡ Integer (n % 2 ^ 32) → Integer (reg_value back (reg_value SllReg n bits) bits) ≡ y) → Yields c t (shifted p back bits a) p y
 unfolding operate
-shifted_yields c t p back bits a u y r is =
+shifted_yields c t p back bits fits a u y r is =
     let w = is_word r.value u r.read_as in
     let n = w.number in
     yields_same c t (shifted p back bits a) p (Integer (reg_value back (reg_value SllReg n bits) bits)) y (is n w.read)
     (yields_two c t (Operate p (Reg SllReg) a (Number bits)) (Operate p (Reg back) (At p) (Number bits)) p (Integer (reg_value SllReg n bits)) (Integer (reg_value back (reg_value SllReg n bits) bits))
-    (operate_line c t p (Reg SllReg) a (Number bits) (Integer n) (Integer bits) (Integer (reg_value SllReg n bits)) (r.is ∙ ap Some w.is) refl refl)
-    (λ s m e. operate_line c s p (Reg back) (At p) (Number bits) (Integer (reg_value SllReg n bits)) (Integer bits) _ e refl refl))
+    (operate_line c t p (Reg SllReg) a (Number bits) (Integer n) (Integer bits) (Integer (reg_value SllReg n bits)) (r.is ∙ ap Some w.is) (ap (λ m. Some (Integer m)) fits) refl)
+    (λ s m e. operate_line c s p (Reg back) (At p) (Number bits) (Integer (reg_value SllReg n bits)) (Integer bits) _ e (ap (λ m. Some (Integer m)) fits) refl))
 
 -- the number that an extension gives
 wide : Class → Extension → ℕ → Value
@@ -290,17 +290,17 @@ extend_yields c t p SignedWord k a u x long r h =
     (ap (held W) w.read ∙ ap (λ j. held j (Integer (extended SignedWord j (w.number % 2 ^ 32)))) (sym long) ∙ ap (held k) (sym is))
     (as_word_yields c t p a u r)
 extend_yields c t p UnsignedWord k a u x long r h =
-    shifted_yields c t p SrlReg 32 a u (held k x) r
+    shifted_yields c t p SrlReg 32 refl a u (held k x) r
     (λ n is. ap Integer (back_32 n) ∙ ap (λ j. held j (Integer (extended UnsignedWord j (n % 2 ^ 32)))) (sym long)
     ∙ ap (held k) (sym (extended_is UnsignedWord k u x (n % 2 ^ 32) h is)))
 extend_yields c t p SignedHalf k a u x long r h =
-    shifted_yields c t p SraReg 48 a u (held k x) r
+    shifted_yields c t p SraReg 48 refl a u (held k x) r
     (λ n is. ap Integer (half_back n) ∙ half_held k n ∙ ap (held k) (sym (extended_is SignedHalf k u x (n % 2 ^ 32) h is)))
 extend_yields c t p UnsignedHalf k a u x long r h =
-    shifted_yields c t p SrlReg 48 a u (held k x) r
+    shifted_yields c t p SrlReg 48 refl a u (held k x) r
     (λ n is. ap Integer (back_48 n) ∙ small_held k (n % 2 ^ 32 % 2 ^ 16) (omega arith) ∙ ap (held k) (sym (extended_is UnsignedHalf k u x (n % 2 ^ 32) h is)))
 extend_yields c t p SignedByte k a u x long r h =
-    shifted_yields c t p SraReg 56 a u (held k x) r
+    shifted_yields c t p SraReg 56 refl a u (held k x) r
     (λ n is. ap Integer (byte_back n) ∙ byte_held k n ∙ ap (held k) (sym (extended_is SignedByte k u x (n % 2 ^ 32) h is)))
 extend_yields c t p UnsignedByte k a u x long r h =
     let w = is_word r.value u r.read_as in

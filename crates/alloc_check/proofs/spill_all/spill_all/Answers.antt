@@ -15,6 +15,7 @@ invariant_of-result c =
     let e = sym c.in_ok-code.ensures in
     let v = c.args.function.now.code in
     record {
+      few = c.args.function.now.few;
       regular = subst (λ (l : Code Location). IsRegular l) e (slots_regular v c.args.function.now.regular);
       known = subst (λ (l : Code Location). IsTrue (keeps_places (is_place c.args.function.now.registers) l)) e (slots_known c.args.function.now.registers v c.args.function.now.known);
       near = subst (λ (l : Code Location). IsTrue (are_near l.params)) e (slots_near v.params c.args.function.now.low);
