@@ -39,4 +39,4 @@ invariant_of-result c =
     let few = (is_small f s.good).temporaries in
     let many = c.low_bits.ensures ∙ small c.count_registers-registers.result (omega (arith, all, few)) ∙ all in
     let v = subst (λ n. IsVirtual c.in_ok-code.code n) (sym many) (subst (λ (x : Code ℕ). IsVirtual x (length f.temps + phi_count f)) (sym is) (is_virtual f s.good)) in
-    record { regular = v.regular; known = v.known; low = v.low; distinct = v.distinct }
+    record { few = omega (arith, many, few); regular = v.regular; known = v.known; low = v.low; distinct = v.distinct }
