@@ -15,3 +15,4 @@ pub mod Running
 pub mod PlacedWords
 pub mod NativeCode
 pub mod StartCode
+pub mod DataPlaced

@@ -1,15 +1,13 @@
 -- The words of `write` and `exit` perform the two, wherever the machine is called from.
-use Rattle.std.proofs.Common.{◌≡◌, ◌≢◌, ℕ, zero, suc, ◌+◌, ◌-◌, ◌*◌, ◌%◌, ◌^◌, ◌<◌, ◌≤◌, Bool, true, false, ◌&&◌, nat_le, List, [], ◌∷◌, ◌++◌, length, refl, sym, ◌∙◌, ap, subst, arith, lit<, lit≤}
+use Rattle.std.proofs.Common.{◌≡◌, ◌≢◌, ℕ, zero, suc, ◌+◌, ◌-◌, ◌%◌, ◌^◌, ◌<◌, ◌≤◌, Bool, true, false, ◌&&◌, nat_le, List, [], ◌∷◌, ◌++◌, refl, sym, ◌∙◌, ap, subst, arith, lit<, lit≤}
 use Rattle.std.proofs.lemmas.Bool.Decides.{nat_tests}
 use Rattle.std.proofs.lemmas.Int.{ints}
-use Rattle.std.specs.Prelude.{◌==◌, if◌then◌else◌, nat_eq, slice_get, pos, Option, Some, None, Result, Ok, Err}
+use Rattle.std.specs.Prelude.{◌==◌, if◌then◌else◌, nat_eq, slice_get, pos, Option, Some, None, Ok, Err}
 use Rattle.std.specs.Option.{option_map, option_and_then}
 use Rattle.bits.specs.Words.{sign_extended, Fits12}
-use Rattle.il_ast.specs.declared.operation.Class.{Class}
 use Rattle.il_ast.specs.declared.operation.Class.TheVariants.{W, L}
 use Rattle.il_ast.specs.declared.program.Program.{Program}
-use Rattle.il_ast.specs.declared.value.Callee.TheVariants.{Defined, SystemWrite, SystemExit}
-use Rattle.il_ast.specs.declared.value.End.TheVariants.{Exit, Undefined}
+use Rattle.il_ast.specs.declared.value.Callee.TheVariants.{Defined}
 use Rattle.il_ast.specs.Run.{nothing, one_call}
 use Rattle.rv_isa.specs.declared.instruction.Instr.{Instr}
 use Rattle.rv_isa.specs.declared.instruction.Instr.TheVariants.{Imm, Jalr, Ecall}
@@ -17,27 +15,27 @@ use Rattle.rv_isa.specs.declared.instruction.ImmOp.TheVariants.{Addi}
 use Rattle.rv_isa.specs.State.{State, updated}
 use Rattle.rv_isa.specs.Memory.{bytes_at, each_of, can_read}
 use Rattle.rv_isa.specs.Arithmetic.{moved}
-use Rattle.rv_isa.specs.Step.{Stop, Exited, Broken, Faulted, even_below, step}
+use Rattle.rv_isa.specs.Step.{Exited, Faulted, even_below, step}
 use Rattle.rv_isa.specs.declared.fault.Fault.TheVariants.{Fetch, Load as LoadFault}
-use Rattle.rv_isa.specs.Runs.{Stopped, runs, then_run, Comes}
+use Rattle.rv_isa.specs.Runs.{Stopped, runs, then_run}
 use Rattle.rv_isa.specs.Labelled.{Ground, Fixed, InstrAt}
 use Rattle.rv_isa.specs.Laid.{WordsStand}
 use Rattle.rv_isa.specs.Words.{Words}
 use Rattle.rv_isa.proofs.StepLemmas.{step_at}
-use Rattle.rv_isa.proofs.RunLemmas.{comes_here, comes_then, comes_by_step}
+use Rattle.rv_isa.proofs.RunLemmas.{comes_then, comes_by_step}
 use Rattle.asm_layout.proofs.Running.{instr_at}
-use Rattle.obj_link.specs.Image.{Contents, IsImage, code_start}
+use Rattle.obj_link.specs.Image.{IsImage}
 use Rattle.obj_link.specs.Natives.{start_words, write_words, exit_words, write_address, exit_address}
 use Rattle.obj_link.specs.Placed.{callee_address, functions_words, addresses_of, contents_of}
 use Rattle.elf_file.specs.Loaded.{Executable}
 use Rattle.elf_file.specs.Stands.{Stands}
 use Rattle.rv_machine.specs.Start.{Starts}
 use Rattle.flat_code.specs.Spots.{Spot, Away, Open, Known, Spots}
-use Rattle.flat_code.specs.Flat.{FlatGiven, FlatOutcome, FlatReturned, FlatEnded}
-use Rattle.abi_frames.specs.Calls.{World, IsUsable, HoldsSpots, GoodStack, Ready, Back, is_kept, passed}
-use Rattle.abi_frames.specs.Performs.{Returns, Stops, Performs, PerformsAt}
+use Rattle.flat_code.specs.Flat.{FlatGiven}
+use Rattle.abi_frames.specs.Calls.{World, HoldsSpots, Ready, is_kept}
+use Rattle.abi_frames.specs.Performs.{Returns, Performs}
 use Rattle.qbec.specs.Places.{setting_of}
-use Rattle.qbec.specs.Natives.{known_byte, known_bytes, flat_answered, flat_put_out, flat_write, flat_exit, NativesPerform}
+use Rattle.qbec.specs.Natives.{known_byte, known_bytes, flat_answered, flat_put_out, flat_write, flat_exit}
 use Rattle.qbec.specs.Executables.{places_of, PlacedNatives}
 use Rattle.qbec.proofs.PlacedWords.{ground_of, words_stand}
 
@@ -181,8 +179,8 @@ write_returns w sp j s stand ready all out n small puts asks =
     let at2 : write_address + 8 ≡ s2.pc = ap (λ a. ((a + 4) % 2 ^ 64 + 4) % 2 ^ 64) (sym ready.place) in
     let back : even_below (moved (s.registers 1) (pos 0)) ≡ s.registers 1 = even_is (s.registers 1) (fixed.words 1) ready.return_address in
     let third : step s2 ≡ Ok s3 =
-        step_at g s2 go_back (answered_fixed g s all n small fixed) (subst (λ a. InstrAt g a go_back) at2 stand.third)
-        ∙ jumps s2 (even_below (moved (s.registers 1) (pos 0))) (s.registers 1) back ready.return_address in
+    step_at g s2 go_back (answered_fixed g s all n small fixed) (subst (λ a. InstrAt g a go_back) at2 stand.third)
+    ∙ jumps s2 (even_below (moved (s.registers 1) (pos 0))) (s.registers 1) back ready.return_address in
     record {
       steps = 3;
       after = s3;
@@ -366,7 +364,7 @@ main_of p codes = callee_address (addresses_of p codes) (Defined p.main)
 write_stands : (p : Program) (codes : List Words) (x : Executable) (words : List (List ℕ)) (s : State) → IsImage (contents_of p codes) → Stands (contents_of p codes) x → Starts x words s → Standing (ground_of s)
 write_stands p codes x words s good stands starts =
     let here : WordsStand (ground_of s) write_address write_words =
-        words_stand (contents_of p codes) x words s good stands starts (start_words (main_of p codes)) write_words (exit_words ++ behind_start p codes) refl in
+    words_stand (contents_of p codes) x words s good stands starts (start_words (main_of p codes)) write_words (exit_words ++ behind_start p codes) refl in
     record {
       first = instr_at (ground_of s) write_address write_words 0 number_of_write here refl;
       second = instr_at (ground_of s) write_address write_words 1 Ecall here refl;
@@ -376,7 +374,7 @@ write_stands p codes x words s good stands starts =
 exit_stands : (p : Program) (codes : List Words) (x : Executable) (words : List (List ℕ)) (s : State) → IsImage (contents_of p codes) → Stands (contents_of p codes) x → Starts x words s → StandingExit (ground_of s)
 exit_stands p codes x words s good stands starts =
     let here : WordsStand (ground_of s) exit_address exit_words =
-        words_stand (contents_of p codes) x words s good stands starts (start_words (main_of p codes) ++ write_words) exit_words (behind_start p codes) refl in
+    words_stand (contents_of p codes) x words s good stands starts (start_words (main_of p codes) ++ write_words) exit_words (behind_start p codes) refl in
     record { first = instr_at (ground_of s) exit_address exit_words 0 number_of_exit here refl; second = instr_at (ground_of s) exit_address exit_words 1 Ecall here refl }
 
 pub natives_perform : PlacedNatives

@@ -1,6 +1,6 @@
 -- The words of an executable's code stand in the memory of every start.
-use Rattle.std.proofs.Common.{◌≡◌, ℕ, zero, suc, ◌+◌, ◌*◌, ◌/◌, ◌%◌, ◌^◌, ◌<◌, ◌≤◌, Bool, true, ◌&&◌, nat_le, List, [], ◌∷◌, ◌++◌, length, refl, sym, ◌∙◌, ap, subst, arith}
-use Rattle.std.specs.Prelude.{slice_get, slice_index, Option, Some, None}
+use Rattle.std.proofs.Common.{◌≡◌, ℕ, zero, suc, ◌+◌, ◌*◌, ◌/◌, ◌%◌, ◌^◌, ◌<◌, Bool, true, ◌&&◌, nat_le, List, [], ◌∷◌, ◌++◌, length, ◌∙◌, ap, subst, arith}
+use Rattle.std.specs.Prelude.{slice_get, slice_index, Some}
 use Rattle.std.specs.Int.{byte_at}
 use Rattle.std.proofs.lemmas.Bool.Decides.{nat_tests}
 use Rattle.std.proofs.lemmas.List.{length-append}
@@ -10,7 +10,7 @@ use Rattle.rv_isa.specs.Memory.{number_at, each_of, allowed}
 use Rattle.rv_isa.specs.Labelled.{Ground}
 use Rattle.rv_isa.specs.Laid.{WordsStand}
 use Rattle.rv_isa.proofs.MemoryLemmas.{each_from}
-use Rattle.obj_link.specs.Image.{Contents, IsImage, code_start, code_size, data_start}
+use Rattle.obj_link.specs.Image.{Contents, IsImage, code_start}
 use Rattle.elf_file.specs.declared.flags.Flags.TheVariants.{Execute}
 use Rattle.elf_file.specs.Loaded.{Executable}
 use Rattle.elf_file.specs.Stands.{Stands}
@@ -64,8 +64,8 @@ word_executable image x words s good stands starts k within =
     let below = good.below_stack in
     let small : nat_le (code_start + 4 * k + 4) (2 ^ 64) ≡ true = grind (arith, nat_tests) in
     let each : each_of (λ a. (s.allows a).executable) (code_start + 4 * k) 4 ≡ true =
-        each_from (λ a. (s.allows a).executable) (code_start + 4 * k) 4
-        (λ a low high. ap (λ p. p.executable) (starts.permissions a Execute (stands.code_flags a (omega (arith, low)) (omega (arith, high, within))))) in
+    each_from (λ a. (s.allows a).executable) (code_start + 4 * k) 4
+    (λ a low high. ap (λ p. p.executable) (starts.permissions a Execute (stands.code_flags a (omega (arith, low)) (omega (arith, high, within))))) in
     both (nat_le (code_start + 4 * k + 4) (2 ^ 64)) (each_of (λ a. (s.allows a).executable) (code_start + 4 * k) 4) small each
   where
     both : (a b : Bool) → a ≡ true → b ≡ true → (a && b) ≡ true

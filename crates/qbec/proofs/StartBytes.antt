@@ -84,14 +84,14 @@ pointer_shown : (e : Entries) (p : Bases) (f : Spots) (b target at : ℕ) → ta
 pointer_shown e p f b target at small here h =
     let whole : target ≡ (target + 0) % 2 ^ 64 = omega arith in
     let v : (x : ℕ) × (p b ≡ Some x) × (target ≡ (x + 0) % 2 ^ 64) = (target, here, whole) in (
-      (target, v, h.0),
+      (target, v, small, h.0),
       (
-        (target, v, h.1.0),
+        (target, v, small, h.1.0),
         (
-          (target, v, h.1.1.0),
+          (target, v, small, h.1.1.0),
           (
-            (target, v, h.1.1.1.0),
-            ((target, v, h.1.1.1.1.0), ((target, v, h.1.1.1.1.1.0), ((target, v, h.1.1.1.1.1.1.0), ((target, v, h.1.1.1.1.1.1.1.0), tt)))),
+            (target, v, small, h.1.1.1.0),
+            ((target, v, small, h.1.1.1.1.0), ((target, v, small, h.1.1.1.1.1.0), ((target, v, small, h.1.1.1.1.1.1.0), ((target, v, small, h.1.1.1.1.1.1.1.0), tt)))),
           ),
         ),
       ),

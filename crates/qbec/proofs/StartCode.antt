@@ -1,16 +1,15 @@
 -- The start code calls `main` with the number of words and their list, and exits with what it returns.
-use Rattle.std.proofs.Common.{◌≡◌, ◌≢◌, ◌⊎◌, inl, inr, ℕ, zero, suc, ◌+◌, ◌-◌, ◌*◌, ◌/◌, ◌%◌, ◌^◌, ◌<◌, ◌≤◌, Bool, true, false, ◌&&◌, ◌||◌, nat_le, nat_lt, List, [], ◌∷◌, ◌++◌, length, refl, sym, ◌∙◌, ap, subst, arith, lit<, lit≤}
+use Rattle.std.proofs.Common.{◌≡◌, ◌≢◌, ◌⊎◌, inl, inr, ℕ, zero, suc, ◌+◌, ◌*◌, ◌/◌, ◌%◌, ◌^◌, ◌<◌, ◌≤◌, Bool, true, false, ◌&&◌, ◌||◌, nat_le, nat_lt, List, [], ◌∷◌, ◌++◌, length, refl, sym, ◌∙◌, ap, subst, arith, lit<, lit≤}
 use Rattle.std.proofs.lemmas.Bool.Decides.{nat_tests}
 use Rattle.std.proofs.lemmas.Int.{ints}
-use Rattle.std.specs.Prelude.{◌==◌, if◌then◌else◌, slice_get, slice_index, pos, Option, Some, None, Result, Ok, Err}
+use Rattle.std.specs.Prelude.{◌==◌, if◌then◌else◌, slice_get, slice_index, pos, Some, Ok, Err}
 use Rattle.std.specs.Int.{byte_at}
-use Rattle.bits.specs.Words.{sign_extended, Fits12}
+use Rattle.bits.specs.Words.{Fits12}
 use Rattle.il_ast.specs.declared.operation.Class.{Class}
 use Rattle.il_ast.specs.declared.operation.Class.TheVariants.{W, L}
 use Rattle.il_ast.specs.declared.function.Param.{Param}
 use Rattle.il_ast.specs.declared.program.Program.{Program}
-use Rattle.il_ast.specs.declared.value.Callee.TheVariants.{Defined}
-use Rattle.il_ast.specs.Meaning.{main_call, main_classes, params_of, stack_room}
+use Rattle.il_ast.specs.Meaning.{main_classes, params_of}
 use Rattle.rv_isa.specs.declared.permission.Permission.{Permission}
 use Rattle.rv_isa.specs.declared.ranges.Register.{Register}
 use Rattle.rv_isa.specs.declared.instruction.Instr.{Instr}
@@ -18,12 +17,12 @@ use Rattle.rv_isa.specs.declared.instruction.Instr.TheVariants.{Imm, Jalr, Ecall
 use Rattle.rv_isa.specs.declared.instruction.ImmOp.TheVariants.{Addi}
 use Rattle.rv_isa.specs.declared.instruction.LoadOp.TheVariants.{Ld}
 use Rattle.rv_isa.specs.State.{State, updated}
-use Rattle.rv_isa.specs.Memory.{number_at, each_of, can_read}
+use Rattle.rv_isa.specs.Memory.{number_at, can_read}
 use Rattle.rv_isa.specs.Arithmetic.{moved}
-use Rattle.rv_isa.specs.Start.{stack_top, stack_bottom, argument_bytes, word_bytes}
-use Rattle.rv_isa.specs.Step.{Stop, Exited, Faulted, even_below, step}
+use Rattle.rv_isa.specs.Start.{stack_top, argument_bytes, word_bytes}
+use Rattle.rv_isa.specs.Step.{Exited, Faulted, even_below, step}
 use Rattle.rv_isa.specs.declared.fault.Fault.TheVariants.{Fetch, Load as LoadFault}
-use Rattle.rv_isa.specs.Runs.{Stopped, runs, then_run, Comes}
+use Rattle.rv_isa.specs.Runs.{Comes}
 use Rattle.rv_isa.specs.Labelled.{Ground, Fixed, InstrAt, Gets}
 use Rattle.rv_isa.specs.Laid.{WordsStand}
 use Rattle.rv_isa.specs.Words.{Words}
@@ -31,18 +30,17 @@ use Rattle.rv_isa.proofs.StepLemmas.{step_at}
 use Rattle.rv_isa.proofs.MemoryLemmas.{each_from}
 use Rattle.rv_isa.proofs.RunLemmas.{comes_then, comes_by_step}
 use Rattle.asm_layout.proofs.Running.{instr_at, address_gets}
-use Rattle.obj_link.specs.Image.{Contents, IsImage, code_start}
+use Rattle.obj_link.specs.Image.{IsImage, code_start}
 use Rattle.obj_link.specs.Natives.{start_words, write_words, exit_words}
-use Rattle.obj_link.specs.Placed.{callee_address, contents_of, addresses_of}
+use Rattle.obj_link.specs.Placed.{contents_of, addresses_of}
 use Rattle.elf_file.specs.declared.flags.Flags.TheVariants.{ReadWrite}
-use Rattle.elf_file.specs.Loaded.{Executable, flags_in}
+use Rattle.elf_file.specs.Loaded.{Executable}
 use Rattle.elf_file.specs.Stands.{Stands}
 use Rattle.rv_machine.specs.Start.{Starts}
 use Rattle.rv_machine.proofs.Arguments.{arguments_length}
-use Rattle.flat_code.specs.Spots.{Spot, Away, Known, Spots}
-use Rattle.abi_frames.specs.Calls.{IsUsable, HoldsSpots, GoodStack, Ready, passed}
-use Rattle.qbec.specs.Knot.{Setting}
-use Rattle.qbec.specs.Places.{Places, DataStands, setting_of, start_spots}
+use Rattle.flat_code.specs.Spots.{Away, Known}
+use Rattle.abi_frames.specs.Calls.{IsUsable, passed}
+use Rattle.qbec.specs.Places.{Places, DataStands, start_spots}
 use Rattle.qbec.specs.Start.{ExitsWith}
 use Rattle.qbec.specs.Executable.{main_numbers, StartRuns}
 use Rattle.qbec.specs.Executables.{places_of}
@@ -84,7 +82,7 @@ start_stands : (p : Program) (codes : List Words) (x : Executable) (words : List
 start_stands p codes x words s good stands starts =
     let main = main_of p codes in
     let here : WordsStand (ground_of s) code_start (start_words main) =
-        words_stand (contents_of p codes) x words s good stands starts [] (start_words main) (write_words ++ (exit_words ++ behind_start p codes)) refl in
+    words_stand (contents_of p codes) x words s good stands starts [] (start_words main) (write_words ++ (exit_words ++ behind_start p codes)) refl in
     record {
       words = here;
       first = instr_at (ground_of s) code_start (start_words main) 0 load_count here refl;
@@ -150,7 +148,7 @@ lists : (g : Ground) (s : State) (n : ℕ) → n < 2 ^ 64 → Fixed g s → s.pc
 lists g s n small fixed place top stand =
     let next : code_start + 4 ≡ (s.pc + 4) % 2 ^ 64 = ap (λ a. (a + 4) % 2 ^ 64) (sym place) in
     let mid : Fixed g (counted s n) =
-        record { permissions = fixed.permissions; code_here = fixed.code_here; words = λ m. updated_fits s.registers 10 n m small fixed.words; small = fixed.small } in
+    record { permissions = fixed.permissions; code_here = fixed.code_here; words = λ m. updated_fits s.registers 10 n m small fixed.words; small = fixed.small } in
     step_at g (counted s n) take_list mid (subst (λ a. InstrAt g a take_list) next stand)
     ∙ ap (λ a. Ok (record s { pc = ((s.pc + 4) % 2 ^ 64 + 4) % 2 ^ 64; registers = updated (updated s.registers 10 n) 11 ((a + 8) % 2 ^ 64) })) top
 
@@ -193,7 +191,7 @@ calls g s main n fixed place top readable is few small aligned stand =
     let s2 = listed s n in
     let here : s2.pc ≡ code_start + 4 * 2 = ap (λ a. ((a + 4) % 2 ^ 64 + 4) % 2 ^ 64) place in
     let gets : Gets g 2 (code_start + 16) x5 main s2 =
-        address_gets g code_start (start_words main) x5 main 2 not_zero small stand.words (refl, (refl, tt)) s2 (listed_fixed g s n n_small fixed) here in
+    address_gets g code_start (start_words main) x5 main 2 not_zero small stand.words (refl, (refl, tt)) s2 (listed_fixed g s n n_small fixed) here in
     let u = gets.after in
     let last = enters g u main gets.fixed gets.place gets.value (omega (arith, small)) aligned stand.fifth in
     let count_few = gets.at_most in

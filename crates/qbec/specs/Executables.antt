@@ -1,5 +1,5 @@
 -- Where the functions and data of a placed program stand, and what its executable does of itself: its data, `write`, `exit` and the start code.
-use Rattle.std.specs.Prelude.{◌≡◌, ℕ, ◌+◌, ◌%◌, ◌^◌, ◌<◌, ◌≤◌, List, [], ◌∷◌, length, slice_get, Some}
+use Rattle.std.specs.Prelude.{◌≡◌, ℕ, ◌+◌, ◌%◌, ◌^◌, ◌<◌, ◌≤◌, List, length, slice_get, Some}
 use Rattle.il_ast.specs.declared.program.Program.{Program}
 use Rattle.il_ast.specs.declared.value.Callee.{Callee}
 use Rattle.il_ast.specs.declared.value.Callee.TheVariants.{Defined, SystemWrite, SystemExit}
@@ -8,11 +8,13 @@ use Rattle.rv_isa.specs.State.{State}
 use Rattle.rv_isa.specs.Start.{word_bytes}
 use Rattle.obj_link.specs.Image.{IsImage, data_start}
 use Rattle.obj_link.specs.Natives.{write_address, exit_address}
-use Rattle.obj_link.specs.Placed.{addresses_of, callee_address, contents_of}
+use Rattle.il_types.specs.declared.checked.Checked.{Checked}
+use Rattle.obj_link.specs.Placed.{addresses_of, callee_address, contents_of, FitsBelow, EveryCode}
+use Rattle.obj_link.specs.Program.{IsProgram}
 use Rattle.elf_file.specs.Loaded.{Executable}
 use Rattle.elf_file.specs.Stands.{Stands}
 use Rattle.rv_machine.specs.Start.{Starts}
-use Rattle.flat_code.specs.Spots.{Entries}
+use Rattle.flat_code.specs.Spots.{Entries, AreEntries}
 use Rattle.qbec.specs.Places.{Places, DataStands, setting_of}
 use Rattle.qbec.specs.Natives.{NativesPerform}
 use Rattle.qbec.specs.Executable.{StartRuns}
@@ -53,3 +55,20 @@ PlacedStart =
     → callee_address (addresses_of p codes) (Defined p.main) < 2 ^ 31
     → callee_address (addresses_of p codes) (Defined p.main) % 4 ≡ 0
     → StartRuns (places_of p codes) p words s
+
+-- what an executable of a program owes of its data and its addresses
+pub record StandsWell (p : Program) (codes : List Words) (x : Executable) : Type 0 where
+  pub data_bytes : DataStands p (places_of p codes) x
+  pub entries : AreEntries (entries_of p codes)
+  pub aligned : (f : Callee) (a : ℕ) → entries_of p codes f ≡ Some a → a % 4 ≡ 0
+
+abbrev pub PlacedStands : Type 0
+PlacedStands =
+    (texts : List Checked) (p : Program) (codes : List Words) (x : Executable)
+    → IsProgram texts p
+    → length codes ≡ length p.functions
+    → EveryCode codes
+    → FitsBelow p codes
+    → IsImage (contents_of p codes)
+    → Stands (contents_of p codes) x
+    → StandsWell p codes x

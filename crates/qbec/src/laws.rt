@@ -4,7 +4,7 @@ ghost use Rattle.qbec.specs.Headline.{Executes};
 ghost use Rattle.qbec.specs.Whole.{ProgramIsExecuted};
 ghost use Rattle.qbec.specs.Executable.{ExecutableRuns};
 ghost use Rattle.qbec.specs.Example.{state};
-ghost use Rattle.qbec.specs.Executables.{PlacedNatives, PlacedStart};
+ghost use Rattle.qbec.specs.Executables.{PlacedNatives, PlacedStands, PlacedStart};
 ghost use Rattle.il_ast.specs.ExamplePrograms.{halts};
 ghost use Rattle.std.specs.Prelude.{[]};
 
@@ -31,10 +31,17 @@ pub fn executable_runs()
     ensures { ExecutableRuns }
 {}
 
+/// In the executable of a placed program the words of `write` and `exit` perform the two, from wherever they are called.
 pub fn natives_perform()
     ensures { PlacedNatives }
 {}
 
+/// In the executable of a placed program the start code calls `main`, and exits with what that returns.
 pub fn start_runs()
     ensures { PlacedStart }
+{}
+
+/// In the executable of a placed program the data stands at its addresses, and the functions have addresses of their own, each a multiple of 4.
+pub fn executables_stand()
+    ensures { PlacedStands }
 {}

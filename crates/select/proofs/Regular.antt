@@ -347,7 +347,7 @@ paced_blocks f good =
 
 inst_few : (x : Inst) → has_few_args x ≡ true → list_all passes_few (inst_lines x) ≡ true
 inst_few (Unary to op a) h = all_few to.temp (operand_of a ∷ []) _ (unary_sets to.temp op to.class (operand_of a))
-inst_few (Binary to op a b) h = all_few to.temp (operand_of a ∷ operand_of b ∷ []) _ (binary_sets to.temp op to.class (operand_of a) (operand_of b))
+inst_few (Binary to op a b) h = all_few to.temp (operand_of a ∷ operand_of b ∷ []) (binary_lines to.temp op to.class (operand_of a) (operand_of b)) (binary_sets to.temp op to.class (operand_of a) (operand_of b))
 inst_few (AllocInst to alignment size) h = refl
 inst_few (StoreInst size a at) h = refl
 inst_few (BlitInst from to count) h = refl
