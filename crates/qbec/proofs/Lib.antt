@@ -16,3 +16,4 @@ pub mod PlacedWords
 pub mod NativeCode
 pub mod StartCode
 pub mod DataPlaced
+pub mod GoodFunctions

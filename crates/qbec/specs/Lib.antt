@@ -8,3 +8,4 @@ pub mod Example
 pub mod Places
 pub mod Executable
 pub mod Executables
+pub mod Read

@@ -1,6 +1,7 @@
-//! The theorem that joins the layers, each part as the contract of a function that does nothing.
+//! The theorem that joins the layers, and what the compiler's first steps give the next, each part as the contract of a function that does nothing.
 ghost use Rattle.qbec.specs.Functions.{CallsAreKept};
 ghost use Rattle.qbec.specs.Headline.{Executes};
+ghost use Rattle.qbec.specs.Read.{FunctionsAreGood};
 ghost use Rattle.qbec.specs.Whole.{ProgramIsExecuted};
 ghost use Rattle.qbec.specs.Executable.{ExecutableRuns};
 ghost use Rattle.qbec.specs.Example.{state};
@@ -44,4 +45,9 @@ pub fn start_runs()
 /// In the executable of a placed program the data stands at its addresses, and the functions have addresses of their own, each a multiple of 4.
 pub fn executables_stand()
     ensures { PlacedStands }
+{}
+
+/// Each function of linked texts that were read from bytes is one that can be lowered.
+pub fn functions_are_good()
+    ensures { FunctionsAreGood }
 {}
