@@ -1,0 +1,17 @@
+pub mod Playing
+pub mod Shown
+pub mod Standing
+pub mod Operating
+pub mod Runs
+pub mod Loading
+pub mod Changing
+pub mod Storing
+pub mod Copying
+pub mod Owning
+pub mod Making
+pub mod Freeing
+pub mod Going
+pub mod Calling
+pub mod EachLine
+pub mod Jumping
+pub mod Kept

@@ -1,3 +1,4 @@
 pub mod Spots
 pub mod Flat
 pub mod Step
+pub mod Laws

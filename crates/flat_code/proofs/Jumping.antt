@@ -1,0 +1,117 @@
+-- Each jump on bytes goes beside the jump on blocks.
+use Rattle.std.proofs.Common.{◌≡◌, ℕ, zero, suc, Bool, true, false, ◌&&◌, if◌then◌else◌, length, Option, Some, None, refl, sym, ◌∙◌, ap, subst, arith}
+use Rattle.std.specs.Prelude.{nat_eq, nat_lt}
+use Rattle.il_ast.specs.declared.operation.Class.{Class}
+use Rattle.il_ast.specs.declared.operation.Class.TheVariants.{W}
+use Rattle.il_ast.specs.declared.value.Value.{Value}
+use Rattle.il_ast.specs.declared.value.Value.TheVariants.{Integer, Pointer, Function}
+use Rattle.il_ast.specs.declared.value.End.TheVariants.{Halt as Halted}
+use Rattle.il_ast.specs.Memory.{free_all}
+use Rattle.il_ast.specs.Run.{Returned}
+use Rattle.il_ast.specs.Logged.{Does, Over}
+use Rattle.il_ast.specs.Keeps.{Passes, Suits}
+use Rattle.vcode.specs.declared.place.Location.{Location}
+use Rattle.vcode.specs.declared.place.Operand.{Operand}
+use Rattle.vcode.specs.declared.line.Jump.{Jump}
+use Rattle.vcode.specs.declared.line.Jump.TheVariants.{Goto, Branch, Return, Halt}
+use Rattle.vcode.specs.Regular.{is_target, leads_inside, area}
+use Rattle.vcode.specs.Step.{State, value_of, read as value_read, enters, branches, returns, jump_step}
+use Rattle.flat_code.specs.Spots.{Bases, ShowsResult}
+use Rattle.flat_code.specs.Flat.{FlatReturned, FlatEnded}
+use Rattle.flat_code.specs.Step.{FlatState, read, closed, enters as flat_enters, branches as flat_branches, leaves, returns as flat_returns, returns_as, flat_jump}
+use Rattle.flat_code.proofs.Shown.{Follows, read_follows, read_passes}
+use Rattle.flat_code.proofs.Freeing.{IsLeft, left_by}
+use Rattle.flat_code.proofs.Going.{Setting, ground, IsSetting, Related, Together, same_bases, names_shown}
+
+-- ---- entering a block
+
+both_true : (s t : Bool) → s && t ≡ true → (s ≡ true) × (t ≡ true)
+both_true true t h = (refl, h)
+both_true false t h = cc
+
+enters_together : (c : Setting) (p : Bases) (s : State Location) (t : FlatState) (k : ℕ) → Related c p s t → is_target (length c.code.blocks) k ≡ true → Together c p (enters s k) (flat_enters t k)
+enters_together c p s t k r target = (
+  record t { block = k; next = 0 },
+  refl,
+  (
+    p,
+    same_bases p,
+    record {
+      block = refl;
+      next = refl;
+      spent = r.spent;
+      follow = r.follow;
+      held = r.held;
+      room = λ b first found. absurd (later k (both_true (nat_lt 0 k) (nat_lt k (length c.code.blocks)) target).0 first);
+    },
+  ),
+)
+  where
+    later : (n : ℕ) → nat_lt 0 n ≡ true → n ≡ 0 → ⊥
+    later zero h e = cc
+    later (suc n) h e = absurd (omega arith)
+
+chooses_together : (c : Setting) (p : Bases) (s : State Location) (t : FlatState) (nonzero otherwise : ℕ) (b : Bool) → Related c p s t → is_target (length c.code.blocks) nonzero ≡ true → is_target (length c.code.blocks) otherwise ≡ true
+    → Together c p (enters s (if b then otherwise else nonzero)) (flat_enters t (if b then otherwise else nonzero))
+chooses_together c p s t nonzero otherwise true r h k = enters_together c p s t otherwise r k
+chooses_together c p s t nonzero otherwise false r h k = enters_together c p s t nonzero r h
+
+branches_together : (c : Setting) (p : Bases) (s : State Location) (t : FlatState) (nonzero otherwise : ℕ) (o : Option Value) (n : Option ℕ) → Related c p s t → Follows c.names.entries p o n
+    → is_target (length c.code.blocks) nonzero ≡ true → is_target (length c.code.blocks) otherwise ≡ true → Together c p (branches s nonzero otherwise o) (flat_branches t nonzero otherwise n)
+branches_together c p s t nonzero otherwise None n r follows h k = λ fine. absurd fine
+branches_together c p s t nonzero otherwise (Some (Pointer b i)) n r follows h k = λ fine. absurd fine
+branches_together c p s t nonzero otherwise (Some (Function g)) n r follows h k = λ fine. absurd fine
+branches_together c p s t nonzero otherwise (Some (Integer i)) n r follows h k =
+    let a = follows (Integer i) refl in
+    subst (λ (m : Option ℕ). Together c p (branches s nonzero otherwise (Some (Integer i))) (flat_branches t nonzero otherwise m)) (sym (a.1 ∙ ap (λ (x : ℕ). Some x) a.2))
+    (chooses_together c p s t nonzero otherwise (nat_eq i 0) r h k)
+
+-- ---- returning
+
+leaves_together : (c : Setting) → IsSetting c → (p : Bases) (s : State Location) (t : FlatState) (v : Option Value) (x : Option ℕ) → Related c p s t → Suits c.code.result v → ShowsResult c.names.entries p v x
+    → Together c p (Does (Over (Returned s.spent v (free_all s.memory s.owned)))) (leaves c.code c.base t x)
+leaves_together c is p s t v x r suits shown = λ fine.
+    let left : IsLeft (ground c) p (free_all s.memory s.owned) (closed t.memory c.base (area c.code)) = left_by (ground c) is.grounded p s.memory s.owned t.memory t.used r.held in (
+      FlatReturned t.spent x (closed t.memory c.base (area c.code)),
+      refl,
+      (
+        p,
+        same_bases p,
+        record { spent = r.spent; suits = suits; result = shown; memory = left.memory; reach = left.reach; blocks = left.blocks },
+      ),
+    )
+
+no_result_suits : (k : Option Class) → Suits k None
+no_result_suits None = tt
+no_result_suits (Some k) = tt
+
+returns_together : (c : Setting) → IsSetting c → (p : Bases) (s : State Location) (t : FlatState) (k : Class) (o : Option Value) (n : Option ℕ) → Related c p s t → c.code.result ≡ Some k → Follows c.names.entries p o n
+    → ((v : Value) → o ≡ Some v → Passes k v) → Together c p (returns s o) (flat_returns c.code c.base t n)
+returns_together c is p s t k None n r result follows passes = λ fine. absurd fine
+returns_together c is p s t k (Some v) n r result follows passes =
+    let a = follows v refl in
+    subst (λ (m : Option ℕ). Together c p (returns s (Some v)) (flat_returns c.code c.base t m)) (sym a.1)
+    (leaves_together c is p s t (Some v) (Some a.0) r (subst (λ (q : Option Class). Suits q (Some v)) (sym result) (passes v refl)) a.2)
+
+returns_value : (c : Setting) → IsSetting c → (p : Bases) (s : State Location) (t : FlatState) (a : Operand Location) → Related c p s t → (k : Option Class) → c.code.result ≡ k
+    → Together c p (jump_step c.names.globals k s (Return (Some a))) (returns_as c.code c.names.addresses c.base t k a)
+unfolding jump_step
+returns_value c is p s t a r None result = λ fine. absurd fine
+returns_value c is p s t a r (Some k) result =
+    returns_together c is p s t k (value_read c.names.globals s.values k a) (read c.names.addresses t.numbers k a) r result
+    (read_follows c.names.entries p c.names.globals c.names.addresses s.values t.numbers (names_shown c is p s t r) r.follow k a)
+    (read_passes k (value_of c.names.globals s.values a))
+
+-- ---- each jump
+
+pub jump_together : (c : Setting) → IsSetting c → (p : Bases) (s : State Location) (t : FlatState) (j : Jump Location) → Related c p s t → leads_inside (length c.code.blocks) j ≡ true
+    → Together c p (jump_step c.names.globals c.code.result s j) (flat_jump c.code c.names.addresses c.base t j)
+unfolding jump_step flat_jump
+jump_together c is p s t (Goto k) r inside = enters_together c p s t k r inside
+jump_together c is p s t (Branch on nonzero otherwise) r inside =
+    let targets = both_true (is_target (length c.code.blocks) nonzero) (is_target (length c.code.blocks) otherwise) inside in
+    branches_together c p s t nonzero otherwise (value_read c.names.globals s.values W on) (read c.names.addresses t.numbers W on) r
+    (read_follows c.names.entries p c.names.globals c.names.addresses s.values t.numbers (names_shown c is p s t r) r.follow W on) targets.0 targets.1
+jump_together c is p s t (Return None) r inside = leaves_together c is p s t None None r (no_result_suits c.code.result) tt
+jump_together c is p s t (Return (Some a)) r inside = returns_value c is p s t a r c.code.result refl
+jump_together c is p s t Halt r inside = λ fine. (FlatEnded t.spent Halted, refl, (p, same_bases p, (r.spent, refl)))
