@@ -15,3 +15,5 @@ pub mod certificate;
 pub mod list;
 pub mod spill_all;
 pub mod strategy;
+#[cfg(test)]
+mod tests;
