@@ -57,12 +57,12 @@ address_least at [] k x h = absurd (let no : ⊥ = cc in no)
 address_least at (c ∷ codes) zero x h = let same : at ≡ x = cc in omega (arith, same)
 address_least at (c ∷ codes) (suc k) x h = let rest = address_least (at + 4 * length c.words) codes k x h in omega (arith, rest)
 
-address_most : (at : ℕ) (codes : List Words) (k x : ℕ) → slice_get (function_addresses at codes) k ≡ Some x → x ≤ functions_end at codes
+pub address_most : (at : ℕ) (codes : List Words) (k x : ℕ) → slice_get (function_addresses at codes) k ≡ Some x → x ≤ functions_end at codes
 address_most at [] k x h = absurd (let no : ⊥ = cc in no)
 address_most at (c ∷ codes) zero x h = let same : at ≡ x = cc in let rest = functions_rise (at + 4 * length c.words) codes in omega (arith, same, rest)
 address_most at (c ∷ codes) (suc k) x h = address_most (at + 4 * length c.words) codes k x h
 
-address_aligned : (at : ℕ) (codes : List Words) → at % 4 ≡ 0 → (k x : ℕ) → slice_get (function_addresses at codes) k ≡ Some x → x % 4 ≡ 0
+pub address_aligned : (at : ℕ) (codes : List Words) → at % 4 ≡ 0 → (k x : ℕ) → slice_get (function_addresses at codes) k ≡ Some x → x % 4 ≡ 0
 address_aligned at [] a k x h = absurd (let no : ⊥ = cc in no)
 address_aligned at (c ∷ codes) a zero x h = let same : at ≡ x = cc in subst (λ n. n % 4 ≡ 0) same a
 address_aligned at (c ∷ codes) a (suc k) x h = address_aligned (at + 4 * length c.words) codes (omega (arith, a)) k x h
@@ -86,17 +86,17 @@ length_addresses : (at : ℕ) (codes : List Words) → length (function_addresse
 length_addresses at [] = refl
 length_addresses at (c ∷ codes) = ap suc (length_addresses (at + 4 * length c.words) codes)
 
-same_some : (a b : ℕ) → Some a ≡ Some b → a ≡ b
+pub same_some : (a b : ℕ) → Some a ≡ Some b → a ≡ b
 same_some a b h = cc
 
 -- ---- sizes
 
-record Bounds (p : Program) (codes : List Words) : Type 0 where
-  functions : functions_end functions_start codes ≤ objects_start codes
-  objects : objects_start codes ≤ objects_end (objects_start codes) p.objects
-  end : objects_end (objects_start codes) p.objects ≤ image_end
+pub record Bounds (p : Program) (codes : List Words) : Type 0 where
+  pub functions : functions_end functions_start codes ≤ objects_start codes
+  pub objects : objects_start codes ≤ objects_end (objects_start codes) p.objects
+  pub end : objects_end (objects_start codes) p.objects ≤ image_end
 
-bounds : (p : Program) (codes : List Words) → FitsBelow p codes → Bounds p codes
+pub bounds : (p : Program) (codes : List Words) → FitsBelow p codes → Bounds p codes
 bounds p codes fits =
     record { functions = let h = functions_rise functions_start codes in omega (arith, h); objects = objects_rise (objects_start codes) p.objects; end = fits }
 
@@ -355,7 +355,7 @@ pub record Worth (p : Program) (codes : List Words) : Type 0 where
   pub objects : (k : ℕ) → k < length p.objects → slice_get (addresses_of p codes).objects k ≡ Some (slice_index (addresses_of p codes).objects k)
   pub entries : AreEntries (entries_of p codes)
 
-abbrev bases_of : Program → List Words → Bases
+abbrev pub bases_of : Program → List Words → Bases
 bases_of p codes b = slice_get (addresses_of p codes).objects b
 
 cell_stands : (p : Program) (codes : List Words) → Worth p codes → (found : Option ℕ) (c : Cell) → CellThere (length p.functions) (length p.objects) c → found ≡ Some (cell_byte (addresses_of p codes) c) → CellStands (entries_of p codes) (bases_of p codes) found c
@@ -399,7 +399,7 @@ objects_stand texts p codes has w byte high (d ∷ ds) from at le b fits =
           (subst (BytesStand byte rest) next split.second) (omega (arith, fits, both, whole)),
     )
 
-length_objects : (at : ℕ) (ds : List (Placed DataDef)) → length (object_addresses at ds) ≡ length ds
+pub length_objects : (at : ℕ) (ds : List (Placed DataDef)) → length (object_addresses at ds) ≡ length ds
 length_objects at [] = refl
 length_objects at (d ∷ ds) = ap suc (length_objects (at + round_16 (object_size d.item)) ds)
 

@@ -17,3 +17,4 @@ pub mod NativeCode
 pub mod StartCode
 pub mod DataPlaced
 pub mod GoodFunctions
+pub mod CompiledRuns

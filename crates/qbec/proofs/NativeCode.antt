@@ -8,7 +8,7 @@ use Rattle.bits.specs.Words.{sign_extended, Fits12}
 use Rattle.il_ast.specs.declared.operation.Class.TheVariants.{W, L}
 use Rattle.il_ast.specs.declared.program.Program.{Program}
 use Rattle.il_ast.specs.declared.value.Callee.TheVariants.{Defined}
-use Rattle.il_ast.specs.Run.{nothing, one_call}
+use Rattle.il_ast.specs.Run.{one_call}
 use Rattle.rv_isa.specs.declared.instruction.Instr.{Instr}
 use Rattle.rv_isa.specs.declared.instruction.Instr.TheVariants.{Imm, Jalr, Ecall}
 use Rattle.rv_isa.specs.declared.instruction.ImmOp.TheVariants.{Addi}
@@ -300,17 +300,17 @@ write_performs w sp j s stand ready (d ∷ from ∷ n ∷ []) e =
 
     by : (b : Bool) → nat_eq (d % 2 ^ 32) 1 ≡ b → (z : Bool) → nat_eq n 0 ≡ z → (o : Option (List ℕ)) → known_bytes j.memory from n ≡ o
         → Performs w sp (Some L) j.memory s (if b then (if z then flat_answered [] 0 j.memory else flat_put_out n j.memory o) else flat_answered [] (2 ^ 64 - 9) j.memory)
-    by false one z nothing o known =
+    by false one z empty o known =
         write_returns w sp j s stand ready s.output [] (2 ^ 64 - 9) (lit< tt) (sym (no_more s.output)) (refused (same_test false one))
       where
         no_more : (xs : List ℕ) → xs ++ [] ≡ xs
         no_more [] = refl
         no_more (x ∷ xs) = ap (λ l. x ∷ l) (no_more xs)
-    by true one true nothing o known =
-        let none = nothing_known nothing in
+    by true one true empty o known =
+        let none = nothing_known empty in
         let r = readable_from w.memory_map j.memory s ready.fixed ready.memory n from [] from_small none in
         let goes = puts (same_test true one) [] r in
-        write_returns w sp j s stand ready (s.output ++ []) [] 0 (lit< tt) refl (goes ∙ ap (λ k. Ok (answered s (s.output ++ []) k)) (is_zero n nothing))
+        write_returns w sp j s stand ready (s.output ++ []) [] 0 (lit< tt) refl (goes ∙ ap (λ k. Ok (answered s (s.output ++ []) k)) (is_zero n empty))
     by true one false some None known = tt
     by true one false some (Some bytes) known =
         write_returns w sp j s stand ready (s.output ++ bytes) bytes n n_small refl

@@ -1,5 +1,5 @@
 -- The words of an executable's code stand in the memory of every start.
-use Rattle.std.proofs.Common.{◌≡◌, ℕ, zero, suc, ◌+◌, ◌*◌, ◌/◌, ◌%◌, ◌^◌, ◌<◌, Bool, true, ◌&&◌, nat_le, List, [], ◌∷◌, ◌++◌, length, ◌∙◌, ap, subst, arith}
+use Rattle.std.proofs.Common.{◌≡◌, ℕ, ◌+◌, ◌*◌, ◌/◌, ◌%◌, ◌^◌, ◌<◌, Bool, true, ◌&&◌, nat_le, List, ◌++◌, length, ◌∙◌, ap, subst, arith}
 use Rattle.std.specs.Prelude.{slice_get, slice_index, Some}
 use Rattle.std.specs.Int.{byte_at}
 use Rattle.std.proofs.lemmas.Bool.Decides.{nat_tests}
@@ -15,6 +15,7 @@ use Rattle.elf_file.specs.declared.flags.Flags.TheVariants.{Execute}
 use Rattle.elf_file.specs.Loaded.{Executable}
 use Rattle.elf_file.specs.Stands.{Stands}
 use Rattle.rv_machine.specs.Start.{Starts}
+use Rattle.qbec.proofs.StartMemory.{get_behind, get_within}
 
 -- ---- a number of 32 bits by its bytes
 
@@ -26,17 +27,6 @@ unfolding number_at
 number_is f at w small bytes =
     number_of_bytes w (f at) (f (at + 1)) (f (at + 1 + 1)) (f (at + 1 + 1 + 1)) small (ap f (omega arith) ∙ bytes 0 (omega arith)) (bytes 1 (omega arith))
     (ap f (omega arith) ∙ bytes 2 (omega arith)) (ap f (omega arith) ∙ bytes 3 (omega arith))
-
--- ---- an element behind others
-
-pub get_behind : {A : Type 0} (pre xs : List A) (k : ℕ) → slice_get (pre ++ xs) (length pre + k) ≡ slice_get xs k
-get_behind [] xs k = let same : 0 + k ≡ k = omega arith in ap (slice_get xs) same
-get_behind (x ∷ pre) xs k = let same : length (x ∷ pre) + k ≡ suc (length pre + k) = omega arith in ap (slice_get (x ∷ (pre ++ xs))) same ∙ get_behind pre xs k
-
-pub get_before : {A : Type 0} (xs post : List A) (k : ℕ) (x : A) → slice_get xs k ≡ Some x → slice_get (xs ++ post) k ≡ Some x
-get_before [] post k x h = absurd (let no : ⊥ = cc in no)
-get_before (y ∷ xs) post zero x h = h
-get_before (y ∷ xs) post (suc k) x h = get_before xs post k x h
 
 -- ---- words in memory
 
@@ -93,4 +83,4 @@ words_stand image x words s good stands starts pre mid post is =
     place k = omega arith
 
     found_in : (k w : ℕ) → slice_get mid k ≡ Some w → slice_get image.code (length pre + k) ≡ Some w
-    found_in k w found = ap (λ l. slice_get l (length pre + k)) is ∙ (get_behind pre (mid ++ post) k ∙ get_before mid post k w found)
+    found_in k w found = ap (λ l. slice_get l (length pre + k)) is ∙ (get_behind pre (mid ++ post) k ∙ get_within mid post k w found)

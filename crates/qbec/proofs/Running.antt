@@ -27,7 +27,7 @@ usable at x words s starts a low high =
       small = omega arith;
     }
 
-setting_is : (at : Places) (x : Executable) (words : List (List ℕ)) (s : State) → Starts x words s → AreEntries at.entries → ((f : Callee) (a : ℕ) → at.entries f ≡ Some a → a % 4 ≡ 0) → IsSetting (setting_of at words s)
+pub setting_is : (at : Places) (x : Executable) (words : List (List ℕ)) (s : State) → Starts x words s → AreEntries at.entries → ((f : Callee) (a : ℕ) → at.entries f ≡ Some a → a % 4 ≡ 0) → IsSetting (setting_of at words s)
 setting_is at x words s starts entries aligned =
     record {
       world = record { usable = λ a low high. usable at x words s starts a low high; above_zero = lit< tt; small = lit< tt };

@@ -26,7 +26,7 @@ get_behind (x ∷ xs) ys j =
     let same : suc (length xs) + j ≡ suc (length xs + j) = omega arith in
     ap (slice_get (x ∷ (xs ++ ys))) same ∙ get_behind xs ys j
 
-get_within : {A : Type 0} (xs ys : List A) (b : ℕ) (a : A) → slice_get xs b ≡ Some a → slice_get (xs ++ ys) b ≡ Some a
+pub get_within : {A : Type 0} (xs ys : List A) (b : ℕ) (a : A) → slice_get xs b ≡ Some a → slice_get (xs ++ ys) b ≡ Some a
 get_within [] ys b a h = absurd (nothing h)
   where
     nothing : None ≡ Some a → ⊥

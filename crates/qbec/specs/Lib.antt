@@ -9,3 +9,4 @@ pub mod Places
 pub mod Executable
 pub mod Executables
 pub mod Read
+pub mod Compiled

@@ -5,6 +5,7 @@ ghost use Rattle.qbec.specs.Read.{FunctionsAreGood};
 ghost use Rattle.qbec.specs.Whole.{ProgramIsExecuted};
 ghost use Rattle.qbec.specs.Executable.{ExecutableRuns};
 ghost use Rattle.qbec.specs.Example.{state};
+ghost use Rattle.qbec.specs.Compiled.{CompiledRuns};
 ghost use Rattle.qbec.specs.Executables.{PlacedNatives, PlacedStands, PlacedStart};
 ghost use Rattle.il_ast.specs.ExamplePrograms.{halts};
 ghost use Rattle.std.specs.Prelude.{[]};
@@ -50,4 +51,9 @@ pub fn executables_stand()
 /// Each function of linked texts that were read from bytes is one that can be lowered.
 pub fn functions_are_good()
     ensures { FunctionsAreGood }
+{}
+
+/// Where words stand for each function of a program, its executable executes it: from every start with argument words within their limits.
+pub fn compiled_programs_run()
+    ensures { CompiledRuns }
 {}

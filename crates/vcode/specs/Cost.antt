@@ -40,10 +40,10 @@ line_cost (Blit from to count) = operand_cost from + operand_cost to + 8 * ((cou
 line_cost (Call to callee args) = 20 + 24 * length args
 
 abbrev pub return_cost : {P : Type 0} → Option (Operand P) → ℕ
-return_cost None = 0
-return_cost (Some a) = operand_cost a + 1
+return_cost None = 2
+return_cost (Some a) = operand_cost a + 3
 
--- the end of the frame is paid by the call
+-- a return goes to the end of the frame, which the call pays for
 abbrev pub jump_cost : {P : Type 0} → Jump P → ℕ
 jump_cost (Goto k) = 2
 jump_cost (Branch on nonzero otherwise) = operand_cost on + 6
