@@ -15,3 +15,4 @@ pub mod Calling
 pub mod EachLine
 pub mod Jumping
 pub mod Kept
+pub mod Computed

@@ -2,3 +2,4 @@ pub mod Spots
 pub mod Flat
 pub mod Step
 pub mod Laws
+pub mod Examples
