@@ -1,6 +1,6 @@
 -- What a line or a jump of location code does on bytes: the same code as on blocks, with numbers for values and bytes by address for memory. An access to a byte that is
--- away is undefined, and so is a read of one that isn't known. The blocks that the code makes stand one after another from `base` upward, each from a
--- multiple of 16 on, and none may be accessed after the return.
+-- away is undefined, and so is a read of one that isn't known. The blocks that the code makes stand one after another from `base` upward, each at
+-- a multiple of 16 bytes from there, and none may be accessed after the return.
 use Rattle.std.specs.Prelude.{ℕ, zero, suc, ◌+◌, ◌-◌, ◌*◌, ◌%◌, ◌^◌, Bool, true, false, ◌&&◌, ◌||◌, nat_eq, nat_lt, nat_le, if◌then◌else◌, List, [], ◌∷◌, map, slice_get, Option, Some, None}
 use Rattle.std.specs.Int.{byte_at}
 use Rattle.std.specs.Option.{option_map, option_and_then}
