@@ -1,0 +1,13 @@
+pub mod ConstantNumbers
+pub mod Leading
+pub mod Instructions
+pub mod Activations
+pub mod LineCode
+pub mod FrameEnds
+pub mod Sizes
+pub mod JumpCode
+pub mod Simulating
+pub mod Starting
+pub mod Labelling
+pub mod Joining
+pub mod PlainLayout

@@ -1,7 +1,25 @@
-//! Frames: machine code for code on flat bytes.
+//! # Frames: machine code for code on flat bytes
 //!
-//! `specs/Calls.antt` says when the machine is ready for a call and when it has come back from one, by the integer calling convention of the RISC-V ELF
-//! psABI. `specs/Performs.antt` says what it means that the machine performs a call, and what the machine code of a function owes (`KeepsFrame`).
+//! `frame::frame` makes the machine code of a function in location code, with labels in place of addresses. A function's frame has, upward from the stack pointer
+//! x2, its saved registers, its slots, and the area for blocks of memory. Each line becomes instructions of its own: operands that are not in registers come into
+//! x28 and x29, and a value for a slot goes through x28. A return goes to the one end of the frame, behind the last block.
 //!
-//! The code that makes frames is not here yet: so far the crate has its definitions alone.
+//! What the code owes is `FramePromise` (`specs/Promise.antt`): in every world and wherever it stands, from every state that is ready for the call
+//! (`specs/Calls.antt`, by the integer calling convention of the RISC-V ELF psABI), the machine performs what the code on bytes runs (`specs/Performs.antt`), in
+//! at most 32 instructions for each unit of weight and 256 for each call, with at most 40,000 turns between two instructions; and it takes no more stack than the
+//! language counts for the function. `specs/Layout.antt` says where things stand in a frame, `specs/Emission.antt` which instructions a line becomes.
+//!
+//! So far frames are made for code without parameters, calls, comparisons and memory: `covered::covers` says for which (`specs/Covered.antt`).
 #![tactic(auto)]
+
+pub mod covered;
+mod ends;
+mod fields;
+pub mod frame;
+mod jump;
+pub mod laws;
+pub mod layout;
+mod line;
+mod operand;
+#[cfg(test)]
+mod tests;

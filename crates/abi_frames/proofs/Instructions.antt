@@ -1,0 +1,287 @@
+-- What each instruction of a frame's code does, and a few together: sums, constants, eight bytes of the stack.
+use Rattle.std.proofs.Common.{◌≡◌, ◌≢◌, ℕ, ◌+◌, ◌*◌, ◌/◌, ◌%◌, ◌^◌, ◌<◌, ◌≤◌, Bool, true, false, [], ◌∷◌, refl, sym, ◌∙◌, ap, subst, arith, lit<, mod-lt}
+use Rattle.std.specs.Prelude.{not, nat_le, nat_lt, if◌then◌else◌, Ok}
+use Rattle.std.proofs.lemmas.Bool.{and_from}
+use Rattle.std.proofs.lemmas.Bool.Decides.{nat_tests}
+use Rattle.bits.specs.Words.{sign_extended}
+use Rattle.rv_isa.specs.State.{State, register, put}
+use Rattle.rv_isa.specs.Memory.{number_at, stored, each_of, allowed, can_read, can_write}
+use Rattle.rv_isa.specs.Arithmetic.{moved, upper_value, reg_value, regw_value, addiw_value}
+use Rattle.rv_isa.specs.Step.{act, load, store}
+use Rattle.rv_isa.specs.Labelled.{Ground, Fixed, Stand, Stands}
+use Rattle.rv_isa.specs.declared.permission.Permission.{Permission}
+use Rattle.rv_isa.specs.declared.ranges.UpperField.{UpperField}
+use Rattle.rv_isa.specs.declared.instruction.Instr.TheVariants.{Lui, Load, Store, Imm, Addiw, Shift, Reg, RegW}
+use Rattle.rv_isa.specs.declared.instruction.LoadOp.TheVariants.{Ld}
+use Rattle.rv_isa.specs.declared.instruction.StoreOp.TheVariants.{Sd}
+use Rattle.rv_isa.specs.declared.instruction.ImmOp.TheVariants.{Addi}
+use Rattle.rv_isa.specs.declared.instruction.ShiftOp.TheVariants.{Slli, Srli}
+use Rattle.rv_isa.specs.declared.instruction.RegOp.{RegOp}
+use Rattle.rv_isa.specs.declared.instruction.RegOp.TheVariants.{Add}
+use Rattle.rv_isa.specs.declared.instruction.RegWOp.{RegWOp}
+use Rattle.rv_isa.specs.declared.labelled.Item.{Item}
+use Rattle.rv_isa.specs.declared.labelled.Item.TheVariants.{Plain, Address}
+use Rattle.rv_isa.proofs.MemoryLemmas.{each_from, stored_avoids}
+use Rattle.vcode.specs.Cost.{is_immediate}
+use Rattle.abi_frames.specs.Calls.{IsUsable}
+use Rattle.abi_frames.specs.Emission.{reg, low, field, high, by_1, by_11, add_low, extend, sum_to, load_8, store_8, shift_11, long_constant, constant, far_load, load_slot, far_store, store_slot}
+use Rattle.abi_frames.proofs.ConstantNumbers.{immediate_is, near_moves, far_moves, top_bits, part_1, part_2, part_3, part_4}
+use Rattle.abi_frames.proofs.Leading.{Site, StandAt, Leads, leads_then, leads_so, leads_by, leads_set, leads_again, Sets, IsReg, register_reg}
+
+-- ---- registers alone
+
+pub leads_lui : (c : Site) (s : State) (d : ℕ) (f : UpperField) → IsReg d → Leads c (Plain (Lui (reg d) f) ∷ []) s (Sets s d (upper_value f))
+leads_lui c s d f is = leads_set c s (Lui (reg d) f) d (upper_value f) (upper_value f) is refl refl
+
+-- a sum with the low part of n
+pub leads_add_low : (c : Site) (s : State) (d a n x v : ℕ) → IsReg d → register s (reg a) ≡ x → moved x (low n).value ≡ v
+    → Leads c (add_low d a n ∷ []) s (Sets s d v)
+leads_add_low c s d a n x v is held value =
+    leads_set c s (Imm Addi (reg d) (reg a) (low n)) d (moved (register s (reg a)) (low n).value) v is refl
+    (ap (λ y. moved y (low n).value) held ∙ value)
+
+pub leads_reg : (c : Site) (s : State) (op : RegOp) (d a b : ℕ) → IsReg d → IsReg a → IsReg b
+    → Leads c (Plain (Reg op (reg d) (reg a) (reg b)) ∷ []) s (Sets s d (reg_value op (s.registers a) (s.registers b)))
+leads_reg c s op d a b is is_a is_b =
+    leads_set c s (Reg op (reg d) (reg a) (reg b)) d (reg_value op (register s (reg a)) (register s (reg b)))
+    (reg_value op (s.registers a) (s.registers b)) is refl
+    (ap (λ x. reg_value op x (register s (reg b))) (register_reg s a is_a) ∙ ap (reg_value op (s.registers a)) (register_reg s b is_b))
+
+pub leads_regw : (c : Site) (s : State) (op : RegWOp) (d a b : ℕ) → IsReg d → IsReg a → IsReg b
+    → Leads c (Plain (RegW op (reg d) (reg a) (reg b)) ∷ []) s (Sets s d (regw_value op (s.registers a) (s.registers b)))
+leads_regw c s op d a b is is_a is_b =
+    leads_set c s (RegW op (reg d) (reg a) (reg b)) d (regw_value op (register s (reg a)) (register s (reg b)))
+    (regw_value op (s.registers a) (s.registers b)) is refl
+    (ap (λ x. regw_value op x (register s (reg b))) (register_reg s a is_a) ∙ ap (regw_value op (s.registers a)) (register_reg s b is_b))
+
+pub leads_sum : (c : Site) (s : State) (d a b : ℕ) → IsReg d → IsReg a → IsReg b
+    → Leads c (sum_to d a b ∷ []) s (Sets s d ((s.registers a + s.registers b) % 2 ^ 64))
+leads_sum c s d a b is is_a is_b = leads_reg c s Add d a b is is_a is_b
+
+no_more : (x : ℕ) → (x + 0) % 2 ^ 32 ≡ x % 2 ^ 32
+no_more x = omega arith
+
+pub leads_extend : (c : Site) (s : State) (d a : ℕ) → IsReg d → IsReg a → Leads c (extend d a ∷ []) s (Sets s d (sign_extended (s.registers a % 2 ^ 32)))
+leads_extend c s d a is is_a =
+    leads_set c s (Addiw (reg d) (reg a) (low 0)) d (addiw_value (register s (reg a)) (low 0).value) (sign_extended (s.registers a % 2 ^ 32)) is refl
+    (ap (λ x. sign_extended x) (no_more (register s (reg a))) ∙ ap (λ x. sign_extended (x % 2 ^ 32)) (register_reg s a is_a))
+
+pub leads_half : (c : Site) (s : State) (d v : ℕ) → IsReg d → s.registers d ≡ v → Leads c (Plain (Shift Srli (reg d) (reg d) by_1) ∷ []) s (Sets s d (v / 2))
+leads_half c s d v is held =
+    leads_set c s (Shift Srli (reg d) (reg d) by_1) d (register s (reg d) / 2) (v / 2) is refl (ap (λ x. x / 2) (register_reg s d is ∙ held))
+
+pub leads_shift_11 : (c : Site) (s : State) (d v : ℕ) → IsReg d → s.registers d ≡ v → Leads c (shift_11 d ∷ []) s (Sets s d ((v * 2 ^ 11) % 2 ^ 64))
+leads_shift_11 c s d v is held =
+    leads_set c s (Shift Slli (reg d) (reg d) by_11) d ((register s (reg d) * 2 ^ 11) % 2 ^ 64) ((v * 2 ^ 11) % 2 ^ 64) is refl
+    (ap (λ x. (x * 2 ^ 11) % 2 ^ 64) (register_reg s d is ∙ held))
+
+-- ---- constants
+
+leads_part : (c : Site) (s : State) (d n v : ℕ) → IsReg d → n < 2 ^ 11 → s.registers d ≡ v → Leads c (add_low d d n ∷ []) s (Sets s d ((v + n) % 2 ^ 64))
+leads_part c s d n v is h held = leads_add_low c s d d n v ((v + n) % 2 ^ 64) is (register_reg s d is ∙ held) (near_moves v n h)
+
+shift_and_part : (c : Site) (s : State) (d n v : ℕ) → IsReg d → n < 2 ^ 11 → s.registers d ≡ v
+    → Leads c (shift_11 d ∷ add_low d d n ∷ []) s (Sets s d (((v * 2 ^ 11) % 2 ^ 64 + n) % 2 ^ 64))
+shift_and_part c s d n v is h held =
+    leads_again c (shift_11 d ∷ []) (add_low d d n ∷ []) s d ((v * 2 ^ 11) % 2 ^ 64) (((v * 2 ^ 11) % 2 ^ 64 + n) % 2 ^ 64)
+    (leads_shift_11 c s d v is held) (λ u fixed one. leads_part c u d n ((v * 2 ^ 11) % 2 ^ 64) is h one.value)
+
+pub leads_long_constant : (c : Site) (s : State) (d m : ℕ) → IsReg d → m < 2 ^ 64 → Leads c (long_constant d m) s (Sets s d m)
+leads_long_constant c s d m is h =
+    let v0 : ℕ = upper_value (field (m / 2 ^ 44)) in
+    let c1 : ℕ = m / 2 ^ 33 % 2 ^ 11 in
+    let c2 : ℕ = m / 2 ^ 22 % 2 ^ 11 in
+    let c3 : ℕ = m / 2 ^ 11 % 2 ^ 11 in
+    let c4 : ℕ = m % 2 ^ 11 in
+    let v1 : ℕ = (v0 / 2 + c1) % 2 ^ 64 in
+    let v2 : ℕ = ((v1 * 2 ^ 11) % 2 ^ 64 + c2) % 2 ^ 64 in
+    let v3 : ℕ = ((v2 * 2 ^ 11) % 2 ^ 64 + c3) % 2 ^ 64 in
+    let v4 : ℕ = ((v3 * 2 ^ 11) % 2 ^ 64 + c4) % 2 ^ 64 in
+    let whole : v4 ≡ m = part_4 m v3 h (part_3 m v2 h (part_2 m v1 h (part_1 m (v0 / 2) h (top_bits m h)))) in
+    let is4 : Item = shift_11 d in
+    leads_again c (Plain (Lui (reg d) (field (m / 2 ^ 44))) ∷ [])
+    (Plain (Shift Srli (reg d) (reg d) by_1) ∷ add_low d d c1 ∷ shift_11 d ∷ add_low d d c2 ∷ shift_11 d ∷ add_low d d c3 ∷ shift_11 d ∷ add_low d d c4 ∷ [])
+    s d v0 m (leads_lui c s d (field (m / 2 ^ 44)) is)
+    (λ u0 f0 e0.
+    leads_again c (Plain (Shift Srli (reg d) (reg d) by_1) ∷ [])
+    (add_low d d c1 ∷ shift_11 d ∷ add_low d d c2 ∷ shift_11 d ∷ add_low d d c3 ∷ shift_11 d ∷ add_low d d c4 ∷ [])
+    u0 d (v0 / 2) m (leads_half c u0 d v0 is e0.value)
+    (λ u1 f1 e1.
+    leads_again c (add_low d d c1 ∷ []) (shift_11 d ∷ add_low d d c2 ∷ shift_11 d ∷ add_low d d c3 ∷ shift_11 d ∷ add_low d d c4 ∷ [])
+    u1 d v1 m (leads_part c u1 d c1 (v0 / 2) is (mod-lt _ (lit< tt)) e1.value)
+    (λ u2 f2 e2.
+    leads_again c (shift_11 d ∷ add_low d d c2 ∷ []) (shift_11 d ∷ add_low d d c3 ∷ shift_11 d ∷ add_low d d c4 ∷ [])
+    u2 d v2 m (shift_and_part c u2 d c2 v1 is (mod-lt _ (lit< tt)) e2.value)
+    (λ u3 f3 e3.
+    leads_again c (shift_11 d ∷ add_low d d c3 ∷ []) (shift_11 d ∷ add_low d d c4 ∷ [])
+    u3 d v3 m (shift_and_part c u3 d c3 v2 is (mod-lt _ (lit< tt)) e3.value)
+    (λ u4 f4 e4.
+    leads_so c (shift_11 d ∷ add_low d d c4 ∷ []) u4 (Sets u4 d v4) (Sets u4 d m)
+    (shift_and_part c u4 d c4 v3 is (mod-lt _ (lit< tt)) e4.value)
+    (λ t f e. record { value = e.value ∙ whole; others = e.others; bytes = e.bytes; output = e.output }))))))
+
+pub leads_constant : (c : Site) (s : State) (d n : ℕ) → IsReg d → Leads c (constant d n) s (Sets s d (n % 2 ^ 64))
+leads_constant c s d n is = by_test (is_immediate n) refl
+  where
+    by_test : (b : Bool) → is_immediate n ≡ b → Leads c (if b then add_low d 0 n ∷ [] else long_constant d (n % 2 ^ 64)) s (Sets s d (n % 2 ^ 64))
+    by_test true e = leads_add_low c s d 0 n 0 (n % 2 ^ 64) is refl (immediate_is n e)
+    by_test false e = leads_long_constant c s d (n % 2 ^ 64) is (mod-lt n (lit< tt))
+
+-- ---- the address of a global
+
+pub leads_address : (c : Site) (s : State) (d g : ℕ) → IsReg d → Leads c (Address (reg d) g ∷ []) s (Sets s d (c.global g))
+unfolding Stand Stands
+leads_address c s d g is = record {
+  from = λ rest stands fixed.
+      let gets = stands.1 s fixed refl in
+      let same : d % 32 ≡ d = let small = is.small in omega (arith, small) in
+      let few = gets.at_most in
+      record {
+        steps = gets.count;
+        after = gets.after;
+        comes = gets.comes;
+        few = omega (arith, few);
+        stands = subst (λ a. StandAt c rest a) (sym gets.place) stands.2;
+        fixed = gets.fixed;
+        holds = record {
+          value = ap gets.after.registers (sym same) ∙ gets.value;
+          others = λ n other. gets.registers n (λ e. other (e ∙ same));
+          bytes = gets.bytes;
+          output = gets.output;
+        };
+      };
+}
+
+-- ---- memory
+
+-- n addresses whose bytes can be read and written
+abbrev pub UsableFrom : Ground → (a n : ℕ) → Type 0
+UsableFrom g a n = (x : ℕ) → a ≤ x → x < a + n → IsUsable g x
+
+all_readable : (g : Ground) (a : ℕ) → UsableFrom g a 8 → allowed (λ x. (g.allows x).readable) a 8 ≡ true
+all_readable g a usable =
+    let last = (usable (a + 7) (omega arith) (omega arith)).small in
+    and_from (nat_le (a + 8) (2 ^ 64)) (each_of (λ x. (g.allows x).readable) a 8) (grind (arith, nat_tests))
+    (each_from (λ x. (g.allows x).readable) a 8 (λ x lo hi. (usable x lo hi).readable))
+
+all_writable : (g : Ground) (a : ℕ) → UsableFrom g a 8 → allowed (λ x. (g.allows x).writable) a 8 ≡ true
+all_writable g a usable =
+    let last = (usable (a + 7) (omega arith) (omega arith)).small in
+    and_from (nat_le (a + 8) (2 ^ 64)) (each_of (λ x. (g.allows x).writable) a 8) (grind (arith, nat_tests))
+    (each_from (λ x. (g.allows x).writable) a 8 (λ x lo hi. (usable x lo hi).writable))
+
+pub leads_load : (c : Site) (s : State) (d base o a : ℕ) → IsReg d → IsReg base → Fixed c.ground s → moved (s.registers base) (low o).value ≡ a
+    → UsableFrom c.ground a 8 → Leads c (load_8 d base o ∷ []) s (Sets s d (number_at s.bytes a 8))
+leads_load c s d base o a is is_base fixed there usable =
+    let P : (ℕ → Permission) → Type 0 = λ p. allowed (λ x. (p x).readable) a 8 ≡ true in
+    let readable : can_read s a 8 ≡ true = subst P (sym fixed.permissions) (all_readable c.ground a usable) in
+    let at : moved (register s (reg base)) (low o).value ≡ a = ap (λ x. moved x (low o).value) (register_reg s base is_base) ∙ there in
+    let acts : act (Load Ld (reg d) (reg base) (low o)) s ≡ Ok (put s (reg d) (number_at s.bytes a 8)) =
+    ap (load s Ld (reg d)) at ∙ (rw readable refl) in
+    leads_set c s (Load Ld (reg d) (reg base) (low o)) d (number_at s.bytes a 8) (number_at s.bytes a 8) is acts refl
+
+-- eight bytes at `a` are those of v; of the registers only x29 may have changed
+pub record Writes (s : State) (a v : ℕ) (u : State) : Type 0 where
+  pub bytes : u.bytes ≡ stored s.bytes a 8 v
+  pub registers : (n : ℕ) → n ≢ 29 → u.registers n ≡ s.registers n
+  pub output : u.output ≡ s.output
+
+not_code : (b : Bool) → b ≡ false → not b ≡ true
+not_code b e = ap not e
+
+code_not : (b : Bool) → b ≡ true → not b ≡ false
+code_not b e = ap not e
+
+pub leads_store : (c : Site) (s : State) (v base o a : ℕ) → IsReg v → IsReg base → Fixed c.ground s → moved (s.registers base) (low o).value ≡ a
+    → UsableFrom c.ground a 8 → Leads c (store_8 v base o ∷ []) s (Writes s a (s.registers v))
+leads_store c s v base o a is is_base fixed there usable =
+    let P : (ℕ → Permission) → Type 0 = λ p. allowed (λ x. (p x).writable) a 8 ≡ true in
+    let writable : can_write s a 8 ≡ true = subst P (sym fixed.permissions) (all_writable c.ground a usable) in
+    let at : moved (register s (reg base)) (low o).value ≡ a = ap (λ x. moved x (low o).value) (register_reg s base is_base) ∙ there in
+    let t : State = record s { pc = (s.pc + 4) % 2 ^ 64; bytes = stored s.bytes a 8 (s.registers v) } in
+    let acts : act (Store Sd (reg base) (reg v) (low o)) s ≡ Ok t =
+    ap (store s Sd (register s (reg v))) at ∙ (ap (λ x. store s Sd x a) (register_reg s v is) ∙ (rw writable refl)) in
+    let p : ℕ → Bool = λ x. not (c.ground.allows x).executable in
+    let each : each_of p a 8 ≡ true = each_from p a 8 (λ x lo hi. not_code (c.ground.allows x).executable (usable x lo hi).no_code) in
+    leads_by c s t (Store Sd (reg base) (reg v) (low o)) (Writes s a (s.registers v)) acts refl refl
+    (λ x h. stored_avoids p s.bytes a 8 (s.registers v) x each (code_not (c.ground.allows x).executable h))
+    (record { bytes = refl; registers = λ n other. refl; output = refl })
+
+-- ---- eight bytes at an offset from the stack pointer
+
+pub is_2 : IsReg 2
+is_2 = record { some = lit< tt; small = lit< tt }
+
+pub is_10 : IsReg 10
+is_10 = record { some = lit< tt; small = lit< tt }
+
+pub is_28 : IsReg 28
+is_28 = record { some = lit< tt; small = lit< tt }
+
+pub is_29 : IsReg 29
+is_29 = record { some = lit< tt; small = lit< tt }
+
+pub near_address : (x b o : ℕ) → x ≡ b → o < 2048 → b + o < 2 ^ 63 → moved x (low o).value ≡ b + o
+near_address x b o e h small = near_moves x o h ∙ omega (arith, e)
+
+far_address : (x b o : ℕ) → x ≡ (upper_value (high o) + b) % 2 ^ 64 → o < 2 ^ 21 → b + o < 2 ^ 63 → moved x (low o).value ≡ b + o
+far_address x b o e h small = ap (λ y. moved y (low o).value) e ∙ far_moves b o h (omega arith)
+
+-- the upper part of an offset, and the stack pointer
+high_part : (c : Site) (s : State) (d b o : ℕ) → IsReg d → d ≢ 2 → s.registers 2 ≡ b
+    → Leads c (Plain (Lui (reg d) (high o)) ∷ sum_to d d 2 ∷ []) s (Sets s d ((upper_value (high o) + b) % 2 ^ 64))
+high_part c s d b o is other pointer =
+    leads_again c (Plain (Lui (reg d) (high o)) ∷ []) (sum_to d d 2 ∷ []) s d (upper_value (high o)) ((upper_value (high o) + b) % 2 ^ 64)
+    (leads_lui c s d (high o) is)
+    (λ u fixed one.
+    leads_so c (sum_to d d 2 ∷ []) u (Sets u d ((u.registers d + u.registers 2) % 2 ^ 64)) (Sets u d ((upper_value (high o) + b) % 2 ^ 64))
+    (leads_sum c u d d 2 is is is_2)
+    (λ t f two.
+    let first = one.value in
+    let second : u.registers 2 ≡ b = one.others 2 (λ e. other (sym e)) ∙ pointer in
+    let third = two.value in
+    record {
+      value = third ∙ (ap (λ x. (x + u.registers 2) % 2 ^ 64) first ∙ ap (λ x. (upper_value (high o) + x) % 2 ^ 64) second);
+      others = two.others;
+      bytes = two.bytes;
+      output = two.output;
+    }))
+
+pub leads_load_slot : (c : Site) (s : State) (d b o : ℕ) → IsReg d → d ≢ 2 → Fixed c.ground s → s.registers 2 ≡ b → o < 2 ^ 21 → b + o < 2 ^ 63
+    → UsableFrom c.ground (b + o) 8 → Leads c (load_slot d o) s (Sets s d (number_at s.bytes (b + o) 8))
+leads_load_slot c s d b o is other fixed pointer h small usable = by_test (nat_lt o 2048) refl
+  where
+    by_test : (t : Bool) → nat_lt o 2048 ≡ t → Leads c (if t then load_8 d 2 o ∷ [] else far_load d o) s (Sets s d (number_at s.bytes (b + o) 8))
+    by_test true e =
+        leads_load c s d 2 o (b + o) is is_2 fixed (near_address (s.registers 2) b o pointer (grind (arith, nat_tests)) small) usable
+    by_test false e =
+        leads_again c (Plain (Lui (reg d) (high o)) ∷ sum_to d d 2 ∷ []) (load_8 d d o ∷ []) s d ((upper_value (high o) + b) % 2 ^ 64)
+        (number_at s.bytes (b + o) 8) (high_part c s d b o is other pointer)
+        (λ u f one.
+        leads_so c (load_8 d d o ∷ []) u (Sets u d (number_at u.bytes (b + o) 8)) (Sets u d (number_at s.bytes (b + o) 8))
+        (leads_load c u d d o (b + o) is is f (far_address (u.registers d) b o one.value h small) usable)
+        (λ t g two. record {
+          value = two.value ∙ ap (λ (m : ℕ → ℕ). number_at m (b + o) 8) one.bytes;
+          others = two.others;
+          bytes = two.bytes;
+          output = two.output;
+        }))
+
+pub leads_store_slot : (c : Site) (s : State) (v b o : ℕ) → IsReg v → v ≢ 29 → Fixed c.ground s → s.registers 2 ≡ b → o < 2 ^ 21 → b + o < 2 ^ 63
+    → UsableFrom c.ground (b + o) 8 → Leads c (store_slot v o) s (Writes s (b + o) (s.registers v))
+leads_store_slot c s v b o is other fixed pointer h small usable = by_test (nat_lt o 2048) refl
+  where
+    by_test : (t : Bool) → nat_lt o 2048 ≡ t → Leads c (if t then store_8 v 2 o ∷ [] else far_store v o) s (Writes s (b + o) (s.registers v))
+    by_test true e =
+        leads_store c s v 2 o (b + o) is is_2 fixed (near_address (s.registers 2) b o pointer (grind (arith, nat_tests)) small) usable
+    by_test false e =
+        leads_then c (Plain (Lui (reg 29) (high o)) ∷ sum_to 29 29 2 ∷ []) (store_8 v 29 o ∷ []) s (Sets s 29 ((upper_value (high o) + b) % 2 ^ 64))
+        (Writes s (b + o) (s.registers v)) (high_part c s 29 b o is_29 (λ e. absurd (omega (arith, e))) pointer)
+        (λ u f one.
+        leads_so c (store_8 v 29 o ∷ []) u (Writes u (b + o) (u.registers v)) (Writes s (b + o) (s.registers v))
+        (leads_store c u v 29 o (b + o) is is_29 f (far_address (u.registers 29) b o one.value h small) usable)
+        (λ t g two. record {
+          bytes = two.bytes ∙ (ap (λ (m : ℕ → ℕ). stored m (b + o) 8 (u.registers v)) one.bytes ∙ ap (stored s.bytes (b + o) 8) (one.others v other));
+          registers = λ n differs. two.registers n differs ∙ one.others n differs;
+          output = two.output ∙ one.output;
+        }))

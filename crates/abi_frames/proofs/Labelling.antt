@@ -1,0 +1,396 @@
+-- The labelled code of a function keeps the invariants of such code.
+use Rattle.std.proofs.Common.{◌≡◌, ℕ, ◌+◌, ◌-◌, ◌%◌, ◌^◌, ◌<◌, ◌≤◌, Bool, true, false, List, [], ◌∷◌, ◌++◌, refl, sym, ◌∙◌, ap, arith, lit<, zero-add}
+use Rattle.std.specs.Prelude.{◌&&◌, not, nat_eq, nat_le, nat_lt, if◌then◌else◌, length, Option, Some, None}
+use Rattle.std.specs.List.{list_all}
+use Rattle.std.proofs.lemmas.Bool.{and_parts, and_from}
+use Rattle.std.proofs.lemmas.Bool.Decides.{nat_tests}
+use Rattle.std.proofs.lemmas.List.Folds.{list_all-append}
+use Rattle.il_ast.specs.declared.operation.Class.{Class}
+use Rattle.il_ast.specs.declared.operation.Class.TheVariants.{W, L}
+use Rattle.rv_isa.specs.Labels.{times_labelled, has_label_below, has_good_registers, longest_size}
+use Rattle.rv_isa.specs.declared.instruction.Instr.TheVariants.{Reg, RegW}
+use Rattle.rv_isa.specs.declared.instruction.BranchOp.TheVariants.{Bne}
+use Rattle.rv_isa.specs.declared.labelled.Item.{Item}
+use Rattle.rv_isa.specs.declared.labelled.Item.TheVariants.{Plain, Label, Branch as BranchTo, Goto as GoTo, Address}
+use Rattle.vcode.specs.declared.place.Location.{Location}
+use Rattle.vcode.specs.declared.place.Location.TheVariants.{Register as InRegister, Slot}
+use Rattle.vcode.specs.declared.place.Operand.{Operand}
+use Rattle.vcode.specs.declared.place.Operand.TheVariants.{At, Number, Name}
+use Rattle.vcode.specs.declared.place.Destination.{Destination}
+use Rattle.vcode.specs.declared.line.Operation.{Operation}
+use Rattle.vcode.specs.declared.line.Operation.TheVariants.{Reg as RegOperation, RegW as RegWOperation, Compare}
+use Rattle.vcode.specs.declared.line.Line.{Line}
+use Rattle.vcode.specs.declared.line.Line.TheVariants.{Tick, Set, Operate, Load, Store, Alloc, Blit, Call}
+use Rattle.vcode.specs.declared.line.Jump.{Jump}
+use Rattle.vcode.specs.declared.line.Jump.TheVariants.{Goto, Branch, Return, Halt}
+use Rattle.vcode.specs.declared.code.Block.{Block}
+use Rattle.vcode.specs.Cost.{is_immediate}
+use Rattle.vcode.specs.Named.{is_place, operand_keeps, line_keeps, jump_keeps, block_keeps}
+use Rattle.vcode.specs.Regular.{leads_inside, is_target, code_weight}
+use Rattle.abi_frames.specs.Layout.{layout, saved_registers}
+use Rattle.abi_frames.specs.declared.layout.Layout.{Layout}
+use Rattle.abi_frames.specs.Covered.{covers_block}
+use Rattle.abi_frames.specs.Emission.{reg, add_low, extend, sum_to, load_8, store_8, long_constant, constant, far_load, load_slot, far_store, store_slot, slot_offset, into, fetch, source, target, deliver, set_items, operation_items, operate_items, line_items, lines_items, move_pointer, save_all, restore_all, go_back, prologue, epilogue, result_items, jump_items, blocks_items}
+use Rattle.abi_frames.specs.Laws.{FramesAreLabelled}
+use Rattle.abi_frames.proofs.Leading.{longest-append}
+use Rattle.abi_frames.proofs.Activations.{place_is}
+use Rattle.abi_frames.proofs.Sizes.{function_size, le_is}
+
+-- ---- code without a label of its own, whose jumps go to labels below n
+
+pub record Plainly (n : ℕ) (is : List Item) : Type 0 where
+  pub labels : list_all (has_label_below n) is ≡ true
+  pub none : (l : ℕ) → times_labelled l is ≡ 0
+  pub registers : list_all has_good_registers is ≡ true
+
+pub times-append : (l : ℕ) (is js : List Item) → times_labelled l (is ++ js) ≡ times_labelled l is + times_labelled l js
+times-append l [] js = sym (zero-add (times_labelled l js))
+times-append l (i ∷ is) js = let rest = times-append l is js in omega (arith, rest)
+
+all_both : (test : Item → Bool) (is js : List Item) → list_all test is ≡ true → list_all test js ≡ true → list_all test (is ++ js) ≡ true
+all_both test is js h k = list_all-append test is js ∙ and_from (list_all test is) (list_all test js) h k
+
+pub plainly_then : (n : ℕ) (is js : List Item) → Plainly n is → Plainly n js → Plainly n (is ++ js)
+plainly_then n is js h k = record {
+  labels = all_both (has_label_below n) is js h.labels k.labels;
+  none = λ l. let all = times-append l is js in let a = h.none l in let b = k.none l in omega (arith, all, a, b);
+  registers = all_both has_good_registers is js h.registers k.registers;
+}
+
+plainly_nothing : (n : ℕ) → Plainly n []
+plainly_nothing n = record { labels = refl; none = λ l. refl; registers = refl }
+
+-- registers that code may name
+pub record Nameable (d : ℕ) : Type 0 where
+  pub is : not (nat_eq (d % 32) 31) ≡ true
+
+nameable : (d : ℕ) → d < 31 → Nameable d
+nameable d h = record { is = by_test (nat_eq (d % 32) 31) refl }
+  where
+    by_test : (b : Bool) → nat_eq (d % 32) 31 ≡ b → not b ≡ true
+    by_test true e = absurd (let no : ⊥ = grind (arith, nat_tests) in no)
+    by_test false e = refl
+
+and_two : (a b : Bool) → a ≡ true → b ≡ true → ((a && (b && true)) && true) ≡ true
+and_two a b h k = cc
+
+and_three : (a b c : Bool) → a ≡ true → b ≡ true → c ≡ true → ((a && (b && (c && true))) && true) ≡ true
+and_three a b c h k m = cc
+
+-- an instruction with two registers, and one with three
+one_of_two : (n : ℕ) (i : Item) (d a : ℕ) → Nameable d → Nameable a → has_label_below n i ≡ true → ((l : ℕ) → times_labelled l (i ∷ []) ≡ 0)
+    → has_good_registers i ≡ (not (nat_eq (d % 32) 31) && (not (nat_eq (a % 32) 31) && true)) → Plainly n (i ∷ [])
+one_of_two n i d a h k label none is = record {
+  labels = and_from (has_label_below n i) true label refl;
+  none = none;
+  registers = ap (λ b. b && true) is ∙ and_two (not (nat_eq (d % 32) 31)) (not (nat_eq (a % 32) 31)) h.is k.is;
+}
+
+one_of_three : (n : ℕ) (i : Item) (d a b : ℕ) → Nameable d → Nameable a → Nameable b → has_label_below n i ≡ true → ((l : ℕ) → times_labelled l (i ∷ []) ≡ 0)
+    → has_good_registers i ≡ (not (nat_eq (d % 32) 31) && (not (nat_eq (a % 32) 31) && (not (nat_eq (b % 32) 31) && true))) → Plainly n (i ∷ [])
+one_of_three n i d a b h k m label none is = record {
+  labels = and_from (has_label_below n i) true label refl;
+  none = none;
+  registers = ap (λ t. t && true) is ∙ and_three (not (nat_eq (d % 32) 31)) (not (nat_eq (a % 32) 31)) (not (nat_eq (b % 32) 31)) h.is k.is m.is;
+}
+
+-- ---- operands and lines
+
+add_plainly : (n d a m : ℕ) → Nameable d → Nameable a → Plainly n (add_low d a m ∷ [])
+add_plainly n d a m h k = one_of_two n (add_low d a m) d a h k refl (λ l. refl) refl
+
+extend_plainly : (n d a : ℕ) → Nameable d → Nameable a → Plainly n (extend d a ∷ [])
+extend_plainly n d a h k = one_of_two n (extend d a) d a h k refl (λ l. refl) refl
+
+load_plainly : (n d a o : ℕ) → Nameable d → Nameable a → Plainly n (load_8 d a o ∷ [])
+load_plainly n d a o h k = one_of_two n (load_8 d a o) d a h k refl (λ l. refl) refl
+
+store_plainly : (n v a o : ℕ) → Nameable v → Nameable a → Plainly n (store_8 v a o ∷ [])
+store_plainly n v a o h k = one_of_two n (store_8 v a o) a v k h refl (λ l. refl) refl
+
+-- code that names one register besides fixed ones
+long_plainly : (n d m : ℕ) → Nameable d → Plainly n (long_constant d m)
+long_plainly n d m h = record { labels = refl; none = λ l. refl; registers = (let is = h.is in rw is refl) }
+
+far_load_plainly : (n d o : ℕ) → Nameable d → Plainly n (far_load d o)
+far_load_plainly n d o h = record { labels = refl; none = λ l. refl; registers = (let is = h.is in rw is refl) }
+
+far_store_plainly : (n v o : ℕ) → Nameable v → Plainly n (far_store v o)
+far_store_plainly n v o h = record { labels = refl; none = λ l. refl; registers = (let is = h.is in rw is refl) }
+
+constant_plainly : (n d m : ℕ) → Nameable d → Plainly n (constant d m)
+constant_plainly n d m h = by_test (is_immediate m)
+  where
+    by_test : (b : Bool) → Plainly n (if b then add_low d 0 m ∷ [] else long_constant d (m % 2 ^ 64))
+    by_test true = add_plainly n d 0 m h (nameable 0 (lit< tt))
+    by_test false = long_plainly n d (m % 2 ^ 64) h
+
+load_slot_plainly : (n d o : ℕ) → Nameable d → Plainly n (load_slot d o)
+load_slot_plainly n d o h = by_test (nat_lt o 2048)
+  where
+    by_test : (b : Bool) → Plainly n (if b then load_8 d 2 o ∷ [] else far_load d o)
+    by_test true = load_plainly n d 2 o h (nameable 2 (lit< tt))
+    by_test false = far_load_plainly n d o h
+
+store_slot_plainly : (n v o : ℕ) → Nameable v → Plainly n (store_slot v o)
+store_slot_plainly n v o h = by_test (nat_lt o 2048)
+  where
+    by_test : (b : Bool) → Plainly n (if b then store_8 v 2 o ∷ [] else far_store v o)
+    by_test true = store_plainly n v 2 o h (nameable 2 (lit< tt))
+    by_test false = far_store_plainly n v o h
+
+place_nameable : (slots r : ℕ) → is_place slots (InRegister r) ≡ true → Nameable r
+place_nameable slots r good = let hi = (place_is slots r good).to_27 in nameable r (omega (arith, hi))
+
+not_zero : (d : ℕ) → 0 < d → d < 31 → not (nat_eq (d % 32) 0) ≡ true
+not_zero d some h = by_test (nat_eq (d % 32) 0) refl
+  where
+    by_test : (b : Bool) → nat_eq (d % 32) 0 ≡ b → not b ≡ true
+    by_test true e = absurd (let no : ⊥ = grind (arith, nat_tests) in no)
+    by_test false e = refl
+
+address_plainly : (n d g : ℕ) → 0 < d → d < 31 → Plainly n (Address (reg d) g ∷ [])
+address_plainly n d g some h = record {
+  labels = refl;
+  none = λ l. refl;
+  registers = and_from (not (nat_eq (d % 32) 31) && not (nat_eq (d % 32) 0)) true
+      (and_from (not (nat_eq (d % 32) 31)) (not (nat_eq (d % 32) 0)) (nameable d h).is (not_zero d some h)) refl;
+}
+
+into_plainly : (n : ℕ) (y : Layout) (slots d : ℕ) (a : Operand Location) → 0 < d → d < 31 → operand_keeps (is_place slots) a ≡ true → Plainly n (into y d a)
+into_plainly n y slots d (At (InRegister r)) some h good = add_plainly n d r 0 (nameable d h) (place_nameable slots r good)
+into_plainly n y slots d (At (Slot i)) some h good = load_slot_plainly n d (slot_offset y i) (nameable d h)
+into_plainly n y slots d (Number m) some h good = constant_plainly n d m (nameable d h)
+into_plainly n y slots d (Name g) some h good = address_plainly n d g some h
+
+fetch_plainly : (n : ℕ) (y : Layout) (d : ℕ) (a : Operand Location) → 0 < d → d < 31 → Plainly n (fetch y d a)
+fetch_plainly n y d (At (InRegister r)) some h = plainly_nothing n
+fetch_plainly n y d (At (Slot i)) some h = load_slot_plainly n d (slot_offset y i) (nameable d h)
+fetch_plainly n y d (Number m) some h = constant_plainly n d m (nameable d h)
+fetch_plainly n y d (Name g) some h = address_plainly n d g some h
+
+source_nameable : (slots d : ℕ) (a : Operand Location) → d < 31 → operand_keeps (is_place slots) a ≡ true → Nameable (source d a)
+source_nameable slots d (At (InRegister r)) h good = place_nameable slots r good
+source_nameable slots d (At (Slot i)) h good = nameable d h
+source_nameable slots d (Number m) h good = nameable d h
+source_nameable slots d (Name g) h good = nameable d h
+
+target_nameable : (slots : ℕ) (to : Location) → is_place slots to ≡ true → Nameable (target to)
+target_nameable slots (InRegister r) good = place_nameable slots r good
+target_nameable slots (Slot i) good = nameable 28 (lit< tt)
+
+deliver_plainly : (n : ℕ) (y : Layout) (to : Location) → Plainly n (deliver y to)
+deliver_plainly n y (InRegister r) = plainly_nothing n
+deliver_plainly n y (Slot i) = store_slot_plainly n 28 (slot_offset y i) (nameable 28 (lit< tt))
+
+set_plainly : (n : ℕ) (y : Layout) (slots : ℕ) (to : Location) (a : Operand Location) → is_place slots to ≡ true → operand_keeps (is_place slots) a ≡ true
+    → Plainly n (set_items y to a)
+set_plainly n y slots (InRegister r) a good known =
+    let place = place_is slots r good in
+    let lo = place.from_5 in
+    let hi = place.to_27 in
+    into_plainly n y slots r a (omega (arith, lo)) (omega (arith, hi)) known
+set_plainly n y slots (Slot i) a good known =
+    plainly_then n (fetch y 28 a) (store_slot (source 28 a) (slot_offset y i)) (fetch_plainly n y 28 a (lit< tt) (lit< tt))
+    (store_slot_plainly n (source 28 a) (slot_offset y i) (source_nameable slots 28 a (lit< tt) known))
+
+operation_plainly : (n : ℕ) (op : Operation) (d a b : ℕ) → Nameable d → Nameable a → Nameable b → Plainly n (operation_items op d a b)
+operation_plainly n (RegOperation op) d a b h k m = one_of_three n (Plain (Reg op (reg d) (reg a) (reg b))) d a b h k m refl (λ l. refl) refl
+operation_plainly n (RegWOperation op) d a b h k m = one_of_three n (Plain (RegW op (reg d) (reg a) (reg b))) d a b h k m refl (λ l. refl) refl
+operation_plainly n (Compare on k) d a b h g m = plainly_nothing n
+
+operate_plainly : (n : ℕ) (y : Layout) (slots : ℕ) (to : Location) (op : Operation) (a b : Operand Location) → is_place slots to ≡ true
+    → operand_keeps (is_place slots) a ≡ true → operand_keeps (is_place slots) b ≡ true → Plainly n (operate_items y to op a b)
+operate_plainly n y slots to op a b good known_a known_b =
+    let made = operation_items op (target to) (source 28 a) (source 29 b) in
+    plainly_then n (fetch y 28 a) (fetch y 29 b ++ (made ++ deliver y to)) (fetch_plainly n y 28 a (lit< tt) (lit< tt))
+    (plainly_then n (fetch y 29 b) (made ++ deliver y to) (fetch_plainly n y 29 b (lit< tt) (lit< tt))
+    (plainly_then n made (deliver y to)
+    (operation_plainly n op (target to) (source 28 a) (source 29 b) (target_nameable slots to good) (source_nameable slots 28 a (lit< tt) known_a)
+    (source_nameable slots 29 b (lit< tt) known_b))
+    (deliver_plainly n y to)))
+
+line_plainly : (n : ℕ) (y : Layout) (slots : ℕ) (l : Line Location) → line_keeps (is_place slots) l ≡ true → Plainly n (line_items y l)
+line_plainly n y slots (Tick turn w) known = plainly_nothing n
+line_plainly n y slots (Set to a) known =
+    let parts = and_parts (is_place slots to) (operand_keeps (is_place slots) a) known in
+    set_plainly n y slots to a parts.0 parts.1
+line_plainly n y slots (Operate to op a b) known =
+    let parts = and_parts (is_place slots to) (operand_keeps (is_place slots) a && operand_keeps (is_place slots) b) known in
+    let operands = and_parts (operand_keeps (is_place slots) a) (operand_keeps (is_place slots) b) parts.1 in
+    operate_plainly n y slots to op a b parts.0 operands.0 operands.1
+line_plainly n y slots (Load to op at) known = plainly_nothing n
+line_plainly n y slots (Store size a at) known = plainly_nothing n
+line_plainly n y slots (Alloc to size) known = plainly_nothing n
+line_plainly n y slots (Blit from to count) known = plainly_nothing n
+line_plainly n y slots (Call to callee args) known = plainly_nothing n
+
+lines_plainly : (n : ℕ) (y : Layout) (slots : ℕ) (lines : List (Line Location)) → list_all (line_keeps (is_place slots)) lines ≡ true → Plainly n (lines_items y lines)
+lines_plainly n y slots [] known = plainly_nothing n
+lines_plainly n y slots (l ∷ lines) known =
+    let parts = and_parts (line_keeps (is_place slots) l) (list_all (line_keeps (is_place slots)) lines) known in
+    plainly_then n (line_items y l) (lines_items y lines) (line_plainly n y slots l parts.0) (lines_plainly n y slots lines parts.1)
+
+-- ---- jumps
+
+lt_from : (a b : ℕ) → a < b → nat_lt a b ≡ true
+lt_from a b h = grind (arith, nat_tests)
+
+target_below : (blocks n k : ℕ) → blocks < n → is_target blocks k ≡ true → nat_lt k n ≡ true
+target_below blocks n k h e =
+    let below = (and_parts (nat_lt 0 k) (nat_lt k blocks) e).1 in
+    grind (arith, nat_tests)
+
+goto_plainly : (n k : ℕ) → nat_lt k n ≡ true → Plainly n (GoTo k ∷ [])
+goto_plainly n k h = record { labels = and_from (nat_lt k n) true h refl; none = λ l. refl; registers = refl }
+
+result_plainly : (n : ℕ) (y : Layout) (slots : ℕ) (k : Option Class) (a : Operand Location) → operand_keeps (is_place slots) a ≡ true → Plainly n (result_items y k a)
+result_plainly n y slots None a known = plainly_nothing n
+result_plainly n y slots (Some L) a known = into_plainly n y slots 10 a (lit< tt) (lit< tt) known
+result_plainly n y slots (Some W) a known =
+    plainly_then n (into y 10 a) (extend 10 10 ∷ []) (into_plainly n y slots 10 a (lit< tt) (lit< tt) known)
+    (extend_plainly n 10 10 (nameable 10 (lit< tt)) (nameable 10 (lit< tt)))
+
+jump_plainly : (n : ℕ) (y : Layout) (slots blocks : ℕ) (j : Jump Location) → y.leave < n → blocks < n → jump_keeps (is_place slots) j ≡ true
+    → leads_inside blocks j ≡ true → Plainly n (jump_items y j)
+jump_plainly n y slots blocks (Goto k) leave more known inside = goto_plainly n k (target_below blocks n k more inside)
+jump_plainly n y slots blocks (Branch on nonzero otherwise) leave more known inside =
+    let parts = and_parts (is_target blocks nonzero) (is_target blocks otherwise) inside in
+    let first = target_below blocks n nonzero more parts.0 in
+    let second = target_below blocks n otherwise more parts.1 in
+    let two : List Item = BranchTo Bne (reg 28) (reg 0) nonzero ∷ GoTo otherwise ∷ [] in
+    plainly_then n (fetch y 28 on) (extend 28 (source 28 on) ∷ two) (fetch_plainly n y 28 on (lit< tt) (lit< tt))
+    (plainly_then n (extend 28 (source 28 on) ∷ []) two
+    (extend_plainly n 28 (source 28 on) (nameable 28 (lit< tt)) (source_nameable slots 28 on (lit< tt) known))
+    (record {
+      labels = and_from (nat_lt nonzero n) (nat_lt otherwise n && true) first (and_from (nat_lt otherwise n) true second refl);
+      none = λ l. refl;
+      registers = refl;
+    }))
+jump_plainly n y slots blocks (Return None) leave more known inside = goto_plainly n y.leave (lt_from y.leave n leave)
+jump_plainly n y slots blocks (Return (Some a)) leave more known inside =
+    plainly_then n (result_items y y.result a) (GoTo y.leave ∷ []) (result_plainly n y slots y.result a known)
+    (goto_plainly n y.leave (lt_from y.leave n leave))
+jump_plainly n y slots blocks Halt leave more known inside = record { labels = refl; none = λ l. refl; registers = refl }
+
+-- ---- the frame's begin and end
+
+move_plainly : (n m : ℕ) → Plainly n (move_pointer m)
+move_plainly n m = by_test (is_immediate m)
+  where
+    by_test : (b : Bool) → Plainly n (if b then add_low 2 2 m ∷ [] else constant 28 m ++ (sum_to 2 2 28 ∷ []))
+    by_test true = add_plainly n 2 2 m (nameable 2 (lit< tt)) (nameable 2 (lit< tt))
+    by_test false =
+        plainly_then n (constant 28 m) (sum_to 2 2 28 ∷ []) (constant_plainly n 28 m (nameable 28 (lit< tt)))
+        (record { labels = refl; none = λ l. refl; registers = refl })
+
+prologue_plainly : (n : ℕ) (y : Layout) → Plainly n (prologue y)
+prologue_plainly n y =
+    plainly_then n (move_pointer (2 ^ 64 - y.size)) (save_all y.saves saved_registers) (move_plainly n (2 ^ 64 - y.size))
+    (record { labels = refl; none = λ l. refl; registers = refl })
+
+epilogue_plainly : (n : ℕ) (y : Layout) → Plainly n (epilogue y)
+epilogue_plainly n y =
+    plainly_then n (restore_all y.saves saved_registers) (move_pointer y.size ++ (go_back ∷ []))
+    (record { labels = refl; none = λ l. refl; registers = refl })
+    (plainly_then n (move_pointer y.size) (go_back ∷ []) (move_plainly n y.size) (record { labels = refl; none = λ l. refl; registers = refl }))
+
+-- ---- blocks
+
+-- 1 for each number from k on, as many as there are blocks
+abbrev numbered : (k blocks l : ℕ) → ℕ
+numbered k blocks l = if nat_le k l && nat_lt l (k + blocks) then 1 else 0
+
+pub record BlocksLabelled (n k : ℕ) (blocks : List (Block Location)) (is : List Item) : Type 0 where
+  pub labels : list_all (has_label_below n) is ≡ true
+  pub once : (l : ℕ) → times_labelled l is ≡ numbered k (length blocks) l
+  pub registers : list_all has_good_registers is ≡ true
+
+no_blocks : (k l : ℕ) → 0 ≡ numbered k 0 l
+no_blocks k l = grind (arith, nat_tests)
+
+one_more : (k n l : ℕ) → (if nat_eq k l then 1 else 0) + numbered (k + 1) n l ≡ numbered k (n + 1) l
+one_more k n l = grind (arith, nat_tests)
+
+length-more : (b : Block Location) (blocks : List (Block Location)) → length (b ∷ blocks) ≡ length blocks + 1
+length-more b blocks = omega arith
+
+blocks_labelled : (n : ℕ) (y : Layout) (slots all k : ℕ) (blocks : List (Block Location)) → y.leave < n → all < n → k + length blocks ≤ all
+    → list_all (block_keeps (is_place slots)) blocks ≡ true → list_all (λ (b : Block Location). leads_inside all b.jump) blocks ≡ true
+    → BlocksLabelled n k blocks (blocks_items y k blocks)
+blocks_labelled n y slots all k [] leave more few known inside = record { labels = refl; once = λ l. no_blocks k l; registers = refl }
+blocks_labelled n y slots all k (b ∷ blocks) leave more few known inside =
+    let known_parts = and_parts (block_keeps (is_place slots) b) (list_all (block_keeps (is_place slots)) blocks) known in
+    let inside_parts = and_parts (leads_inside all b.jump) (list_all (λ (d : Block Location). leads_inside all d.jump) blocks) inside in
+    let here = and_parts (list_all (line_keeps (is_place slots)) b.lines) (jump_keeps (is_place slots) b.jump) known_parts.0 in
+    let body : List Item = lines_items y b.lines ++ jump_items y b.jump in
+    let plain = plainly_then n (lines_items y b.lines) (jump_items y b.jump) (lines_plainly n y slots b.lines here.0)
+    (jump_plainly n y slots all b.jump leave more here.1 inside_parts.0) in
+    let count = length-more b blocks in
+    let rest = blocks_labelled n y slots all (k + 1) blocks leave more (omega (arith, few, count)) known_parts.1 inside_parts.1 in
+    let others : List Item = blocks_items y (k + 1) blocks in
+    record {
+      labels = and_from (nat_lt k n) (list_all (has_label_below n) (body ++ others)) (lt_from k n (omega (arith, few, count, more)))
+          (all_both (has_label_below n) body others plain.labels rest.labels);
+      once = λ l.
+          let sum = times-append l body others in
+          let none = plain.none l in
+          let once = rest.once l in
+          let step = one_more k (length blocks) l in
+          let same : numbered k (length blocks + 1) l ≡ numbered k (length (b ∷ blocks)) l = ap (λ m. numbered k m l) (sym count) in
+          first_of (if nat_eq k l then 1 else 0) (times_labelled l (body ++ others)) (times_labelled l body) (times_labelled l others)
+          (numbered (k + 1) (length blocks) l) (numbered k (length blocks + 1) l) sum none once step ∙ same;
+      registers = all_both has_good_registers body others plain.registers rest.registers;
+    }
+  where
+    first_of : (x s p q m t : ℕ) → s ≡ p + q → p ≡ 0 → q ≡ m → x + m ≡ t → x + s ≡ t
+    first_of x s p q m t e f g h = omega (arith, e, f, g, h)
+
+-- ---- functions
+
+all_numbered : (n l : ℕ) → l < n + 1 → numbered 0 n l + (if nat_eq n l then 1 else 0) ≡ 1
+all_numbered n l h = grind (arith, nat_tests)
+
+some_size : (y : Layout) → 0 < longest_size (epilogue y)
+some_size y =
+    let all = longest-append (restore_all y.saves saved_registers) (move_pointer y.size ++ (go_back ∷ [])) in
+    let more = longest-append (move_pointer y.size) (go_back ∷ []) in
+    omega (arith, all, more)
+
+pub frames_are_labelled : FramesAreLabelled
+frames_are_labelled f slots is =
+    let y : Layout = layout f slots in
+    let n : ℕ = length f.blocks in
+    let known = and_parts (list_all (λ (d : Destination Location). is_place slots d.place) f.params) (list_all (block_keeps (is_place slots)) f.blocks) is.known in
+    let covered = and_parts (nat_eq (length f.params) 0) (list_all covers_block f.blocks) is.covered in
+    let begin = prologue_plainly (n + 1) y in
+    let end = epilogue_plainly (n + 1) y in
+    let blocks = blocks_labelled (n + 1) y slots n 0 f.blocks (omega arith) (omega arith) (omega arith) known.1 is.regular.inside in
+    let mid : List Item = blocks_items y 0 f.blocks in
+    let last : List Item = Label n ∷ epilogue y in
+    let tail : List Item = mid ++ last in
+    let size = function_size y f.blocks covered.1 in
+    let light = le_is (code_weight f) 40000 is.regular.light in
+    let some = some_size y in
+    let sum_one = longest-append (prologue y) tail in
+    let sum_two = longest-append mid last in
+    record {
+      labels = all_both (has_label_below (n + 1)) (prologue y) tail begin.labels
+          (all_both (has_label_below (n + 1)) mid last blocks.labels
+          (and_from (nat_lt n (n + 1)) (list_all (has_label_below (n + 1)) (epilogue y)) (lt_from n (n + 1) (omega arith)) end.labels));
+      once = λ l h.
+          let one = times-append l (prologue y) tail in
+          let two = times-append l mid last in
+          let none = begin.none l in
+          let once = blocks.once l in
+          let none_last = end.none l in
+          let whole = all_numbered n l h in
+          total (times_labelled l (prologue y ++ tail)) (times_labelled l (prologue y)) (times_labelled l tail) (times_labelled l mid)
+          (if nat_eq n l then 1 else 0) (times_labelled l (epilogue y)) (numbered 0 n l) one two none once none_last whole;
+      registers = all_both has_good_registers (prologue y) tail begin.registers (all_both has_good_registers mid last blocks.registers end.registers);
+      not_empty = omega (arith, some, sum_one, sum_two);
+      near = omega (arith, size, light);
+    }
+  where
+    total : (s p t m x e k : ℕ) → s ≡ p + t → t ≡ m + (x + e) → p ≡ 0 → m ≡ k → e ≡ 0 → k + x ≡ 1 → s ≡ 1
+    total s p t m x e k h1 h2 h3 h4 h5 h6 = omega (arith, h1, h2, h3, h4, h5, h6)

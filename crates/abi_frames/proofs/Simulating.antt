@@ -1,0 +1,679 @@
+-- The machine follows the code on bytes, line by line: what holds at a line, and that it holds at the next one, until the code is over.
+use Rattle.std.proofs.Common.{◌≡◌, ◌≢◌, ℕ, zero, suc, ◌+◌, ◌-◌, ◌*◌, ◌%◌, ◌^◌, ◌<◌, ◌≤◌, Bool, true, false, List, [], ◌∷◌, ◌++◌, refl, sym, ◌∙◌, ap, subst, arith, lit<, zero-add, append_assoc, append-nil}
+use Rattle.std.specs.Prelude.{◌&&◌, nat_eq, nat_le, nat_lt, if◌then◌else◌, slice_get, Option, Some, None, Err}
+use Rattle.std.specs.Option.{option_map, option_and_then}
+use Rattle.std.specs.List.{list_all, sum_by}
+use Rattle.std.proofs.lemmas.Bool.{and_parts}
+use Rattle.std.proofs.lemmas.List.Sums.{sum_by-cons}
+use Rattle.il_ast.specs.declared.operation.Class.{Class}
+use Rattle.il_ast.specs.declared.operation.Class.TheVariants.{W}
+use Rattle.il_ast.specs.declared.value.End.TheVariants.{Halt as Halted, Undefined, Turns}
+use Rattle.il_ast.specs.Run.{Spent, one_call, one_turn, both}
+use Rattle.il_ast.specs.Logged.{Over, Does, Entry, LoggedEvent, Logged}
+use Rattle.rv_isa.specs.State.{State}
+use Rattle.rv_isa.specs.Step.{step, Broken}
+use Rattle.rv_isa.specs.Runs.{runs, Comes, then_run}
+use Rattle.rv_isa.specs.Memory.{number_at}
+use Rattle.rv_isa.specs.Labels.{longest_size}
+use Rattle.rv_isa.specs.Labelled.{Fixed, Stand, Stands}
+use Rattle.rv_isa.specs.declared.instruction.Instr.TheVariants.{Ebreak}
+use Rattle.rv_isa.specs.declared.labelled.Item.{Item}
+use Rattle.rv_isa.specs.declared.labelled.Item.TheVariants.{Goto as GoTo}
+use Rattle.rv_isa.proofs.RunLemmas.{comes_then}
+use Rattle.rv_isa.proofs.StepLemmas.{step_at}
+use Rattle.vcode.specs.declared.place.Location.{Location}
+use Rattle.vcode.specs.declared.place.Location.TheVariants.{Register as InRegister, Slot}
+use Rattle.vcode.specs.declared.place.Operand.{Operand}
+use Rattle.vcode.specs.declared.line.Operation.{Operation}
+use Rattle.vcode.specs.declared.line.Line.{Line}
+use Rattle.vcode.specs.declared.line.Line.TheVariants.{Tick, Set, Operate, Load, Store, Alloc, Blit, Call}
+use Rattle.vcode.specs.declared.line.Jump.{Jump}
+use Rattle.vcode.specs.declared.line.Jump.TheVariants.{Goto, Branch, Return, Halt}
+use Rattle.vcode.specs.declared.code.Block.{Block}
+use Rattle.vcode.specs.declared.code.Code.{Code}
+use Rattle.vcode.specs.Named.{is_place, operand_keeps, line_keeps, jump_keeps}
+use Rattle.vcode.specs.Regular.{area, turns_of}
+use Rattle.vcode.specs.Cost.{line_cost, jump_cost, affords}
+use Rattle.vcode.specs.Step.{weighs}
+use Rattle.flat_code.specs.Spots.{Away, Known, Spots}
+use Rattle.flat_code.specs.Flat.{FlatGiven, FlatAsked, FlatOutcome, FlatReturned, FlatEnded, flat_after}
+use Rattle.flat_code.specs.Step.{FlatState, FlatEvent, Numbers, put, number_of, read, taken, computed, closed, is_in, sets, ticks, fails, goes_on, enters, branches, returns, returns_as, flat_line, flat_jump, block_step, step_in, flat_step}
+use Rattle.abi_frames.specs.Calls.{ResultIn, passed}
+use Rattle.abi_frames.specs.Performs.{Performs, AllPerform}
+use Rattle.abi_frames.specs.Covered.{leaving, covers_line, covers_operation}
+use Rattle.abi_frames.specs.Emission.{line_items, lines_items, jump_items, result_items, epilogue}
+use Rattle.abi_frames.proofs.Leading.{Site, StandAt, Reaches, Leads, leads_so, Sets}
+use Rattle.abi_frames.proofs.Activations.{Setting, IsSetting, site, bottom, slot_at, save_at, value_at, operand_in, place_is, Framed, operand_known, Assigned, assigned, assigned_output}
+use Rattle.abi_frames.proofs.LineCode.{Scratched, leads_set_line, leads_operate_line}
+use Rattle.abi_frames.proofs.FrameEnds.{Lands, Ends, ends_then, Jumped, ends_frame}
+use Rattle.abi_frames.proofs.JumpCode.{ends_so, ends_goto, ends_branch, leads_result, way}
+use Rattle.abi_frames.proofs.Sizes.{line_size, jump_size, epilogue_size, le_is}
+
+-- ---- what is known of the code
+
+pub record BlockStands (c : Setting) (b : Block Location) (i : ℕ) : Type 0 where
+  pub rest : List Item
+  pub stands : StandAt (site c) ((lines_items c.layout b.lines ++ jump_items c.layout b.jump) ++ rest) (c.label i)
+  pub known : list_all (line_keeps (is_place c.slots)) b.lines ≡ true
+  pub jump_known : jump_keeps (is_place c.slots) b.jump ≡ true
+  pub covered : list_all covers_line b.lines ≡ true
+  pub paid : affords 0 (leaving b.jump) b.lines ≡ true
+  pub paced : sum_by turns_of b.lines ≤ 40000
+
+pub record CodeStands (c : Setting) (f : Code Location) : Type 0 where
+  pub setting : IsSetting c
+  pub blocks : (i : ℕ) (b : Block Location) → slice_get f.blocks i ≡ Some b → BlockStands c b i
+  pub result : c.layout.result ≡ f.result
+  pub rest : List Item
+  pub leave : StandAt (site c) (epilogue c.layout ++ rest) (c.label c.layout.leave)
+  pub area : c.area ≡ area f
+  pub pointer : c.start.registers 2 ≡ c.sp
+  pub aligned : c.start.registers 1 % 4 ≡ 0
+
+-- the instructions that are paid for, less those of the frame's end
+abbrev pub allowed : FlatState → ℕ
+allowed fs = 32 * fs.spent.weight + 256 * (1 + fs.spent.calls)
+
+-- ---- what holds at a line, and at a jump
+
+pub record At (c : Setting) (f : Code Location) (b : Block Location) (lines : List (Line Location)) (fs : FlatState) (k : ℕ) (u : State) : Type 0 where
+  pub block : slice_get f.blocks fs.block ≡ Some b
+  pub ahead : (i : ℕ) → slice_get b.lines (fs.next + i) ≡ slice_get lines i
+  pub rest : List Item
+  pub stands : StandAt (site c) ((lines_items c.layout lines ++ jump_items c.layout b.jump) ++ rest) u.pc
+  pub fixed : Fixed c.world.memory_map u
+  pub framed : Framed c fs.numbers fs.memory u
+  pub comes : Comes c.start k u
+  pub output : u.output ≡ c.start.output ++ fs.spent.output
+  pub known : list_all (line_keeps (is_place c.slots)) lines ≡ true
+  pub jump_known : jump_keeps (is_place c.slots) b.jump ≡ true
+  pub covered : list_all covers_line lines ≡ true
+  pub credit : ℕ
+  pub paid : affords credit (leaving b.jump) lines ≡ true
+  pub price : k + credit + 64 ≤ allowed fs
+  pub pace : fs.spent.turns + sum_by turns_of lines ≤ 40000 * (k + 1)
+
+pub record AtJump (c : Setting) (j : Jump Location) (fs : FlatState) (k : ℕ) (u : State) : Type 0 where
+  pub rest : List Item
+  pub stands : StandAt (site c) (jump_items c.layout j ++ rest) u.pc
+  pub fixed : Fixed c.world.memory_map u
+  pub framed : Framed c fs.numbers fs.memory u
+  pub comes : Comes c.start k u
+  pub output : u.output ≡ c.start.output ++ fs.spent.output
+  pub known : jump_keeps (is_place c.slots) j ≡ true
+  pub credit : ℕ
+  pub paid : jump_cost (leaving j) ≤ credit
+  pub price : k + credit + 64 ≤ allowed fs
+  pub pace : fs.spent.turns ≤ 40000 * (k + 1)
+
+-- the machine is where it goes on after a jump
+pub record Landed (c : Setting) (to : ℕ) (fs : FlatState) (k : ℕ) (u : State) : Type 0 where
+  pub place : u.pc ≡ to
+  pub fixed : Fixed c.world.memory_map u
+  pub framed : Framed c fs.numbers fs.memory u
+  pub comes : Comes c.start k u
+  pub output : u.output ≡ c.start.output ++ fs.spent.output
+  pub price : k + 64 ≤ allowed fs
+  pub pace : fs.spent.turns ≤ 40000 * k
+
+-- ---- what is to be shown
+
+abbrev pub Performed : Setting → Code Location → FlatOutcome → Type 0
+Performed c f r = Performs c.world c.sp f.result c.before c.start (flat_after one_call r)
+
+abbrev pub step_of : Setting → Code Location → FlatGiven → FlatState → FlatEvent
+step_of c f j = flat_step f c.addresses (c.sp - c.area) j
+
+abbrev pub Log : Type 0
+Log = List (Entry FlatAsked FlatOutcome)
+
+-- from each line, where the code goes as r within n steps
+abbrev pub Follows : Setting → Code Location → FlatGiven → FlatOutcome → ℕ → Type 0
+Follows c f j r n =
+    (b : Block Location) (lines : List (Line Location)) (fs : FlatState) (k : ℕ) (u : State) → At c f b lines fs k u → (log : Log)
+    → Logged (step_of c f j) n fs log r → AllPerform c.world (bottom c) log → Performed c f r
+
+-- and after an event
+abbrev pub Then : Setting → Code Location → FlatGiven → FlatOutcome → ℕ → Log → FlatEvent → Type 0
+Then c f j r n log e = LoggedEvent (λ t rest. Logged (step_of c f j) n t rest r) r e log
+
+undefined : (c : Setting) (f : Code Location) (t : Spent) (r : FlatOutcome) → FlatEnded t Undefined ≡ r → Performed c f r
+undefined c f t r e = subst (λ o. Performed c f o) e tt
+
+-- ---- frames of states that differ in scratch registers
+
+same_places : (c : Setting) (numbers : Numbers) (memory : Spots) (s u : State) → Framed c numbers memory s → Scratched s u
+    → (p : Location) (v : ℕ) → is_place c.slots p ≡ true → numbers p ≡ Some v → value_at c u p ≡ v
+same_places c numbers memory s u framed h (InRegister r) v good known =
+    let hi = (place_is c.slots r good).to_27 in
+    h.registers r (omega (arith, hi)) ∙ framed.places (InRegister r) v good known
+same_places c numbers memory s u framed h (Slot i) v good known =
+    ap (λ (m : ℕ → ℕ). number_at m (slot_at c i) 8) h.bytes ∙ framed.places (Slot i) v good known
+
+pub framed_same : (c : Setting) (numbers : Numbers) (memory : Spots) (s u : State) → Framed c numbers memory s → Scratched s u → Framed c numbers memory u
+framed_same c numbers memory s u framed h = record {
+  pointer = h.registers 2 (lit< tt) ∙ framed.pointer;
+  places = same_places c numbers memory s u framed h;
+  spots = record { known = λ x n k. ap (λ (m : ℕ → ℕ). m x) h.bytes ∙ framed.spots.known x n k; usable = framed.spots.usable };
+  clear = framed.clear;
+  saved = λ k r e. ap (λ (m : ℕ → ℕ). number_at m (save_at c k) 8) h.bytes ∙ framed.saved k r e;
+  thread = λ n lo hi. h.registers n (omega (arith, hi)) ∙ framed.thread n lo hi;
+  others = λ x hi away. ap (λ (m : ℕ → ℕ). m x) h.bytes ∙ framed.others x hi away;
+}
+
+-- ---- lines
+
+assoc : (a b d e : List Item) → ((a ++ b) ++ d) ++ e ≡ a ++ ((b ++ d) ++ e)
+assoc a b d e = ap (λ l. l ++ e) (append_assoc a b d) ∙ append_assoc a (b ++ d) e
+
+reach : (c : Setting) (f : Code Location) (b : Block Location) (l : Line Location) (lines : List (Line Location)) (fs : FlatState) (k : ℕ) (u : State)
+    (P : State → Type 0) → (a : At c f b (l ∷ lines) fs k u) → Leads (site c) (line_items c.layout l) u P
+    → Reaches (site c) (longest_size (line_items c.layout l)) ((lines_items c.layout lines ++ jump_items c.layout b.jump) ++ a.rest) u P
+reach c f b l lines fs k u P a leads =
+    leads.from ((lines_items c.layout lines ++ jump_items c.layout b.jump) ++ a.rest)
+    (subst (λ is. StandAt (site c) is u.pc) (assoc (line_items c.layout l) (lines_items c.layout lines) (jump_items c.layout b.jump) a.rest) a.stands) a.fixed
+
+next_index : (n i : ℕ) → n + 1 + i ≡ n + suc i
+next_index n i = omega arith
+
+-- after a line that is no tick, with what it leaves in places
+advance : (c : Setting) (f : Code Location) (b : Block Location) (l : Line Location) (lines : List (Line Location)) (fs : FlatState) (k : ℕ) (u : State)
+    (numbers : Numbers) (memory : Spots) (used : ℕ) → (a : At c f b (l ∷ lines) fs k u) → turns_of l ≡ 0
+    → (nat_le (line_cost l) a.credit && affords (a.credit - line_cost l) (leaving b.jump) lines) ≡ true
+    → (m : Reaches (site c) (longest_size (line_items c.layout l)) ((lines_items c.layout lines ++ jump_items c.layout b.jump) ++ a.rest) u
+    (λ w. Framed c numbers memory w × (w.output ≡ u.output)))
+    → At c f b lines (record fs { next = fs.next + 1; numbers = numbers; memory = memory; used = used }) (k + m.steps) m.after
+advance c f b l lines fs k u numbers memory used a calm pays m =
+    let parts = and_parts (nat_le (line_cost l) a.credit) (affords (a.credit - line_cost l) (leaving b.jump) lines) pays in
+    let enough = le_is (line_cost l) a.credit parts.0 in
+    let size = line_size c.layout l in
+    let few = m.few in
+    let price = a.price in
+    let pace = a.pace in
+    let sum = sum_by-cons turns_of l lines in
+    record {
+      block = a.block;
+      ahead = λ i. ap (λ n. slice_get b.lines n) (next_index fs.next i) ∙ a.ahead (suc i);
+      rest = a.rest;
+      stands = m.stands;
+      fixed = m.fixed;
+      framed = m.holds.0;
+      comes = comes_then a.comes m.comes;
+      output = m.holds.1 ∙ a.output;
+      known = (and_parts (line_keeps (is_place c.slots) l) (list_all (line_keeps (is_place c.slots)) lines) a.known).1;
+      jump_known = a.jump_known;
+      covered = (and_parts (covers_line l) (list_all covers_line lines) a.covered).1;
+      credit = a.credit - line_cost l;
+      paid = parts.1;
+      price = omega (arith, enough, size, few, price);
+      pace = omega (arith, pace, sum, calm);
+    }
+
+-- a tick
+abbrev tick : Bool → ℕ → Line Location
+tick turn w = Tick turn w
+
+ticked : (c : Setting) (f : Code Location) (b : Block Location) (turn : Bool) (w : ℕ) (lines : List (Line Location)) (fs : FlatState) (k : ℕ) (u : State) (t : Spent)
+    → (a : At c f b (Tick turn w ∷ lines) fs k u) → t.turns ≡ fs.spent.turns + turns_of (tick turn w) → t.weight ≡ fs.spent.weight + w
+    → t.calls ≡ fs.spent.calls → t.output ≡ fs.spent.output
+    → At c f b lines (record fs { next = fs.next + 1; spent = t }) k u
+ticked c f b turn w lines fs k u t a turns weight calls output =
+    let price = a.price in
+    let pace = a.pace in
+    let sum = sum_by-cons turns_of (Tick turn w) lines in
+    record {
+      block = a.block;
+      ahead = λ i. ap (λ n. slice_get b.lines n) (next_index fs.next i) ∙ a.ahead (suc i);
+      rest = a.rest;
+      stands = a.stands;
+      fixed = a.fixed;
+      framed = a.framed;
+      comes = a.comes;
+      output = a.output ∙ ap (λ o. c.start.output ++ o) (sym output);
+      known = a.known;
+      jump_known = a.jump_known;
+      covered = a.covered;
+      credit = a.credit + 32 * w;
+      paid = a.paid;
+      price = omega (arith, price, weight, calls);
+      pace = omega (arith, pace, sum, turns);
+    }
+
+out_of_turns : (c : Setting) (f : Code Location) (b : Block Location) (lines : List (Line Location)) (fs : FlatState) (k : ℕ) (u : State) (r : FlatOutcome)
+    → At c f b lines fs k u → FlatEnded fs.spent Turns ≡ r → Performed c f r
+out_of_turns c f b lines fs k u r a e =
+    let price = a.price in
+    let pace = a.pace in
+    let stop : Performed c f (FlatEnded fs.spent Turns) = record {
+      steps = k;
+      after = u;
+      comes = a.comes;
+      price = omega (arith, price);
+      pace = omega (arith, pace);
+      output = a.output;
+    } in
+    subst (λ o. Performed c f o) e stop
+
+tick_case : (c : Setting) (f : Code Location) (j : FlatGiven) (r : FlatOutcome) (n : ℕ) → Follows c f j r n
+    → (b : Block Location) (turn : Bool) (w : ℕ) (lines : List (Line Location)) (fs : FlatState) (k : ℕ) (u : State) → At c f b (Tick turn w ∷ lines) fs k u
+    → (log : Log) → Then c f j r n log (ticks j fs turn w) → AllPerform c.world (bottom c) log → Performed c f r
+tick_case c f j r n go b false w lines fs k u a log goes all =
+    go b lines (record fs { next = fs.next + 1; spent = both fs.spent (weighs w) }) k u
+    (ticked c f b false w lines fs k u (both fs.spent (weighs w)) a refl refl (omega arith) (append-nil fs.spent.output)) log goes all
+tick_case c f j r n go b true w lines fs k u a log goes all = by_test (nat_lt fs.spent.turns j.turns) goes
+  where
+    by_test : (t : Bool)
+        → Then c f j r n log (if t then goes_on (record fs { spent = both fs.spent (one_turn w) }) else Does (Over (FlatEnded fs.spent Turns)))
+        → Performed c f r
+    by_test true e =
+        go b lines (record fs { next = fs.next + 1; spent = both fs.spent (one_turn w) }) k u
+        (ticked c f b true w lines fs k u (both fs.spent (one_turn w)) a refl refl (omega arith) (append-nil fs.spent.output)) log e all
+    by_test false e = out_of_turns c f b (Tick true w ∷ lines) fs k u r a e.0
+
+-- a copy
+set_case : (c : Setting) (f : Code Location) → CodeStands c f → (j : FlatGiven) (r : FlatOutcome) (n : ℕ) → Follows c f j r n
+    → (b : Block Location) (to : Location) (x : Operand Location) (lines : List (Line Location)) (fs : FlatState) (k : ℕ) (u : State)
+    → At c f b (Set to x ∷ lines) fs k u → (log : Log)
+    → Then c f j r n log (goes_on (record fs { numbers = put to (number_of c.addresses fs.numbers x) fs.numbers }))
+    → AllPerform c.world (bottom c) log → Performed c f r
+set_case c f is j r n go b to x lines fs k u a log goes all =
+    let numbers : Numbers = put to (number_of c.addresses fs.numbers x) fs.numbers in
+    let known = and_parts (is_place c.slots to) (operand_keeps (is_place c.slots) x)
+    (and_parts (line_keeps (is_place c.slots) (Set to x)) (list_all (line_keeps (is_place c.slots)) lines) a.known).0 in
+    let v : ℕ = operand_in c u x in
+    let m = reach c f b (Set to x) lines fs k u (λ w. Framed c numbers fs.memory w × (w.output ≡ u.output)) a
+    (leads_so (site c) (line_items c.layout (Set to x)) u (Assigned c u to v) (λ w. Framed c numbers fs.memory w × (w.output ≡ u.output))
+    (leads_set_line c is.setting u to x a.framed.pointer known.0 known.1)
+    (λ w fixed made. (
+      assigned c is.setting fs.numbers fs.memory u w to v (number_of c.addresses fs.numbers x) known.0 a.framed made
+          (λ y e. operand_known c fs.numbers fs.memory u x y is.setting a.framed known.1 e),
+      assigned_output c u to v w made,
+    ))) in
+    go b lines (record fs { next = fs.next + 1; numbers = numbers }) (k + m.steps) m.after
+    (advance c f b (Set to x) lines fs k u numbers fs.memory fs.used a refl a.paid m) log goes all
+
+-- an operation
+operated : (c : Setting) (f : Code Location) → CodeStands c f → (j : FlatGiven) (r : FlatOutcome) (n : ℕ) → Follows c f j r n
+    → (b : Block Location) (to : Location) (op : Operation) (x y : Operand Location) (lines : List (Line Location)) (fs : FlatState) (k : ℕ) (u : State)
+    → (a : At c f b (Operate to op x y ∷ lines) fs k u) → (log : Log) → AllPerform c.world (bottom c) log
+    → (v w : ℕ) → number_of c.addresses fs.numbers x ≡ Some v → number_of c.addresses fs.numbers y ≡ Some w
+    → Then c f j r n log (goes_on (record fs { numbers = put to (Some (computed op v w)) fs.numbers })) → Performed c f r
+operated c f is j r n go b to op x y lines fs k u a log all v w is_x is_y goes =
+    let numbers : Numbers = put to (Some (computed op v w)) fs.numbers in
+    let known = and_parts (is_place c.slots to) (operand_keeps (is_place c.slots) x && operand_keeps (is_place c.slots) y)
+    (and_parts (line_keeps (is_place c.slots) (Operate to op x y)) (list_all (line_keeps (is_place c.slots)) lines) a.known).0 in
+    let operands = and_parts (operand_keeps (is_place c.slots) x) (operand_keeps (is_place c.slots) y) known.1 in
+    let covered = (and_parts (covers_operation op) (list_all covers_line lines) a.covered).0 in
+    let at_x : operand_in c u x ≡ v = operand_known c fs.numbers fs.memory u x v is.setting a.framed operands.0 is_x in
+    let at_y : operand_in c u y ≡ w = operand_known c fs.numbers fs.memory u y w is.setting a.framed operands.1 is_y in
+    let value : computed op (operand_in c u x) (operand_in c u y) ≡ computed op v w =
+    ap (λ q. computed op q (operand_in c u y)) at_x ∙ ap (computed op v) at_y in
+    let made_v : ℕ = computed op (operand_in c u x) (operand_in c u y) in
+    let m = reach c f b (Operate to op x y) lines fs k u (λ t. Framed c numbers fs.memory t × (t.output ≡ u.output)) a
+    (leads_so (site c) (line_items c.layout (Operate to op x y)) u (Assigned c u to made_v) (λ t. Framed c numbers fs.memory t × (t.output ≡ u.output))
+    (leads_operate_line c is.setting u to op x y a.framed.pointer covered known.0 operands.0 operands.1)
+    (λ t fixed made. (
+      assigned c is.setting fs.numbers fs.memory u t to made_v (Some (computed op v w)) known.0 a.framed made (λ q e. value ∙ some_is (computed op v w) q e),
+      assigned_output c u to made_v t made,
+    ))) in
+    go b lines (record fs { next = fs.next + 1; numbers = numbers }) (k + m.steps) m.after
+    (advance c f b (Operate to op x y) lines fs k u numbers fs.memory fs.used a refl a.paid m) log goes all
+  where
+    some_is : (p q : ℕ) → Some p ≡ Some q → p ≡ q
+    some_is p q e = cc
+
+-- its operands are known, or the code is undefined
+operate_case : (c : Setting) (f : Code Location) → CodeStands c f → (j : FlatGiven) (r : FlatOutcome) (n : ℕ) → Follows c f j r n
+    → (b : Block Location) (to : Location) (op : Operation) (x y : Operand Location) (lines : List (Line Location)) (fs : FlatState) (k : ℕ) (u : State)
+    → At c f b (Operate to op x y ∷ lines) fs k u → (log : Log) → AllPerform c.world (bottom c) log
+    → Then c f j r n log
+    (sets fs to
+    (option_and_then (λ v. option_map (λ w. computed op v w) (number_of c.addresses fs.numbers y)) (number_of c.addresses fs.numbers x)))
+    → Performed c f r
+operate_case c f is j r n go b to op x y lines fs k u a log all goes =
+    by_operands (number_of c.addresses fs.numbers x) refl (number_of c.addresses fs.numbers y) refl goes
+  where
+    by_operands : (o : Option ℕ) → number_of c.addresses fs.numbers x ≡ o → (q : Option ℕ) → number_of c.addresses fs.numbers y ≡ q
+        → Then c f j r n log (sets fs to (option_and_then (λ v. option_map (λ w. computed op v w) q) o)) → Performed c f r
+    by_operands None e q d e_goes = undefined c f fs.spent r e_goes.0
+    by_operands (Some v) e None d e_goes = undefined c f fs.spent r e_goes.0
+    by_operands (Some v) e (Some w) d e_goes = operated c f is j r n go b to op x y lines fs k u a log all v w e d e_goes
+
+line_case : (c : Setting) (f : Code Location) → CodeStands c f → (j : FlatGiven) (r : FlatOutcome) (n : ℕ) → Follows c f j r n
+    → (b : Block Location) (l : Line Location) (lines : List (Line Location)) (fs : FlatState) (k : ℕ) (u : State)
+    → At c f b (l ∷ lines) fs k u → (log : Log) → Then c f j r n log (flat_line c.addresses (c.sp - c.area) j fs l)
+    → AllPerform c.world (bottom c) log → Performed c f r
+unfolding flat_line
+line_case c f is j r n go b (Tick turn w) lines fs k u a log goes all = tick_case c f j r n go b turn w lines fs k u a log goes all
+line_case c f is j r n go b (Set to x) lines fs k u a log goes all = set_case c f is j r n go b to x lines fs k u a log goes all
+line_case c f is j r n go b (Operate to op x y) lines fs k u a log goes all = operate_case c f is j r n go b to op x y lines fs k u a log all goes
+line_case c f is j r n go b (Load to op at) lines fs k u a log goes all = absurd (let no : ⊥ = let h = a.covered in cc in no)
+line_case c f is j r n go b (Store size x at) lines fs k u a log goes all = absurd (let no : ⊥ = let h = a.covered in cc in no)
+line_case c f is j r n go b (Alloc to size) lines fs k u a log goes all = absurd (let no : ⊥ = let h = a.covered in cc in no)
+line_case c f is j r n go b (Blit from to count) lines fs k u a log goes all = absurd (let no : ⊥ = let h = a.covered in cc in no)
+line_case c f is j r n go b (Call to callee args) lines fs k u a log goes all = absurd (let no : ⊥ = let h = a.covered in cc in no)
+
+-- ---- jumps
+
+-- after the code of a jump
+landed : (c : Setting) (j : Jump Location) (fs : FlatState) (k : ℕ) (u : State) (to : ℕ) (a : AtJump c j fs k u)
+    → (m : Lands (site c) (longest_size (jump_items c.layout j)) u (Jumped u to)) → Landed c to fs (k + m.steps) m.after
+landed c j fs k u to a m =
+    let few = m.few in
+    let some = m.some in
+    let size = jump_size c.layout j in
+    let paid = a.paid in
+    let price = a.price in
+    let pace = a.pace in
+    let jumped = m.holds in
+    record {
+      place = jumped.place;
+      fixed = m.fixed;
+      framed = framed_same c fs.numbers fs.memory u m.after a.framed
+          (record { registers = jumped.registers; bytes = jumped.bytes; output = jumped.output });
+      comes = comes_then a.comes m.comes;
+      output = jumped.output ∙ a.output;
+      price = omega (arith, few, size, paid, price);
+      pace = omega (arith, some, pace);
+    }
+
+-- what comes of an event that is over
+no_block : (c : Setting) (f : Code Location) (j : FlatGiven) (t : FlatState) → slice_get f.blocks t.block ≡ None → step_of c f j t ≡ fails t
+unfolding flat_step
+no_block c f j t e = ap (step_in f c.addresses (c.sp - c.area) j t) e
+
+undefined_next : (c : Setting) (f : Code Location) (j : FlatGiven) (r : FlatOutcome) (n : ℕ) (t : FlatState) (log : Log) → step_of c f j t ≡ fails t
+    → Logged (step_of c f j) n t log r → Performed c f r
+unfolding Logged
+undefined_next c f j r zero t log e goes = absurd goes
+undefined_next c f j r (suc n) t log e goes =
+    let over : Then c f j r n log (fails t) = subst (λ v. Then c f j r n log v) e goes in
+    undefined c f t.spent r over.0
+
+pub enter : (c : Setting) (f : Code Location) → CodeStands c f → (j : FlatGiven) (r : FlatOutcome) (n : ℕ) → Follows c f j r n
+    → (i : ℕ) (fs : FlatState) (k : ℕ) (u : State) → Landed c (c.label i) fs k u → (log : Log)
+    → Logged (step_of c f j) n (record fs { block = i; next = 0 }) log r → AllPerform c.world (bottom c) log → Performed c f r
+enter c f is j r n go i fs k u a log goes all = by_block (slice_get f.blocks i) refl
+  where
+    by_block : (o : Option (Block Location)) → slice_get f.blocks i ≡ o → Performed c f r
+    by_block None e = undefined_next c f j r n (record fs { block = i; next = 0 }) log (no_block c f j (record fs { block = i; next = 0 }) e) goes
+    by_block (Some b) e =
+        let stands = is.blocks i b e in
+        let paced = stands.paced in
+        let pace = a.pace in
+        let price = a.price in
+        go b b.lines (record fs { block = i; next = 0 }) k u
+        (record {
+          block = e;
+          ahead = λ q. ap (λ i. slice_get b.lines i) (zero-add q);
+          rest = stands.rest;
+          stands = subst (λ x. StandAt (site c) ((lines_items c.layout b.lines ++ jump_items c.layout b.jump) ++ stands.rest) x) (sym a.place) stands.stands;
+          fixed = a.fixed;
+          framed = a.framed;
+          comes = a.comes;
+          output = a.output;
+          known = stands.known;
+          jump_known = stands.jump_known;
+          covered = stands.covered;
+          credit = 0;
+          paid = stands.paid;
+          price = omega (arith, price);
+          pace = omega (arith, paced, pace);
+        }) log goes all
+
+-- ---- the return
+
+closed_known : (f : Spots) (at n x k : ℕ) → closed f at n x ≡ Known k → f x ≡ Known k
+closed_known f at n x k h = by_test (is_in at n x) h
+  where
+    by_test : (b : Bool) → (if b then Away else f x) ≡ Known k → f x ≡ Known k
+    by_test true e = absurd (let no : ⊥ = cc in no)
+    by_test false e = e
+
+closed_there : (f : Spots) (at n x : ℕ) → closed f at n x ≢ Away → f x ≢ Away
+closed_there f at n x h e = h (by_test (is_in at n x))
+  where
+    by_test : (b : Bool) → (if b then Away else f x) ≡ Away
+    by_test true = refl
+    by_test false = e
+
+-- from the label of the frame's end
+leave_case : (c : Setting) (f : Code Location) → CodeStands c f → (fs : FlatState) (k : ℕ) (w : State) (x : Option ℕ) → Landed c (c.label c.layout.leave) fs k w
+    → ((t : State) → t.registers 10 ≡ w.registers 10 → ResultIn f.result x t)
+    → Performed c f (FlatReturned fs.spent x (closed fs.memory (c.sp - c.area) (area f)))
+leave_case c f is fs k w x a held =
+    let stands : StandAt (site c) (epilogue c.layout ++ is.rest) w.pc =
+    subst (λ q. StandAt (site c) (epilogue c.layout ++ is.rest) q) (sym a.place) is.leave in
+    let m = (ends_frame c is.setting w a.framed.pointer is.pointer is.aligned a.framed.saved a.framed.thread).from is.rest stands a.fixed in
+    let left = m.holds in
+    let few = m.few in
+    let size = epilogue_size c.layout in
+    let price = a.price in
+    let pace = a.pace in
+    let now : Spots = closed fs.memory (c.sp - c.area) (area f) in
+    record {
+      steps = k + m.steps;
+      after = m.after;
+      comes = comes_then a.comes m.comes;
+      price = omega (arith, few, size, price);
+      pace = omega (arith, pace);
+      output = left.output ∙ a.output;
+      result = held m.after left.result;
+      back = record {
+        fixed = m.fixed;
+        place = left.place;
+        kept = left.kept;
+        memory = record {
+          known = λ y n e.
+              ap (λ (g : ℕ → ℕ). g y) left.bytes ∙ a.framed.spots.known y n (closed_known fs.memory (c.sp - c.area) (area f) y n e);
+          usable = λ y there. a.framed.spots.usable y (closed_there fs.memory (c.sp - c.area) (area f) y there);
+        };
+        others = λ y high away. ap (λ (g : ℕ → ℕ). g y) left.bytes ∙ a.framed.others y high away;
+      };
+    }
+
+no_result : (k : Option Class) (t : State) → ResultIn k None t
+no_result None t = tt
+no_result (Some k) t = tt
+
+-- the result is in x10, and the machine at the frame's end
+record WithResult (u : State) (to n : ℕ) (w : State) : Type 0 where
+  pub place : w.pc ≡ to
+  pub value : w.registers 10 ≡ n
+  pub others : (m : ℕ) → m < 28 → m ≢ 10 → w.registers m ≡ u.registers m
+  pub bytes : w.bytes ≡ u.bytes
+  pub output : w.output ≡ u.output
+
+result_and_jump : (c : Site) (u w : State) (l n : ℕ) → Sets u 10 n w → Ends c (GoTo l ∷ []) w (WithResult u (c.label l) n)
+result_and_jump c u w l n one =
+    ends_so c (GoTo l ∷ []) w (Jumped w (c.label l)) (WithResult u (c.label l) n) (ends_goto c w l)
+    (λ t two. record {
+      place = two.place;
+      value = two.registers 10 (lit< tt) ∙ one.value;
+      others = λ m lo other. two.registers m lo ∙ one.others m other;
+      bytes = two.bytes ∙ one.bytes;
+      output = two.output ∙ one.output;
+    })
+
+no_numbers : Numbers
+no_numbers p = None
+
+nothing_known : (v : ℕ) (o : Option ℕ) → o ≡ None → o ≡ Some v → ⊥
+nothing_known v o e f = let no : ⊥ = cc in no
+
+-- what the frame's end needs, where places no longer count
+result_framed : (c : Setting) (numbers : Numbers) (memory : Spots) (u w : State) (to n : ℕ) → Framed c numbers memory u → WithResult u to n w
+    → Framed c no_numbers memory w
+unfolding no_numbers
+result_framed c numbers memory u w to n framed h = record {
+  pointer = h.others 2 (lit< tt) (λ e. absurd (omega (arith, e))) ∙ framed.pointer;
+  places = λ p v good known. absurd (nothing_known v None refl known);
+  spots = record { known = λ x k e. ap (λ (m : ℕ → ℕ). m x) h.bytes ∙ framed.spots.known x k e; usable = framed.spots.usable };
+  clear = framed.clear;
+  saved = λ k r e. ap (λ (m : ℕ → ℕ). number_at m (save_at c k) 8) h.bytes ∙ framed.saved k r e;
+  thread = λ m lo hi. h.others m (omega (arith, hi)) (λ e. absurd (omega (arith, e, hi))) ∙ framed.thread m lo hi;
+  others = λ x hi away. ap (λ (m : ℕ → ℕ). m x) h.bytes ∙ framed.others x hi away;
+}
+
+return_value : (c : Setting) (f : Code Location) → CodeStands c f → (r : FlatOutcome) (y : Operand Location) (fs : FlatState) (k : ℕ) (u : State)
+    → AtJump c (Return (Some y)) fs k u → (q : Class) → c.layout.result ≡ Some q → f.result ≡ Some q → (v : ℕ) → number_of c.addresses fs.numbers y ≡ Some v
+    → FlatReturned fs.spent (Some (taken q v)) (closed fs.memory (c.sp - c.area) (area f)) ≡ r → Performed c f r
+return_value c f is r y fs k u a q is_q wants v known e =
+    let to : ℕ = c.label c.layout.leave in
+    let n : ℕ = passed q (taken q (operand_in c u y)) in
+    let value : operand_in c u y ≡ v = operand_known c fs.numbers fs.memory u y v is.setting a.framed a.known known in
+    let leads : Leads (site c) (result_items c.layout c.layout.result y) u (Sets u 10 n) =
+    subst (λ o. Leads (site c) (result_items c.layout o y) u (Sets u 10 n)) (sym is_q) (leads_result c is.setting u q y a.framed.pointer a.known) in
+    let ends : Ends (site c) (jump_items c.layout (Return (Some y))) u (WithResult u to n) =
+    ends_then (site c) (result_items c.layout c.layout.result y) (GoTo c.layout.leave ∷ []) u (Sets u 10 n) (WithResult u to n) leads
+    (λ w fixed one. result_and_jump (site c) u w c.layout.leave n one) in
+    let m = ends.from a.rest a.stands a.fixed in
+    let few = m.few in
+    let some = m.some in
+    let size = jump_size c.layout (Return (Some y)) in
+    let paid = a.paid in
+    let price = a.price in
+    let pace = a.pace in
+    subst (λ o. Performed c f o) e
+    (leave_case c f is (record fs { numbers = no_numbers }) (k + m.steps) m.after (Some (taken q v))
+    (record {
+      place = m.holds.place;
+      fixed = m.fixed;
+      framed = result_framed c fs.numbers fs.memory u m.after to n a.framed m.holds;
+      comes = comes_then a.comes m.comes;
+      output = m.holds.output ∙ a.output;
+      price = omega (arith, few, size, paid, price);
+      pace = omega (arith, some, pace);
+    })
+    (λ t same. subst (λ o. ResultIn o (Some (taken q v)) t) (sym wants)
+    (same ∙ (m.holds.value ∙ ap (λ x. passed q (taken q x)) value))))
+
+return_nothing : (c : Setting) (f : Code Location) → CodeStands c f → (r : FlatOutcome) (fs : FlatState) (k : ℕ) (u : State)
+    → AtJump c (Return None) fs k u → FlatReturned fs.spent None (closed fs.memory (c.sp - c.area) (area f)) ≡ r → Performed c f r
+return_nothing c f is r fs k u a e =
+    subst (λ o. Performed c f o) e
+    (leave_case c f is fs (k + m.steps) m.after None (landed c (Return None) fs k u (c.label c.layout.leave) a m) (λ t same. no_result f.result t))
+  where
+    m : Lands (site c) (longest_size (jump_items c.layout (Return None))) u (Jumped u (c.label c.layout.leave))
+    m = (ends_goto (site c) u c.layout.leave).from a.rest a.stands a.fixed
+
+return_case : (c : Setting) (f : Code Location) → CodeStands c f → (j : FlatGiven) (r : FlatOutcome) (n : ℕ) (y : Operand Location) (fs : FlatState) (k : ℕ) (u : State)
+    → AtJump c (Return (Some y)) fs k u → (log : Log) → Then c f j r n log (returns_as f c.addresses (c.sp - c.area) fs f.result y) → Performed c f r
+return_case c f is j r n y fs k u a log goes = by_class f.result refl goes
+  where
+    by_value : (q : Class) → f.result ≡ Some q → (o : Option ℕ) → number_of c.addresses fs.numbers y ≡ o
+        → Then c f j r n log (returns f (c.sp - c.area) fs (option_map (taken q) o)) → Performed c f r
+    by_value q wants None e e_goes = undefined c f fs.spent r e_goes.0
+    by_value q wants (Some v) e e_goes = return_value c f is r y fs k u a q (is.result ∙ wants) wants v e e_goes.0
+
+    by_class : (o : Option Class) → f.result ≡ o → Then c f j r n log (returns_as f c.addresses (c.sp - c.area) fs o y) → Performed c f r
+    by_class None e e_goes = undefined c f fs.spent r e_goes.0
+    by_class (Some q) e e_goes = by_value q e (number_of c.addresses fs.numbers y) refl e_goes
+
+-- ---- the other jumps
+
+halt_case : (c : Setting) (f : Code Location) (r : FlatOutcome) (fs : FlatState) (k : ℕ) (u : State) → AtJump c Halt fs k u
+    → FlatEnded fs.spent Halted ≡ r → Performed c f r
+unfolding Stand Stands runs
+halt_case c f r fs k u a e =
+    let stops : step u ≡ Err Broken = step_at c.world.memory_map u Ebreak a.fixed a.stands.1.0 in
+    let paid = a.paid in
+    let price = a.price in
+    let last : Performed c f (FlatEnded fs.spent Halted) = record {
+      steps = k + 1;
+      last = u;
+      stopped = a.comes.comes 1 ∙ ap (then_run (runs 0) u) stops;
+      price = omega (arith, paid, price);
+      output = a.output;
+    } in
+    subst (λ o. Performed c f o) e last
+
+branch_case : (c : Setting) (f : Code Location) → CodeStands c f → (j : FlatGiven) (r : FlatOutcome) (n : ℕ) → Follows c f j r n
+    → (on : Operand Location) (nonzero otherwise : ℕ) (fs : FlatState) (k : ℕ) (u : State) → AtJump c (Branch on nonzero otherwise) fs k u → (log : Log)
+    → Then c f j r n log (branches fs nonzero otherwise (read c.addresses fs.numbers W on)) → AllPerform c.world (bottom c) log → Performed c f r
+branch_case c f is j r n go on nonzero otherwise fs k u a log goes all = by_value (number_of c.addresses fs.numbers on) refl goes
+  where
+    m : Lands (site c) (longest_size (jump_items c.layout (Branch on nonzero otherwise))) u (Jumped u (way c (operand_in c u on) nonzero otherwise))
+    m = (ends_branch c is.setting u on nonzero otherwise a.framed.pointer a.known).from a.rest a.stands a.fixed
+
+    by_test : (v : ℕ) → operand_in c u on ≡ v → (t : Bool) → nat_eq (v % 2 ^ 32) 0 ≡ t
+        → Then c f j r n log (enters fs (if t then otherwise else nonzero)) → Performed c f r
+    by_test v e true z e_goes =
+        let to : way c (operand_in c u on) nonzero otherwise ≡ c.label otherwise =
+        ap (λ x. way c x nonzero otherwise) e ∙ ap (λ (b : Bool). if b then c.label otherwise else c.label nonzero) z in
+        enter c f is j r n go otherwise fs (k + m.steps) m.after
+        (subst (λ x. Landed c x fs (k + m.steps) m.after) to (landed c (Branch on nonzero otherwise) fs k u (way c (operand_in c u on) nonzero otherwise) a m))
+        log e_goes all
+    by_test v e false z e_goes =
+        let to : way c (operand_in c u on) nonzero otherwise ≡ c.label nonzero =
+        ap (λ x. way c x nonzero otherwise) e ∙ ap (λ (b : Bool). if b then c.label otherwise else c.label nonzero) z in
+        enter c f is j r n go nonzero fs (k + m.steps) m.after
+        (subst (λ x. Landed c x fs (k + m.steps) m.after) to (landed c (Branch on nonzero otherwise) fs k u (way c (operand_in c u on) nonzero otherwise) a m))
+        log e_goes all
+
+    by_value : (o : Option ℕ) → number_of c.addresses fs.numbers on ≡ o → Then c f j r n log (branches fs nonzero otherwise (option_map (taken W) o))
+        → Performed c f r
+    by_value None e e_goes = undefined c f fs.spent r e_goes.0
+    by_value (Some v) e e_goes =
+        by_test v (operand_known c fs.numbers fs.memory u on v is.setting a.framed a.known e) (nat_eq (v % 2 ^ 32) 0) refl e_goes
+
+goto_case : (c : Setting) (f : Code Location) → CodeStands c f → (j : FlatGiven) (r : FlatOutcome) (n : ℕ) → Follows c f j r n
+    → (i : ℕ) (fs : FlatState) (k : ℕ) (u : State) → AtJump c (Goto i) fs k u → (log : Log)
+    → Then c f j r n log (enters fs i) → AllPerform c.world (bottom c) log → Performed c f r
+goto_case c f is j r n go i fs k u a log goes all =
+    let m = (ends_goto (site c) u i).from a.rest a.stands a.fixed in
+    enter c f is j r n go i fs (k + m.steps) m.after (landed c (Goto i) fs k u (c.label i) a m) log goes all
+
+jump_case : (c : Setting) (f : Code Location) → CodeStands c f → (j : FlatGiven) (r : FlatOutcome) (n : ℕ) → Follows c f j r n
+    → (x : Jump Location) (fs : FlatState) (k : ℕ) (u : State) → AtJump c x fs k u → (log : Log)
+    → Then c f j r n log (flat_jump f c.addresses (c.sp - c.area) fs x) → AllPerform c.world (bottom c) log → Performed c f r
+unfolding flat_jump
+jump_case c f is j r n go (Goto i) fs k u a log goes all = goto_case c f is j r n go i fs k u a log goes all
+jump_case c f is j r n go (Branch on nonzero otherwise) fs k u a log goes all = branch_case c f is j r n go on nonzero otherwise fs k u a log goes all
+jump_case c f is j r n go (Return None) fs k u a log goes all = return_nothing c f is r fs k u a goes.0
+jump_case c f is j r n go (Return (Some y)) fs k u a log goes all = return_case c f is j r n y fs k u a log goes
+jump_case c f is j r n go Halt fs k u a log goes all = halt_case c f r fs k u a goes.0
+
+-- ---- each step
+
+line_step : (c : Setting) (f : Code Location) (j : FlatGiven) (b : Block Location) (l : Line Location) (lines : List (Line Location)) (fs : FlatState) (k : ℕ) (u : State)
+    → At c f b (l ∷ lines) fs k u → step_of c f j fs ≡ flat_line c.addresses (c.sp - c.area) j fs l
+unfolding flat_step
+line_step c f j b l lines fs k u a =
+    let here : fs.next ≡ fs.next + 0 = omega arith in
+    ap (step_in f c.addresses (c.sp - c.area) j fs) a.block ∙ ap (block_step f c.addresses (c.sp - c.area) j fs b) (ap (λ i. slice_get b.lines i) here ∙ a.ahead 0)
+
+jump_step : (c : Setting) (f : Code Location) (j : FlatGiven) (b : Block Location) (fs : FlatState) (k : ℕ) (u : State)
+    → At c f b [] fs k u → step_of c f j fs ≡ flat_jump f c.addresses (c.sp - c.area) fs b.jump
+unfolding flat_step
+jump_step c f j b fs k u a =
+    let here : fs.next ≡ fs.next + 0 = omega arith in
+    ap (step_in f c.addresses (c.sp - c.area) j fs) a.block ∙ ap (block_step f c.addresses (c.sp - c.area) j fs b) (ap (λ i. slice_get b.lines i) here ∙ a.ahead 0)
+
+at_jump : (c : Setting) (f : Code Location) (b : Block Location) (fs : FlatState) (k : ℕ) (u : State) → At c f b [] fs k u → AtJump c b.jump fs k u
+at_jump c f b fs k u a =
+    let price = a.price in
+    let pace = a.pace in
+    record {
+      rest = a.rest;
+      stands = a.stands;
+      fixed = a.fixed;
+      framed = a.framed;
+      comes = a.comes;
+      output = a.output;
+      known = a.jump_known;
+      credit = a.credit;
+      paid = le_is (jump_cost (leaving b.jump)) a.credit a.paid;
+      price = price;
+      pace = omega (arith, pace);
+    }
+
+pub follows : (c : Setting) (f : Code Location) → CodeStands c f → (j : FlatGiven) (r : FlatOutcome) (n : ℕ) → Follows c f j r n
+unfolding Logged
+follows c f is j r zero b lines fs k u a log goes all = absurd goes
+follows c f is j r (suc n) b [] fs k u a log goes all =
+    jump_case c f is j r n (follows c f is j r n) b.jump fs k u (at_jump c f b fs k u a) log
+    (subst (λ e. Then c f j r n log e) (jump_step c f j b fs k u a) goes) all
+follows c f is j r (suc n) b (l ∷ lines) fs k u a log goes all =
+    line_case c f is j r n (follows c f is j r n) b l lines fs k u a log
+    (subst (λ e. Then c f j r n log e) (line_step c f j b l lines fs k u a) goes) all

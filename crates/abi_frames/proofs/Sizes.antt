@@ -1,0 +1,251 @@
+-- The code of a line is no longer than the line's cost, and so that of a function within its price.
+use Rattle.std.proofs.Common.{◌≡◌, ℕ, ◌+◌, ◌-◌, ◌*◌, ◌%◌, ◌^◌, ◌≤◌, Bool, true, false, List, [], ◌∷◌, ◌++◌, refl, arith, lit≤}
+use Rattle.std.specs.Prelude.{◌&&◌, nat_eq, nat_le, nat_lt, if◌then◌else◌, length, Option, Some, None}
+use Rattle.std.specs.List.{list_all, sum_by}
+use Rattle.std.proofs.lemmas.Bool.{and_parts}
+use Rattle.std.proofs.lemmas.Bool.Decides.{nat_tests}
+use Rattle.il_ast.specs.declared.operation.Class.{Class}
+use Rattle.il_ast.specs.declared.operation.Class.TheVariants.{W, L}
+use Rattle.rv_isa.specs.Labels.{longest_size}
+use Rattle.rv_isa.specs.declared.instruction.BranchOp.TheVariants.{Bne}
+use Rattle.rv_isa.specs.declared.labelled.Item.{Item}
+use Rattle.rv_isa.specs.declared.labelled.Item.TheVariants.{Label, Branch as BranchTo, Goto as GoTo}
+use Rattle.std.proofs.lemmas.List.Sums.{sum_by-cons}
+use Rattle.vcode.specs.declared.place.Location.{Location}
+use Rattle.vcode.specs.declared.place.Location.TheVariants.{Register as InRegister, Slot}
+use Rattle.vcode.specs.declared.place.Operand.{Operand}
+use Rattle.vcode.specs.declared.place.Operand.TheVariants.{At, Number, Name}
+use Rattle.vcode.specs.declared.line.Operation.{Operation}
+use Rattle.vcode.specs.declared.line.Operation.TheVariants.{Reg as RegOperation, RegW as RegWOperation, Compare}
+use Rattle.vcode.specs.declared.line.Line.{Line}
+use Rattle.vcode.specs.declared.line.Line.TheVariants.{Tick, Set, Operate, Load, Store, Alloc, Blit, Call}
+use Rattle.vcode.specs.declared.line.Jump.{Jump}
+use Rattle.vcode.specs.declared.line.Jump.TheVariants.{Goto, Branch, Return, Halt}
+use Rattle.vcode.specs.declared.code.Block.{Block}
+use Rattle.vcode.specs.Cost.{is_immediate, operand_cost, operation_cost, line_cost, jump_cost, affords}
+use Rattle.vcode.specs.Regular.{weight_of}
+use Rattle.abi_frames.specs.Layout.{layout, saved_registers}
+use Rattle.abi_frames.specs.Laws.{FramesAreSmall}
+use Rattle.abi_frames.specs.declared.layout.Layout.{Layout}
+use Rattle.abi_frames.specs.Covered.{leaving, covers_line, covers_block, pays_to_leave}
+use Rattle.abi_frames.specs.Emission.{reg, add_low, extend, long_constant, constant, load_8, store_8, far_load, far_store, sum_to, load_slot, store_slot, slot_offset, into, fetch, source, target, deliver, set_items, operation_items, operate_items, line_items, lines_items, move_pointer, save_all, restore_all, go_back, prologue, epilogue, result_items, jump_items, block_items, blocks_items, function_items}
+use Rattle.abi_frames.proofs.Leading.{longest-append}
+
+-- ---- lines
+
+constant_size : (d n : ℕ) → longest_size (constant d n) ≤ (if is_immediate n then 1 else 9)
+constant_size d n = by_test (is_immediate n)
+  where
+    by_test : (b : Bool) → longest_size (if b then add_low d 0 n ∷ [] else long_constant d (n % 2 ^ 64)) ≤ (if b then 1 else 9)
+    by_test true = lit≤ tt
+    by_test false = lit≤ tt
+
+load_size : (d o : ℕ) → longest_size (load_slot d o) ≤ 3
+load_size d o = by_test (nat_lt o 2048)
+  where
+    by_test : (b : Bool) → longest_size (if b then load_8 d 2 o ∷ [] else far_load d o) ≤ 3
+    by_test true = lit≤ tt
+    by_test false = lit≤ tt
+
+store_size : (v o : ℕ) → longest_size (store_slot v o) ≤ 3
+store_size v o = by_test (nat_lt o 2048)
+  where
+    by_test : (b : Bool) → longest_size (if b then store_8 v 2 o ∷ [] else far_store v o) ≤ 3
+    by_test true = lit≤ tt
+    by_test false = lit≤ tt
+
+pub fetch_size : (y : Layout) (d : ℕ) (a : Operand Location) → longest_size (fetch y d a) ≤ operand_cost a
+fetch_size y d (At (InRegister r)) = lit≤ tt
+fetch_size y d (At (Slot i)) = load_size d (slot_offset y i)
+fetch_size y d (Number n) = constant_size d n
+fetch_size y d (Name g) = lit≤ tt
+
+pub into_size : (y : Layout) (d : ℕ) (a : Operand Location) → longest_size (into y d a) ≤ operand_cost a
+into_size y d (At (InRegister r)) = lit≤ tt
+into_size y d (At (Slot i)) = load_size d (slot_offset y i)
+into_size y d (Number n) = constant_size d n
+into_size y d (Name g) = lit≤ tt
+
+set_size : (y : Layout) (to : Location) (a : Operand Location) → longest_size (set_items y to a) ≤ operand_cost a + 3
+set_size y (InRegister r) a = let h = into_size y r a in omega (arith, h)
+set_size y (Slot i) a =
+    let all = longest-append (fetch y 28 a) (store_slot (source 28 a) (slot_offset y i)) in
+    let h = fetch_size y 28 a in
+    let k = store_size (source 28 a) (slot_offset y i) in
+    omega (arith, all, h, k)
+
+operation_size : (op : Operation) (d a b : ℕ) → longest_size (operation_items op d a b) ≤ operation_cost op
+operation_size (RegOperation op) d a b = lit≤ tt
+operation_size (RegWOperation op) d a b = lit≤ tt
+operation_size (Compare on k) d a b = lit≤ tt
+
+deliver_size : (y : Layout) (to : Location) → longest_size (deliver y to) ≤ 3
+deliver_size y (InRegister r) = lit≤ tt
+deliver_size y (Slot i) = store_size 28 (slot_offset y i)
+
+operate_size : (y : Layout) (to : Location) (op : Operation) (a b : Operand Location)
+    → longest_size (operate_items y to op a b) ≤ operand_cost a + operand_cost b + operation_cost op + 3
+operate_size y to op a b =
+    let made = operation_items op (target to) (source 28 a) (source 29 b) in
+    let one = longest-append (fetch y 28 a) (fetch y 29 b ++ (made ++ deliver y to)) in
+    let two = longest-append (fetch y 29 b) (made ++ deliver y to) in
+    let three = longest-append made (deliver y to) in
+    let h = fetch_size y 28 a in
+    let k = fetch_size y 29 b in
+    let m = operation_size op (target to) (source 28 a) (source 29 b) in
+    let n = deliver_size y to in
+    omega (arith, one, two, three, h, k, m, n)
+
+pub line_size : (y : Layout) (l : Line Location) → longest_size (line_items y l) ≤ line_cost l
+line_size y (Tick turn w) = lit≤ tt
+line_size y (Set to a) = set_size y to a
+line_size y (Operate to op a b) = operate_size y to op a b
+line_size y (Load to op at) = omega arith
+line_size y (Store size a at) = omega arith
+line_size y (Alloc to size) = omega arith
+line_size y (Blit from to count) = omega arith
+line_size y (Call to callee args) = omega arith
+
+-- ---- jumps
+
+result_size : (y : Layout) (k : Option Class) (a : Operand Location) → longest_size (result_items y k a) ≤ operand_cost a + 1
+result_size y None a = omega arith
+result_size y (Some W) a =
+    let all = longest-append (into y 10 a) (extend 10 10 ∷ []) in
+    let h = into_size y 10 a in
+    omega (arith, all, h)
+result_size y (Some L) a = let h = into_size y 10 a in omega (arith, h)
+
+pub jump_size : (y : Layout) (j : Jump Location) → longest_size (jump_items y j) ≤ jump_cost (leaving j)
+jump_size y (Goto k) = lit≤ tt
+jump_size y (Branch on nonzero otherwise) =
+    let rest : List Item = extend 28 (source 28 on) ∷ BranchTo Bne (reg 28) (reg 0) nonzero ∷ GoTo otherwise ∷ [] in
+    let all = longest-append (fetch y 28 on) rest in
+    let h = fetch_size y 28 on in
+    omega (arith, all, h)
+jump_size y (Return None) = lit≤ tt
+jump_size y (Return (Some a)) =
+    let all = longest-append (result_items y y.result a) (GoTo y.leave ∷ []) in
+    let h = result_size y y.result a in
+    omega (arith, all, h)
+jump_size y Halt = lit≤ tt
+
+-- ---- blocks
+
+pub le_is : (a b : ℕ) → nat_le a b ≡ true → a ≤ b
+le_is a b h = grind (arith, nat_tests)
+
+-- the code of the lines and of the jump
+abbrev pub LinesFit : Layout → (credit : ℕ) → Jump Location → List (Line Location) → Type 0
+LinesFit y credit j lines = longest_size (lines_items y lines) + longest_size (jump_items y j) ≤ credit + 32 * sum_by weight_of lines
+
+-- after a line that is no tick
+fits_more : (y : Layout) (credit : ℕ) (j : Jump Location) (l : Line Location) (lines : List (Line Location)) → weight_of l ≡ 0
+    → (nat_le (line_cost l) credit && affords (credit - line_cost l) (leaving j) lines) ≡ true
+    → (affords (credit - line_cost l) (leaving j) lines ≡ true → LinesFit y (credit - line_cost l) j lines)
+    → LinesFit y credit j (l ∷ lines)
+fits_more y credit j l lines light paid rest =
+    let parts = and_parts (nat_le (line_cost l) credit) (affords (credit - line_cost l) (leaving j) lines) paid in
+    let enough = le_is (line_cost l) credit parts.0 in
+    let others = rest parts.1 in
+    let sum = sum_by-cons weight_of l lines in
+    let all = longest-append (line_items y l) (lines_items y lines) in
+    let size = line_size y l in
+    omega (arith, enough, others, sum, all, size, light)
+
+pub lines_size : (y : Layout) (credit : ℕ) (j : Jump Location) (lines : List (Line Location)) → affords credit (leaving j) lines ≡ true
+    → LinesFit y credit j lines
+lines_size y credit j [] paid =
+    let enough = le_is (jump_cost (leaving j)) credit paid in
+    let size = jump_size y j in
+    omega (arith, enough, size)
+lines_size y credit j (Tick turn w ∷ lines) paid =
+    let others = lines_size y (credit + 32 * w) j lines paid in
+    let sum = sum_by-cons weight_of (Tick turn w) lines in
+    omega (arith, others, sum)
+lines_size y credit j (Set to a ∷ lines) paid =
+    fits_more y credit j (Set to a) lines refl paid (λ h. lines_size y (credit - line_cost (Set to a)) j lines h)
+lines_size y credit j (Operate to op a b ∷ lines) paid =
+    fits_more y credit j (Operate to op a b) lines refl paid (λ h. lines_size y (credit - line_cost (Operate to op a b)) j lines h)
+lines_size y credit j (Load to op at ∷ lines) paid =
+    fits_more y credit j (Load to op at) lines refl paid (λ h. lines_size y (credit - line_cost (Load to op at)) j lines h)
+lines_size y credit j (Store size a at ∷ lines) paid =
+    fits_more y credit j (Store size a at) lines refl paid (λ h. lines_size y (credit - line_cost (Store size a at)) j lines h)
+lines_size y credit j (Alloc to size ∷ lines) paid =
+    fits_more y credit j (Alloc to size) lines refl paid (λ h. lines_size y (credit - line_cost (Alloc to size)) j lines h)
+lines_size y credit j (Blit from to count ∷ lines) paid =
+    fits_more y credit j (Blit from to count) lines refl paid (λ h. lines_size y (credit - line_cost (Blit from to count)) j lines h)
+lines_size y credit j (Call to callee args ∷ lines) paid =
+    fits_more y credit j (Call to callee args) lines refl paid (λ h. lines_size y (credit - line_cost (Call to callee args)) j lines h)
+
+abbrev pub block_weight : Block Location → ℕ
+block_weight b = sum_by weight_of b.lines
+
+pub blocks_size : (y : Layout) (k : ℕ) (blocks : List (Block Location)) → list_all covers_block blocks ≡ true
+    → longest_size (blocks_items y k blocks) ≤ 32 * sum_by block_weight blocks
+blocks_size y k [] good = omega arith
+blocks_size y k (b ∷ blocks) good =
+    let parts = and_parts (covers_block b) (list_all covers_block blocks) good in
+    let pays = (and_parts (list_all covers_line b.lines) (pays_to_leave b) parts.0).1 in
+    let one = lines_size y 0 b.jump b.lines pays in
+    let two = longest-append (lines_items y b.lines) (jump_items y b.jump) in
+    let all = longest-append (block_items y k b) (blocks_items y (k + 1) blocks) in
+    let others = blocks_size y (k + 1) blocks parts.1 in
+    let sum = sum_by-cons block_weight b blocks in
+    omega (arith, one, two, all, others, sum)
+
+-- ---- the frame's begin and end
+
+move_size : (n : ℕ) → longest_size (move_pointer n) ≤ 10
+move_size n = by_test (is_immediate n)
+  where
+    by_test : (b : Bool) → longest_size (if b then add_low 2 2 n ∷ [] else constant 28 n ++ (sum_to 2 2 28 ∷ [])) ≤ 10
+    by_test true = lit≤ tt
+    by_test false =
+        let all = longest-append (constant 28 n) (sum_to 2 2 28 ∷ []) in
+        let h = at_most_9 (is_immediate n) (constant_size 28 n) in
+        omega (arith, all, h)
+      where
+        at_most_9 : (b : Bool) → longest_size (constant 28 n) ≤ (if b then 1 else 9) → longest_size (constant 28 n) ≤ 9
+        at_most_9 true h = omega (arith, h)
+        at_most_9 false h = h
+
+saves_size : (o : ℕ) (rs : List ℕ) → longest_size (save_all o rs) ≡ length rs
+saves_size o [] = refl
+saves_size o (r ∷ rs) = let rest = saves_size (o + 8) rs in omega (arith, rest)
+
+restores_size : (o : ℕ) (rs : List ℕ) → longest_size (restore_all o rs) ≡ length rs
+restores_size o [] = refl
+restores_size o (r ∷ rs) = let rest = restores_size (o + 8) rs in omega (arith, rest)
+
+pub prologue_size : (y : Layout) → longest_size (prologue y) ≤ 23
+prologue_size y =
+    let n : ℕ = 2 ^ 64 - y.size in
+    let all = longest-append (move_pointer n) (save_all y.saves saved_registers) in
+    let one = move_size n in
+    let two = saves_size y.saves saved_registers in
+    omega (arith, all, one, two)
+
+pub epilogue_size : (y : Layout) → longest_size (epilogue y) ≤ 24
+epilogue_size y =
+    let all = longest-append (restore_all y.saves saved_registers) (move_pointer y.size ++ (go_back ∷ [])) in
+    let more = longest-append (move_pointer y.size) (go_back ∷ []) in
+    let one = move_size y.size in
+    let two = restores_size y.saves saved_registers in
+    omega (arith, all, more, one, two)
+
+pub function_size : (y : Layout) (blocks : List (Block Location)) → list_all covers_block blocks ≡ true
+    → longest_size (function_items y blocks) ≤ 32 * sum_by block_weight blocks + 47
+function_size y blocks good =
+    let all = longest-append (prologue y) (blocks_items y 0 blocks ++ (Label y.leave ∷ epilogue y)) in
+    let more = longest-append (blocks_items y 0 blocks) (Label y.leave ∷ epilogue y) in
+    let one = prologue_size y in
+    let two = epilogue_size y in
+    let three = blocks_size y 0 blocks good in
+    omega (arith, all, more, one, two, three)
+
+pub frames_are_small : FramesAreSmall
+frames_are_small f slots is =
+    let covered = and_parts (nat_eq (length f.params) 0) (list_all covers_block f.blocks) is.covered in
+    let size = function_size (layout f slots) f.blocks covered.1 in
+    omega (arith, size)

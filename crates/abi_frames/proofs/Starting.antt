@@ -1,0 +1,328 @@
+-- From the call of a function to its first line: where its code stands, what the begin of its frame leaves, and that it keeps its promise.
+use Rattle.std.proofs.Common.{◌≡◌, ◌≢◌, ℕ, zero, suc, ◌+◌, ◌-◌, ◌%◌, ◌^◌, ◌<◌, ◌≤◌, Bool, true, false, List, [], ◌∷◌, ◌++◌, refl, sym, ◌∙◌, ap, subst, arith, lit<, zero-add, append_assoc, append-nil}
+use Rattle.std.specs.Prelude.{◌&&◌, nat_eq, nat_le, nat_lt, max, map, length, slice_get, Option, Some, None}
+use Rattle.std.specs.List.{list_all, sum_by}
+use Rattle.std.proofs.lemmas.Bool.{and_parts}
+use Rattle.std.proofs.lemmas.Bool.Decides.{nat_tests}
+use Rattle.rv_isa.specs.State.{State}
+use Rattle.rv_isa.specs.Labelled.{Stand, Stands}
+use Rattle.rv_isa.specs.declared.labelled.Item.{Item}
+use Rattle.rv_isa.specs.declared.labelled.Item.TheVariants.{Label}
+use Rattle.vcode.specs.declared.place.Location.{Location}
+use Rattle.vcode.specs.declared.place.Destination.{Destination}
+use Rattle.vcode.specs.declared.line.Line.{Line}
+use Rattle.vcode.specs.declared.line.Line.TheVariants.{Tick, Set, Operate, Load, Store, Alloc, Blit, Call}
+use Rattle.vcode.specs.declared.code.Block.{Block}
+use Rattle.vcode.specs.declared.code.Code.{Code}
+use Rattle.vcode.specs.Named.{is_place, block_keeps, line_keeps, jump_keeps}
+use Rattle.vcode.specs.Regular.{area, turns_of, passes_few}
+use Rattle.flat_code.specs.Spots.{Spot, Away, Known, Spots, Clear}
+use Rattle.flat_code.specs.Step.{Numbers, bound, flat_begin, flat_step}
+use Rattle.abi_frames.specs.Calls.{World, IsWorld, GoodStack, HoldsSpots}
+use Rattle.abi_frames.specs.Performs.{KeepsFrame}
+use Rattle.abi_frames.specs.Layout.{layout, outgoing, args_on_stack, most_in_lines, most_in_blocks, saved_registers, frame_size, frame_bound}
+use Rattle.abi_frames.specs.declared.layout.Layout.{Layout}
+use Rattle.abi_frames.specs.Emission.{lines_items, jump_items, blocks_items, prologue, epilogue, frame_items, move_pointer, save_all}
+use Rattle.abi_frames.specs.Covered.{covers_line, covers_block, pays_to_leave}
+use Rattle.abi_frames.specs.Laws.{IsCode, FramesPerform}
+use Rattle.abi_frames.proofs.Leading.{Site, StandAt, Leads, leads_then, leads_so}
+use Rattle.abi_frames.proofs.Activations.{Setting, IsSetting, site, bottom, Framed}
+use Rattle.abi_frames.proofs.FrameEnds.{PointerMoved, leads_move_pointer, AllSaved, leads_save_all}
+use Rattle.abi_frames.proofs.Sizes.{prologue_size, le_is}
+use Rattle.abi_frames.proofs.Simulating.{BlockStands, CodeStands, follows, enter}
+
+-- ---- where the parts stand
+
+pub record Stood (c : Site) (is : List Item) : Type 0 where
+  pub place : ℕ
+  pub stands : StandAt c is place
+
+pub stand_after : (c : Site) (is js : List Item) (a : ℕ) → StandAt c (is ++ js) a → Stood c js
+unfolding Stand
+stand_after c [] js a stands = record { place = a; stands = stands }
+stand_after c (i ∷ is) js a stands = stand_after c is js stands.0 stands.2
+
+-- the code of a block, at its label
+pub record BlockCode (c : Site) (y : Layout) (b : Block Location) (l : ℕ) : Type 0 where
+  pub rest : List Item
+  pub stands : StandAt c ((lines_items y b.lines ++ jump_items y b.jump) ++ rest) (c.label l)
+
+some_block : (a b : Block Location) → Some a ≡ Some b → a ≡ b
+some_block a b e = cc
+
+blocks_stand : (c : Site) (y : Layout) (k : ℕ) (blocks : List (Block Location)) (tail : List Item) (a : ℕ) → StandAt c (blocks_items y k blocks ++ tail) a
+    → (i : ℕ) (b : Block Location) → slice_get blocks i ≡ Some b → BlockCode c y b (k + i)
+unfolding Stand Stands
+blocks_stand c y k [] tail a stands i b e = absurd (let no : ⊥ = cc in no)
+blocks_stand c y k (d ∷ blocks) tail a stands zero b e =
+    let here : List Item = lines_items y d.lines ++ jump_items y d.jump in
+    let more : List Item = blocks_items y (k + 1) blocks in
+    let at : c.label k ≡ stands.0 = stands.1.0 ∙ sym stands.1.1 in
+    let place : stands.0 ≡ c.label (k + zero) = sym at ∙ ap c.label (no_more k) in
+    let code : BlockCode c y d (k + zero) = record {
+      rest = more ++ tail;
+      stands = subst (λ x. StandAt c (here ++ (more ++ tail)) x) place (subst (λ l. StandAt c l stands.0) (append_assoc here more tail) stands.2);
+    } in
+    subst (λ x. BlockCode c y x (k + zero)) (some_block d b e) code
+  where
+    no_more : (n : ℕ) → n ≡ n + zero
+    no_more n = omega arith
+blocks_stand c y k (d ∷ blocks) tail a stands (suc i) b e =
+    let here : List Item = lines_items y d.lines ++ jump_items y d.jump in
+    let more : List Item = blocks_items y (k + 1) blocks in
+    let next = stand_after c here (more ++ tail) stands.0 (subst (λ l. StandAt c l stands.0) (append_assoc here more tail) stands.2) in
+    let place : k + 1 + i ≡ k + suc i = omega arith in
+    subst (λ n. BlockCode c y b n) place (blocks_stand c y (k + 1) blocks tail next.place next.stands i b e)
+
+-- the first label, also where there is no block
+first_label : (c : Site) (y : Layout) (blocks : List (Block Location)) (rest : List Item) (a : ℕ) → y.leave ≡ length blocks
+    → StandAt c (blocks_items y 0 blocks ++ (Label y.leave ∷ rest)) a → a ≡ c.label 0
+unfolding Stand Stands
+first_label c y [] rest a e stands = sym stands.1.0 ∙ ap c.label e
+first_label c y (b ∷ blocks) rest a e stands = sym stands.1.0
+
+leave_stands : (c : Site) (l : ℕ) (is : List Item) (a : ℕ) → StandAt c (Label l ∷ is) a → StandAt c (is ++ []) (c.label l)
+unfolding Stand Stands
+leave_stands c l is a stands =
+    subst (λ js. StandAt c js (c.label l)) (sym (append-nil is)) (subst (λ x. StandAt c is x) (stands.1.1 ∙ sym stands.1.0) stands.2)
+
+-- ---- tests of all items
+
+pub each : {X : Type 0} (test : X → Bool) (xs : List X) (i : ℕ) (x : X) → list_all test xs ≡ true → slice_get xs i ≡ Some x → test x ≡ true
+each test [] i x h e = absurd (let no : ⊥ = cc in no)
+each {X} test (y ∷ xs) zero x h e = ap test (same x y e) ∙ (and_parts (test y) (list_all test xs) h).0
+  where
+    same : (a b : X) → Some b ≡ Some a → a ≡ b
+    same a b e = cc
+each test (y ∷ xs) (suc i) x h e = each test xs i x (and_parts (test y) (list_all test xs) h).1 e
+
+-- ---- the numbers of the layout
+
+few_in_line : (l : Line Location) → passes_few l ≡ true → args_on_stack l ≤ 56
+few_in_line (Tick turn w) h = omega arith
+few_in_line (Set to a) h = omega arith
+few_in_line (Operate to op a b) h = omega arith
+few_in_line (Load to op at) h = omega arith
+few_in_line (Store size a at) h = omega arith
+few_in_line (Alloc to size) h = omega arith
+few_in_line (Blit from to count) h = omega arith
+few_in_line (Call to callee args) h = let le = le_is (length args) 64 h in omega (arith, le)
+
+max_le : (a b m : ℕ) → a ≤ m → b ≤ m → max a b ≤ m
+max_le a b m h k = omega (arith, h, k)
+
+few_in_lines : (lines : List (Line Location)) → list_all passes_few lines ≡ true → most_in_lines lines ≤ 56
+few_in_lines [] h = omega arith
+few_in_lines (l ∷ lines) h =
+    let parts = and_parts (passes_few l) (list_all passes_few lines) h in
+    max_le (args_on_stack l) (most_in_lines lines) 56 (few_in_line l parts.0) (few_in_lines lines parts.1)
+
+few_in_blocks : (blocks : List (Block Location)) → list_all (λ (b : Block Location). list_all passes_few b.lines) blocks ≡ true → most_in_blocks blocks ≤ 56
+few_in_blocks [] h = omega arith
+few_in_blocks (b ∷ blocks) h =
+    let parts = and_parts (list_all passes_few b.lines) (list_all (λ (d : Block Location). list_all passes_few d.lines) blocks) h in
+    max_le (most_in_lines b.lines) (most_in_blocks blocks) 56 (few_in_lines b.lines parts.0) (few_in_blocks blocks parts.1)
+
+-- ---- the begin of the frame
+
+known_not_away : (m : Spot) (k : ℕ) → m ≡ Known k → m ≡ Away → ⊥
+known_not_away m k e f = let no : ⊥ = cc in no
+
+saved_same : (k r : ℕ) → slice_get saved_registers k ≡ Some r → (r < 28) × (r ≢ 2)
+saved_same k r e =
+    let test = each (λ n. nat_lt n 28 && nat_lt 0 (max (n - 2) (2 - n))) saved_registers k r refl e in
+    let parts = and_parts (nat_lt r 28) (nat_lt 0 (max (r - 2) (2 - r))) test in
+    let below = parts.0 in
+    let other = parts.1 in
+    (grind (arith, nat_tests), λ h. absurd (let no : ⊥ = two r h other in no))
+  where
+    two : (n : ℕ) → n ≡ 2 → nat_lt 0 (max (n - 2) (2 - n)) ≡ true → ⊥
+    two n h t = let u : nat_lt 0 (max (2 - 2) (2 - 2)) ≡ true = subst (λ x. nat_lt 0 (max (x - 2) (2 - x)) ≡ true) h t in let no : ⊥ = cc in no
+
+begun_spots : (c : Setting) → IsSetting c → (u w : State) → Clear c.world.bottom c.sp c.before → HoldsSpots c.world.memory_map c.before c.start
+    → u.bytes ≡ c.start.bytes → AllSaved c c.layout.saves saved_registers u w → (x n : ℕ) → c.before x ≡ Known n → w.bytes x ≡ n
+begun_spots c is u w clear holds same saved x n known =
+    by_test (nat_lt x (bottom c + c.layout.saves)) refl (nat_le (bottom c + (c.layout.saves + 104)) x) refl
+  where
+    at_x : u.bytes x ≡ n
+    at_x = ap (λ (m : ℕ → ℕ). m x) same ∙ holds.known x n known
+
+    by_test : (t : Bool) → nat_lt x (bottom c + c.layout.saves) ≡ t → (d : Bool) → nat_le (bottom c + (c.layout.saves + 104)) x ≡ d → w.bytes x ≡ n
+    by_test true e d f = saved.below x (grind (arith, nat_tests)) ∙ at_x
+    by_test false e true f = saved.above x (grind (arith, nat_tests)) ∙ at_x
+    by_test false e false f =
+        let from : bottom c + c.layout.saves ≤ x = grind (arith, nat_tests) in
+        let to : x < bottom c + (c.layout.saves + 104) = grind (arith, nat_tests) in
+        let fits = is.fits in
+        let saves = is.saves_fit in
+        let above = is.above in
+        absurd (known_not_away (c.before x) n known (clear x (omega (arith, from, above)) (omega (arith, to, fits, saves, above))))
+
+none_known : (v : ℕ) (o : Option ℕ) → o ≡ None → o ≡ Some v → ⊥
+none_known v o e f = let no : ⊥ = cc in no
+
+pub begun : (c : Setting) → IsSetting c → (numbers : Numbers) → ((p : Location) → numbers p ≡ None) → c.start.registers 2 ≡ c.sp
+    → Clear c.world.bottom c.sp c.before → HoldsSpots c.world.memory_map c.before c.start
+    → Leads (site c) (prologue c.layout) c.start (λ w. Framed c numbers c.before w × (w.output ≡ c.start.output))
+begun c is numbers unknown pointer clear holds =
+    let n : ℕ = 2 ^ 64 - c.layout.size in
+    let s : State = c.start in
+    let above = is.above in
+    let below = is.below in
+    let top = is.world.small in
+    let fits = is.fits in
+    let saves = is.saves_fit in
+    leads_then (site c) (move_pointer n) (save_all c.layout.saves saved_registers) s (PointerMoved s ((s.registers 2 + n) % 2 ^ 64))
+    (λ w. Framed c numbers c.before w × (w.output ≡ s.output)) (leads_move_pointer (site c) s n)
+    (λ u fixed one.
+    let value = one.value in
+    let at_u : u.registers 2 ≡ bottom c = value ∙ moved_down (s.registers 2) c.sp c.layout.size pointer (omega (arith, above)) (omega (arith, below, top)) in
+    leads_so (site c) (save_all c.layout.saves saved_registers) u (AllSaved c c.layout.saves saved_registers u)
+    (λ w. Framed c numbers c.before w × (w.output ≡ s.output))
+    (leads_save_all c is u c.layout.saves saved_registers at_u refl (omega arith))
+    (λ w g two. (
+      record {
+        pointer = two.registers 2 (lit< tt) ∙ at_u;
+        places = λ p v good known. absurd (none_known v (numbers p) (unknown p) known);
+        spots = record { known = begun_spots c is u w clear holds one.bytes two; usable = holds.usable };
+        clear = λ x lo hi. clear x (omega (arith, lo, above)) (omega (arith, hi));
+        saved = λ k r e.
+            let good = saved_same k r e in
+            two.saved k r e ∙ one.others r good.0 good.1;
+        thread = λ m lo hi. two.registers m (omega (arith, hi)) ∙ one.others m (omega (arith, hi)) (λ e. absurd (omega (arith, e, lo)));
+        others = λ x hi away. two.above x (omega (arith, hi, above, fits, saves)) ∙ ap (λ (m : ℕ → ℕ). m x) one.bytes;
+      },
+      two.output ∙ one.output,
+    )))
+  where
+    moved_down : (x sp size : ℕ) → x ≡ sp → size ≤ sp → sp < 2 ^ 63 → (x + (2 ^ 64 - size)) % 2 ^ 64 ≡ sp - size
+    moved_down x sp size e h small = omega (arith, e, h, small)
+
+-- ---- the promise
+
+abbrev setting : World → (label global : ℕ → ℕ) → List ℕ → Code Location → (slots sp : ℕ) → Spots → State → Setting
+setting w label global addresses f slots sp before s =
+    record {
+      world = w;
+      label = label;
+      global = global;
+      addresses = addresses;
+      layout = layout f slots;
+      slots = slots;
+      area = area f;
+      sp = sp;
+      before = before;
+      start = s;
+    }
+
+no_params : (params : List (Destination Location)) → nat_eq (length params) 0 ≡ true → params ≡ []
+no_params [] h = refl
+no_params (d ∷ params) h = absurd (let n = length params in let no : ⊥ = grind (arith, nat_tests) in no)
+
+unknown_at_first : (params : List (Destination Location)) (args : List ℕ) → params ≡ [] → (p : Location) → bound (λ q. None) params args p ≡ None
+unknown_at_first params args e p = ap (λ ps. bound (λ q. None) ps args p) e
+
+-- how large the frame is
+pub record FrameFits (f : Code Location) (slots : ℕ) : Type 0 where
+  pub few : outgoing f ≤ 56
+  pub small : area f ≤ 1048576
+  pub fits : frame_size f slots ≤ frame_bound f slots
+
+pub frame_fits : (f : Code Location) (slots : ℕ) → IsCode f slots → FrameFits f slots
+frame_fits f slots is = record {
+  few = few_in_blocks f.blocks is.regular.few_args;
+  small = le_is (area f) 1048576 is.regular.small;
+  fits = omega arith;
+}
+
+is_setting : (w : World) (label global : ℕ → ℕ) (addresses : List ℕ) (f : Code Location) (slots sp room : ℕ) (before : Spots) (s : State) → IsCode f slots
+    → IsWorld w → ((n a : ℕ) → slice_get addresses n ≡ Some a → global n ≡ a) → GoodStack w sp (frame_bound f slots + room)
+    → IsSetting (setting w label global addresses f slots sp before s)
+is_setting w label global addresses f slots sp room before s is world globals stack =
+    let frame = frame_fits f slots is in
+    let few = frame.few in
+    let small = frame.small in
+    let fits = frame.fits in
+    let above = stack.above in
+    let slots_few = is.few in
+    record {
+      world = world;
+      globals = globals;
+      above = omega (arith, above, fits);
+      below = stack.below;
+      fits = omega arith;
+      saves_fit = omega arith;
+      saves_near = omega (arith, few);
+      small = omega (arith, few, small, slots_few);
+    }
+
+block_stands : (c : Setting) (f : Code Location) (slots : ℕ) → c.slots ≡ slots → IsCode f slots → (b : Block Location) (i : ℕ) → slice_get f.blocks i ≡ Some b
+    → BlockCode (site c) c.layout b i → BlockStands c b i
+block_stands c f slots same is b i e code =
+    let known = and_parts (list_all (λ (d : Destination Location). is_place slots d.place) f.params) (list_all (block_keeps (is_place slots)) f.blocks) is.known in
+    let keeps : block_keeps (is_place slots) b ≡ true = each (block_keeps (is_place slots)) f.blocks i b known.1 e in
+    let keeps_here : block_keeps (is_place c.slots) b ≡ true = subst (λ n. block_keeps (is_place n) b ≡ true) (sym same) keeps in
+    let parts = and_parts (list_all (line_keeps (is_place c.slots)) b.lines) (jump_keeps (is_place c.slots) b.jump) keeps_here in
+    let covered = and_parts (nat_eq (length f.params) 0) (list_all covers_block f.blocks) is.covered in
+    let here = and_parts (list_all covers_line b.lines) (pays_to_leave b) (each covers_block f.blocks i b covered.1 e) in
+    let paced = each (λ (d : Block Location). nat_le (sum_by turns_of d.lines) 40000) f.blocks i b is.regular.paced e in
+    record {
+      rest = code.rest;
+      stands = code.stands;
+      known = parts.0;
+      jump_known = parts.1;
+      covered = here.0;
+      paid = here.1;
+      paced = le_is (sum_by turns_of b.lines) 40000 paced;
+    }
+
+-- from the call on
+performs : (w : World) (at : ℕ) (label global : ℕ → ℕ) (addresses : List ℕ) (f : Code Location) (slots : ℕ) → IsCode f slots → IsWorld w
+    → ((n a : ℕ) → slice_get addresses n ≡ Some a → global n ≡ a) → Stand w.memory_map label global (frame_items f slots) at
+    → KeepsFrame w at (frame_bound f slots) (frame_size f slots) (area f) (map (λ d. d.class) f.params) f.result (flat_begin f) (flat_step f addresses)
+performs w at label global addresses f slots is world globals stands sp j stack clear log r n goes all s ready =
+    let c : Setting = setting w label global addresses f slots sp j.memory s in
+    let y : Layout = layout f slots in
+    let good : IsSetting c = is_setting w label global addresses f slots sp j.room j.memory s is world globals stack in
+    let tail : List Item = blocks_items y 0 f.blocks ++ (Label y.leave ∷ epilogue y) in
+    let blocks = stand_after (site c) (prologue y) tail at stands in
+    let leave = stand_after (site c) (blocks_items y 0 f.blocks) (Label y.leave ∷ epilogue y) blocks.place blocks.stands in
+    let code : CodeStands c f = record {
+      setting = good;
+      blocks = λ i b e.
+          block_stands c f slots refl is b i e
+          (subst (λ k. BlockCode (site c) y b k) (zero-add i) (blocks_stand (site c) y 0 f.blocks (Label y.leave ∷ epilogue y) blocks.place blocks.stands i b e));
+      result = refl;
+      rest = [];
+      leave = leave_stands (site c) y.leave (epilogue y) leave.place leave.stands;
+      area = refl;
+      pointer = ready.stack_pointer;
+      aligned = ready.return_address;
+    } in
+    let covered = and_parts (nat_eq (length f.params) 0) (list_all covers_block f.blocks) is.covered in
+    let numbers : Numbers = bound (λ p. None) f.params j.args in
+    let m = (begun c good numbers (unknown_at_first f.params j.args (no_params f.params covered.0)) ready.stack_pointer clear ready.memory).from tail
+    (subst (λ a. StandAt (site c) (prologue y ++ tail) a) (sym ready.place) stands) ready.fixed in
+    let few = m.few in
+    let size = prologue_size y in
+    enter c f code j r n (follows c f code j r n) 0 (flat_begin f (sp - area f) j) m.steps m.after
+    (record {
+      place = first_label (site c) y f.blocks (epilogue y) m.after.pc refl m.stands;
+      fixed = m.fixed;
+      framed = m.holds.0;
+      comes = m.comes;
+      output = m.holds.1 ∙ sym (append-nil s.output);
+      price = omega (arith, few, size);
+      pace = omega arith;
+    }) log goes all
+
+pub frames_perform : FramesPerform
+frames_perform f slots is =
+    let frame = frame_fits f slots is in
+    record {
+      fits = frame.fits;
+      area_fits = omega arith;
+      some = omega arith;
+      aligned = omega arith;
+      keeps = λ w at label global addresses world globals aligned stands. performs w at label global addresses f slots is world globals stands;
+    }

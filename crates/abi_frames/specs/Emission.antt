@@ -1,0 +1,221 @@
+-- The machine code of each line and jump. x2 is the stack pointer; x28 to x30 hold operands and addresses for a moment.
+use Rattle.std.specs.Prelude.{ℕ, ◌+◌, ◌-◌, ◌*◌, ◌/◌, ◌%◌, ◌^◌, nat_lt, if◌then◌else◌, List, [], ◌∷◌, ◌++◌, Option, Some, None}
+use Rattle.std.proofs.Common.{lit<, mod-lt}
+use Rattle.il_ast.specs.declared.operation.Class.{Class}
+use Rattle.il_ast.specs.declared.operation.Class.TheVariants.{W, L}
+use Rattle.rv_isa.specs.Formats.{signed}
+use Rattle.rv_isa.specs.Readings.{signed12_fits}
+use Rattle.rv_isa.specs.declared.ranges.Register.{Register}
+use Rattle.rv_isa.specs.declared.ranges.Immediate.{Immediate}
+use Rattle.rv_isa.specs.declared.ranges.UpperField.{UpperField}
+use Rattle.rv_isa.specs.declared.ranges.Amount.{Amount}
+use Rattle.rv_isa.specs.declared.instruction.Instr.TheVariants.{Lui, Jalr, Load, Store, Imm, Addiw, Shift, Reg, RegW, Ebreak}
+use Rattle.rv_isa.specs.declared.instruction.LoadOp.TheVariants.{Ld}
+use Rattle.rv_isa.specs.declared.instruction.StoreOp.TheVariants.{Sd}
+use Rattle.rv_isa.specs.declared.instruction.ImmOp.TheVariants.{Addi}
+use Rattle.rv_isa.specs.declared.instruction.ShiftOp.TheVariants.{Slli, Srli}
+use Rattle.rv_isa.specs.declared.instruction.RegOp.TheVariants.{Add}
+use Rattle.rv_isa.specs.declared.instruction.BranchOp.TheVariants.{Bne}
+use Rattle.rv_isa.specs.declared.labelled.Item.{Item}
+use Rattle.rv_isa.specs.declared.labelled.Item.TheVariants.{Plain, Label, Branch as BranchTo, Goto as GoTo, Address}
+use Rattle.vcode.specs.declared.place.Location.{Location}
+use Rattle.vcode.specs.declared.place.Location.TheVariants.{Register as InRegister, Slot}
+use Rattle.vcode.specs.declared.place.Operand.{Operand}
+use Rattle.vcode.specs.declared.place.Operand.TheVariants.{At, Number, Name}
+use Rattle.vcode.specs.declared.line.Operation.{Operation}
+use Rattle.vcode.specs.declared.line.Operation.TheVariants.{Reg as RegOperation, RegW as RegWOperation, Compare}
+use Rattle.vcode.specs.declared.line.Line.{Line}
+use Rattle.vcode.specs.declared.line.Line.TheVariants.{Set, Operate}
+use Rattle.vcode.specs.declared.line.Jump.{Jump}
+use Rattle.vcode.specs.declared.line.Jump.TheVariants.{Goto, Branch, Return, Halt}
+use Rattle.vcode.specs.declared.code.Block.{Block}
+use Rattle.vcode.specs.declared.code.Code.{Code}
+use Rattle.vcode.specs.Cost.{is_immediate}
+use Rattle.abi_frames.specs.Layout.{saved_registers, layout}
+use Rattle.abi_frames.specs.declared.layout.Layout.{Layout}
+
+-- ---- fields
+
+abbrev pub reg : ℕ → Register
+reg n = record { number = n % 32; in_range = mod-lt n (lit< tt) }
+
+-- the low 12 bits, read with a sign
+abbrev pub low : ℕ → Immediate
+low n = record { value = signed 12 (n % 4096); in_range = signed12_fits (n % 4096) (mod-lt n (lit< tt)) }
+
+abbrev pub field : ℕ → UpperField
+field n = record { value = n % 2 ^ 20; in_range = mod-lt n (lit< tt) }
+
+abbrev pub by_1 : Amount
+by_1 = record { value = 1; in_range = lit< tt }
+
+abbrev pub by_11 : Amount
+by_11 = record { value = 11; in_range = lit< tt }
+
+-- ---- instructions, by numbers of registers
+
+abbrev pub add_low : (d a n : ℕ) → Item
+add_low d a n = Plain (Imm Addi (reg d) (reg a) (low n))
+
+abbrev pub extend : (d a : ℕ) → Item
+extend d a = Plain (Addiw (reg d) (reg a) (low 0))
+
+abbrev pub sum_to : (d a b : ℕ) → Item
+sum_to d a b = Plain (Reg Add (reg d) (reg a) (reg b))
+
+abbrev pub load_8 : (d base offset : ℕ) → Item
+load_8 d base offset = Plain (Load Ld (reg d) (reg base) (low offset))
+
+abbrev pub store_8 : (v base offset : ℕ) → Item
+store_8 v base offset = Plain (Store Sd (reg base) (reg v) (low offset))
+
+abbrev pub shift_11 : ℕ → Item
+shift_11 d = Plain (Shift Slli (reg d) (reg d) by_11)
+
+-- ---- numbers, as 20 bits and four times 11, none of which is read with a sign
+
+-- the top 31 bits
+abbrev pub top_part : (d m : ℕ) → List Item
+top_part d m =
+    Plain (Lui (reg d) (field (m / 2 ^ 44))) ∷ Plain (Shift Srli (reg d) (reg d) by_1) ∷ add_low d d (m / 2 ^ 33 % 2 ^ 11) ∷ []
+
+-- 11 bits more
+abbrev pub next_part : (d bits : ℕ) → List Item
+next_part d bits = shift_11 d ∷ add_low d d bits ∷ []
+
+abbrev pub long_constant : (d m : ℕ) → List Item
+long_constant d m =
+    top_part d m ++ (next_part d (m / 2 ^ 22 % 2 ^ 11) ++ (next_part d (m / 2 ^ 11 % 2 ^ 11) ++ next_part d (m % 2 ^ 11)))
+
+abbrev pub constant : (d n : ℕ) → List Item
+constant d n = if is_immediate n then add_low d 0 n ∷ [] else long_constant d (n % 2 ^ 64)
+
+-- ---- the frame: eight bytes at an offset from the stack pointer
+
+-- the upper part of an offset whose low 12 bits are read with a sign
+abbrev pub high : ℕ → UpperField
+high offset = field ((offset + 2048) / 4096)
+
+abbrev pub far_load : (d offset : ℕ) → List Item
+far_load d offset = Plain (Lui (reg d) (high offset)) ∷ sum_to d d 2 ∷ load_8 d d offset ∷ []
+
+abbrev pub load_slot : (d offset : ℕ) → List Item
+load_slot d offset = if nat_lt offset 2048 then load_8 d 2 offset ∷ [] else far_load d offset
+
+abbrev pub far_store : (v offset : ℕ) → List Item
+far_store v offset = Plain (Lui (reg 29) (high offset)) ∷ sum_to 29 29 2 ∷ store_8 v 29 offset ∷ []
+
+abbrev pub store_slot : (v offset : ℕ) → List Item
+store_slot v offset = if nat_lt offset 2048 then store_8 v 2 offset ∷ [] else far_store v offset
+
+-- ---- operands and destinations
+
+abbrev pub slot_offset : Layout → ℕ → ℕ
+slot_offset y i = y.slots + 8 * i
+
+-- the operand into the register d
+abbrev pub into : Layout → ℕ → Operand Location → List Item
+into y d (At (InRegister r)) = add_low d r 0 ∷ []
+into y d (At (Slot i)) = load_slot d (slot_offset y i)
+into y d (Number n) = constant d n
+into y d (Name g) = Address (reg d) g ∷ []
+
+-- the operand into a register: its own, or the given one
+abbrev pub fetch : Layout → ℕ → Operand Location → List Item
+fetch y d (At (InRegister r)) = []
+fetch y d (At (Slot i)) = load_slot d (slot_offset y i)
+fetch y d (Number n) = constant d n
+fetch y d (Name g) = Address (reg d) g ∷ []
+
+abbrev pub source : ℕ → Operand Location → ℕ
+source d (At (InRegister r)) = r
+source d a = d
+
+-- the register in which a value for this place is made, and what brings it there from x28
+abbrev pub target : Location → ℕ
+target (InRegister r) = r
+target (Slot i) = 28
+
+abbrev pub deliver : Layout → Location → List Item
+deliver y (InRegister r) = []
+deliver y (Slot i) = store_slot 28 (slot_offset y i)
+
+-- ---- lines
+
+abbrev pub set_items : Layout → Location → Operand Location → List Item
+set_items y (InRegister r) a = into y r a
+set_items y (Slot i) a = fetch y 28 a ++ store_slot (source 28 a) (slot_offset y i)
+
+-- one instruction does the operation
+abbrev pub operation_items : Operation → (d a b : ℕ) → List Item
+operation_items (RegOperation op) d a b = Plain (Reg op (reg d) (reg a) (reg b)) ∷ []
+operation_items (RegWOperation op) d a b = Plain (RegW op (reg d) (reg a) (reg b)) ∷ []
+operation_items (Compare on k) d a b = []
+
+abbrev pub operate_items : Layout → Location → Operation → (a b : Operand Location) → List Item
+operate_items y to op a b =
+    fetch y 28 a ++ (fetch y 29 b ++ (operation_items op (target to) (source 28 a) (source 29 b) ++ deliver y to))
+
+abbrev pub line_items : Layout → Line Location → List Item
+line_items y (Set to a) = set_items y to a
+line_items y (Operate to op a b) = operate_items y to op a b
+line_items y l = []
+
+abbrev pub lines_items : Layout → List (Line Location) → List Item
+lines_items y [] = []
+lines_items y (l ∷ lines) = line_items y l ++ lines_items y lines
+
+-- ---- the begin and the end of a frame
+
+abbrev pub move_pointer : ℕ → List Item
+move_pointer n = if is_immediate n then add_low 2 2 n ∷ [] else constant 28 n ++ (sum_to 2 2 28 ∷ [])
+
+abbrev pub save_all : (offset : ℕ) → List ℕ → List Item
+save_all offset [] = []
+save_all offset (r ∷ rs) = store_8 r 2 offset ∷ save_all (offset + 8) rs
+
+abbrev pub restore_all : (offset : ℕ) → List ℕ → List Item
+restore_all offset [] = []
+restore_all offset (r ∷ rs) = load_8 r 2 offset ∷ restore_all (offset + 8) rs
+
+abbrev pub prologue : Layout → List Item
+prologue y = move_pointer (2 ^ 64 - y.size) ++ save_all y.saves saved_registers
+
+abbrev pub go_back : Item
+go_back = Plain (Jalr (reg 0) (reg 1) (low 0))
+
+abbrev pub epilogue : Layout → List Item
+epilogue y = restore_all y.saves saved_registers ++ (move_pointer y.size ++ (go_back ∷ []))
+
+-- ---- jumps
+
+abbrev pub result_items : Layout → Option Class → Operand Location → List Item
+result_items y None a = []
+result_items y (Some L) a = into y 10 a
+result_items y (Some W) a = into y 10 a ++ (extend 10 10 ∷ [])
+
+abbrev pub return_items : Layout → Option (Operand Location) → List Item
+return_items y None = GoTo y.leave ∷ []
+return_items y (Some a) = result_items y y.result a ++ (GoTo y.leave ∷ [])
+
+abbrev pub jump_items : Layout → Jump Location → List Item
+jump_items y (Goto k) = GoTo k ∷ []
+jump_items y (Branch on nonzero otherwise) =
+    fetch y 28 on ++ (extend 28 (source 28 on) ∷ BranchTo Bne (reg 28) (reg 0) nonzero ∷ GoTo otherwise ∷ [])
+jump_items y (Return a) = return_items y a
+jump_items y Halt = Plain Ebreak ∷ []
+
+-- ---- functions
+
+abbrev pub block_items : Layout → ℕ → Block Location → List Item
+block_items y k b = Label k ∷ (lines_items y b.lines ++ jump_items y b.jump)
+
+abbrev pub blocks_items : Layout → ℕ → List (Block Location) → List Item
+blocks_items y k [] = []
+blocks_items y k (b ∷ blocks) = block_items y k b ++ blocks_items y (k + 1) blocks
+
+abbrev pub function_items : Layout → List (Block Location) → List Item
+function_items y blocks = prologue y ++ (blocks_items y 0 blocks ++ (Label y.leave ∷ epilogue y))
+
+abbrev pub frame_items : Code Location → (slots : ℕ) → List Item
+frame_items f slots = function_items (layout f slots) f.blocks

@@ -1,0 +1,35 @@
+-- What is proved of the code of frames.
+use Rattle.std.specs.Prelude.{ℕ, ◌+◌, ◌*◌, ◌<◌, ◌≤◌, IsTrue, map, length}
+use Rattle.rv_isa.specs.Labels.{IsLabelled, longest_size}
+use Rattle.vcode.specs.declared.place.Location.{Location}
+use Rattle.vcode.specs.declared.code.Code.{Code}
+use Rattle.vcode.specs.Named.{keeps_places, is_place}
+use Rattle.vcode.specs.Regular.{IsRegular, area, code_weight}
+use Rattle.flat_code.specs.Step.{flat_begin, flat_step}
+use Rattle.abi_frames.specs.Promise.{FramePromise}
+use Rattle.abi_frames.specs.Layout.{frame_bound, frame_size}
+use Rattle.abi_frames.specs.Emission.{frame_items}
+use Rattle.abi_frames.specs.Covered.{is_covered}
+
+-- the code of a function, with places as location code has them
+pub record IsCode (f : Code Location) (slots : ℕ) : Type 0 where
+  pub few : slots < 65536
+  pub regular : IsRegular f
+  pub known : IsTrue (keeps_places (is_place slots) f)
+  pub covered : IsTrue (is_covered f)
+
+-- its labelled code keeps the invariants of such code, within its price
+abbrev pub FramesAreLabelled : Type 0
+FramesAreLabelled =
+    (f : Code Location) (slots : ℕ) → IsCode f slots
+    → IsLabelled (record { items = frame_items f slots; labels = length f.blocks + 1 })
+
+abbrev pub FramesAreSmall : Type 0
+FramesAreSmall = (f : Code Location) (slots : ℕ) → IsCode f slots → longest_size (frame_items f slots) ≤ 32 * code_weight f + 256
+
+-- and performs what the code on bytes runs
+abbrev pub FramesPerform : Type 0
+FramesPerform =
+    (f : Code Location) (slots : ℕ) → IsCode f slots
+    → FramePromise (frame_items f slots) (frame_bound f slots) (frame_size f slots) (area f) (map (λ d. d.class) f.params) f.result
+    (λ addresses. flat_begin f) (λ addresses. flat_step f addresses)

@@ -1,0 +1,102 @@
+//! The begin and the end of a frame.
+ghost use Rattle.std.specs.Prelude.{◌≡◌, ◌+◌, ◌-◌, ◌*◌, ◌^◌, ◌<◌, ◌≤◌, [], ◌∷◌, ◌++◌, length, OnOk};
+ghost use Rattle.abi_frames.specs.Layout.{saved_registers};
+ghost use Rattle.abi_frames.specs.Emission.{constant, sum_to, move_pointer, save_all, restore_all, prologue, epilogue, go_back};
+
+use crate::fields::{add, add_immediate, load, low_part, register, store};
+use crate::layout::Layout;
+use crate::operand::{has_12_bits, push_constant};
+use rv_isa::instruction::Instr;
+use rv_isa::labelled::Item;
+use std::alloc::AllocError;
+
+fn push_far_move(items: &mut Vec<Item>, number: u64) -> Result<(), AllocError>
+    ensures { OnOk result (items.new.items ≡ items.old.items ++ (constant 28 number ++ (sum_to 2 2 28 ∷ []))) }
+{
+    push_constant(items, 28, number)?;
+    items.push(add(2, 2, 28))?;
+    Ok(())
+}
+
+// adds a number to the stack pointer
+fn push_move_pointer(items: &mut Vec<Item>, number: u64) -> Result<(), AllocError>
+    ensures { OnOk result (items.new.items ≡ items.old.items ++ move_pointer number) }
+{
+    if has_12_bits(number) {
+        items.push(add_immediate(2, 2, number))?;
+    } else {
+        push_far_move(items, number)?;
+    }
+    Ok(())
+}
+
+fn push_saves(items: &mut Vec<Item>, from: u64, registers: &[u8]) -> Result<(), AllocError>
+    requires { from + 8 * length registers.now < 2 ^ 32 }
+    ensures { OnOk result (items.new.items ≡ items.old.items ++ save_all from registers.now) }
+{
+    let mut offset = from;
+    for number in registers {
+        items.push(store(*number, 2, offset))?;
+        offset += 8;
+    }
+    Ok(())
+}
+
+fn push_restores(items: &mut Vec<Item>, from: u64, registers: &[u8]) -> Result<(), AllocError>
+    requires { from + 8 * length registers.now < 2 ^ 32 }
+    ensures { OnOk result (items.new.items ≡ items.old.items ++ restore_all from registers.now) }
+{
+    let mut offset = from;
+    for number in registers {
+        items.push(load(*number, 2, offset))?;
+        offset += 8;
+    }
+    Ok(())
+}
+
+// the number of 64 bits that takes this one away
+fn negative(number: u64) -> u64
+    requires { 0 < number }
+    ensures { result ≡ 2 ^ 64 - number }
+{
+    u64::MAX - number + 1
+}
+
+/// Puts the begin of a frame at the end: the stack pointer goes down, and registers are saved.
+pub(crate) fn push_prologue(items: &mut Vec<Item>, layout: &Layout) -> Result<(), AllocError>
+    requires saves { layout.now.saves < 2 ^ 16 }
+    requires size { 0 < layout.now.size }
+    ensures { OnOk result (items.new.items ≡ items.old.items ++ prologue layout.now) }
+{
+    push_move_pointer(items, negative(layout.size))?;
+    push_saves(
+        items,
+        layout.saves,
+        [1, 8, 9, 18, 19, 20, 21, 22, 23, 24, 25, 26, 27].as_slice(),
+    )
+}
+
+fn push_way_back(items: &mut Vec<Item>, size: u64) -> Result<(), AllocError>
+    ensures { OnOk result (items.new.items ≡ items.old.items ++ (move_pointer size ++ (go_back ∷ []))) }
+{
+    push_move_pointer(items, size)?;
+    items.push(Item::Plain(Instr::Jalr {
+        rd: register(0),
+        rs1: register(1),
+        offset: low_part(0),
+    }))?;
+    Ok(())
+}
+
+/// Puts the end of a frame at the end: registers and the stack pointer are as they were, and the machine goes back.
+pub(crate) fn push_epilogue(items: &mut Vec<Item>, layout: &Layout) -> Result<(), AllocError>
+    requires { layout.now.saves < 2 ^ 16 }
+    ensures { OnOk result (items.new.items ≡ items.old.items ++ epilogue layout.now) }
+{
+    push_restores(
+        items,
+        layout.saves,
+        [1, 8, 9, 18, 19, 20, 21, 22, 23, 24, 25, 26, 27].as_slice(),
+    )?;
+    push_way_back(items, layout.size)
+}

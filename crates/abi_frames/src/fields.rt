@@ -1,0 +1,153 @@
+//! Instructions by numbers of registers.
+ghost use Rattle.std.specs.Prelude.{◌≡◌, ◌<◌};
+ghost use Rattle.rv_isa.specs.Formats.{signed};
+ghost use Rattle.rv_isa.specs.declared.labelled.Item.TheVariants.{Plain};
+ghost use Rattle.rv_isa.specs.declared.instruction.Instr.TheVariants.{Lui, Shift};
+ghost use Rattle.rv_isa.specs.declared.instruction.ShiftOp.TheVariants.{Srli};
+ghost use Rattle.abi_frames.specs.Emission.{reg, low, field, high, by_1, by_11, add_low, extend, sum_to, load_8, store_8, shift_11};
+
+use rv_isa::instruction::{ImmOp, Instr, LoadOp, RegOp, ShiftOp, StoreOp};
+use rv_isa::labelled::Item;
+use rv_isa::ranges::{Amount, Immediate, Register, UpperField};
+
+/// The register of that number, modulo 32.
+pub(crate) fn register(number: u8) -> Register
+    ensures { result ≡ reg number }
+{
+    Register {
+        number: number % 32,
+    }
+}
+
+fn signed_12(bits: u64) -> i16
+    requires { bits < 4096 }
+    ensures { result ≡ signed 12 bits }
+{
+    let part = bits as i16;
+    if part < 2048 { part } else { part - 4096 }
+}
+
+/// The low 12 bits of a number, read with a sign.
+pub(crate) fn low_part(number: u64) -> Immediate
+    ensures { result ≡ low number }
+{
+    Immediate {
+        value: signed_12(number % 4096),
+    }
+}
+
+/// The low 20 bits of a number.
+pub(crate) fn upper_field(number: u64) -> UpperField
+    ensures { result ≡ field number }
+{
+    UpperField {
+        value: (number % 0x10_0000) as u32,
+    }
+}
+
+/// `addi`, with the low part of a number.
+pub(crate) fn add_immediate(to: u8, from: u8, number: u64) -> Item
+    ensures { result ≡ add_low to from number }
+{
+    Item::Plain(Instr::Imm {
+        op: ImmOp::Addi,
+        rd: register(to),
+        rs1: register(from),
+        immediate: low_part(number),
+    })
+}
+
+/// `addiw` with 0: the low 32 bits, sign-extended.
+pub(crate) fn extend_word(to: u8, from: u8) -> Item
+    ensures { result ≡ extend to from }
+{
+    Item::Plain(Instr::Addiw {
+        rd: register(to),
+        rs1: register(from),
+        immediate: low_part(0),
+    })
+}
+
+/// `add`.
+pub(crate) fn add(to: u8, left: u8, right: u8) -> Item
+    ensures { result ≡ sum_to to left right }
+{
+    Item::Plain(Instr::Reg {
+        op: RegOp::Add,
+        rd: register(to),
+        rs1: register(left),
+        rs2: register(right),
+    })
+}
+
+/// `ld`, at the low part of an offset from a register.
+pub(crate) fn load(to: u8, base: u8, offset: u64) -> Item
+    ensures { result ≡ load_8 to base offset }
+{
+    Item::Plain(Instr::Load {
+        op: LoadOp::Ld,
+        rd: register(to),
+        rs1: register(base),
+        offset: low_part(offset),
+    })
+}
+
+/// `sd`, at the low part of an offset from a register.
+pub(crate) fn store(value: u8, base: u8, offset: u64) -> Item
+    ensures { result ≡ store_8 value base offset }
+{
+    Item::Plain(Instr::Store {
+        op: StoreOp::Sd,
+        rs1: register(base),
+        rs2: register(value),
+        offset: low_part(offset),
+    })
+}
+
+/// `lui`.
+pub(crate) fn load_upper(to: u8, field: UpperField) -> Item
+    ensures { result ≡ Plain (Lui (reg to) field) }
+{
+    Item::Plain(Instr::Lui {
+        rd: register(to),
+        field,
+    })
+}
+
+#[tactic(auto, using(rv_isa::proofs::Same::same_amount))]
+fn eleven() -> Amount
+    ensures { result ≡ by_11 }
+{
+    Amount { value: 11 }
+}
+
+#[tactic(auto, using(rv_isa::proofs::Same::same_amount))]
+fn one() -> Amount
+    ensures { result ≡ by_1 }
+{
+    Amount { value: 1 }
+}
+
+/// `slli` by 11.
+pub(crate) fn shift_by_11(to: u8) -> Item
+    ensures { result ≡ shift_11 to }
+{
+    Item::Plain(Instr::Shift {
+        op: ShiftOp::Slli,
+        rd: register(to),
+        rs1: register(to),
+        amount: eleven(),
+    })
+}
+
+/// `srli` by 1.
+pub(crate) fn halve(to: u8) -> Item
+    ensures { result ≡ Plain (Shift Srli (reg to) (reg to) by_1) }
+{
+    Item::Plain(Instr::Shift {
+        op: ShiftOp::Srli,
+        rd: register(to),
+        rs1: register(to),
+        amount: one(),
+    })
+}

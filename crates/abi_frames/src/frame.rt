@@ -1,0 +1,115 @@
+//! Functions with their frames.
+ghost use Rattle.std.specs.Prelude.{◌≡◌, ◌+◌, ◌*◌, ◌^◌, ◌<◌, ◌≤◌, IsTrue, [], ◌∷◌, ◌++◌, length, map, OnOk, IfOk};
+ghost use Rattle.rv_isa.specs.Labels.{longest_size};
+ghost use Rattle.vcode.specs.Regular.{area, code_weight};
+ghost use Rattle.flat_code.specs.Step.{flat_begin, flat_step};
+ghost use Rattle.abi_frames.specs.Covered.{is_covered};
+ghost use Rattle.abi_frames.specs.Layout.{layout, frame_bound, frame_size};
+ghost use Rattle.abi_frames.specs.Emission.{lines_items, jump_items, epilogue, block_items, blocks_items, function_items, frame_items};
+ghost use Rattle.rv_isa.specs.declared.labelled.Item.TheVariants.{Label};
+ghost use Rattle.abi_frames.specs.Promise.{FramePromise};
+
+use crate::ends::{push_epilogue, push_prologue};
+use crate::jump::push_jump;
+use crate::layout::Layout;
+use crate::line::push_lines;
+use rv_isa::labelled::{Item, LabelledCode};
+use std::alloc::{AllocError, Global};
+use vcode::code::Block;
+use vcode::function::LFunc;
+use vcode::place::Location;
+
+fn push_body(
+    items: &mut Vec<Item>,
+    layout: &Layout,
+    block: &Block<Location>,
+) -> Result<(), AllocError>
+    requires { layout.now.slots < 2 ^ 16 }
+    ensures { OnOk result (items.new.items ≡ items.old.items ++ (lines_items layout.now block.now.lines ++ jump_items layout.now block.now.jump)) }
+{
+    push_lines(items, layout, block.lines.as_slice())?;
+    push_jump(items, layout, &block.jump)
+}
+
+fn push_block(
+    items: &mut Vec<Item>,
+    layout: &Layout,
+    label: usize,
+    block: &Block<Location>,
+) -> Result<(), AllocError>
+    requires { layout.now.slots < 2 ^ 16 }
+    ensures { OnOk result (items.new.items ≡ items.old.items ++ block_items layout.now label block.now) }
+{
+    items.push(Item::Label(label))?;
+    push_body(items, layout, block)
+}
+
+fn push_blocks(
+    items: &mut Vec<Item>,
+    layout: &Layout,
+    blocks: &[Block<Location>],
+) -> Result<(), AllocError>
+    requires { layout.now.slots < 2 ^ 16 }
+    ensures { OnOk result (items.new.items ≡ items.old.items ++ blocks_items layout.now 0 blocks.now) }
+{
+    for (label, block) in blocks.iter().enumerate() {
+        push_block(items, layout, label, block)?;
+    }
+    Ok(())
+}
+
+fn push_end(items: &mut Vec<Item>, layout: &Layout) -> Result<(), AllocError>
+    requires { layout.now.saves < 2 ^ 16 }
+    ensures { OnOk result (items.new.items ≡ items.old.items ++ (Label layout.now.leave ∷ epilogue layout.now)) }
+{
+    items.push(Item::Label(layout.leave))?;
+    push_epilogue(items, layout)?;
+    Ok(())
+}
+
+fn push_function(
+    items: &mut Vec<Item>,
+    layout: &Layout,
+    blocks: &[Block<Location>],
+) -> Result<(), AllocError>
+    requires saves { layout.now.saves < 2 ^ 16 }
+    requires slots { layout.now.slots < 2 ^ 16 }
+    requires size { 0 < layout.now.size }
+    ensures { OnOk result (items.new.items ≡ items.old.items ++ function_items layout.now blocks.now) }
+{
+    push_prologue(items, layout)?;
+    push_blocks(items, layout, blocks)?;
+    push_end(items, layout)?;
+    Ok(())
+}
+
+fn layout_of(function: &LFunc) -> Layout
+    requires { IsTrue (is_covered function.now.code) }
+    ensures value { result ≡ layout function.now.code function.now.slots }
+    ensures near { (result.saves < 2 ^ 16) × (result.slots < 2 ^ 16) × (0 < result.size) }
+{
+    Layout {
+        saves: 0,
+        slots: 104,
+        size: (8 * (u64::from(function.slots) + 13) + 15) / 16 * 16,
+        result: function.code.result,
+        leave: function.code.blocks.len(),
+    }
+}
+
+/// The machine code of a function whose code is covered, with at most 32 words for each unit of its weight, and 256. Wherever it stands, it performs what the
+/// function's code on bytes runs.
+///
+/// # Errors
+///
+/// Only where memory was refused.
+pub fn frame(alloc: Global, function: &LFunc) -> Result<LabelledCode, AllocError>
+    requires covered { IsTrue (is_covered function.now.code) }
+    ensures promise { IfOk result (λ c. FramePromise c.items (frame_bound function.now.code function.now.slots) (frame_size function.now.code function.now.slots) (area function.now.code) (map (λ d. d.class) function.now.code.params) function.now.code.result (λ addresses. flat_begin function.now.code) (λ addresses. flat_step function.now.code addresses)) }
+    ensures size { IfOk result (λ c. longest_size c.items ≤ 32 * code_weight function.now.code + 256) }
+{
+    let layout = layout_of(function);
+    let mut items = Vec::new(alloc);
+    push_function(&mut items, &layout, function.code.blocks.as_slice())?;
+    Ok(LabelledCode::new(items, function.code.blocks.len() + 1))
+}

@@ -1,0 +1,17 @@
+//! What is proved of the code of frames, each as the contract of a function that does nothing.
+ghost use Rattle.abi_frames.specs.Laws.{FramesAreLabelled, FramesAreSmall, FramesPerform};
+
+/// The labelled code of a function has at most 32 words for each unit of its weight, and 256.
+pub fn frames_are_small()
+    ensures { FramesAreSmall }
+{}
+
+/// The labelled code of a function performs what its code on bytes runs, wherever it stands.
+pub fn frames_perform()
+    ensures { FramesPerform }
+{}
+
+/// The labelled code of a function keeps the invariants of such code.
+pub fn frames_are_labelled()
+    ensures { FramesAreLabelled }
+{}

@@ -1,0 +1,137 @@
+//! The machine code of lines.
+ghost use Rattle.std.specs.Prelude.{◌≡◌, ◌^◌, ◌<◌, [], ◌∷◌, ◌++◌, OnOk};
+ghost use Rattle.vcode.specs.declared.place.Location.TheVariants.{Slot};
+ghost use Rattle.abi_frames.specs.Emission.{operation_items, set_items, operate_items, line_items, lines_items};
+
+use crate::fields::register;
+use crate::layout::Layout;
+use crate::operand::{
+    push_deliver, push_fetch, push_into_slot, push_operand, source_of, target_of,
+};
+use rv_isa::instruction::Instr;
+use rv_isa::labelled::Item;
+use std::alloc::AllocError;
+use vcode::line::{Line, Operation};
+use vcode::place::{Location, Operand};
+
+fn push_set_slot(
+    items: &mut Vec<Item>,
+    layout: &Layout,
+    slot: u32,
+    value: &Operand<Location>,
+) -> Result<(), AllocError>
+    requires { layout.now.slots < 2 ^ 16 }
+    ensures { OnOk result (items.new.items ≡ items.old.items ++ set_items layout.now (Slot slot) value.now) }
+{
+    push_fetch(items, layout, 28, value)?;
+    push_into_slot(items, layout, source_of(28, value), slot)
+}
+
+fn push_set(
+    items: &mut Vec<Item>,
+    layout: &Layout,
+    to: &Location,
+    value: &Operand<Location>,
+) -> Result<(), AllocError>
+    requires { layout.now.slots < 2 ^ 16 }
+    ensures { OnOk result (items.new.items ≡ items.old.items ++ set_items layout.now to.now value.now) }
+{
+    match to {
+        Location::Register(number) => push_operand(items, layout, *number, value)?,
+        Location::Slot(slot) => push_set_slot(items, layout, *slot, value)?,
+    }
+    Ok(())
+}
+
+fn push_operation(
+    items: &mut Vec<Item>,
+    operation: &Operation,
+    to: u8,
+    left: u8,
+    right: u8,
+) -> Result<(), AllocError>
+    ensures { OnOk result (items.new.items ≡ items.old.items ++ operation_items operation.now to left right) }
+{
+    match operation {
+        Operation::Reg(op) => items.push(Item::Plain(Instr::Reg {
+            op: *op,
+            rd: register(to),
+            rs1: register(left),
+            rs2: register(right),
+        }))?,
+        Operation::RegW(op) => items.push(Item::Plain(Instr::RegW {
+            op: *op,
+            rd: register(to),
+            rs1: register(left),
+            rs2: register(right),
+        }))?,
+        Operation::Compare(_, _) => {}
+    }
+    Ok(())
+}
+
+fn push_operate(
+    items: &mut Vec<Item>,
+    layout: &Layout,
+    to: &Location,
+    operation: &Operation,
+    left: &Operand<Location>,
+    right: &Operand<Location>,
+) -> Result<(), AllocError>
+    requires { layout.now.slots < 2 ^ 16 }
+    ensures { OnOk result (items.new.items ≡ items.old.items ++ operate_items layout.now to.now operation.now left.now right.now) }
+{
+    push_fetch(items, layout, 28, left)?;
+    push_fetch(items, layout, 29, right)?;
+    push_operation(
+        items,
+        operation,
+        target_of(to),
+        source_of(28, left),
+        source_of(29, right),
+    )?;
+    push_deliver(items, layout, to)?;
+    Ok(())
+}
+
+/// Puts the code of a line at the end.
+pub(crate) fn push_line(
+    items: &mut Vec<Item>,
+    layout: &Layout,
+    line: &Line<Location>,
+) -> Result<(), AllocError>
+    requires { layout.now.slots < 2 ^ 16 }
+    ensures { OnOk result (items.new.items ≡ items.old.items ++ line_items layout.now line.now) }
+{
+    match line {
+        Line::Set { to, value } => push_set(items, layout, to, value)?,
+        Line::Operate {
+            to,
+            operation,
+            left,
+            right,
+        } => push_operate(items, layout, to, operation, left, right)?,
+        Line::Tick { .. }
+        | Line::Load { .. }
+        | Line::Store { .. }
+        | Line::Alloc { .. }
+        | Line::Blit { .. }
+        | Line::Call { .. } => {}
+    }
+    Ok(())
+}
+
+/// Puts the code of lines at the end.
+pub(crate) fn push_lines(
+    items: &mut Vec<Item>,
+    layout: &Layout,
+    lines: &[Line<Location>],
+) -> Result<(), AllocError>
+    requires { layout.now.slots < 2 ^ 16 }
+    ensures { OnOk result (items.new.items ≡ items.old.items ++ lines_items layout.now lines.now) }
+{
+    for line in lines {
+        push_line(items, layout, line)?;
+    }
+    Ok(())
+}

@@ -1,0 +1,215 @@
+//! Operands of lines: numbers, eight bytes of the frame, addresses.
+ghost use Rattle.std.specs.Prelude.{◌≡◌, ◌+◌, ◌-◌, ◌*◌, ◌^◌, ◌<◌, [], ◌∷◌, ◌++◌, OnOk};
+ghost use Rattle.vcode.specs.Cost.{is_immediate};
+ghost use Rattle.rv_isa.specs.declared.labelled.Item.TheVariants.{Address};
+ghost use Rattle.abi_frames.specs.Emission.{top_part, next_part, long_constant, constant, high, far_load, load_slot, far_store, store_slot, slot_offset, into, fetch, source, target, deliver, reg};
+
+use crate::fields::{
+    add, add_immediate, halve, load, load_upper, register, shift_by_11, store, upper_field,
+};
+use crate::layout::Layout;
+use rv_isa::labelled::Item;
+use rv_isa::ranges::UpperField;
+use std::alloc::AllocError;
+use vcode::place::{Location, Operand};
+
+// the top 31 bits of a number
+fn push_top(items: &mut Vec<Item>, to: u8, number: u64) -> Result<(), AllocError>
+    ensures { OnOk result (items.new.items ≡ items.old.items ++ top_part to number) }
+{
+    items.push(load_upper(to, upper_field(number / 0x1000_0000_0000)))?;
+    items.push(halve(to))?;
+    items.push(add_immediate(to, to, number / 0x2_0000_0000 % 0x800))?;
+    Ok(())
+}
+
+// 11 bits more
+fn push_part(items: &mut Vec<Item>, to: u8, bits: u64) -> Result<(), AllocError>
+    ensures { OnOk result (items.new.items ≡ items.old.items ++ next_part to bits) }
+{
+    items.push(shift_by_11(to))?;
+    items.push(add_immediate(to, to, bits))?;
+    Ok(())
+}
+
+fn push_long_constant(items: &mut Vec<Item>, to: u8, number: u64) -> Result<(), AllocError>
+    ensures { OnOk result (items.new.items ≡ items.old.items ++ long_constant to number) }
+{
+    push_top(items, to, number)?;
+    push_part(items, to, number / 0x40_0000 % 0x800)?;
+    push_part(items, to, number / 0x800 % 0x800)?;
+    push_part(items, to, number % 0x800)?;
+    Ok(())
+}
+
+/// Is the number one that an immediate of 12 bits gives, read with a sign?
+pub(crate) fn has_12_bits(number: u64) -> bool
+    ensures { result ≡ is_immediate number }
+{
+    number < 0x800 || 0xffff_ffff_ffff_f800 <= number
+}
+
+/// Puts the number into a register.
+pub(crate) fn push_constant(items: &mut Vec<Item>, to: u8, number: u64) -> Result<(), AllocError>
+    ensures { OnOk result (items.new.items ≡ items.old.items ++ constant to number) }
+{
+    if has_12_bits(number) {
+        items.push(add_immediate(to, 0, number))?;
+    } else {
+        push_long_constant(items, to, number)?;
+    }
+    Ok(())
+}
+
+// the upper part of an offset
+fn upper_part(offset: u64) -> UpperField
+    requires { offset < 2 ^ 40 }
+    ensures { result ≡ high offset }
+{
+    upper_field((offset + 0x800) / 0x1000)
+}
+
+/// Loads the eight bytes at an offset from the stack pointer.
+pub(crate) fn push_load(items: &mut Vec<Item>, to: u8, offset: u64) -> Result<(), AllocError>
+    requires { offset < 2 ^ 40 }
+    ensures { OnOk result (items.new.items ≡ items.old.items ++ load_slot to offset) }
+{
+    if offset < 0x800 {
+        items.push(load(to, 2, offset))?;
+    } else {
+        items.push(load_upper(to, upper_part(offset)))?;
+        items.push(add(to, to, 2))?;
+        items.push(load(to, to, offset))?;
+    }
+    Ok(())
+}
+
+/// Stores eight bytes at an offset from the stack pointer.
+pub(crate) fn push_store(items: &mut Vec<Item>, value: u8, offset: u64) -> Result<(), AllocError>
+    requires { offset < 2 ^ 40 }
+    ensures { OnOk result (items.new.items ≡ items.old.items ++ store_slot value offset) }
+{
+    if offset < 0x800 {
+        items.push(store(value, 2, offset))?;
+    } else {
+        items.push(load_upper(29, upper_part(offset)))?;
+        items.push(add(29, 29, 2))?;
+        items.push(store(value, 29, offset))?;
+    }
+    Ok(())
+}
+
+// the offset of a slot
+fn offset_of(layout: &Layout, slot: u32) -> u64
+    requires { layout.now.slots < 2 ^ 16 }
+    ensures value { result ≡ slot_offset layout.now slot }
+    ensures near { result < 2 ^ 40 }
+{
+    layout.slots + 8 * u64::from(slot)
+}
+
+fn push_slot(items: &mut Vec<Item>, layout: &Layout, to: u8, slot: u32) -> Result<(), AllocError>
+    requires { layout.now.slots < 2 ^ 16 }
+    ensures { OnOk result (items.new.items ≡ items.old.items ++ load_slot to (slot_offset layout.now slot)) }
+{
+    let offset = offset_of(layout, slot);
+    push_load(items, to, offset)
+}
+
+/// Stores a register into a slot.
+pub(crate) fn push_into_slot(
+    items: &mut Vec<Item>,
+    layout: &Layout,
+    value: u8,
+    slot: u32,
+) -> Result<(), AllocError>
+    requires { layout.now.slots < 2 ^ 16 }
+    ensures { OnOk result (items.new.items ≡ items.old.items ++ store_slot value (slot_offset layout.now slot)) }
+{
+    let offset = offset_of(layout, slot);
+    push_store(items, value, offset)
+}
+
+fn push_address(items: &mut Vec<Item>, to: u8, global: usize) -> Result<(), AllocError>
+    ensures { OnOk result (items.new.items ≡ items.old.items ++ Address (reg to) global ∷ []) }
+{
+    items.push(Item::Address {
+        rd: register(to),
+        global,
+    })?;
+    Ok(())
+}
+
+/// Puts an operand into the register `to`.
+pub(crate) fn push_operand(
+    items: &mut Vec<Item>,
+    layout: &Layout,
+    to: u8,
+    operand: &Operand<Location>,
+) -> Result<(), AllocError>
+    requires { layout.now.slots < 2 ^ 16 }
+    ensures { OnOk result (items.new.items ≡ items.old.items ++ into layout.now to operand.now) }
+{
+    match operand {
+        Operand::At(Location::Register(number)) => items.push(add_immediate(to, *number, 0))?,
+        Operand::At(Location::Slot(slot)) => push_slot(items, layout, to, *slot)?,
+        Operand::Number(number) => push_constant(items, to, *number)?,
+        Operand::Name(global) => push_address(items, to, global.number())?,
+    }
+    Ok(())
+}
+
+/// Has an operand in a register: in its own, or in `to`.
+pub(crate) fn push_fetch(
+    items: &mut Vec<Item>,
+    layout: &Layout,
+    to: u8,
+    operand: &Operand<Location>,
+) -> Result<(), AllocError>
+    requires { layout.now.slots < 2 ^ 16 }
+    ensures { OnOk result (items.new.items ≡ items.old.items ++ fetch layout.now to operand.now) }
+{
+    match operand {
+        Operand::At(Location::Register(_)) => {}
+        Operand::At(Location::Slot(slot)) => push_slot(items, layout, to, *slot)?,
+        Operand::Number(number) => push_constant(items, to, *number)?,
+        Operand::Name(global) => push_address(items, to, global.number())?,
+    }
+    Ok(())
+}
+
+/// The register in which `push_fetch` has an operand.
+pub(crate) fn source_of(to: u8, operand: &Operand<Location>) -> u8
+    ensures { result ≡ source to operand.now }
+{
+    match operand {
+        Operand::At(Location::Register(number)) => *number,
+        Operand::At(Location::Slot(_)) | Operand::Number(_) | Operand::Name(_) => to,
+    }
+}
+
+/// The register in which a value for this place is made.
+pub(crate) fn target_of(place: &Location) -> u8
+    ensures { result ≡ target place.now }
+{
+    match place {
+        Location::Register(number) => *number,
+        Location::Slot(_) => 28,
+    }
+}
+
+/// Brings a value from its `target_of` to its place.
+pub(crate) fn push_deliver(
+    items: &mut Vec<Item>,
+    layout: &Layout,
+    place: &Location,
+) -> Result<(), AllocError>
+    requires { layout.now.slots < 2 ^ 16 }
+    ensures { OnOk result (items.new.items ≡ items.old.items ++ deliver layout.now place.now) }
+{
+    match place {
+        Location::Register(_) => {}
+        Location::Slot(slot) => push_into_slot(items, layout, 28, *slot)?,
+    }
+    Ok(())
+}

@@ -1,0 +1,93 @@
+//! The code of small functions.
+use crate::covered::covers;
+use crate::frame::frame;
+use crate::jump::push_jump;
+use crate::layout::Layout;
+use crate::line::push_line;
+use il_ast::list::Seq;
+use il_ast::operation::Class;
+use rv_isa::instruction::{Instr, RegOp};
+use rv_isa::labelled::Item;
+use std::test::Fail;
+use vcode::code::Code;
+use vcode::function::LFunc;
+use vcode::line::{Jump, Line, Operation};
+use vcode::place::{Location, Operand};
+
+const SMALL: Layout = Layout {
+    saves: 0,
+    slots: 104,
+    size: 128,
+    result: Some(Class::W),
+    leave: 5,
+};
+
+#[test]
+fn an_empty_function_has_a_frame(rt: HostRuntime) -> Result<(), Fail> {
+    let function = LFunc {
+        code: Code {
+            result: None,
+            params: Seq::new(rt.alloc()),
+            blocks: Seq::new(rt.alloc()),
+        },
+        slots: 6,
+    };
+    assert!(rt; covers(&function));
+    let code = frame(rt.alloc(), &function)?;
+    assert_eq!(rt; code.labels(), 1);
+    // the stack pointer moves, 13 registers are saved, the label, and all of it back
+    assert_eq!(rt; code.items().len(), 1 + 13 + 1 + 13 + 1 + 1);
+    Ok(())
+}
+
+#[test]
+fn a_sum_goes_to_a_slot(rt: HostRuntime) -> Result<(), Fail> {
+    let mut items = Vec::new(rt.alloc());
+    let line = Line::Operate {
+        to: Location::Slot(1),
+        operation: Operation::Reg(RegOp::Add),
+        left: Operand::At(Location::Register(5)),
+        right: Operand::Number(7),
+    };
+    push_line(&mut items, &SMALL, &line)?;
+    assert_eq!(rt; items.len(), 3);
+    match items.get(1) {
+        Some(Item::Plain(Instr::Reg { rd, rs1, rs2, .. })) => {
+            assert!(rt; rd.number == 28 && rs1.number == 5 && rs2.number == 29);
+        }
+        _ => assert!(rt; false),
+    }
+    match items.get(2) {
+        Some(Item::Plain(Instr::Store { offset, .. })) => {
+            assert_eq!(rt; offset.value, 112);
+        }
+        _ => assert!(rt; false),
+    }
+    Ok(())
+}
+
+#[test]
+fn far_slots_and_long_numbers_take_more(rt: HostRuntime) -> Result<(), Fail> {
+    let mut items = Vec::new(rt.alloc());
+    let line = Line::Set {
+        to: Location::Slot(300),
+        value: Operand::Number(0x1234_5678_9abc_def0),
+    };
+    push_line(&mut items, &SMALL, &line)?;
+    assert_eq!(rt; items.len(), 9 + 3);
+    Ok(())
+}
+
+#[test]
+fn a_word_is_returned(rt: HostRuntime) -> Result<(), Fail> {
+    let mut items = Vec::new(rt.alloc());
+    push_jump(
+        &mut items,
+        &SMALL,
+        &Jump::Return(Some(Operand::At(Location::Register(6)))),
+    )?;
+    assert_eq!(rt; items.len(), 3);
+    assert!(rt; matches!(items.get(1), Some(Item::Plain(Instr::Addiw { .. }))));
+    assert!(rt; matches!(items.get(2), Some(Item::Goto(5))));
+    Ok(())
+}
