@@ -29,7 +29,6 @@ use Rattle.vcode.specs.Named.{is_place, operand_keeps, line_keeps, jump_keeps, b
 use Rattle.vcode.specs.Regular.{leads_inside, is_target, code_weight}
 use Rattle.abi_frames.specs.Layout.{layout, saved_registers}
 use Rattle.abi_frames.specs.declared.layout.Layout.{Layout}
-use Rattle.abi_frames.specs.Covered.{covers_block}
 use Rattle.abi_frames.specs.Emission.{reg, add_low, extend, sum_to, load_8, store_8, long_constant, constant, far_load, load_slot, far_store, store_slot, slot_offset, into, fetch, source, target, deliver, set_items, operation_items, operate_items, line_items, lines_items, move_pointer, save_all, restore_all, go_back, prologue, epilogue, result_items, jump_items, blocks_items}
 use Rattle.abi_frames.specs.Laws.{FramesAreLabelled}
 use Rattle.abi_frames.proofs.Leading.{longest-append}
@@ -362,15 +361,14 @@ frames_are_labelled f slots is =
     let y : Layout = layout f slots in
     let n : ℕ = length f.blocks in
     let known = and_parts (list_all (λ (d : Destination Location). is_place slots d.place) f.params) (list_all (block_keeps (is_place slots)) f.blocks) is.known in
-    let covered = and_parts (nat_eq (length f.params) 0) (list_all covers_block f.blocks) is.covered in
     let begin = prologue_plainly (n + 1) y in
     let end = epilogue_plainly (n + 1) y in
     let blocks = blocks_labelled (n + 1) y slots n 0 f.blocks (omega arith) (omega arith) (omega arith) known.1 is.regular.inside in
     let mid : List Item = blocks_items y 0 f.blocks in
     let last : List Item = Label n ∷ epilogue y in
     let tail : List Item = mid ++ last in
-    let size = function_size y f.blocks covered.1 in
-    let light = le_is (code_weight f) 40000 is.regular.light in
+    let size = function_size y f.blocks is.regular.paid in
+    let light = le_is (code_weight f) 40000 is.light in
     let some = some_size y in
     let sum_one = longest-append (prologue y) tail in
     let sum_two = longest-append mid last in

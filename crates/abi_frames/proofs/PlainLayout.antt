@@ -15,7 +15,7 @@ use Rattle.abi_frames.specs.declared.layout.Layout.{Layout}
 use Rattle.abi_frames.specs.Layout.{layout, outgoing, args_on_stack, most_in_lines, most_in_blocks, frame_size}
 use Rattle.rv_isa.specs.declared.labelled.Item.{Item}
 use Rattle.abi_frames.specs.Emission.{function_items}
-use Rattle.abi_frames.specs.Covered.{is_covered, covers_line, covers_block, pays_to_leave}
+use Rattle.abi_frames.specs.Covered.{is_covered, covers_line, covers_block}
 
 line_takes_nothing : (l : Line Location) → covers_line l ≡ true → (alloc_bytes l ≡ 0) × (args_on_stack l ≡ 0)
 line_takes_nothing (Tick turn w) h = (refl, refl)
@@ -47,7 +47,7 @@ blocks_take_nothing : (blocks : List (Block Location)) → list_all covers_block
 blocks_take_nothing [] h = (refl, refl)
 blocks_take_nothing (b ∷ blocks) h =
     let parts = and_parts (covers_block b) (list_all covers_block blocks) h in
-    let one = lines_take_nothing b.lines (and_parts (list_all covers_line b.lines) (pays_to_leave b) parts.0).0 in
+    let one = lines_take_nothing b.lines parts.0 in
     let rest = blocks_take_nothing blocks parts.1 in
     let sum = sum_by-cons block_bytes b blocks in
     let x = one.0 in

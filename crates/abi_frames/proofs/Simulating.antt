@@ -40,7 +40,7 @@ use Rattle.flat_code.specs.Flat.{FlatGiven, FlatAsked, FlatOutcome, FlatReturned
 use Rattle.flat_code.specs.Step.{FlatState, FlatEvent, Numbers, put, number_of, read, taken, computed, closed, is_in, sets, ticks, fails, goes_on, enters, branches, returns, returns_as, flat_line, flat_jump, block_step, step_in, flat_step}
 use Rattle.abi_frames.specs.Calls.{ResultIn, passed}
 use Rattle.abi_frames.specs.Performs.{Performs, AllPerform}
-use Rattle.abi_frames.specs.Covered.{leaving, covers_line, covers_operation}
+use Rattle.abi_frames.specs.Covered.{covers_line, covers_operation}
 use Rattle.abi_frames.specs.Emission.{line_items, lines_items, jump_items, result_items, epilogue}
 use Rattle.abi_frames.proofs.Leading.{Site, StandAt, Reaches, Leads, leads_so, Sets}
 use Rattle.abi_frames.proofs.Activations.{Setting, IsSetting, site, bottom, slot_at, save_at, value_at, operand_in, place_is, Framed, operand_known, Assigned, assigned, assigned_output}
@@ -57,7 +57,7 @@ pub record BlockStands (c : Setting) (b : Block Location) (i : ℕ) : Type 0 whe
   pub known : list_all (line_keeps (is_place c.slots)) b.lines ≡ true
   pub jump_known : jump_keeps (is_place c.slots) b.jump ≡ true
   pub covered : list_all covers_line b.lines ≡ true
-  pub paid : affords 0 (leaving b.jump) b.lines ≡ true
+  pub paid : affords 0 b.jump b.lines ≡ true
   pub paced : sum_by turns_of b.lines ≤ 40000
 
 pub record CodeStands (c : Setting) (f : Code Location) : Type 0 where
@@ -89,7 +89,7 @@ pub record At (c : Setting) (f : Code Location) (b : Block Location) (lines : Li
   pub jump_known : jump_keeps (is_place c.slots) b.jump ≡ true
   pub covered : list_all covers_line lines ≡ true
   pub credit : ℕ
-  pub paid : affords credit (leaving b.jump) lines ≡ true
+  pub paid : affords credit b.jump lines ≡ true
   pub price : k + credit + 64 ≤ allowed fs
   pub pace : fs.spent.turns + sum_by turns_of lines ≤ 40000 * (k + 1)
 
@@ -102,7 +102,7 @@ pub record AtJump (c : Setting) (j : Jump Location) (fs : FlatState) (k : ℕ) (
   pub output : u.output ≡ c.start.output ++ fs.spent.output
   pub known : jump_keeps (is_place c.slots) j ≡ true
   pub credit : ℕ
-  pub paid : jump_cost (leaving j) ≤ credit
+  pub paid : jump_cost j ≤ credit
   pub price : k + credit + 64 ≤ allowed fs
   pub pace : fs.spent.turns ≤ 40000 * (k + 1)
 
@@ -179,12 +179,12 @@ next_index n i = omega arith
 -- after a line that is no tick, with what it leaves in places
 advance : (c : Setting) (f : Code Location) (b : Block Location) (l : Line Location) (lines : List (Line Location)) (fs : FlatState) (k : ℕ) (u : State)
     (numbers : Numbers) (memory : Spots) (used : ℕ) → (a : At c f b (l ∷ lines) fs k u) → turns_of l ≡ 0
-    → (nat_le (line_cost l) a.credit && affords (a.credit - line_cost l) (leaving b.jump) lines) ≡ true
+    → (nat_le (line_cost l) a.credit && affords (a.credit - line_cost l) b.jump lines) ≡ true
     → (m : Reaches (site c) (longest_size (line_items c.layout l)) ((lines_items c.layout lines ++ jump_items c.layout b.jump) ++ a.rest) u
     (λ w. Framed c numbers memory w × (w.output ≡ u.output)))
     → At c f b lines (record fs { next = fs.next + 1; numbers = numbers; memory = memory; used = used }) (k + m.steps) m.after
 advance c f b l lines fs k u numbers memory used a calm pays m =
-    let parts = and_parts (nat_le (line_cost l) a.credit) (affords (a.credit - line_cost l) (leaving b.jump) lines) pays in
+    let parts = and_parts (nat_le (line_cost l) a.credit) (affords (a.credit - line_cost l) b.jump lines) pays in
     let enough = le_is (line_cost l) a.credit parts.0 in
     let size = line_size c.layout l in
     let few = m.few in
@@ -663,7 +663,7 @@ at_jump c f b fs k u a =
       output = a.output;
       known = a.jump_known;
       credit = a.credit;
-      paid = le_is (jump_cost (leaving b.jump)) a.credit a.paid;
+      paid = le_is (jump_cost b.jump) a.credit a.paid;
       price = price;
       pace = omega (arith, pace);
     }

@@ -1,6 +1,6 @@
 -- The code of a line is no longer than the line's cost, and so that of a function within its price.
 use Rattle.std.proofs.Common.{◌≡◌, ℕ, ◌+◌, ◌-◌, ◌*◌, ◌%◌, ◌^◌, ◌≤◌, Bool, true, false, List, [], ◌∷◌, ◌++◌, refl, arith, lit≤}
-use Rattle.std.specs.Prelude.{◌&&◌, nat_eq, nat_le, nat_lt, if◌then◌else◌, length, Option, Some, None}
+use Rattle.std.specs.Prelude.{◌&&◌, nat_le, nat_lt, if◌then◌else◌, length, Option, Some, None}
 use Rattle.std.specs.List.{list_all, sum_by}
 use Rattle.std.proofs.lemmas.Bool.{and_parts}
 use Rattle.std.proofs.lemmas.Bool.Decides.{nat_tests}
@@ -22,12 +22,11 @@ use Rattle.vcode.specs.declared.line.Line.TheVariants.{Tick, Set, Operate, Load,
 use Rattle.vcode.specs.declared.line.Jump.{Jump}
 use Rattle.vcode.specs.declared.line.Jump.TheVariants.{Goto, Branch, Return, Halt}
 use Rattle.vcode.specs.declared.code.Block.{Block}
-use Rattle.vcode.specs.Cost.{is_immediate, operand_cost, operation_cost, line_cost, jump_cost, affords}
+use Rattle.vcode.specs.Cost.{is_immediate, operand_cost, operation_cost, line_cost, jump_cost, affords, is_paid}
 use Rattle.vcode.specs.Regular.{weight_of}
 use Rattle.abi_frames.specs.Layout.{layout, saved_registers}
 use Rattle.abi_frames.specs.Laws.{FramesAreSmall}
 use Rattle.abi_frames.specs.declared.layout.Layout.{Layout}
-use Rattle.abi_frames.specs.Covered.{leaving, covers_line, covers_block, pays_to_leave}
 use Rattle.abi_frames.specs.Emission.{reg, add_low, extend, long_constant, constant, load_8, store_8, far_load, far_store, sum_to, load_slot, store_slot, slot_offset, into, fetch, source, target, deliver, set_items, operation_items, operate_items, line_items, lines_items, move_pointer, save_all, restore_all, go_back, prologue, epilogue, result_items, jump_items, block_items, blocks_items, function_items}
 use Rattle.abi_frames.proofs.Leading.{longest-append}
 
@@ -116,7 +115,7 @@ result_size y (Some W) a =
     omega (arith, all, h)
 result_size y (Some L) a = let h = into_size y 10 a in omega (arith, h)
 
-pub jump_size : (y : Layout) (j : Jump Location) → longest_size (jump_items y j) ≤ jump_cost (leaving j)
+pub jump_size : (y : Layout) (j : Jump Location) → longest_size (jump_items y j) ≤ jump_cost j
 jump_size y (Goto k) = lit≤ tt
 jump_size y (Branch on nonzero otherwise) =
     let rest : List Item = extend 28 (source 28 on) ∷ BranchTo Bne (reg 28) (reg 0) nonzero ∷ GoTo otherwise ∷ [] in
@@ -141,11 +140,11 @@ LinesFit y credit j lines = longest_size (lines_items y lines) + longest_size (j
 
 -- after a line that is no tick
 fits_more : (y : Layout) (credit : ℕ) (j : Jump Location) (l : Line Location) (lines : List (Line Location)) → weight_of l ≡ 0
-    → (nat_le (line_cost l) credit && affords (credit - line_cost l) (leaving j) lines) ≡ true
-    → (affords (credit - line_cost l) (leaving j) lines ≡ true → LinesFit y (credit - line_cost l) j lines)
+    → (nat_le (line_cost l) credit && affords (credit - line_cost l) j lines) ≡ true
+    → (affords (credit - line_cost l) j lines ≡ true → LinesFit y (credit - line_cost l) j lines)
     → LinesFit y credit j (l ∷ lines)
 fits_more y credit j l lines light paid rest =
-    let parts = and_parts (nat_le (line_cost l) credit) (affords (credit - line_cost l) (leaving j) lines) paid in
+    let parts = and_parts (nat_le (line_cost l) credit) (affords (credit - line_cost l) j lines) paid in
     let enough = le_is (line_cost l) credit parts.0 in
     let others = rest parts.1 in
     let sum = sum_by-cons weight_of l lines in
@@ -153,10 +152,10 @@ fits_more y credit j l lines light paid rest =
     let size = line_size y l in
     omega (arith, enough, others, sum, all, size, light)
 
-pub lines_size : (y : Layout) (credit : ℕ) (j : Jump Location) (lines : List (Line Location)) → affords credit (leaving j) lines ≡ true
+pub lines_size : (y : Layout) (credit : ℕ) (j : Jump Location) (lines : List (Line Location)) → affords credit j lines ≡ true
     → LinesFit y credit j lines
 lines_size y credit j [] paid =
-    let enough = le_is (jump_cost (leaving j)) credit paid in
+    let enough = le_is (jump_cost j) credit paid in
     let size = jump_size y j in
     omega (arith, enough, size)
 lines_size y credit j (Tick turn w ∷ lines) paid =
@@ -181,12 +180,12 @@ lines_size y credit j (Call to callee args ∷ lines) paid =
 abbrev pub block_weight : Block Location → ℕ
 block_weight b = sum_by weight_of b.lines
 
-pub blocks_size : (y : Layout) (k : ℕ) (blocks : List (Block Location)) → list_all covers_block blocks ≡ true
+pub blocks_size : (y : Layout) (k : ℕ) (blocks : List (Block Location)) → list_all is_paid blocks ≡ true
     → longest_size (blocks_items y k blocks) ≤ 32 * sum_by block_weight blocks
 blocks_size y k [] good = omega arith
 blocks_size y k (b ∷ blocks) good =
-    let parts = and_parts (covers_block b) (list_all covers_block blocks) good in
-    let pays = (and_parts (list_all covers_line b.lines) (pays_to_leave b) parts.0).1 in
+    let parts = and_parts (is_paid b) (list_all is_paid blocks) good in
+    let pays = parts.0 in
     let one = lines_size y 0 b.jump b.lines pays in
     let two = longest-append (lines_items y b.lines) (jump_items y b.jump) in
     let all = longest-append (block_items y k b) (blocks_items y (k + 1) blocks) in
@@ -234,7 +233,7 @@ epilogue_size y =
     let two = restores_size y.saves saved_registers in
     omega (arith, all, more, one, two)
 
-pub function_size : (y : Layout) (blocks : List (Block Location)) → list_all covers_block blocks ≡ true
+pub function_size : (y : Layout) (blocks : List (Block Location)) → list_all is_paid blocks ≡ true
     → longest_size (function_items y blocks) ≤ 32 * sum_by block_weight blocks + 47
 function_size y blocks good =
     let all = longest-append (prologue y) (blocks_items y 0 blocks ++ (Label y.leave ∷ epilogue y)) in
@@ -246,6 +245,5 @@ function_size y blocks good =
 
 pub frames_are_small : FramesAreSmall
 frames_are_small f slots is =
-    let covered = and_parts (nat_eq (length f.params) 0) (list_all covers_block f.blocks) is.covered in
-    let size = function_size (layout f slots) f.blocks covered.1 in
+    let size = function_size (layout f slots) f.blocks is.regular.paid in
     omega (arith, size)

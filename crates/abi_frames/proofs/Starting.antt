@@ -15,6 +15,7 @@ use Rattle.vcode.specs.declared.line.Line.TheVariants.{Tick, Set, Operate, Load,
 use Rattle.vcode.specs.declared.code.Block.{Block}
 use Rattle.vcode.specs.declared.code.Code.{Code}
 use Rattle.vcode.specs.Named.{is_place, block_keeps, line_keeps, jump_keeps}
+use Rattle.vcode.specs.Cost.{is_paid}
 use Rattle.vcode.specs.Regular.{area, turns_of, passes_few}
 use Rattle.flat_code.specs.Spots.{Spot, Away, Known, Spots, Clear}
 use Rattle.flat_code.specs.Step.{Numbers, bound, flat_begin, flat_step}
@@ -23,7 +24,7 @@ use Rattle.abi_frames.specs.Performs.{KeepsFrame}
 use Rattle.abi_frames.specs.Layout.{layout, outgoing, args_on_stack, most_in_lines, most_in_blocks, saved_registers, frame_size, frame_bound}
 use Rattle.abi_frames.specs.declared.layout.Layout.{Layout}
 use Rattle.abi_frames.specs.Emission.{lines_items, jump_items, blocks_items, prologue, epilogue, frame_items, move_pointer, save_all}
-use Rattle.abi_frames.specs.Covered.{covers_line, covers_block, pays_to_leave}
+use Rattle.abi_frames.specs.Covered.{covers_block}
 use Rattle.abi_frames.specs.Laws.{IsCode, FramesPerform}
 use Rattle.abi_frames.proofs.Leading.{Site, StandAt, Leads, leads_then, leads_so}
 use Rattle.abi_frames.proofs.Activations.{Setting, IsSetting, site, bottom, Framed}
@@ -264,15 +265,16 @@ block_stands c f slots same is b i e code =
     let keeps_here : block_keeps (is_place c.slots) b ≡ true = subst (λ n. block_keeps (is_place n) b ≡ true) (sym same) keeps in
     let parts = and_parts (list_all (line_keeps (is_place c.slots)) b.lines) (jump_keeps (is_place c.slots) b.jump) keeps_here in
     let covered = and_parts (nat_eq (length f.params) 0) (list_all covers_block f.blocks) is.covered in
-    let here = and_parts (list_all covers_line b.lines) (pays_to_leave b) (each covers_block f.blocks i b covered.1 e) in
+    let here = each covers_block f.blocks i b covered.1 e in
+    let pays = each is_paid f.blocks i b is.regular.paid e in
     let paced = each (λ (d : Block Location). nat_le (sum_by turns_of d.lines) 40000) f.blocks i b is.regular.paced e in
     record {
       rest = code.rest;
       stands = code.stands;
       known = parts.0;
       jump_known = parts.1;
-      covered = here.0;
-      paid = here.1;
+      covered = here;
+      paid = pays;
       paced = le_is (sum_by turns_of b.lines) 40000 paced;
     }
 

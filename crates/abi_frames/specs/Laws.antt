@@ -1,5 +1,5 @@
 -- What is proved of the code of frames.
-use Rattle.std.specs.Prelude.{ℕ, ◌+◌, ◌*◌, ◌<◌, ◌≤◌, IsTrue, map, length}
+use Rattle.std.specs.Prelude.{ℕ, ◌+◌, ◌*◌, ◌<◌, ◌≤◌, IsTrue, nat_le, map, length}
 use Rattle.rv_isa.specs.Labels.{IsLabelled, longest_size}
 use Rattle.vcode.specs.declared.place.Location.{Location}
 use Rattle.vcode.specs.declared.code.Code.{Code}
@@ -17,6 +17,7 @@ pub record IsCode (f : Code Location) (slots : ℕ) : Type 0 where
   pub regular : IsRegular f
   pub known : IsTrue (keeps_places (is_place slots) f)
   pub covered : IsTrue (is_covered f)
+  pub light : IsTrue (nat_le (code_weight f) 40000)
 
 -- its labelled code keeps the invariants of such code, within its price
 abbrev pub FramesAreLabelled : Type 0

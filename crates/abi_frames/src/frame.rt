@@ -1,5 +1,5 @@
 //! Functions with their frames.
-ghost use Rattle.std.specs.Prelude.{◌≡◌, ◌+◌, ◌*◌, ◌^◌, ◌<◌, ◌≤◌, IsTrue, [], ◌∷◌, ◌++◌, length, map, OnOk, IfOk};
+ghost use Rattle.std.specs.Prelude.{◌≡◌, ◌+◌, ◌*◌, ◌^◌, ◌<◌, ◌≤◌, IsTrue, [], ◌∷◌, ◌++◌, length, map, nat_le, OnOk, IfOk};
 ghost use Rattle.rv_isa.specs.Labels.{longest_size};
 ghost use Rattle.vcode.specs.Regular.{area, code_weight};
 ghost use Rattle.flat_code.specs.Step.{flat_begin, flat_step};
@@ -13,10 +13,10 @@ use crate::ends::{push_epilogue, push_prologue};
 use crate::jump::push_jump;
 use crate::layout::Layout;
 use crate::line::push_lines;
+use flat_code::function::FlatFunc;
 use rv_isa::labelled::{Item, LabelledCode};
 use std::alloc::{AllocError, Global};
 use vcode::code::Block;
-use vcode::function::LFunc;
 use vcode::place::Location;
 
 fn push_body(
@@ -83,33 +83,34 @@ fn push_function(
     Ok(())
 }
 
-fn layout_of(function: &LFunc) -> Layout
-    requires { IsTrue (is_covered function.now.code) }
-    ensures value { result ≡ layout function.now.code function.now.slots }
+fn layout_of(function: &FlatFunc) -> Layout
+    requires { IsTrue (is_covered function.now.located.code) }
+    ensures value { result ≡ layout function.now.located.code function.now.located.slots }
     ensures near { (result.saves < 2 ^ 16) × (result.slots < 2 ^ 16) × (0 < result.size) }
 {
     Layout {
         saves: 0,
         slots: 104,
-        size: (8 * (u64::from(function.slots) + 13) + 15) / 16 * 16,
-        result: function.code.result,
-        leave: function.code.blocks.len(),
+        size: (8 * (u64::from(function.located.slots) + 13) + 15) / 16 * 16,
+        result: function.located.code.result,
+        leave: function.located.code.blocks.len(),
     }
 }
 
-/// The machine code of a function whose code is covered, with at most 32 words for each unit of its weight, and 256. Wherever it stands, it performs what the
+/// The machine code of a function whose code is covered and weighs at most 40,000, with at most 32 words for each unit of its weight, and 256. Wherever it stands, it performs what the
 /// function's code on bytes runs.
 ///
 /// # Errors
 ///
 /// Only where memory was refused.
-pub fn frame(alloc: Global, function: &LFunc) -> Result<LabelledCode, AllocError>
-    requires covered { IsTrue (is_covered function.now.code) }
-    ensures promise { IfOk result (λ c. FramePromise c.items (frame_bound function.now.code function.now.slots) (frame_size function.now.code function.now.slots) (area function.now.code) (map (λ d. d.class) function.now.code.params) function.now.code.result (λ addresses. flat_begin function.now.code) (λ addresses. flat_step function.now.code addresses)) }
-    ensures size { IfOk result (λ c. longest_size c.items ≤ 32 * code_weight function.now.code + 256) }
+pub fn frame(alloc: Global, function: &FlatFunc) -> Result<LabelledCode, AllocError>
+    requires covered { IsTrue (is_covered function.now.located.code) }
+    requires light { IsTrue (nat_le (code_weight function.now.located.code) 40000) }
+    ensures promise { IfOk result (λ c. FramePromise c.items (frame_bound function.now.located.code function.now.located.slots) (frame_size function.now.located.code function.now.located.slots) (area function.now.located.code) (map (λ d. d.class) function.now.located.code.params) function.now.located.code.result (λ addresses. flat_begin function.now.located.code) (λ addresses. flat_step function.now.located.code addresses)) }
+    ensures size { IfOk result (λ c. longest_size c.items ≤ 32 * code_weight function.now.located.code + 256) }
 {
     let layout = layout_of(function);
     let mut items = Vec::new(alloc);
-    push_function(&mut items, &layout, function.code.blocks.as_slice())?;
-    Ok(LabelledCode::new(items, function.code.blocks.len() + 1))
+    push_function(&mut items, &layout, function.located.code.blocks.as_slice())?;
+    Ok(LabelledCode::new(items, function.located.code.blocks.len() + 1))
 }

@@ -4,6 +4,7 @@ use crate::frame::frame;
 use crate::jump::push_jump;
 use crate::layout::Layout;
 use crate::line::push_line;
+use flat_code::function::flat;
 use il_ast::list::Seq;
 use il_ast::operation::Class;
 use rv_isa::instruction::{Instr, RegOp};
@@ -24,14 +25,14 @@ const SMALL: Layout = Layout {
 
 #[test]
 fn an_empty_function_has_a_frame(rt: HostRuntime) -> Result<(), Fail> {
-    let function = LFunc {
+    let function = flat(LFunc {
         code: Code {
             result: None,
             params: Seq::new(rt.alloc()),
             blocks: Seq::new(rt.alloc()),
         },
         slots: 6,
-    };
+    });
     assert!(rt; covers(&function));
     let code = frame(rt.alloc(), &function)?;
     assert_eq!(rt; code.labels(), 1);

@@ -16,13 +16,14 @@ use Rattle.abi_frames.proofs.frame.frame.Goals as goal
 
 pub new-requires : goal.new-requires
 new-requires c =
-    let f = c.args.function.now.code in
-    let slots = c.args.function.now.slots in
+    let f = c.args.function.now.located.code in
+    let slots = c.args.function.now.located.slots in
     let is : IsCode f slots = record {
-      few = c.args.function.now.few;
-      regular = c.args.function.now.regular;
-      known = c.args.function.now.known;
+      few = c.args.function.now.located.few;
+      regular = c.args.function.now.located.regular;
+      known = c.args.function.now.located.known;
       covered = c.requires.covered;
+      light = c.requires.light;
     } in
     let items : c.push_function.new.items.items ≡ frame_items f slots =
     items_are _ _ _ _ _ _ c.in_ok-push_function.ensures c.new-items.ensures.items c.layout_of-layout.ensures.value c.as_slice.ensures in
@@ -31,13 +32,14 @@ new-requires c =
 
 pub returns-clause-promise : goal.returns-clause-promise
 returns-clause-promise c =
-    let f = c.args.function.now.code in
-    let slots = c.args.function.now.slots in
+    let f = c.args.function.now.located.code in
+    let slots = c.args.function.now.located.slots in
     let is : IsCode f slots = record {
-      few = c.args.function.now.few;
-      regular = c.args.function.now.regular;
-      known = c.args.function.now.known;
+      few = c.args.function.now.located.few;
+      regular = c.args.function.now.located.regular;
+      known = c.args.function.now.located.known;
       covered = c.requires.covered;
+      light = c.requires.light;
     } in
     let items : c.push_function.new.items.items ≡ frame_items f slots =
     items_are _ _ _ _ _ _ c.in_ok-push_function.ensures c.new-items.ensures.items c.layout_of-layout.ensures.value c.as_slice.ensures in
@@ -48,13 +50,14 @@ returns-clause-promise c =
 
 pub returns-clause-size : goal.returns-clause-size
 returns-clause-size c =
-    let f = c.args.function.now.code in
-    let slots = c.args.function.now.slots in
+    let f = c.args.function.now.located.code in
+    let slots = c.args.function.now.located.slots in
     let is : IsCode f slots = record {
-      few = c.args.function.now.few;
-      regular = c.args.function.now.regular;
-      known = c.args.function.now.known;
+      few = c.args.function.now.located.few;
+      regular = c.args.function.now.located.regular;
+      known = c.args.function.now.located.known;
       covered = c.requires.covered;
+      light = c.requires.light;
     } in
     let items : c.push_function.new.items.items ≡ frame_items f slots =
     items_are _ _ _ _ _ _ c.in_ok-push_function.ensures c.new-items.ensures.items c.layout_of-layout.ensures.value c.as_slice.ensures in
