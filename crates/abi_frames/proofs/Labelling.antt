@@ -5,6 +5,10 @@ use Rattle.std.specs.List.{list_all}
 use Rattle.std.proofs.lemmas.Bool.{and_parts, and_from}
 use Rattle.std.proofs.lemmas.Bool.Decides.{nat_tests}
 use Rattle.std.proofs.lemmas.List.Folds.{list_all-append}
+use Rattle.rv_isa.specs.declared.instruction.RegOp.{RegOp}
+use Rattle.rv_isa.specs.declared.instruction.RegOp.TheVariants.{Sub, Slt, Sltu}
+use Rattle.il_ast.specs.declared.operation.Condition.{Condition}
+use Rattle.il_ast.specs.declared.operation.Condition.TheVariants.{Equal, NotEqual, SignedLessEqual, SignedLess, SignedGreaterEqual, SignedGreater, UnsignedLessEqual, UnsignedLess, UnsignedGreaterEqual, UnsignedGreater}
 use Rattle.il_ast.specs.declared.operation.Class.{Class}
 use Rattle.il_ast.specs.declared.operation.Class.TheVariants.{W, L}
 use Rattle.rv_isa.specs.Labels.{times_labelled, has_label_below, has_good_registers, longest_size}
@@ -29,7 +33,7 @@ use Rattle.vcode.specs.Named.{is_place, operand_keeps, line_keeps, jump_keeps, b
 use Rattle.vcode.specs.Regular.{leads_inside, is_target, code_weight}
 use Rattle.abi_frames.specs.Layout.{layout, saved_registers}
 use Rattle.abi_frames.specs.declared.layout.Layout.{Layout}
-use Rattle.abi_frames.specs.Emission.{reg, add_low, extend, sum_to, load_8, store_8, long_constant, constant, far_load, load_slot, far_store, store_slot, slot_offset, into, fetch, source, target, deliver, set_items, operation_items, operate_items, line_items, lines_items, move_pointer, save_all, restore_all, go_back, prologue, epilogue, result_items, jump_items, blocks_items}
+use Rattle.abi_frames.specs.Emission.{reg, add_low, extend, sum_to, load_8, store_8, long_constant, constant, far_load, load_slot, far_store, store_slot, slot_offset, into, fetch, source, target, deliver, set_items, negate, is_zero, compare_items, operation_items, operate_items, line_items, lines_items, move_pointer, save_all, restore_all, go_back, prologue, epilogue, result_items, jump_items, blocks_items}
 use Rattle.abi_frames.specs.Laws.{FramesAreLabelled}
 use Rattle.abi_frames.proofs.Leading.{longest-append}
 use Rattle.abi_frames.proofs.Activations.{place_is}
@@ -193,10 +197,40 @@ set_plainly n y slots (Slot i) a good known =
     plainly_then n (fetch y 28 a) (store_slot (source 28 a) (slot_offset y i)) (fetch_plainly n y 28 a (lit< tt) (lit< tt))
     (store_slot_plainly n (source 28 a) (slot_offset y i) (source_nameable slots 28 a (lit< tt) known))
 
+reg_plainly : (n : ℕ) (op : RegOp) (d a b : ℕ) → Nameable d → Nameable a → Nameable b → Plainly n (Plain (Reg op (reg d) (reg a) (reg b)) ∷ [])
+reg_plainly n op d a b h k m = one_of_three n (Plain (Reg op (reg d) (reg a) (reg b))) d a b h k m refl (λ l. refl) refl
+
+negate_plainly : (n d : ℕ) → Nameable d → Plainly n (negate d ∷ [])
+negate_plainly n d h = one_of_two n (negate d) d d h h refl (λ l. refl) refl
+
+then_negate : (n : ℕ) (op : RegOp) (d a b : ℕ) → Nameable d → Nameable a → Nameable b → Plainly n (Plain (Reg op (reg d) (reg a) (reg b)) ∷ negate d ∷ [])
+then_negate n op d a b h k m =
+    plainly_then n (Plain (Reg op (reg d) (reg a) (reg b)) ∷ []) (negate d ∷ []) (reg_plainly n op d a b h k m) (negate_plainly n d h)
+
+compare_plainly : (n : ℕ) (on : Condition) (d a b : ℕ) → Nameable d → Nameable a → Nameable b → Plainly n (compare_items on d a b)
+compare_plainly n Equal d a b h k m =
+    plainly_then n (Plain (Reg Sub (reg d) (reg a) (reg b)) ∷ []) (is_zero d ∷ []) (reg_plainly n Sub d a b h k m)
+    (one_of_two n (is_zero d) d d h h refl (λ l. refl) refl)
+compare_plainly n NotEqual d a b h k m =
+    plainly_then n (Plain (Reg Sub (reg d) (reg a) (reg b)) ∷ []) (Plain (Reg Sltu (reg d) (reg 0) (reg d)) ∷ []) (reg_plainly n Sub d a b h k m)
+    (reg_plainly n Sltu d 0 d h (nameable 0 (lit< tt)) h)
+compare_plainly n SignedLess d a b h k m = reg_plainly n Slt d a b h k m
+compare_plainly n SignedGreater d a b h k m = reg_plainly n Slt d b a h m k
+compare_plainly n SignedLessEqual d a b h k m = then_negate n Slt d b a h m k
+compare_plainly n SignedGreaterEqual d a b h k m = then_negate n Slt d a b h k m
+compare_plainly n UnsignedLess d a b h k m = reg_plainly n Sltu d a b h k m
+compare_plainly n UnsignedGreater d a b h k m = reg_plainly n Sltu d b a h m k
+compare_plainly n UnsignedLessEqual d a b h k m = then_negate n Sltu d b a h m k
+compare_plainly n UnsignedGreaterEqual d a b h k m = then_negate n Sltu d a b h k m
+
 operation_plainly : (n : ℕ) (op : Operation) (d a b : ℕ) → Nameable d → Nameable a → Nameable b → Plainly n (operation_items op d a b)
 operation_plainly n (RegOperation op) d a b h k m = one_of_three n (Plain (Reg op (reg d) (reg a) (reg b))) d a b h k m refl (λ l. refl) refl
 operation_plainly n (RegWOperation op) d a b h k m = one_of_three n (Plain (RegW op (reg d) (reg a) (reg b))) d a b h k m refl (λ l. refl) refl
-operation_plainly n (Compare on k) d a b h g m = plainly_nothing n
+operation_plainly n (Compare on L) d a b h k m = compare_plainly n on d a b h k m
+operation_plainly n (Compare on W) d a b h k m =
+    plainly_then n (extend 28 a ∷ []) (extend 29 b ∷ compare_items on d 28 29) (extend_plainly n 28 a (nameable 28 (lit< tt)) k)
+    (plainly_then n (extend 29 b ∷ []) (compare_items on d 28 29) (extend_plainly n 29 b (nameable 29 (lit< tt)) m)
+    (compare_plainly n on d 28 29 h (nameable 28 (lit< tt)) (nameable 29 (lit< tt))))
 
 operate_plainly : (n : ℕ) (y : Layout) (slots : ℕ) (to : Location) (op : Operation) (a b : Operand Location) → is_place slots to ≡ true
     → operand_keeps (is_place slots) a ≡ true → operand_keeps (is_place slots) b ≡ true → Plainly n (operate_items y to op a b)

@@ -11,3 +11,4 @@ pub mod Starting
 pub mod Labelling
 pub mod Joining
 pub mod PlainLayout
+pub mod Comparing

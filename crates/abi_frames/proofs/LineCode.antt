@@ -1,5 +1,11 @@
 -- What the code of operands and lines does.
-use Rattle.std.proofs.Common.{◌≡◌, ◌≢◌, ℕ, ◌+◌, ◌%◌, ◌^◌, ◌<◌, ◌≤◌, true, List, [], ◌∷◌, ◌++◌, refl, ◌∙◌, ap, subst, arith, lit<}
+use Rattle.std.proofs.Common.{◌≡◌, ◌≢◌, ℕ, ◌+◌, ◌%◌, ◌^◌, ◌<◌, ◌≤◌, true, List, [], ◌∷◌, ◌++◌, refl, ◌∙◌, ap, subst, arith, lit<, mod-lt}
+use Rattle.bits.specs.Words.{sign_extended}
+use Rattle.il_ast.specs.declared.operation.Condition.{Condition}
+use Rattle.il_ast.specs.declared.operation.Class.TheVariants.{W, L}
+use Rattle.il_ast.specs.Operations.{holds, truth}
+use Rattle.rv_isa.specs.Arithmetic.{reg_value, regw_value}
+use Rattle.abi_frames.proofs.Comparing.{leads_compare, holds_extended}
 use Rattle.rv_isa.specs.State.{State}
 use Rattle.rv_isa.specs.Memory.{number_at, stored}
 use Rattle.rv_isa.specs.declared.labelled.Item.{Item}
@@ -11,11 +17,10 @@ use Rattle.vcode.specs.declared.line.Operation.{Operation}
 use Rattle.vcode.specs.declared.line.Operation.TheVariants.{Reg as RegOperation, RegW as RegWOperation, Compare}
 use Rattle.vcode.specs.Named.{is_place, operand_keeps}
 use Rattle.flat_code.specs.Step.{computed}
-use Rattle.abi_frames.specs.Covered.{covers_operation}
-use Rattle.abi_frames.specs.Emission.{slot_offset, add_low, load_slot, store_slot, into, fetch, source, target, deliver, set_items, operation_items, operate_items}
+use Rattle.abi_frames.specs.Emission.{extend, compare_items, slot_offset, add_low, load_slot, store_slot, into, fetch, source, target, deliver, set_items, operation_items, operate_items}
 use Rattle.abi_frames.proofs.ConstantNumbers.{near_moves}
 use Rattle.abi_frames.proofs.Leading.{Leads, leads_nowhere, leads_then, leads_so, leads_fixed, Sets, IsReg, register_reg}
-use Rattle.abi_frames.proofs.Instructions.{Writes, leads_add_low, leads_reg, leads_regw, leads_constant, leads_address, leads_load_slot, leads_store_slot, is_28, is_29}
+use Rattle.abi_frames.proofs.Instructions.{Writes, leads_extend, leads_add_low, leads_reg, leads_regw, leads_constant, leads_address, leads_load_slot, leads_store_slot, is_28, is_29}
 use Rattle.abi_frames.proofs.Activations.{Setting, IsSetting, site, bottom, slot_at, operand_in, IsPlace, place_is, place_reg, slot_is, slot_in_frame, InPlace, OnStack, Assigned}
 
 -- ---- operands
@@ -75,6 +80,12 @@ source_not_29 slots (At (InRegister r)) good e = let hi = (place_is slots r good
 source_not_29 slots (At (Slot i)) good e = absurd (omega (arith, e))
 source_not_29 slots (Number n) good e = absurd (omega (arith, e))
 source_not_29 slots (Name g) good e = absurd (omega (arith, e))
+
+pub source_not_28 : (slots : ℕ) (a : Operand Location) → operand_keeps (is_place slots) a ≡ true → source 29 a ≢ 28
+source_not_28 slots (At (InRegister r)) good e = let hi = (place_is slots r good).to_27 in absurd (omega (arith, e, hi))
+source_not_28 slots (At (Slot i)) good e = absurd (omega (arith, e))
+source_not_28 slots (Number n) good e = absurd (omega (arith, e))
+source_not_28 slots (Name g) good e = absurd (omega (arith, e))
 
 -- ---- states that differ in scratch registers alone
 
@@ -165,32 +176,69 @@ leads_set_line c is s (Slot i) a pointer good known =
 
 -- ---- an operation
 
-leads_operation : (c : Setting) (s : State) (op : Operation) (d a b : ℕ) → covers_operation op ≡ true → IsReg d → IsReg a → IsReg b
-    → Leads (site c) (operation_items op d a b) s (Sets s d (computed op (s.registers a) (s.registers b)))
+-- words in x28 and x29, and then the comparison
+leads_words : (c : Setting) (s : State) (on : Condition) (d a b : ℕ) → b ≢ 28 → IsReg d → IsReg a → IsReg b
+    → Leads (site c) (operation_items (Compare on W) d a b) s (InPlace s d (truth (holds on W (s.registers a % 2 ^ 32) (s.registers b % 2 ^ 32))))
+leads_words c s on d a b other is is_a is_b =
+    let m : ℕ = s.registers a % 2 ^ 32 in
+    let n : ℕ = s.registers b % 2 ^ 32 in
+    let v : ℕ = truth (holds on W m n) in
+    leads_then (site c) (extend 28 a ∷ []) (extend 29 b ∷ compare_items on d 28 29) s (Sets s 28 (sign_extended m)) (InPlace s d v)
+    (leads_extend (site c) s 28 a is_28 is_a)
+    (λ u f one.
+    leads_then (site c) (extend 29 b ∷ []) (compare_items on d 28 29) u (Sets u 29 (sign_extended (u.registers b % 2 ^ 32))) (InPlace s d v)
+    (leads_extend (site c) u 29 b is_29 is_b)
+    (λ w g two.
+    let left : w.registers 28 ≡ sign_extended m = two.others 28 (λ e. absurd (omega (arith, e))) ∙ one.value in
+    let right : w.registers 29 ≡ sign_extended n = two.value ∙ ap (λ x. sign_extended (x % 2 ^ 32)) (one.others b other) in
+    let value : truth (holds on L (w.registers 28) (w.registers 29)) ≡ v =
+    ap (λ x. truth (holds on L x (w.registers 29))) left
+    ∙ (ap (λ x. truth (holds on L (sign_extended m) x)) right ∙ ap truth (holds_extended on m n (mod-lt (s.registers a) (lit< tt)) (mod-lt (s.registers b) (lit< tt)))) in
+    leads_so (site c) (compare_items on d 28 29) w (Sets w d (truth (holds on L (w.registers 28) (w.registers 29)))) (InPlace s d v)
+    (leads_compare (site c) w on d 28 29 is is_28 is_29)
+    (λ t h three. record {
+      value = three.value ∙ value;
+      others = λ k lo not_d. three.others k not_d ∙ (two.others k (not_scratch 29 k (omega arith) lo) ∙ one.others k (not_scratch 28 k (omega arith) lo));
+      bytes = three.bytes ∙ (two.bytes ∙ one.bytes);
+      output = three.output ∙ (two.output ∙ one.output);
+    })))
+
+leads_operation : (c : Setting) (s : State) (op : Operation) (d a b : ℕ) → b ≢ 28 → IsReg d → IsReg a → IsReg b
+    → Leads (site c) (operation_items op d a b) s (InPlace s d (computed op (s.registers a) (s.registers b)))
 unfolding computed
-leads_operation c s (RegOperation op) d a b covered is is_a is_b = leads_reg (site c) s op d a b is is_a is_b
-leads_operation c s (RegWOperation op) d a b covered is is_a is_b = leads_regw (site c) s op d a b is is_a is_b
-leads_operation c s (Compare on k) d a b covered is is_a is_b = absurd (let no : ⊥ = cc in no)
+leads_operation c s (RegOperation op) d a b other is is_a is_b =
+    leads_so (site c) (operation_items (RegOperation op) d a b) s (Sets s d (reg_value op (s.registers a) (s.registers b)))
+    (InPlace s d (reg_value op (s.registers a) (s.registers b))) (leads_reg (site c) s op d a b is is_a is_b)
+    (λ u f h. set_register s d (reg_value op (s.registers a) (s.registers b)) u h)
+leads_operation c s (RegWOperation op) d a b other is is_a is_b =
+    leads_so (site c) (operation_items (RegWOperation op) d a b) s (Sets s d (regw_value op (s.registers a) (s.registers b)))
+    (InPlace s d (regw_value op (s.registers a) (s.registers b))) (leads_regw (site c) s op d a b is is_a is_b)
+    (λ u f h. set_register s d (regw_value op (s.registers a) (s.registers b)) u h)
+leads_operation c s (Compare on L) d a b other is is_a is_b =
+    leads_so (site c) (compare_items on d a b) s (Sets s d (truth (holds on L (s.registers a) (s.registers b))))
+    (InPlace s d (truth (holds on L (s.registers a) (s.registers b)))) (leads_compare (site c) s on d a b is is_a is_b)
+    (λ u f h. set_register s d (truth (holds on L (s.registers a) (s.registers b))) u h)
+leads_operation c s (Compare on W) d a b other is is_a is_b = leads_words c s on d a b other is is_a is_b
 
 -- the result in a register is brought to its place
 leads_made : (c : Setting) → IsSetting c → (s : State) (is_made : ℕ → List Item) (v : ℕ) (to : Location) → s.registers 2 ≡ bottom c
-    → is_place c.slots to ≡ true → ((d : ℕ) → IsReg d → Leads (site c) (is_made d) s (Sets s d v))
+    → is_place c.slots to ≡ true → ((d : ℕ) → IsReg d → Leads (site c) (is_made d) s (InPlace s d v))
     → Leads (site c) (is_made (target to) ++ deliver c.layout to) s (Assigned c s to v)
 leads_made c is s is_made v (InRegister r) pointer good made =
-    leads_then (site c) (is_made r) [] s (Sets s r v) (InPlace s r v) (made r (place_reg r (place_is c.slots r good)))
-    (λ u f h. leads_nowhere (site c) u (InPlace s r v) (set_register s r v u h))
+    leads_then (site c) (is_made r) [] s (InPlace s r v) (InPlace s r v) (made r (place_reg r (place_is c.slots r good)))
+    (λ u f h. leads_nowhere (site c) u (InPlace s r v) h)
 leads_made c is s is_made v (Slot i) pointer good made =
-    leads_then (site c) (is_made 28) (store_slot 28 (slot_offset c.layout i)) s (Sets s 28 v) (OnStack s (slot_at c i) v) (made 28 is_28)
+    leads_then (site c) (is_made 28) (store_slot 28 (slot_offset c.layout i)) s (InPlace s 28 v) (OnStack s (slot_at c i) v) (made 28 is_28)
     (λ u f one.
-    let same : Scratched s u = record { registers = λ n lo. one.others n (not_scratch 28 n (omega arith) lo); bytes = one.bytes; output = one.output } in
+    let same : Scratched s u = record { registers = λ n lo. one.others n lo (not_scratch 28 n (omega arith) lo); bytes = one.bytes; output = one.output } in
     leads_so (site c) (store_slot 28 (slot_offset c.layout i)) u (OnStack u (slot_at c i) (u.registers 28)) (OnStack s (slot_at c i) v)
     (store_from c is u 28 i is_28 (λ e. absurd (omega (arith, e))) (same.registers 2 (lit< tt) ∙ pointer) good)
     (λ w g two. assigned_value c s (Slot i) (u.registers 28) v w one.value (assigned_from c s u (Slot i) (u.registers 28) w same two)))
 
 pub leads_operate_line : (c : Setting) → IsSetting c → (s : State) (to : Location) (op : Operation) (a b : Operand Location) → s.registers 2 ≡ bottom c
-    → covers_operation op ≡ true → is_place c.slots to ≡ true → operand_keeps (is_place c.slots) a ≡ true → operand_keeps (is_place c.slots) b ≡ true
+    → is_place c.slots to ≡ true → operand_keeps (is_place c.slots) a ≡ true → operand_keeps (is_place c.slots) b ≡ true
     → Leads (site c) (operate_items c.layout to op a b) s (Assigned c s to (computed op (operand_in c s a) (operand_in c s b)))
-leads_operate_line c is s to op a b pointer covered good known_a known_b =
+leads_operate_line c is s to op a b pointer good known_a known_b =
     let x = source 28 a in
     let y = source 29 b in
     let v : ℕ = computed op (operand_in c s a) (operand_in c s b) in
@@ -211,6 +259,6 @@ leads_operate_line c is s to op a b pointer covered good known_a known_b =
     leads_so (site c) (operation_items op (target to) x y ++ deliver c.layout to) w (Assigned c w to (computed op (w.registers x) (w.registers y)))
     (Assigned c s to v)
     (leads_made c is w (λ d. operation_items op d x y) (computed op (w.registers x) (w.registers y)) to (same_w.registers 2 (lit< tt) ∙ pointer_u) good
-    (λ d reg. leads_operation c w op d x y covered reg (source_reg c.slots 28 a is_28 known_a) (source_reg c.slots 29 b is_29 known_b)))
+    (λ d reg. leads_operation c w op d x y (source_not_28 c.slots b known_b) reg (source_reg c.slots 28 a is_28 known_a) (source_reg c.slots 29 b is_29 known_b)))
     (λ t h three. assigned_value c s to (computed op (w.registers x) (w.registers y)) v t is_v
     (assigned_from c s w to (computed op (w.registers x) (w.registers y)) t all three))))

@@ -40,7 +40,7 @@ use Rattle.flat_code.specs.Flat.{FlatGiven, FlatAsked, FlatOutcome, FlatReturned
 use Rattle.flat_code.specs.Step.{FlatState, FlatEvent, Numbers, put, number_of, read, taken, computed, closed, is_in, sets, ticks, fails, goes_on, enters, branches, returns, returns_as, flat_line, flat_jump, block_step, step_in, flat_step}
 use Rattle.abi_frames.specs.Calls.{ResultIn, passed}
 use Rattle.abi_frames.specs.Performs.{Performs, AllPerform}
-use Rattle.abi_frames.specs.Covered.{covers_line, covers_operation}
+use Rattle.abi_frames.specs.Covered.{covers_line}
 use Rattle.abi_frames.specs.Emission.{line_items, lines_items, jump_items, result_items, epilogue}
 use Rattle.abi_frames.proofs.Leading.{Site, StandAt, Reaches, Leads, leads_so, Sets}
 use Rattle.abi_frames.proofs.Activations.{Setting, IsSetting, site, bottom, slot_at, save_at, value_at, operand_in, place_is, Framed, operand_known, Assigned, assigned, assigned_output}
@@ -303,7 +303,6 @@ operated c f is j r n go b to op x y lines fs k u a log all v w is_x is_y goes =
     let known = and_parts (is_place c.slots to) (operand_keeps (is_place c.slots) x && operand_keeps (is_place c.slots) y)
     (and_parts (line_keeps (is_place c.slots) (Operate to op x y)) (list_all (line_keeps (is_place c.slots)) lines) a.known).0 in
     let operands = and_parts (operand_keeps (is_place c.slots) x) (operand_keeps (is_place c.slots) y) known.1 in
-    let covered = (and_parts (covers_operation op) (list_all covers_line lines) a.covered).0 in
     let at_x : operand_in c u x ≡ v = operand_known c fs.numbers fs.memory u x v is.setting a.framed operands.0 is_x in
     let at_y : operand_in c u y ≡ w = operand_known c fs.numbers fs.memory u y w is.setting a.framed operands.1 is_y in
     let value : computed op (operand_in c u x) (operand_in c u y) ≡ computed op v w =
@@ -311,7 +310,7 @@ operated c f is j r n go b to op x y lines fs k u a log all v w is_x is_y goes =
     let made_v : ℕ = computed op (operand_in c u x) (operand_in c u y) in
     let m = reach c f b (Operate to op x y) lines fs k u (λ t. Framed c numbers fs.memory t × (t.output ≡ u.output)) a
     (leads_so (site c) (line_items c.layout (Operate to op x y)) u (Assigned c u to made_v) (λ t. Framed c numbers fs.memory t × (t.output ≡ u.output))
-    (leads_operate_line c is.setting u to op x y a.framed.pointer covered known.0 operands.0 operands.1)
+    (leads_operate_line c is.setting u to op x y a.framed.pointer known.0 operands.0 operands.1)
     (λ t fixed made. (
       assigned c is.setting fs.numbers fs.memory u t to made_v (Some (computed op v w)) known.0 a.framed made (λ q e. value ∙ some_is (computed op v w) q e),
       assigned_output c u to made_v t made,

@@ -4,6 +4,8 @@ use Rattle.std.specs.Prelude.{◌&&◌, nat_le, nat_lt, if◌then◌else◌, len
 use Rattle.std.specs.List.{list_all, sum_by}
 use Rattle.std.proofs.lemmas.Bool.{and_parts}
 use Rattle.std.proofs.lemmas.Bool.Decides.{nat_tests}
+use Rattle.il_ast.specs.declared.operation.Condition.{Condition}
+use Rattle.il_ast.specs.declared.operation.Condition.TheVariants.{Equal, NotEqual, SignedLessEqual, SignedLess, SignedGreaterEqual, SignedGreater, UnsignedLessEqual, UnsignedLess, UnsignedGreaterEqual, UnsignedGreater}
 use Rattle.il_ast.specs.declared.operation.Class.{Class}
 use Rattle.il_ast.specs.declared.operation.Class.TheVariants.{W, L}
 use Rattle.rv_isa.specs.Labels.{longest_size}
@@ -27,7 +29,7 @@ use Rattle.vcode.specs.Regular.{weight_of}
 use Rattle.abi_frames.specs.Layout.{layout, saved_registers}
 use Rattle.abi_frames.specs.Laws.{FramesAreSmall}
 use Rattle.abi_frames.specs.declared.layout.Layout.{Layout}
-use Rattle.abi_frames.specs.Emission.{reg, add_low, extend, long_constant, constant, load_8, store_8, far_load, far_store, sum_to, load_slot, store_slot, slot_offset, into, fetch, source, target, deliver, set_items, operation_items, operate_items, line_items, lines_items, move_pointer, save_all, restore_all, go_back, prologue, epilogue, result_items, jump_items, block_items, blocks_items, function_items}
+use Rattle.abi_frames.specs.Emission.{reg, add_low, extend, long_constant, constant, load_8, store_8, far_load, far_store, sum_to, load_slot, store_slot, slot_offset, into, fetch, source, target, deliver, set_items, compare_items, operation_items, operate_items, line_items, lines_items, move_pointer, save_all, restore_all, go_back, prologue, epilogue, result_items, jump_items, block_items, blocks_items, function_items}
 use Rattle.abi_frames.proofs.Leading.{longest-append}
 
 -- ---- lines
@@ -73,10 +75,23 @@ set_size y (Slot i) a =
     let k = store_size (source 28 a) (slot_offset y i) in
     omega (arith, all, h, k)
 
+compare_size : (on : Condition) (d a b : ℕ) → longest_size (compare_items on d a b) ≤ 2
+compare_size Equal d a b = lit≤ tt
+compare_size NotEqual d a b = lit≤ tt
+compare_size SignedLess d a b = lit≤ tt
+compare_size SignedGreater d a b = lit≤ tt
+compare_size SignedLessEqual d a b = lit≤ tt
+compare_size SignedGreaterEqual d a b = lit≤ tt
+compare_size UnsignedLess d a b = lit≤ tt
+compare_size UnsignedGreater d a b = lit≤ tt
+compare_size UnsignedLessEqual d a b = lit≤ tt
+compare_size UnsignedGreaterEqual d a b = lit≤ tt
+
 operation_size : (op : Operation) (d a b : ℕ) → longest_size (operation_items op d a b) ≤ operation_cost op
 operation_size (RegOperation op) d a b = lit≤ tt
 operation_size (RegWOperation op) d a b = lit≤ tt
-operation_size (Compare on k) d a b = lit≤ tt
+operation_size (Compare on L) d a b = let h = compare_size on d a b in omega (arith, h)
+operation_size (Compare on W) d a b = let h = compare_size on d 28 29 in omega (arith, h)
 
 deliver_size : (y : Layout) (to : Location) → longest_size (deliver y to) ≤ 3
 deliver_size y (InRegister r) = lit≤ tt

@@ -1,23 +1,16 @@
--- The code that frames are made for so far: no parameters, no calls, no memory, no comparisons.
+-- The code that frames are made for so far: no parameters, no calls, no memory.
 use Rattle.std.specs.Prelude.{Bool, true, false, ◌&&◌, nat_eq, length}
 use Rattle.std.specs.List.{list_all}
 use Rattle.vcode.specs.declared.place.Location.{Location}
-use Rattle.vcode.specs.declared.line.Operation.{Operation}
-use Rattle.vcode.specs.declared.line.Operation.TheVariants.{Reg, RegW, Compare}
 use Rattle.vcode.specs.declared.line.Line.{Line}
 use Rattle.vcode.specs.declared.line.Line.TheVariants.{Tick, Set, Operate}
 use Rattle.vcode.specs.declared.code.Block.{Block}
 use Rattle.vcode.specs.declared.code.Code.{Code}
 
-abbrev pub covers_operation : Operation → Bool
-covers_operation (Reg op) = true
-covers_operation (RegW op) = true
-covers_operation (Compare on k) = false
-
 abbrev pub covers_line : Line Location → Bool
 covers_line (Tick turn w) = true
 covers_line (Set to a) = true
-covers_line (Operate to op a b) = covers_operation op
+covers_line (Operate to op a b) = true
 covers_line l = false
 
 abbrev pub covers_block : Block Location → Bool

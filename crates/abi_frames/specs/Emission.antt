@@ -3,6 +3,8 @@ use Rattle.std.specs.Prelude.{ℕ, ◌+◌, ◌-◌, ◌*◌, ◌/◌, ◌%◌, 
 use Rattle.std.proofs.Common.{lit<, mod-lt}
 use Rattle.il_ast.specs.declared.operation.Class.{Class}
 use Rattle.il_ast.specs.declared.operation.Class.TheVariants.{W, L}
+use Rattle.il_ast.specs.declared.operation.Condition.{Condition}
+use Rattle.il_ast.specs.declared.operation.Condition.TheVariants.{Equal, NotEqual, SignedLessEqual, SignedLess, SignedGreaterEqual, SignedGreater, UnsignedLessEqual, UnsignedLess, UnsignedGreaterEqual, UnsignedGreater}
 use Rattle.rv_isa.specs.Formats.{signed}
 use Rattle.rv_isa.specs.Readings.{signed12_fits}
 use Rattle.rv_isa.specs.declared.ranges.Register.{Register}
@@ -12,9 +14,9 @@ use Rattle.rv_isa.specs.declared.ranges.Amount.{Amount}
 use Rattle.rv_isa.specs.declared.instruction.Instr.TheVariants.{Lui, Jalr, Load, Store, Imm, Addiw, Shift, Reg, RegW, Ebreak}
 use Rattle.rv_isa.specs.declared.instruction.LoadOp.TheVariants.{Ld}
 use Rattle.rv_isa.specs.declared.instruction.StoreOp.TheVariants.{Sd}
-use Rattle.rv_isa.specs.declared.instruction.ImmOp.TheVariants.{Addi}
+use Rattle.rv_isa.specs.declared.instruction.ImmOp.TheVariants.{Addi, Xori, Sltiu}
 use Rattle.rv_isa.specs.declared.instruction.ShiftOp.TheVariants.{Slli, Srli}
-use Rattle.rv_isa.specs.declared.instruction.RegOp.TheVariants.{Add}
+use Rattle.rv_isa.specs.declared.instruction.RegOp.TheVariants.{Add, Sub, Slt, Sltu}
 use Rattle.rv_isa.specs.declared.instruction.BranchOp.TheVariants.{Bne}
 use Rattle.rv_isa.specs.declared.labelled.Item.{Item}
 use Rattle.rv_isa.specs.declared.labelled.Item.TheVariants.{Plain, Label, Branch as BranchTo, Goto as GoTo, Address}
@@ -146,11 +148,32 @@ abbrev pub set_items : Layout → Location → Operand Location → List Item
 set_items y (InRegister r) a = into y r a
 set_items y (Slot i) a = fetch y 28 a ++ store_slot (source 28 a) (slot_offset y i)
 
--- one instruction does the operation
+-- a truth value in a register is made false or true, and true or false; and is a register 0
+abbrev pub negate : ℕ → Item
+negate d = Plain (Imm Xori (reg d) (reg d) (low 1))
+
+abbrev pub is_zero : ℕ → Item
+is_zero d = Plain (Imm Sltiu (reg d) (reg d) (low 1))
+
+-- a comparison of two registers by all 64 bits
+abbrev pub compare_items : Condition → (d a b : ℕ) → List Item
+compare_items Equal d a b = Plain (Reg Sub (reg d) (reg a) (reg b)) ∷ is_zero d ∷ []
+compare_items NotEqual d a b = Plain (Reg Sub (reg d) (reg a) (reg b)) ∷ Plain (Reg Sltu (reg d) (reg 0) (reg d)) ∷ []
+compare_items SignedLess d a b = Plain (Reg Slt (reg d) (reg a) (reg b)) ∷ []
+compare_items SignedGreater d a b = Plain (Reg Slt (reg d) (reg b) (reg a)) ∷ []
+compare_items SignedLessEqual d a b = Plain (Reg Slt (reg d) (reg b) (reg a)) ∷ negate d ∷ []
+compare_items SignedGreaterEqual d a b = Plain (Reg Slt (reg d) (reg a) (reg b)) ∷ negate d ∷ []
+compare_items UnsignedLess d a b = Plain (Reg Sltu (reg d) (reg a) (reg b)) ∷ []
+compare_items UnsignedGreater d a b = Plain (Reg Sltu (reg d) (reg b) (reg a)) ∷ []
+compare_items UnsignedLessEqual d a b = Plain (Reg Sltu (reg d) (reg b) (reg a)) ∷ negate d ∷ []
+compare_items UnsignedGreaterEqual d a b = Plain (Reg Sltu (reg d) (reg a) (reg b)) ∷ negate d ∷ []
+
+-- the operation on two registers; words are extended in x28 and x29 before they are compared
 abbrev pub operation_items : Operation → (d a b : ℕ) → List Item
 operation_items (RegOperation op) d a b = Plain (Reg op (reg d) (reg a) (reg b)) ∷ []
 operation_items (RegWOperation op) d a b = Plain (RegW op (reg d) (reg a) (reg b)) ∷ []
-operation_items (Compare on k) d a b = []
+operation_items (Compare on L) d a b = compare_items on d a b
+operation_items (Compare on W) d a b = extend 28 a ∷ (extend 29 b ∷ compare_items on d 28 29)
 
 abbrev pub operate_items : Layout → Location → Operation → (a b : Operand Location) → List Item
 operate_items y to op a b =

@@ -5,18 +5,14 @@ ghost use Rattle.abi_frames.specs.Covered.{covers_line, covers_block, is_covered
 
 use flat_code::function::FlatFunc;
 use vcode::code::Block;
-use vcode::line::{Line, Operation};
+use vcode::line::Line;
 use vcode::place::Location;
 
 fn covers_line(line: &Line<Location>) -> bool
     ensures { result ≡ covers_line line.now }
 {
     match line {
-        Line::Tick { .. } | Line::Set { .. } => true,
-        Line::Operate { operation, .. } => match operation {
-            Operation::Reg(_) | Operation::RegW(_) => true,
-            Operation::Compare(_, _) => false,
-        },
+        Line::Tick { .. } | Line::Set { .. } | Line::Operate { .. } => true,
         Line::Load { .. }
         | Line::Store { .. }
         | Line::Alloc { .. }

@@ -9,9 +9,10 @@
 //! at most 32 instructions for each unit of weight and 256 for each call, with at most 40,000 turns between two instructions; and it takes no more stack than the
 //! language counts for the function. `specs/Layout.antt` says where things stand in a frame, `specs/Emission.antt` which instructions a line becomes.
 //!
-//! So far frames are made for code without parameters, calls, comparisons and memory: `covered::covers` says for which (`specs/Covered.antt`).
+//! So far frames are made for code without parameters, calls and memory: `covered::covers` says for which (`specs/Covered.antt`).
 #![tactic(auto)]
 
+mod compare;
 pub mod covered;
 mod ends;
 mod fields;

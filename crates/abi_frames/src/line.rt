@@ -3,11 +3,13 @@ ghost use Rattle.std.specs.Prelude.{◌≡◌, ◌^◌, ◌<◌, [], ◌∷◌, 
 ghost use Rattle.vcode.specs.declared.place.Location.TheVariants.{Slot};
 ghost use Rattle.abi_frames.specs.Emission.{operation_items, set_items, operate_items, line_items, lines_items};
 
+use crate::compare::{push_compare, push_compare_words};
 use crate::fields::register;
 use crate::layout::Layout;
 use crate::operand::{
     push_deliver, push_fetch, push_into_slot, push_operand, source_of, target_of,
 };
+use il_ast::operation::Class;
 use rv_isa::instruction::Instr;
 use rv_isa::labelled::Item;
 use std::alloc::AllocError;
@@ -65,7 +67,12 @@ fn push_operation(
             rs1: register(left),
             rs2: register(right),
         }))?,
-        Operation::Compare(_, _) => {}
+        Operation::Compare(condition, Class::L) => {
+            push_compare(items, *condition, to, left, right)?;
+        }
+        Operation::Compare(condition, Class::W) => {
+            push_compare_words(items, *condition, to, left, right)?;
+        }
     }
     Ok(())
 }

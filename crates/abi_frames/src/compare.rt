@@ -1,0 +1,118 @@
+//! The machine code of comparisons.
+ghost use Rattle.std.specs.Prelude.{◌≡◌, [], ◌∷◌, ◌++◌, OnOk};
+ghost use Rattle.il_ast.specs.declared.operation.Class.TheVariants.{W};
+ghost use Rattle.il_ast.specs.declared.operation.Condition.TheVariants.{Equal, NotEqual};
+ghost use Rattle.rv_isa.specs.declared.labelled.Item.TheVariants.{Plain};
+ghost use Rattle.rv_isa.specs.declared.instruction.Instr.TheVariants.{Reg};
+ghost use Rattle.vcode.specs.declared.line.Operation.TheVariants.{Compare};
+ghost use Rattle.abi_frames.specs.Emission.{reg, negate, is_zero, compare_items, operation_items};
+
+use crate::fields::{extend_word, low_part, register};
+use il_ast::operation::Condition;
+use rv_isa::instruction::{ImmOp, Instr, RegOp};
+use rv_isa::labelled::Item;
+use std::alloc::AllocError;
+
+fn on_registers(op: RegOp, to: u8, left: u8, right: u8) -> Item
+    ensures { result ≡ Plain (Reg op (reg to) (reg left) (reg right)) }
+{
+    Item::Plain(Instr::Reg {
+        op,
+        rd: register(to),
+        rs1: register(left),
+        rs2: register(right),
+    })
+}
+
+fn negation(of: u8) -> Item
+    ensures { result ≡ negate of }
+{
+    Item::Plain(Instr::Imm {
+        op: ImmOp::Xori,
+        rd: register(of),
+        rs1: register(of),
+        immediate: low_part(1),
+    })
+}
+
+fn test_of_zero(of: u8) -> Item
+    ensures { result ≡ is_zero of }
+{
+    Item::Plain(Instr::Imm {
+        op: ImmOp::Sltiu,
+        rd: register(of),
+        rs1: register(of),
+        immediate: low_part(1),
+    })
+}
+
+fn push_negated(
+    items: &mut Vec<Item>,
+    op: RegOp,
+    to: u8,
+    left: u8,
+    right: u8,
+) -> Result<(), AllocError>
+    ensures { OnOk result (items.new.items ≡ items.old.items ++ (Plain (Reg op (reg to) (reg left) (reg right)) ∷ negate to ∷ [])) }
+{
+    items.push(on_registers(op, to, left, right))?;
+    items.push(negation(to))?;
+    Ok(())
+}
+
+fn push_equal(items: &mut Vec<Item>, to: u8, left: u8, right: u8) -> Result<(), AllocError>
+    ensures { OnOk result (items.new.items ≡ items.old.items ++ compare_items Equal to left right) }
+{
+    items.push(on_registers(RegOp::Sub, to, left, right))?;
+    items.push(test_of_zero(to))?;
+    Ok(())
+}
+
+fn push_not_equal(items: &mut Vec<Item>, to: u8, left: u8, right: u8) -> Result<(), AllocError>
+    ensures { OnOk result (items.new.items ≡ items.old.items ++ compare_items NotEqual to left right) }
+{
+    items.push(on_registers(RegOp::Sub, to, left, right))?;
+    items.push(on_registers(RegOp::Sltu, to, 0, to))?;
+    Ok(())
+}
+
+/// Puts the code of a comparison of two registers at the end: 1 in `to` where it holds, else 0.
+pub(crate) fn push_compare(
+    items: &mut Vec<Item>,
+    condition: Condition,
+    to: u8,
+    left: u8,
+    right: u8,
+) -> Result<(), AllocError>
+    ensures { OnOk result (items.new.items ≡ items.old.items ++ compare_items condition to left right) }
+{
+    match condition {
+        Condition::Equal => push_equal(items, to, left, right)?,
+        Condition::NotEqual => push_not_equal(items, to, left, right)?,
+        Condition::SignedLess => items.push(on_registers(RegOp::Slt, to, left, right))?,
+        Condition::SignedGreater => items.push(on_registers(RegOp::Slt, to, right, left))?,
+        Condition::SignedLessEqual => push_negated(items, RegOp::Slt, to, right, left)?,
+        Condition::SignedGreaterEqual => push_negated(items, RegOp::Slt, to, left, right)?,
+        Condition::UnsignedLess => items.push(on_registers(RegOp::Sltu, to, left, right))?,
+        Condition::UnsignedGreater => items.push(on_registers(RegOp::Sltu, to, right, left))?,
+        Condition::UnsignedLessEqual => push_negated(items, RegOp::Sltu, to, right, left)?,
+        Condition::UnsignedGreaterEqual => push_negated(items, RegOp::Sltu, to, left, right)?,
+    }
+    Ok(())
+}
+
+/// The same of the low 32 bits of each.
+pub(crate) fn push_compare_words(
+    items: &mut Vec<Item>,
+    condition: Condition,
+    to: u8,
+    left: u8,
+    right: u8,
+) -> Result<(), AllocError>
+    ensures { OnOk result (items.new.items ≡ items.old.items ++ operation_items (Compare condition W) to left right) }
+{
+    items.push(extend_word(28, left))?;
+    items.push(extend_word(29, right))?;
+    push_compare(items, condition, to, 28, 29)?;
+    Ok(())
+}
