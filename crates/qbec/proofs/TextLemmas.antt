@@ -1,5 +1,5 @@
 -- Texts that are read and checked one after another.
-use Rattle.std.proofs.Common.{◌≡◌, ◌⊎◌, inl, inr, ℕ, zero, suc, ◌+◌, ◌<◌, ◌≤◌, List, [], ◌∷◌, ◌++◌, length, drop, refl, sym, ◌∙◌, ap, subst, arith, append_assoc, drop_of_length-le}
+use Rattle.std.proofs.Common.{◌≡◌, inl, inr, ℕ, zero, suc, ◌+◌, ◌<◌, ◌≤◌, List, [], ◌∷◌, ◌++◌, length, drop, refl, sym, ◌∙◌, ap, subst, arith, append_assoc, drop_of_length-le}
 use Rattle.std.specs.Prelude.{slice_get, slice_index_or, Some}
 use Rattle.std.proofs.lemmas.Option.{slice_get-get_or}
 use Rattle.std.specs.Borrow.{Bor}
@@ -66,10 +66,11 @@ one_more texts left k b out c here next s reads unique =
   where
     by : (all rest : List Checked) → all ≡ out ++ rest → AreTexts (b ∷ left) rest → (more : List Checked) × (all ≡ (out ++ c ∷ []) ++ more) × AreTexts (drop (k + 1) texts) more
     by all [] is h = absurd h
-    by all (d ∷ rest) is h =
-        (rest,
-        is ∙ (ap (λ (x : Checked). out ++ x ∷ rest) (sym (same_checked c d (unique d h.0))) ∙ sym (append_assoc out (c ∷ []) rest)),
-        subst (λ l. AreTexts l rest) (sym next) h.1)
+    by all (d ∷ rest) is h = (
+      rest,
+      is ∙ (ap (λ (x : Checked). out ++ x ∷ rest) (sym (same_checked c d (unique d h.0))) ∙ sym (append_assoc out (c ∷ []) rest)),
+      subst (λ l. AreTexts l rest) (sym next) h.1,
+    )
 
 drop_here : (texts : List (Bor (List ℕ))) (k : ℕ) (b : Bor (List ℕ)) → slice_get texts k ≡ Some b → drop k texts ≡ b ∷ drop (k + 1) texts
 drop_here [] k b h = absurd (let no : ⊥ = cc in no)

@@ -1,13 +1,1 @@
-pub mod Knot
-pub mod Natives
-pub mod Functions
-pub mod Start
-pub mod Headline
-pub mod Whole
-pub mod Example
-pub mod Places
-pub mod Executable
-pub mod Executables
-pub mod Read
-pub mod Compiled
 pub mod Texts

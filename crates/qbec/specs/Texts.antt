@@ -1,5 +1,5 @@
 -- Texts, read and checked; and what a refusal says of one of them.
-use Rattle.std.specs.Prelude.{◌≡◌, ◌⊎◌, ℕ, ◌+◌, ◌≤◌, true, false, List, [], ◌∷◌, Some}
+use Rattle.std.specs.Prelude.{◌≡◌, ◌⊎◌, ℕ, ◌+◌, ◌≤◌, false, List, [], ◌∷◌, Some}
 use Rattle.std.specs.Borrow.{Bor}
 use Rattle.il_ast.specs.declared.text.Text.{Text}
 use Rattle.il_lex.specs.Line.{lines_in}

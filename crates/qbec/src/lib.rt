@@ -1,7 +1,6 @@
-//! qbec: the whole.
+//! # The compiler
 //!
-//! The theorem that joins the layers: where each function's layers keep it, the machine keeps the program. The compiler itself is not here yet.
+//! [`texts::checked_texts`] reads and checks texts, and says of a refusal which text it is about. What puts the layers together comes next.
 #![tactic(auto)]
 
-pub mod laws;
 pub mod texts;

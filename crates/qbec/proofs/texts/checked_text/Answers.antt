@@ -1,4 +1,4 @@
-use Rattle.std.proofs.Common.{◌≡◌, sym, ◌∙◌, subst, ap}
+use Rattle.std.proofs.Common.{sym, ◌∙◌, subst, ap}
 use Rattle.il_types.specs.Rules.{IsGood}
 use Rattle.qbec.specs.declared.texts.TextError.{TextError}
 use Rattle.qbec.specs.Texts.{SaysOf, read_refusal, check_refusal}

@@ -1,4 +1,4 @@
-use Rattle.std.proofs.Common.{◌≡◌, sym, ◌∙◌, subst, arith}
+use Rattle.std.proofs.Common.{sym, subst}
 use Rattle.qbec.proofs.TextLemmas.{TextsSoFar, none_yet, text_more, text_refused, text_only, all_found, all_only}
 use Rattle.qbec.proofs.texts.checked_texts.Goals as goal
 

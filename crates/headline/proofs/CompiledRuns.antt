@@ -1,0 +1,201 @@
+-- The executable of a program whose functions have words that stand for them executes the program.
+use Rattle.std.proofs.Common.{◌≡◌, ℕ, zero, suc, ◌+◌, ◌%◌, ◌^◌, ◌<◌, ◌≤◌, List, [], ◌∷◌, length, map, refl, ap, subst, arith, lit<}
+use Rattle.std.specs.Prelude.{slice_get, slice_index, Option, Some, None}
+use Rattle.std.specs.Option.{option_and_then}
+use Rattle.std.proofs.lemmas.Option.{slice_get_within}
+use Rattle.il_ast.specs.declared.datum.DataDef.{DataDef}
+use Rattle.il_ast.specs.declared.function.Func.{Func}
+use Rattle.il_ast.specs.declared.program.Placed.{Placed}
+use Rattle.il_ast.specs.declared.program.Program.{Program}
+use Rattle.il_ast.specs.declared.program.Target.{Target}
+use Rattle.il_ast.specs.declared.program.Target.TheVariants.{Code, Object}
+use Rattle.il_ast.specs.declared.value.Callee.TheVariants.{Defined, SystemWrite, SystemExit}
+use Rattle.il_ast.specs.Cost.{need, round_16}
+use Rattle.il_ast.specs.Start.{target_value, values_of, globals_of}
+use Rattle.il_types.specs.declared.checked.Checked.{Checked}
+use Rattle.phi_copies.specs.Keeping.{classes_of}
+use Rattle.vcode.specs.Places.{located}
+use Rattle.vcode.specs.Regular.{area}
+use Rattle.vcode.specs.Step.{begin, step}
+use Rattle.flat_code.specs.Spots.{AllShow}
+use Rattle.flat_code.specs.Step.{flat_begin, flat_step}
+use Rattle.rv_isa.specs.Words.{Words}
+use Rattle.rv_isa.specs.State.{State}
+use Rattle.obj_link.specs.declared.addresses.Addresses.{Addresses}
+use Rattle.obj_link.specs.Image.{IsImage}
+use Rattle.obj_link.specs.Limits.{object_size}
+use Rattle.obj_link.specs.Natives.{functions_start}
+use Rattle.obj_link.specs.Placed.{object_addresses, objects_start, objects_end, addresses_of, target_address, name_address, contents_of, FitsBelow, EveryCode}
+use Rattle.obj_link.specs.Program.{IsProgram}
+use Rattle.obj_link.specs.Laws.{IsThere, HasWhatNamesMean}
+use Rattle.obj_link.proofs.AddressLemmas.{objects_rise}
+use Rattle.obj_link.proofs.ThereLemmas.{what_names_mean}
+use Rattle.elf_file.specs.Loaded.{Executable}
+use Rattle.elf_file.specs.Stands.{Stands}
+use Rattle.rv_machine.specs.Start.{Starts}
+use Rattle.headline.specs.Functions.{FunctionsKept, body_of}
+use Rattle.headline.specs.Places.{setting_of, start_places}
+use Rattle.headline.specs.Executables.{entries_of, places_of}
+use Rattle.headline.specs.Compiled.{StandFor, EachStands, CompiledRuns}
+use Rattle.headline.proofs.LayersKeep.{layers_keep}
+use Rattle.headline.proofs.StartMemory.{get_within}
+use Rattle.headline.proofs.Running.{setting_is, executable_runs}
+use Rattle.headline.proofs.PlacedWords.{ground_of}
+use Rattle.headline.proofs.NativeCode.{natives_perform}
+use Rattle.headline.proofs.StartCode.{start_runs}
+use Rattle.headline.proofs.DataPlaced.{bounds, address_most, address_aligned, function_stands, Worth, worth, stands_well}
+
+-- ---- what names are worth
+
+-- the addresses of a text's global names, in order
+abbrev addresses_in : Addresses → Option (List Target) → List ℕ
+addresses_in a None = []
+addresses_in a (Some targets) = map (λ t. target_address a (Some t)) targets
+
+name_is : (a : Addresses) (o : Option (List Target)) (n x : ℕ) → slice_get (addresses_in a o) n ≡ Some x → target_address a (option_and_then (λ ts. slice_get ts n) o) ≡ x
+name_is a None n x h = absurd (let no : ⊥ = cc in no)
+name_is a (Some targets) n x h = by targets n h
+  where
+    by : (ts : List Target) (k : ℕ) → slice_get (map (λ t. target_address a (Some t)) ts) k ≡ Some x → target_address a (slice_get ts k) ≡ x
+    by [] k e = absurd (let no : ⊥ = cc in no)
+    by (t ∷ ts) zero e = let same : target_address a (Some t) ≡ x = cc in same
+    by (t ∷ ts) (suc k) e = by ts k e
+
+-- ---- bounds of addresses
+
+object_most : (at : ℕ) (ds : List (Placed DataDef)) (k x : ℕ) → slice_get (object_addresses at ds) k ≡ Some x → x ≤ objects_end at ds
+object_most at [] k x h = absurd (let no : ⊥ = cc in no)
+object_most at (d ∷ ds) zero x h =
+    let same : at ≡ x = cc in
+    let rest = objects_rise (at + round_16 (object_size d.item)) ds in
+    omega (arith, same, rest)
+object_most at (d ∷ ds) (suc k) x h = object_most (at + round_16 (object_size d.item)) ds k x h
+
+index_small : (xs : List ℕ) (bound : ℕ) → 0 < bound → ((k x : ℕ) → slice_get xs k ≡ Some x → x < bound) → (k : ℕ) → slice_index xs k < bound
+index_small [] bound some h k = some
+index_small (x ∷ xs) bound some h zero = h 0 x refl
+index_small (x ∷ xs) bound some h (suc k) = index_small xs bound some (λ j y e. h (suc j) y e) k
+
+function_small : (p : Program) (codes : List Words) → FitsBelow p codes → (k : ℕ) → slice_index (addresses_of p codes).functions k < 2 ^ 31
+function_small p codes fits =
+    index_small (addresses_of p codes).functions (2 ^ 31) (lit< tt)
+    (λ k x h.
+    let b = bounds p codes fits in
+    let most = address_most functions_start codes k x h in
+    let one = b.functions in
+    let two = b.objects in
+    let three = b.end in
+    omega (arith, most, one, two, three))
+
+object_small : (p : Program) (codes : List Words) → FitsBelow p codes → (k : ℕ) → slice_index (addresses_of p codes).objects k < 2 ^ 31
+object_small p codes fits =
+    index_small (addresses_of p codes).objects (2 ^ 31) (lit< tt)
+    (λ k x h.
+    let b = bounds p codes fits in
+    let most = object_most (objects_start codes) p.objects k x h in
+    let three = b.end in
+    omega (arith, most, three))
+
+target_small : (p : Program) (codes : List Words) → FitsBelow p codes → (o : Option Target) → target_address (addresses_of p codes) o < 2 ^ 31
+target_small p codes fits None = lit< tt
+target_small p codes fits (Some (Code (Defined k))) = function_small p codes fits k
+target_small p codes fits (Some (Code SystemWrite)) = lit< tt
+target_small p codes fits (Some (Code SystemExit)) = lit< tt
+target_small p codes fits (Some (Object k)) = object_small p codes fits k
+
+-- ---- the values of names are shown by their addresses
+
+object_shown : (p : Program) (codes : List Words) → FitsBelow p codes → Worth p codes → (words : List (List ℕ)) (k : ℕ) → k < length p.objects
+    → (a : ℕ) × (slice_get (start_places (addresses_of p codes).objects words) k ≡ Some a) × (slice_index (addresses_of p codes).objects k ≡ (a + 0) % 2 ^ 64)
+object_shown p codes fits w words k lt =
+    let small = object_small p codes fits k in
+    (slice_index (addresses_of p codes).objects k, get_within (addresses_of p codes).objects _ k _ (w.objects k lt), omega (arith, small))
+
+names_shown : (p : Program) (codes : List Words) → FitsBelow p codes → Worth p codes → (words : List (List ℕ)) (ts : List Target) → ((n : ℕ) (t : Target) → slice_get ts n ≡ Some t → IsThere (length p.functions) (length p.objects) t)
+    → AllShow (entries_of p codes) (λ b. slice_get (start_places (addresses_of p codes).objects words) b) (map target_value ts) (map (λ t. target_address (addresses_of p codes) (Some t)) ts)
+names_shown p codes fits w words [] there = tt
+names_shown p codes fits w words (Code (Defined k) ∷ ts) there = (w.functions k (there 0 (Code (Defined k)) refl), names_shown p codes fits w words ts (λ n t e. there (suc n) t e))
+names_shown p codes fits w words (Code SystemWrite ∷ ts) there = (refl, names_shown p codes fits w words ts (λ n t e. there (suc n) t e))
+names_shown p codes fits w words (Code SystemExit ∷ ts) there = (refl, names_shown p codes fits w words ts (λ n t e. there (suc n) t e))
+names_shown p codes fits w words (Object k ∷ ts) there = (object_shown p codes fits w words k (there 0 (Object k) refl), names_shown p codes fits w words ts (λ n t e. there (suc n) t e))
+
+text_shown : (texts : List Checked) (p : Program) (codes : List Words) → HasWhatNamesMean texts p → FitsBelow p codes → Worth p codes → (words : List (List ℕ)) (t : ℕ)
+    → AllShow (entries_of p codes) (λ b. slice_get (start_places (addresses_of p codes).objects words) b) (globals_of p t) (addresses_in (addresses_of p codes) (slice_get p.targets t))
+text_shown texts p codes has fits w words t = by (slice_get p.targets t) refl
+  where
+    by : (o : Option (List Target)) → slice_get p.targets t ≡ o
+        → AllShow (entries_of p codes) (λ b. slice_get (start_places (addresses_of p codes).objects words) b) (values_of o) (addresses_in (addresses_of p codes) o)
+    by None is = tt
+    by (Some ts) is = names_shown p codes fits w words ts (λ n target e. has.targets t n ts target is e)
+
+-- ---- each function
+
+record FoundCode (codes : List Words) (k : ℕ) (f : Placed Func) : Type 0 where
+  words : Words
+  here : slice_get codes k ≡ Some words
+  stands : StandFor f.item words
+
+found_code : (codes : List Words) (fs : List (Placed Func)) → EachStands codes fs → (k : ℕ) (f : Placed Func) → slice_get fs k ≡ Some f → FoundCode codes k f
+found_code [] [] each k f h = absurd (let no : ⊥ = cc in no)
+found_code [] (g ∷ fs) each k f h = absurd each
+found_code (c ∷ codes) [] each k f h = absurd each
+found_code (c ∷ codes) (g ∷ fs) each zero f h =
+    let same : g ≡ f = cc in
+    record { words = c; here = refl; stands = subst (λ (x : Placed Func). StandFor x.item c) same each.0 }
+found_code (c ∷ codes) (g ∷ fs) each (suc k) f h =
+    let rest = found_code codes fs each.1 k f h in
+    record { words = rest.words; here = rest.here; stands = rest.stands }
+
+as_many : (codes : List Words) (fs : List (Placed Func)) → EachStands codes fs → length codes ≡ length fs
+as_many [] [] each = refl
+as_many [] (f ∷ fs) each = absurd each
+as_many (c ∷ codes) [] each = absurd each
+as_many (c ∷ codes) (f ∷ fs) each = ap suc (as_many codes fs each.1)
+
+function_kept : (texts : List Checked) (p : Program) (codes : List Words) (x : Executable) (words : List (List ℕ)) (s : State)
+    → IsProgram texts p → EachStands codes p.functions → EveryCode codes → FitsBelow p codes → IsImage (contents_of p codes) → Stands (contents_of p codes) x → Starts x words s
+    → FunctionsKept (setting_of (places_of p codes) words s) p
+function_kept texts p codes x words s is each every fits good stands starts k at f found entry =
+    let many = as_many codes p.functions each in
+    let a = addresses_of p codes in
+    let c = setting_of (places_of p codes) words s in
+    let code = found_code codes p.functions each k f found in
+    let r = code.stands in
+    let has = what_names_mean texts p is in
+    let w = worth p codes many every fits in
+    let well = stands_well texts p codes x is many every fits good stands in
+    let setting = setting_is (places_of p codes) x words s starts well.entries well.aligned in
+    let global = name_address a p.targets f.text in
+    let addresses = addresses_in a (slice_get p.targets f.text) in
+    let here = function_stands p codes x words s good stands starts k at code.words f code.here found entry in
+    let labelled = r.laid (ground_of s) at global (λ n. target_small p codes fits (option_and_then (λ ts. slice_get ts n) (slice_get p.targets f.text))) here in
+    let m = r.machine in
+    layers_keep c setting at (need f.item) r.frame (area r.code) (classes_of f.item.params) f.item.result (globals_of p f.text) addresses (body_of p f) (begin located r.code) (step located (globals_of p f.text) r.code) (flat_begin r.code) (flat_step r.code addresses)
+    (record {
+      meaning = r.meaning (globals_of p f.text);
+      flat = r.bytes (record { entries = entries_of p codes; globals = globals_of p f.text; addresses = addresses });
+      machine =
+          m.keeps c.world at labelled.0 global addresses setting.world (λ n y e. name_is a (slice_get p.targets f.text) n y e)
+          (address_aligned functions_start codes refl k at entry) labelled.1;
+      names = text_shown texts p codes has fits w words f.text;
+      area_fits = m.area_fits;
+      frame_fits = m.fits;
+      some = m.some;
+      aligned = m.aligned;
+    })
+
+-- ---- the whole
+
+pub compiled_runs : CompiledRuns
+compiled_runs texts p codes x words s is each every fits good stands starts few short =
+    let many = as_many codes p.functions each in
+    let has = what_names_mean texts p is in
+    let w = worth p codes many every fits in
+    let well = stands_well texts p codes x is many every fits good stands in
+    let main = has.main in
+    let within = slice_get_within p.functions p.main main.0 main.1 in
+    let main_is = w.functions p.main within in
+    executable_runs p (places_of p codes) x words s starts few short well.data_bytes well.entries well.aligned
+    (function_kept texts p codes x words s is each every fits good stands starts)
+    (natives_perform p codes x words s good stands starts)
+    (start_runs p codes x words s good stands starts well.data_bytes few short main_is (function_small p codes fits p.main) (address_aligned functions_start codes refl p.main _ main_is))

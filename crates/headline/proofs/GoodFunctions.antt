@@ -1,0 +1,61 @@
+-- The functions of checked texts that were read are such as can be lowered.
+use Rattle.std.proofs.Common.{◌≡◌, ℕ, ◌+◌, List, [], ◌∷◌, ◌++◌, map, refl, sym, ◌∙◌, ap, subst}
+use Rattle.std.specs.Prelude.{zero, suc, slice_get, Some}
+use Rattle.std.specs.Borrow.{Bor}
+use Rattle.std.specs.List.{flat_map}
+use Rattle.std.specs.Option.{option_map}
+use Rattle.std.proofs.lemmas.Option.{slice_get-map}
+use Rattle.il_ast.specs.declared.function.Func.{Func}
+use Rattle.il_ast.specs.declared.text.Definition.{Definition}
+use Rattle.il_ast.specs.declared.text.Definition.TheVariants.{Function, Object}
+use Rattle.il_ast.specs.declared.text.Text.{Text}
+use Rattle.il_ast.specs.declared.program.Placed.{Placed}
+use Rattle.il_types.specs.declared.checked.Checked.{Checked}
+use Rattle.il_types.specs.Rules.{IsGood}
+use Rattle.il_reader.specs.Reads.{Reads}
+use Rattle.il_reader.proofs.Written.{functions_written}
+use Rattle.obj_link.specs.declared.linked.Linked.{Linked}
+use Rattle.obj_link.specs.Names.{function_in, functions_from}
+use Rattle.obj_link.specs.Shown.{shown}
+use Rattle.obj_link.specs.ProgramOf.{IsLinked}
+use Rattle.phi_copies.specs.Good.{IsGoodFunction}
+use Rattle.phi_copies.proofs.GoodTexts.{good_function}
+use Rattle.headline.specs.Read.{AreRead}
+
+-- ---- one text
+
+read_function : (t : Text) (bytes : List ℕ) → IsGood t → Reads bytes t → (k : ℕ) (f : Func) → slice_get t.definitions k ≡ Some (Function f) → IsGoodFunction f
+read_function t bytes good read k f at =
+    let w = functions_written bytes t read k f at in good_function t good k f at w.has_block w.phis_have_arguments
+
+-- ---- all texts
+
+abbrev AllGood : List (Placed Func) → Type 0
+AllGood [] = Unit {0}
+AllGood (f ∷ fs) = IsGoodFunction f.item × AllGood fs
+
+both_good : (fs gs : List (Placed Func)) → AllGood fs → AllGood gs → AllGood (fs ++ gs)
+both_good [] gs h k = k
+both_good (f ∷ fs) gs h k = (h.0, both_good fs gs h.1 k)
+
+good_at : (fs : List (Placed Func)) → AllGood fs → (k : ℕ) (f : Placed Func) → slice_get fs k ≡ Some f → IsGoodFunction f.item
+good_at [] h k f at = absurd (let no : ⊥ = cc in no)
+good_at (x ∷ fs) h zero f at = let same : x ≡ f = cc in subst (λ (y : Placed Func). IsGoodFunction y.item) same h.0
+good_at (x ∷ fs) h (suc k) f at = good_at fs h.1 k f at
+
+text_good : (n : ℕ) (ds : List Definition) → ((k : ℕ) (f : Func) → slice_get ds k ≡ Some (Function f) → IsGoodFunction f) → AllGood (flat_map (function_in n) ds)
+text_good n [] each = tt
+text_good n (Function f ∷ ds) each = (each 0 f refl, text_good n ds (λ k. each (suc k)))
+text_good n (Object d ∷ ds) each = text_good n ds (λ k. each (suc k))
+
+texts_good : (n : ℕ) (texts : List Checked) → AreRead texts → AllGood (functions_from n texts)
+texts_good n [] read = tt
+texts_good n (t ∷ texts) read =
+    both_good (flat_map (function_in n) t.text.definitions) (functions_from (n + 1) texts)
+    (let r = read 0 t refl in text_good n t.text.definitions (read_function t.text r.0 t.good r.1))
+    (texts_good (n + 1) texts (λ k. read (suc k)))
+
+pub functions_are_good : (texts : List Checked) (l : Linked) → AreRead texts → IsLinked texts l → (k : ℕ) (f : Placed (Bor Func)) → slice_get l.functions k ≡ Some f → IsGoodFunction f.item.now
+functions_are_good texts l read linked k f at =
+    let all = subst AllGood (sym linked.is_program.functions) (texts_good 0 texts read) in
+    good_at (map shown l.functions) all k (shown f) (slice_get-map shown l.functions k ∙ ap (option_map shown) at)

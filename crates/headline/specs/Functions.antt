@@ -1,0 +1,31 @@
+-- What the machine code of a program's functions owes, and that all calls are then kept.
+use Rattle.std.specs.Prelude.{◌≡◌, ℕ, map, slice_get, Some}
+use Rattle.il_ast.specs.declared.function.Param.{Param}
+use Rattle.il_ast.specs.declared.function.Func.{Func}
+use Rattle.il_ast.specs.declared.program.Placed.{Placed}
+use Rattle.il_ast.specs.declared.program.Program.{Program}
+use Rattle.il_ast.specs.declared.value.Callee.TheVariants.{Defined}
+use Rattle.il_ast.specs.Cost.{need}
+use Rattle.il_ast.specs.Run.{body}
+use Rattle.il_ast.specs.Start.{globals_of}
+use Rattle.il_ast.specs.Meaning.{callees}
+use Rattle.il_ast.specs.Keeps.{Body}
+use Rattle.headline.specs.Knot.{Setting, IsSetting, AllKept, KeepsBody}
+use Rattle.headline.specs.Natives.{NativesPerform}
+
+-- the body of a function of the program
+abbrev pub body_of : Program → Placed Func → Body
+body_of p f callees i = body (record { func = f.item; globals = globals_of p f.text }) callees i.turns i.room i.args i.memory
+
+-- each function is kept at its address
+abbrev pub FunctionsKept : Setting → Program → Type 0
+FunctionsKept c p =
+    (k at : ℕ) (f : Placed Func)
+    → slice_get p.functions k ≡ Some f
+    → c.entries (Defined k) ≡ Some at
+    → KeepsBody c at (need f.item) (map (λ (x : Param). x.class) f.item.params) f.item.result (body_of p f)
+
+-- Where each function is kept if the calls that it makes are, all calls are kept, however deep they nest.
+abbrev pub CallsAreKept : Type 0
+CallsAreKept =
+    (c : Setting) (p : Program) → IsSetting c → FunctionsKept c p → NativesPerform c → (depth : ℕ) → AllKept c (callees p depth)

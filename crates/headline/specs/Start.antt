@@ -1,0 +1,43 @@
+-- What the start code of an executable owes: it calls `main`, and exits with what that returns.
+use Rattle.std.specs.Prelude.{◌≡◌, ℕ, ◌+◌, ◌%◌, ◌≤◌, List, [], Some}
+use Rattle.il_ast.specs.declared.operation.Class.TheVariants.{W}
+use Rattle.il_ast.specs.declared.program.Program.{Program}
+use Rattle.il_ast.specs.declared.value.Callee.TheVariants.{Defined}
+use Rattle.il_ast.specs.Start.{start_memory}
+use Rattle.il_ast.specs.Meaning.{main_call, stack_room}
+use Rattle.rv_isa.specs.State.{State}
+use Rattle.rv_isa.specs.Step.{Exited}
+use Rattle.rv_isa.specs.Runs.{Stopped, runs, Comes}
+use Rattle.rv_isa.specs.Labelled.{Fixed}
+use Rattle.flat_code.specs.Spots.{Spots, AllShow, ShowsMemory, Clear}
+use Rattle.abi_frames.specs.Calls.{GoodStack, Ready, passed}
+use Rattle.headline.specs.Knot.{Setting}
+
+-- from u the machine exits with the status n modulo 256, in at most so many instructions
+pub record ExitsWith (most n : ℕ) (u : State) : Type 0 where
+  pub steps : ℕ
+  pub last : State
+  pub few : steps ≤ most
+  pub stopped : runs steps u ≡ Stopped (Exited (n % 256)) last
+  pub output : last.output ≡ u.output
+
+-- the machine comes from s to a call of `main`, with the program's start memory, and from every return of that it exits with the result; both in at
+-- most 256 instructions
+pub record CallsMain (c : Setting) (p : Program) (words : List (List ℕ)) (s : State) : Type 0 where
+  pub at : ℕ
+  pub is_main : c.entries (Defined p.main) ≡ Some at
+  pub sp : ℕ
+  pub stack : GoodStack c.world sp stack_room
+  pub memory : Spots
+  pub shows : ShowsMemory c.entries c.start (start_memory p words) memory
+  pub clear : Clear c.world.bottom sp memory
+  pub args : List ℕ
+  pub args_show : AllShow c.entries c.start (main_call p words).args args
+  pub steps : ℕ
+  pub called : State
+  pub comes : Comes s steps called
+  pub output : called.output ≡ []
+  pub ready : (turns : ℕ) → Ready c.world at sp (main_call p words).classes (record { turns = turns; room = stack_room; args = args; memory = memory }) called
+  pub leaving : ℕ
+  pub leaves : (u : State) (n : ℕ) → Fixed c.world.memory_map u → u.pc ≡ called.registers 1 → u.registers 10 ≡ passed W n → ExitsWith leaving n u
+  pub price : steps + leaving ≤ 256

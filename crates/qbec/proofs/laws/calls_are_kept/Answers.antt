@@ -1,5 +1,0 @@
-use Rattle.qbec.proofs.Tied.{calls_are_kept}
-use Rattle.qbec.proofs.laws.calls_are_kept.Goals as goal
-
-pub returns : goal.returns
-returns c = calls_are_kept

@@ -1,5 +1,0 @@
-use Rattle.qbec.proofs.CompiledRuns.{compiled_runs}
-use Rattle.qbec.proofs.laws.compiled_programs_run.Goals as goal
-
-pub returns : goal.returns
-returns c = compiled_runs

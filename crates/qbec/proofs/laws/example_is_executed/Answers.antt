@@ -1,5 +1,0 @@
-use Rattle.qbec.proofs.ExampleStart.{example_is_executed}
-use Rattle.qbec.proofs.laws.example_is_executed.Goals as goal
-
-pub returns : goal.returns
-returns c = example_is_executed

@@ -1,5 +1,0 @@
-use Rattle.qbec.proofs.GoodFunctions.{functions_are_good}
-use Rattle.qbec.proofs.laws.functions_are_good.Goals as goal
-
-pub returns : goal.returns
-returns c = functions_are_good
