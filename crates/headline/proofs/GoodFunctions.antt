@@ -1,5 +1,5 @@
 -- The functions of checked texts that were read are such as can be lowered.
-use Rattle.std.proofs.Common.{◌≡◌, ℕ, ◌+◌, List, [], ◌∷◌, ◌++◌, map, refl, sym, ◌∙◌, ap, subst}
+use Rattle.std.proofs.Common.{◌≡◌, ℕ, ◌+◌, List, [], ◌∷◌, ◌++◌, refl, sym, ◌∙◌, ap, subst}
 use Rattle.std.specs.Prelude.{zero, suc, slice_get, Some}
 use Rattle.std.specs.Borrow.{Bor}
 use Rattle.std.specs.List.{flat_map}
@@ -10,6 +10,7 @@ use Rattle.il_ast.specs.declared.text.Definition.{Definition}
 use Rattle.il_ast.specs.declared.text.Definition.TheVariants.{Function, Object}
 use Rattle.il_ast.specs.declared.text.Text.{Text}
 use Rattle.il_ast.specs.declared.program.Placed.{Placed}
+use Rattle.il_ast.specs.declared.program.Program.{Program}
 use Rattle.il_types.specs.declared.checked.Checked.{Checked}
 use Rattle.il_types.specs.Rules.{IsGood}
 use Rattle.il_reader.specs.Reads.{Reads}
@@ -17,7 +18,8 @@ use Rattle.il_reader.proofs.Written.{functions_written}
 use Rattle.obj_link.specs.declared.linked.Linked.{Linked}
 use Rattle.obj_link.specs.Names.{function_in, functions_from}
 use Rattle.obj_link.specs.Shown.{shown}
-use Rattle.obj_link.specs.ProgramOf.{IsLinked}
+use Rattle.obj_link.specs.Program.{IsProgram}
+use Rattle.obj_link.specs.ProgramOf.{program, IsLinked}
 use Rattle.phi_copies.specs.Good.{IsGoodFunction}
 use Rattle.phi_copies.proofs.GoodTexts.{good_function}
 use Rattle.headline.specs.Read.{AreRead}
@@ -55,7 +57,11 @@ texts_good n (t ∷ texts) read =
     (let r = read 0 t refl in text_good n t.text.definitions (read_function t.text r.0 t.good r.1))
     (texts_good (n + 1) texts (λ k. read (suc k)))
 
+-- of a program
+pub program_functions_are_good : (texts : List Checked) (p : Program) → AreRead texts → IsProgram texts p → (k : ℕ) (f : Placed Func) → slice_get p.functions k ≡ Some f → IsGoodFunction f.item
+program_functions_are_good texts p read is k f at = good_at p.functions (subst AllGood (sym is.functions) (texts_good 0 texts read)) k f at
+
+-- of linked texts
 pub functions_are_good : (texts : List Checked) (l : Linked) → AreRead texts → IsLinked texts l → (k : ℕ) (f : Placed (Bor Func)) → slice_get l.functions k ≡ Some f → IsGoodFunction f.item.now
 functions_are_good texts l read linked k f at =
-    let all = subst AllGood (sym linked.is_program.functions) (texts_good 0 texts read) in
-    good_at (map shown l.functions) all k (shown f) (slice_get-map shown l.functions k ∙ ap (option_map shown) at)
+    program_functions_are_good texts (program l) read linked.is_program k (shown f) (slice_get-map shown l.functions k ∙ ap (option_map shown) at)
