@@ -18,3 +18,4 @@ pub mod StartCode
 pub mod DataPlaced
 pub mod GoodFunctions
 pub mod CompiledRuns
+pub mod LocationCode

@@ -10,3 +10,4 @@ pub mod Executable
 pub mod Executables
 pub mod Read
 pub mod Compiled
+pub mod Located
