@@ -1,5 +1,5 @@
 -- What each instruction of a frame's code does, and a few together: sums, constants, eight bytes of the stack.
-use Rattle.std.proofs.Common.{◌≡◌, ◌≢◌, ℕ, ◌+◌, ◌*◌, ◌/◌, ◌%◌, ◌^◌, ◌<◌, ◌≤◌, Bool, true, false, [], ◌∷◌, refl, sym, ◌∙◌, ap, subst, arith, lit<, mod-lt}
+use Rattle.std.proofs.Common.{◌≡◌, ◌≢◌, ℕ, ◌+◌, ◌-◌, ◌*◌, ◌/◌, ◌%◌, ◌^◌, ◌<◌, ◌≤◌, Bool, true, false, [], ◌∷◌, refl, sym, ◌∙◌, ap, subst, arith, lit<, mod-lt}
 use Rattle.std.specs.Prelude.{not, nat_le, nat_lt, if◌then◌else◌, Ok}
 use Rattle.std.proofs.lemmas.Bool.{and_from}
 use Rattle.std.proofs.lemmas.Bool.Decides.{nat_tests}
@@ -7,12 +7,13 @@ use Rattle.bits.specs.Words.{sign_extended}
 use Rattle.rv_isa.specs.State.{State, register, put}
 use Rattle.rv_isa.specs.Memory.{number_at, stored, each_of, allowed, can_read, can_write}
 use Rattle.rv_isa.specs.Arithmetic.{moved, upper_value, reg_value, regw_value, addiw_value}
-use Rattle.rv_isa.specs.Step.{act, load, store}
+use Rattle.rv_isa.specs.Step.{act, load, load_size, load_value, store}
 use Rattle.rv_isa.specs.Labelled.{Ground, Fixed, Stand, Stands}
 use Rattle.rv_isa.specs.declared.permission.Permission.{Permission}
 use Rattle.rv_isa.specs.declared.ranges.UpperField.{UpperField}
 use Rattle.rv_isa.specs.declared.instruction.Instr.TheVariants.{Lui, Load, Store, Imm, Addiw, Shift, Reg, RegW}
-use Rattle.rv_isa.specs.declared.instruction.LoadOp.TheVariants.{Ld}
+use Rattle.rv_isa.specs.declared.instruction.LoadOp.{LoadOp}
+use Rattle.rv_isa.specs.declared.instruction.LoadOp.TheVariants.{Lb, Lh, Lw, Ld, Lbu, Lhu, Lwu}
 use Rattle.rv_isa.specs.declared.instruction.StoreOp.TheVariants.{Sd}
 use Rattle.rv_isa.specs.declared.instruction.ImmOp.TheVariants.{Addi}
 use Rattle.rv_isa.specs.declared.instruction.ShiftOp.TheVariants.{Slli, Srli}
@@ -179,6 +180,40 @@ leads_load c s d base o a is is_base fixed there usable =
     let acts : act (Load Ld (reg d) (reg base) (low o)) s ≡ Ok (put s (reg d) (number_at s.bytes a 8)) =
     ap (load s Ld (reg d)) at ∙ (rw readable refl) in
     leads_set c s (Load Ld (reg d) (reg base) (low o)) d (number_at s.bytes a 8) (number_at s.bytes a 8) is acts refl
+
+some_bytes : (op : LoadOp) → 0 < load_size op
+some_bytes Lb = lit< tt
+some_bytes Lh = lit< tt
+some_bytes Lw = lit< tt
+some_bytes Ld = lit< tt
+some_bytes Lbu = lit< tt
+some_bytes Lhu = lit< tt
+some_bytes Lwu = lit< tt
+
+n_readable : (g : Ground) (a n : ℕ) → 0 < n → UsableFrom g a n → allowed (λ x. (g.allows x).readable) a n ≡ true
+n_readable g a n some usable =
+    let last = (usable (a + (n - 1)) (omega arith) (omega (arith, some))).small in
+    let whole : a + n ≤ 2 ^ 64 = omega (arith, last, some) in
+    and_from (nat_le (a + n) (2 ^ 64)) (each_of (λ x. (g.allows x).readable) a n) (grind (arith, nat_tests))
+    (each_from (λ x. (g.allows x).readable) a n (λ x lo hi. (usable x lo hi).readable))
+
+same_address : (a : ℕ) → a < 2 ^ 64 → moved a (low 0).value ≡ a
+same_address a h = near_moves a 0 (lit< tt) ∙ omega (arith, h)
+
+-- a load of any size, at a register's address
+pub leads_load_at : (c : Site) (s : State) (op : LoadOp) (d base a : ℕ) → IsReg d → IsReg base → Fixed c.ground s → s.registers base ≡ a
+    → UsableFrom c.ground a (load_size op)
+    → Leads c (Plain (Load op (reg d) (reg base) (low 0)) ∷ []) s (Sets s d (load_value op (number_at s.bytes a (load_size op))))
+leads_load_at c s op d base a is is_base fixed there usable =
+    let n : ℕ = load_size op in
+    let v : ℕ = load_value op (number_at s.bytes a n) in
+    let P : (ℕ → Permission) → Type 0 = λ p. allowed (λ x. (p x).readable) a n ≡ true in
+    let readable : can_read s a n ≡ true = subst P (sym fixed.permissions) (n_readable c.ground a n (some_bytes op) usable) in
+    let word : a < 2 ^ 64 = subst (λ x. x < 2 ^ 64) there (fixed.words base) in
+    let at : moved (register s (reg base)) (low 0).value ≡ a =
+    ap (λ x. moved x (low 0).value) (register_reg s base is_base ∙ there) ∙ same_address a word in
+    let acts : act (Load op (reg d) (reg base) (low 0)) s ≡ Ok (put s (reg d) v) = ap (load s op (reg d)) at ∙ (rw readable refl) in
+    leads_set c s (Load op (reg d) (reg base) (low 0)) d v v is acts refl
 
 -- eight bytes at `a` are those of v; of the registers only x29 may have changed
 pub record Writes (s : State) (a v : ℕ) (u : State) : Type 0 where

@@ -33,7 +33,7 @@ use Rattle.vcode.specs.Named.{is_place, operand_keeps, line_keeps, jump_keeps, b
 use Rattle.vcode.specs.Regular.{leads_inside, is_target, code_weight}
 use Rattle.abi_frames.specs.Layout.{layout, saved_registers}
 use Rattle.abi_frames.specs.declared.layout.Layout.{Layout}
-use Rattle.abi_frames.specs.Emission.{reg, add_low, extend, sum_to, load_8, store_8, long_constant, constant, far_load, load_slot, far_store, store_slot, slot_offset, into, fetch, source, target, deliver, set_items, negate, is_zero, compare_items, operation_items, operate_items, line_items, lines_items, move_pointer, save_all, restore_all, go_back, prologue, epilogue, result_items, jump_items, blocks_items}
+use Rattle.abi_frames.specs.Emission.{reg, add_low, extend, sum_to, load_8, store_8, long_constant, constant, far_load, load_slot, far_store, store_slot, slot_offset, into, fetch, source, target, deliver, set_items, negate, is_zero, compare_items, operation_items, operate_items, load_to, line_items, lines_items, move_pointer, save_all, restore_all, go_back, prologue, epilogue, result_items, jump_items, blocks_items}
 use Rattle.abi_frames.specs.Laws.{FramesAreLabelled}
 use Rattle.abi_frames.proofs.Leading.{longest-append}
 use Rattle.abi_frames.proofs.Activations.{place_is}
@@ -252,7 +252,13 @@ line_plainly n y slots (Operate to op a b) known =
     let parts = and_parts (is_place slots to) (operand_keeps (is_place slots) a && operand_keeps (is_place slots) b) known in
     let operands = and_parts (operand_keeps (is_place slots) a) (operand_keeps (is_place slots) b) parts.1 in
     operate_plainly n y slots to op a b parts.0 operands.0 operands.1
-line_plainly n y slots (Load to op at) known = plainly_nothing n
+line_plainly n y slots (Load to op at) known =
+    let parts = and_parts (is_place slots to) (operand_keeps (is_place slots) at) known in
+    plainly_then n (fetch y 28 at) ((load_to op (target to) (source 28 at) ∷ []) ++ deliver y to) (fetch_plainly n y 28 at (lit< tt) (lit< tt))
+    (plainly_then n (load_to op (target to) (source 28 at) ∷ []) (deliver y to)
+    (one_of_two n (load_to op (target to) (source 28 at)) (target to) (source 28 at) (target_nameable slots to parts.0)
+    (source_nameable slots 28 at (lit< tt) parts.1) refl (λ l. refl) refl)
+    (deliver_plainly n y to))
 line_plainly n y slots (Store size a at) known = plainly_nothing n
 line_plainly n y slots (Alloc to size) known = plainly_nothing n
 line_plainly n y slots (Blit from to count) known = plainly_nothing n

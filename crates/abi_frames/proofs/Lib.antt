@@ -12,3 +12,4 @@ pub mod Labelling
 pub mod Joining
 pub mod PlainLayout
 pub mod Comparing
+pub mod Reading

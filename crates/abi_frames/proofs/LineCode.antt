@@ -6,6 +6,8 @@ use Rattle.il_ast.specs.declared.operation.Class.TheVariants.{W, L}
 use Rattle.il_ast.specs.Operations.{holds, truth}
 use Rattle.rv_isa.specs.Arithmetic.{reg_value, regw_value}
 use Rattle.abi_frames.proofs.Comparing.{leads_compare, holds_extended}
+use Rattle.rv_isa.specs.Step.{load_size, load_value}
+use Rattle.rv_isa.specs.declared.instruction.LoadOp.{LoadOp}
 use Rattle.rv_isa.specs.State.{State}
 use Rattle.rv_isa.specs.Memory.{number_at, stored}
 use Rattle.rv_isa.specs.declared.labelled.Item.{Item}
@@ -17,10 +19,10 @@ use Rattle.vcode.specs.declared.line.Operation.{Operation}
 use Rattle.vcode.specs.declared.line.Operation.TheVariants.{Reg as RegOperation, RegW as RegWOperation, Compare}
 use Rattle.vcode.specs.Named.{is_place, operand_keeps}
 use Rattle.flat_code.specs.Step.{computed}
-use Rattle.abi_frames.specs.Emission.{extend, compare_items, slot_offset, add_low, load_slot, store_slot, into, fetch, source, target, deliver, set_items, operation_items, operate_items}
+use Rattle.abi_frames.specs.Emission.{load_to, load_items, extend, compare_items, slot_offset, add_low, load_slot, store_slot, into, fetch, source, target, deliver, set_items, operation_items, operate_items}
 use Rattle.abi_frames.proofs.ConstantNumbers.{near_moves}
 use Rattle.abi_frames.proofs.Leading.{Leads, leads_nowhere, leads_then, leads_so, leads_fixed, Sets, IsReg, register_reg}
-use Rattle.abi_frames.proofs.Instructions.{Writes, leads_extend, leads_add_low, leads_reg, leads_regw, leads_constant, leads_address, leads_load_slot, leads_store_slot, is_28, is_29}
+use Rattle.abi_frames.proofs.Instructions.{UsableFrom, leads_load_at, Writes, leads_extend, leads_add_low, leads_reg, leads_regw, leads_constant, leads_address, leads_load_slot, leads_store_slot, is_28, is_29}
 use Rattle.abi_frames.proofs.Activations.{Setting, IsSetting, site, bottom, slot_at, operand_in, IsPlace, place_is, place_reg, slot_is, slot_in_frame, InPlace, OnStack, Assigned}
 
 -- ---- operands
@@ -262,3 +264,27 @@ leads_operate_line c is s to op a b pointer good known_a known_b =
     (λ d reg. leads_operation c w op d x y (source_not_28 c.slots b known_b) reg (source_reg c.slots 28 a is_28 known_a) (source_reg c.slots 29 b is_29 known_b)))
     (λ t h three. assigned_value c s to (computed op (w.registers x) (w.registers y)) v t is_v
     (assigned_from c s w to (computed op (w.registers x) (w.registers y)) t all three))))
+
+-- ---- a load
+
+pub leads_load_line : (c : Setting) → IsSetting c → (s : State) (to : Location) (op : LoadOp) (at : Operand Location) → s.registers 2 ≡ bottom c
+    → is_place c.slots to ≡ true → operand_keeps (is_place c.slots) at ≡ true → UsableFrom c.world.memory_map (operand_in c s at) (load_size op)
+    → Leads (site c) (load_items c.layout to op at) s (Assigned c s to (load_value op (number_at s.bytes (operand_in c s at) (load_size op))))
+leads_load_line c is s to op at pointer good known usable =
+    let x : ℕ = operand_in c s at in
+    let n : ℕ = load_size op in
+    let y : ℕ = source 28 at in
+    let v : ℕ = load_value op (number_at s.bytes x n) in
+    leads_then (site c) (fetch c.layout 28 at) ((load_to op (target to) y ∷ []) ++ deliver c.layout to) s (Fetched c s 28 at) (Assigned c s to v)
+    (leads_fetch c is s 28 at is_28 (λ e. absurd (omega (arith, e))) pointer known)
+    (λ u f one.
+    let same = fetched_scratched c s 28 at u (omega arith) one in
+    let w : ℕ = load_value op (number_at u.bytes x n) in
+    let value : w ≡ v = ap (λ (m : ℕ → ℕ). load_value op (number_at m x n)) one.bytes in
+    leads_so (site c) ((load_to op (target to) y ∷ []) ++ deliver c.layout to) u (Assigned c u to w) (Assigned c s to v)
+    (leads_made c is u (λ d. load_to op d y ∷ []) w to (same.registers 2 (lit< tt) ∙ pointer) good
+    (λ d reg.
+    leads_so (site c) (load_to op d y ∷ []) u (Sets u d w) (InPlace u d w)
+    (leads_load_at (site c) u op d y x reg (source_reg c.slots 28 at is_28 known) f one.value usable)
+    (λ t h two. set_register u d w t two)))
+    (λ t h two. assigned_value c s to w v t value (assigned_from c s u to w t same two)))

@@ -21,7 +21,7 @@ line_takes_nothing : (l : Line Location) → covers_line l ≡ true → (alloc_b
 line_takes_nothing (Tick turn w) h = (refl, refl)
 line_takes_nothing (Set to a) h = (refl, refl)
 line_takes_nothing (Operate to op a b) h = (refl, refl)
-line_takes_nothing (Load to op at) h = absurd (let no : ⊥ = cc in no)
+line_takes_nothing (Load to op at) h = (refl, refl)
 line_takes_nothing (Store size a at) h = absurd (let no : ⊥ = cc in no)
 line_takes_nothing (Alloc to size) h = absurd (let no : ⊥ = cc in no)
 line_takes_nothing (Blit from to count) h = absurd (let no : ⊥ = cc in no)

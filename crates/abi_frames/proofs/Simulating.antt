@@ -37,14 +37,18 @@ use Rattle.vcode.specs.Cost.{line_cost, jump_cost, affords}
 use Rattle.vcode.specs.Step.{weighs}
 use Rattle.flat_code.specs.Spots.{Away, Known, Spots}
 use Rattle.flat_code.specs.Flat.{FlatGiven, FlatAsked, FlatOutcome, FlatReturned, FlatEnded, flat_after}
-use Rattle.flat_code.specs.Step.{FlatState, FlatEvent, Numbers, put, number_of, read, taken, computed, closed, is_in, sets, ticks, fails, goes_on, enters, branches, returns, returns_as, flat_line, flat_jump, block_step, step_in, flat_step}
+use Rattle.rv_isa.specs.Step.{load_size, load_value}
+use Rattle.rv_isa.specs.declared.instruction.LoadOp.{LoadOp}
+use Rattle.abi_frames.proofs.Instructions.{UsableFrom}
+use Rattle.abi_frames.proofs.Reading.{read_is}
+use Rattle.flat_code.specs.Step.{known_number, FlatState, FlatEvent, Numbers, put, number_of, read, taken, computed, closed, is_in, sets, ticks, fails, goes_on, enters, branches, returns, returns_as, flat_line, flat_jump, block_step, step_in, flat_step}
 use Rattle.abi_frames.specs.Calls.{ResultIn, passed}
 use Rattle.abi_frames.specs.Performs.{Performs, AllPerform}
 use Rattle.abi_frames.specs.Covered.{covers_line}
 use Rattle.abi_frames.specs.Emission.{line_items, lines_items, jump_items, result_items, epilogue}
 use Rattle.abi_frames.proofs.Leading.{Site, StandAt, Reaches, Leads, leads_so, Sets}
 use Rattle.abi_frames.proofs.Activations.{Setting, IsSetting, site, bottom, slot_at, save_at, value_at, operand_in, place_is, Framed, operand_known, Assigned, assigned, assigned_output}
-use Rattle.abi_frames.proofs.LineCode.{Scratched, leads_set_line, leads_operate_line}
+use Rattle.abi_frames.proofs.LineCode.{Scratched, leads_set_line, leads_operate_line, leads_load_line}
 use Rattle.abi_frames.proofs.FrameEnds.{Lands, Ends, ends_then, Jumped, ends_frame}
 use Rattle.abi_frames.proofs.JumpCode.{ends_so, ends_goto, ends_branch, leads_result, way}
 use Rattle.abi_frames.proofs.Sizes.{line_size, jump_size, epilogue_size, le_is}
@@ -338,6 +342,54 @@ operate_case c f is j r n go b to op x y lines fs k u a log all goes =
     by_operands (Some v) e None d e_goes = undefined c f fs.spent r e_goes.0
     by_operands (Some v) e (Some w) d e_goes = operated c f is j r n go b to op x y lines fs k u a log all v w e d e_goes
 
+-- a load
+loaded : (c : Setting) (f : Code Location) → CodeStands c f → (j : FlatGiven) (r : FlatOutcome) (n : ℕ) → Follows c f j r n
+    → (b : Block Location) (to : Location) (op : LoadOp) (x : Operand Location) (lines : List (Line Location)) (fs : FlatState) (k : ℕ) (u : State)
+    → At c f b (Load to op x ∷ lines) fs k u → (log : Log) → AllPerform c.world (bottom c) log
+    → (p v : ℕ) → number_of c.addresses fs.numbers x ≡ Some p → known_number fs.memory p (load_size op) ≡ Some v
+    → Then c f j r n log (goes_on (record fs { numbers = put to (Some (load_value op v)) fs.numbers })) → Performed c f r
+loaded c f is j r n go b to op x lines fs k u a log all p v is_x is_v goes =
+    let numbers : Numbers = put to (Some (load_value op v)) fs.numbers in
+    let known = and_parts (is_place c.slots to) (operand_keeps (is_place c.slots) x)
+    (and_parts (line_keeps (is_place c.slots) (Load to op x)) (list_all (line_keeps (is_place c.slots)) lines) a.known).0 in
+    let at_x : operand_in c u x ≡ p = operand_known c fs.numbers fs.memory u x p is.setting a.framed known.1 is_x in
+    let read = read_is c.world.memory_map fs.memory u p (load_size op) v a.framed.spots is_v in
+    let usable : UsableFrom c.world.memory_map (operand_in c u x) (load_size op) =
+    subst (λ q. UsableFrom c.world.memory_map q (load_size op)) (sym at_x) read.usable in
+    let made_v : ℕ = load_value op (number_at u.bytes (operand_in c u x) (load_size op)) in
+    let value : made_v ≡ load_value op v =
+    ap (λ q. load_value op (number_at u.bytes q (load_size op))) at_x ∙ ap (load_value op) read.value in
+    let m = reach c f b (Load to op x) lines fs k u (λ t. Framed c numbers fs.memory t × (t.output ≡ u.output)) a
+    (leads_so (site c) (line_items c.layout (Load to op x)) u (Assigned c u to made_v) (λ t. Framed c numbers fs.memory t × (t.output ≡ u.output))
+    (leads_load_line c is.setting u to op x a.framed.pointer known.0 known.1 usable)
+    (λ t fixed made. (
+      assigned c is.setting fs.numbers fs.memory u t to made_v (Some (load_value op v)) known.0 a.framed made (λ q e. value ∙ some_is (load_value op v) q e),
+      assigned_output c u to made_v t made,
+    ))) in
+    go b lines (record fs { next = fs.next + 1; numbers = numbers }) (k + m.steps) m.after
+    (advance c f b (Load to op x) lines fs k u numbers fs.memory fs.used a refl a.paid m) log goes all
+  where
+    some_is : (p q : ℕ) → Some p ≡ Some q → p ≡ q
+    some_is p q e = cc
+
+load_case : (c : Setting) (f : Code Location) → CodeStands c f → (j : FlatGiven) (r : FlatOutcome) (n : ℕ) → Follows c f j r n
+    → (b : Block Location) (to : Location) (op : LoadOp) (x : Operand Location) (lines : List (Line Location)) (fs : FlatState) (k : ℕ) (u : State)
+    → At c f b (Load to op x ∷ lines) fs k u → (log : Log) → AllPerform c.world (bottom c) log
+    → Then c f j r n log
+    (sets fs to (option_and_then (λ p. option_map (load_value op) (known_number fs.memory p (load_size op))) (number_of c.addresses fs.numbers x)))
+    → Performed c f r
+load_case c f is j r n go b to op x lines fs k u a log all goes = by_address (number_of c.addresses fs.numbers x) refl goes
+  where
+    by_number : (p : ℕ) → number_of c.addresses fs.numbers x ≡ Some p → (o : Option ℕ) → known_number fs.memory p (load_size op) ≡ o
+        → Then c f j r n log (sets fs to (option_map (load_value op) o)) → Performed c f r
+    by_number p e None d e_goes = undefined c f fs.spent r e_goes.0
+    by_number p e (Some v) d e_goes = loaded c f is j r n go b to op x lines fs k u a log all p v e d e_goes
+
+    by_address : (o : Option ℕ) → number_of c.addresses fs.numbers x ≡ o
+        → Then c f j r n log (sets fs to (option_and_then (λ p. option_map (load_value op) (known_number fs.memory p (load_size op))) o)) → Performed c f r
+    by_address None e e_goes = undefined c f fs.spent r e_goes.0
+    by_address (Some p) e e_goes = by_number p e (known_number fs.memory p (load_size op)) refl e_goes
+
 line_case : (c : Setting) (f : Code Location) → CodeStands c f → (j : FlatGiven) (r : FlatOutcome) (n : ℕ) → Follows c f j r n
     → (b : Block Location) (l : Line Location) (lines : List (Line Location)) (fs : FlatState) (k : ℕ) (u : State)
     → At c f b (l ∷ lines) fs k u → (log : Log) → Then c f j r n log (flat_line c.addresses (c.sp - c.area) j fs l)
@@ -346,7 +398,7 @@ unfolding flat_line
 line_case c f is j r n go b (Tick turn w) lines fs k u a log goes all = tick_case c f j r n go b turn w lines fs k u a log goes all
 line_case c f is j r n go b (Set to x) lines fs k u a log goes all = set_case c f is j r n go b to x lines fs k u a log goes all
 line_case c f is j r n go b (Operate to op x y) lines fs k u a log goes all = operate_case c f is j r n go b to op x y lines fs k u a log all goes
-line_case c f is j r n go b (Load to op at) lines fs k u a log goes all = absurd (let no : ⊥ = let h = a.covered in cc in no)
+line_case c f is j r n go b (Load to op at) lines fs k u a log goes all = load_case c f is j r n go b to op at lines fs k u a log all goes
 line_case c f is j r n go b (Store size x at) lines fs k u a log goes all = absurd (let no : ⊥ = let h = a.covered in cc in no)
 line_case c f is j r n go b (Alloc to size) lines fs k u a log goes all = absurd (let no : ⊥ = let h = a.covered in cc in no)
 line_case c f is j r n go b (Blit from to count) lines fs k u a log goes all = absurd (let no : ⊥ = let h = a.covered in cc in no)

@@ -10,6 +10,7 @@ use Rattle.il_ast.specs.declared.operation.Class.{Class}
 use Rattle.il_ast.specs.declared.operation.Class.TheVariants.{W, L}
 use Rattle.rv_isa.specs.Labels.{longest_size}
 use Rattle.rv_isa.specs.declared.instruction.BranchOp.TheVariants.{Bne}
+use Rattle.rv_isa.specs.declared.instruction.LoadOp.{LoadOp}
 use Rattle.rv_isa.specs.declared.labelled.Item.{Item}
 use Rattle.rv_isa.specs.declared.labelled.Item.TheVariants.{Label, Branch as BranchTo, Goto as GoTo}
 use Rattle.std.proofs.lemmas.List.Sums.{sum_by-cons}
@@ -29,7 +30,7 @@ use Rattle.vcode.specs.Regular.{weight_of}
 use Rattle.abi_frames.specs.Layout.{layout, saved_registers}
 use Rattle.abi_frames.specs.Laws.{FramesAreSmall}
 use Rattle.abi_frames.specs.declared.layout.Layout.{Layout}
-use Rattle.abi_frames.specs.Emission.{reg, add_low, extend, long_constant, constant, load_8, store_8, far_load, far_store, sum_to, load_slot, store_slot, slot_offset, into, fetch, source, target, deliver, set_items, compare_items, operation_items, operate_items, line_items, lines_items, move_pointer, save_all, restore_all, go_back, prologue, epilogue, result_items, jump_items, block_items, blocks_items, function_items}
+use Rattle.abi_frames.specs.Emission.{reg, add_low, extend, long_constant, constant, load_8, store_8, far_load, far_store, sum_to, load_slot, store_slot, slot_offset, into, fetch, source, target, deliver, set_items, compare_items, operation_items, operate_items, load_to, load_items, line_items, lines_items, move_pointer, save_all, restore_all, go_back, prologue, epilogue, result_items, jump_items, block_items, blocks_items, function_items}
 use Rattle.abi_frames.proofs.Leading.{longest-append}
 
 -- ---- lines
@@ -110,11 +111,20 @@ operate_size y to op a b =
     let n = deliver_size y to in
     omega (arith, one, two, three, h, k, m, n)
 
+load_line_size : (y : Layout) (to : Location) (op : LoadOp) (at : Operand Location) → longest_size (load_items y to op at) ≤ operand_cost at + 1 + 3
+load_line_size y to op at =
+    let made : List Item = load_to op (target to) (source 28 at) ∷ [] in
+    let one = longest-append (fetch y 28 at) (made ++ deliver y to) in
+    let two = longest-append made (deliver y to) in
+    let h = fetch_size y 28 at in
+    let k = deliver_size y to in
+    omega (arith, one, two, h, k)
+
 pub line_size : (y : Layout) (l : Line Location) → longest_size (line_items y l) ≤ line_cost l
 line_size y (Tick turn w) = lit≤ tt
 line_size y (Set to a) = set_size y to a
 line_size y (Operate to op a b) = operate_size y to op a b
-line_size y (Load to op at) = omega arith
+line_size y (Load to op at) = load_line_size y to op at
 line_size y (Store size a at) = omega arith
 line_size y (Alloc to size) = omega arith
 line_size y (Blit from to count) = omega arith

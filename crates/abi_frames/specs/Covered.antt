@@ -1,9 +1,9 @@
--- The code that frames are made for so far: no parameters, no calls, no memory.
+-- The code that frames are made for so far: no parameters, no calls, and nothing that makes or changes memory.
 use Rattle.std.specs.Prelude.{Bool, true, false, ◌&&◌, nat_eq, length}
 use Rattle.std.specs.List.{list_all}
 use Rattle.vcode.specs.declared.place.Location.{Location}
 use Rattle.vcode.specs.declared.line.Line.{Line}
-use Rattle.vcode.specs.declared.line.Line.TheVariants.{Tick, Set, Operate}
+use Rattle.vcode.specs.declared.line.Line.TheVariants.{Tick, Set, Operate, Load}
 use Rattle.vcode.specs.declared.code.Block.{Block}
 use Rattle.vcode.specs.declared.code.Code.{Code}
 
@@ -11,6 +11,7 @@ abbrev pub covers_line : Line Location → Bool
 covers_line (Tick turn w) = true
 covers_line (Set to a) = true
 covers_line (Operate to op a b) = true
+covers_line (Load to op at) = true
 covers_line l = false
 
 abbrev pub covers_block : Block Location → Bool

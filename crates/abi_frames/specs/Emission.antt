@@ -12,6 +12,7 @@ use Rattle.rv_isa.specs.declared.ranges.Immediate.{Immediate}
 use Rattle.rv_isa.specs.declared.ranges.UpperField.{UpperField}
 use Rattle.rv_isa.specs.declared.ranges.Amount.{Amount}
 use Rattle.rv_isa.specs.declared.instruction.Instr.TheVariants.{Lui, Jalr, Load, Store, Imm, Addiw, Shift, Reg, RegW, Ebreak}
+use Rattle.rv_isa.specs.declared.instruction.LoadOp.{LoadOp}
 use Rattle.rv_isa.specs.declared.instruction.LoadOp.TheVariants.{Ld}
 use Rattle.rv_isa.specs.declared.instruction.StoreOp.TheVariants.{Sd}
 use Rattle.rv_isa.specs.declared.instruction.ImmOp.TheVariants.{Addi, Xori, Sltiu}
@@ -27,7 +28,7 @@ use Rattle.vcode.specs.declared.place.Operand.TheVariants.{At, Number, Name}
 use Rattle.vcode.specs.declared.line.Operation.{Operation}
 use Rattle.vcode.specs.declared.line.Operation.TheVariants.{Reg as RegOperation, RegW as RegWOperation, Compare}
 use Rattle.vcode.specs.declared.line.Line.{Line}
-use Rattle.vcode.specs.declared.line.Line.TheVariants.{Set, Operate}
+use Rattle.vcode.specs.declared.line.Line.TheVariants.{Set, Operate, Load as LoadLine}
 use Rattle.vcode.specs.declared.line.Jump.{Jump}
 use Rattle.vcode.specs.declared.line.Jump.TheVariants.{Goto, Branch, Return, Halt}
 use Rattle.vcode.specs.declared.code.Block.{Block}
@@ -179,9 +180,16 @@ abbrev pub operate_items : Layout → Location → Operation → (a b : Operand 
 operate_items y to op a b =
     fetch y 28 a ++ (fetch y 29 b ++ (operation_items op (target to) (source 28 a) (source 29 b) ++ deliver y to))
 
+abbrev pub load_to : LoadOp → (d base : ℕ) → Item
+load_to op d base = Plain (Load op (reg d) (reg base) (low 0))
+
+abbrev pub load_items : Layout → Location → LoadOp → (at : Operand Location) → List Item
+load_items y to op at = fetch y 28 at ++ ((load_to op (target to) (source 28 at) ∷ []) ++ deliver y to)
+
 abbrev pub line_items : Layout → Line Location → List Item
 line_items y (Set to a) = set_items y to a
 line_items y (Operate to op a b) = operate_items y to op a b
+line_items y (LoadLine to op at) = load_items y to op at
 line_items y l = []
 
 abbrev pub lines_items : Layout → List (Line Location) → List Item

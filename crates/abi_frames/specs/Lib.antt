@@ -5,3 +5,4 @@ pub mod Layout
 pub mod Emission
 pub mod Covered
 pub mod Laws
+pub mod Examples

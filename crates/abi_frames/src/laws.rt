@@ -1,4 +1,5 @@
 //! What is proved of the code of frames, each as the contract of a function that does nothing.
+ghost use Rattle.abi_frames.specs.Examples.{Examples};
 ghost use Rattle.abi_frames.specs.Laws.{FramesAreLabelled, FramesAreSmall, FramesPerform};
 
 /// The labelled code of a function has at most 32 words for each unit of its weight, and 256.
@@ -14,4 +15,9 @@ pub fn frames_perform()
 /// The labelled code of a function keeps the invariants of such code.
 pub fn frames_are_labelled()
     ensures { FramesAreLabelled }
+{}
+
+/// The premises of these laws hold of a small function.
+pub fn example_is_code()
+    ensures { Examples }
 {}

@@ -9,7 +9,7 @@
 //! at most 32 instructions for each unit of weight and 256 for each call, with at most 40,000 turns between two instructions; and it takes no more stack than the
 //! language counts for the function. `specs/Layout.antt` says where things stand in a frame, `specs/Emission.antt` which instructions a line becomes.
 //!
-//! So far frames are made for code without parameters, calls and memory: `covered::covers` says for which (`specs/Covered.antt`).
+//! So far frames are made for code without parameters and calls, which makes and changes no memory: `covered::covers` says for which (`specs/Covered.antt`).
 #![tactic(auto)]
 
 mod compare;

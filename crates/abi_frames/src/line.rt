@@ -1,16 +1,16 @@
 //! The machine code of lines.
 ghost use Rattle.std.specs.Prelude.{◌≡◌, ◌^◌, ◌<◌, [], ◌∷◌, ◌++◌, OnOk};
 ghost use Rattle.vcode.specs.declared.place.Location.TheVariants.{Slot};
-ghost use Rattle.abi_frames.specs.Emission.{operation_items, set_items, operate_items, line_items, lines_items};
+ghost use Rattle.abi_frames.specs.Emission.{operation_items, set_items, operate_items, load_to, load_items, line_items, lines_items};
 
 use crate::compare::{push_compare, push_compare_words};
-use crate::fields::register;
+use crate::fields::{low_part, register};
 use crate::layout::Layout;
 use crate::operand::{
     push_deliver, push_fetch, push_into_slot, push_operand, source_of, target_of,
 };
 use il_ast::operation::Class;
-use rv_isa::instruction::Instr;
+use rv_isa::instruction::{Instr, LoadOp};
 use rv_isa::labelled::Item;
 use std::alloc::AllocError;
 use vcode::line::{Line, Operation};
@@ -101,6 +101,33 @@ fn push_operate(
     Ok(())
 }
 
+fn load_from(op: LoadOp, to: u8, base: u8) -> Item
+    ensures { result ≡ load_to op to base }
+{
+    Item::Plain(Instr::Load {
+        op,
+        rd: register(to),
+        rs1: register(base),
+        offset: low_part(0),
+    })
+}
+
+fn push_load_line(
+    items: &mut Vec<Item>,
+    layout: &Layout,
+    to: &Location,
+    op: LoadOp,
+    at: &Operand<Location>,
+) -> Result<(), AllocError>
+    requires { layout.now.slots < 2 ^ 16 }
+    ensures { OnOk result (items.new.items ≡ items.old.items ++ load_items layout.now to.now op at.now) }
+{
+    push_fetch(items, layout, 28, at)?;
+    items.push(load_from(op, target_of(to), source_of(28, at)))?;
+    push_deliver(items, layout, to)?;
+    Ok(())
+}
+
 /// Puts the code of a line at the end.
 pub(crate) fn push_line(
     items: &mut Vec<Item>,
@@ -118,8 +145,8 @@ pub(crate) fn push_line(
             left,
             right,
         } => push_operate(items, layout, to, operation, left, right)?,
+        Line::Load { to, op, at } => push_load_line(items, layout, to, *op, at)?,
         Line::Tick { .. }
-        | Line::Load { .. }
         | Line::Store { .. }
         | Line::Alloc { .. }
         | Line::Blit { .. }

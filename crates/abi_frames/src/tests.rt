@@ -6,8 +6,8 @@ use crate::layout::Layout;
 use crate::line::push_line;
 use flat_code::function::flat;
 use il_ast::list::Seq;
-use il_ast::operation::Class;
-use rv_isa::instruction::{Instr, RegOp};
+use il_ast::operation::{Class, Condition};
+use rv_isa::instruction::{Instr, LoadOp, RegOp};
 use rv_isa::labelled::Item;
 use std::test::Fail;
 use vcode::code::Code;
@@ -90,5 +90,38 @@ fn a_word_is_returned(rt: HostRuntime) -> Result<(), Fail> {
     assert_eq!(rt; items.len(), 3);
     assert!(rt; matches!(items.get(1), Some(Item::Plain(Instr::Addiw { .. }))));
     assert!(rt; matches!(items.get(2), Some(Item::Goto(5))));
+    Ok(())
+}
+
+#[test]
+fn a_byte_is_loaded(rt: HostRuntime) -> Result<(), Fail> {
+    let mut items = Vec::new(rt.alloc());
+    let line = Line::Load {
+        to: Location::Register(7),
+        op: LoadOp::Lbu,
+        at: Operand::At(Location::Register(6)),
+    };
+    push_line(&mut items, &SMALL, &line)?;
+    assert_eq!(rt; items.len(), 1);
+    match items.get(0) {
+        Some(Item::Plain(Instr::Load { op, rd, rs1, .. })) => {
+            assert!(rt; *op == LoadOp::Lbu && rd.number == 7 && rs1.number == 6);
+        }
+        _ => assert!(rt; false),
+    }
+    Ok(())
+}
+
+#[test]
+fn words_are_extended_before_they_are_compared(rt: HostRuntime) -> Result<(), Fail> {
+    let mut items = Vec::new(rt.alloc());
+    let line = Line::Operate {
+        to: Location::Register(7),
+        operation: Operation::Compare(Condition::SignedLessEqual, Class::W),
+        left: Operand::At(Location::Register(5)),
+        right: Operand::At(Location::Register(6)),
+    };
+    push_line(&mut items, &SMALL, &line)?;
+    assert_eq!(rt; items.len(), 2 + 2);
     Ok(())
 }

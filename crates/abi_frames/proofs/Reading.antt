@@ -1,0 +1,54 @@
+-- Bytes that are known are those that the machine reads.
+use Rattle.std.proofs.Common.{◌≡◌, ◌≢◌, ℕ, zero, suc, ◌+◌, ◌*◌, refl, subst, arith, inl, inr, eq-or-lt_of_le}
+use Rattle.std.specs.Prelude.{Option, Some, None}
+use Rattle.std.specs.Option.{option_map}
+use Rattle.rv_isa.specs.State.{State}
+use Rattle.rv_isa.specs.Memory.{number_at}
+use Rattle.rv_isa.specs.Labelled.{Ground}
+use Rattle.flat_code.specs.Spots.{Spot, Away, Open, Known, Spots}
+use Rattle.flat_code.specs.Step.{read_spot, known_number}
+use Rattle.abi_frames.specs.Calls.{IsUsable, HoldsSpots}
+use Rattle.abi_frames.proofs.Instructions.{UsableFrom}
+
+pub record IsRead (g : Ground) (u : State) (at n v : ℕ) : Type 0 where
+  pub value : number_at u.bytes at n ≡ v
+  pub usable : UsableFrom g at n
+
+none_is_not : (v : ℕ) (o : Option ℕ) → o ≡ None → o ≡ Some v → ⊥
+none_is_not v o e f = let no : ⊥ = cc in no
+
+some_is : (a b : ℕ) → Some a ≡ Some b → a ≡ b
+some_is a b e = cc
+
+known_is_there : (m : Spot) (b : ℕ) → m ≡ Known b → m ≢ Away
+known_is_there m b e f = let no : ⊥ = cc in no
+
+pub read_is : (g : Ground) (f : Spots) (u : State) (at n v : ℕ) → HoldsSpots g f u → known_number f at n ≡ Some v → IsRead g u at n v
+unfolding known_number number_at
+read_is g f u at zero v holds known = record {
+  value = some_is 0 v known;
+  usable = λ x lo hi. absurd (let no : ⊥ = omega (arith, lo, hi) in no);
+}
+read_is g f u at (suc n) v holds known = by_spot (f at) refl known (λ w e. read_is g f u (at + 1) n w holds e)
+  where
+    by_rest : (b : ℕ) → f at ≡ Known b → (o : Option ℕ) → known_number f (at + 1) n ≡ o → option_map (λ k. b + 256 * k) o ≡ Some v
+        → ((w : ℕ) → known_number f (at + 1) n ≡ Some w → IsRead g u (at + 1) n w) → IsRead g u at (suc n) v
+    by_rest b e None q h rest = absurd (none_is_not v None refl h)
+    by_rest b e (Some w) q h rest =
+        let more = rest w q in
+        let first = holds.known at b e in
+        let others = more.value in
+        let sum = some_is (b + 256 * w) v h in
+        record {
+          value = omega (arith, first, others, sum);
+          usable = λ x lo hi. elim (eq-or-lt_of_le lo) [
+            | inl here ↦ subst (λ y. IsUsable g y) here (holds.usable at (known_is_there (f at) b e))
+            | inr above ↦ more.usable x (omega (arith, above)) (omega (arith, hi))
+          ];
+        }
+
+    by_spot : (m : Spot) → f at ≡ m → read_spot m (known_number f (at + 1) n) ≡ Some v
+        → ((w : ℕ) → known_number f (at + 1) n ≡ Some w → IsRead g u (at + 1) n w) → IsRead g u at (suc n) v
+    by_spot Away e h rest = absurd (none_is_not v None refl h)
+    by_spot Open e h rest = absurd (none_is_not v None refl h)
+    by_spot (Known b) e h rest = by_rest b e (known_number f (at + 1) n) refl h rest

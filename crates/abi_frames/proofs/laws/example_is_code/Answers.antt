@@ -1,0 +1,14 @@
+use Rattle.std.proofs.Common.{refl, lit<}
+use Rattle.abi_frames.proofs.laws.example_is_code.Goals as goal
+
+pub returns : goal.returns
+returns c = record {
+  is_code = record {
+    few = lit< tt;
+    regular = record { few_params = refl; inside = refl; first = refl; small = refl; paid = refl; paced = refl; few_args = refl };
+    known = refl;
+    covered = refl;
+    light = refl;
+  };
+  size = refl;
+}
