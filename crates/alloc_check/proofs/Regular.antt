@@ -142,7 +142,7 @@ first_same : (f : Layout) (bs : List (Block ℕ)) → allocs_first (map (placed_
 first_same f [] = refl
 first_same f (b ∷ bs) = all_map (λ (c : Block ℕ). not (list_any is_alloc c.lines)) (λ (c : Block Location). not (list_any is_alloc c.lines)) (placed_block f) (no_allocs_same f) bs
 
-area_same : (f : Layout) (v : Code ℕ) (l : Code Location) → l.blocks ≡ map (placed_block f) v.blocks → area l ≡ area v
+pub area_same : (f : Layout) (v : Code ℕ) (l : Code Location) → l.blocks ≡ map (placed_block f) v.blocks → area l ≡ area v
 area_same f v l e =
     ap (λ (bs : List (Block Location)). sum_by (λ (b : Block Location). sum_by alloc_bytes b.lines) bs) e
     ∙ sum_map (λ (b : Block ℕ). sum_by alloc_bytes b.lines) (λ (b : Block Location). sum_by alloc_bytes b.lines) (placed_block f)

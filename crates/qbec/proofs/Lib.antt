@@ -1,1 +1,3 @@
 pub mod TextLemmas
+pub mod Needs
+pub mod Assembled

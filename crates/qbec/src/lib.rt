@@ -4,3 +4,4 @@
 #![tactic(auto)]
 
 pub mod texts;
+pub mod words;

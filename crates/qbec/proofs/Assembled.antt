@@ -1,0 +1,72 @@
+-- Words that are laid out for the location code of a function stand for it.
+use Rattle.std.proofs.Common.{◌≡◌, ℕ, ◌+◌, ◌<◌, ◌≤◌, List, map, refl, sym, ◌∙◌, ap, subst, arith}
+use Rattle.std.specs.Prelude.{Option}
+use Rattle.il_ast.specs.declared.function.Func.{Func}
+use Rattle.il_ast.specs.declared.operation.Class.{Class}
+use Rattle.il_ast.specs.Cost.{need}
+use Rattle.il_ast.specs.Logged.{Event}
+use Rattle.phi_copies.specs.Keeping.{classes_of}
+use Rattle.phi_copies.specs.Lowered.{lowered}
+use Rattle.vcode.specs.declared.place.Location.{Location}
+use Rattle.vcode.specs.declared.place.Destination.{Destination}
+use Rattle.vcode.specs.declared.code.Code.{Code}
+use Rattle.vcode.specs.Places.{located}
+use Rattle.vcode.specs.Regular.{area}
+use Rattle.vcode.specs.Step.{begin, step}
+use Rattle.select.specs.Selected.{selected}
+use Rattle.alloc_check.specs.Placed.{in_slots}
+use Rattle.flat_code.specs.Flat.{FlatGiven, FlatAsked, FlatOutcome, KeepsFlat}
+use Rattle.flat_code.specs.Step.{flat_begin, flat_step}
+use Rattle.abi_frames.specs.Calls.{World, GoodStack}
+use Rattle.abi_frames.specs.Layout.{frame_bound, frame_size}
+use Rattle.abi_frames.specs.Promise.{FramePromise}
+use Rattle.rv_isa.specs.declared.labelled.Item.{Item}
+use Rattle.rv_isa.specs.Words.{Words}
+use Rattle.headline.specs.Compiled.{StandFor}
+use Rattle.qbec.specs.Words.{IsLocated, IsLaidOut}
+use Rattle.qbec.proofs.Needs.{stack_enough, same_classes}
+
+-- with more stack, of which less was asked
+less_stack : (w : World) (sp low high room : ℕ) → low ≤ high → GoodStack w sp (high + room) → GoodStack w sp (low + room)
+less_stack w sp low high room le good = let above = good.above in record { above = omega (arith, above, le); below = good.below; aligned = good.aligned }
+
+more_need : {T : Type 0} (items : List Item) (low high frame area : ℕ) (params : List Class) (result : Option Class) (start : (addresses : List ℕ) → (base : ℕ) → FlatGiven → T) (step : (addresses : List ℕ) → (base : ℕ) → FlatGiven → T → Event T FlatAsked FlatOutcome) → low ≤ high → FramePromise items low frame area params result start step → FramePromise items high frame area params result start step
+more_need items low high frame area params result start step le f =
+    let fits = f.fits in
+    let some = f.some in
+    record {
+      fits = omega (arith, fits, le);
+      area_fits = f.area_fits;
+      some = omega (arith, some, le);
+      aligned = f.aligned;
+      keeps = λ w at label global addresses world names even stand sp j good. f.keeps w at label global addresses world names even stand sp j (less_stack w sp low high j.room le good);
+    }
+
+classes_same : (f : Func) → map (λ (d : Destination Location). d.class) (in_slots (selected f (lowered f))).params ≡ classes_of f.params
+unfolding selected
+classes_same f = same_classes f.params
+
+result_same : (f : Func) → (in_slots (selected f (lowered f))).result ≡ f.result
+unfolding selected
+result_same f = refl
+
+pub stand_for : (f : Func) (code : Code Location) (slots : ℕ) (c : Words) → IsLocated f code slots → IsLaidOut code slots c → StandFor f c
+stand_for f code slots c l o =
+    let classes : map (λ (d : Destination Location). d.class) code.params ≡ classes_of f.params = ap (λ (x : Code Location). map (λ (d : Destination Location). d.class) x.params) l.is ∙ classes_same f in
+    let result : code.result ≡ f.result = ap (λ (x : Code Location). x.result) l.is ∙ result_same f in
+    let enough : frame_bound code slots ≤ need f = subst (λ (x : Code Location). frame_bound x slots ≤ need f) (sym l.is) (stack_enough f slots l.many) in
+    record {
+      code = code;
+      items = o.items;
+      frame = frame_size code slots;
+      meaning = l.meaning;
+      bytes =
+          λ names.
+          subst (λ cs. KeepsFlat names cs f.result (area code) (begin located code) (step located names.globals code) (flat_begin code) (flat_step code names.addresses)) classes
+          (subst (λ r. KeepsFlat names (map (λ (d : Destination Location). d.class) code.params) r (area code) (begin located code) (step located names.globals code) (flat_begin code) (flat_step code names.addresses)) result (l.bytes names));
+      machine =
+          more_need o.items (frame_bound code slots) (need f) (frame_size code slots) (area code) (classes_of f.params) f.result (λ addresses. flat_begin code) (λ addresses. flat_step code addresses) enough
+          (subst (λ cs. FramePromise o.items (frame_bound code slots) (frame_size code slots) (area code) cs f.result (λ addresses. flat_begin code) (λ addresses. flat_step code addresses)) classes
+          (subst (λ r. FramePromise o.items (frame_bound code slots) (frame_size code slots) (area code) (map (λ (d : Destination Location). d.class) code.params) r (λ addresses. flat_begin code) (λ addresses. flat_step code addresses)) result o.promise));
+      laid = o.laid;
+    }
