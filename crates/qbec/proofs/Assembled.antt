@@ -1,9 +1,18 @@
 -- Words that are laid out for the location code of a function stand for it.
-use Rattle.std.proofs.Common.{◌≡◌, ℕ, ◌+◌, ◌<◌, ◌≤◌, List, map, refl, sym, ◌∙◌, ap, subst, arith}
+use Rattle.std.proofs.Common.{◌≡◌, ℕ, ◌+◌, ◌*◌, ◌≤◌, List, length, map, refl, sym, ◌∙◌, ap, subst, arith}
 use Rattle.std.specs.Prelude.{Option}
 use Rattle.il_ast.specs.declared.function.Func.{Func}
 use Rattle.il_ast.specs.declared.operation.Class.{Class}
-use Rattle.il_ast.specs.Cost.{need}
+use Rattle.std.specs.Prelude.{Bool, true, false, ◌&&◌, nat_le}
+use Rattle.std.proofs.lemmas.Bool.Decides.{nat_tests}
+use Rattle.il_ast.specs.Cost.{need, phi_count, weight}
+use Rattle.il_types.specs.Capped.{capped}
+use Rattle.phi_copies.specs.Good.{IsGoodFunction}
+use Rattle.vcode.specs.declared.function.LFunc.{LFunc}
+use Rattle.alloc_check.specs.Kept.{Keeps}
+use Rattle.flat_code.specs.Laws.{FlatKept}
+use Rattle.headline.specs.Located.{KeepsLocated}
+use Rattle.headline.proofs.LocationCode.{location_code_keeps}
 use Rattle.il_ast.specs.Logged.{Event}
 use Rattle.phi_copies.specs.Keeping.{classes_of}
 use Rattle.phi_copies.specs.Lowered.{lowered}
@@ -50,6 +59,15 @@ result_same : (f : Func) → (in_slots (selected f (lowered f))).result ≡ f.re
 unfolding selected
 result_same f = refl
 
+pub is_located : (f : Func) (v : Code ℕ) (registers : ℕ) (l r : LFunc) → IsGoodFunction f → v ≡ selected f (lowered f) → registers ≡ length f.temps + phi_count f → l.code ≡ in_slots v → l.slots ≡ registers → Keeps v l.code → r ≡ l → FlatKept r.code → IsLocated f r.code r.slots
+is_located f v registers l r good is many placed slots kept same bytes =
+    record {
+      is = ap (λ (x : LFunc). x.code) same ∙ (placed ∙ ap in_slots is);
+      many = ap (λ (x : LFunc). x.slots) same ∙ (slots ∙ many);
+      meaning = subst (λ (x : LFunc). KeepsLocated f x.code) (sym same) (location_code_keeps f v l.code good is kept);
+      bytes = bytes;
+    }
+
 pub stand_for : (f : Func) (code : Code Location) (slots : ℕ) (c : Words) → IsLocated f code slots → IsLaidOut code slots c → StandFor f c
 stand_for f code slots c l o =
     let classes : map (λ (d : Destination Location). d.class) code.params ≡ classes_of f.params = ap (λ (x : Code Location). map (λ (d : Destination Location). d.class) x.params) l.is ∙ classes_same f in
@@ -70,3 +88,22 @@ stand_for f code slots c l o =
           (subst (λ r. FramePromise o.items (frame_bound code slots) (frame_size code slots) (area code) (map (λ (d : Destination Location). d.class) code.params) r (λ addresses. flat_begin code) (λ addresses. flat_step code addresses)) result o.promise));
       laid = o.laid;
     }
+
+-- ---- weights
+
+weight_within : (f : Func) → IsGoodFunction f → weight f ≤ 40000
+weight_within f good = by (nat_le (weight f) 40000) _ refl good.limits
+  where
+    by : (b rest : Bool) → nat_le (weight f) 40000 ≡ b → (b && rest) ≡ true → weight f ≤ 40000
+    by true rest e h = grind (arith, nat_tests)
+    by false rest e h = absurd (let no : ⊥ = cc in no)
+
+capped_least : (w b x y : ℕ) → w ≤ 40000 → x ≡ capped w → y ≡ capped b → y ≤ x → b ≤ w
+capped_least w b x y few hx hy le = omega (arith, few, hx, hy, le)
+
+-- the code weighs no more than the function
+pub not_heavier : (f : Func) → IsGoodFunction f → (b x y : ℕ) → x ≡ capped (weight f) → y ≡ capped b → y ≤ x → b ≤ weight f
+not_heavier f good b x y hx hy le = capped_least (weight f) b x y (weight_within f good) hx hy le
+
+pub few_words : (n code all : ℕ) → n ≤ 32 * code + 256 → code ≤ all → n ≤ 32 * all + 256
+few_words n code all few le = omega (arith, few, le)

@@ -1,6 +1,6 @@
 -- The location code of a function takes no more stack than the function is counted for.
-use Rattle.std.proofs.Common.{◌≡◌, ℕ, ◌+◌, ◌-◌, ◌*◌, ◌/◌, ◌≤◌, Bool, true, false, List, [], ◌∷◌, ◌++◌, length, map, refl, sym, ◌∙◌, ap, subst, arith, append_assoc}
-use Rattle.std.specs.Prelude.{max, Option, Some, None}
+use Rattle.std.proofs.Common.{◌≡◌, ℕ, ◌+◌, ◌≤◌, List, [], ◌∷◌, ◌++◌, length, map, refl, sym, ◌∙◌, ap, subst, arith, append_assoc}
+use Rattle.std.specs.Prelude.{max}
 use Rattle.std.proofs.lemmas.List.{length-map}
 use Rattle.il_ast.specs.declared.instruction.Inst.{Inst}
 use Rattle.il_ast.specs.declared.instruction.Inst.TheVariants.{Unary, Binary, Alloc as AllocInst, Store as StoreInst, Blit as BlitInst, Call as CallInst}
@@ -9,7 +9,7 @@ use Rattle.il_ast.specs.declared.block.Block.{Block}
 use Rattle.il_ast.specs.declared.function.Func.{Func}
 use Rattle.il_ast.specs.declared.function.Param.{Param}
 use Rattle.il_ast.specs.declared.operation.Class.{Class}
-use Rattle.il_ast.specs.Cost.{round_16, args_on_stack as inst_args, largest_in, largest_of, alloc_area, phi_count, need}
+use Rattle.il_ast.specs.Cost.{args_on_stack as inst_args, largest_in, largest_of, alloc_area, phi_count, need}
 use Rattle.phi_copies.specs.declared.ending.Assignment.{Assignment}
 use Rattle.phi_copies.specs.declared.ending.Ending.{Ending}
 use Rattle.phi_copies.specs.Keeping.{classes_of}
@@ -22,12 +22,12 @@ use Rattle.vcode.specs.declared.line.Line.{Line}
 use Rattle.vcode.specs.declared.line.Line.TheVariants.{Tick, Set, Operate, Load, Store, Alloc, Blit, Call}
 use Rattle.vcode.specs.declared.code.Block.{Block as VirtualBlock}
 use Rattle.vcode.specs.Regular.{area}
-use Rattle.select.specs.Selected.{operand_of, argument_of, inst_lines, turn_lines, all_lines, copy_lines, unary_lines, binary_lines, assignment_lines, ending_lines, block_of, edge_of, blocks_of, parameter_of, selected}
+use Rattle.select.specs.Selected.{operand_of, argument_of, inst_lines, turn_lines, all_lines, copy_lines, unary_lines, binary_lines, assignment_lines, ending_lines, edge_of, blocks_of, parameter_of, selected}
 use Rattle.select.proofs.UsedPlaces.{Sets, copy_sets, unary_sets, binary_sets}
 use Rattle.select.proofs.Regular.{area_is}
 use Rattle.alloc_check.specs.Placed.{placed_line, placed_argument, placed_block, placed_destination, in_slots}
 use Rattle.alloc_check.proofs.Regular.{area_same}
-use Rattle.abi_frames.specs.Layout.{args_on_stack, most_in_lines, most_in_blocks, outgoing, frame_bound}
+use Rattle.abi_frames.specs.Layout.{most_in_lines, most_in_blocks, outgoing, frame_bound}
 
 -- ---- arguments past the eighth
 
@@ -37,9 +37,9 @@ most_in lines = most_in_lines (map (placed_line Slot) lines)
 none_passed : (t : ℕ) (xs : List (Operand ℕ)) (ls : List (Line ℕ)) → Sets t xs ls → most_in ls ≡ 0
 none_passed t xs [] s = refl
 none_passed t xs (Tick turn w ∷ ls) s = absurd s
-none_passed t xs (Set p a ∷ ls) s = none_passed t xs ls s.2
-none_passed t xs (Operate p op a b ∷ ls) s = none_passed t xs ls s.3
-none_passed t xs (Load p op a ∷ ls) s = none_passed t xs ls s.2
+none_passed t xs (Set p a ∷ ls) s = let e = none_passed t xs ls s.2 in omega (arith, e)
+none_passed t xs (Operate p op a b ∷ ls) s = let e = none_passed t xs ls s.3 in omega (arith, e)
+none_passed t xs (Load p op a ∷ ls) s = let e = none_passed t xs ls s.2 in omega (arith, e)
 none_passed t xs (Store size a at ∷ ls) s = absurd s
 none_passed t xs (Alloc p size ∷ ls) s = absurd s
 none_passed t xs (Blit from to count ∷ ls) s = absurd s
@@ -85,7 +85,8 @@ blocks_pass : (f : Func) (n : ℕ) (bs : List Block) (rest : List (VirtualBlock 
 blocks_pass f n [] rest h = h
 blocks_pass f n (b ∷ bs) rest h =
     let ending = block_ending f n b in
-    let one = insts_pass b.insts (ending_lines ending) (copies_pass ending.copies) in
+    let copies = copies_pass ending.copies in
+    let one = insts_pass b.insts (ending_lines ending) (omega (arith, copies)) in
     let more = blocks_pass f (n + length (block_edges f b)) bs rest h in
     omega (arith, one, more)
 

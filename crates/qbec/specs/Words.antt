@@ -1,17 +1,13 @@
 -- How far a function has come on the way to its words.
 use Rattle.std.specs.Prelude.{◌≡◌, ℕ, ◌+◌, ◌*◌, ◌≤◌, List, length, map}
 use Rattle.il_ast.specs.declared.function.Func.{Func}
-use Rattle.il_ast.specs.declared.value.Value.{Value}
 use Rattle.il_ast.specs.Cost.{phi_count}
-use Rattle.il_ast.specs.Run.{body}
-use Rattle.il_ast.specs.Keeps.{Given, KeepsMeaning}
-use Rattle.phi_copies.specs.Keeping.{classes_of}
 use Rattle.phi_copies.specs.Lowered.{lowered}
 use Rattle.vcode.specs.declared.place.Location.{Location}
 use Rattle.vcode.specs.declared.code.Code.{Code}
-use Rattle.vcode.specs.Places.{located}
-use Rattle.vcode.specs.Regular.{area, code_weight}
-use Rattle.vcode.specs.Step.{begin, step}
+use Rattle.std.specs.List.{sum_by}
+use Rattle.vcode.specs.declared.code.Block.{Block}
+use Rattle.vcode.specs.Regular.{area, weight_of, code_weight}
 use Rattle.select.specs.Selected.{selected}
 use Rattle.alloc_check.specs.Placed.{in_slots}
 use Rattle.flat_code.specs.Laws.{FlatKept}
@@ -19,17 +15,15 @@ use Rattle.flat_code.specs.Step.{flat_begin, flat_step}
 use Rattle.abi_frames.specs.Layout.{frame_bound, frame_size}
 use Rattle.abi_frames.specs.Promise.{FramePromise}
 use Rattle.rv_isa.specs.declared.labelled.Item.{Item}
-use Rattle.rv_isa.specs.Labels.{longest_size}
 use Rattle.rv_isa.specs.Laid.{LaysOut}
 use Rattle.rv_isa.specs.Words.{Words}
+use Rattle.headline.specs.Located.{KeepsLocated}
 
 -- location code for a function: it keeps what the function means, and on bytes it is kept
 pub record IsLocated (f : Func) (code : Code Location) (slots : ℕ) : Type 0 where
   pub is : code ≡ in_slots (selected f (lowered f))
   pub many : slots ≡ length f.temps + phi_count f
-  pub meaning : (globals : List Value)
-      → KeepsMeaning (classes_of f.params) (begin located code) (step located globals code)
-      (λ callees (i : Given). body (record { func = f; globals = globals }) callees i.turns i.room i.args i.memory)
+  pub meaning : KeepsLocated f code
   pub bytes : FlatKept code
 
 -- words for it, wherever they stand, and how many they are at most
@@ -39,3 +33,6 @@ pub record IsLaidOut (code : Code Location) (slots : ℕ) (c : Words) : Type 0 w
       (λ addresses. flat_step code addresses)
   pub laid : LaysOut items c.words c.holes
   pub few : length c.words ≤ 32 * code_weight code + 256
+
+abbrev pub block_weight : Block Location → ℕ
+block_weight b = sum_by weight_of b.lines

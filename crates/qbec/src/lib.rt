@@ -4,4 +4,5 @@
 #![tactic(auto)]
 
 pub mod texts;
+pub mod weight;
 pub mod words;
