@@ -1,3 +1,4 @@
 pub mod TextLemmas
 pub mod Needs
 pub mod Assembled
+pub mod CodeLemmas

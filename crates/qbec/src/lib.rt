@@ -3,6 +3,7 @@
 //! [`texts::checked_texts`] reads and checks texts, and says of a refusal which text it is about. What puts the layers together comes next.
 #![tactic(auto)]
 
+pub mod codes;
 pub mod texts;
 pub mod weight;
 pub mod words;

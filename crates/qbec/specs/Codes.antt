@@ -1,0 +1,18 @@
+-- The functions of linked texts, and codes for them.
+use Rattle.std.specs.Prelude.{◌≡◌, ℕ, List, slice_get, Some}
+use Rattle.std.specs.Borrow.{Bor}
+use Rattle.il_ast.specs.declared.function.Func.{Func}
+use Rattle.il_ast.specs.declared.program.Placed.{Placed}
+use Rattle.phi_copies.specs.Good.{IsGoodFunction}
+use Rattle.rv_isa.specs.Words.{Words}
+use Rattle.obj_link.specs.Placed.{AreCodes}
+use Rattle.headline.specs.Compiled.{EachStands}
+
+-- each can be lowered
+abbrev pub AreGood : List (Placed (Bor Func)) → Type 0
+AreGood fs = (k : ℕ) (f : Placed (Bor Func)) → slice_get fs k ≡ Some f → IsGoodFunction f.item.now
+
+-- words that stand for each function, and not too many
+pub record AreWords (codes : List Words) (fs : List (Placed Func)) : Type 0 where
+  pub stand : EachStands codes fs
+  pub few : AreCodes codes fs
