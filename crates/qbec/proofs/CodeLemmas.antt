@@ -7,7 +7,7 @@ use Rattle.il_ast.specs.declared.function.Func.{Func}
 use Rattle.il_ast.specs.declared.program.Placed.{Placed}
 use Rattle.il_ast.specs.Cost.{weight}
 use Rattle.phi_copies.specs.Good.{IsGoodFunction}
-use Rattle.rv_isa.specs.Words.{Words}
+use Rattle.rv_isa.specs.Words.{Words, IsCode}
 use Rattle.obj_link.specs.Shown.{shown}
 use Rattle.headline.specs.Compiled.{StandFor}
 use Rattle.qbec.specs.Codes.{AreGood, AreWords}
@@ -26,14 +26,14 @@ drop_here (x ∷ fs) (suc k) f h =
     drop_here fs k f h ∙ ap (λ n. f ∷ drop n (x ∷ fs)) (sym next)
 
 pub one_more_code : (fs : List (Placed (Bor Func))) (k : ℕ) (o : Placed (Bor Func)) (codes all : List Words) (c : Words) → k < length fs → CodesSoFar fs k codes
-    → StandFor (slice_index_or fs k o).item.now c → length c.words ≤ 32 * weight (slice_index_or fs k o).item.now + 256 → all ≡ codes ++ c ∷ [] → CodesSoFar fs (k + 1) all
-one_more_code fs k o codes all c lt s stands few is =
+    → StandFor (slice_index_or fs k o).item.now c → length c.words ≤ 32 * weight (slice_index_or fs k o).item.now + 256 → IsCode c → all ≡ codes ++ c ∷ [] → CodesSoFar fs (k + 1) all
+one_more_code fs k o codes all c lt s stands few code is =
     record {
       whole =
           λ rest h.
           (let here = drop_here fs k (slice_index_or fs k o) (slice_get-get_or fs k o lt) in
           let more : AreWords (c ∷ rest) (map shown (drop k fs)) =
-          subst (λ (l : List (Placed (Bor Func))). AreWords (c ∷ rest) (map shown l)) (sym here) (record { stand = (stands, h.stand); few = (few, h.few) }) in
+          subst (λ (l : List (Placed (Bor Func))). AreWords (c ∷ rest) (map shown l)) (sym here) (record { stand = (stands, h.stand); few = (few, h.few); every = (code, h.every) }) in
           subst (λ l. AreWords l (map shown fs)) (sym (ap (λ l. l ++ rest) is ∙ append_assoc codes (c ∷ []) rest)) (s.whole (c ∷ rest) more));
     }
 
@@ -47,4 +47,4 @@ no_more (x ∷ xs) = ap (λ l. x ∷ l) (no_more xs)
 pub all_codes : (fs : List (Placed (Bor Func))) (k : ℕ) (codes : List Words) → length fs ≤ k → CodesSoFar fs k codes → AreWords codes (map shown fs)
 all_codes fs k codes end s =
     subst (λ l. AreWords l (map shown fs)) (no_more codes)
-    (s.whole [] (subst (λ (l : List (Placed (Bor Func))). AreWords [] (map shown l)) (sym (drop_of_length-le fs end)) (record { stand = tt; few = tt })))
+    (s.whole [] (subst (λ (l : List (Placed (Bor Func))). AreWords [] (map shown l)) (sym (drop_of_length-le fs end)) (record { stand = tt; few = tt; every = tt })))

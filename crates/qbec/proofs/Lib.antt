@@ -2,3 +2,5 @@ pub mod TextLemmas
 pub mod Needs
 pub mod Assembled
 pub mod CodeLemmas
+pub mod FileLemmas
+pub mod CompileLemmas

@@ -5,7 +5,7 @@ use Rattle.il_ast.specs.declared.function.Func.{Func}
 use Rattle.il_ast.specs.declared.program.Placed.{Placed}
 use Rattle.phi_copies.specs.Good.{IsGoodFunction}
 use Rattle.rv_isa.specs.Words.{Words}
-use Rattle.obj_link.specs.Placed.{AreCodes}
+use Rattle.obj_link.specs.Placed.{AreCodes, EveryCode}
 use Rattle.headline.specs.Compiled.{EachStands}
 
 -- each can be lowered
@@ -16,3 +16,4 @@ AreGood fs = (k : ℕ) (f : Placed (Bor Func)) → slice_get fs k ≡ Some f →
 pub record AreWords (codes : List Words) (fs : List (Placed Func)) : Type 0 where
   pub stand : EachStands codes fs
   pub few : AreCodes codes fs
+  pub every : EveryCode codes

@@ -1,6 +1,7 @@
 //! The words of all functions of a program.
 ghost use Rattle.std.specs.Prelude.{◌≡◌, ◌++◌, ◌∷◌, [], IfOk, IfSome, OnOk, map};
 ghost use Rattle.obj_link.specs.Shown.{shown};
+ghost use Rattle.rv_isa.specs.Words.{IsCode};
 ghost use Rattle.qbec.specs.Codes.{AreGood, AreWords};
 
 use crate::words::function_words;
@@ -10,8 +11,11 @@ use rv_isa::code::Code;
 use std::alloc::{AllocError, Global};
 
 fn push_code(codes: &mut Vec<Code>, code: Code) -> Result<(), AllocError>
-    ensures { OnOk result (codes.new.items ≡ codes.old.items ++ code ∷ []) }
+    ensures pushed { OnOk result (codes.new.items ≡ codes.old.items ++ code ∷ []) }
+    ensures code { IsCode code }
 {
+    // what is read of a code shows what every code keeps
+    code.words();
     codes.push(code)?;
     Ok(())
 }

@@ -4,6 +4,7 @@
 #![tactic(auto)]
 
 pub mod codes;
+pub mod compile;
 pub mod texts;
 pub mod weight;
 pub mod words;

@@ -1,0 +1,19 @@
+use Rattle.std.proofs.Common.{◌∙◌, subst}
+use Rattle.obj_link.specs.Image.{IsImage}
+use Rattle.std.proofs.lemmas.List.{length-map}
+use Rattle.obj_link.specs.ProgramOf.{program}
+use Rattle.obj_link.specs.Shown.{shown}
+use Rattle.qbec.proofs.FileLemmas.{one_each, fits_below, is_file}
+use Rattle.qbec.proofs.compile.file_of.Goals as goal
+
+pub place-requires-clause-one_each : goal.place-requires-clause-one_each
+place-requires-clause-one_each c =
+    one_each c.args.codes.now (program c.args.linked.now).functions c.requires.words.stand ∙ length-map c.args.linked.now.functions shown
+
+pub place-requires-clause-fits : goal.place-requires-clause-fits
+place-requires-clause-fits c = fits_below c.args.linked.now.texts.now (program c.args.linked.now) c.args.codes.now c.requires.program c.requires.words
+
+pub returns-in_ok-bytes-in-Ok : goal.returns-in_ok-bytes-in-Ok
+returns-in_ok-bytes-in-Ok c =
+    is_file c.args.linked.now.texts.now (program c.args.linked.now) c.args.codes.now c.in-Ok.image c.in_ok-bytes-in-Ok.bytes.items c.requires.program c.requires.words
+    c.in-Ok.ensures (subst IsImage c.image.view_is c.image.invariant) c.in_ok-bytes-in-Ok.ensures.loads c.in_ok-bytes-in-Ok.ensures.stands
