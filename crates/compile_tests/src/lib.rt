@@ -1,0 +1,7 @@
+//! Texts compiled, and run by the machine.
+//!
+//! The crate holds tests alone.
+#![tactic(auto)]
+
+#[cfg(test)]
+mod tests;
