@@ -1,0 +1,98 @@
+//! The grammar of the command line.
+use clap::{Arg, Command, value_parser};
+use std::alloc::{AllocError, Global};
+
+/// The names of the arguments.
+pub(crate) const OUT: &str = "OUT";
+
+pub(crate) const FILES: &str = "FILES";
+
+pub(crate) const LIMIT: &str = "limit";
+
+pub(crate) const EXECUTABLE: &str = "EXE";
+
+pub(crate) const TEXT: &str = "FILE";
+
+pub(crate) const WORDS: &str = "WORDS";
+
+/// What the program takes.
+pub(crate) fn grammar<'a>(alloc: Global) -> Result<Command<'a>, AllocError> {
+    let build = build(alloc)?;
+    let run = run(alloc)?;
+    let interp = interp(alloc)?;
+    let dis = dis(alloc)?;
+    Command::new(alloc, "qbec")
+        .about(
+            "Compiles programs in the QBE intermediate language (its integer part) to static RV64IM executables",
+        )
+        .no_binary_name(true)
+        .subcommand_required(true)
+        .disable_help_subcommand(true)
+        .bin_name("qbec")?
+        .subcommand(build)?
+        .subcommand(run)?
+        .subcommand(interp)?
+        .subcommand(dis)
+}
+
+fn build<'a>(alloc: Global) -> Result<Command<'a>, AllocError> {
+    let out = Arg::new(alloc, OUT)
+        .short('o')
+        .required(true)
+        .help("The executable file to write");
+    let files = Arg::new(alloc, FILES)
+        .value_name("FILE")
+        .required(true)
+        .num_args(1..)
+        .help("The texts of the program, in order");
+    Command::new(alloc, "build")
+        .about("Compiles texts to an executable file")
+        .arg(out)?
+        .arg(files)
+}
+
+fn run<'a>(alloc: Global) -> Result<Command<'a>, AllocError> {
+    let file = Arg::new(alloc, EXECUTABLE)
+        .required(true)
+        .help("The executable file");
+    Command::new(alloc, "run")
+        .about("Runs an executable file")
+        .arg(limit(alloc, "How many instructions to run at most"))?
+        .arg(file)?
+        .arg(words(alloc))
+}
+
+fn interp<'a>(alloc: Global) -> Result<Command<'a>, AllocError> {
+    let file = Arg::new(alloc, TEXT)
+        .required(true)
+        .help("The text of the program");
+    Command::new(alloc, "interp")
+        .about("Interprets one text")
+        .arg(limit(alloc, "How many turns to take at most"))?
+        .arg(file)?
+        .arg(words(alloc))
+}
+
+fn dis<'a>(alloc: Global) -> Result<Command<'a>, AllocError> {
+    let file = Arg::new(alloc, EXECUTABLE)
+        .required(true)
+        .help("The executable file");
+    Command::new(alloc, "dis")
+        .about("Shows the instructions of an executable file")
+        .arg(file)
+}
+
+fn limit<'a>(alloc: Global, help: &'a str) -> Arg<'a> {
+    Arg::new(alloc, LIMIT)
+        .long("limit")
+        .value_name("N")
+        .value_parser(value_parser!(u64).range(0..=1_000_000_000_000))
+        .default_value("1000000000")
+        .help(help)
+}
+
+fn words<'a>(alloc: Global) -> Arg<'a> {
+    Arg::new(alloc, WORDS).value_name("WORD").num_args(0..).help(
+        "The argument words of the program; those that begin with '-' stand after '--'",
+    )
+}
