@@ -1,0 +1,20 @@
+//! # The edges of qbec
+//!
+//! Where bytes come from and go to, and what a disassembly shows.
+//!
+//! - [`sink::Sink`] is what takes bytes: a file, a standard stream, or memory. Its laws say how many bytes a call took, which ones, and how often a call failed.
+//! - [`write_exe::write_exe`] writes all bytes to any sink, whatever the sink does; a fault tells how many went out, and comes only where the sink failed.
+//! - [`message::Message`] writes text to a sink without taking memory.
+//! - [`disk::Disk`] reads and writes files, and promises nothing.
+//! - [`dis_lines::dis_lines`] gives exactly the lines of a disassembly, as `specs/Lines.antt` says them.
+//!
+//! The crate stands on `elf_file` for loaded files, on `rv_isa` for instructions and their texts, and on `thiserror`.
+#![tactic(auto)]
+
+pub mod dis_lines;
+pub mod disk;
+pub mod message;
+pub mod sink;
+#[cfg(test)]
+mod tests;
+pub mod write_exe;

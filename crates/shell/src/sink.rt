@@ -1,0 +1,27 @@
+//! Where bytes go out.
+
+/// A call of [`Sink::put`] failed: it took no byte.
+#[derive(Clone, Copy, Debug, PartialEq, Eq, thiserror::Error)]
+#[error("a write failed")]
+pub struct SinkFault;
+
+/// Something that takes bytes: a file, a standard stream, or memory.
+pub trait Sink {
+    ghost use Rattle.std.specs.Prelude.{◌≡◌, ℕ, List, Option};
+    ghost use Rattle.shell.specs.Sink.{Puts, counted};
+
+    /// The bytes that it holds, where it tells them: memory does, a file doesn't.
+    ghost held: { Self → Option (List ℕ) };
+
+    /// How many of its calls failed, or took none of some bytes, so far; at most 2^64 - 1.
+    ghost faults: { Self → ℕ };
+
+    /// Takes some of the bytes, always the first ones, and answers how many.
+    ///
+    /// # Errors
+    ///
+    /// A fault says that none was taken.
+    fn put(&mut self, bytes: &[u8]) -> Result<usize, SinkFault>
+        ensures puts { Puts (held self.old) (held self.new) bytes.now result }
+        ensures counts { faults self.new ≡ counted (faults self.old) bytes.now result };
+}

@@ -1,0 +1,148 @@
+//! Sinks that take little, and the lines of small files.
+use crate::dis_lines::dis_lines;
+use crate::message::Message;
+use crate::sink::{Sink, SinkFault};
+use crate::write_exe::{WriteFault, write_exe};
+use elf_file::read_image;
+use std::alloc::{AllocError, Global};
+use std::fmt::Write;
+use std::test::Fail;
+
+/// Memory that takes at most `most` bytes a call, and fails at call `fails_at`, counted from 1.
+#[derive(Drop)]
+struct Slow {
+    bytes: Vec<u8>,
+    most: usize,
+    fails_at: u64,
+    calls: u64,
+    faults: u64,
+}
+
+impl Slow {
+    fn new(alloc: Global, most: usize, fails_at: u64) -> Slow {
+        Slow {
+            bytes: Vec::new(alloc),
+            most,
+            fails_at,
+            calls: 0,
+            faults: 0,
+        }
+    }
+}
+
+impl Sink for Slow {
+    ghost use Rattle.std.specs.Prelude.{Some};
+
+    ghost held = { λ s. Some s.bytes.items };
+
+    ghost faults = { λ s. s.faults };
+
+    fn put(&mut self, bytes: &[u8]) -> Result<usize, SinkFault> {
+        self.calls = self.calls.saturating_add(1);
+        if self.calls == self.fails_at {
+            self.faults = self.faults.saturating_add(1);
+            return Err(SinkFault);
+        }
+        let count = bytes.len().min(self.most);
+        match self.bytes.extend_from_slice(&bytes[..count]) {
+            Ok(()) => {
+                if count == 0 && bytes.len() > 0 {
+                    self.faults = self.faults.saturating_add(1);
+                }
+                Ok(count)
+            }
+            Err(_) => {
+                self.faults = self.faults.saturating_add(1);
+                Err(SinkFault)
+            }
+        }
+    }
+}
+
+#[test]
+fn all_goes_out_or_a_beginning(rt: HostRuntime) -> Result<(), Fail> {
+    let table: [(usize, u64, Result<(), WriteFault>, &[u8], u64); 6] = [
+        (100, 0, Ok(()), b"seven77", 0),
+        (1, 0, Ok(()), b"seven77", 0),
+        (3, 0, Ok(()), b"seven77", 0),
+        (3, 3, Err(WriteFault { written: 6 }), b"seven7", 1),
+        (1, 1, Err(WriteFault { written: 0 }), b"", 1),
+        (0, 0, Err(WriteFault { written: 0 }), b"", 1),
+    ];
+    for (most, fails_at, answer, bytes, faults) in table {
+        let mut sink = Slow::new(rt.alloc(), most, fails_at);
+        assert_eq!(rt; write_exe(b"seven77", &mut sink), answer);
+        assert_eq!(rt; sink.bytes.as_slice(), bytes);
+        assert_eq!(rt; sink.faults, faults);
+    }
+    let mut sink = Slow::new(rt.alloc(), 0, 1);
+    assert_eq!(rt; write_exe(b"", &mut sink), Ok(()));
+    assert_eq!(rt; sink.calls, 0);
+    Ok(())
+}
+
+#[test]
+fn messages_go_out(rt: HostRuntime) -> Result<(), Fail> {
+    let mut sink = Slow::new(rt.alloc(), 2, 0);
+    let number = 255;
+    let written = write!(Message::new(&mut sink), "number {number:04x}\n");
+    assert!(rt; written.is_ok());
+    assert_eq!(rt; sink.bytes.as_slice(), b"number 00ff\n".as_slice());
+    let mut sink = Slow::new(rt.alloc(), 2, 2);
+    let written = write!(Message::new(&mut sink), "number {number:04x}\n");
+    assert!(rt; written.is_err());
+    assert_eq!(rt; sink.bytes.as_slice(), b"nu".as_slice());
+    Ok(())
+}
+
+/// A file of one segment of these bytes, with these flags, with its entry at the segment's start.
+fn file_of(alloc: Global, flags: u8, bytes: &[u8], size: u8) -> Result<Vec<u8>, AllocError> {
+    let mut file = Vec::new(alloc);
+    file.extend_from_slice(b"\x7fELF\x02\x01\x01\0\0\0\0\0\0\0\0\0")?;
+    file.extend_from_slice(b"\x02\0\xf3\0\x01\0\0\0\0\0\x01\0\0\0\0\0")?;
+    file.extend_from_slice(b"\x40\0\0\0\0\0\0\0\0\0\0\0\0\0\0\0")?;
+    file.extend_from_slice(b"\0\0\0\0\x40\0\x38\0\x01\0\0\0\0\0\0\0")?;
+    let length = (bytes.len() % 0x100) as u8;
+    file.extend_from_slice(&[1, 0, 0, 0, flags, 0, 0, 0])?;
+    file.extend_from_slice(b"\0\x10\0\0\0\0\0\0")?;
+    file.extend_from_slice(b"\0\0\x01\0\0\0\0\0\0\0\x01\0\0\0\0\0")?;
+    file.extend_from_slice(&[length, 0, 0, 0, 0, 0, 0, 0])?;
+    file.extend_from_slice(&[size, 0, 0, 0, 0, 0, 0, 0])?;
+    file.extend_from_slice(b"\0\x10\0\0\0\0\0\0")?;
+    file.resize(4096, 0)?;
+    file.extend_from_slice(bytes)?;
+    Ok(file)
+}
+
+/// The lines of such a file, one after another.
+fn shown(alloc: Global, flags: u8, bytes: &[u8], size: u8) -> Result<String, AllocError> {
+    let file = file_of(alloc, flags, bytes, size)?;
+    let mut all = String::new(alloc);
+    match read_image(alloc, file.as_slice()) {
+        Ok(loaded) => {
+            for line in &dis_lines(alloc, &loaded)? {
+                all.push_str(line.as_str())?;
+            }
+        }
+        Err(error) => write!(all, "{error}")?,
+    }
+    Ok(all)
+}
+
+#[test]
+fn lines_of_code(rt: HostRuntime) -> Result<(), Fail> {
+    let code = b"\x13\x05\0\0\xef\xf0\xdf\xff\x1b\x15\x05\x02\x13\x01";
+    let expected = "00010000  00000513  addi x10, x0, 0
+00010004  ffdff0ef  jal x1, -4
+00010008  0205151b  ?
+";
+    assert_eq!(rt; shown(rt.alloc(), 1, code, 14)?.as_str(), expected);
+    assert_eq!(rt; shown(rt.alloc(), 5, code, 100)?.as_str(), expected);
+    assert_eq!(rt;
+        shown(rt.alloc(), 1, b"\0\0\0\0", 4)?.as_str(),
+        "00010000  00000000  ?\n"
+    );
+    assert_eq!(rt; shown(rt.alloc(), 1, b"\x13", 4)?.as_str(), "");
+    assert_eq!(rt; shown(rt.alloc(), 1, b"\x13", 3)?.as_str(), "L5");
+    Ok(())
+}
