@@ -211,6 +211,10 @@ stable_same g registers old new same p stable r h = same p r ∙ stable r (sym (
 pub at_length : (g : Graph) (m n : ℕ) (old new : List Bits) → m ≡ n → Went g m old new → Went g n old new
 at_length g m n old new e h = subst (λ (k : ℕ). Went g k old new) e h
 
+-- growth behind growth, by sets of the same length
+pub went_then : (g : Graph) (n m : ℕ) (old mid new : List Bits) → Went g n old mid → m ≡ n → Went g m mid new → Went g n old new
+went_then g n m old mid new a e b = went_on g n old mid new a (at_length g m n mid new e b)
+
 pub stable_on : (g : Graph) (registers : ℕ) (mid new : List Bits) (a b : Bool) (done : ℕ)
     → (a ≡ false → (p : ℕ) → p < done → Stable g registers mid p)
     → Changed registers mid new b

@@ -7,9 +7,9 @@
 //! write and which may come next, `specs/Paths.antt` what live means. [`points::graph`] makes them of a function.
 //!
 //! [`live::live`] answers a [`sets::Live`], whose `holds` says whether a register is live right before a point, both ways exactly; [`live::live_in`] does so
-//! of any graph. It has a set for each point, a bit for each register. The sets grow from empty ones in sweeps over the points, until a sweep changes none;
-//! between these it goes along a postorder of the graph and back, so that the order of the blocks matters little. That such sets are exact is a law of its own
-//! ([`laws`]). Only what makes sets and lists wants memory; `holds` takes none.
+//! of any graph. It has a set for each point, a bit for each register. The sets grow from empty ones, in two sweeps along a postorder of the graph and then from a
+//! worklist of the points behind which a set grew, so that the order of the blocks in the text does not matter. A last sweep over all points changes none: that
+//! shows that the sets are closed, and that such sets are exact is a law of its own ([`laws`]). Only what makes sets and lists wants memory; `holds` takes none.
 //!
 //! The crate stands on `vcode` for the code and on `bitset` for sets.
 #![tactic(auto)]
@@ -21,7 +21,9 @@ pub mod live;
 mod order;
 pub mod points;
 pub mod sets;
+mod spread;
 mod sweep;
 #[cfg(test)]
 mod tests;
 pub mod uses;
+mod worklist;

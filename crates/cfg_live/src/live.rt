@@ -4,10 +4,11 @@ ghost use Rattle.cfg_live.specs.Points.{graph_of};
 ghost use Rattle.cfg_live.specs.Rows.{AreBlank, AreLive};
 
 use crate::graph::Graph;
-use crate::order::postorder;
+use crate::order::{befores, successors_first};
 use crate::points::graph;
 use crate::sets::Live;
-use crate::sweep::settle;
+use crate::spread::spread;
+use crate::worklist::Worklist;
 use bitset::BitSet;
 use std::alloc::{AllocError, Global};
 use vcode::function::VFunc;
@@ -45,13 +46,13 @@ fn blank_rows(alloc: Global, points: usize, registers: usize) -> Result<Vec<BitS
 pub fn live_in(alloc: Global, graph: &Graph, registers: u32) -> Result<Live, AllocError>
     ensures { IfOk result (λ l. AreLive graph.now registers l) }
 {
-    let order = postorder(alloc, graph)?;
-    let mut back = order.clone()?;
-    back.reverse();
+    let befores = befores(alloc, graph)?;
+    let order = successors_first(alloc, graph, &befores)?;
+    let mut list = Worklist::new(alloc, befores)?;
     let points = graph.uses.len().max(graph.nexts.len());
     let mut set = BitSet::new(alloc, registers as usize)?;
     let mut rows = blank_rows(alloc, points, registers as usize)?;
-    settle(rows.as_mut_slice(), &mut set, graph, &order, &back);
+    spread(rows.as_mut_slice(), &mut set, graph, &mut list, &order)?;
     Ok(Live { rows })
 }
 

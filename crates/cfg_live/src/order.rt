@@ -1,6 +1,7 @@
 //! An order of the points in which most of the growth of live sets comes at once.
 use crate::graph::Graph;
 use bitset::BitSet;
+use il_ast::list::Seq;
 use std::alloc::{AllocError, Global};
 
 // A place on a walk through the graph.
@@ -25,21 +26,21 @@ fn push_enters(ahead: &mut Vec<Place>, points: &[usize]) -> Result<(), AllocErro
     Ok(())
 }
 
-fn enter(walk: &mut Walk, graph: &Graph, point: usize) -> Result<(), AllocError> {
+fn enter(walk: &mut Walk, edges: &[Seq<usize>], point: usize) -> Result<(), AllocError> {
     if point >= walk.seen.len() || walk.seen.contains(point) {
         return Ok(());
     }
     walk.seen.insert(point);
     walk.ahead.push(Place::Leave(point))?;
-    match graph.nexts.as_slice().get(point) {
+    match edges.get(point) {
         Some(next) => push_enters(&mut walk.ahead, next.as_slice()),
         None => Ok(()),
     }
 }
 
-fn pass(walk: &mut Walk, graph: &Graph, place: Place) -> Result<(), AllocError> {
+fn pass(walk: &mut Walk, edges: &[Seq<usize>], place: Place) -> Result<(), AllocError> {
     match place {
-        Place::Enter(point) => enter(walk, graph, point),
+        Place::Enter(point) => enter(walk, edges, point),
         Place::Leave(point) => {
             walk.left.push(point)?;
             Ok(())
@@ -47,30 +48,80 @@ fn pass(walk: &mut Walk, graph: &Graph, place: Place) -> Result<(), AllocError> 
     }
 }
 
-fn walk_from(walk: &mut Walk, graph: &Graph, point: usize) -> Result<(), AllocError> {
+fn walk_from(walk: &mut Walk, edges: &[Seq<usize>], point: usize) -> Result<(), AllocError> {
     walk.ahead.push(Place::Enter(point))?;
     for _ in 0..u64::MAX {
         match walk.ahead.pop() {
-            Some(place) => pass(walk, graph, place)?,
+            Some(place) => pass(walk, edges, place)?,
             None => return Ok(()),
         }
     }
     Ok(())
 }
 
-/// The points in an order in which each comes after those that may come next, but for loops: a depth-first postorder, from each point in turn.
+// The points in the order in which a walk along these edges leaves them, depth first, from each root in turn.
+fn postorder(
+    alloc: Global,
+    edges: &[Seq<usize>],
+    roots: &[usize],
+) -> Result<Vec<usize>, AllocError> {
+    let mut walk = Walk {
+        ahead: Vec::new(alloc),
+        seen: BitSet::new(alloc, edges.len())?,
+        left: Vec::new(alloc),
+    };
+    for root in roots {
+        walk_from(&mut walk, edges, *root)?;
+    }
+    Ok(walk.left)
+}
+
+fn no_edges(alloc: Global, points: usize) -> Result<Vec<Seq<usize>>, AllocError> {
+    let mut edges = Vec::new(alloc);
+    for _ in 0..points {
+        edges.push(Seq::new(alloc))?;
+    }
+    Ok(edges)
+}
+
+fn push_edges(edges: &mut [Seq<usize>], next: &[usize], point: usize) -> Result<(), AllocError> {
+    for behind in next {
+        match edges.get_mut(*behind) {
+            Some(before) => before.push(point)?,
+            None => {}
+        }
+    }
+    Ok(())
+}
+
+/// For each point, the points behind which it may come.
 ///
 /// # Errors
 ///
 /// Only where memory was refused.
-pub(crate) fn postorder(alloc: Global, graph: &Graph) -> Result<Vec<usize>, AllocError> {
-    let mut walk = Walk {
-        ahead: Vec::new(alloc),
-        seen: BitSet::new(alloc, graph.nexts.len())?,
-        left: Vec::new(alloc),
-    };
-    for point in 0..graph.nexts.len() {
-        walk_from(&mut walk, graph, point)?;
+pub(crate) fn befores(alloc: Global, graph: &Graph) -> Result<Vec<Seq<usize>>, AllocError> {
+    let mut edges = no_edges(alloc, graph.nexts.len())?;
+    for (point, next) in graph.nexts.as_slice().iter().enumerate() {
+        push_edges(edges.as_mut_slice(), next.as_slice(), point)?;
     }
-    Ok(walk.left)
+    Ok(edges)
+}
+
+/// The points in an order in which each comes after those that may come next, but for loops: a depth-first postorder. The walk begins where walks against the
+/// edges come to their ends, so that a loop is entered at its head whatever the order of the text.
+///
+/// # Errors
+///
+/// Only where memory was refused.
+pub(crate) fn successors_first(
+    alloc: Global,
+    graph: &Graph,
+    befores: &[Seq<usize>],
+) -> Result<Vec<usize>, AllocError> {
+    let mut points = Vec::new(alloc);
+    for point in 0..graph.nexts.len() {
+        points.push(point)?;
+    }
+    let roots = postorder(alloc, befores, &points)?;
+    postorder(alloc, graph.nexts.as_slice(), &roots)
 }

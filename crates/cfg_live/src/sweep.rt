@@ -19,8 +19,8 @@ fn grow(rows: &mut [BitSet], set: &BitSet, point: usize) -> bool
     rows[point].union_into(set)
 }
 
-// Lets the set of a point grow by what flows into it, and says whether it did.
-fn visit(rows: &mut [BitSet], set: &mut BitSet, graph: &Graph, point: usize) -> bool
+/// Lets the set of a point grow by what flows into it, and says whether it did.
+pub(crate) fn visit(rows: &mut [BitSet], set: &mut BitSet, graph: &Graph, point: usize) -> bool
     requires sized { AreSized set.old.length rows.old }
     requires inside { point < length rows.old }
     ensures length { set.new.length ≡ set.old.length }
@@ -44,7 +44,7 @@ fn visit_if_there(rows: &mut [BitSet], set: &mut BitSet, graph: &Graph, point: u
     }
 }
 
-// Visits the points in this order.
+/// Visits the points in this order.
 pub(crate) fn sweep_along(rows: &mut [BitSet], set: &mut BitSet, graph: &Graph, order: &[usize])
     requires { AreSized set.old.length rows.old }
     ensures length { set.new.length ≡ set.old.length }
@@ -70,21 +70,12 @@ fn sweep(rows: &mut [BitSet], set: &mut BitSet, graph: &Graph) -> bool
     changed
 }
 
-/// Lets the sets grow until each point is stable. Between sweeps over all points it goes along `order` and back, in which most of the growth is meant to come.
-pub(crate) fn settle(
-    rows: &mut [BitSet],
-    set: &mut BitSet,
-    graph: &Graph,
-    order: &[usize],
-    back: &[usize],
-)
+/// Lets the sets grow by sweeps over all points, until each is stable.
+pub(crate) fn settle(rows: &mut [BitSet], set: &mut BitSet, graph: &Graph)
     requires { AreSized set.old.length rows.old }
     ensures length { set.new.length ≡ set.old.length }
     ensures went { Went graph.now set.old.length rows.old rows.new }
     ensures stable { (p : ℕ) → p < length rows.new → Stable graph.now set.old.length rows.new p }
 {
-    while sweep(rows, set, graph) {
-        sweep_along(rows, set, graph, order);
-        sweep_along(rows, set, graph, back);
-    }
+    while sweep(rows, set, graph) {}
 }

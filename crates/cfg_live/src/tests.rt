@@ -118,3 +118,28 @@ fn unreachable_points_and_self_loops(rt: HostRuntime) -> Result<(), Fail> {
     );
     Ok(())
 }
+
+#[test]
+fn ladder_carries_ahead_and_back(rt: HostRuntime) -> Result<(), Fail> {
+    let mut graph = no_points(rt.alloc());
+    push(rt.alloc(), &mut graph, &[], None, &[1])?;
+    push(rt.alloc(), &mut graph, &[], None, &[2])?;
+    push(rt.alloc(), &mut graph, &[], Some(1), &[3])?;
+    push(rt.alloc(), &mut graph, &[0, 1], None, &[4, 0])?;
+    push(rt.alloc(), &mut graph, &[], None, &[5])?;
+    push(rt.alloc(), &mut graph, &[2], Some(0), &[6, 2])?;
+    push(rt.alloc(), &mut graph, &[], None, &[7])?;
+    push(rt.alloc(), &mut graph, &[], None, &[4])?;
+    let live = live_in(rt.alloc(), &graph, 3)?;
+    assert_eq!(rt;
+        points_of(rt.alloc(), &live, 0)?.as_slice(),
+        [0, 1, 2, 3].as_slice()
+    );
+    assert_eq!(rt; points_of(rt.alloc(), &live, 1)?.as_slice(), [3].as_slice());
+    assert_eq!(rt;
+        points_of(rt.alloc(), &live, 2)?.as_slice(),
+        [0, 1, 2, 3, 4].as_slice()
+    );
+    assert!(rt; live.holds(7, 2) && !live.holds(7, 0) && !live.holds(8, 2));
+    Ok(())
+}

@@ -1,0 +1,81 @@
+//! The points whose sets may have to grow.
+use bitset::BitSet;
+use il_ast::list::Seq;
+use std::alloc::{AllocError, Global};
+
+/// The points that wait to be visited: those of the latest sweep that it has not come to yet, and on a stack those behind which a set grew.
+#[derive(Drop)]
+pub(crate) struct Worklist {
+    befores: Vec<Seq<usize>>,
+    waiting: BitSet,
+    stack: Vec<usize>,
+}
+
+fn all_points(alloc: Global, points: usize) -> Result<BitSet, AllocError> {
+    let mut all = BitSet::new(alloc, points)?;
+    for point in 0..points {
+        if point < all.len() {
+            all.insert(point);
+        }
+    }
+    Ok(all)
+}
+
+fn add(waiting: &mut BitSet, stack: &mut Vec<usize>, point: usize) -> Result<(), AllocError> {
+    if point < waiting.len() && !waiting.contains(point) {
+        waiting.insert(point);
+        stack.push(point)?;
+    }
+    Ok(())
+}
+
+fn add_all(
+    waiting: &mut BitSet,
+    stack: &mut Vec<usize>,
+    points: &[usize],
+) -> Result<(), AllocError> {
+    for point in points {
+        add(waiting, stack, *point)?;
+    }
+    Ok(())
+}
+
+impl Worklist {
+    /// Every point waits for a sweep. `befores` has for each point those behind which it may come.
+    ///
+    /// # Errors
+    ///
+    /// Only where memory was refused.
+    pub(crate) fn new(alloc: Global, befores: Vec<Seq<usize>>) -> Result<Self, AllocError> {
+        let waiting = all_points(alloc, befores.len())?;
+        Ok(Worklist {
+            befores,
+            waiting,
+            stack: Vec::new(alloc),
+        })
+    }
+
+    /// The point waits no longer.
+    pub(crate) fn strike(&mut self, point: usize) {
+        if point < self.waiting.len() {
+            self.waiting.remove(point);
+        }
+    }
+
+    /// The points behind which this one may come wait on the stack, unless they wait already.
+    ///
+    /// # Errors
+    ///
+    /// Only where memory was refused.
+    pub(crate) fn add_before(&mut self, point: usize) -> Result<(), AllocError> {
+        match self.befores.get(point) {
+            Some(before) => add_all(&mut self.waiting, &mut self.stack, before.as_slice()),
+            None => Ok(()),
+        }
+    }
+
+    /// Takes the latest point from the stack.
+    pub(crate) fn take(&mut self) -> Option<usize> {
+        self.stack.pop()
+    }
+}

@@ -1,0 +1,144 @@
+//! Graphs of many blocks of points, whose shapes are hard on a search for live registers.
+use cfg_live::graph::Graph;
+use cfg_live::uses::Uses;
+use il_ast::list::Seq;
+use std::alloc::{AllocError, Global};
+
+/// How many points a block has.
+const POINTS: u32 = 40;
+
+/// How many registers there are.
+pub const REGISTERS: u32 = 4000;
+
+/// Where the blocks stand, and where they lead.
+#[derive(Clone, Copy)]
+pub enum Shape {
+    /// Each leads to the next, and every tenth also nine back. The text has them in reverse. Each point reads a register and writes one.
+    Reversed,
+    /// Each leads to the next, and every other also three back, so that what is live far ahead gets here by steps ahead and back in turn. Each reads a register.
+    Ladder,
+    /// Each pair, a head and an end, is a loop around all later pairs. Each reads a register.
+    Nest,
+}
+
+/// The place of a block in the text.
+fn place(shape: Shape, blocks: u32, block: u32) -> u32 {
+    match shape {
+        Shape::Reversed => blocks.saturating_sub(block).saturating_sub(1),
+        Shape::Ladder | Shape::Nest => block,
+    }
+}
+
+/// The block that a block leads to, and one more.
+fn next_blocks(shape: Shape, blocks: u32, block: u32) -> (u32, Option<u32>) {
+    let last = blocks.saturating_sub(1);
+    let ahead = block.saturating_add(1).min(last);
+    let odd = block % 2 == 1;
+    match shape {
+        Shape::Reversed => (
+            ahead,
+            if block % 10 == 9 {
+                block.checked_sub(9)
+            } else {
+                None
+            },
+        ),
+        Shape::Ladder => (ahead, if odd { block.checked_sub(3) } else { None }),
+        Shape::Nest => {
+            if odd {
+                (block.saturating_sub(1), None)
+            } else {
+                let inner = block.saturating_add(2);
+                let next = if inner < blocks { inner } else { ahead };
+                (next, block.checked_sub(1))
+            }
+        }
+    }
+}
+
+fn push_start(
+    next: &mut Seq<usize>,
+    shape: Shape,
+    blocks: u32,
+    block: u32,
+) -> Result<(), AllocError> {
+    next.push(place(shape, blocks, block).wrapping_mul(POINTS) as usize)
+}
+
+/// The points that come after the last one of a block.
+fn next_of_last(
+    alloc: Global,
+    shape: Shape,
+    blocks: u32,
+    block: u32,
+) -> Result<Seq<usize>, AllocError> {
+    let (ahead, other) = next_blocks(shape, blocks, block);
+    let mut next = Seq::new(alloc);
+    push_start(&mut next, shape, blocks, ahead)?;
+    match other {
+        Some(other) => push_start(&mut next, shape, blocks, other)?,
+        None => {}
+    }
+    Ok(next)
+}
+
+/// What a point of a block reads and writes.
+fn uses(alloc: Global, shape: Shape, block: u32, point: u32) -> Result<Uses, AllocError> {
+    let number = block.wrapping_mul(POINTS).wrapping_add(point);
+    let mut reads = Seq::new(alloc);
+    match shape {
+        Shape::Reversed => {
+            reads.push(number.wrapping_mul(7) % REGISTERS)?;
+            Ok(Uses {
+                reads,
+                writes: Some(number.wrapping_mul(3) % REGISTERS),
+            })
+        }
+        Shape::Ladder | Shape::Nest => {
+            if point == 0 {
+                reads.push(block % REGISTERS)?;
+            }
+            Ok(Uses {
+                reads,
+                writes: None,
+            })
+        }
+    }
+}
+
+fn push_point(
+    alloc: Global,
+    graph: &mut Graph,
+    shape: Shape,
+    blocks: u32,
+    block: u32,
+    point: u32,
+) -> Result<(), AllocError> {
+    graph.uses.push(uses(alloc, shape, block, point)?)?;
+    if point < POINTS - 1 {
+        let mut next = Seq::new(alloc);
+        next.push(graph.nexts.len().saturating_add(1))?;
+        graph.nexts.push(next)
+    } else {
+        graph.nexts.push(next_of_last(alloc, shape, blocks, block)?)
+    }
+}
+
+/// The graph of so many blocks.
+///
+/// # Errors
+///
+/// Only where memory was refused.
+pub fn graph_of(alloc: Global, shape: Shape, blocks: u32) -> Result<Graph, AllocError> {
+    let mut graph = Graph {
+        uses: Seq::new(alloc),
+        nexts: Seq::new(alloc),
+    };
+    for standing in 0..blocks {
+        let block = place(shape, blocks, standing);
+        for point in 0..POINTS {
+            push_point(alloc, &mut graph, shape, blocks, block, point)?;
+        }
+    }
+    Ok(graph)
+}
