@@ -2,3 +2,9 @@ pub mod InSlots
 pub mod Regular
 pub mod Agreeing
 pub mod Sound
+pub mod Holding
+pub mod Counted
+pub mod Entering
+pub mod Walks
+pub mod Certifies
+pub mod Accepts

@@ -23,11 +23,11 @@ use Rattle.alloc_check.specs.Placed.{Layout, placed_operand, placed_argument, pl
 
 -- ---- lists
 
-map_length : {A B : Type 0} (g : A → B) (xs : List A) → length (map g xs) ≡ length xs
+pub map_length : {A B : Type 0} (g : A → B) (xs : List A) → length (map g xs) ≡ length xs
 map_length g [] = refl
 map_length g (x ∷ xs) = ap suc (map_length g xs)
 
-all_map : {A B : Type 0} (test : A → Bool) (test2 : B → Bool) (g : A → B) → ((x : A) → test2 (g x) ≡ test x) → (xs : List A) → list_all test2 (map g xs) ≡ list_all test xs
+pub all_map : {A B : Type 0} (test : A → Bool) (test2 : B → Bool) (g : A → B) → ((x : A) → test2 (g x) ≡ test x) → (xs : List A) → list_all test2 (map g xs) ≡ list_all test xs
 all_map test test2 g same [] = refl
 all_map test test2 g same (x ∷ xs) = ap (λ b. b && list_all test2 (map g xs)) (same x) ∙ ap (λ b. test x && b) (all_map test test2 g same xs)
 
@@ -35,7 +35,7 @@ any_map : {A B : Type 0} (test : A → Bool) (test2 : B → Bool) (g : A → B) 
 any_map test test2 g same [] = refl
 any_map test test2 g same (x ∷ xs) = ap (λ b. b || list_any test2 (map g xs)) (same x) ∙ ap (λ b. test x || b) (any_map test test2 g same xs)
 
-sum_from : {A B : Type 0} (f : A → ℕ) (f2 : B → ℕ) (g : A → B) → ((x : A) → f2 (g x) ≡ f x) → (a : ℕ) (xs : List A) → fold (λ n x. n + f2 x) a (map g xs) ≡ fold (λ n x. n + f x) a xs
+pub sum_from : {A B : Type 0} (f : A → ℕ) (f2 : B → ℕ) (g : A → B) → ((x : A) → f2 (g x) ≡ f x) → (a : ℕ) (xs : List A) → fold (λ n x. n + f2 x) a (map g xs) ≡ fold (λ n x. n + f x) a xs
 sum_from f f2 g same a [] = refl
 sum_from f f2 g same a (x ∷ xs) = ap (λ k. fold (λ n y. n + f2 y) (a + k) (map g xs)) (same x) ∙ sum_from f f2 g same (a + f x) xs
 
@@ -88,13 +88,13 @@ same_affords f j credit (Call to callee args ∷ lines) = dear f j credit (Call 
 
 -- ---- the other facts, line by line and block by block
 
-leads_same : (f : Layout) (n : ℕ) (j : Jump ℕ) → leads_inside n (placed_jump f j) ≡ leads_inside n j
+pub leads_same : (f : Layout) (n : ℕ) (j : Jump ℕ) → leads_inside n (placed_jump f j) ≡ leads_inside n j
 leads_same f n (Goto k) = refl
 leads_same f n (Branch on nonzero otherwise) = refl
 leads_same f n (Return a) = refl
 leads_same f n Halt = refl
 
-alloc_same : (f : Layout) (l : Line ℕ) → is_alloc (placed_line f l) ≡ is_alloc l
+pub alloc_same : (f : Layout) (l : Line ℕ) → is_alloc (placed_line f l) ≡ is_alloc l
 alloc_same f (Tick turn w) = refl
 alloc_same f (Set to a) = refl
 alloc_same f (Operate to op a b) = refl
@@ -104,7 +104,7 @@ alloc_same f (Alloc to size) = refl
 alloc_same f (Blit from to count) = refl
 alloc_same f (Call to callee args) = refl
 
-bytes_same : (f : Layout) (l : Line ℕ) → alloc_bytes (placed_line f l) ≡ alloc_bytes l
+pub bytes_same : (f : Layout) (l : Line ℕ) → alloc_bytes (placed_line f l) ≡ alloc_bytes l
 bytes_same f (Tick turn w) = refl
 bytes_same f (Set to a) = refl
 bytes_same f (Operate to op a b) = refl
@@ -114,7 +114,7 @@ bytes_same f (Alloc to size) = refl
 bytes_same f (Blit from to count) = refl
 bytes_same f (Call to callee args) = refl
 
-turns_same : (f : Layout) (l : Line ℕ) → turns_of (placed_line f l) ≡ turns_of l
+pub turns_same : (f : Layout) (l : Line ℕ) → turns_of (placed_line f l) ≡ turns_of l
 turns_same f (Tick true w) = refl
 turns_same f (Tick false w) = refl
 turns_same f (Set to a) = refl
@@ -125,7 +125,7 @@ turns_same f (Alloc to size) = refl
 turns_same f (Blit from to count) = refl
 turns_same f (Call to callee args) = refl
 
-few_same : (f : Layout) (l : Line ℕ) → passes_few (placed_line f l) ≡ passes_few l
+pub few_same : (f : Layout) (l : Line ℕ) → passes_few (placed_line f l) ≡ passes_few l
 few_same f (Tick turn w) = refl
 few_same f (Set to a) = refl
 few_same f (Operate to op a b) = refl

@@ -1,5 +1,5 @@
 -- What a certificate makes of virtual code, and what makes it right.
-use Rattle.std.specs.Prelude.{ℕ, ◌+◌, Bool, true, false, not, ◌&&◌, ◌||◌, nat_eq, List, [], ◌∷◌, ◌++◌, map, slice_get, Option, Some, None}
+use Rattle.std.specs.Prelude.{ℕ, ◌+◌, Bool, true, false, not, ◌&&◌, ◌||◌, nat_eq, if◌then◌else◌, List, [], ◌∷◌, ◌++◌, map, slice_get, Option, Some, None}
 use Rattle.std.specs.List.{list_all, list_any}
 use Rattle.std.specs.Option.{option_map_or}
 use Rattle.vcode.specs.declared.place.Location.{Location}
@@ -29,14 +29,13 @@ starts_at c k = option_map_or (λ (es : List Equality). es) (slice_get c.starts 
 -- the place of the register by the first equality that names it
 abbrev pub place_by : List Equality → Layout
 place_by [] r = Slot 0
-place_by (e ∷ es) r = option_map_or (λ (q : Location). q) (here (nat_eq e.register r) e.place) (place_by es r)
-  where
-    here : Bool → Location → Option Location
-    here true q = Some q
-    here false q = None
+place_by (e ∷ es) r = if nat_eq e.register r then e.place else place_by es r
+
+abbrev pub places_at : Certificate → ℕ → List Equality
+places_at c p = option_map_or (λ (es : List Equality). es) (slice_get c.places p) []
 
 abbrev pub layout_at : Certificate → ℕ → Layout
-layout_at c p = option_map_or place_by (slice_get c.places p) (place_by [])
+layout_at c p = place_by (places_at c p)
 
 -- ---- the code
 
@@ -49,11 +48,15 @@ certified_lines c p [] = transfers (moves_at c p)
 certified_lines c p (Tick turn w ∷ lines) = Tick turn w ∷ certified_lines c p lines
 certified_lines c p (l ∷ lines) = transfers (moves_at c p) ++ placed_line (layout_at c p) l ∷ certified_lines c (p + 1) lines
 
+-- a tick is no point
+abbrev pub next_point : ℕ → Line ℕ → ℕ
+next_point p (Tick turn w) = p
+next_point p l = p + 1
+
 -- the point of the jump behind these lines
 abbrev pub jump_point : ℕ → List (Line ℕ) → ℕ
 jump_point p [] = p
-jump_point p (Tick turn w ∷ lines) = jump_point p lines
-jump_point p (l ∷ lines) = jump_point (p + 1) lines
+jump_point p (l ∷ lines) = jump_point (next_point p l) lines
 
 abbrev pub certified_block : Certificate → ℕ → Block ℕ → Block Location
 certified_block c p b =

@@ -13,8 +13,15 @@
 //! Only what makes code wants memory. The crate stands on `vcode` for both codes, on `regalloc` for certificates, and on `il_ast` for what keeping means.
 #![tactic(auto)]
 
+pub mod accept;
+mod certified;
+mod check;
 pub mod laws;
 pub mod placing;
+mod fits;
+mod points;
+mod says;
 pub mod spill_all;
+mod table;
 #[cfg(test)]
 mod tests;

@@ -1,0 +1,63 @@
+-- The checker's tests, taken together, are what makes a certificate accepted.
+use Rattle.std.proofs.Common.{◌≡◌, ℕ, Bool, true, false, ◌&&◌, nat_le, length, refl, sym, ◌∙◌, ap, subst}
+use Rattle.std.specs.Prelude.{IsTrue}
+use Rattle.std.specs.List.{list_all}
+use Rattle.vcode.specs.declared.place.Location.{Location}
+use Rattle.vcode.specs.declared.code.Code.{Code}
+use Rattle.vcode.specs.declared.function.VFunc.{VFunc}
+use Rattle.vcode.specs.Cost.{is_paid}
+use Rattle.vcode.specs.Named.{keeps_places, is_below, is_place, are_near, are_distinct}
+use Rattle.vcode.specs.Places.{located}
+use Rattle.regalloc.specs.declared.certificate.Certificate.{Certificate}
+use Rattle.alloc_check.specs.Certified.{placed_by, is_sound}
+use Rattle.alloc_check.specs.Accepted.{end_point, starts_exist, is_placed, is_accepted}
+use Rattle.alloc_check.specs.Walk.{sound_in}
+use Rattle.alloc_check.proofs.Agreeing.{both_true}
+use Rattle.alloc_check.proofs.Certifies.{from_true}
+use Rattle.alloc_check.proofs.Walks.{sound_is}
+
+-- what a placed code is
+pub record Parts (slots : ℕ) (l : Code Location) : Type 0 where
+  pub places : keeps_places (is_place slots) l ≡ true
+  pub near : are_near l.params ≡ true
+  pub apart : are_distinct located l.params ≡ true
+  pub paid : list_all is_paid l.blocks ≡ true
+
+pub parts : (slots : ℕ) (l : Code Location) → is_placed slots l ≡ true → Parts slots l
+parts slots l h =
+    let first = both_true (keeps_places (is_place slots) l) (are_near l.params && (are_distinct located l.params && list_all is_paid l.blocks)) h in
+    let second = both_true (are_near l.params) (are_distinct located l.params && list_all is_paid l.blocks) first.1 in
+    let third = both_true (are_distinct located l.params) (list_all is_paid l.blocks) second.1 in
+    record { places = first.0; near = second.0; apart = third.0; paid = third.1 }
+
+-- the tests before code is made
+abbrev pub right_in : VFunc → Certificate → Bool
+right_in v c = nat_le (end_point 0 v.code.blocks) (length c.places) && (starts_exist v.registers c.starts && sound_in v.registers v.code c)
+
+joined : (a s w r d : Bool) → (s ≡ true → d ≡ true → w ≡ r) → ((a && (s && w)) && d) ≡ (a && (s && (r && d)))
+joined false s w r d e = refl
+joined true false w r d e = refl
+joined true true w r true e = ap (λ b. b && true) (e refl refl)
+joined true true w r false e = never w ∙ sym (never r)
+  where
+    never : (b : Bool) → (b && false) ≡ false
+    never true = refl
+    never false = refl
+
+pub tests_accept : (v : VFunc) (c : Certificate) → (right_in v c && is_placed v.registers (placed_by v.code c)) ≡ is_accepted v c
+tests_accept v c =
+    joined (nat_le (end_point 0 v.code.blocks) (length c.places)) (starts_exist v.registers c.starts) (sound_in v.registers v.code c) (is_sound v.code c)
+    (is_placed v.registers (placed_by v.code c))
+    (λ starts placed. sound_is v.registers v.code c (from_true (keeps_places (is_below v.registers) v.code) v.known) starts (parts v.registers (placed_by v.code c) placed).places)
+
+pub refused : (v : VFunc) (c : Certificate) → right_in v c ≡ false → is_accepted v c ≡ false
+refused v c h = sym (tests_accept v c) ∙ ap (λ b. b && is_placed v.registers (placed_by v.code c)) h
+
+pub accepted : (v : VFunc) (c : Certificate) → right_in v c ≡ true → is_placed v.registers (placed_by v.code c) ≡ true → is_accepted v c ≡ true
+accepted v c h d = sym (tests_accept v c) ∙ ap (λ b. b && is_placed v.registers (placed_by v.code c)) h ∙ d
+
+pub accepted_sound : (v : VFunc) (c : Certificate) → is_accepted v c ≡ true → is_sound v.code c ≡ true
+accepted_sound v c h =
+    let first = both_true (nat_le (end_point 0 v.code.blocks) (length c.places)) (starts_exist v.registers c.starts && (is_sound v.code c && is_placed v.registers (placed_by v.code c))) h in
+    let second = both_true (starts_exist v.registers c.starts) (is_sound v.code c && is_placed v.registers (placed_by v.code c)) first.1 in
+    (both_true (is_sound v.code c) (is_placed v.registers (placed_by v.code c)) second.1).0

@@ -1,0 +1,49 @@
+use Rattle.std.proofs.Common.{◌≡◌, true, false, sym, ◌∙◌, ap, subst}
+use Rattle.std.specs.Prelude.{IsTrue}
+use Rattle.vcode.specs.declared.place.Location.{Location}
+use Rattle.vcode.specs.declared.code.Code.{Code}
+use Rattle.vcode.specs.Named.{keeps_places, is_place, are_near, are_distinct}
+use Rattle.vcode.specs.Places.{located}
+use Rattle.vcode.specs.Regular.{IsRegular}
+use Rattle.alloc_check.specs.Kept.{Keeps}
+use Rattle.alloc_check.specs.Certified.{placed_by}
+use Rattle.alloc_check.specs.Accepted.{is_placed, is_accepted}
+use Rattle.alloc_check.proofs.Accepts.{right_in, parts, refused, accepted, accepted_sound}
+use Rattle.alloc_check.proofs.Certifies.{to_true, certified_regular}
+use Rattle.alloc_check.proofs.Sound.{sound_keeps}
+use Rattle.alloc_check.proofs.accept.accept.Goals as goal
+
+pub returns-then-not-right-clause-no : goal.returns-then-not-right-clause-no
+returns-then-not-right-clause-no c =
+    let v = c.args.function.now in
+    let d = c.args.certificate.now in
+    λ e. refused v d (sym c.in_ok-right.ensures.right ∙ c.if-not-right.true)
+
+pub invariant_of-result : goal.invariant_of-result
+invariant_of-result c =
+    let v = c.args.function.now in
+    let d = c.args.certificate.now in
+    let e = sym c.in_ok-code.ensures in
+    let placed : is_placed v.registers (placed_by v.code d) ≡ true = ap (is_placed v.registers) e ∙ sym c.is_placed.ensures ∙ c.if-not-is_placed.false in
+    let p = parts v.registers (placed_by v.code d) placed in
+    record {
+      few = v.few;
+      regular = subst (λ (l : Code Location). IsRegular l) e (certified_regular v.code d v.regular p.paid);
+      known = subst (λ (l : Code Location). IsTrue (keeps_places (is_place v.registers) l)) e (to_true (keeps_places (is_place v.registers) (placed_by v.code d)) p.places);
+      near = subst (λ (l : Code Location). IsTrue (are_near l.params)) e (to_true (are_near (placed_by v.code d).params) p.near);
+      apart = subst (λ (l : Code Location). IsTrue (are_distinct located l.params)) e (to_true (are_distinct located (placed_by v.code d).params) p.apart);
+    }
+
+pub returns-clause-yes : goal.returns-clause-yes
+returns-clause-yes c =
+    let v = c.args.function.now in
+    let d = c.args.certificate.now in
+    accepted v d (sym c.in_ok-right.ensures.right ∙ c.if-not-right.false) (ap (is_placed v.registers) (sym c.in_ok-code.ensures) ∙ sym c.is_placed.ensures ∙ c.if-not-is_placed.false)
+
+pub returns-clause-kept : goal.returns-clause-kept
+returns-clause-kept c =
+    let v = c.args.function.now in
+    let d = c.args.certificate.now in
+    let yes_it_is : is_accepted v d ≡ true =
+        accepted v d (sym c.in_ok-right.ensures.right ∙ c.if-not-right.false) (ap (is_placed v.registers) (sym c.in_ok-code.ensures) ∙ sym c.is_placed.ensures ∙ c.if-not-is_placed.false) in
+    subst (λ (l : Code Location). Keeps v.code l) (sym c.in_ok-code.ensures) (sound_keeps v.code d (accepted_sound v d yes_it_is))

@@ -1,0 +1,8 @@
+use Rattle.std.proofs.Common.{sym, ◌∙◌, ap, ◌++◌}
+use Rattle.alloc_check.proofs.Entering.{no_more, append_none}
+use Rattle.alloc_check.proofs.certified.push_params.Goals as goal
+
+pub returns-in-None : goal.returns-in-None
+returns-in-None c =
+    let none = no_more c.args.params.now c.args.places.now c.loop-k.k c.in-None.ensures.lookup.3 in
+    sym (ap (λ ds. c.loop-k.placed ++ ds) none ∙ append_none c.loop-k.placed) ∙ c.loop-k.invariant

@@ -1,0 +1,9 @@
+use Rattle.std.proofs.Common.{arith}
+use Rattle.alloc_check.proofs.Counted.{jump_low}
+use Rattle.alloc_check.proofs.check.block.Goals as goal
+
+pub begin-requires-clause-room : goal.begin-requires-clause-room
+begin-requires-clause-room c = let low = jump_low c.args.first c.args.block.now.lines in omega (arith, c.requires.room)
+
+pub overflow_add-first : goal.overflow_add-first
+overflow_add-first c = let low = jump_low c.args.first c.args.block.now.lines in grind (arith, c.requires.room)

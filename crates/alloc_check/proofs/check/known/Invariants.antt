@@ -1,0 +1,11 @@
+use Rattle.std.proofs.Common.{◌≡◌, drop}
+use Rattle.alloc_check.specs.Table.{own_of, IsTable}
+use Rattle.alloc_check.specs.Walk.{known_in}
+use Rattle.alloc_check.proofs.check.known.Given as goal
+
+abbrev pub invariant-loop-equality : goal.invariant-loop-equality
+invariant-loop-equality l =
+    record {
+      walk : known_in l.registers (drop l.equality-index l.equalities) (own_of l.table) ≡ known_in l.registers l.fn.equalities (own_of l.fn.table);
+      table : IsTable l.registers l.time l.table
+    }

@@ -1,0 +1,11 @@
+use Rattle.std.proofs.Common.{◌≡◌, drop}
+use Rattle.alloc_check.specs.Table.{own_of, IsTable}
+use Rattle.alloc_check.specs.Walk.{moved_in}
+use Rattle.alloc_check.proofs.check.transfers.Given as goal
+
+abbrev pub invariant-loop-transfer : goal.invariant-loop-transfer
+invariant-loop-transfer l =
+    record {
+      walk : moved_in l.registers (drop l.transfer-index l.moves) (own_of l.table) ≡ moved_in l.registers l.fn.moves (own_of l.fn.table);
+      table : IsTable l.registers l.time l.table
+    }

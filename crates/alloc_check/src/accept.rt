@@ -1,0 +1,86 @@
+//! Which certificates are taken for code.
+ghost use Rattle.std.specs.Prelude.{◌≡◌, ◌<◌, ◌^◌, ◌&&◌, true, false, nat_le, length, IfOk, IfErr};
+ghost use Rattle.alloc_check.specs.declared.accept.Refused.TheVariants.{No};
+ghost use Rattle.alloc_check.specs.Certified.{placed_by};
+ghost use Rattle.alloc_check.specs.Accepted.{end_point, starts_exist, is_accepted};
+ghost use Rattle.alloc_check.specs.Kept.{Keeps};
+ghost use Rattle.alloc_check.specs.Walk.{sound_in};
+
+use crate::certified::certified;
+use crate::check::is_sound;
+use crate::fits::{is_placed, starts_exist};
+use crate::points::are_within;
+use regalloc::certificate::Certificate;
+use std::alloc::{AllocError, Global};
+use vcode::function::{LFunc, VFunc};
+
+/// Why a certificate was not taken.
+#[derive(Clone, Copy, Debug, PartialEq, Eq)]
+pub enum Refused {
+    /// It isn't accepted.
+    No,
+    /// Memory was refused.
+    Memory,
+}
+
+impl From<AllocError> for Refused {
+    ghost use Rattle.std.specs.Prelude.{◌≡◌};
+    ghost use Rattle.alloc_check.specs.declared.accept.Refused.TheVariants.{Memory};
+
+    ghost from_gives = { λ _ e. e ≡ Memory };
+
+    fn from(_refused: AllocError) -> Refused {
+        Refused::Memory
+    }
+}
+
+// What is to be known before code is made.
+fn is_right(
+    alloc: Global,
+    function: &VFunc,
+    certificate: &Certificate,
+) -> Result<bool, AllocError>
+    ensures right { IfOk result (λ b. b ≡ (nat_le (end_point 0 function.now.code.blocks) (length certificate.now.places) && (starts_exist function.now.registers certificate.now.starts && sound_in function.now.registers function.now.code certificate.now))) }
+    ensures few { IfOk result (λ b. b ≡ true → end_point 0 function.now.code.blocks < 2 ^ 64) }
+{
+    let blocks = function.code.blocks.as_slice();
+    if !are_within(blocks, certificate.places.len()) {
+        return Ok(false);
+    }
+    if !starts_exist(function.registers, certificate.starts.as_slice()) {
+        return Ok(false);
+    }
+    let right = is_sound(alloc, function, certificate)?;
+    Ok(right)
+}
+
+/// The function with the places and the moves of a certificate, if that is accepted. It has as many slots as the function has registers, and goes as the
+/// virtual code does.
+///
+/// # Errors
+///
+/// `Refused::No` only where the certificate isn't accepted, `Refused::Memory` only where memory was refused.
+pub fn accept(
+    alloc: Global,
+    function: &VFunc,
+    certificate: &Certificate,
+) -> Result<LFunc, Refused>
+    ensures code { IfOk result (λ l. l.code ≡ placed_by function.now.code certificate.now) }
+    ensures slots { IfOk result (λ l. l.slots ≡ function.now.registers) }
+    ensures kept { IfOk result (λ l. Keeps function.now.code l.code) }
+    ensures yes { IfOk result (λ l. is_accepted function.now certificate.now ≡ true) }
+    ensures no { IfErr result (λ e. e ≡ No → is_accepted function.now certificate.now ≡ false) }
+{
+    let right = is_right(alloc, function, certificate)?;
+    if !right {
+        return Err(Refused::No);
+    }
+    let code = certified(alloc, &function.code, certificate)?;
+    if !is_placed(function.registers, &code) {
+        return Err(Refused::No);
+    }
+    Ok(LFunc {
+        code,
+        slots: function.registers,
+    })
+}

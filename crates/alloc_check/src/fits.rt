@@ -1,0 +1,281 @@
+//! Whether location code may be a function's: which places it names, and whether its ticks pay for it.
+ghost use Rattle.std.specs.Prelude.{◌≡◌, ◌≤◌, ◌+◌, ◌^◌, IfSome, ◌<◌};
+ghost use Rattle.std.specs.List.{list_all, list_any};
+ghost use Rattle.vcode.specs.Cost.{is_immediate, operand_cost, operation_cost, line_cost, return_cost, jump_cost, is_paid};
+ghost use Rattle.vcode.specs.Named.{operand_keeps, wanted_keeps, line_keeps, jump_keeps, block_keeps, keeps_places, is_place, is_near, are_near, are_distinct};
+ghost use Rattle.vcode.specs.Places.{located, same_location};
+ghost use Rattle.alloc_check.specs.Accepted.{is_placed, exists_in, starts_exist};
+ghost use Rattle.alloc_check.specs.Walk.{spent};
+
+use il_ast::list::Seq;
+use regalloc::certificate::Equality;
+use vcode::code::{Block, Code};
+use vcode::line::{Jump, Line, Operation};
+use vcode::place::{Argument, Destination, Location, Operand};
+
+fn is_place(slots: u32, place: Location) -> bool
+    ensures { result ≡ is_place slots place }
+{
+    match place {
+        Location::Register(number) => 5 <= number && number <= 27,
+        Location::Slot(slot) => slot < slots,
+    }
+}
+
+fn operand(slots: u32, value: &Operand<Location>) -> bool
+    ensures { result ≡ operand_keeps (is_place slots) value.now }
+{
+    match value {
+        Operand::At(place) => is_place(slots, *place),
+        Operand::Number(_) => true,
+        Operand::Name(_) => true,
+    }
+}
+
+fn wanted(slots: u32, to: &Option<Destination<Location>>) -> bool
+    ensures { result ≡ wanted_keeps (is_place slots) to.now }
+{
+    match to {
+        Some(result) => is_place(slots, result.place),
+        None => true,
+    }
+}
+
+fn args(slots: u32, args: &[Argument<Location>]) -> bool
+    ensures { result ≡ list_all (λ a. operand_keeps (is_place slots) a.value) args.now }
+{
+    args.iter().all(|arg| operand(slots, &arg.value))
+}
+
+fn line(slots: u32, line: &Line<Location>) -> bool
+    ensures { result ≡ line_keeps (is_place slots) line.now }
+{
+    match line {
+        Line::Tick { .. } => true,
+        Line::Set { to, value } => is_place(slots, *to) && operand(slots, value),
+        Line::Operate {
+            to, left, right, ..
+        } => is_place(slots, *to) && operand(slots, left) && operand(slots, right),
+        Line::Load { to, at, .. } => is_place(slots, *to) && operand(slots, at),
+        Line::Store { value, at, .. } => operand(slots, value) && operand(slots, at),
+        Line::Alloc { to, .. } => is_place(slots, *to),
+        Line::Blit { from, to, .. } => operand(slots, from) && operand(slots, to),
+        Line::Call {
+            to,
+            callee,
+            args: passed,
+        } => wanted(slots, to) && operand(slots, callee) && args(slots, passed.as_slice()),
+    }
+}
+
+fn jump(slots: u32, jump: &Jump<Location>) -> bool
+    ensures { result ≡ jump_keeps (is_place slots) jump.now }
+{
+    match jump {
+        Jump::Goto(_) => true,
+        Jump::Branch { on, .. } => operand(slots, on),
+        Jump::Return(None) => true,
+        Jump::Return(Some(value)) => operand(slots, value),
+        Jump::Halt => true,
+    }
+}
+
+fn lines(slots: u32, lines: &[Line<Location>]) -> bool
+    ensures { result ≡ list_all (line_keeps (is_place slots)) lines.now }
+{
+    lines.iter().all(|from| line(slots, from))
+}
+
+fn block(slots: u32, block: &Block<Location>) -> bool
+    ensures { result ≡ block_keeps (is_place slots) block.now }
+{
+    lines(slots, block.lines.as_slice()) && jump(slots, &block.jump)
+}
+
+fn blocks(slots: u32, blocks: &[Block<Location>]) -> bool
+    ensures { result ≡ list_all (block_keeps (is_place slots)) blocks.now }
+{
+    blocks.iter().all(|from| block(slots, from))
+}
+
+fn params(slots: u32, params: &[Destination<Location>]) -> bool
+    ensures { result ≡ list_all (λ d. is_place slots d.place) params.now }
+{
+    params.iter().all(|param| is_place(slots, param.place))
+}
+
+fn names_places(slots: u32, code: &Code<Location>) -> bool
+    ensures { result ≡ keeps_places (is_place slots) code.now }
+{
+    params(slots, code.params.as_slice()) && blocks(slots, code.blocks.as_slice())
+}
+
+fn is_near(place: Location) -> bool
+    ensures { result ≡ is_near place }
+{
+    match place {
+        Location::Register(_) => true,
+        Location::Slot(slot) => slot < 128,
+    }
+}
+
+fn are_near(params: &[Destination<Location>]) -> bool
+    ensures { result ≡ are_near params.now }
+{
+    params.iter().all(|param| is_near(param.place))
+}
+
+fn is_same(one: Location, other: Location) -> bool
+    ensures { result ≡ same_location one other }
+{
+    match (one, other) {
+        (Location::Register(a), Location::Register(b)) => a == b,
+        (Location::Slot(a), Location::Slot(b)) => a == b,
+        _ => false,
+    }
+}
+
+fn is_among(place: Location, params: &[Destination<Location>]) -> bool
+    ensures { result ≡ list_any (λ e. same_location place e.place) params.now }
+{
+    params.iter().any(|param| is_same(place, param.place))
+}
+
+fn are_distinct(params: &[Destination<Location>]) -> bool
+    ensures { result ≡ are_distinct located params.now }
+{
+    for (k, param) in params.iter().enumerate() {
+        if is_among(param.place, &params[k + 1..]) {
+            return false;
+        }
+    }
+    true
+}
+
+fn is_immediate(number: u64) -> bool
+    ensures { result ≡ is_immediate number }
+{
+    number < 2048 || 18_446_744_073_709_549_568 <= number
+}
+
+fn operand_cost(value: &Operand<Location>) -> u128
+    ensures cost { result ≡ operand_cost value.now }
+    ensures small { result ≤ 9 }
+{
+    match value {
+        Operand::At(_) => 3,
+        Operand::Number(number) => {
+            if is_immediate(*number) {
+                1
+            } else {
+                9
+            }
+        }
+        Operand::Name(_) => 2,
+    }
+}
+
+fn operation_cost(operation: Operation) -> u128
+    ensures cost { result ≡ operation_cost operation }
+    ensures small { result ≤ 6 }
+{
+    match operation {
+        Operation::Reg(_) => 1,
+        Operation::RegW(_) => 1,
+        Operation::Compare(_, _) => 6,
+    }
+}
+
+fn line_cost(line: &Line<Location>) -> u128
+    ensures { result ≡ line_cost line.now }
+{
+    match line {
+        Line::Tick { .. } => 0,
+        Line::Set { value, .. } => operand_cost(value) + 3,
+        Line::Operate {
+            operation,
+            left,
+            right,
+            ..
+        } => operand_cost(left) + operand_cost(right) + operation_cost(*operation) + 3,
+        Line::Load { at, .. } => operand_cost(at) + 4,
+        Line::Store { value, at, .. } => operand_cost(value) + operand_cost(at) + 1,
+        Line::Alloc { .. } => 6,
+        Line::Blit { from, to, count } => {
+            operand_cost(from) + operand_cost(to) + 8 * ((u128::from(*count) + 7) / 8)
+        }
+        Line::Call { args, .. } => 20 + 24 * (args.len() as u128),
+    }
+}
+
+fn jump_cost(jump: &Jump<Location>) -> u128
+    ensures { result ≡ jump_cost jump.now }
+{
+    match jump {
+        Jump::Goto(_) => 2,
+        Jump::Branch { on, .. } => operand_cost(on) + 6,
+        Jump::Return(None) => 2,
+        Jump::Return(Some(value)) => operand_cost(value) + 3,
+        Jump::Halt => 1,
+    }
+}
+
+// What is left of a credit after a line, if it affords that. A unit of weight pays for 32 instructions.
+fn spend(credit: u128, line: &Line<Location>) -> Option<u128>
+    requires { credit + 2 ^ 37 < 2 ^ 128 }
+    ensures spent { result ≡ spent credit line.now }
+    ensures small { IfSome result (λ left. left ≤ credit + 2 ^ 37) }
+{
+    match line {
+        Line::Tick { weight, .. } => Some(credit + 32 * u128::from(*weight)),
+        _ => credit.checked_sub(line_cost(line)),
+    }
+}
+
+fn is_paid(block: &Block<Location>) -> bool
+    ensures { result ≡ is_paid block.now }
+{
+    let mut credit = 0u128;
+    for line in block.lines.as_slice() {
+        match spend(credit, line) {
+            Some(left) => credit = left,
+            None => return false,
+        }
+    }
+    jump_cost(&block.jump) <= credit
+}
+
+fn are_paid(blocks: &[Block<Location>]) -> bool
+    ensures { result ≡ list_all is_paid blocks.now }
+{
+    blocks.iter().all(|block| is_paid(block))
+}
+
+/// Whether location code with so many slots may be a function's: its places exist, its parameters are near and apart, and its ticks pay for its lines.
+pub(crate) fn is_placed(slots: u32, code: &Code<Location>) -> bool
+    ensures { result ≡ is_placed slots code.now }
+{
+    names_places(slots, code)
+        && are_near(code.params.as_slice())
+        && are_distinct(code.params.as_slice())
+        && are_paid(code.blocks.as_slice())
+}
+
+fn exists(registers: u32, equality: Equality) -> bool
+    ensures { result ≡ exists_in registers equality }
+{
+    is_place(registers, equality.place) && equality.register < registers
+}
+
+fn all_exist(registers: u32, equalities: &[Equality]) -> bool
+    ensures { result ≡ list_all (exists_in registers) equalities.now }
+{
+    equalities.iter().all(|equality| exists(registers, *equality))
+}
+
+/// Whether all places and registers of these equalities exist, where there are so many registers, and as many slots.
+pub(crate) fn starts_exist(registers: u32, starts: &[Seq<Equality>]) -> bool
+    ensures { result ≡ starts_exist registers starts.now }
+{
+    starts.iter().all(|equalities| all_exist(registers, equalities.as_slice()))
+}

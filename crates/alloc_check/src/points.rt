@@ -1,0 +1,91 @@
+//! Points of virtual code: lines but for ticks, and jumps, from 0 in the order of the text.
+ghost use Rattle.std.specs.Prelude.{◌≡◌, ◌<◌, ◌≤◌, ◌+◌, ◌^◌, nat_le};
+ghost use Rattle.alloc_check.specs.Certified.{next_point, jump_point};
+ghost use Rattle.alloc_check.specs.Accepted.{end_point};
+ghost use Rattle.alloc_check.specs.Walk.{bounded};
+
+use vcode::code::Block;
+use vcode::line::Line;
+
+/// The point behind a line.
+pub(crate) fn next_point(point: usize, line: &Line<u32>) -> usize
+    requires { next_point point line.now < 2 ^ 64 }
+    ensures { result ≡ next_point point line.now }
+{
+    match line {
+        Line::Tick { .. } => point,
+        _ => point + 1,
+    }
+}
+
+/// The point of the jump behind these lines, the first of which is at `first`.
+pub(crate) fn jump_point(first: usize, lines: &[Line<u32>]) -> usize
+    requires { jump_point first lines.now < 2 ^ 64 }
+    ensures { result ≡ jump_point first lines.now }
+{
+    let mut point = first;
+    for line in lines {
+        point = next_point(point, line);
+    }
+    point
+}
+
+fn next_within(point: usize, line: &Line<u32>, limit: usize) -> Option<usize>
+    requires { point ≤ limit }
+    ensures { result ≡ bounded limit (next_point point line.now) }
+{
+    match line {
+        Line::Tick { .. } => Some(point),
+        _ => {
+            if point < limit {
+                Some(point + 1)
+            } else {
+                None
+            }
+        }
+    }
+}
+
+fn lines_within(first: usize, lines: &[Line<u32>], limit: usize) -> Option<usize>
+    requires { first ≤ limit }
+    ensures { result ≡ bounded limit (jump_point first lines.now) }
+{
+    let mut point = first;
+    for line in lines {
+        match next_within(point, line, limit) {
+            Some(next) => point = next,
+            None => return None,
+        }
+    }
+    Some(point)
+}
+
+fn block_within(first: usize, block: &Block<u32>, limit: usize) -> Option<usize>
+    requires { first ≤ limit }
+    ensures { result ≡ bounded limit (jump_point first block.now.lines + 1) }
+{
+    match lines_within(first, block.lines.as_slice(), limit) {
+        Some(point) => {
+            if point < limit {
+                Some(point + 1)
+            } else {
+                None
+            }
+        }
+        None => None,
+    }
+}
+
+/// Whether there are at most so many points.
+pub(crate) fn are_within(blocks: &[Block<u32>], limit: usize) -> bool
+    ensures { result ≡ nat_le (end_point 0 blocks.now) limit }
+{
+    let mut point = 0usize;
+    for block in blocks {
+        match block_within(point, block, limit) {
+            Some(next) => point = next,
+            None => return false,
+        }
+    }
+    true
+}

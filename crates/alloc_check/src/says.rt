@@ -1,0 +1,65 @@
+//! What a certificate says of a point or a block; nothing where it is too short.
+ghost use Rattle.std.specs.Prelude.{◌≡◌};
+ghost use Rattle.alloc_check.specs.Certified.{moves_at, starts_at, places_at, place_by};
+
+use crate::placing::Placing;
+use regalloc::certificate::{Certificate, Equality, Transfer};
+use vcode::place::Location;
+
+/// The moves right before a point.
+pub(crate) fn moves_at(certificate: &Certificate, point: usize) -> &[Transfer]
+    ensures { result.now ≡ moves_at certificate.now point }
+{
+    match certificate.moves.as_slice().get(point) {
+        Some(moves) => moves.as_slice(),
+        None => &[],
+    }
+}
+
+/// What is known where a block begins.
+pub(crate) fn starts_at(certificate: &Certificate, block: usize) -> &[Equality]
+    ensures { result.now ≡ starts_at certificate.now block }
+{
+    match certificate.starts.as_slice().get(block) {
+        Some(equalities) => equalities.as_slice(),
+        None => &[],
+    }
+}
+
+/// The places of the registers that a point names.
+pub(crate) fn places_at(certificate: &Certificate, point: usize) -> &[Equality]
+    ensures { result.now ≡ places_at certificate.now point }
+{
+    match certificate.places.as_slice().get(point) {
+        Some(equalities) => equalities.as_slice(),
+        None => &[],
+    }
+}
+
+/// The place of the register by the first equality that names it.
+pub(crate) fn place_by(equalities: &[Equality], register: u32) -> Location
+    ensures { result ≡ place_by equalities.now register }
+{
+    for equality in equalities {
+        if equality.register == register {
+            return equality.place;
+        }
+    }
+    Location::Slot(0)
+}
+
+/// Each register where these equalities have it.
+#[derive(Clone, Copy)]
+pub(crate) struct By<'a> {
+    pub(crate) equalities: &'a [Equality],
+}
+
+impl<'a> Placing for By<'a> {
+    ghost use Rattle.alloc_check.specs.Certified.{place_by};
+
+    ghost layout = { λ s r. place_by s.equalities.now r };
+
+    fn place(&self, register: u32) -> Location {
+        place_by(self.equalities, register)
+    }
+}
