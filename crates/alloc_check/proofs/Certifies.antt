@@ -1,5 +1,5 @@
 -- What a code keeps, the code that a certificate makes of it keeps too: moves are no ticks, no calls and no blocks of memory.
-use Rattle.std.proofs.Common.{◌≡◌, ℕ, zero, suc, ◌+◌, ◌≤◌, Bool, true, false, not, ◌&&◌, ◌||◌, nat_le, List, [], ◌∷◌, ◌++◌, map, length, fold, refl, sym, ◌∙◌, ap, subst, arith}
+use Rattle.std.proofs.Common.{◌≡◌, ℕ, suc, ◌+◌, ◌≤◌, Bool, true, false, not, ◌&&◌, ◌||◌, nat_le, List, [], ◌∷◌, ◌++◌, length, fold, refl, sym, ◌∙◌, ap, subst, arith}
 use Rattle.std.specs.Prelude.{IsTrue}
 use Rattle.std.specs.List.{list_all, list_any, sum_by}
 use Rattle.std.proofs.lemmas.Bool.Decides.{nat_tests}
@@ -18,8 +18,8 @@ use Rattle.regalloc.specs.declared.certificate.Transfer.{Transfer}
 use Rattle.regalloc.specs.declared.certificate.Certificate.{Certificate}
 use Rattle.alloc_check.specs.Placed.{Layout, placed_line, placed_block, in_slots}
 use Rattle.alloc_check.specs.Certified.{moves_at, layout_at, transfers, next_point, jump_point, certified_lines, certified_block, certified_blocks, certified_params, placed_by}
-use Rattle.alloc_check.specs.Walk.{moves_before, certified_line}
-use Rattle.alloc_check.proofs.Regular.{map_length, all_map, leads_same, alloc_same, bytes_same, turns_same, few_same}
+use Rattle.alloc_check.specs.Walk.{moves_before}
+use Rattle.alloc_check.proofs.Regular.{all_map, leads_same, alloc_same, bytes_same, turns_same, few_same}
 use Rattle.alloc_check.proofs.Walks.{lines_on, append_three}
 
 pub to_true : (b : Bool) → b ≡ true → IsTrue b

@@ -1,5 +1,5 @@
 -- What a table says of its places after each change.
-use Rattle.std.proofs.Common.{◌≡◌, ◌≢◌, ℕ, zero, suc, ◌+◌, ◌<◌, ◌≤◌, Bool, true, false, not, ◌&&◌, nat_eq, nat_lt, nat_le, if◌then◌else◌, List, [], ◌∷◌, length, slice_get, slice_set, Option, Some, None, refl, sym, ◌∙◌, ap, subst, arith, inl, inr}
+use Rattle.std.proofs.Common.{◌≡◌, ℕ, zero, suc, ◌+◌, ◌<◌, ◌≤◌, Bool, true, false, ◌&&◌, nat_eq, nat_lt, nat_le, if◌then◌else◌, List, [], ◌∷◌, length, slice_get, slice_set, Option, Some, None, refl, sym, ◌∙◌, ap, subst, arith}
 use Rattle.std.specs.Option.{option_map_or}
 use Rattle.std.proofs.Math.Path.{fun_ext}
 use Rattle.std.proofs.lemmas.Bool.Decides.{nat_tests}
@@ -8,8 +8,8 @@ use Rattle.vcode.specs.declared.place.Location.TheVariants.{Register, Slot}
 use Rattle.vcode.specs.Places.{same_location, is_callers}
 use Rattle.alloc_check.specs.declared.table.Held.{Held}
 use Rattle.alloc_check.specs.declared.table.Table.{Table}
-use Rattle.alloc_check.specs.Owners.{Owners, nobody, other_than, own_put, own_also, own_kept}
-use Rattle.alloc_check.specs.Table.{cell, cell_at, counts, counted, own_of, in_table, IsTable, Rewrites}
+use Rattle.alloc_check.specs.Owners.{nobody, other_than, own_put, own_also, own_kept}
+use Rattle.alloc_check.specs.Table.{cell, cell_at, counts, counted, own_of, IsTable, Rewrites}
 
 -- ---- lists
 
@@ -45,7 +45,7 @@ now_counts begun written r since w e b l =
     let x : nat_le begun since ≡ true = grind (arith, nat_tests) in
     let y : nat_le w since ≡ true = grind (arith, nat_tests) in
     let z : counts begun written (record { register = r; since = since }) ≡ true =
-        ap (λ o. option_map_or (λ v. nat_le begun since && nat_le v since) o false) e ∙ ap (λ b2. b2 && nat_le w since) x ∙ y in
+    ap (λ o. option_map_or (λ v. nat_le begun since && nat_le v since) o false) e ∙ ap (λ b2. b2 && nat_le w since) x ∙ y in
     ap (λ b3. if b3 then Some r else None) z
 
 -- register r was written since: what held it doesn't count
@@ -56,13 +56,14 @@ other_counts begun written r time h true b e c low late =
     let new : slice_get (slice_set written r (time + 1)) h.register ≡ Some (time + 1) = ap (λ k. slice_get (slice_set written r (time + 1)) k) is ∙ get_set_same written r (time + 1) low in
     let never : nat_le (time + 1) h.since ≡ false = grind (arith, nat_tests) in
     let x : counts begun (slice_set written r (time + 1)) h ≡ false =
-        ap (λ o. option_map_or (λ v. nat_le begun h.since && nat_le v h.since) o false) new
-        ∙ ap (λ d. nat_le begun h.since && d) never ∙ and_false (nat_le begun h.since) in
+    ap (λ o. option_map_or (λ v. nat_le begun h.since && nat_le v h.since) o false) new
+    ∙ ap (λ d. nat_le begun h.since && d) never ∙ and_false (nat_le begun h.since) in
     ap (λ d. if d then Some h.register else None) x ∙ sym (dropped b)
   where
     and_false : (d : Bool) → (d && false) ≡ false
     and_false true = refl
     and_false false = refl
+
     dropped : (d : Bool) → other_than r (if d then Some h.register else None) ≡ None
     dropped true = ap (λ k. if k then None else Some h.register) e
     dropped false = refl
@@ -141,6 +142,7 @@ later_cells t u n time since d held is new low late q h e = by (same_location q 
   where
     same : (x y : Held) → Some x ≡ Some y → x ≡ y
     same x y f = cc
+
     by : (b : Bool) → same_location q d ≡ b → h.since ≤ since
     by true f =
         let g : held ≡ h = same held h (ap (λ (k : Bool). if k then Some held else cell_at t q) (sym f) ∙ sym (new.cells q) ∙ e) in
@@ -194,9 +196,11 @@ forget_all cells old k high before j = by (nat_lt j k) refl
     none_past [] i h = refl
     none_past (x ∷ xs) zero h = absurd (omega arith)
     none_past (x ∷ xs) (suc i) h = none_past xs i (omega arith)
+
     either : (b : Bool) (o : Option Held) → o ≡ None → o ≡ (if b then None else o)
     either true o e = e
     either false o e = refl
+
     by : (b : Bool) → nat_lt j k ≡ b → cell cells j ≡ (if is_callers (Register j) then None else cell old j)
     by true f = before j ∙ ap (λ b2. if b2 && is_callers (Register j) then None else cell old j) f
     by false f =
@@ -216,6 +220,7 @@ call_keeps t u same_begun same_written same_slots cells = fun_ext at
   where
     same : (x : Option Held) → counted u.begun u.written.items x ≡ counted t.begun t.written.items x
     same x = ap (λ b. counted b u.written.items x) same_begun ∙ ap (λ ws. counted t.begun ws x) same_written
+
     at : (q : Location) → own_of u q ≡ own_kept (own_of t) q
     at (Register k) =
         same (cell u.machine.items k) ∙ ap (counted t.begun t.written.items) (cells k)

@@ -1,11 +1,10 @@
 -- What the checker does is what makes a certificate sound, where all places and registers exist.
-use Rattle.std.proofs.Common.{◌≡◌, ℕ, zero, suc, ◌+◌, ◌<◌, ◌≤◌, Bool, true, false, not, ◌&&◌, ◌||◌, nat_eq, nat_lt, nat_le, List, [], ◌∷◌, ◌++◌, map, length, get_or, drop, slice_get, Option, Some, None, refl, sym, ◌∙◌, ap, subst, arith}
+use Rattle.std.proofs.Common.{◌≡◌, ℕ, zero, suc, ◌+◌, ◌<◌, ◌≤◌, Bool, true, false, ◌&&◌, nat_lt, nat_le, List, [], ◌∷◌, ◌++◌, map, length, get_or, drop, slice_get, Option, Some, None, refl, sym, ◌∙◌, ap, subst, arith}
 use Rattle.std.specs.List.{list_all}
 use Rattle.std.specs.Option.{option_map, option_map_or, option_and_then}
 use Rattle.std.proofs.lemmas.Bool.Decides.{nat_tests}
 use Rattle.vcode.specs.declared.place.Location.{Location}
 use Rattle.vcode.specs.declared.place.Location.TheVariants.{Register, Slot}
-use Rattle.vcode.specs.declared.place.Operand.TheVariants.{At}
 use Rattle.vcode.specs.declared.place.Destination.{Destination}
 use Rattle.vcode.specs.declared.line.Line.{Line}
 use Rattle.vcode.specs.declared.line.Line.TheVariants.{Tick, Set, Operate, Load, Store, Alloc, Blit, Call}
@@ -21,7 +20,7 @@ use Rattle.alloc_check.specs.Owners.{Owners, nobody, own_put, own_move, own_kept
 use Rattle.alloc_check.specs.Certified.{moves_at, starts_at, layout_at, transfers, next_point, jump_point, certified_lines, certified_block, certified_blocks, certified_params, placed_by, jump_right, lines_right, blocks_right, own_params, params_placed, entry_right, is_sound}
 use Rattle.alloc_check.specs.Accepted.{exists_in, starts_exist}
 use Rattle.alloc_check.specs.Table.{in_table}
-use Rattle.alloc_check.specs.Walk.{put_in, move_in, also_in, moved_in, known_in, after_reads, receives_in, line_in, point_in, lines_in, jump_in, block_in, blocks_in, params_in, entry_holds, entry_in, sound_in, certified_line}
+use Rattle.alloc_check.specs.Walk.{put_in, moved_in, known_in, after_reads, receives_in, line_in, lines_in, jump_in, blocks_in, params_in, entry_holds, sound_in, certified_line}
 use Rattle.alloc_check.proofs.Agreeing.{both_true}
 use Rattle.alloc_check.proofs.Counted.{item_next}
 
@@ -168,7 +167,7 @@ blocks_are n c p k (b ∷ blocks) starts e h =
     let placed = both_true (block_keeps (is_place n) (certified_block c p b)) (list_all (block_keeps (is_place n)) (certified_blocks c (jump_point p b.lines + 1) blocks)) h in
     let lines : list_all (line_keeps (is_below n)) b.lines ≡ true = (both_true (list_all (line_keeps (is_below n)) b.lines) (jump_keeps (is_below n) b.jump) below.0).0 in
     let made : list_all (line_keeps (is_place n)) (certified_lines c p b.lines) ≡ true =
-        (both_true (list_all (line_keeps (is_place n)) (certified_lines c p b.lines)) (jump_keeps (is_place n) (placed_jump (layout_at c (jump_point p b.lines)) b.jump)) placed.0).0 in
+    (both_true (list_all (line_keeps (is_place n)) (certified_lines c p b.lines)) (jump_keeps (is_place n) (placed_jump (layout_at c (jump_point p b.lines)) b.jump)) placed.0).0 in
     let own : Owners = known (starts_at c k) nobody in
     ap (λ o. option_map_or (jump_in n c (jump_point p b.lines) b.jump) (option_and_then (λ w. lines_in n c p w b.lines) o) false && blocks_in n c (jump_point p b.lines + 1) (k + 1) blocks)
     (known_is n (starts_at c k) nobody (start_exists n c.starts k starts))

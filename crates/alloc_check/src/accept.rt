@@ -35,11 +35,7 @@ impl From<AllocError> for Refused {
 }
 
 // What is to be known before code is made.
-fn is_right(
-    alloc: Global,
-    function: &VFunc,
-    certificate: &Certificate,
-) -> Result<bool, AllocError>
+fn is_right(alloc: Global, function: &VFunc, certificate: &Certificate) -> Result<bool, AllocError>
     ensures right { IfOk result (λ b. b ≡ (nat_le (end_point 0 function.now.code.blocks) (length certificate.now.places) && (starts_exist function.now.registers certificate.now.starts && sound_in function.now.registers function.now.code certificate.now))) }
     ensures few { IfOk result (λ b. b ≡ true → end_point 0 function.now.code.blocks < 2 ^ 64) }
 {
@@ -60,11 +56,7 @@ fn is_right(
 /// # Errors
 ///
 /// `Refused::No` only where the certificate isn't accepted, `Refused::Memory` only where memory was refused.
-pub fn accept(
-    alloc: Global,
-    function: &VFunc,
-    certificate: &Certificate,
-) -> Result<LFunc, Refused>
+pub fn accept(alloc: Global, function: &VFunc, certificate: &Certificate) -> Result<LFunc, Refused>
     ensures code { IfOk result (λ l. l.code ≡ placed_by function.now.code certificate.now) }
     ensures slots { IfOk result (λ l. l.slots ≡ function.now.registers) }
     ensures kept { IfOk result (λ l. Keeps function.now.code l.code) }

@@ -27,11 +27,7 @@ fn push_moves(placed: &mut Seq<Line<Location>>, moves: &[Transfer]) -> Result<()
 }
 
 // The moves before a line; a tick has none.
-fn moves_before<'a>(
-    certificate: &'a Certificate,
-    at: usize,
-    from: &Line<u32>,
-) -> &'a [Transfer]
+fn moves_before<'a>(certificate: &'a Certificate, at: usize, from: &Line<u32>) -> &'a [Transfer]
     ensures { result.now ≡ moves_before certificate.now at from.now }
 {
     match from {

@@ -103,7 +103,10 @@ fn line(
             held(table, places, value) && put(table, registers, time, places, *to)
         }
         Line::Operate {
-            to, left, right, ..
+            to,
+            left,
+            right,
+            ..
         } => {
             held(table, places, left)
                 && held(table, places, right)
@@ -166,13 +169,7 @@ fn point(
         return true;
     }
     transfers(table, registers, at + 1, moves_at(certificate, at))
-        && line(
-            table,
-            registers,
-            at + 1,
-            places_at(certificate, at),
-            from,
-        )
+        && line(table, registers, at + 1, places_at(certificate, at), from)
 }
 
 fn lines(

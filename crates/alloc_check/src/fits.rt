@@ -54,7 +54,10 @@ fn line(slots: u32, line: &Line<Location>) -> bool
         Line::Tick { .. } => true,
         Line::Set { to, value } => is_place(slots, *to) && operand(slots, value),
         Line::Operate {
-            to, left, right, ..
+            to,
+            left,
+            right,
+            ..
         } => is_place(slots, *to) && operand(slots, left) && operand(slots, right),
         Line::Load { to, at, .. } => is_place(slots, *to) && operand(slots, at),
         Line::Store { value, at, .. } => operand(slots, value) && operand(slots, at),
@@ -164,13 +167,7 @@ fn operand_cost(value: &Operand<Location>) -> u128
 {
     match value {
         Operand::At(_) => 3,
-        Operand::Number(number) => {
-            if is_immediate(*number) {
-                1
-            } else {
-                9
-            }
-        }
+        Operand::Number(number) => { if is_immediate(*number) { 1 } else { 9 } }
         Operand::Name(_) => 2,
     }
 }
@@ -270,12 +267,16 @@ fn exists(registers: u32, equality: Equality) -> bool
 fn all_exist(registers: u32, equalities: &[Equality]) -> bool
     ensures { result ≡ list_all (exists_in registers) equalities.now }
 {
-    equalities.iter().all(|equality| exists(registers, *equality))
+    equalities
+        .iter()
+        .all(|equality| exists(registers, *equality))
 }
 
 /// Whether all places and registers of these equalities exist, where there are so many registers, and as many slots.
 pub(crate) fn starts_exist(registers: u32, starts: &[Seq<Equality>]) -> bool
     ensures { result ≡ starts_exist registers starts.now }
 {
-    starts.iter().all(|equalities| all_exist(registers, equalities.as_slice()))
+    starts
+        .iter()
+        .all(|equalities| all_exist(registers, equalities.as_slice()))
 }

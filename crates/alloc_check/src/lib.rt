@@ -6,7 +6,12 @@
 //!
 //! A certificate of `regalloc` says where each register is from point to point, with moves between. `specs/Certified` has the code that it makes and what makes
 //! it sound: each line finds what it reads, and each jump what its targets ask for, as far as the owners of places are known (`specs/Owners`). The law
-//! [`laws::sound_certificates_keep`] says that the code of a sound certificate keeps the virtual code. The code that checks a certificate isn't here yet.
+//! [`laws::sound_certificates_keep`] says that the code of a sound certificate keeps the virtual code.
+//!
+//! [`accept::accept`] takes a certificate from anyone and makes its code, or answers `Refused::No`. Its contract says what the code is, that it keeps the virtual
+//! code, and that the answer is no only for certificates that `specs/Accepted` doesn't accept: those that aren't sound, name places or registers that there
+//! aren't, leave out points, put two parameters into one place, or move more than the ticks pay for. The check goes once over the code, with a table of the
+//! places' owners in which asking and writing take the same time however many places there are; the code is made after it.
 //!
 //! [`placing`] makes lines and jumps with a place for each register, wherever a [`placing::Placing`] says that is.
 //!
@@ -16,9 +21,9 @@
 pub mod accept;
 mod certified;
 mod check;
+mod fits;
 pub mod laws;
 pub mod placing;
-mod fits;
 mod points;
 mod says;
 pub mod spill_all;

@@ -36,13 +36,7 @@ fn next_within(point: usize, line: &Line<u32>, limit: usize) -> Option<usize>
 {
     match line {
         Line::Tick { .. } => Some(point),
-        _ => {
-            if point < limit {
-                Some(point + 1)
-            } else {
-                None
-            }
-        }
+        _ => { if point < limit { Some(point + 1) } else { None } }
     }
 }
 
@@ -65,13 +59,7 @@ fn block_within(first: usize, block: &Block<u32>, limit: usize) -> Option<usize>
     ensures { result ≡ bounded limit (jump_point first block.now.lines + 1) }
 {
     match lines_within(first, block.lines.as_slice(), limit) {
-        Some(point) => {
-            if point < limit {
-                Some(point + 1)
-            } else {
-                None
-            }
-        }
+        Some(point) => { if point < limit { Some(point + 1) } else { None } }
         None => None,
     }
 }

@@ -165,7 +165,13 @@ impl Table {
     }
 
     /// The register is written, at the next time, and its value is in that place alone. Answers false where the table has no room for one of them.
-    pub(crate) fn put(&mut self, registers: u32, place: Location, register: u32, time: usize) -> bool
+    pub(crate) fn put(
+        &mut self,
+        registers: u32,
+        place: Location,
+        register: u32,
+        time: usize,
+    ) -> bool
         requires table { IsTable registers time self.old }
         requires room { time + 1 < 2 ^ 64 }
         ensures own { where_held result (own_of self.new) ≡ put_in registers place register (own_of self.old) }

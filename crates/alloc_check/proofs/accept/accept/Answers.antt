@@ -1,4 +1,4 @@
-use Rattle.std.proofs.Common.{◌≡◌, true, false, sym, ◌∙◌, ap, subst}
+use Rattle.std.proofs.Common.{◌≡◌, true, sym, ◌∙◌, ap, subst}
 use Rattle.std.specs.Prelude.{IsTrue}
 use Rattle.vcode.specs.declared.place.Location.{Location}
 use Rattle.vcode.specs.declared.code.Code.{Code}
@@ -8,7 +8,7 @@ use Rattle.vcode.specs.Regular.{IsRegular}
 use Rattle.alloc_check.specs.Kept.{Keeps}
 use Rattle.alloc_check.specs.Certified.{placed_by}
 use Rattle.alloc_check.specs.Accepted.{is_placed, is_accepted}
-use Rattle.alloc_check.proofs.Accepts.{right_in, parts, refused, accepted, accepted_sound}
+use Rattle.alloc_check.proofs.Accepts.{parts, refused, accepted, accepted_sound}
 use Rattle.alloc_check.proofs.Certifies.{to_true, certified_regular}
 use Rattle.alloc_check.proofs.Sound.{sound_keeps}
 use Rattle.alloc_check.proofs.accept.accept.Goals as goal
@@ -45,5 +45,5 @@ returns-clause-kept c =
     let v = c.args.function.now in
     let d = c.args.certificate.now in
     let yes_it_is : is_accepted v d ≡ true =
-        accepted v d (sym c.in_ok-right.ensures.right ∙ c.if-not-right.false) (ap (is_placed v.registers) (sym c.in_ok-code.ensures) ∙ sym c.is_placed.ensures ∙ c.if-not-is_placed.false) in
+    accepted v d (sym c.in_ok-right.ensures.right ∙ c.if-not-right.false) (ap (is_placed v.registers) (sym c.in_ok-code.ensures) ∙ sym c.is_placed.ensures ∙ c.if-not-is_placed.false) in
     subst (λ (l : Code Location). Keeps v.code l) (sym c.in_ok-code.ensures) (sound_keeps v.code d (accepted_sound v d yes_it_is))

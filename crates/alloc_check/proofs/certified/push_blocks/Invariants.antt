@@ -7,5 +7,5 @@ abbrev pub invariant-loop-block : goal.invariant-loop-block
 invariant-loop-block l =
     record {
       blocks : l.placed ++ certified_blocks l.certificate l.first (drop l.block-index l.blocks) ≡ l.fn.placed ++ certified_blocks l.certificate 0 l.fn.blocks;
-      points : end_point l.first (drop l.block-index l.blocks) ≡ end_point 0 l.fn.blocks
+      points : end_point l.first (drop l.block-index l.blocks) ≡ end_point 0 l.fn.blocks;
     }

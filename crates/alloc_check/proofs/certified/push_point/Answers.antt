@@ -1,4 +1,4 @@
-use Rattle.std.proofs.Common.{◌≡◌, ◌++◌, List, [], ◌∷◌, ap, sym, ◌∙◌}
+use Rattle.std.proofs.Common.{◌≡◌, ◌++◌, List, [], ◌∷◌, ap, ◌∙◌}
 use Rattle.vcode.specs.declared.line.Line.{Line}
 use Rattle.vcode.specs.declared.place.Location.{Location}
 use Rattle.regalloc.specs.declared.certificate.Equality.{Equality}

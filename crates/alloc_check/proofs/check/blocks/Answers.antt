@@ -1,4 +1,4 @@
-use Rattle.std.proofs.Common.{arith, ◌≡◌, ◌≤◌, ◌+◌, ap}
+use Rattle.std.proofs.Common.{arith, ◌≡◌, ap}
 use Rattle.alloc_check.specs.Certified.{jump_point}
 use Rattle.alloc_check.specs.Accepted.{end_point}
 use Rattle.alloc_check.proofs.Counted.{block_fits}

@@ -1,4 +1,4 @@
-use Rattle.std.proofs.Common.{◌≡◌, ◌+◌, drop}
+use Rattle.std.proofs.Common.{◌≡◌, drop}
 use Rattle.alloc_check.specs.Accepted.{end_point}
 use Rattle.alloc_check.specs.Table.{IsTable}
 use Rattle.alloc_check.specs.Walk.{blocks_in}
@@ -9,5 +9,5 @@ invariant-loop-index l =
     record {
       walk : blocks_in l.registers l.certificate l.first l.index (drop l.index l.blocks) ≡ blocks_in l.registers l.certificate 0 0 l.fn.blocks;
       points : end_point l.first (drop l.index l.blocks) ≡ end_point 0 l.fn.blocks;
-      table : IsTable l.registers l.first l.table
+      table : IsTable l.registers l.first l.table;
     }

@@ -7,5 +7,5 @@ abbrev pub invariant-loop-equality : goal.invariant-loop-equality
 invariant-loop-equality l =
     record {
       walk : known_in l.registers (drop l.equality-index l.equalities) (own_of l.table) ≡ known_in l.registers l.fn.equalities (own_of l.fn.table);
-      table : IsTable l.registers l.time l.table
+      table : IsTable l.registers l.time l.table;
     }

@@ -7,5 +7,5 @@ abbrev pub invariant-loop-transfer : goal.invariant-loop-transfer
 invariant-loop-transfer l =
     record {
       walk : moved_in l.registers (drop l.transfer-index l.moves) (own_of l.table) ≡ moved_in l.registers l.fn.moves (own_of l.fn.table);
-      table : IsTable l.registers l.time l.table
+      table : IsTable l.registers l.time l.table;
     }

@@ -1,4 +1,4 @@
-use Rattle.std.proofs.Common.{arith, sym, ◌∙◌}
+use Rattle.std.proofs.Common.{sym, ◌∙◌}
 use Rattle.alloc_check.specs.Certified.{next_point, jump_point}
 use Rattle.alloc_check.proofs.Counted.{next_fits, beyond}
 use Rattle.alloc_check.proofs.points.lines_within.Goals as goal

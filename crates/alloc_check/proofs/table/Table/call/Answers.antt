@@ -14,7 +14,7 @@ pub returns-clause-own : goal.returns-clause-own
 returns-clause-own c =
     let t = c.args.self.now in
     let same : (with_items t.machine c.forget_callers.new.cells).items ≡ c.forget_callers.new.cells =
-        with_items_is t.machine c.forget_callers.new.cells (c.forget_callers.auto.cells ∙ c.as_mut_slice.ensures.len) in
+    with_items_is t.machine c.forget_callers.new.cells (c.forget_callers.auto.cells ∙ c.as_mut_slice.ensures.len) in
     call_keeps t (record { machine = with_items t.machine c.forget_callers.new.cells; slots = t.slots; written = t.written; begun = t.begun }) refl refl refl
     (λ k. ap (λ (cells : List (Option Held)). cell cells k) same ∙ c.forget_callers.ensures k
     ∙ ap (λ (cells : List (Option Held)). if is_callers (Register k) then None else cell cells k) c.as_mut_slice.ensures.value)
@@ -25,15 +25,15 @@ returns-clause-table c =
     let is = c.requires.table in
     let u : Table = record { machine = with_items t.machine c.forget_callers.new.cells; slots = t.slots; written = t.written; begun = t.begun } in
     let same : u.machine.items ≡ c.forget_callers.new.cells =
-        with_items_is t.machine c.forget_callers.new.cells (c.forget_callers.auto.cells ∙ c.as_mut_slice.ensures.len) in
+    with_items_is t.machine c.forget_callers.new.cells (c.forget_callers.auto.cells ∙ c.as_mut_slice.ensures.len) in
     let after : (k : ℕ) → cell u.machine.items k ≡ (if is_callers (Register k) then None else cell t.machine.items k) =
-        λ k. ap (λ (cells : List (Option Held)). cell cells k) same ∙ c.forget_callers.ensures k
-        ∙ ap (λ (cells : List (Option Held)). if is_callers (Register k) then None else cell cells k) c.as_mut_slice.ensures.value in
+    λ k. ap (λ (cells : List (Option Held)). cell cells k) same ∙ c.forget_callers.ensures k
+    ∙ ap (λ (cells : List (Option Held)). if is_callers (Register k) then None else cell cells k) c.as_mut_slice.ensures.value in
     let low : (q : Location) (h : Held) → cell_at u q ≡ Some h → h.since ≤ c.args.time =
-        λ q. elim q as (λ (p : Location). (h : Held) → cell_at u p ≡ Some h → h.since ≤ c.args.time) [
-          | Register k ↦ λ h e. call_cells u.machine.items t.machine.items c.args.time k h (after k) (is.cells (Register k)) e
-          | Slot s ↦ is.cells (Slot s)
-        ] in
+    λ q. elim q as (λ (p : Location). (h : Held) → cell_at u p ≡ Some h → h.since ≤ c.args.time) [
+      | Register k ↦ λ h e. call_cells u.machine.items t.machine.items c.args.time k h (after k) (is.cells (Register k)) e
+      | Slot s ↦ is.cells (Slot s)
+    ] in
     record {
       machine = ap length same ∙ c.forget_callers.auto.cells ∙ ap length c.as_mut_slice.ensures.value ∙ is.machine;
       slots = is.slots;

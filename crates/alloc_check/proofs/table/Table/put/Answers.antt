@@ -1,4 +1,4 @@
-use Rattle.std.proofs.Common.{◌≡◌, ◌+◌, slice_get, Bool, ◌&&◌, true, nat_lt, arith, ap, sym, ◌∙◌, Some, length, subst}
+use Rattle.std.proofs.Common.{◌≡◌, ◌+◌, slice_get, ◌&&◌, true, nat_lt, arith, ap, sym, ◌∙◌, Some, length, subst}
 use Rattle.std.proofs.lemmas.Bool.Decides.{nat_tests}
 use Rattle.std.proofs.lemmas.List.{length-set}
 use Rattle.alloc_check.specs.Owners.{Owners, where_held, own_put}
