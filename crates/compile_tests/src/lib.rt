@@ -4,4 +4,6 @@
 #![tactic(auto)]
 
 #[cfg(test)]
+mod strategies;
+#[cfg(test)]
 mod tests;

@@ -1,12 +1,15 @@
 //! What the machine does with the file of a text.
 
+use crate::strategies::{Answer, Fixed};
 use elf_file::read_image;
 use qbec::compile::{CompileError, compile};
+use regalloc::strategy::Strategy;
 use rv_machine::flat_ram::FlatRam;
 use rv_machine::machine::Machine;
 use std::alloc::{AllocError, Global};
 use std::str;
 use std::test::Fail;
+use vcode::place::Location;
 
 /// A name that is refused, after the refusal's number.
 fn named(alloc: Global, number: &str, name: &[u8]) -> Result<String, AllocError> {
@@ -26,9 +29,14 @@ fn refusal(alloc: Global, error: CompileError) -> Result<String, AllocError> {
     }
 }
 
-/// How the machine ends with the file of these texts, in so many instructions at most.
-fn ends(alloc: Global, texts: &[&[u8]], limit: u64) -> Result<String, AllocError> {
-    let file = match compile(alloc, texts) {
+/// How the machine ends with the file of these texts, in so many instructions at most, with registers where the strategy has them.
+fn ends_with(
+    alloc: Global,
+    texts: &[&[u8]],
+    limit: u64,
+    how: &mut Box<dyn Strategy>,
+) -> Result<String, AllocError> {
+    let file = match compile(alloc, texts, how) {
         Ok(file) => file,
         Err(error) => return refusal(alloc, error),
     };
@@ -42,6 +50,12 @@ fn ends(alloc: Global, texts: &[&[u8]], limit: u64) -> Result<String, AllocError
     };
     let (_, stop) = machine.run(alloc, limit);
     format!(in alloc; "{stop:?}")
+}
+
+/// The same, with a strategy that answers nothing.
+fn ends(alloc: Global, texts: &[&[u8]], limit: u64) -> Result<String, AllocError> {
+    let mut how: Box<dyn Strategy> = Box::new(alloc, Fixed::new(alloc, Answer::Nothing))?;
+    ends_with(alloc, texts, limit, &mut how)
 }
 
 const ZERO: &[u8] = b"export function w $main() {\n@s\nret 0\n}\n";
@@ -69,11 +83,46 @@ fn words_wrap(rt: HostRuntime) -> Result<(), Fail> {
     Ok(())
 }
 
+const LOOP: &[u8] =
+    b"export function w $main() {\n@s\n@l\n%i =w phi @s 1, @l %j\n%t =w phi @s 0, @l %u\n%u =w add %t, %i\n%j =w add %i, 1\n%c =w csltw %i, 100\njnz %c, @l, @e\n@e\nret %u\n}\n";
+
 #[test]
 fn loop_with_phis(rt: HostRuntime) -> Result<(), Fail> {
+    assert_eq!(rt; ends(rt.alloc(), &[LOOP], 19776)?.as_str(), "Exit(186)");
+    Ok(())
+}
+
+#[test]
+fn strategies_that_are_wrong(rt: HostRuntime) -> Result<(), Fail> {
+    let answers = [
+        Answer::Empty,
+        Answer::OnePlace,
+        Answer::Everywhere(Location::Register(10)),
+        Answer::Everywhere(Location::Register(2)),
+        Answer::Everywhere(Location::Slot(4294967295)),
+        Answer::Everywhere(Location::Slot(0)),
+        Answer::OtherSlots,
+        Answer::EverySecondTime,
+    ];
+    for answer in answers {
+        let alloc = rt.alloc();
+        let mut how: Box<dyn Strategy> = Box::new(alloc, Fixed::new(alloc, answer))?;
+        let first = ends_with(alloc, &[LOOP], 19776, &mut how)?;
+        let second = ends_with(alloc, &[LOOP], 19776, &mut how)?;
+        assert_eq!(rt; first.as_str(), "Exit(186)");
+        assert_eq!(rt; second.as_str(), "Exit(186)");
+    }
+    Ok(())
+}
+
+#[test]
+fn every_register_in_x9_where_one_is_enough(rt: HostRuntime) -> Result<(), Fail> {
+    let alloc = rt.alloc();
+    let answer = Answer::Everywhere(Location::Register(9));
+    let mut how: Box<dyn Strategy> = Box::new(alloc, Fixed::new(alloc, answer))?;
     let text =
-        b"export function w $main() {\n@s\n@l\n%i =w phi @s 1, @l %j\n%t =w phi @s 0, @l %u\n%u =w add %t, %i\n%j =w add %i, 1\n%c =w csltw %i, 100\njnz %c, @l, @e\n@e\nret %u\n}\n";
-    assert_eq!(rt; ends(rt.alloc(), &[text], 19776)?.as_str(), "Exit(186)");
+        b"export function w $main() {\n@s\n%a =w copy 40\n%b =w add %a, 1\n%c =w add %b, 1\nret %c\n}\n";
+    assert_eq!(rt; ends_with(alloc, &[text], 1000, &mut how)?.as_str(), "Exit(42)");
     Ok(())
 }
 

@@ -10,7 +10,7 @@ use Rattle.il_ast.specs.declared.block.Block.{Block}
 use Rattle.il_ast.specs.declared.function.Func.{Func}
 use Rattle.phi_copies.specs.declared.ending.Ending.{Ending}
 use Rattle.phi_copies.specs.Good.{IsGoodFunction}
-use Rattle.phi_copies.specs.Lowered.{target, phis_of, phis_at, phis_before, copies_of, entry_copies, edge_with, edge, jump_edges, end_edges, block_edges, all_edges, block_ending, all_endings}
+use Rattle.phi_copies.specs.Lowered.{target, phis_of, phis_at, phis_before, copies_of, entry_copies, edge_with, edge, jump_edges, end_edges, block_edges, all_edges, block_ending, all_endings, straight}
 use Rattle.phi_copies.specs.Map.{first_numbers}
 use Rattle.phi_copies.proofs.Counting.{is_small}
 use Rattle.phi_copies.proofs.EdgePlaces.{phis_counted}
@@ -89,7 +89,7 @@ jump_few f from Halt = omega arith
 
 end_few : (f : Func) (from : ℕ) (j : Option (Lined Jump)) → length (end_edges f from j) ≤ 2
 end_few f from None = omega arith
-end_few f from (Some j) = jump_few f from j.item
+end_few f from (Some j) = jump_few f from (straight j.item)
 
 pub edges_few : (f : Func) (b : Block) → length (block_edges f b) ≤ 2
 edges_few f b = end_few f b.label b.jump

@@ -23,7 +23,7 @@ use Rattle.il_ast.specs.declared.value.End.TheVariants.{Turns}
 use Rattle.il_ast.specs.Values.{in_place}
 use Rattle.il_ast.specs.Memory.{Memory}
 use Rattle.il_ast.specs.Cost.{phi_count}
-use Rattle.il_ast.specs.Effect.{Env, Activation, InstEffect, Done, Asks, Fails, value_at, operand, assign, inst_effect, phi_values, with_phis, place_of, entered, enter_at, enter_place, enter, branched, returned, return_value, jump_effect, end_effect, after_inst, turn_in, turn_of, effect}
+use Rattle.il_ast.specs.Effect.{Env, Activation, InstEffect, Done, Asks, Fails, value_at, operand, assign, inst_effect, phi_values, with_phis, place_of, entered, enter_at, enter_place, enter, branched, returned, return_value, jump_effect, end_effect, after_inst, turn_in, turn_of, effect, branch_to}
 use Rattle.il_ast.specs.Run.{Spent, nothing, one_turn, both, Outcome, Returned, Ended, with_args, begun}
 use Rattle.il_ast.specs.Logged.{Next, On, Over, Event, Does, Calls}
 use Rattle.il_ast.specs.Keeps.{Asked, Given}
@@ -32,7 +32,7 @@ use Rattle.il_ast.proofs.TurnsLogged.{turns_keep, both_assoc}
 use Rattle.phi_copies.specs.declared.ending.Leave.TheVariants.{Goto as GotoBlock, Halt as HaltRun}
 use Rattle.phi_copies.specs.declared.ending.Ending.{Ending}
 use Rattle.phi_copies.specs.Endings.{State, begin, weighs, receives, resumes, goes_on, in_turn, copied, branches, returns, returns_in, leaves, copies_and_leaves, after_mark, marked, ends, block_step, step_in, step}
-use Rattle.phi_copies.specs.Lowered.{or_zero, target, phis_of, phis_at, phis_before, copies_of, entry_copies, edge_with, edge, past_edge, branch_target, jump_edges, end_edges, one_turn_ending, jump_ending, end_ending, block_edges, all_edges, block_ending, lowered}
+use Rattle.phi_copies.specs.Lowered.{or_zero, target, phis_of, phis_at, phis_before, copies_of, entry_copies, edge_with, edge, past_edge, branch_target, jump_edges, end_edges, one_turn_ending, jump_ending, end_ending, block_edges, all_edges, block_ending, lowered, straight_if, straight}
 use Rattle.phi_copies.specs.Keeping.{classes_of, KeepsFunction}
 use Rattle.phi_copies.proofs.MoreKnown.{operand_less, behind, set_both, length_behind, Follows, locals, inst_follows}
 use Rattle.phi_copies.proofs.TwoRounds.{get_past, length_with_phis, AllBelow, copies_done}
@@ -353,12 +353,12 @@ second_edge : (c : Setting) (from number k : ℕ) (before : List Ending) (phis :
 second_edge c from number k before [] h = tt
 second_edge c from number k before (p ∷ ps) h = h _ (get_past before (edge_with c.func from k (p ∷ ps)) 0)
 
-branch_taken : (c : Setting) (n : ℕ) (a : Activation) (m : Memory) (s : Spent) (extra : List (Option Value)) (b : Block) (j : Lined Jump) (on : Val) (nonzero otherwise : ℕ) → slice_get c.func.blocks a.block ≡ Some b → b.jump ≡ Some j → j.item ≡ Branch on nonzero otherwise → Due c n a m s extra → go c (at a m s extra) ≡ ends c.globals c.func.result c.given (at a m s extra) (Some (jump_ending c.func b.label (edges_before c.func c.func.blocks a.block) (Branch on nonzero otherwise))) → TakesTurn (Rel c) (go c) c.given.room n m s (at a m s extra) (branched (env c) b.label a.locals m nonzero otherwise (operand c.globals a.locals.temps W on))
-branch_taken c n a m s extra b j on nonzero otherwise here jump item due goes =
+branch_taken : (c : Setting) (n : ℕ) (a : Activation) (m : Memory) (s : Spent) (extra : List (Option Value)) (b : Block) (j : Lined Jump) (on : Val) (nonzero otherwise : ℕ) → slice_get c.func.blocks a.block ≡ Some b → b.jump ≡ Some j → j.item ≡ Branch on nonzero otherwise → nat_eq nonzero otherwise ≡ false → Due c n a m s extra → go c (at a m s extra) ≡ ends c.globals c.func.result c.given (at a m s extra) (Some (jump_ending c.func b.label (edges_before c.func c.func.blocks a.block) (Branch on nonzero otherwise))) → TakesTurn (Rel c) (go c) c.given.room n m s (at a m s extra) (branched (env c) b.label a.locals m nonzero otherwise (operand c.globals a.locals.temps W on))
+branch_taken c n a m s extra b j on nonzero otherwise here jump item differ due goes =
     by_value (operand c.globals a.locals.temps W on) refl
   where
     edges : block_edges c.func b ≡ edge c.func b.label (target c.func.blocks nonzero) ++ edge c.func b.label (target c.func.blocks otherwise)
-    edges = ap (end_edges c.func b.label) jump ∙ ap (jump_edges c.func b.label) item
+    edges = ap (end_edges c.func b.label) jump ∙ (ap (λ x. jump_edges c.func b.label (straight x)) item ∙ ap (λ q. jump_edges c.func b.label (straight_if q on nonzero otherwise)) differ)
 
     stands : (i : ℕ) (e : Ending) → slice_get (edge c.func b.label (target c.func.blocks nonzero) ++ edge c.func b.label (target c.func.blocks otherwise)) i ≡ Some e → slice_get (all_edges c.func c.func.blocks) (edges_before c.func c.func.blocks a.block + i) ≡ Some e
     stands i e h = edge_at c.func c.func.blocks a.block i b e here (ap (λ es. slice_get es i) edges ∙ h)
@@ -392,6 +392,24 @@ branch_taken c n a m s extra b j on nonzero otherwise here jump item due goes =
         (branch_target c.func (edges_before c.func c.func.blocks a.block) (target c.func.blocks nonzero))
         (branch_target c.func (edges_before c.func c.func.blocks a.block + length (edge c.func b.label (target c.func.blocks nonzero))) (target c.func.blocks otherwise))) known))
 
+-- a branch that leads to one block by both ways
+one_way : (n a b : ℕ) → nat_eq a b ≡ true → branch_to (Integer n) a b ≡ a
+one_way n a b same = by (nat_eq n 0)
+  where
+    by : (x : Bool) → cond x b a ≡ a
+    by true = grind (arith, nat_tests)
+    by false = refl
+
+straight_taken : (c : Setting) (n : ℕ) (a : Activation) (m : Memory) (s : Spent) (extra : List (Option Value)) (from number : ℕ) (on : Val) (nonzero otherwise : ℕ) → nat_eq nonzero otherwise ≡ true → Due c n a m s extra → go c (at a m s extra) ≡ ends c.globals c.func.result c.given (at a m s extra) (Some (jump_ending c.func from number (Goto nonzero))) → TakesTurn (Rel c) (go c) c.given.room n m s (at a m s extra) (branched (env c) from a.locals m nonzero otherwise (operand c.globals a.locals.temps W on))
+straight_taken c n a m s extra from number on nonzero otherwise same due goes = by_value (operand c.globals a.locals.temps W on) refl
+  where
+    by_value : (v : Option Value) → operand c.globals a.locals.temps W on ≡ v → TakesTurn (Rel c) (go c) c.given.room n m s (at a m s extra) (branched (env c) from a.locals m nonzero otherwise v)
+    by_value None e = λ fine. absurd fine
+    by_value (Some v) e =
+        let w = word_place (value_at c.globals a.locals.temps on) v e in
+        let there : branch_to v nonzero otherwise ≡ nonzero = ap (λ u. branch_to u nonzero otherwise) w.is ∙ one_way w.number nonzero otherwise same in
+        subst (λ l. TakesTurn (Rel c) (go c) c.given.room n m s (at a m s extra) (enter (env c) from a.locals m l)) (sym there) (goto_taken c n a m s extra from number nonzero due goes)
+
 -- ---- other jumps
 
 return_taken : (c : Setting) (n : ℕ) (a : Activation) (m : Memory) (s : Spent) (extra : List (Option Value)) (from number : ℕ) (v : Option Val) → Due c n a m s extra → go c (at a m s extra) ≡ ends c.globals c.func.result c.given (at a m s extra) (Some (jump_ending c.func from number (Return v))) → TakesTurn (Rel c) (go c) c.given.room n m s (at a m s extra) (jump_effect (env c) from a.locals m (Return v))
@@ -413,10 +431,18 @@ return_taken c n a m s extra from number (Some v) due goes =
     by_class None h = λ fine. absurd fine
     by_class (Some k) h = by_value k (operand c.globals a.locals.temps k v) refl h
 
-jump_taken : (c : Setting) (n : ℕ) (a : Activation) (m : Memory) (s : Spent) (extra : List (Option Value)) (b : Block) (j : Lined Jump) (x : Jump) → slice_get c.func.blocks a.block ≡ Some b → b.jump ≡ Some j → j.item ≡ x → Due c n a m s extra → go c (at a m s extra) ≡ ends c.globals c.func.result c.given (at a m s extra) (Some (jump_ending c.func b.label (edges_before c.func c.func.blocks a.block) x)) → TakesTurn (Rel c) (go c) c.given.room n m s (at a m s extra) (jump_effect (env c) b.label a.locals m x)
+jump_taken : (c : Setting) (n : ℕ) (a : Activation) (m : Memory) (s : Spent) (extra : List (Option Value)) (b : Block) (j : Lined Jump) (x : Jump) → slice_get c.func.blocks a.block ≡ Some b → b.jump ≡ Some j → j.item ≡ x → Due c n a m s extra → go c (at a m s extra) ≡ ends c.globals c.func.result c.given (at a m s extra) (Some (jump_ending c.func b.label (edges_before c.func c.func.blocks a.block) (straight x))) → TakesTurn (Rel c) (go c) c.given.room n m s (at a m s extra) (jump_effect (env c) b.label a.locals m x)
 jump_taken c n a m s extra b j (Goto l) here jump item due goes = goto_taken c n a m s extra b.label (edges_before c.func c.func.blocks a.block) l due goes
-jump_taken c n a m s extra b j (Branch on nonzero otherwise) here jump item due goes =
-    branch_taken c n a m s extra b j on nonzero otherwise here jump item due goes
+jump_taken c n a m s extra b j (Branch on nonzero otherwise) here jump item due goes = by_ways (nat_eq nonzero otherwise) refl
+  where
+    as_it_is : (q : Bool) → nat_eq nonzero otherwise ≡ q → go c (at a m s extra) ≡ ends c.globals c.func.result c.given (at a m s extra) (Some (jump_ending c.func b.label (edges_before c.func c.func.blocks a.block) (straight_if q on nonzero otherwise)))
+    as_it_is q e =
+        goes
+        ∙ ap (λ x. ends c.globals c.func.result c.given (at a m s extra) (Some (jump_ending c.func b.label (edges_before c.func c.func.blocks a.block) (straight_if x on nonzero otherwise)))) e
+
+    by_ways : (q : Bool) → nat_eq nonzero otherwise ≡ q → TakesTurn (Rel c) (go c) c.given.room n m s (at a m s extra) (branched (env c) b.label a.locals m nonzero otherwise (operand c.globals a.locals.temps W on))
+    by_ways true e = straight_taken c n a m s extra b.label (edges_before c.func c.func.blocks a.block) on nonzero otherwise e due (as_it_is true e)
+    by_ways false e = branch_taken c n a m s extra b j on nonzero otherwise here jump item e due (as_it_is false e)
 jump_taken c n a m s extra b j (Return v) here jump item due goes = return_taken c n a m s extra b.label (edges_before c.func c.func.blocks a.block) v due goes
 jump_taken c n a m s extra b j Halt here jump item due goes =
     λ fine. (1, one_step c (at a m s extra) _ (ends_turn c n a m s extra (one_turn_ending HaltRun) due refl goes))
@@ -446,7 +472,7 @@ turn_due c n a m s extra due (Some b) here = turn_of_block c n a m s extra b her
 
 ending_turns : (f : Func) (from number : ℕ) (j : Option (Lined Jump)) → (end_ending f from number j).turn ≡ true
 ending_turns f from number None = refl
-ending_turns f from number (Some j) = by j.item
+ending_turns f from number (Some j) = by (straight j.item)
   where
     by : (x : Jump) → (jump_ending f from number x).turn ≡ true
     by (Goto l) = refl

@@ -1,6 +1,6 @@
 -- The endings that stand for a function's jumps and phis. The phis of a block are done where it is entered from: first the operand of each is read into a
 -- temporary of the phi's own, then each is written. After a branch they stand in a block of their own, an edge.
-use Rattle.std.specs.Prelude.{ℕ, zero, suc, ◌+◌, nat_eq, true, false, List, [], ◌∷◌, ◌++◌, length, slice_get, Option, Some, None}
+use Rattle.std.specs.Prelude.{ℕ, zero, suc, ◌+◌, nat_eq, Bool, true, false, List, [], ◌∷◌, ◌++◌, length, slice_get, Option, Some, None}
 use Rattle.std.specs.List.{find}
 use Rattle.il_ast.specs.declared.operand.Val.{Val}
 use Rattle.il_ast.specs.declared.operand.Val.TheVariants.{Int, Temp}
@@ -79,6 +79,17 @@ edge_with f from k (p ∷ ps) = record { turn = false; weight = length (p ∷ ps
 abbrev pub edge : Func → (from k : ℕ) → List Ending
 edge f from k = edge_with f from k (phis_at f.blocks k)
 
+-- a branch that leads to one block by both ways is a jump there
+abbrev pub straight_if : Bool → Val → (nonzero otherwise : ℕ) → Jump
+straight_if true on nonzero otherwise = Goto nonzero
+straight_if false on nonzero otherwise = Branch on nonzero otherwise
+
+abbrev pub straight : Jump → Jump
+straight (Goto l) = Goto l
+straight (Branch on nonzero otherwise) = straight_if (nat_eq nonzero otherwise) on nonzero otherwise
+straight (Return a) = Return a
+straight Halt = Halt
+
 abbrev pub jump_edges : Func → (from : ℕ) → Jump → List Ending
 jump_edges f from (Goto l) = []
 jump_edges f from (Branch on nonzero otherwise) = edge f from (target f.blocks nonzero) ++ edge f from (target f.blocks otherwise)
@@ -87,7 +98,7 @@ jump_edges f from Halt = []
 
 abbrev pub end_edges : Func → (from : ℕ) → Option (Lined Jump) → List Ending
 end_edges f from None = []
-end_edges f from (Some j) = jump_edges f from j.item
+end_edges f from (Some j) = jump_edges f from (straight j.item)
 
 abbrev pub block_edges : Func → Block → List Ending
 block_edges f b = end_edges f b.label b.jump
@@ -128,7 +139,7 @@ jump_ending f from number Halt = one_turn_ending HaltRun
 -- a block without a jump, which no program has, halts
 abbrev pub end_ending : Func → (from number : ℕ) → Option (Lined Jump) → Ending
 end_ending f from number None = one_turn_ending HaltRun
-end_ending f from number (Some j) = jump_ending f from number j.item
+end_ending f from number (Some j) = jump_ending f from number (straight j.item)
 
 abbrev pub block_ending : Func → (number : ℕ) → Block → Ending
 block_ending f number b = end_ending f b.label number b.jump

@@ -1,6 +1,6 @@
 //! The blocks between a branch and a block with phis.
 ghost use Rattle.std.specs.Prelude.{◌≡◌, ◌++◌, ◌≤◌, length, OnOk};
-ghost use Rattle.phi_copies.specs.Lowered.{edge, block_edges, branch_target};
+ghost use Rattle.phi_copies.specs.Lowered.{edge, block_edges, branch_target, straight};
 
 use crate::copies::entry_copies;
 use crate::ending::{Ending, Leave};
@@ -53,6 +53,32 @@ fn push_edge(
     Ok(())
 }
 
+/// The jump, where a branch that leads to one block by both ways is a jump there.
+pub fn straight(jump: &Jump) -> Jump
+    ensures { result ≡ straight jump.now }
+{
+    match *jump {
+        Jump::Branch {
+            on,
+            nonzero,
+            otherwise,
+        } => {
+            if nonzero.number() == otherwise.number() {
+                Jump::Goto(nonzero)
+            } else {
+                Jump::Branch {
+                    on,
+                    nonzero,
+                    otherwise,
+                }
+            }
+        }
+        Jump::Goto(label) => Jump::Goto(label),
+        Jump::Return(value) => Jump::Return(value),
+        Jump::Halt => Jump::Halt,
+    }
+}
+
 /// Puts the edges of a block behind the others.
 pub fn push_edges(
     alloc: Global,
@@ -63,7 +89,7 @@ pub fn push_edges(
     ensures { OnOk result (edges.new.items ≡ edges.old.items ++ block_edges map.now.func.now block.now) }
 {
     match &block.jump {
-        Some(jump) => match jump.item {
+        Some(jump) => match straight(&jump.item) {
             Jump::Branch {
                 on: _,
                 nonzero,

@@ -6,7 +6,7 @@ ghost use Rattle.phi_copies.specs.Lowered.{block_ending, jump_ending};
 ghost use Rattle.std.proofs.Props.{props};
 
 use crate::copies::entry_copies;
-use crate::edges::{branch_target, edge_count, push_edges};
+use crate::edges::{branch_target, edge_count, push_edges, straight};
 use crate::ending::{Ending, Leave};
 use crate::map::{Map, map_of, phis_at, target};
 use crate::no_phi::NoPhi;
@@ -50,7 +50,7 @@ fn block_ending(
     ensures { IfOk result (λ ending. ending ≡ block_ending map.now.func.now number block.now) }
 {
     match &block.jump {
-        Some(jump) => jump_ending(alloc, map, block.label, number, &jump.item),
+        Some(jump) => jump_ending(alloc, map, block.label, number, &straight(&jump.item)),
         None => Ok(one_turn(alloc, Leave::Halt)),
     }
 }

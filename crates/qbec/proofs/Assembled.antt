@@ -3,13 +3,11 @@ use Rattle.std.proofs.Common.{◌≡◌, ℕ, ◌+◌, ◌*◌, ◌≤◌, List,
 use Rattle.std.specs.Prelude.{Option}
 use Rattle.il_ast.specs.declared.function.Func.{Func}
 use Rattle.il_ast.specs.declared.operation.Class.{Class}
-use Rattle.std.specs.Prelude.{Bool, true, false, ◌&&◌, nat_le}
+use Rattle.std.specs.Prelude.{Bool, true, false, ◌&&◌, nat_le, IsTrue}
 use Rattle.std.proofs.lemmas.Bool.Decides.{nat_tests}
-use Rattle.il_ast.specs.Cost.{need, phi_count, weight}
-use Rattle.il_types.specs.Capped.{capped}
+use Rattle.il_ast.specs.Cost.{need, phi_count, round_16, weight}
 use Rattle.phi_copies.specs.Good.{IsGoodFunction}
 use Rattle.vcode.specs.declared.function.LFunc.{LFunc}
-use Rattle.alloc_check.specs.Kept.{Keeps}
 use Rattle.flat_code.specs.Laws.{FlatKept}
 use Rattle.headline.specs.Located.{KeepsLocated}
 use Rattle.headline.proofs.LocationCode.{location_code_keeps}
@@ -20,20 +18,22 @@ use Rattle.vcode.specs.declared.place.Location.{Location}
 use Rattle.vcode.specs.declared.place.Destination.{Destination}
 use Rattle.vcode.specs.declared.code.Code.{Code}
 use Rattle.vcode.specs.Places.{located}
-use Rattle.vcode.specs.Regular.{area}
+use Rattle.vcode.specs.Regular.{area, code_weight}
 use Rattle.vcode.specs.Step.{begin, step}
 use Rattle.select.specs.Selected.{selected}
 use Rattle.alloc_check.specs.Placed.{in_slots}
 use Rattle.flat_code.specs.Flat.{FlatGiven, FlatAsked, FlatOutcome, KeepsFlat}
 use Rattle.flat_code.specs.Step.{flat_begin, flat_step}
 use Rattle.abi_frames.specs.Calls.{World, GoodStack}
-use Rattle.abi_frames.specs.Layout.{frame_bound, frame_size}
+use Rattle.abi_frames.specs.Layout.{outgoing, frame_bound, frame_size}
 use Rattle.abi_frames.specs.Promise.{FramePromise}
 use Rattle.rv_isa.specs.declared.labelled.Item.{Item}
 use Rattle.rv_isa.specs.Words.{Words}
 use Rattle.headline.specs.Compiled.{StandFor}
-use Rattle.qbec.specs.Words.{IsLocated, IsLaidOut}
+use Rattle.qbec.specs.Words.{IsPlacing, IsAllocated, IsLocated, IsLaidOut}
 use Rattle.qbec.proofs.Needs.{stack_enough, same_classes}
+use Rattle.select.proofs.Weights.{weighs_no_more}
+use Rattle.qbec.proofs.Allocations.{same_area, same_weight, same_outgoing, same_param_classes, same_result}
 
 -- with more stack, of which less was asked
 less_stack : (w : World) (sp low high room : ℕ) → low ≤ high → GoodStack w sp (high + room) → GoodStack w sp (low + room)
@@ -55,24 +55,30 @@ classes_same : (f : Func) → map (λ (d : Destination Location). d.class) (in_s
 unfolding selected
 classes_same f = same_classes f.params
 
-result_same : (f : Func) → (in_slots (selected f (lowered f))).result ≡ f.result
+result_same : (f : Func) → (selected f (lowered f)).result ≡ f.result
 unfolding selected
 result_same f = refl
 
-pub is_located : (f : Func) (v : Code ℕ) (registers : ℕ) (l r : LFunc) → IsGoodFunction f → v ≡ selected f (lowered f) → registers ≡ length f.temps + phi_count f → l.code ≡ in_slots v → l.slots ≡ registers → Keeps v l.code → r ≡ l → FlatKept r.code → IsLocated f r.code r.slots
-is_located f v registers l r good is many placed slots kept same bytes =
+pub is_located : (f : Func) (v : Code ℕ) (registers : ℕ) (l r : LFunc) → IsGoodFunction f → v ≡ selected f (lowered f) → registers ≡ length f.temps + phi_count f → IsAllocated v registers l.code l.slots → r ≡ l → FlatKept r.code → IsLocated f r.code r.slots
+is_located f v registers l r good is many a same bytes =
     record {
-      is = ap (λ (x : LFunc). x.code) same ∙ (placed ∙ ap in_slots is);
-      many = ap (λ (x : LFunc). x.slots) same ∙ (slots ∙ many);
-      meaning = subst (λ (x : LFunc). KeepsLocated f x.code) (sym same) (location_code_keeps f v l.code good is kept);
+      is = subst (λ (x : LFunc). IsPlacing (selected f (lowered f)) x.code) (sym same) (subst (λ x. IsPlacing x l.code) is a.is);
+      many = ap (λ (x : LFunc). x.slots) same ∙ (a.many ∙ many);
+      meaning = subst (λ (x : LFunc). KeepsLocated f x.code) (sym same) (location_code_keeps f v l.code good is a.kept);
       bytes = bytes;
     }
 
+-- its frame is as large as that of the code in slots
+bound_same : (f : Func) (code : Code Location) (slots : ℕ) → IsPlacing (selected f (lowered f)) code → frame_bound (in_slots (selected f (lowered f))) slots ≡ frame_bound code slots
+bound_same f code slots is =
+    ap (λ n. round_16 (n + 8 * (slots + outgoing (in_slots (selected f (lowered f))) + 16))) (sym (same_area (selected f (lowered f)) code is))
+    ∙ ap (λ n. round_16 (area code + 8 * (slots + n + 16))) (sym (same_outgoing (selected f (lowered f)) code is))
+
 pub stand_for : (f : Func) (code : Code Location) (slots : ℕ) (c : Words) → IsLocated f code slots → IsLaidOut code slots c → StandFor f c
 stand_for f code slots c l o =
-    let classes : map (λ (d : Destination Location). d.class) code.params ≡ classes_of f.params = ap (λ (x : Code Location). map (λ (d : Destination Location). d.class) x.params) l.is ∙ classes_same f in
-    let result : code.result ≡ f.result = ap (λ (x : Code Location). x.result) l.is ∙ result_same f in
-    let enough : frame_bound code slots ≤ need f = subst (λ (x : Code Location). frame_bound x slots ≤ need f) (sym l.is) (stack_enough f slots l.many) in
+    let classes : map (λ (d : Destination Location). d.class) code.params ≡ classes_of f.params = same_param_classes (selected f (lowered f)) code l.is ∙ classes_same f in
+    let result : code.result ≡ f.result = same_result (selected f (lowered f)) code l.is ∙ result_same f in
+    let enough : frame_bound code slots ≤ need f = subst (λ n. n ≤ need f) (bound_same f code slots l.is) (stack_enough f slots l.many) in
     record {
       code = code;
       items = o.items;
@@ -91,19 +97,28 @@ stand_for f code slots c l o =
 
 -- ---- weights
 
-weight_within : (f : Func) → IsGoodFunction f → weight f ≤ 40000
-weight_within f good = by (nat_le (weight f) 40000) _ refl good.limits
+pub few_words : (n code all : ℕ) → n ≤ 32 * code + 256 → code ≤ all → n ≤ 32 * all + 256
+few_words n code all few le = omega (arith, few, le)
+
+limit : (f : Func) → IsGoodFunction f → weight f ≤ 40000
+limit f good = by (nat_le (weight f) 40000) _ refl good.limits
   where
     by : (b rest : Bool) → nat_le (weight f) 40000 ≡ b → (b && rest) ≡ true → weight f ≤ 40000
     by true rest e h = grind (arith, nat_tests)
     by false rest e h = absurd (let no : ⊥ = cc in no)
 
-capped_least : (w b x y : ℕ) → w ≤ 40000 → x ≡ capped w → y ≡ capped b → y ≤ x → b ≤ w
-capped_least w b x y few hx hy le = omega (arith, few, hx, hy, le)
+-- the code weighs no more than the function, and so no more than a function may
+pub code_light : (f : Func) (code : Code Location) (slots : ℕ) → IsGoodFunction f → IsLocated f code slots → code_weight code ≤ weight f
+code_light f code slots good l =
+    let same : code_weight code ≡ code_weight (selected f (lowered f)) = same_weight (selected f (lowered f)) code l.is in
+    let light = weighs_no_more f good in
+    omega (arith, same, light)
 
--- the code weighs no more than the function
-pub not_heavier : (f : Func) → IsGoodFunction f → (b x y : ℕ) → x ≡ capped (weight f) → y ≡ capped b → y ≤ x → b ≤ weight f
-not_heavier f good b x y hx hy le = capped_least (weight f) b x y (weight_within f good) hx hy le
+within : (n : ℕ) → n ≤ 40000 → IsTrue (nat_le n 40000)
+within n h = grind (arith, nat_tests)
 
-pub few_words : (n code all : ℕ) → n ≤ 32 * code + 256 → code ≤ all → n ≤ 32 * all + 256
-few_words n code all few le = omega (arith, few, le)
+pub code_within : (f : Func) (code : Code Location) (slots : ℕ) → IsGoodFunction f → IsLocated f code slots → IsTrue (nat_le (code_weight code) 40000)
+code_within f code slots good l =
+    let light = code_light f code slots good l in
+    let few = limit f good in
+    within (code_weight code) (omega (arith, light, few))

@@ -16,6 +16,7 @@ use Rattle.qbec.specs.declared.texts.TextError.TheVariants.{Syntax, Rule, Limit 
 use Rattle.qbec.specs.declared.compile.CompileError.{CompileError}
 use Rattle.qbec.specs.declared.compile.CompileError.TheVariants.{Text, UnknownName, ExportedTwice, NoMain, Limit, Memory, NotYet}
 use Rattle.qbec.specs.Texts.{AreTexts, Says}
+use Rattle.qbec.specs.Plain.{HasOther}
 use Rattle.qbec.specs.Compile.{AreProgram, IsFile, IsCompiled, Refuses, IsOurs, SaysAsMuch, text_refusal}
 
 -- ---- texts that were read
@@ -95,13 +96,13 @@ pub file_compiled : (texts : List (Bor (List ℕ))) (p : Program) (r : Result (V
 file_compiled texts p (Ok v) are h = record { program = p; are = are; is = h }
 file_compiled texts p (Err e) are h = tt
 
-ours_refuses : (texts : List (Bor (List ℕ))) (p : Program) (e : CompileError) → AreProgram texts p → IsOurs e → Refuses e texts
-ours_refuses texts p e are (inl is) = subst (λ x. Refuses x texts) (sym is) tt
-ours_refuses texts p e are (inr is) = subst (λ x. Refuses x texts) (sym is) (p, are)
+ours_refuses : (texts : List (Bor (List ℕ))) (p : Program) (e : CompileError) → AreProgram texts p → IsOurs e → (e ≡ NotYet → HasOther p.functions) → Refuses e texts
+ours_refuses texts p e are (inl is) other = subst (λ x. Refuses x texts) (sym is) tt
+ours_refuses texts p e are (inr is) other = subst (λ x. Refuses x texts) (sym is) (p, are, other is)
 
-pub file_refused : (texts : List (Bor (List ℕ))) (p : Program) (r : Result (Vec ℕ Global) CompileError) → AreProgram texts p → MatchResult r (λ v. IsFile p v.items) IsOurs → IfErr r (λ e. Refuses e texts)
-file_refused texts p (Ok v) are h = tt
-file_refused texts p (Err e) are h = ours_refuses texts p e are h
+pub file_refused : (texts : List (Bor (List ℕ))) (p : Program) (r : Result (Vec ℕ Global) CompileError) → AreProgram texts p → MatchResult r (λ v. IsFile p v.items) IsOurs → IfErr r (λ e. e ≡ NotYet → HasOther p.functions) → IfErr r (λ e. Refuses e texts)
+file_refused texts p (Ok v) are h other = tt
+file_refused texts p (Err e) are h other = ours_refuses texts p e are h other
 
 pub file_ours : (p : Program) (r : Result (Vec ℕ Global) CompileError) → MatchResult r (λ v. IsFile p v.items) IsOurs → IfErr r IsOurs
 file_ours p (Ok v) h = tt

@@ -1,6 +1,8 @@
 pub mod TextLemmas
 pub mod Needs
+pub mod Allocations
 pub mod Assembled
+pub mod PlainCode
 pub mod CodeLemmas
 pub mod FileLemmas
 pub mod CompileLemmas

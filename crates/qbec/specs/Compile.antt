@@ -24,6 +24,7 @@ use Rattle.obj_link.specs.declared.error.LinkError.TheVariants.{UnknownName as L
 use Rattle.qbec.specs.declared.texts.TextError.{TextError}
 use Rattle.qbec.specs.declared.texts.TextError.TheVariants.{Syntax, Rule, Limit as TextLimit, Memory as TextMemory}
 use Rattle.qbec.specs.Texts.{AreTexts, Says}
+use Rattle.qbec.specs.Plain.{HasOther}
 
 -- texts that are this program: each is in the grammar and keeps the rules, and together they link to it
 pub record AreProgram (texts : List (Bor (List ℕ))) (p : Program) : Type 0 where
@@ -45,7 +46,7 @@ pub record IsCompiled (texts : List (Bor (List ℕ))) (bytes : List ℕ) : Type 
   pub are : AreProgram texts program
   pub is : IsFile program bytes
 
--- what a refusal says of texts: nothing where memory was refused; and of a program, that it can't be compiled yet
+-- what a refusal says of texts: nothing where memory was refused; and of a program, that one of its functions can't be compiled yet
 abbrev pub Refuses : CompileError → List (Bor (List ℕ)) → Type 0
 Refuses (Text e) texts = Says e 1 texts
 Refuses (UnknownName name) texts = (checked : List Checked) × AreTexts texts checked × IsUnknown (meaning_of checked) checked name.items
@@ -53,7 +54,7 @@ Refuses (ExportedTwice name) texts = (checked : List Checked) × AreTexts texts 
 Refuses NoMain texts = (checked : List Checked) × AreTexts texts checked × (main_of checked ≡ None)
 Refuses Limit texts = (checked : List Checked) × AreTexts texts checked × (within_limits checked (functions_of checked) (objects_of checked) ≡ false)
 Refuses Memory texts = Unit {0}
-Refuses NotYet texts = (p : Program) × AreProgram texts p
+Refuses NotYet texts = (p : Program) × AreProgram texts p × HasOther p.functions
 
 -- the refusals that a program may meet
 abbrev pub IsOurs : CompileError → Type 0

@@ -2,3 +2,4 @@ pub mod Texts
 pub mod Words
 pub mod Codes
 pub mod Compile
+pub mod Plain

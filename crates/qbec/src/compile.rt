@@ -5,6 +5,8 @@ ghost use Rattle.il_ast.specs.declared.program.Program.{Program};
 ghost use Rattle.obj_link.specs.ProgramOf.{program};
 ghost use Rattle.obj_link.specs.Program.{IsProgram};
 ghost use Rattle.qbec.specs.Codes.{AreGood, AreWords};
+ghost use Rattle.qbec.specs.Plain.{HasOther};
+ghost use Rattle.qbec.specs.declared.compile.CompileError.TheVariants.{Memory, NotYet};
 ghost use Rattle.qbec.specs.Compile.{AreProgram, IsFile, IsCompiled, Refuses, IsOurs, SaysAsMuch, text_refusal};
 
 use crate::codes::codes_of;
@@ -14,6 +16,7 @@ use obj_link::error::LinkError;
 use obj_link::linked::Linked;
 use obj_link::place::place;
 use obj_link::resolve::resolve;
+use regalloc::strategy::Strategy;
 use rv_isa::code::Code;
 use std::alloc::{AllocError, Global};
 
@@ -50,7 +53,7 @@ impl From<AllocError> for CompileError {
 fn file_of(alloc: Global, linked: &Linked<'_>, codes: &[Code]) -> Result<Vec<u8>, CompileError>
     requires program { IsProgram linked.now.texts.now (program linked.now) }
     requires words { AreWords codes.now (program linked.now).functions }
-    ensures { MatchResult result (λ v. IsFile (program linked.now) v.items) IsOurs }
+    ensures { MatchResult result (λ v. IsFile (program linked.now) v.items) (λ e. e ≡ Memory) }
 {
     match place(alloc, codes, linked) {
         Ok(image) => {
@@ -61,12 +64,17 @@ fn file_of(alloc: Global, linked: &Linked<'_>, codes: &[Code]) -> Result<Vec<u8>
     }
 }
 
-fn compiled(alloc: Global, linked: &Linked<'_>) -> Result<Vec<u8>, CompileError>
+fn compiled(
+    alloc: Global,
+    linked: &Linked<'_>,
+    how: &mut Box<dyn Strategy>,
+) -> Result<Vec<u8>, CompileError>
     requires program { IsProgram linked.now.texts.now (program linked.now) }
     requires good { AreGood linked.now.functions }
-    ensures { MatchResult result (λ v. IsFile (program linked.now) v.items) IsOurs }
+    ensures all { MatchResult result (λ v. IsFile (program linked.now) v.items) IsOurs }
+    ensures other { IfErr result (λ e. e ≡ NotYet → HasOther (program linked.now).functions) }
 {
-    match codes_of(alloc, linked.functions.as_slice())? {
+    match codes_of(alloc, linked.functions.as_slice(), how)? {
         Some(codes) => file_of(alloc, linked, codes.as_slice()),
         None => Err(CompileError::NotYet),
     }
@@ -107,7 +115,7 @@ fn link_refusal(alloc: Global, error: LinkError<'_>) -> CompileError
     }
 }
 
-/// Compiles texts to an executable file.
+/// Compiles texts to an executable file, with the registers that the strategy chooses, where that is right: whatever it answers, the executable does the same.
 ///
 /// The bytes are a static ELF64 executable of the program that the texts are: from every start of the machine with argument words within their limits it
 /// executes the program.
@@ -115,15 +123,20 @@ fn link_refusal(alloc: Global, error: LinkError<'_>) -> CompileError
 /// # Errors
 ///
 /// `CompileError::Text`, `UnknownName`, `ExportedTwice`, `NoMain` and `Limit` say why the texts are no program, and are answered for no others. `Memory` is
-/// answered only where memory was refused. `NotYet` says that the texts are a program whose machine code can't be made yet.
-pub fn compile(alloc: Global, texts: &[&[u8]]) -> Result<Vec<u8>, CompileError>
+/// answered only where memory was refused. `NotYet` says that the texts are a program, and that the machine code of one of its functions can't be made yet: of one that
+/// has parameters, calls, or makes or changes memory.
+pub fn compile(
+    alloc: Global,
+    texts: &[&[u8]],
+    how: &mut Box<dyn Strategy>,
+) -> Result<Vec<u8>, CompileError>
     ensures file { IfOk result (λ v. IsCompiled texts.now v.items) }
     ensures refused { IfErr result (λ e. Refuses e texts.now) }
     ensures only { (p : Program) → AreProgram texts.now p → IfErr result IsOurs }
 {
     match checked_texts(alloc, texts) {
         Ok(checked) => match resolve(alloc, checked.as_slice()) {
-            Ok(linked) => compiled(alloc, &linked),
+            Ok(linked) => compiled(alloc, &linked, how),
             Err(error) => Err(link_refusal(alloc, error)),
         },
         Err(error) => Err(text_refusal(error)),

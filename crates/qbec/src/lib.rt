@@ -6,5 +6,4 @@
 pub mod codes;
 pub mod compile;
 pub mod texts;
-pub mod weight;
 pub mod words;

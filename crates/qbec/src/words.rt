@@ -1,33 +1,80 @@
 //! The words of one function.
-ghost use Rattle.std.specs.Prelude.{◌≡◌, ◌+◌, ◌*◌, ◌≤◌, IfOk, IfSome, IsTrue, length, nat_le};
+ghost use Rattle.std.specs.Prelude.{◌≡◌, ◌+◌, ◌*◌, ◌≤◌, IfOk, IfSome, IsTrue, None, false, length, nat_le};
 ghost use Rattle.il_ast.specs.Cost.{weight};
 ghost use Rattle.phi_copies.specs.Good.{IsGoodFunction};
 ghost use Rattle.vcode.specs.Regular.{code_weight};
 ghost use Rattle.abi_frames.specs.Covered.{is_covered};
 ghost use Rattle.headline.specs.Compiled.{StandFor};
-ghost use Rattle.qbec.specs.Words.{IsLocated, IsLaidOut};
+ghost use Rattle.qbec.specs.Plain.{is_plain};
+ghost use Rattle.qbec.specs.Words.{IsAllocated, IsLocated, IsLaidOut};
 
-use crate::weight::blocks_weight;
 use abi_frames::covered::covers;
 use abi_frames::frame::frame;
+use alloc_check::accept::{Refused, accept};
 use alloc_check::spill_all::spill_all;
 use asm_layout::layout::layout;
+use cfg_live::live::live;
 use flat_code::function::{FlatFunc, flat};
 use il_ast::function::Func;
-use il_types::cost::weight;
 use phi_copies::lower::lower;
+use regalloc::certificate::Certificate;
+use regalloc::strategy::Strategy;
 use rv_isa::code::Code;
 use select::select::select;
 use std::alloc::{AllocError, Global};
+use vcode::function::{LFunc, VFunc};
 
-/// The function in location code, with every register in a slot of its own, to be read on bytes.
-pub fn located(alloc: Global, func: &Func) -> Result<FlatFunc, AllocError>
+// By this certificate where it is right, else with every register in a slot of its own.
+fn certified(
+    alloc: Global,
+    function: &VFunc,
+    certificate: &Certificate,
+) -> Result<LFunc, AllocError>
+    ensures { IfOk result (λ l. IsAllocated function.now.code function.now.registers l.code l.slots) }
+{
+    match accept(alloc, function, certificate) {
+        Ok(located) => Ok(located),
+        Err(Refused::No) => spill_all(alloc, function),
+        Err(Refused::Memory) => Err(AllocError),
+    }
+}
+
+/// The function in location code: by the certificate that the strategy answers, where it answers a right one, else with every register in a slot of its own.
+///
+/// # Errors
+///
+/// Only where memory was refused.
+pub fn allocated(
+    alloc: Global,
+    function: &VFunc,
+    how: &mut Box<dyn Strategy>,
+) -> Result<LFunc, AllocError>
+    ensures { IfOk result (λ l. IsAllocated function.now.code function.now.registers l.code l.slots) }
+{
+    let live = live(alloc, function)?;
+    match how.choose(function, &live) {
+        Some(certificate) => certified(alloc, function, &certificate),
+        None => spill_all(alloc, function),
+    }
+}
+
+/// The function in location code, to be read on bytes.
+///
+/// # Errors
+///
+/// Only where memory was refused.
+pub fn located(
+    alloc: Global,
+    func: &Func,
+    how: &mut Box<dyn Strategy>,
+) -> Result<FlatFunc, AllocError>
     requires { IsGoodFunction func.now }
     ensures { IfOk result (λ f. IsLocated func.now f.located.code f.located.slots) }
 {
     let lowered = lower(alloc, func)?;
     let function = select(alloc, &lowered)?;
-    Ok(flat(spill_all(alloc, &function)?))
+    let placed = allocated(alloc, &function, how)?;
+    Ok(flat(placed))
 }
 
 /// The words of a function's machine code.
@@ -41,20 +88,22 @@ pub fn laid_out(alloc: Global, function: &FlatFunc) -> Result<Code, AllocError>
     Ok(code)
 }
 
-/// The words of a function, or none where the machine code of its frame can't be made yet: where its code isn't covered, or weighs more than the function.
+/// The words of a function, or none where the machine code of its frame can't be made yet, which is so of no plain function.
 ///
 /// # Errors
 ///
 /// Only where memory was refused.
-pub fn function_words(alloc: Global, func: &Func) -> Result<Option<Code>, AllocError>
+pub fn function_words(
+    alloc: Global,
+    func: &Func,
+    how: &mut Box<dyn Strategy>,
+) -> Result<Option<Code>, AllocError>
     requires { IsGoodFunction func.now }
-    ensures { IfOk result (λ o. IfSome o (λ c. StandFor func.now c × (length c.words ≤ 32 * weight func.now + 256))) }
+    ensures words { IfOk result (λ o. IfSome o (λ c. StandFor func.now c × (length c.words ≤ 32 * weight func.now + 256))) }
+    ensures none { IfOk result (λ o. o ≡ None → is_plain func.now ≡ false) }
 {
-    let function = located(alloc, func)?;
+    let function = located(alloc, func, how)?;
     if !covers(&function) {
-        return Ok(None);
-    }
-    if blocks_weight(function.located.code.blocks.as_slice()) > weight(func) {
         return Ok(None);
     }
     let code = laid_out(alloc, &function)?;

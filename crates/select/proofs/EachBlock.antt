@@ -20,7 +20,7 @@ use Rattle.il_types.specs.Locals.{is_label, is_entry}
 use Rattle.phi_copies.specs.declared.ending.Ending.{Ending}
 use Rattle.phi_copies.specs.declared.ending.Leave.TheVariants.{Goto as GotoBlock}
 use Rattle.phi_copies.specs.Good.{IsGoodFunction}
-use Rattle.phi_copies.specs.Lowered.{target, phis_at, entry_copies, edge_with, edge, jump_edges, end_edges, block_edges, all_edges, block_ending, all_endings}
+use Rattle.phi_copies.specs.Lowered.{target, phis_at, entry_copies, edge_with, edge, jump_edges, end_edges, block_edges, all_edges, block_ending, all_endings, straight, straight_if}
 use Rattle.vcode.specs.declared.code.Block.{Block as VirtualBlock}
 use Rattle.select.specs.Selected.{block_of, edge_of, blocks_of}
 use Rattle.select.proofs.Typing.{Among, among_left, among_right, neither_first, not_broken, none_among, not_false}
@@ -82,13 +82,17 @@ edges_all f test (b ∷ bs) each =
     side l [] br e = refl
     side l (p ∷ ps) br e = ap (λ x. x && true) (each b l p ps (inl refl) br e)
 
-    by_jump : (j : Lined Jump) (x : Jump) → b.jump ≡ Some j → j.item ≡ x → list_all test (map edge_of (jump_edges f b.label x)) ≡ true
-    by_jump j (Goto l) e i = refl
-    by_jump j (Branch on nonzero otherwise) e i =
+    by_ways : (j : Lined Jump) (on : Val) (nonzero otherwise : ℕ) (q : Bool) → b.jump ≡ Some j → j.item ≡ Branch on nonzero otherwise → list_all test (map edge_of (jump_edges f b.label (straight_if q on nonzero otherwise))) ≡ true
+    by_ways j on nonzero otherwise true e i = refl
+    by_ways j on nonzero otherwise false e i =
         ap (list_all test) (map_both edge_of (edge f b.label (target f.blocks nonzero)) (edge f b.label (target f.blocks otherwise)))
         ∙ all_both test (map edge_of (edge f b.label (target f.blocks nonzero))) (map edge_of (edge f b.label (target f.blocks otherwise)))
         (side nonzero (phis_at f.blocks (target f.blocks nonzero)) (record { jump = j; ends = e; on = on; nonzero = nonzero; otherwise = otherwise; is = i; label = inl refl }) refl)
         (side otherwise (phis_at f.blocks (target f.blocks otherwise)) (record { jump = j; ends = e; on = on; nonzero = nonzero; otherwise = otherwise; is = i; label = inr refl }) refl)
+
+    by_jump : (j : Lined Jump) (x : Jump) → b.jump ≡ Some j → j.item ≡ x → list_all test (map edge_of (jump_edges f b.label (straight x))) ≡ true
+    by_jump j (Goto l) e i = refl
+    by_jump j (Branch on nonzero otherwise) e i = by_ways j on nonzero otherwise (nat_eq nonzero otherwise) e i
     by_jump j (Return a) e i = refl
     by_jump j Halt e i = refl
 

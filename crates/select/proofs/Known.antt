@@ -1,5 +1,5 @@
 -- The virtual code of a lowered function of a good text names registers below its count, and its parameters have low ones of their own.
-use Rattle.std.proofs.Common.{◌≡◌, ℕ, ◌+◌, ◌<◌, ◌≤◌, Bool, true, not, nat_eq, ◌&&◌, List, [], ◌∷◌, ◌++◌, length, map, refl, sym, ◌∙◌, ap, subst, arith, ◌⊎◌, inl, inr}
+use Rattle.std.proofs.Common.{◌≡◌, ℕ, ◌+◌, ◌<◌, ◌≤◌, Bool, true, not, nat_eq, ◌&&◌, List, [], ◌∷◌, ◌++◌, length, map, refl, sym, ◌∙◌, ap, subst, arith, ◌⊎◌, inl, inr, false}
 use Rattle.std.specs.Prelude.{slice_get, Option, Some, None}
 use Rattle.std.specs.List.{list_all, flat_map, find}
 use Rattle.std.proofs.lemmas.Bool.Decides.{nat_tests}
@@ -30,7 +30,7 @@ use Rattle.il_types.specs.Locals.{is_defined, in_returns, returned_breaks, break
 use Rattle.phi_copies.specs.declared.ending.Assignment.{Assignment}
 use Rattle.phi_copies.specs.declared.ending.Ending.{Ending}
 use Rattle.phi_copies.specs.Good.{IsGoodFunction}
-use Rattle.phi_copies.specs.Lowered.{value_or_zero, source, reads, writes, copies_of, phis_of, phis_before, entry_copies, target, all_edges, jump_ending, end_ending, block_ending, all_endings, lowered}
+use Rattle.phi_copies.specs.Lowered.{value_or_zero, source, reads, writes, copies_of, phis_of, phis_before, entry_copies, target, all_edges, jump_ending, end_ending, block_ending, all_endings, lowered, straight, straight_if}
 use Rattle.phi_copies.proofs.EdgePlaces.{phis_counted}
 use Rattle.vcode.specs.declared.place.Operand.{Operand}
 use Rattle.vcode.specs.declared.place.Argument.{Argument}
@@ -222,17 +222,21 @@ pub record EndingKeeps (f : Func) (e : Ending) : Type 0 where
   pub copies : AllCopies f e.copies
   pub leaves : jump_keeps (Below f) (jump_of e.leave) ≡ true
 
-jump_ending_keeps : (f : Func) → IsGoodFunction f → (b : Block) (j : Lined Jump) (x : Jump) (m : ℕ) → Among b f.blocks → b.jump ≡ Some j → j.item ≡ x → EndingKeeps f (jump_ending f b.label m x)
+jump_ending_keeps : (f : Func) → IsGoodFunction f → (b : Block) (j : Lined Jump) (x : Jump) (m : ℕ) → Among b f.blocks → b.jump ≡ Some j → j.item ≡ x → EndingKeeps f (jump_ending f b.label m (straight x))
 jump_ending_keeps f good b j (Goto l) m a e i = record { copies = entry_keeps f good b.label (target f.blocks l); leaves = refl }
-jump_ending_keeps f good b j (Branch on nonzero otherwise) m a e i =
-    record {
-      copies = tt;
-      leaves = reading_keeps f good (operand_at j.line W on)
-          (flat_among block_operands f.blocks b _ a
-          (among_right _ (flat_map phi_operands b.phis) (flat_map inst_operands b.insts ++ end_operands b.jump)
-          (among_right _ (flat_map inst_operands b.insts) (end_operands b.jump)
-          (subst (λ o. Among (operand_at j.line W on) (end_operands o)) (sym e) (subst (λ y. Among (operand_at j.line W on) (jump_operands j.line y)) (sym i) (inl refl))))));
-    }
+jump_ending_keeps f good b j (Branch on nonzero otherwise) m a e i = by_ways (nat_eq nonzero otherwise)
+  where
+    by_ways : (q : Bool) → EndingKeeps f (jump_ending f b.label m (straight_if q on nonzero otherwise))
+    by_ways true = record { copies = entry_keeps f good b.label (target f.blocks nonzero); leaves = refl }
+    by_ways false =
+        record {
+          copies = tt;
+          leaves = reading_keeps f good (operand_at j.line W on)
+              (flat_among block_operands f.blocks b _ a
+              (among_right _ (flat_map phi_operands b.phis) (flat_map inst_operands b.insts ++ end_operands b.jump)
+              (among_right _ (flat_map inst_operands b.insts) (end_operands b.jump)
+              (subst (λ o. Among (operand_at j.line W on) (end_operands o)) (sym e) (subst (λ y. Among (operand_at j.line W on) (jump_operands j.line y)) (sym i) (inl refl))))));
+        }
 jump_ending_keeps f good b j (Return None) m a e i = record { copies = tt; leaves = refl }
 jump_ending_keeps f good b j (Return (Some x)) m a e i = record { copies = tt; leaves = return_keeps f good b j x a e i }
 jump_ending_keeps f good b j Halt m a e i = record { copies = tt; leaves = refl }

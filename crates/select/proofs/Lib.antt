@@ -11,6 +11,8 @@ pub mod Paying
 pub mod OperationLines
 pub mod Registers
 pub mod Regular
+pub mod Sums
+pub mod Weights
 pub mod Selecting
 pub mod Typing
 pub mod UsedPlaces

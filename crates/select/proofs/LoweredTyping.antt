@@ -33,7 +33,7 @@ use Rattle.il_types.specs.Locals.{fits, fits_result, is_defined, is_long_only, i
 use Rattle.phi_copies.specs.declared.ending.Assignment.{Assignment}
 use Rattle.phi_copies.specs.declared.ending.Ending.{Ending}
 use Rattle.phi_copies.specs.Good.{IsGoodFunction}
-use Rattle.phi_copies.specs.Lowered.{value_or_zero, source, reads, writes, copies_of, phis_of, phis_at, phis_before, entry_copies, edge_with, edge, jump_edges, end_edges, block_edges, all_edges, target, jump_ending, end_ending, block_ending, all_endings, lowered}
+use Rattle.phi_copies.specs.Lowered.{value_or_zero, source, reads, writes, copies_of, phis_of, phis_at, phis_before, entry_copies, edge_with, edge, jump_edges, end_edges, block_edges, all_edges, target, jump_ending, end_ending, block_ending, all_endings, lowered, straight, straight_if}
 use Rattle.phi_copies.proofs.EdgePlaces.{AllLess, come_up}
 use Rattle.phi_copies.proofs.MoreKnown.{get_more}
 use Rattle.phi_copies.proofs.TwoRounds.{get_past}
@@ -310,9 +310,13 @@ return_fits f good b j x a jump item (Some c) e =
 ending_fits : (f : Func) → IsGoodFunction f → (number : ℕ) (b : Block) → Among b f.blocks → EndingFits (classes_in f) f.result (block_ending f number b)
 ending_fits f good number b a = by b.jump refl
   where
-    by_jump : (j : Lined Jump) (x : Jump) → b.jump ≡ Some j → j.item ≡ x → EndingFits (classes_in f) f.result (jump_ending f b.label number x)
+    by_ways : (q : Bool) (on : Val) (nonzero otherwise : ℕ) → EndingFits (classes_in f) f.result (jump_ending f b.label number (straight_if q on nonzero otherwise))
+    by_ways true on nonzero otherwise = (entry_fits f good b.label (target f.blocks nonzero), tt)
+    by_ways false on nonzero otherwise = (tt, tt)
+
+    by_jump : (j : Lined Jump) (x : Jump) → b.jump ≡ Some j → j.item ≡ x → EndingFits (classes_in f) f.result (jump_ending f b.label number (straight x))
     by_jump j (Goto l) e i = (entry_fits f good b.label (target f.blocks l), tt)
-    by_jump j (Branch on nonzero otherwise) e i = (tt, tt)
+    by_jump j (Branch on nonzero otherwise) e i = by_ways (nat_eq nonzero otherwise) on nonzero otherwise
     by_jump j (Return None) e i = (tt, tt)
     by_jump j (Return (Some x)) e i = (tt, return_fits f good b j x a e i f.result refl)
     by_jump j Halt e i = (tt, tt)
@@ -348,7 +352,7 @@ edges_fit f good (b ∷ blocks) e h = by (split_among e (block_edges f b) (all_e
 
     by_end : (j : Option (Lined Jump)) → Among e (end_edges f b.label j) → EndingFits (classes_in f) f.result e
     by_end None a = absurd a
-    by_end (Some j) a = by_jump j.item a
+    by_end (Some j) a = by_jump (straight j.item) a
 
     by : Among e (block_edges f b) ⊎ Among e (all_edges f blocks) → (Among e (all_edges f blocks) → EndingFits (classes_in f) f.result e) → EndingFits (classes_in f) f.result e
     by (inl a) rest = by_end b.jump a

@@ -29,7 +29,7 @@ use Rattle.phi_copies.specs.declared.ending.Leave.{Leave}
 use Rattle.phi_copies.specs.declared.ending.Leave.TheVariants.{Goto as GotoBlock, Branch as BranchTo, Return as ReturnWith, Halt as HaltRun}
 use Rattle.phi_copies.specs.declared.ending.Ending.{Ending}
 use Rattle.phi_copies.specs.Good.{IsGoodFunction}
-use Rattle.phi_copies.specs.Lowered.{target, phis_of, phis_at, entry_copies, edge_with, edge, jump_edges, end_edges, block_edges, all_edges, jump_ending, end_ending, block_ending, all_endings, lowered}
+use Rattle.phi_copies.specs.Lowered.{target, phis_of, phis_at, entry_copies, edge_with, edge, jump_edges, end_edges, block_edges, all_edges, jump_ending, end_ending, block_ending, all_endings, lowered, straight}
 use Rattle.phi_copies.proofs.Counting.{is_small}
 use Rattle.phi_copies.proofs.EdgePlaces.{phis_counted}
 use Rattle.vcode.specs.declared.place.Destination.{Destination}
@@ -171,7 +171,7 @@ jump_weight f good from number Halt = omega arith
 
 end_weight_few : (f : Func) → IsGoodFunction f → (from number : ℕ) (j : Option (Lined Jump)) → (end_ending f from number j).weight ≤ 44001
 end_weight_few f good from number None = omega arith
-end_weight_few f good from number (Some j) = jump_weight f good from number j.item
+end_weight_few f good from number (Some j) = jump_weight f good from number (straight j.item)
 
 -- ---- blocks
 
@@ -226,7 +226,7 @@ jump_edges_small f good from Halt = refl
 
 end_edges_small : (f : Func) → IsGoodFunction f → (from : ℕ) (j : Option (Lined Jump)) → SameEdges (end_edges f from j)
 end_edges_small f good from None = refl
-end_edges_small f good from (Some j) = jump_edges_small f good from j.item
+end_edges_small f good from (Some j) = jump_edges_small f good from (straight j.item)
 
 edges_small : (f : Func) → IsGoodFunction f → (bs : List Block) → SameEdges (all_edges f bs)
 edges_small f good [] = refl

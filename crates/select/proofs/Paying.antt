@@ -22,7 +22,7 @@ use Rattle.il_ast.specs.declared.function.Func.{Func}
 use Rattle.il_ast.specs.Cost.{inst_weight}
 use Rattle.phi_copies.specs.declared.ending.Assignment.{Assignment}
 use Rattle.phi_copies.specs.declared.ending.Ending.{Ending}
-use Rattle.phi_copies.specs.Lowered.{reads, writes, phis_before, phis_at, entry_copies, target, jump_ending, end_ending}
+use Rattle.phi_copies.specs.Lowered.{reads, writes, phis_before, phis_at, entry_copies, target, jump_ending, end_ending, straight}
 use Rattle.rv_isa.specs.declared.instruction.RegOp.{RegOp}
 use Rattle.rv_isa.specs.declared.instruction.RegOp.TheVariants.{Add as AddReg, Sub as SubReg, Sll as SllReg, Srl as SrlReg, Sra as SraReg, Xor as XorReg, Or as OrReg, And as AndReg, Mul as MulReg, Div as DivReg, Divu as DivuReg, Rem as RemReg, Remu as RemuReg}
 use Rattle.rv_isa.specs.declared.instruction.RegWOp.TheVariants.{Addw, Subw, Sllw, Srlw, Sraw, Mulw, Divw, Divuw, Remw, Remuw}
@@ -289,7 +289,7 @@ jump_ending_pays f from number HaltJump = omega arith
 
 pub end_ending_pays : (f : Func) (from number : ℕ) (j : Option (Lined SourceJump)) → EndingPays (end_ending f from number j)
 end_ending_pays f from number None = omega arith
-end_ending_pays f from number (Some j) = jump_ending_pays f from number j.item
+end_ending_pays f from number (Some j) = jump_ending_pays f from number (straight j.item)
 
 pub edge_pays : (f : Func) (from k : ℕ) (p : Phi) (ps : List Phi) → phis_at f.blocks k ≡ p ∷ ps → EndingPays (record { turn = false; weight = length (p ∷ ps); copies = entry_copies f from k; leave = GotoBlock k })
 edge_pays f from k p ps e =

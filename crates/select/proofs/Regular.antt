@@ -1,5 +1,5 @@
 -- The virtual code of a lowered function of a good text is regular.
-use Rattle.std.proofs.Common.{◌≡◌, ℕ, suc, ◌+◌, ◌<◌, ◌≤◌, Bool, true, false, not, nat_lt, nat_le, ◌&&◌, ◌||◌, List, [], ◌∷◌, ◌++◌, length, map, refl, sym, ◌∙◌, ap, subst, arith, append_assoc, ◌⊎◌, inl, inr}
+use Rattle.std.proofs.Common.{◌≡◌, ℕ, suc, ◌+◌, ◌<◌, ◌≤◌, Bool, true, false, not, nat_lt, nat_le, ◌&&◌, ◌||◌, List, [], ◌∷◌, ◌++◌, length, map, refl, sym, ◌∙◌, ap, subst, arith, append_assoc, ◌⊎◌, inl, inr, nat_eq}
 use Rattle.std.specs.Prelude.{Option, Some, None}
 use Rattle.std.specs.Option.{option_map}
 use Rattle.std.specs.List.{list_all, list_any, sum_by}
@@ -23,7 +23,7 @@ use Rattle.il_types.specs.Locals.{is_alloc as is_alloc_inst, in_insts, has_wrong
 use Rattle.phi_copies.specs.declared.ending.Assignment.{Assignment}
 use Rattle.phi_copies.specs.declared.ending.Ending.{Ending}
 use Rattle.phi_copies.specs.Good.{IsGoodFunction}
-use Rattle.phi_copies.specs.Lowered.{or_zero, target, phis_at, entry_copies, edge_with, edge, jump_edges, end_edges, block_edges, all_edges, past_edge, branch_target, jump_ending, end_ending, block_ending, all_endings, lowered}
+use Rattle.phi_copies.specs.Lowered.{or_zero, target, phis_at, entry_copies, edge_with, edge, jump_edges, end_edges, block_edges, all_edges, past_edge, branch_target, jump_ending, end_ending, block_ending, all_endings, lowered, straight, straight_if}
 use Rattle.vcode.specs.declared.line.Line.{Line}
 use Rattle.vcode.specs.declared.line.Line.TheVariants.{Tick, Alloc, Store, Blit, Call}
 use Rattle.vcode.specs.declared.code.Block.{Block as VirtualBlock}
@@ -107,20 +107,34 @@ edge_long : (f : Func) (from k : ℕ) (phis : List Phi) → 0 < length phis → 
 edge_long f from k [] h = absurd (omega (arith, h))
 edge_long f from k (p ∷ ps) h = refl
 
-jump_inside : (f : Func) → IsGoodFunction f → (b : Block) (j : Lined Jump) (x : Jump) (m : ℕ) → Among b f.blocks → b.jump ≡ Some j → j.item ≡ x → m + length (block_edges f b) ≤ length (all_edges f f.blocks) → leads_inside (total f) (jump_of (jump_ending f b.label m x).leave) ≡ true
+jump_inside : (f : Func) → IsGoodFunction f → (b : Block) (j : Lined Jump) (x : Jump) (m : ℕ) → Among b f.blocks → b.jump ≡ Some j → j.item ≡ x → m + length (block_edges f b) ≤ length (all_edges f f.blocks) → leads_inside (total f) (jump_of (jump_ending f b.label m (straight x)).leave) ≡ true
 jump_inside f good b j (Goto l) m a e i le =
     label_inside f l (is_target f good b j l j.line a e (subst (λ y. Among (record { line = j.line; number = l }) (jump_sites j.line y)) (sym i) (inl refl)))
-jump_inside f good b j (Branch on nonzero otherwise) m a e i le =
-    let from = b.label in
-    let t1 = target f.blocks nonzero in
-    let t2 = target f.blocks otherwise in
-    let one = is_target f good b j nonzero j.line a e (subst (λ y. Among (record { line = j.line; number = nonzero }) (jump_sites j.line y)) (sym i) (inl refl)) in
-    let two = is_target f good b j otherwise j.line a e (subst (λ y. Among (record { line = j.line; number = otherwise }) (jump_sites j.line y)) (sym i) (inr (inl refl))) in
-    let edges : block_edges f b ≡ edge f from t1 ++ edge f from t2 = ap (end_edges f from) e ∙ ap (jump_edges f from) i in
-    let long : length (block_edges f b) ≡ length (edge f from t1) + length (edge f from t2) = ap length edges ∙ length-append (edge f from t1) (edge f from t2) in
-    and_both (is_target_in (total f) (branch_target f m t1)) (is_target_in (total f) (branch_target f (m + length (edge f from t1)) t2))
-    (side_inside f nonzero m (phis_at f.blocks t1) one (λ h. let n = edge_long f from t1 (phis_at f.blocks t1) h in omega (arith, n, long, le)))
-    (side_inside f otherwise (m + length (edge f from t1)) (phis_at f.blocks t2) two (λ h. let n = edge_long f from t2 (phis_at f.blocks t2) h in omega (arith, n, long, le)))
+jump_inside f good b j (Branch on nonzero otherwise) m a e i le = by_ways (nat_eq nonzero otherwise) refl
+  where
+    from : ℕ
+    from = b.label
+
+    t1 : ℕ
+    t1 = target f.blocks nonzero
+
+    t2 : ℕ
+    t2 = target f.blocks otherwise
+
+    one : IsTarget f nonzero
+    one = is_target f good b j nonzero j.line a e (subst (λ y. Among (record { line = j.line; number = nonzero }) (jump_sites j.line y)) (sym i) (inl refl))
+
+    two : IsTarget f otherwise
+    two = is_target f good b j otherwise j.line a e (subst (λ y. Among (record { line = j.line; number = otherwise }) (jump_sites j.line y)) (sym i) (inr (inl refl)))
+
+    by_ways : (q : Bool) → nat_eq nonzero otherwise ≡ q → leads_inside (total f) (jump_of (jump_ending f b.label m (straight_if q on nonzero otherwise)).leave) ≡ true
+    by_ways true differ = label_inside f nonzero one
+    by_ways false differ =
+        let edges : block_edges f b ≡ edge f from t1 ++ edge f from t2 = ap (end_edges f from) e ∙ (ap (λ y. jump_edges f from (straight y)) i ∙ ap (λ q. jump_edges f from (straight_if q on nonzero otherwise)) differ) in
+        let long : length (block_edges f b) ≡ length (edge f from t1) + length (edge f from t2) = ap length edges ∙ length-append (edge f from t1) (edge f from t2) in
+        and_both (is_target_in (total f) (branch_target f m t1)) (is_target_in (total f) (branch_target f (m + length (edge f from t1)) t2))
+        (side_inside f nonzero m (phis_at f.blocks t1) one (λ h. let n = edge_long f from t1 (phis_at f.blocks t1) h in omega (arith, n, long, le)))
+        (side_inside f otherwise (m + length (edge f from t1)) (phis_at f.blocks t2) two (λ h. let n = edge_long f from t2 (phis_at f.blocks t2) h in omega (arith, n, long, le)))
 jump_inside f good b j (Return v) m a e i le = refl
 jump_inside f good b j Halt m a e i le = refl
 

@@ -1,10 +1,11 @@
 -- What is proved of selected code.
-use Rattle.std.specs.Prelude.{◌+◌, length}
+use Rattle.std.specs.Prelude.{◌+◌, length, ◌≤◌}
 use Rattle.il_ast.specs.declared.function.Func.{Func}
-use Rattle.il_ast.specs.Cost.{phi_count}
+use Rattle.il_ast.specs.Cost.{phi_count, weight}
 use Rattle.phi_copies.specs.Endings.{Endings}
 use Rattle.phi_copies.specs.Good.{IsGoodFunction}
 use Rattle.phi_copies.specs.Lowered.{lowered}
+use Rattle.vcode.specs.Regular.{code_weight}
 use Rattle.select.specs.Selected.{selected}
 use Rattle.select.specs.Typed.{IsTyped}
 use Rattle.select.specs.Invariants.{IsVirtual}
@@ -22,3 +23,7 @@ SelectedIsVirtual = (f : Func) → IsGoodFunction f → IsVirtual (selected f (l
 -- the virtual code keeps what the function means, whatever its text's global names mean
 abbrev pub FunctionsAreKept : Type 0
 FunctionsAreKept = (f : Func) → IsGoodFunction f → KeepsVirtual f (selected f (lowered f))
+
+-- the ticks of a function's virtual code weigh no more than the function: each copy of a phi is paid by an argument of the phi
+abbrev pub WeighsNoMore : Type 0
+WeighsNoMore = (f : Func) → IsGoodFunction f → code_weight (selected f (lowered f)) ≤ weight f

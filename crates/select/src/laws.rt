@@ -1,5 +1,5 @@
 //! What is proved of selected code, each as the contract of a function that does nothing.
-ghost use Rattle.select.specs.Laws.{FunctionsAreKept, LoweredIsTyped, SelectedIsVirtual, SelectionKeeps};
+ghost use Rattle.select.specs.Laws.{FunctionsAreKept, LoweredIsTyped, SelectedIsVirtual, SelectionKeeps, WeighsNoMore};
 
 /// The virtual code of a function without phis in which all fits keeps it, whatever its text's global names mean.
 pub fn selection_keeps()
@@ -20,4 +20,9 @@ pub fn selected_is_virtual()
 /// its calls do, turn for turn and for the same weight.
 pub fn functions_are_kept()
     ensures { FunctionsAreKept }
+{}
+
+/// The ticks of a function's virtual code, each counted once, weigh no more than the function.
+pub fn code_weighs_no_more()
+    ensures { WeighsNoMore }
 {}

@@ -3,4 +3,4 @@ use Rattle.qbec.specs.Codes.{AreGood}
 use Rattle.qbec.proofs.compile.compiled.Goals as goal
 
 pub codes_of-requires : goal.codes_of-requires
-codes_of-requires c = subst AreGood (sym c.as_slice.ensures) c.requires.good
+codes_of-requires g c = subst AreGood (sym c.as_slice.ensures) c.requires.good

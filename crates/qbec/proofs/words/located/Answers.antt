@@ -7,10 +7,10 @@ use Rattle.qbec.proofs.Assembled.{is_located}
 use Rattle.qbec.proofs.words.located.Goals as goal
 
 pub returns : goal.returns
-returns c =
+returns g c =
     let f = c.args.func.now in
     let same = c.in_ok-lowered.ensures.same in
-    is_located f c.in_ok-function.function.code c.in_ok-function.function.registers c.in_ok-spill_all.field-0 c.flat.result.located c.requires
+    is_located f c.in_ok-function.function.code c.in_ok-function.function.registers c.in_ok-placed.placed c.flat.result.located c.requires
     (c.in_ok-function.ensures.code ∙ ap (λ (g : Func). selected g (lowered g)) same)
     (c.in_ok-function.ensures.registers ∙ ap (λ (g : Func). length g.temps + phi_count g) same)
-    c.in_ok-spill_all.ensures.code c.in_ok-spill_all.ensures.slots c.in_ok-spill_all.ensures.kept c.flat.ensures.same c.flat.ensures.keeps
+    c.in_ok-placed.ensures c.flat.ensures.same c.flat.ensures.keeps
