@@ -70,11 +70,7 @@ fn empty(alloc: Global) -> Certificate {
 }
 
 // What one certificate says of points, and the other of the rest.
-fn mixed(
-    alloc: Global,
-    function: &VFunc,
-    live: &Live,
-) -> Result<Certificate, AllocError> {
+fn mixed(alloc: Global, function: &VFunc, live: &Live) -> Result<Certificate, AllocError> {
     let at_points = slots(alloc, 1, function.registers)?;
     let elsewhere = slots(alloc, 0, function.registers)?;
     let points = certificate_of(alloc, function, live, &at_points)?;
@@ -106,7 +102,12 @@ impl Strategy for Fixed {
             Answer::Nothing => None,
             Answer::Empty => Some(empty(alloc)),
             Answer::OnePlace => {
-                by_list(alloc, function, live, everywhere(alloc, Location::Slot(0), 1))
+                by_list(
+                    alloc,
+                    function,
+                    live,
+                    everywhere(alloc, Location::Slot(0), 1),
+                )
             }
             Answer::Everywhere(place) => {
                 by_list(alloc, function, live, everywhere(alloc, place, registers))

@@ -122,7 +122,10 @@ fn every_register_in_x9_where_one_is_enough(rt: HostRuntime) -> Result<(), Fail>
     let mut how: Box<dyn Strategy> = Box::new(alloc, Fixed::new(alloc, answer))?;
     let text =
         b"export function w $main() {\n@s\n%a =w copy 40\n%b =w add %a, 1\n%c =w add %b, 1\nret %c\n}\n";
-    assert_eq!(rt; ends_with(alloc, &[text], 1000, &mut how)?.as_str(), "Exit(42)");
+    assert_eq!(rt;
+        ends_with(alloc, &[text], 1000, &mut how)?.as_str(),
+        "Exit(42)"
+    );
     Ok(())
 }
 

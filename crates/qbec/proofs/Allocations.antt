@@ -1,6 +1,6 @@
 -- Location code has what it needs of the virtual code, however its registers were allocated: moves pass no arguments, make no blocks of memory and weigh nothing.
-use Rattle.std.proofs.Common.{◌≡◌, ◌⊎◌, inl, inr, ℕ, ◌+◌, ◌-◌, Bool, true, false, ◌&&◌, List, [], ◌∷◌, ◌++◌, length, map, refl, sym, ◌∙◌, ap, arith}
-use Rattle.std.specs.Prelude.{max, nat_eq}
+use Rattle.std.proofs.Common.{◌≡◌, inl, inr, ℕ, ◌+◌, ◌-◌, Bool, true, false, ◌&&◌, List, [], ◌∷◌, ◌++◌, length, map, refl, sym, ◌∙◌, ap, arith}
+use Rattle.std.specs.Prelude.{max, nat_eq, nat_le}
 use Rattle.std.specs.List.{list_all, sum_by}
 use Rattle.std.proofs.lemmas.List.Sums.{sum_by-cons}
 use Rattle.il_ast.specs.declared.operation.Class.{Class}
@@ -16,7 +16,9 @@ use Rattle.vcode.specs.Regular.{area, alloc_bytes, code_weight, weight_of}
 use Rattle.regalloc.specs.declared.certificate.Transfer.{Transfer}
 use Rattle.regalloc.specs.declared.certificate.Certificate.{Certificate}
 use Rattle.alloc_check.specs.Placed.{Layout, placed_argument, placed_destination, placed_line, placed_block, in_slots}
-use Rattle.alloc_check.specs.Certified.{moves_at, layout_at, transfers, certified_lines, certified_block, certified_blocks, certified_params, jump_point, placed_by, params_placed, is_sound}
+use Rattle.vcode.specs.declared.function.VFunc.{VFunc}
+use Rattle.alloc_check.specs.Accepted.{end_point, starts_exist, is_placed, is_accepted}
+use Rattle.alloc_check.specs.Certified.{moves_at, layout_at, transfers, certified_lines, certified_blocks, certified_params, jump_point, placed_by, params_placed, is_sound}
 use Rattle.abi_frames.specs.Covered.{covers_line, covers_block, is_covered}
 use Rattle.abi_frames.specs.Layout.{args_on_stack, most_in_lines, most_in_blocks, outgoing}
 use Rattle.qbec.specs.Words.{IsPlacing}
@@ -224,3 +226,13 @@ param_count v l is =
 pub same_covered : (v : Code ℕ) (l : Code Location) → IsPlacing v l → is_covered l ≡ is_covered (in_slots v)
 same_covered v l is =
     ap (λ n. nat_eq n 0 && list_all covers_block l.blocks) (param_count v l is) ∙ ap (λ b. nat_eq (length (in_slots v).params) 0 && b) (same_covers v l is)
+
+-- what the checker accepts is sound
+pub accepted_is_sound : (v : VFunc) (c : Certificate) → is_accepted v c ≡ true → is_sound v.code c ≡ true
+accepted_is_sound v c h = third (nat_le (end_point 0 v.code.blocks) (length c.places)) (starts_exist v.registers c.starts) (is_sound v.code c) (is_placed v.registers (placed_by v.code c)) h
+  where
+    third : (a b s d : Bool) → (a && (b && (s && d))) ≡ true → s ≡ true
+    third true true true d e = refl
+    third true true false d e = e
+    third true false s d e = absurd (let no : ⊥ = cc in no)
+    third false b s d e = absurd (let no : ⊥ = cc in no)

@@ -1,8 +1,3 @@
-use Rattle.std.proofs.Common.{◌+◌, ◌*◌, ◌≤◌, length}
-use Rattle.std.specs.Prelude.{slice_index_or}
-use Rattle.il_ast.specs.Cost.{weight}
-use Rattle.rv_isa.specs.Words.{Words}
-use Rattle.headline.specs.Compiled.{StandFor}
 use Rattle.qbec.proofs.CodeLemmas.{good_here, all_codes, other_here, one_more_code, some_code}
 use Rattle.qbec.proofs.codes.codes_of.Goals as goal
 
