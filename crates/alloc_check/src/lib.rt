@@ -29,4 +29,6 @@ mod says;
 pub mod spill_all;
 mod table;
 #[cfg(test)]
+mod accept_tests;
+#[cfg(test)]
 mod tests;

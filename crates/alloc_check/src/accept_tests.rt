@@ -1,0 +1,392 @@
+//! Certificates, right ones and hostile ones, for small functions.
+use crate::accept::{Refused, accept};
+use crate::spill_all::spill_all;
+use cfg_live::live::live;
+use il_ast::list::Seq;
+use il_ast::operation::Class;
+use regalloc::certificate::{Certificate, Equality, Transfer};
+use regalloc::spill_all::SpillAll;
+use regalloc::strategy::Strategy;
+use rv_isa::instruction::RegOp;
+use std::alloc::{AllocError, Global};
+use std::test::Fail;
+use vcode::code::{Block, Code};
+use vcode::function::{LFunc, VFunc};
+use vcode::line::{Jump, Line, Operation};
+use vcode::place::{Argument, Destination, Location, Operand};
+
+/// Passes its argument, register 0, to a call, adds the result, register 1, to it, and returns the sum, register 2.
+fn calling(alloc: Global) -> Result<VFunc, AllocError> {
+    let mut params = Seq::new(alloc);
+    params.push(Destination {
+        place: 0,
+        class: Class::L,
+    })?;
+    let mut args = Seq::new(alloc);
+    args.push(Argument {
+        class: Class::L,
+        value: Operand::At(0),
+    })?;
+    let mut lines = Seq::new(alloc);
+    lines.push(Line::Tick {
+        turn: true,
+        weight: 10,
+    })?;
+    lines.push(Line::Call {
+        to: Some(Destination {
+            place: 1,
+            class: Class::L,
+        }),
+        callee: Operand::Number(1),
+        args,
+    })?;
+    lines.push(Line::Operate {
+        to: 2,
+        operation: Operation::Reg(RegOp::Add),
+        left: Operand::At(0),
+        right: Operand::At(1),
+    })?;
+    let mut blocks = Seq::new(alloc);
+    blocks.push(Block {
+        lines,
+        jump: Jump::Return(Some(Operand::At(2))),
+    })?;
+    Ok(VFunc {
+        code: Code {
+            result: Some(Class::L),
+            params,
+            blocks,
+        },
+        registers: 3,
+    })
+}
+
+/// Takes two arguments, in registers 0 and 1, and returns nothing.
+fn taking_two(alloc: Global) -> Result<VFunc, AllocError> {
+    let mut params = Seq::new(alloc);
+    params.push(Destination {
+        place: 0,
+        class: Class::L,
+    })?;
+    params.push(Destination {
+        place: 1,
+        class: Class::W,
+    })?;
+    let mut lines = Seq::new(alloc);
+    lines.push(Line::Tick {
+        turn: true,
+        weight: 1,
+    })?;
+    let mut blocks = Seq::new(alloc);
+    blocks.push(Block {
+        lines,
+        jump: Jump::Return(None),
+    })?;
+    Ok(VFunc {
+        code: Code {
+            result: None,
+            params,
+            blocks,
+        },
+        registers: 2,
+    })
+}
+
+fn list<T: Copy + Drop>(alloc: Global, items: &[T]) -> Result<Seq<T>, AllocError> {
+    let mut seq = Seq::new(alloc);
+    for item in items {
+        seq.push(*item)?;
+    }
+    Ok(seq)
+}
+
+/// Where registers 0 to 2 of `calling` are at its points: before and in the call, at the sum, at the return.
+#[derive(Clone, Copy)]
+struct Layout {
+    param: Location,
+    passed: Location,
+    result: Location,
+    sum: Location,
+}
+
+/// The certificate of a layout, with these moves before the call and before the sum.
+fn of_layout(
+    alloc: Global,
+    layout: Layout,
+    before_call: &[Transfer],
+    before_sum: &[Transfer],
+) -> Result<Certificate, AllocError> {
+    let at = |register: u32, place: Location| Equality { register, place };
+    let mut starts = Seq::new(alloc);
+    starts.push(list(alloc, &[at(0, layout.param)])?)?;
+    let mut moves = Seq::new(alloc);
+    moves.push(list(alloc, before_call)?)?;
+    moves.push(list(alloc, before_sum)?)?;
+    let mut places = Seq::new(alloc);
+    places.push(list(
+        alloc,
+        &[at(0, layout.passed), at(1, layout.result)],
+    )?)?;
+    places.push(list(
+        alloc,
+        &[
+            at(0, layout.passed),
+            at(1, layout.result),
+            at(2, layout.sum),
+        ],
+    )?)?;
+    places.push(list(alloc, &[at(2, layout.sum)])?)?;
+    Ok(Certificate {
+        params: list(alloc, &[layout.param])?,
+        starts,
+        moves,
+        places,
+    })
+}
+
+/// Everything in registers, the argument in one that calls keep.
+fn kept() -> Layout {
+    Layout {
+        param: Location::Register(9),
+        passed: Location::Register(9),
+        result: Location::Register(10),
+        sum: Location::Register(11),
+    }
+}
+
+/// Each register in its slot.
+fn spilled() -> Layout {
+    Layout {
+        param: Location::Slot(0),
+        passed: Location::Slot(0),
+        result: Location::Slot(1),
+        sum: Location::Slot(2),
+    }
+}
+
+fn answer(
+    alloc: Global,
+    layout: Layout,
+    before_call: &[Transfer],
+    before_sum: &[Transfer],
+) -> Result<Result<LFunc, Refused>, AllocError> {
+    let function = calling(alloc)?;
+    let certificate = of_layout(alloc, layout, before_call, before_sum)?;
+    Ok(accept(alloc, &function, &certificate))
+}
+
+fn is_refused(alloc: Global, layout: Layout) -> Result<bool, AllocError> {
+    let answer = answer(alloc, layout, &[], &[])?;
+    Ok(matches!(answer, Err(Refused::No)))
+}
+
+fn moving(from: Location, to: Location) -> Transfer {
+    Transfer { from, to }
+}
+
+#[test]
+fn registers_that_calls_keep_are_accepted(rt: HostRuntime) -> Result<(), Fail> {
+    match answer(rt.alloc(), kept(), &[], &[])? {
+        Ok(made) => {
+            assert_eq!(rt; made.slots, 3);
+            assert_eq!(rt; made.code.params.as_slice()[0].place, Location::Register(9));
+            let block = &made.code.blocks.as_slice()[0];
+            assert_eq!(rt; block.lines.len(), 3);
+            assert!(rt;
+                matches!(
+                    &block.lines.as_slice()[2],
+                    Line::Operate {
+                        to: Location::Register(11),
+                        left: Operand::At(Location::Register(9)),
+                        right: Operand::At(Location::Register(10)),
+                        ..
+                    }
+                )
+            );
+            assert_eq!(rt;
+                block.jump,
+                Jump::Return(Some(Operand::At(Location::Register(11))))
+            );
+        }
+        Err(_) => assert!(rt; false, "refused"),
+    }
+    Ok(())
+}
+
+#[test]
+fn slots_are_accepted(rt: HostRuntime) -> Result<(), Fail> {
+    match answer(rt.alloc(), spilled(), &[], &[])? {
+        Ok(made) => assert_eq!(rt; made.code.params.as_slice()[0].place, Location::Slot(0)),
+        Err(_) => assert!(rt; false, "refused"),
+    }
+    Ok(())
+}
+
+#[test]
+fn the_answer_of_spill_all_is_accepted(rt: HostRuntime) -> Result<(), Fail> {
+    let alloc = rt.alloc();
+    let function = calling(alloc)?;
+    let live = live(alloc, &function)?;
+    match SpillAll::new(alloc).choose(&function, &live) {
+        Some(certificate) => match accept(alloc, &function, &certificate) {
+            Ok(made) => {
+                let slots = spill_all(alloc, &function)?;
+                let [one, other] = [
+                    &made.code.blocks.as_slice()[0],
+                    &slots.code.blocks.as_slice()[0],
+                ];
+                assert_eq!(rt; one.lines.len(), other.lines.len());
+                assert_eq!(rt; one.jump, other.jump);
+                assert_eq!(rt; made.slots, slots.slots);
+            }
+            Err(_) => assert!(rt; false, "refused"),
+        },
+        None => assert!(rt; false, "no certificate"),
+    }
+    Ok(())
+}
+
+#[test]
+fn a_value_may_be_moved_out_of_the_way_of_a_call(rt: HostRuntime) -> Result<(), Fail> {
+    let layout = Layout {
+        param: Location::Register(10),
+        ..kept()
+    };
+    // it is lost in the call, unless it is moved before
+    assert!(rt; is_refused(rt.alloc(), layout)?);
+    let aside = [moving(Location::Register(10), Location::Register(9))];
+    match answer(rt.alloc(), layout, aside.as_slice(), &[])? {
+        Ok(made) => {
+            let block = &made.code.blocks.as_slice()[0];
+            assert_eq!(rt; block.lines.len(), 4);
+            assert!(rt;
+                matches!(
+                    &block.lines.as_slice()[1],
+                    Line::Set {
+                        to: Location::Register(9),
+                        value: Operand::At(Location::Register(10)),
+                    }
+                )
+            );
+        }
+        Err(_) => assert!(rt; false, "refused"),
+    }
+    Ok(())
+}
+
+#[test]
+fn lost_values_are_refused(rt: HostRuntime) -> Result<(), Fail> {
+    let alloc = rt.alloc();
+    // all in one register
+    let one = Location::Register(10);
+    let layout = Layout {
+        param: one,
+        passed: one,
+        result: one,
+        sum: one,
+    };
+    assert!(rt; is_refused(alloc, layout)?);
+    // over a call, in a register that the caller keeps itself
+    let layout = Layout {
+        param: Location::Register(5),
+        passed: Location::Register(5),
+        ..kept()
+    };
+    assert!(rt; is_refused(alloc, layout)?);
+    // in a place that nothing was written to
+    let layout = Layout {
+        passed: Location::Slot(2),
+        ..kept()
+    };
+    assert!(rt; is_refused(alloc, layout)?);
+    // overwritten by a move
+    let over = [moving(Location::Register(10), Location::Register(9))];
+    let answer = answer(alloc, kept(), &[], over.as_slice())?;
+    assert!(rt; matches!(answer, Err(Refused::No)));
+    Ok(())
+}
+
+#[test]
+fn places_that_there_are_not_are_refused(rt: HostRuntime) -> Result<(), Fail> {
+    for place in [
+        Location::Register(2),
+        Location::Register(4),
+        Location::Register(28),
+        Location::Register(255),
+        Location::Slot(3),
+        Location::Slot(4_294_967_295),
+    ] {
+        let layout = Layout {
+            sum: place,
+            ..kept()
+        };
+        assert!(rt; is_refused(rt.alloc(), layout)?);
+        let to = [moving(Location::Register(9), place)];
+        let moved_to = answer(rt.alloc(), kept(), to.as_slice(), &[])?;
+        assert!(rt; matches!(moved_to, Err(Refused::No)));
+        let from = [moving(place, Location::Register(18))];
+        let moved_from = answer(rt.alloc(), kept(), from.as_slice(), &[])?;
+        assert!(rt; matches!(moved_from, Err(Refused::No)));
+    }
+    Ok(())
+}
+
+#[test]
+fn moves_stay_within_the_price(rt: HostRuntime) -> Result<(), Fail> {
+    let alloc = rt.alloc();
+    let mut moves = Vec::new(alloc);
+    // 320 instructions are paid for, the lines and the jump cost 60, each move 6
+    for _ in 0..43usize {
+        moves.push(moving(Location::Register(9), Location::Register(18)))?;
+    }
+    let enough = answer(alloc, kept(), &moves, &[])?;
+    assert!(rt; enough.is_ok());
+    moves.push(moving(Location::Register(9), Location::Register(18)))?;
+    let more = answer(alloc, kept(), &moves, &[])?;
+    assert!(rt; matches!(more, Err(Refused::No)));
+    Ok(())
+}
+
+#[test]
+fn short_lists_are_refused(rt: HostRuntime) -> Result<(), Fail> {
+    let alloc = rt.alloc();
+    let function = calling(alloc)?;
+    let mut certificate = of_layout(alloc, kept(), &[], &[])?;
+    certificate.places = Seq::new(alloc);
+    assert!(rt; matches!(accept(alloc, &function, &certificate), Err(Refused::No)));
+    let mut certificate = of_layout(alloc, kept(), &[], &[])?;
+    certificate.starts = Seq::new(alloc);
+    assert!(rt; matches!(accept(alloc, &function, &certificate), Err(Refused::No)));
+    let mut certificate = of_layout(alloc, kept(), &[], &[])?;
+    certificate.params = Seq::new(alloc);
+    assert!(rt; matches!(accept(alloc, &function, &certificate), Err(Refused::No)));
+    // where it says nothing of moves there are none
+    let mut certificate = of_layout(alloc, kept(), &[], &[])?;
+    certificate.moves = Seq::new(alloc);
+    assert!(rt; accept(alloc, &function, &certificate).is_ok());
+    Ok(())
+}
+
+/// A certificate for `taking_two` with its arguments in these places.
+fn in_two(alloc: Global, params: [Location; 2]) -> Result<Certificate, AllocError> {
+    let mut places = Seq::new(alloc);
+    places.push(Seq::new(alloc))?;
+    Ok(Certificate {
+        params: list(alloc, params.as_slice())?,
+        starts: Seq::new(alloc),
+        moves: Seq::new(alloc),
+        places,
+    })
+}
+
+#[test]
+fn two_parameters_have_two_places(rt: HostRuntime) -> Result<(), Fail> {
+    let alloc = rt.alloc();
+    let function = taking_two(alloc)?;
+    let [x10, x11] = [Location::Register(10), Location::Register(11)];
+    let one = in_two(alloc, [x10, x10])?;
+    assert!(rt; matches!(accept(alloc, &function, &one), Err(Refused::No)));
+    let two = in_two(alloc, [x10, x11])?;
+    assert!(rt; accept(alloc, &function, &two).is_ok());
+    Ok(())
+}
