@@ -119,7 +119,7 @@ kept_agrees own ev el agrees q k v hk hv = kept_at own ev el agrees q k v (is_ca
 
 -- ---- a block begins
 
-same_is : (p q : Location) → same_location p q ≡ true → p ≡ q
+pub same_is : (p q : Location) → same_location p q ≡ true → p ≡ q
 same_is (Register a) (Register b) h = ap (λ n. Register n) (let e : a ≡ b = grind (arith, nat_tests) in e)
 same_is (Slot a) (Slot b) h = ap (λ n. Slot n) (let e : a ≡ b = grind (arith, nat_tests) in e)
 same_is (Register a) (Slot b) h = cc

@@ -29,7 +29,7 @@ pub from_true : (b : Bool) → IsTrue b → b ≡ true
 from_true b h = h
 
 -- a line, its moves and what follows
-line_on : (c : Certificate) (p : ℕ) (l : Line ℕ) (lines : List (Line ℕ))
+pub line_on : (c : Certificate) (p : ℕ) (l : Line ℕ) (lines : List (Line ℕ))
     → certified_lines c p (l ∷ lines) ≡ transfers (moves_before c p l) ++ placed_line (layout_at c p) l ∷ certified_lines c (next_point p l) lines
 line_on c p l lines = lines_on c p l lines ∙ append_three (transfers (moves_before c p l)) (placed_line (layout_at c p) l ∷ []) (certified_lines c (next_point p l) lines)
 

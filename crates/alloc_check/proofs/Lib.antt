@@ -8,3 +8,4 @@ pub mod Entering
 pub mod Walks
 pub mod Certifies
 pub mod Accepts
+pub mod Slots

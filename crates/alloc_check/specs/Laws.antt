@@ -11,7 +11,10 @@ use Rattle.regalloc.specs.declared.certificate.Certificate.{Certificate}
 use Rattle.vcode.specs.Regular.{code_weight}
 use Rattle.alloc_check.specs.Kept.{Keeps}
 use Rattle.alloc_check.specs.Placed.{Layout, placed_line, in_slots}
+use Rattle.vcode.specs.declared.function.VFunc.{VFunc}
 use Rattle.alloc_check.specs.Certified.{placed_by, is_sound}
+use Rattle.alloc_check.specs.Accepted.{is_accepted}
+use Rattle.alloc_check.specs.Slotted.{Wanted, IsSlotted}
 
 -- the code that a sound certificate makes keeps the virtual code
 abbrev pub SoundKeeps : Type 0
@@ -34,3 +37,10 @@ KeepsKinds =
     → ((q : Location) (a : Operand Location) → test (Set q a) ≡ true)
     → ((f g : Layout) (l : Line ℕ) → test (placed_line f l) ≡ test (placed_line g l))
     → all_lines test (placed_by v c) ≡ all_lines test (in_slots v)
+
+-- with each register in its slot the code is that in slots, and is accepted
+abbrev pub SlotsAreAccepted : Type 0
+SlotsAreAccepted =
+    (wanted : Wanted) (v : VFunc) (c : Certificate)
+    → IsSlotted wanted v c
+    → (is_accepted v c ≡ true) × (placed_by v.code c ≡ in_slots v.code)

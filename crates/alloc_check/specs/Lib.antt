@@ -5,4 +5,5 @@ pub mod Certified
 pub mod Accepted
 pub mod Table
 pub mod Walk
+pub mod Slotted
 pub mod Laws
