@@ -180,6 +180,30 @@ fn is_refused(alloc: Global, layout: Layout) -> Result<bool, AllocError> {
     Ok(matches!(answer, Err(Refused::No)))
 }
 
+/// The lines of the first block.
+fn lines_of(code: &Code<Location>) -> &[Line<Location>] {
+    match code.blocks.as_slice().first() {
+        Some(block) => block.lines.as_slice(),
+        None => &[],
+    }
+}
+
+/// The jump of the first block.
+fn jump_of(code: &Code<Location>) -> Option<Jump<Location>> {
+    match code.blocks.as_slice().first() {
+        Some(block) => Some(block.jump),
+        None => None,
+    }
+}
+
+/// The place of the first parameter.
+fn param_of(code: &Code<Location>) -> Option<Location> {
+    match code.params.as_slice().first() {
+        Some(param) => Some(param.place),
+        None => None,
+    }
+}
+
 fn moving(from: Location, to: Location) -> Transfer {
     Transfer { from, to }
 }
@@ -189,23 +213,22 @@ fn registers_that_calls_keep_are_accepted(rt: HostRuntime) -> Result<(), Fail> {
     match answer(rt.alloc(), kept(), &[], &[])? {
         Ok(made) => {
             assert_eq!(rt; made.slots, 3);
-            assert_eq!(rt; made.code.params.as_slice()[0].place, Location::Register(9));
-            let block = &made.code.blocks.as_slice()[0];
-            assert_eq!(rt; block.lines.len(), 3);
+            assert_eq!(rt; param_of(&made.code), Some(Location::Register(9)));
+            assert_eq!(rt; lines_of(&made.code).len(), 3);
             assert!(rt;
                 matches!(
-                    &block.lines.as_slice()[2],
-                    Line::Operate {
+                    lines_of(&made.code).get(2),
+                    Some(Line::Operate {
                         to: Location::Register(11),
                         left: Operand::At(Location::Register(9)),
                         right: Operand::At(Location::Register(10)),
                         ..
-                    }
+                    })
                 )
             );
             assert_eq!(rt;
-                block.jump,
-                Jump::Return(Some(Operand::At(Location::Register(11))))
+                jump_of(&made.code),
+                Some(Jump::Return(Some(Operand::At(Location::Register(11)))))
             );
         }
         Err(_) => assert!(rt; false, "refused"),
@@ -216,7 +239,7 @@ fn registers_that_calls_keep_are_accepted(rt: HostRuntime) -> Result<(), Fail> {
 #[test]
 fn slots_are_accepted(rt: HostRuntime) -> Result<(), Fail> {
     match answer(rt.alloc(), spilled(), &[], &[])? {
-        Ok(made) => assert_eq!(rt; made.code.params.as_slice()[0].place, Location::Slot(0)),
+        Ok(made) => assert_eq!(rt; param_of(&made.code), Some(Location::Slot(0))),
         Err(_) => assert!(rt; false, "refused"),
     }
     Ok(())
@@ -231,12 +254,8 @@ fn the_answer_of_spill_all_is_accepted(rt: HostRuntime) -> Result<(), Fail> {
         Some(certificate) => match accept(alloc, &function, &certificate) {
             Ok(made) => {
                 let slots = spill_all(alloc, &function)?;
-                let [one, other] = [
-                    &made.code.blocks.as_slice()[0],
-                    &slots.code.blocks.as_slice()[0],
-                ];
-                assert_eq!(rt; one.lines.len(), other.lines.len());
-                assert_eq!(rt; one.jump, other.jump);
+                assert_eq!(rt; lines_of(&made.code).len(), lines_of(&slots.code).len());
+                assert_eq!(rt; jump_of(&made.code), jump_of(&slots.code));
                 assert_eq!(rt; made.slots, slots.slots);
             }
             Err(_) => assert!(rt; false, "refused"),
@@ -257,15 +276,14 @@ fn a_value_may_be_moved_out_of_the_way_of_a_call(rt: HostRuntime) -> Result<(), 
     let aside = [moving(Location::Register(10), Location::Register(9))];
     match answer(rt.alloc(), layout, aside.as_slice(), &[])? {
         Ok(made) => {
-            let block = &made.code.blocks.as_slice()[0];
-            assert_eq!(rt; block.lines.len(), 4);
+            assert_eq!(rt; lines_of(&made.code).len(), 4);
             assert!(rt;
                 matches!(
-                    &block.lines.as_slice()[1],
-                    Line::Set {
+                    lines_of(&made.code).get(1),
+                    Some(Line::Set {
                         to: Location::Register(9),
                         value: Operand::At(Location::Register(10)),
-                    }
+                    })
                 )
             );
         }
