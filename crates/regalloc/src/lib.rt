@@ -5,7 +5,7 @@
 //! has it checked.
 //!
 //! [`spill_all::SpillAll`] answers slot i for virtual register i, everywhere, and names live registers alone. [`list::certificate_of`] makes a certificate of a
-//! list with one place for each register.
+//! list with one place for each register. The contracts of both say what the certificate is (`specs/Listed`).
 //!
 //! Points are those of `cfg_live`: lines but for ticks, and jumps, from 0 in the order of the text. The crate stands on it for live registers and on `vcode`
 //! for code and places.

@@ -1,4 +1,7 @@
 //! The simplest strategy.
+ghost use Rattle.std.specs.Prelude.{◌≡◌, IfOk, IfSome};
+ghost use Rattle.regalloc.specs.Listed.{slots, slotted};
+
 use crate::certificate::Certificate;
 use crate::list::certificate_of;
 use crate::strategy::Strategy;
@@ -21,7 +24,9 @@ impl SpillAll {
 }
 
 // Slot i for each i below `registers`.
-fn slots(alloc: Global, registers: u32) -> Result<Vec<Location>, AllocError> {
+fn slots(alloc: Global, registers: u32) -> Result<Vec<Location>, AllocError>
+    ensures { IfOk result (λ v. v.items ≡ slots registers) }
+{
     let mut list = Vec::new(alloc);
     for register in 0..registers {
         list.push(Location::Slot(register))?;
@@ -29,9 +34,26 @@ fn slots(alloc: Global, registers: u32) -> Result<Vec<Location>, AllocError> {
     Ok(list)
 }
 
+/// The certificate that has register i in slot i, everywhere; where a block starts it names the live registers alone.
+///
+/// # Errors
+///
+/// Only where memory was refused.
+pub fn slotted(
+    alloc: Global,
+    function: &VFunc,
+    live: &Live,
+) -> Result<Certificate, AllocError>
+    ensures { IfOk result (λ c. c ≡ slotted function.now.code function.now.registers live.now) }
+{
+    let list = slots(alloc, function.registers)?;
+    certificate_of(alloc, function, live, &list)
+}
+
 impl Strategy for SpillAll {
-    fn choose(&mut self, function: &VFunc, live: &Live) -> Option<Certificate> {
-        let list = slots(self.alloc, function.registers).ok()?;
-        certificate_of(self.alloc, function, live, &list).ok()
+    fn choose(&mut self, function: &VFunc, live: &Live) -> Option<Certificate>
+        ensures { IfSome result (λ c. c ≡ slotted function.now.code function.now.registers live.now) }
+    {
+        slotted(self.alloc, function, live).ok()
     }
 }
