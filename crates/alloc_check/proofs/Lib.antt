@@ -9,3 +9,4 @@ pub mod Walks
 pub mod Certifies
 pub mod Accepts
 pub mod Slots
+pub mod Spilled

@@ -183,7 +183,7 @@ start_own n (es ∷ starts) (suc k) h = start_own n starts k (both_true (list_al
 abbrev pub Full : Wanted → ℕ → Owners → Type 0
 Full wanted p own = (r : ℕ) → wanted p r ≡ true → own (Slot r) ≡ Some r
 
-all_append : (test : ℕ → Bool) (xs ys : List ℕ) → list_all test (xs ++ ys) ≡ (list_all test xs && list_all test ys)
+pub all_append : (test : ℕ → Bool) (xs ys : List ℕ) → list_all test (xs ++ ys) ≡ (list_all test xs && list_all test ys)
 all_append test [] ys = refl
 all_append test (x ∷ xs) ys = ap (λ b. test x && b) (all_append test xs ys) ∙ and_three (test x) (list_all test xs) (list_all test ys)
   where
@@ -191,16 +191,16 @@ all_append test (x ∷ xs) ys = ap (λ b. test x && b) (all_append test xs ys) �
     and_three true b d = refl
     and_three false b d = refl
 
-and_true : (b : Bool) → (b && true) ≡ b
+pub and_true : (b : Bool) → (b && true) ≡ b
 and_true true = refl
 and_true false = refl
 
-operand_in : (test : ℕ → Bool) (rs : List ℕ) (a : Operand ℕ) → list_all test (with_operand rs a) ≡ (list_all test rs && operand_keeps test a)
+pub operand_in : (test : ℕ → Bool) (rs : List ℕ) (a : Operand ℕ) → list_all test (with_operand rs a) ≡ (list_all test rs && operand_keeps test a)
 operand_in test rs (At r) = all_append test rs (r ∷ []) ∙ ap (λ b. list_all test rs && b) (and_true (test r))
 operand_in test rs (Number n) = sym (and_true (list_all test rs))
 operand_in test rs (Name g) = sym (and_true (list_all test rs))
 
-args_in : (test : ℕ → Bool) (rs : List ℕ) (args : List (Argument ℕ)) → list_all test (with_args rs args) ≡ (list_all test rs && list_all (λ (a : Argument ℕ). operand_keeps test a.value) args)
+pub args_in : (test : ℕ → Bool) (rs : List ℕ) (args : List (Argument ℕ)) → list_all test (with_args rs args) ≡ (list_all test rs && list_all (λ (a : Argument ℕ). operand_keeps test a.value) args)
 args_in test rs [] = sym (and_true (list_all test rs))
 args_in test rs (a ∷ args) =
     args_in test (with_operand rs a.value) args
@@ -211,7 +211,7 @@ args_in test rs (a ∷ args) =
     and_three true b d = refl
     and_three false b d = refl
 
-two_in : (test : ℕ → Bool) (a b : Operand ℕ) → list_all test (with_operand (with_operand [] a) b) ≡ (operand_keeps test a && operand_keeps test b)
+pub two_in : (test : ℕ → Bool) (a b : Operand ℕ) → list_all test (with_operand (with_operand [] a) b) ≡ (operand_keeps test a && operand_keeps test b)
 two_in test a b = operand_in test (with_operand [] a) b ∙ ap (λ x. x && operand_keeps test b) (operand_in test [] a)
 
 owned : (own : Owners) (q : Location) (r : ℕ) → own q ≡ Some r → owns own q r ≡ true

@@ -10,12 +10,8 @@ use Rattle.vcode.specs.Named.{keeps_places, is_place, are_near, are_distinct}
 use Rattle.vcode.specs.Places.{located}
 use Rattle.regalloc.specs.declared.certificate.Equality.{Equality}
 use Rattle.regalloc.specs.declared.certificate.Certificate.{Certificate}
-use Rattle.alloc_check.specs.Certified.{jump_point, placed_by, is_sound}
-
--- the point behind the last of these blocks
-abbrev pub end_point : ℕ → List (Block ℕ) → ℕ
-end_point p [] = p
-end_point p (b ∷ blocks) = end_point (jump_point p b.lines + 1) blocks
+pub use Rattle.regalloc.specs.Listed.{end_point}
+use Rattle.alloc_check.specs.Certified.{placed_by, is_sound}
 
 -- an equality of a register and a place that there are
 abbrev pub exists_in : (registers : ℕ) → Equality → Bool

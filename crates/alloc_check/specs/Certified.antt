@@ -15,6 +15,7 @@ use Rattle.vcode.specs.declared.code.Code.{Code}
 use Rattle.regalloc.specs.declared.certificate.Equality.{Equality}
 use Rattle.regalloc.specs.declared.certificate.Transfer.{Transfer}
 use Rattle.regalloc.specs.declared.certificate.Certificate.{Certificate}
+pub use Rattle.regalloc.specs.Listed.{next_point, jump_point}
 use Rattle.alloc_check.specs.Placed.{Layout, placed_line, placed_jump}
 use Rattle.alloc_check.specs.Owners.{Owners, nobody, own_put, moved, known, operand_held, all_hold, owns, after_line}
 
@@ -47,16 +48,6 @@ abbrev pub certified_lines : Certificate → ℕ → List (Line ℕ) → List (L
 certified_lines c p [] = transfers (moves_at c p)
 certified_lines c p (Tick turn w ∷ lines) = Tick turn w ∷ certified_lines c p lines
 certified_lines c p (l ∷ lines) = transfers (moves_at c p) ++ placed_line (layout_at c p) l ∷ certified_lines c (p + 1) lines
-
--- a tick is no point
-abbrev pub next_point : ℕ → Line ℕ → ℕ
-next_point p (Tick turn w) = p
-next_point p l = p + 1
-
--- the point of the jump behind these lines
-abbrev pub jump_point : ℕ → List (Line ℕ) → ℕ
-jump_point p [] = p
-jump_point p (l ∷ lines) = jump_point (next_point p l) lines
 
 abbrev pub certified_block : Certificate → ℕ → Block ℕ → Block Location
 certified_block c p b =

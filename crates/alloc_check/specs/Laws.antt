@@ -1,5 +1,5 @@
 -- The laws of certificates.
-use Rattle.std.specs.Prelude.{◌≡◌, ℕ, ◌≤◌, Bool, true, length}
+use Rattle.std.specs.Prelude.{◌≡◌, ℕ, ◌≤◌, Bool, true, List, length}
 use Rattle.std.specs.List.{list_all}
 use Rattle.vcode.specs.declared.place.Location.{Location}
 use Rattle.vcode.specs.declared.place.Operand.{Operand}
@@ -9,6 +9,10 @@ use Rattle.vcode.specs.declared.code.Block.{Block}
 use Rattle.vcode.specs.declared.code.Code.{Code}
 use Rattle.regalloc.specs.declared.certificate.Certificate.{Certificate}
 use Rattle.vcode.specs.Regular.{code_weight}
+use Rattle.bitset.specs.Bits.{Bits}
+use Rattle.cfg_live.specs.Points.{graph_of}
+use Rattle.cfg_live.specs.Rows.{AreLive}
+use Rattle.regalloc.specs.Listed.{slotted}
 use Rattle.alloc_check.specs.Kept.{Keeps}
 use Rattle.alloc_check.specs.Placed.{Layout, placed_line, in_slots}
 use Rattle.vcode.specs.declared.function.VFunc.{VFunc}
@@ -44,3 +48,10 @@ SlotsAreAccepted =
     (wanted : Wanted) (v : VFunc) (c : Certificate)
     → IsSlotted wanted v c
     → (is_accepted v c ≡ true) × (placed_by v.code c ≡ in_slots v.code)
+
+-- so the certificate that names just the live registers where a block begins
+abbrev pub SpillAllIsAccepted : Type 0
+SpillAllIsAccepted =
+    (v : VFunc) (rows : List Bits)
+    → AreLive (graph_of v.code) v.registers rows
+    → (is_accepted v (slotted v.code v.registers rows) ≡ true) × (placed_by v.code (slotted v.code v.registers rows) ≡ in_slots v.code)

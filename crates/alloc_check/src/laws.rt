@@ -1,5 +1,5 @@
 //! What is proved of certificates, each as the contract of a function that does nothing.
-ghost use Rattle.alloc_check.specs.Laws.{SoundKeeps, WeighsTheSame, HasNoMoreParams, KeepsKinds, SlotsAreAccepted};
+ghost use Rattle.alloc_check.specs.Laws.{SoundKeeps, WeighsTheSame, HasNoMoreParams, KeepsKinds, SlotsAreAccepted, SpillAllIsAccepted};
 
 /// The code that a sound certificate makes, with its places and its moves, keeps the virtual code.
 pub fn sound_certificates_keep()
@@ -25,4 +25,9 @@ pub fn certified_lines_keep_their_kinds()
 /// the code that `spill_all` makes.
 pub fn slots_are_accepted()
     ensures { SlotsAreAccepted }
+{}
+
+/// What `regalloc::spill_all::slotted` answers for the live registers of a function is accepted, and makes the code that `spill_all` makes.
+pub fn spill_all_is_accepted()
+    ensures { SpillAllIsAccepted }
 {}

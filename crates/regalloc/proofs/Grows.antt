@@ -62,7 +62,7 @@ lines_count : (us : List Uses) (lines : List (Line ℕ)) → length (with_lines 
 lines_count us [] = refl
 lines_count us (l ∷ lines) = lines_count (with_line us l) lines ∙ ap (λ k. jump_point k lines) (line_count us l)
 
-block_count : (us : List Uses) (b : Block ℕ) → length (with_block us b) ≡ jump_point (length us) b.lines + 1
+pub block_count : (us : List Uses) (b : Block ℕ) → length (with_block us b) ≡ jump_point (length us) b.lines + 1
 block_count us b = one_more (with_lines us b.lines) (jump_uses b.jump) ∙ ap (λ k. k + 1) (lines_count us b.lines)
 
 blocks_count : (us : List Uses) (blocks : List (Block ℕ)) → length (with_blocks us blocks) ≡ end_point (length us) blocks

@@ -39,11 +39,7 @@ fn slots(alloc: Global, registers: u32) -> Result<Vec<Location>, AllocError>
 /// # Errors
 ///
 /// Only where memory was refused.
-pub fn slotted(
-    alloc: Global,
-    function: &VFunc,
-    live: &Live,
-) -> Result<Certificate, AllocError>
+pub fn slotted(alloc: Global, function: &VFunc, live: &Live) -> Result<Certificate, AllocError>
     ensures { IfOk result (λ c. c ≡ slotted function.now.code function.now.registers live.now) }
 {
     let list = slots(alloc, function.registers)?;

@@ -1,8 +1,7 @@
-use Rattle.std.proofs.Common.{◌≡◌, ◌++◌, List, [], ◌∷◌, Option, None, sym, ap, ◌∙◌}
+use Rattle.std.proofs.Common.{◌++◌, [], ◌∷◌, Option, sym, ap, ◌∙◌}
 use Rattle.std.specs.Option.{option_map_or}
 use Rattle.std.proofs.lemmas.Option.{slice_get_past}
 use Rattle.vcode.specs.declared.place.Location.{Location}
-use Rattle.regalloc.specs.declared.certificate.Equality.{Equality}
 use Rattle.regalloc.proofs.Grows.{append_none}
 use Rattle.regalloc.proofs.list.push_place.Goals as goal
 

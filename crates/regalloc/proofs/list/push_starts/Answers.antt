@@ -1,4 +1,4 @@
-use Rattle.std.proofs.Common.{arith, ◌≡◌, ◌≤◌, ◌+◌, ap}
+use Rattle.std.proofs.Common.{arith, ◌≡◌, ap}
 use Rattle.regalloc.specs.Listed.{jump_point, end_point}
 use Rattle.regalloc.proofs.Grows.{block_fits}
 use Rattle.regalloc.proofs.list.push_starts.Goals as goal
