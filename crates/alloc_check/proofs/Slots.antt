@@ -1,11 +1,11 @@
 -- A certificate that has each register in its slot makes the code in slots, and is accepted.
-use Rattle.std.proofs.Common.{◌≡◌, ℕ, zero, suc, ◌+◌, ◌<◌, ◌≤◌, Bool, true, false, not, ◌&&◌, ◌||◌, nat_eq, nat_lt, nat_le, if◌then◌else◌, List, [], ◌∷◌, ◌++◌, map, length, slice_get, Option, Some, None, refl, sym, ◌∙◌, ap, subst, arith, inl, inr}
-use Rattle.std.specs.List.{list_all, list_any}
+use Rattle.std.proofs.Common.{◌≡◌, ℕ, zero, suc, ◌+◌, Bool, true, false, not, ◌&&◌, ◌||◌, nat_eq, nat_lt, if◌then◌else◌, List, [], ◌∷◌, ◌++◌, map, slice_get, Option, Some, None, refl, sym, ◌∙◌, ap, arith, inl, inr}
+use Rattle.std.specs.List.{list_all}
 use Rattle.std.specs.Prelude.{◌⊎◌}
 use Rattle.std.specs.Option.{option_map, option_map_or}
 use Rattle.std.proofs.lemmas.Bool.Decides.{nat_tests}
 use Rattle.vcode.specs.declared.place.Location.{Location}
-use Rattle.vcode.specs.declared.place.Location.TheVariants.{Register, Slot}
+use Rattle.vcode.specs.declared.place.Location.TheVariants.{Slot}
 use Rattle.vcode.specs.declared.place.Operand.{Operand}
 use Rattle.vcode.specs.declared.place.Operand.TheVariants.{At, Number, Name}
 use Rattle.vcode.specs.declared.place.Destination.{Destination}
@@ -15,23 +15,22 @@ use Rattle.vcode.specs.declared.line.Line.TheVariants.{Tick, Set, Operate, Load,
 use Rattle.vcode.specs.declared.line.Jump.{Jump}
 use Rattle.vcode.specs.declared.line.Jump.TheVariants.{Goto, Branch, Return, Halt}
 use Rattle.vcode.specs.declared.code.Block.{Block}
-use Rattle.vcode.specs.declared.code.Code.{Code}
 use Rattle.vcode.specs.declared.function.VFunc.{VFunc}
 use Rattle.vcode.specs.Cost.{is_paid}
-use Rattle.vcode.specs.Named.{operand_keeps, wanted_keeps, line_keeps, jump_keeps, block_keeps, keeps_places, is_below, is_place, are_near, are_low, are_distinct}
-use Rattle.vcode.specs.Places.{virtual, located, same_location, is_callers}
+use Rattle.vcode.specs.Named.{operand_keeps, wanted_keeps, line_keeps, jump_keeps, keeps_places, is_place, are_near, are_distinct}
+use Rattle.vcode.specs.Places.{located, same_location}
 use Rattle.regalloc.specs.declared.certificate.Equality.{Equality}
 use Rattle.regalloc.specs.declared.certificate.Transfer.{Transfer}
 use Rattle.regalloc.specs.declared.certificate.Certificate.{Certificate}
-use Rattle.cfg_live.specs.Registers.{with_operand, with_args, line_reads, line_writes, jump_reads}
-use Rattle.alloc_check.specs.Placed.{Layout, placed_operand, placed_argument, placed_destination, placed_line, placed_jump, placed_block, in_slots}
+use Rattle.cfg_live.specs.Registers.{with_operand, with_args, line_reads, jump_reads}
+use Rattle.alloc_check.specs.Placed.{placed_operand, placed_argument, placed_destination, placed_line, placed_jump, placed_block, in_slots}
 use Rattle.alloc_check.specs.Owners.{Owners, nobody, other_than, own_put, own_also, own_kept, moved, known, owns, operand_held, args_held, all_hold, where_held, received, after_line}
-use Rattle.alloc_check.specs.Certified.{moves_at, starts_at, layout_at, transfers, next_point, jump_point, certified_lines, certified_block, certified_blocks, certified_params, placed_by, jump_right, lines_right, blocks_right, own_params, is_param, params_placed, entry_right, is_sound}
-use Rattle.alloc_check.specs.Accepted.{exists_in, starts_exist, is_placed, is_accepted, end_point}
+use Rattle.alloc_check.specs.Certified.{moves_at, starts_at, layout_at, transfers, next_point, jump_point, certified_lines, certified_blocks, certified_params, placed_by, jump_right, lines_right, blocks_right, own_params, is_param, params_placed, entry_right, is_sound}
+use Rattle.alloc_check.specs.Accepted.{exists_in, starts_exist, is_placed, is_accepted}
 use Rattle.alloc_check.specs.Slotted.{is_empty, is_own, own_at, lines_own, blocks_own, Wanted, start_wanted, targets_wanted, writes_to, LinesWant, names, BlocksWant, IsSlotted}
 use Rattle.alloc_check.specs.Walk.{moves_before}
 use Rattle.alloc_check.proofs.Agreeing.{both_true, either_true, same_is}
-use Rattle.alloc_check.proofs.Certifies.{line_on, from_true}
+use Rattle.alloc_check.proofs.Certifies.{line_on}
 use Rattle.alloc_check.proofs.Regular.{slots_regular, slots_known, slots_near, slots_apart}
 
 -- ---- the code
@@ -281,7 +280,7 @@ line_goes wanted c p own (Operate to op a b) at full reads flow =
     let t = both_true (operand_keeps (own_at c p) a) (operand_keeps (own_at c p) b) s.1 in
     let h = both_true (operand_keeps (wanted p) a) (operand_keeps (wanted p) b) (sym (two_in (wanted p) a b) ∙ reads) in
     let found : (operand_held own (layout_at c p) a && operand_held own (layout_at c p) b) ≡ true =
-        ap (λ x. x && operand_held own (layout_at c p) b) (operand_found wanted c p own a full t.0 h.0) ∙ operand_found wanted c p own b full t.1 h.1 in
+    ap (λ x. x && operand_held own (layout_at c p) b) (operand_found wanted c p own a full t.0 h.0) ∙ operand_found wanted c p own b full t.1 h.1 in
     let o = goes_put wanted c p to own (operand_held own (layout_at c p) a && operand_held own (layout_at c p) b) found s.0 full flow in
     record { owners = o.0; finds = o.1.0; full = o.1.1 }
 line_goes wanted c p own (Load to op a) at full reads flow =
@@ -293,7 +292,7 @@ line_goes wanted c p own (Store size a b) at full reads flow =
     let t = both_true (operand_keeps (own_at c p) a) (operand_keeps (own_at c p) b) at in
     let h = both_true (operand_keeps (wanted p) a) (operand_keeps (wanted p) b) (sym (two_in (wanted p) a b) ∙ reads) in
     let found : (operand_held own (layout_at c p) a && operand_held own (layout_at c p) b) ≡ true =
-        ap (λ x. x && operand_held own (layout_at c p) b) (operand_found wanted c p own a full t.0 h.0) ∙ operand_found wanted c p own b full t.1 h.1 in
+    ap (λ x. x && operand_held own (layout_at c p) b) (operand_found wanted c p own a full t.0 h.0) ∙ operand_found wanted c p own b full t.1 h.1 in
     record { owners = own; finds = ap (λ x. where_held x own) found; full = λ r w. full r (or_false (wanted p r) (flow r w)) }
 line_goes wanted c p own (Alloc to size) at full reads flow =
     record { owners = own_put (layout_at c p to) to own; finds = refl; full = after_put wanted c p (p + 1) to own at full flow }
@@ -301,15 +300,15 @@ line_goes wanted c p own (Blit a b count) at full reads flow =
     let t = both_true (operand_keeps (own_at c p) a) (operand_keeps (own_at c p) b) at in
     let h = both_true (operand_keeps (wanted p) a) (operand_keeps (wanted p) b) (sym (two_in (wanted p) a b) ∙ reads) in
     let found : (operand_held own (layout_at c p) a && operand_held own (layout_at c p) b) ≡ true =
-        ap (λ x. x && operand_held own (layout_at c p) b) (operand_found wanted c p own a full t.0 h.0) ∙ operand_found wanted c p own b full t.1 h.1 in
+    ap (λ x. x && operand_held own (layout_at c p) b) (operand_found wanted c p own a full t.0 h.0) ∙ operand_found wanted c p own b full t.1 h.1 in
     record { owners = own; finds = ap (λ x. where_held x own) found; full = λ r w. full r (or_false (wanted p r) (flow r w)) }
 line_goes wanted c p own (Call to callee args) at full reads flow =
     let s = both_true (wanted_keeps (own_at c p) to) (operand_keeps (own_at c p) callee && list_all (λ (a : Argument ℕ). operand_keeps (own_at c p) a.value) args) at in
     let t = both_true (operand_keeps (own_at c p) callee) (list_all (λ (a : Argument ℕ). operand_keeps (own_at c p) a.value) args) s.1 in
     let h = both_true (operand_keeps (wanted p) callee) (list_all (λ (a : Argument ℕ). operand_keeps (wanted p) a.value) args)
-        (sym (args_in (wanted p) (with_operand [] callee) args ∙ ap (λ x. x && list_all (λ (a : Argument ℕ). operand_keeps (wanted p) a.value) args) (operand_in (wanted p) [] callee)) ∙ reads) in
+    (sym (args_in (wanted p) (with_operand [] callee) args ∙ ap (λ x. x && list_all (λ (a : Argument ℕ). operand_keeps (wanted p) a.value) args) (operand_in (wanted p) [] callee)) ∙ reads) in
     let found : (operand_held own (layout_at c p) callee && args_held own (layout_at c p) args) ≡ true =
-        ap (λ x. x && args_held own (layout_at c p) args) (operand_found wanted c p own callee full t.0 h.0) ∙ args_found wanted c p own args full t.1 h.1 in
+    ap (λ x. x && args_held own (layout_at c p) args) (operand_found wanted c p own callee full t.0 h.0) ∙ args_found wanted c p own args full t.1 h.1 in
     record {
       owners = received (layout_at c p) to (own_kept own);
       finds = ap (λ x. where_held x (received (layout_at c p) to (own_kept own))) found;
@@ -442,9 +441,11 @@ entry_one n ds e at = by (is_param ds e.register) refl
   where
     is : e.place ≡ Slot e.register
     is = same_is e.place (Slot e.register) (both_true (same_location e.place (Slot e.register)) (nat_lt e.register n) at).0
+
     or_true : (b : Bool) → (b || true) ≡ true
     or_true true = refl
     or_true false = refl
+
     by : (b : Bool) → is_param ds e.register ≡ b → (owns (own_params ds (slots_of ds) nobody) e.place e.register || not (is_param ds e.register)) ≡ true
     by true f =
         ap (λ b. b || not (is_param ds e.register))

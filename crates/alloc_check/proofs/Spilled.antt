@@ -1,5 +1,5 @@
 -- The certificate that has each register in its slot, and knows the live ones of each block's start.
-use Rattle.std.proofs.Common.{◌≡◌, ℕ, zero, suc, ◌+◌, ◌<◌, ◌≤◌, Bool, true, false, not, ◌&&◌, ◌||◌, nat_eq, nat_lt, nat_le, if◌then◌else◌, List, [], ◌∷◌, ◌++◌, map, length, slice_get, Option, Some, None, refl, sym, ◌∙◌, ap, subst, arith, inl, inr}
+use Rattle.std.proofs.Common.{◌≡◌, ℕ, zero, suc, ◌+◌, ◌<◌, ◌≤◌, Bool, true, false, ◌&&◌, ◌||◌, nat_eq, nat_lt, nat_le, if◌then◌else◌, List, [], ◌∷◌, ◌++◌, map, length, slice_get, Option, Some, None, refl, sym, ◌∙◌, ap, arith, inl, inr}
 use Rattle.std.specs.List.{list_all, list_any}
 use Rattle.std.specs.Prelude.{◌⊎◌}
 use Rattle.std.specs.Option.{option_map, option_map_or}
@@ -8,7 +8,6 @@ use Rattle.std.proofs.lemmas.Option.{slice_get-map}
 use Rattle.bitset.specs.Bits.{Bits}
 use Rattle.vcode.specs.declared.place.Location.{Location}
 use Rattle.vcode.specs.declared.place.Location.TheVariants.{Slot}
-use Rattle.vcode.specs.declared.place.Operand.{Operand}
 use Rattle.vcode.specs.declared.place.Destination.{Destination}
 use Rattle.vcode.specs.declared.place.Argument.{Argument}
 use Rattle.vcode.specs.declared.line.Line.{Line}
@@ -18,18 +17,16 @@ use Rattle.vcode.specs.declared.line.Jump.TheVariants.{Goto, Branch, Return, Hal
 use Rattle.vcode.specs.declared.code.Block.{Block}
 use Rattle.vcode.specs.declared.code.Code.{Code}
 use Rattle.vcode.specs.declared.function.VFunc.{VFunc}
-use Rattle.vcode.specs.Named.{operand_keeps, wanted_keeps, line_keeps, jump_keeps, block_keeps, keeps_places, is_below}
+use Rattle.vcode.specs.Named.{operand_keeps, line_keeps, jump_keeps, block_keeps, keeps_places, is_below}
 use Rattle.vcode.specs.Places.{same_location}
 use Rattle.regalloc.specs.declared.certificate.Equality.{Equality}
-use Rattle.regalloc.specs.declared.certificate.Transfer.{Transfer}
-use Rattle.regalloc.specs.declared.certificate.Certificate.{Certificate}
-use Rattle.regalloc.specs.Listed.{place_in, has, with_place, with_places, with_written, point_places, live_places, listed_params, listed_starts, no_moves, listed, slots, slotted}
+use Rattle.regalloc.specs.Listed.{place_in, has, with_place, with_places, with_written, point_places, live_places, listed_params, listed_starts, no_moves, slots, slotted}
 use Rattle.cfg_live.specs.declared.uses.Uses.{Uses}
 use Rattle.cfg_live.specs.declared.graph.Graph.{Graph}
 use Rattle.cfg_live.specs.Registers.{with_operand, line_reads, line_writes, jump_reads}
 use Rattle.cfg_live.specs.Points.{line_uses, jump_uses, with_line, with_lines, with_block, with_blocks, uses, with_start, jump_next, after_point, next_line, next_lines, next_block, next_blocks, graph_of}
 use Rattle.cfg_live.specs.Points.{starts_after, starts}
-use Rattle.cfg_live.specs.Paths.{reads, writes, leads}
+use Rattle.cfg_live.specs.Paths.{writes, leads}
 use Rattle.cfg_live.specs.Rows.{holds, AreLive}
 use Rattle.regalloc.proofs.Grows.{block_count, uses_count}
 use Rattle.alloc_check.specs.Certified.{place_by, starts_at, places_at, next_point, jump_point}
@@ -107,15 +104,15 @@ slots_count (suc n) = one_more (slots n) (Slot n) ∙ (let e = slots_count n in 
 
 pub slot_at : (n r : ℕ) → r < n → slice_get (slots n) r ≡ Some (Slot r)
 slot_at zero r low = absurd (omega arith)
-slot_at (suc n) r low = by (nat_eq r n) refl
+slot_at (suc n) r low = by (nat_eq r n) refl (slot_at n r)
   where
-    by : (b : Bool) → nat_eq r n ≡ b → slice_get (slots (suc n)) r ≡ Some (Slot r)
-    by true e =
+    by : (b : Bool) → nat_eq r n ≡ b → (r < n → slice_get (slots n) r ≡ Some (Slot r)) → slice_get (slots (suc n)) r ≡ Some (Slot r)
+    by true e before =
         let same : r ≡ n = grind (arith, nat_tests) in
         ap (slice_get (slots (suc n))) (same ∙ sym (slots_count n)) ∙ get_last (slots n) (Slot n) ∙ ap (λ k. Some (Slot k)) (sym same)
-    by false e =
+    by false e before =
         let less : r < n = grind (arith, nat_tests) in
-        get_append (slots n) (Slot n ∷ []) r (Slot r) (slot_at n r less)
+        get_append (slots n) (Slot n ∷ []) r (Slot r) (before less)
 
 abbrev own : ℕ → Equality
 own r = record { register = r; place = Slot r }
@@ -147,14 +144,14 @@ place_of_own : (n : ℕ) (es : List Equality) (r : ℕ) → list_all (is_own n) 
 place_of_own n [] r all h = cc
 place_of_own n (e ∷ es) r all h =
     let s = both_true (is_own n e) (list_all (is_own n) es) all in
-    by (nat_eq e.register r) refl (both_true (same_location e.place (Slot e.register)) (nat_lt e.register n) s.0).0 h s.1
+    by (nat_eq e.register r) refl (both_true (same_location e.place (Slot e.register)) (nat_lt e.register n) s.0).0 h (place_of_own n es r s.1)
   where
-    by : (b : Bool) → nat_eq e.register r ≡ b → same_location e.place (Slot e.register) ≡ true → has (e ∷ es) r ≡ true → list_all (is_own n) es ≡ true → place_by (e ∷ es) r ≡ Slot r
+    by : (b : Bool) → nat_eq e.register r ≡ b → same_location e.place (Slot e.register) ≡ true → has (e ∷ es) r ≡ true → (has es r ≡ true → place_by es r ≡ Slot r) → place_by (e ∷ es) r ≡ Slot r
     by true f is g rest =
         let same : e.register ≡ r = grind (arith, nat_tests) in
         ap (λ b. if b then e.place else place_by es r) f ∙ same_is e.place (Slot e.register) is ∙ ap (λ k. Slot k) same
     by false f is g rest =
-        ap (λ b. if b then e.place else place_by es r) f ∙ place_of_own n es r rest (ap (λ b. b || has es r) (sym f) ∙ g)
+        ap (λ b. if b then e.place else place_by es r) f ∙ rest (ap (λ b. b || has es r) (sym f) ∙ g)
 
 with_own : (n : ℕ) (es : List Equality) (r : ℕ) → r < n → list_all (is_own n) es ≡ true
     → (list_all (is_own n) (with_place (slots n) es r) ≡ true) × ((has (with_place (slots n) es r) r ≡ true) × ((k : ℕ) → has es k ≡ true → has (with_place (slots n) es r) k ≡ true))
@@ -334,17 +331,18 @@ live_every n rows q (suc m) pass low h =
 
 pub live_named : (n : ℕ) (rows : List Bits) (q m r : ℕ) → m ≤ n → r < m → holds rows q r ≡ true → has (live_places (slots n) rows q m) r ≡ true
 live_named n rows q zero r low in_m h = absurd (omega arith)
-live_named n rows q (suc m) r low in_m h = any_append (λ (e : Equality). nat_eq e.register r) (live_places (slots n) rows q m) (if holds rows q m then place_in (slots n) m else []) ∙ by (nat_eq r m) refl
+live_named n rows q (suc m) r low in_m h = any_append (λ (e : Equality). nat_eq e.register r) (live_places (slots n) rows q m) (if holds rows q m then place_in (slots n) m else [])
+    ∙ by (nat_eq r m) refl (λ less. live_named n rows q m r (omega arith) less h)
   where
-    by : (b : Bool) → nat_eq r m ≡ b → (has (live_places (slots n) rows q m) r || has (if holds rows q m then place_in (slots n) m else []) r) ≡ true
-    by true e =
+    by : (b : Bool) → nat_eq r m ≡ b → (r < m → has (live_places (slots n) rows q m) r ≡ true) → (has (live_places (slots n) rows q m) r || has (if holds rows q m then place_in (slots n) m else []) r) ≡ true
+    by true e before =
         let same : r ≡ m = grind (arith, nat_tests) in
         let here : holds rows q m ≡ true = ap (holds rows q) (sym same) ∙ h in
         or_right (has (live_places (slots n) rows q m) r) (has (if holds rows q m then place_in (slots n) m else []) r)
         (ap (λ b. has (if b then place_in (slots n) m else []) r) here ∙ ap (λ es. has es r) (place_slot n m (omega arith)) ∙ ap (λ b. b || false) (ap (nat_eq m) same ∙ is_same m))
-    by false e =
+    by false e before =
         let less : r < m = grind (arith, nat_tests) in
-        ap (λ b. b || has (if holds rows q m then place_in (slots n) m else []) r) (live_named n rows q m r (omega arith) less h)
+        ap (λ b. b || has (if holds rows q m then place_in (slots n) m else []) r) (before less)
 
 pub starts_listed : (n : ℕ) (rows : List Bits) (p : ℕ) (blocks : List (Block ℕ)) → list_all (λ (es : List Equality). list_all (is_own n) es) (listed_starts (slots n) rows n p blocks) ≡ true
 starts_listed n rows p [] = refl
@@ -369,21 +367,21 @@ flow_at g n rows live p q r u ns at leads_there unwritten h =
     let path = live.live q r h in
     let no_write : writes g p r ≡ false = ap (λ (o : Option Uses). option_map_or (λ (x : Uses). option_map_or (λ k. nat_eq k r) x.writes false) o false) at.uses ∙ unwritten in
     let goes : leads g p q ≡ true = ap (λ (o : Option (List ℕ)). option_map_or (λ ks. list_any (λ k. nat_eq k q) ks) o false) at.nexts ∙ leads_there in
-    live.marked p r (live.known q r h) (suc path.0, (no_write, (q, (goes, path.1))))
+    live.marked p r (live.known q r h) (suc path.0, (no_write, (q, goes, path.1)))
 
 read_at : (g : Graph) (n : ℕ) (rows : List Bits) → AreLive g n rows → (p : ℕ) (u : Uses) (ns : List ℕ) → At g p u ns → list_all (is_below n) u.reads ≡ true → list_all (holds rows p) u.reads ≡ true
 read_at g n rows live p u ns at below =
     every_in (holds rows p) u.reads (λ r h.
-      let e : nat_lt r n ≡ true = one_in (is_below n) u.reads r below h in
-      let low : r < n = grind (arith, nat_tests) in
-      live.marked p r low (0, ap (λ (o : Option Uses). option_map_or (λ (x : Uses). list_any (λ k. nat_eq k r) x.reads) o false) at.uses ∙ h))
+    let e : nat_lt r n ≡ true = one_in (is_below n) u.reads r below h in
+    let low : r < n = grind (arith, nat_tests) in
+    live.marked p r low (0, ap (λ (o : Option Uses). option_map_or (λ (x : Uses). list_any (λ k. nat_eq k r) x.reads) o false) at.uses ∙ h))
 
 -- the certificate has what the point names in slots
 named_at : (v : Code ℕ) (n : ℕ) (rows : List Bits) (p : ℕ) (u : Uses) → slice_get (uses v.blocks) p ≡ Some u → list_all (is_below n) u.reads ≡ true → below_wanted n u.writes ≡ true
     → (list_all (own_at (slotted v n rows) p) u.reads ≡ true) × (option_map_or (own_at (slotted v n rows) p) u.writes true ≡ true)
 named_at v n rows p u at below under =
     let here : places_at (slotted v n rows) p ≡ point_places (slots n) u =
-        ap (λ (o : Option (List Equality)). option_map_or (λ (es : List Equality). es) o []) (slice_get-map (point_places (slots n)) (uses v.blocks) p ∙ ap (option_map (point_places (slots n))) at) in
+    ap (λ (o : Option (List Equality)). option_map_or (λ (es : List Equality). es) o []) (slice_get-map (point_places (slots n)) (uses v.blocks) p ∙ ap (option_map (point_places (slots n))) at) in
     let owned = point_own n u below under in (
       every_in (own_at (slotted v n rows) p) u.reads (λ r h. ap (λ es. same_location (place_by es r) (Slot r)) here ∙ ap (λ (q : Location). same_location q (Slot r)) (owned.0 r h) ∙ is_same r),
       by u.writes refl here owned.1,
@@ -495,9 +493,9 @@ lines_so v n rows live p j (l ∷ lines) us ns cu cn bu bn below under =
           let count_n : length (next_line ns l) ≡ next_point p l = ap length (t.nexts ns) ∙ one_more ns (after_point (length ns)) ∙ ap (λ k. k + 1) cn ∙ sym (t.next p) in
           let rest = lines_so v n rows live (next_point p l) j lines (with_line us l) (next_line ns l) count_u count_n bu bn s.1 under in
           let at : At (graph_of v) p (line_uses l) (after_point (length ns)) =
-              here_is (graph_of v) p us (line_uses l) ns (after_point (length ns)) cu cn
-              (λ q x h. bu q x (get_append (with_lines (with_line us l) lines) (jump_uses j ∷ []) q x (uses_begin (with_line us l) lines q x (ap (λ xs. slice_get xs q) (t.uses us) ∙ h))))
-              (λ q x h. bn q x (get_append (next_lines (next_line ns l) lines) (jump_next (firsts_from 0 v.blocks) j ∷ []) q x (nexts_begin (next_line ns l) lines q x (ap (λ xs. slice_get xs q) (t.nexts ns) ∙ h)))) in
+          here_is (graph_of v) p us (line_uses l) ns (after_point (length ns)) cu cn
+          (λ q x h. bu q x (get_append (with_lines (with_line us l) lines) (jump_uses j ∷ []) q x (uses_begin (with_line us l) lines q x (ap (λ xs. slice_get xs q) (t.uses us) ∙ h))))
+          (λ q x h. bn q x (get_append (next_lines (next_line ns l) lines) (jump_next (firsts_from 0 v.blocks) j ∷ []) q x (nexts_begin (next_line ns l) lines q x (ap (λ xs. slice_get xs q) (t.nexts ns) ∙ h)))) in
           let low = names_below (is_below n) l s.0 in
           let named = named_at v n rows p (line_uses l) at.uses low.0 low.1 in (
             (
@@ -531,12 +529,12 @@ blocks_so v n rows live p k (b ∷ blocks) us ns cu cn bu bn firsts below =
     let s = both_true (block_keeps (is_below n) b) (list_all (block_keeps (is_below n)) blocks) below in
     let t = both_true (list_all (line_keeps (is_below n)) b.lines) (jump_keeps (is_below n) b.jump) s.0 in
     let here = lines_so v n rows live p b.jump b.lines us ns cu cn (λ q x h. bu q x (blocks_begin (with_block us b) blocks q x h))
-        (λ q x h. bn q x (next_blocks_begin (firsts_from 0 v.blocks) (next_block (firsts_from 0 v.blocks) ns b) blocks q x h)) t.0 t.1 in
+    (λ q x h. bn q x (next_blocks_begin (firsts_from 0 v.blocks) (next_block (firsts_from 0 v.blocks) ns b) blocks q x h)) t.0 t.1 in
     let count_u : length (with_block us b) ≡ jump_point p b.lines + 1 = block_count us b ∙ ap (λ i. jump_point i b.lines + 1) cu in
     let count_n : length (next_block (firsts_from 0 v.blocks) ns b) ≡ jump_point p b.lines + 1 =
-        one_more (next_lines ns b.lines) (jump_next (firsts_from 0 v.blocks) b.jump) ∙ ap (λ i. i + 1) (count_next ns b.lines ∙ ap (λ i. jump_point i b.lines) cn) in
+    one_more (next_lines ns b.lines) (jump_next (firsts_from 0 v.blocks) b.jump) ∙ ap (λ i. i + 1) (count_next ns b.lines ∙ ap (λ i. jump_point i b.lines) cn) in
     let rest = blocks_so v n rows live (jump_point p b.lines + 1) (k + 1) blocks (with_block us b) (next_block (firsts_from 0 v.blocks) ns b) count_u count_n bu bn
-        (λ i q h. ap (slice_get (firsts_from 0 v.blocks)) (let e : (k + 1) + i ≡ k + suc i = omega arith in e) ∙ firsts (suc i) q h) s.1 in
+    (λ i q h. ap (slice_get (firsts_from 0 v.blocks)) (let e : (k + 1) + i ≡ k + suc i = omega arith in e) ∙ firsts (suc i) q h) s.1 in
     let start : slice_get (firsts_from 0 v.blocks) k ≡ Some p = ap (slice_get (firsts_from 0 v.blocks)) (let e : k ≡ k + 0 = omega arith in e) ∙ firsts 0 p refl in (
       (
         λ r h. ap (λ es. names es r) (start_is v n rows k (Some p) start) ∙ live_named n rows p n r (omega arith) (live.known p r h) h,
@@ -550,17 +548,17 @@ blocks_so v n rows live p k (b ∷ blocks) us ns cu cn bu bn firsts below =
 pub spilled : (v : VFunc) (rows : List Bits) → AreLive (graph_of v.code) v.registers rows → IsSlotted (holds rows) v (slotted v.code v.registers rows)
 spilled v rows live =
     let s = both_true (list_all (λ (d : Destination ℕ). is_below v.registers d.place) v.code.params) (list_all (block_keeps (is_below v.registers)) v.code.blocks)
-        (from_true (keeps_places (is_below v.registers) v.code) v.known) in
+    (from_true (keeps_places (is_below v.registers) v.code) v.known) in
     let firsts : starts v.code.blocks ≡ firsts_from 0 v.code.blocks = starts_same [] v.code.blocks in
     let all = blocks_so v.code v.registers rows live 0 0 v.code.blocks [] [] refl refl (λ q x h. h)
-        (λ q x h. ap (λ fs. slice_get (next_blocks fs [] v.code.blocks) q) firsts ∙ h)
-        (λ i q h. ap (slice_get (firsts_from 0 v.code.blocks)) (let e : 0 + i ≡ i = omega arith in e) ∙ h) s.1 in
+    (λ q x h. ap (λ fs. slice_get (next_blocks fs [] v.code.blocks) q) firsts ∙ h)
+    (λ i q h. ap (slice_get (firsts_from 0 v.code.blocks)) (let e : 0 + i ≡ i = omega arith in e) ∙ h) s.1 in
     record {
       params = params_listed v.registers v.code.params s.0;
       still = still_listed (uses v.code.blocks);
       long =
           (let e : length (map (point_places (slots v.registers)) (uses v.code.blocks)) ≡ end_point 0 v.code.blocks =
-              map_length (point_places (slots v.registers)) (uses v.code.blocks) ∙ uses_count v.code.blocks in
+          map_length (point_places (slots v.registers)) (uses v.code.blocks) ∙ uses_count v.code.blocks in
           ap (λ k. nat_le (end_point 0 v.code.blocks) k) e ∙ (let f : nat_le (end_point 0 v.code.blocks) (end_point 0 v.code.blocks) ≡ true = grind (arith, nat_tests) in f));
       starts = starts_listed v.registers rows 0 v.code.blocks;
       places = all.1;

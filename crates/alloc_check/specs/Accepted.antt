@@ -1,8 +1,7 @@
 -- Which certificates are accepted.
-use Rattle.std.specs.Prelude.{ℕ, ◌+◌, Bool, ◌&&◌, nat_lt, nat_le, List, [], ◌∷◌, length}
+use Rattle.std.specs.Prelude.{ℕ, Bool, ◌&&◌, nat_lt, nat_le, List, length}
 use Rattle.std.specs.List.{list_all}
 use Rattle.vcode.specs.declared.place.Location.{Location}
-use Rattle.vcode.specs.declared.code.Block.{Block}
 use Rattle.vcode.specs.declared.code.Code.{Code}
 use Rattle.vcode.specs.declared.function.VFunc.{VFunc}
 use Rattle.vcode.specs.Cost.{is_paid}

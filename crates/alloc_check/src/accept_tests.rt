@@ -123,10 +123,7 @@ fn of_layout(
     moves.push(list(alloc, before_call)?)?;
     moves.push(list(alloc, before_sum)?)?;
     let mut places = Seq::new(alloc);
-    places.push(list(
-        alloc,
-        &[at(0, layout.passed), at(1, layout.result)],
-    )?)?;
+    places.push(list(alloc, &[at(0, layout.passed), at(1, layout.result)])?)?;
     places.push(list(
         alloc,
         &[

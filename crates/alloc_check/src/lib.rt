@@ -19,6 +19,8 @@
 #![tactic(auto)]
 
 pub mod accept;
+#[cfg(test)]
+mod accept_tests;
 mod certified;
 mod check;
 mod fits;
@@ -28,7 +30,5 @@ mod points;
 mod says;
 pub mod spill_all;
 mod table;
-#[cfg(test)]
-mod accept_tests;
 #[cfg(test)]
 mod tests;
