@@ -6,3 +6,4 @@ pub mod NativeLemmas
 pub mod CallLemmas
 pub mod StartLemmas
 pub mod RunLemmas
+pub mod LabelLemmas

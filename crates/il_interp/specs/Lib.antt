@@ -8,3 +8,4 @@ pub mod Prepared
 pub mod Room
 pub mod Words
 pub mod Begun
+pub mod Labels

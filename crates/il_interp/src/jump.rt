@@ -1,5 +1,5 @@
 //! Jumps.
-ghost use Rattle.std.specs.Prelude.{◌≡◌, List, map, Some, None, slice_get, IfOk, OnOk, MatchBool, MatchOption, nat_eq};
+ghost use Rattle.std.specs.Prelude.{◌≡◌, List, map, Some, None, slice_get, IfOk, OnOk, MatchBool, MatchOption, nat_eq, true};
 ghost use Rattle.std.specs.List.{find};
 ghost use Rattle.il_ast.specs.declared.block.PhiArg.{PhiArg as PhiArgOf};
 ghost use Rattle.il_ast.specs.declared.instruction.Jump.TheVariants.{Return};
@@ -9,18 +9,20 @@ ghost use Rattle.il_ast.specs.Effect.{branch_to, phi_value, phi_values, with_phi
 ghost use Rattle.il_ast.specs.Meaning.{end_of};
 ghost use Rattle.obj_link.specs.Shown.{shown};
 ghost use Rattle.obj_link.specs.ProgramOf.{program};
+ghost use Rattle.il_interp.specs.Labels.{are_distinct, are_all_distinct};
 ghost use Rattle.il_interp.specs.Prepared.{program_of};
 ghost use Rattle.il_interp.specs.Machine.{env_of, locals_of, received, return_to, react, stepped};
 
 use crate::operand::operand;
-use crate::prepare::place_at;
+use crate::prepare::{edges_at, place_at};
 use crate::prepared::Prepared;
 use crate::slots::Slots;
-use crate::state::State;
+use crate::state::{Frame, State};
 use il_ast::block::{Phi, PhiArg};
 use il_ast::function::Func;
 use il_ast::instruction::Jump;
 use il_ast::label::Label;
+use il_ast::list::Seq;
 use il_ast::operand::{Dest, Val};
 use il_ast::operation::Class;
 use il_ast::program::Placed;
@@ -29,8 +31,8 @@ use il_mem::memory::BlockMemory;
 use obj_link::linked::Linked;
 use std::alloc::AllocError;
 
-/// The argument of a phi for the block come from.
-fn argument(args: &[PhiArg], from: Label) -> Option<PhiArg>
+/// The first argument for the block come from.
+fn search(args: &[PhiArg], from: Label) -> Option<PhiArg>
     ensures { result ≡ find (λ (a : PhiArgOf). nat_eq a.from from) args.now }
 {
     for arg in args {
@@ -41,36 +43,71 @@ fn argument(args: &[PhiArg], from: Label) -> Option<PhiArg>
     None
 }
 
+/// The argument of a phi for the block come from. It is the one at `place`, where that has the label.
+#[tactic(auto, using(crate::proofs::LabelLemmas::found_at))]
+fn argument(args: &[PhiArg], from: Label, place: usize) -> Option<PhiArg>
+    requires { are_distinct args.now ≡ true }
+    ensures { result ≡ find (λ (a : PhiArgOf). nat_eq a.from from) args.now }
+{
+    match args.get(place) {
+        Some(arg) => {
+            if arg.from.number() == from.number() {
+                Some(*arg)
+            } else {
+                search(args, from)
+            }
+        }
+        None => search(args, from),
+    }
+}
+
 /// The value of a phi where its block is entered from this one.
 fn phi_value(
     linked: &Linked<'_>,
     text: usize,
     temps: &Slots,
     from: Label,
+    place: usize,
     phi: &Phi,
 ) -> Option<Value>
+    requires { are_distinct phi.now.args ≡ true }
     ensures { result ≡ phi_value (globals_of (program linked.now) text) temps.now from phi.now }
 {
-    match argument(phi.args.as_slice(), from) {
+    match argument(phi.args.as_slice(), from, place) {
         Some(arg) => operand(linked, text, temps, phi.to.class, arg.value),
         None => None,
     }
 }
 
+/// The place that is noted for a phi, or 0.
+fn place_of(places: Option<&Seq<usize>>, phi: usize) -> usize {
+    match places {
+        Some(places) => match places.as_slice().get(phi) {
+            Some(place) => *place,
+            None => 0,
+        },
+        None => 0,
+    }
+}
+
 /// Reads the values of phis, of which none is written yet. Answers whether there is one for each.
+/// `places` has where to look for the argument of each.
 fn read_phis(
     linked: &Linked<'_>,
     text: usize,
     temps: &Slots,
     from: Label,
+    places: Option<&Seq<usize>>,
     phis: &[Phi],
     values: &mut Vec<Value>,
 ) -> Result<bool, AllocError>
+    requires { are_all_distinct phis.now ≡ true }
     ensures { IfOk result (λ all. MatchBool all (phi_values (globals_of (program linked.now) text) temps.now from phis.now ≡ Some values.new.items) (phi_values (globals_of (program linked.now) text) temps.now from phis.now ≡ None)) }
 {
     values.clear();
     for phi in phis {
-        match phi_value(linked, text, temps, from, phi) {
+        let place = place_of(places, values.len());
+        match phi_value(linked, text, temps, from, place, phi) {
             Some(value) => values.push(value)?,
             None => return Ok(false),
         }
@@ -94,13 +131,15 @@ fn write_phis(temps: &mut Slots, phis: &[Phi], values: &[Value])
     }
 }
 
-/// A jump to a label from the block of another one.
-pub fn enter(
+/// A jump to a label from the block of another one. `places` has where to look for the argument of each
+/// phi there.
+fn enter(
     prepared: &Prepared<'_>,
     function: &Placed<&Func>,
     from: Label,
     state: &mut State,
     label: Label,
+    places: Option<&Seq<usize>>,
     values: &mut Vec<Value>,
 ) -> Result<Option<End>, AllocError>
     requires { slice_get (program_of prepared.now).functions state.old.frame.function ≡ Some (shown function.now) }
@@ -118,6 +157,7 @@ pub fn enter(
                 function.text,
                 &state.frame.temps,
                 from,
+                places,
                 phis,
                 values,
             )? {
@@ -215,6 +255,14 @@ fn returns(
     }
 }
 
+/// Where to look for the arguments of phis after a jump to the first label that it has, or to the second.
+fn places_to<'a>(prepared: &'a Prepared<'_>, frame: &Frame, first: bool) -> Option<&'a Seq<usize>> {
+    match edges_at(prepared, frame.function, frame.block) {
+        Some(edges) => Some(if first { &edges.first } else { &edges.second }),
+        None => None,
+    }
+}
+
 /// A jump from the block of a label.
 pub fn jump(
     prepared: &Prepared<'_>,
@@ -228,7 +276,10 @@ pub fn jump(
     ensures { IfOk result (λ end. react (program_of prepared.now) state.old (jump_effect (env_of (program_of prepared.now) (shown function.now)) from (locals_of state.old.frame) state.old.memory jump) ≡ stepped state.new end) }
 {
     match jump {
-        Jump::Goto(label) => enter(prepared, function, from, state, label, values),
+        Jump::Goto(label) => {
+            let places = places_to(prepared, &state.frame, true);
+            enter(prepared, function, from, state, label, places, values)
+        }
         Jump::Branch {
             on,
             nonzero,
@@ -242,7 +293,8 @@ pub fn jump(
         ) {
             Some(found) => {
                 let label = branch_to(found, nonzero, otherwise);
-                enter(prepared, function, from, state, label, values)
+                let places = places_to(prepared, &state.frame, label.number() == nonzero.number());
+                enter(prepared, function, from, state, label, places, values)
             }
             None => Ok(Some(End::Undefined)),
         },

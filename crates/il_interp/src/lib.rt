@@ -9,10 +9,10 @@
 //! (`state`), and `turn` does one turn. `specs/Machine` defines that machine, `turn::turn` is exactly
 //! its step, and `proofs/Unwinding` shows that it gives what the meaning gives.
 //!
-//! Before a run `prepare` works out how much room each function needs and where the block of each label
-//! stands, so that a jump and a call search for nothing; a temporary is a slot of its activation. Phi
-//! values are found among the arguments of a phi one by one, and a block of memory takes a logarithm of
-//! the number of live ones.
+//! Before a run `prepare` works out how much room each function needs, where the block of each label
+//! stands, and for each edge between blocks where the arguments for it stand in the phis, so that a jump
+//! and a call search for nothing; a temporary is a slot of its activation. A block of memory takes a
+//! logarithm of the number of live ones.
 //!
 //! `operate::operate_one` and `operate::operate_two` are exactly the operations of the language
 //! (`il_ast`, `specs/Operations`). The crate stands on `il_ast`, `il_mem`, `il_types` and `obj_link`, and
@@ -21,6 +21,7 @@
 
 mod call;
 mod classes;
+mod edges;
 pub mod error;
 mod instruction;
 mod integers;

@@ -10,6 +10,7 @@ ghost use Rattle.il_interp.specs.Prepared.{program_of};
 ghost use Rattle.il_ast.specs.declared.function.Func.{Func as FuncOf};
 ghost use Rattle.il_ast.specs.declared.program.Placed.{Placed as PlacedOf};
 
+use crate::edges::{Edges, edges_of};
 use crate::prepared::Prepared;
 use il_ast::block::Block;
 use il_ast::function::Func;
@@ -25,10 +26,12 @@ pub fn prepare<'a>(alloc: Global, linked: &'a Linked<'a>) -> Result<Prepared<'a>
 {
     let needs = needs(alloc, linked.functions.as_slice())?;
     let places = places(alloc, linked.functions.as_slice())?;
+    let edges = edges(alloc, linked.functions.as_slice(), &places)?;
     Ok(Prepared {
         linked,
         needs,
         places,
+        edges,
     })
 }
 
@@ -77,6 +80,24 @@ fn set_place(table: &mut Vec<Option<usize>>, label: usize, place: usize) -> Resu
     Ok(())
 }
 
+/// The edges from the blocks of each function.
+fn edges(
+    alloc: Global,
+    functions: &[Placed<&Func>],
+    places: &[Seq<Option<usize>>],
+) -> Result<Vec<Seq<Edges>>, AllocError> {
+    let mut tables = Vec::new(alloc);
+    for (number, function) in functions.iter().enumerate() {
+        let places = match places.get(number) {
+            Some(places) => places.as_slice(),
+            None => &[],
+        };
+        let table = edges_of(alloc, function.item.blocks.as_slice(), places)?;
+        tables.push(Seq::from_vec(table))?;
+    }
+    Ok(tables)
+}
+
 /// How much room a function needs; a number that would pass 64 bits stays at the largest one.
 #[tactic(auto, using(crate::proofs::ListLemmas::mapped))]
 pub fn need_at(prepared: &Prepared<'_>, number: usize) -> Option<u64>
@@ -94,6 +115,14 @@ pub fn place_at(prepared: &Prepared<'_>, number: usize, label: usize) -> Option<
             Some(place) => *place,
             None => None,
         },
+        None => None,
+    }
+}
+
+/// The edges from a block of a function.
+pub fn edges_at<'a>(prepared: &'a Prepared<'_>, number: usize, block: usize) -> Option<&'a Edges> {
+    match prepared.edges.get(number) {
+        Some(table) => table.as_slice().get(block),
         None => None,
     }
 }

@@ -3,9 +3,11 @@
 //!     time out/interp_bench alu 20000000
 //!     time out/interp_bench memory 20000000
 //!     time out/interp_bench calls 250000
+//!     time out/interp_bench phis 400000
 //!
 //! `alu` is a loop of operations and a branch, `memory` one with a load and a store, `calls` a recursion
-//! 50,000 deep. Without words it runs a thousand turns of `alu`. The tests are worked examples, from their
+//! 50,000 deep, `phis` a loop that enters a block of 195 phis from the last of its 195 predecessors, once
+//! in four turns. Without words it runs a thousand turns of `alu`. The tests are worked examples, from their
 //! texts to their ends.
 #![tactic(auto)]
 
@@ -17,6 +19,7 @@ use obj_link::resolve::resolve;
 use std::alloc::Global;
 use std::{env, io};
 
+mod phis;
 #[cfg(test)]
 mod tests;
 
@@ -80,18 +83,41 @@ fn answer(alloc: Global, text: &[u8], words: &[&[u8]], turns: u64) -> Option<(Ve
     interpret(alloc, &linked, words, turns).ok()
 }
 
+/// What is measured.
+#[derive(Clone, Copy)]
+enum Measure {
+    Alu,
+    Memory,
+    Calls,
+    Phis,
+}
+
+/// The output and the end of what is measured, as `answer` has them.
+fn measured(alloc: Global, measure: Measure, turns: u64) -> Option<(Vec<u8>, End)> {
+    match measure {
+        Measure::Alu => answer(alloc, ALU.as_bytes(), &[], turns),
+        Measure::Memory => answer(alloc, MEMORY.as_bytes(), &[], turns),
+        Measure::Calls => answer(alloc, CALLS.as_bytes(), &[], turns),
+        Measure::Phis => {
+            let text = phis::phis(alloc).ok()?;
+            answer(alloc, text.as_bytes(), &[], turns)
+        }
+    }
+}
+
 fn main(rt: HostRuntime) -> io::Result<()> {
     let mut turns = 1000u64;
-    let mut text = ALU.as_bytes();
+    let mut measure = Measure::Alu;
     for word in env::args(&rt)? {
         match word.as_str() {
-            "alu" => text = ALU.as_bytes(),
-            "memory" => text = MEMORY.as_bytes(),
-            "calls" => text = CALLS.as_bytes(),
+            "alu" => measure = Measure::Alu,
+            "memory" => measure = Measure::Memory,
+            "calls" => measure = Measure::Calls,
+            "phis" => measure = Measure::Phis,
             other => turns = other.parse::<u64>().unwrap_or(turns),
         }
     }
-    match answer(rt.alloc(), text, &[], turns) {
+    match measured(rt.alloc(), measure, turns) {
         Some((output, end)) => {
             let count = output.len();
             println!(rt; "{end:?} after at most {turns} turns, with {count} bytes")
