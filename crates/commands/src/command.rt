@@ -1,0 +1,87 @@
+//! What the user asks for, done.
+use crate::build::build;
+use crate::compiler::Compiler;
+use crate::disassemble::disassemble;
+use crate::failure::Failure;
+use crate::run::{interpret, run};
+use command_line::{Command, Refusal, command_of};
+use shell::disk::Disk;
+use shell::message::Message;
+use shell::sink::Sink;
+use std::alloc::Global;
+use std::fmt::Write;
+
+/// Writes the line of a failure, and answers its status. That standard error fails changes nothing.
+fn report<E: Sink>(failure: Failure<'_>, err: &mut E) -> u8 {
+    let status = failure.status();
+    let _ = write!(Message::new(err), "qbec: {failure}\n");
+    status
+}
+
+/// Shows a text of the command line.
+fn show<O: Sink, E: Sink>(refusal: Refusal, out: &mut O, err: &mut E) -> u8 {
+    match refusal {
+        Refusal::Help(text) => match write!(Message::new(out), "{text}") {
+            Ok(()) => 0,
+            Err(_) => report(Failure::Output, err),
+        },
+        Refusal::Mistake(text) => {
+            let _ = write!(Message::new(err), "{text}");
+            126
+        }
+        Refusal::Memory => report(Failure::Memory, err),
+    }
+}
+
+fn perform<'a, C: Compiler, D: Disk, O: Sink>(
+    alloc: Global,
+    command: &Command<'a>,
+    compiler: &mut C,
+    disk: &mut D,
+    out: &mut O,
+) -> Result<u8, Failure<'a>> {
+    match command {
+        Command::Build { out: target, files } => {
+            build(alloc, compiler, disk, *target, files.as_slice())
+        }
+        Command::Run { limit, file, words } => {
+            run(alloc, disk, out, *limit, *file, words.as_slice())
+        }
+        Command::Interpret { limit, file, words } => {
+            interpret(alloc, disk, out, *limit, *file, words.as_slice())
+        }
+        Command::Disassemble { file } => disassemble(alloc, disk, out, *file),
+    }
+}
+
+/// Does what the words after the program's name ask for, and answers the exit status.
+///
+/// | Words | What is done |
+/// |---|---|
+/// | `build -o OUT FILE...` | compiles the files as texts, in order, and writes OUT only after success |
+/// | `run [--limit N] EXE WORD...` | runs the executable file for at most N instructions |
+/// | `interp [--limit N] FILE WORD...` | interprets one text for at most N turns |
+/// | `dis EXE` | shows the instructions of the executable file |
+///
+/// A program's output goes to `out`. The status is the program's own, or 0 of `build` and `dis`. Where something ends otherwise, one line goes to `err`: `qbec: `
+/// and the text of the [`Failure`], whose status is answered. Where `out` fails, that is the failure. Help goes to `out`, with status 0; other texts of the
+/// command line go to `err`, with status 126. All of this is shown by tests.
+///
+/// Failures are found in this order: the command line; the files in order, at the first that can't be read; refusals of the texts or of the executable file; the
+/// argument words; the run; writing.
+pub fn command<C: Compiler, D: Disk, O: Sink, E: Sink>(
+    alloc: Global,
+    words: &[&str],
+    compiler: &mut C,
+    disk: &mut D,
+    out: &mut O,
+    err: &mut E,
+) -> u8 {
+    match command_of(alloc, words) {
+        Ok(command) => match perform(alloc, &command, compiler, disk, out) {
+            Ok(status) => status,
+            Err(failure) => report(failure, err),
+        },
+        Err(refusal) => show(refusal, out, err),
+    }
+}

@@ -1,0 +1,167 @@
+//! Why a command did not end well.
+ghost use Rattle.std.specs.Prelude.{◌≡◌};
+ghost use Rattle.commands.specs.Statuses.{fault_number, status_of, stop_status, end_status};
+
+use crate::refusal::{Name, Refusal};
+use elf_file::LoadError;
+use il_ast::value::End;
+use il_interp::error::RunError;
+use qbec::compile::CompileError;
+use rv_isa::fault::Fault;
+use rv_machine::start::StartError;
+use rv_machine::stop::Stop;
+use std::alloc::{AllocError, AllocFailed};
+
+/// Why a command did not end well. Shown, it is the line for the user without its first word and its line end.
+#[derive(Debug, Drop, thiserror::Error)]
+pub enum Failure<'a> {
+    /// The program came to `hlt`, or to `ebreak`.
+    #[error("halt")]
+    Halt,
+    /// The limit of turns or of instructions was reached.
+    #[error("limit")]
+    Limit,
+    /// The machine refused the instruction at `pc`.
+    #[error("fault F{number} at {pc:016x}")]
+    Fault { number: u8, pc: u64 },
+    /// The program did what has no meaning.
+    #[error("undefined")]
+    Undefined,
+    /// A call found too little room on the stack.
+    #[error("stack")]
+    Stack,
+    /// Memory was refused.
+    #[error("memory")]
+    Memory,
+    /// Texts, a file or argument words were refused.
+    #[error("refused {0}")]
+    Refused(Refusal),
+    /// The texts are a program whose machine code can't be made yet.
+    #[error("not yet")]
+    NotYet,
+    /// This file could not be read.
+    #[error("cannot read {0}")]
+    Unread(&'a str),
+    /// This file could not be written.
+    #[error("cannot write {0}")]
+    Unwritten(&'a str),
+    /// Standard output failed.
+    #[error("cannot write standard output")]
+    Output,
+}
+
+impl Failure<'_> {
+    /// The exit status of a command that failed so.
+    pub fn status(&self) -> u8
+        ensures { result ≡ status_of self.now }
+    {
+        match self {
+            Failure::Halt => 134,
+            Failure::Limit => 124,
+            Failure::Fault { .. } | Failure::Undefined | Failure::Stack => 125,
+            _ => 126,
+        }
+    }
+}
+
+/// The number of a fault, from 1 to 5.
+fn fault_number(fault: Fault) -> u8
+    ensures { result ≡ fault_number fault }
+{
+    match fault {
+        Fault::UnknownInstruction => 1,
+        Fault::Fetch => 2,
+        Fault::Load => 3,
+        Fault::Store => 4,
+        Fault::SystemCall => 5,
+    }
+}
+
+/// How a run of the machine ended: its exit status, or a failure.
+pub(crate) fn stop_status<'a>(stop: Stop) -> Result<u8, Failure<'a>>
+    ensures { result ≡ stop_status stop }
+{
+    match stop {
+        Stop::Exit(status) => Ok(status),
+        Stop::Break => Err(Failure::Halt),
+        Stop::Limit => Err(Failure::Limit),
+        Stop::Memory => Err(Failure::Memory),
+        Stop::Fault(fault, pc) => Err(Failure::Fault {
+            number: fault_number(fault),
+            pc,
+        }),
+    }
+}
+
+/// How a run of the interpreter ended: its exit status, or a failure.
+pub(crate) fn end_status<'a>(end: End) -> Result<u8, Failure<'a>>
+    ensures { result ≡ end_status end }
+{
+    match end {
+        End::Exit(status) => Ok(status),
+        End::Halt => Err(Failure::Halt),
+        End::Undefined => Err(Failure::Undefined),
+        End::Stack => Err(Failure::Stack),
+        End::Turns => Err(Failure::Limit),
+    }
+}
+
+impl From<AllocError> for Failure<'_> {
+    fn from(_refused: AllocError) -> Self {
+        Failure::Memory
+    }
+}
+
+impl<T: Drop> From<AllocFailed<T>> for Failure<'_> {
+    fn from(_refused: AllocFailed<T>) -> Self {
+        Failure::Memory
+    }
+}
+
+impl From<Refusal> for Failure<'_> {
+    fn from(refusal: Refusal) -> Self {
+        Failure::Refused(refusal)
+    }
+}
+
+impl From<LoadError> for Failure<'_> {
+    fn from(error: LoadError) -> Self {
+        Failure::Refused(Refusal::File(error))
+    }
+}
+
+impl From<StartError> for Failure<'_> {
+    fn from(error: StartError) -> Self {
+        match error {
+            StartError::Arguments => Failure::Refused(Refusal::Words),
+            StartError::Memory => Failure::Memory,
+        }
+    }
+}
+
+impl From<RunError> for Failure<'_> {
+    fn from(error: RunError) -> Self {
+        match error {
+            RunError::Words => Failure::Refused(Refusal::Words),
+            RunError::Memory => Failure::Refused(Refusal::Memory),
+        }
+    }
+}
+
+impl From<CompileError> for Failure<'_> {
+    fn from(error: CompileError) -> Self {
+        match error {
+            CompileError::Text(error) => Failure::Refused(Refusal::from(error)),
+            CompileError::UnknownName(name) => {
+                Failure::Refused(Refusal::UnknownName(Name::new(name)))
+            }
+            CompileError::ExportedTwice(name) => {
+                Failure::Refused(Refusal::ExportedTwice(Name::new(name)))
+            }
+            CompileError::NoMain => Failure::Refused(Refusal::NoMain),
+            CompileError::Limit => Failure::Refused(Refusal::Limit),
+            CompileError::Memory => Failure::Refused(Refusal::Memory),
+            CompileError::NotYet => Failure::NotYet,
+        }
+    }
+}
