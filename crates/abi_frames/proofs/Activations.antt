@@ -116,6 +116,7 @@ pub record Framed (c : Setting) (numbers : Numbers) (memory : Spots) (u : State)
   pub places : (p : Location) (v : ℕ) → is_place c.slots p ≡ true → numbers p ≡ Some v → value_at c u p ≡ v
   pub spots : HoldsSpots c.world.memory_map memory u
   pub clear : (x : ℕ) → bottom c ≤ x → x < c.sp - c.area → memory x ≡ Away
+  pub reach : (x : ℕ) → c.sp ≤ x → c.before x ≡ Away → memory x ≡ Away
   pub saved : (k r : ℕ) → slice_get saved_registers k ≡ Some r → number_at u.bytes (save_at c k) 8 ≡ c.start.registers r
   pub thread : (n : ℕ) → 2 < n → n < 5 → u.registers n ≡ c.start.registers n
   pub others : (x : ℕ) → c.sp ≤ x → c.before x ≡ Away → u.bytes x ≡ c.start.bytes x
@@ -183,6 +184,7 @@ register_assigned c numbers memory s u r v o framed is h value =
       places = register_place c numbers memory s u r v o framed h value;
       spots = spots_same c.world.memory_map memory s u h.bytes framed.spots;
       clear = framed.clear;
+      reach = framed.reach;
       saved = λ k q e. ap (λ (m : ℕ → ℕ). number_at m (save_at c k) 8) h.bytes ∙ framed.saved k q e;
       thread = λ n above below. h.others n (omega (arith, below)) (λ e. absurd (omega (arith, e, lo, below))) ∙ framed.thread n above below;
       others = λ x above away. ap (λ (m : ℕ → ℕ). m x) h.bytes ∙ framed.others x above away;
@@ -246,6 +248,7 @@ slot_assigned c is numbers memory s u i v o small few framed h value =
       places = slot_place c numbers memory s u i v o small framed h value;
       spots = record { known = slot_spots c is numbers memory s u i v few framed h; usable = framed.spots.usable };
       clear = framed.clear;
+      reach = framed.reach;
       saved = λ k q e.
           let within = slice_get_within saved_registers k q e in
           let few_saves : k < 13 = within in

@@ -160,6 +160,7 @@ framed_same c numbers memory s u framed h = record {
   places = same_places c numbers memory s u framed h;
   spots = record { known = λ x n k. ap (λ (m : ℕ → ℕ). m x) h.bytes ∙ framed.spots.known x n k; usable = framed.spots.usable };
   clear = framed.clear;
+  reach = framed.reach;
   saved = λ k r e. ap (λ (m : ℕ → ℕ). number_at m (save_at c k) 8) h.bytes ∙ framed.saved k r e;
   thread = λ n lo hi. h.registers n (omega (arith, hi)) ∙ framed.thread n lo hi;
   others = λ x hi away. ap (λ (m : ℕ → ℕ). m x) h.bytes ∙ framed.others x hi away;
@@ -561,6 +562,7 @@ result_framed c numbers memory u w to n framed h = record {
   places = λ p v good known. absurd (nothing_known v None refl known);
   spots = record { known = λ x k e. ap (λ (m : ℕ → ℕ). m x) h.bytes ∙ framed.spots.known x k e; usable = framed.spots.usable };
   clear = framed.clear;
+  reach = framed.reach;
   saved = λ k r e. ap (λ (m : ℕ → ℕ). number_at m (save_at c k) 8) h.bytes ∙ framed.saved k r e;
   thread = λ m lo hi. h.others m (omega (arith, hi)) (λ e. absurd (omega (arith, e, hi))) ∙ framed.thread m lo hi;
   others = λ x hi away. ap (λ (m : ℕ → ℕ). m x) h.bytes ∙ framed.others x hi away;

@@ -187,6 +187,7 @@ begun c is numbers unknown pointer clear holds =
         places = λ p v good known. absurd (none_known v (numbers p) (unknown p) known);
         spots = record { known = begun_spots c is u w clear holds one.bytes two; usable = holds.usable };
         clear = λ x lo hi. clear x (omega (arith, lo, above)) (omega (arith, hi));
+        reach = λ x hi away. away;
         saved = λ k r e.
             let good = saved_same k r e in
             two.saved k r e ∙ one.others r good.0 good.1;

@@ -1,11 +1,17 @@
 -- The code that frames are made for so far: no parameters, no calls, and nothing that makes or changes memory.
-use Rattle.std.specs.Prelude.{Bool, true, false, ◌&&◌, nat_eq, length}
+use Rattle.std.specs.Prelude.{Bool, true, false, ◌&&◌, ◌||◌, nat_eq, nat_lt, length}
 use Rattle.std.specs.List.{list_all}
 use Rattle.vcode.specs.declared.place.Location.{Location}
+use Rattle.vcode.specs.declared.place.Location.TheVariants.{Register, Slot}
 use Rattle.vcode.specs.declared.line.Line.{Line}
 use Rattle.vcode.specs.declared.line.Line.TheVariants.{Tick, Set, Operate, Load}
 use Rattle.vcode.specs.declared.code.Block.{Block}
 use Rattle.vcode.specs.declared.code.Code.{Code}
+
+-- a place in which no argument is passed: x10 to x17 are for arguments
+abbrev pub is_off_arguments : Location → Bool
+is_off_arguments (Register r) = nat_lt r 10 || nat_lt 17 r
+is_off_arguments (Slot i) = true
 
 abbrev pub covers_line : Line Location → Bool
 covers_line (Tick turn w) = true
