@@ -30,7 +30,8 @@ use Rattle.abi_frames.proofs.Leading.{Site, StandAt, Leads, leads_then, leads_so
 use Rattle.abi_frames.proofs.Activations.{Setting, IsSetting, site, bottom, Framed}
 use Rattle.abi_frames.proofs.FrameEnds.{PointerMoved, leads_move_pointer, AllSaved, leads_save_all}
 use Rattle.abi_frames.proofs.Sizes.{prologue_size, le_is}
-use Rattle.abi_frames.proofs.Simulating.{BlockStands, CodeStands, follows, enter}
+use Rattle.abi_frames.proofs.Simulation.{BlockStands, CodeStands}
+use Rattle.abi_frames.proofs.Simulating.{follows, enter}
 
 -- ---- where the parts stand
 

@@ -1,0 +1,196 @@
+-- What holds at each line while the machine follows the code on bytes, and what is to be shown of it.
+use Rattle.std.proofs.Common.{◌≡◌, ℕ, suc, ◌+◌, ◌-◌, ◌*◌, ◌%◌, ◌≤◌, true, List, ◌∷◌, ◌++◌, ◌∙◌, ap, subst, arith, lit<, append_assoc}
+use Rattle.std.specs.Prelude.{◌&&◌, nat_le, slice_get, Some}
+use Rattle.std.specs.List.{list_all, sum_by}
+use Rattle.std.proofs.lemmas.Bool.{and_parts}
+use Rattle.std.proofs.lemmas.List.Sums.{sum_by-cons}
+use Rattle.il_ast.specs.declared.value.End.TheVariants.{Undefined}
+use Rattle.il_ast.specs.Run.{Spent, one_call}
+use Rattle.il_ast.specs.Logged.{Entry, LoggedEvent, Logged}
+use Rattle.rv_isa.specs.State.{State}
+use Rattle.rv_isa.specs.Runs.{Comes}
+use Rattle.rv_isa.specs.Memory.{number_at}
+use Rattle.rv_isa.specs.Labels.{longest_size}
+use Rattle.rv_isa.specs.Labelled.{Fixed}
+use Rattle.rv_isa.specs.declared.labelled.Item.{Item}
+use Rattle.rv_isa.proofs.RunLemmas.{comes_then}
+use Rattle.vcode.specs.declared.place.Location.{Location}
+use Rattle.vcode.specs.declared.place.Location.TheVariants.{Register as InRegister, Slot}
+use Rattle.vcode.specs.declared.line.Line.{Line}
+use Rattle.vcode.specs.declared.line.Jump.{Jump}
+use Rattle.vcode.specs.declared.code.Block.{Block}
+use Rattle.vcode.specs.declared.code.Code.{Code}
+use Rattle.vcode.specs.Named.{is_place, line_keeps, jump_keeps}
+use Rattle.vcode.specs.Regular.{area, turns_of}
+use Rattle.vcode.specs.Cost.{line_cost, jump_cost, affords}
+use Rattle.flat_code.specs.Spots.{Spots}
+use Rattle.flat_code.specs.Flat.{FlatGiven, FlatAsked, FlatOutcome, FlatEnded, flat_after}
+use Rattle.flat_code.specs.Step.{FlatState, FlatEvent, Numbers, flat_step}
+use Rattle.abi_frames.specs.Performs.{Performs, AllPerform}
+use Rattle.abi_frames.specs.Covered.{covers_line}
+use Rattle.abi_frames.specs.Emission.{line_items, lines_items, jump_items, epilogue}
+use Rattle.abi_frames.proofs.Leading.{StandAt, Reaches, Leads}
+use Rattle.abi_frames.proofs.Activations.{Setting, IsSetting, site, bottom, slot_at, save_at, value_at, place_is, Framed}
+use Rattle.abi_frames.proofs.LineCode.{Scratched}
+use Rattle.abi_frames.proofs.Sizes.{line_size, le_is}
+
+-- ---- what is known of the code
+
+pub record BlockStands (c : Setting) (b : Block Location) (i : ℕ) : Type 0 where
+  pub rest : List Item
+  pub stands : StandAt (site c) ((lines_items c.layout b.lines ++ jump_items c.layout b.jump) ++ rest) (c.label i)
+  pub known : list_all (line_keeps (is_place c.slots)) b.lines ≡ true
+  pub jump_known : jump_keeps (is_place c.slots) b.jump ≡ true
+  pub covered : list_all covers_line b.lines ≡ true
+  pub paid : affords 0 b.jump b.lines ≡ true
+  pub paced : sum_by turns_of b.lines ≤ 40000
+
+pub record CodeStands (c : Setting) (f : Code Location) : Type 0 where
+  pub setting : IsSetting c
+  pub blocks : (i : ℕ) (b : Block Location) → slice_get f.blocks i ≡ Some b → BlockStands c b i
+  pub result : c.layout.result ≡ f.result
+  pub rest : List Item
+  pub leave : StandAt (site c) (epilogue c.layout ++ rest) (c.label c.layout.leave)
+  pub area : c.area ≡ area f
+  pub pointer : c.start.registers 2 ≡ c.sp
+  pub aligned : c.start.registers 1 % 4 ≡ 0
+
+-- the instructions that are paid for, less those of the frame's end
+abbrev pub allowed : FlatState → ℕ
+allowed fs = 32 * fs.spent.weight + 256 * (1 + fs.spent.calls)
+
+-- ---- what holds at a line, and at a jump
+
+pub record At (c : Setting) (f : Code Location) (b : Block Location) (lines : List (Line Location)) (fs : FlatState) (k : ℕ) (u : State) : Type 0 where
+  pub block : slice_get f.blocks fs.block ≡ Some b
+  pub ahead : (i : ℕ) → slice_get b.lines (fs.next + i) ≡ slice_get lines i
+  pub rest : List Item
+  pub stands : StandAt (site c) ((lines_items c.layout lines ++ jump_items c.layout b.jump) ++ rest) u.pc
+  pub fixed : Fixed c.world.memory_map u
+  pub framed : Framed c fs.numbers fs.memory u
+  pub comes : Comes c.start k u
+  pub output : u.output ≡ c.start.output ++ fs.spent.output
+  pub known : list_all (line_keeps (is_place c.slots)) lines ≡ true
+  pub jump_known : jump_keeps (is_place c.slots) b.jump ≡ true
+  pub covered : list_all covers_line lines ≡ true
+  pub credit : ℕ
+  pub paid : affords credit b.jump lines ≡ true
+  pub price : k + credit + 64 ≤ allowed fs
+  pub pace : fs.spent.turns + sum_by turns_of lines ≤ 40000 * (k + 1)
+
+pub record AtJump (c : Setting) (j : Jump Location) (fs : FlatState) (k : ℕ) (u : State) : Type 0 where
+  pub rest : List Item
+  pub stands : StandAt (site c) (jump_items c.layout j ++ rest) u.pc
+  pub fixed : Fixed c.world.memory_map u
+  pub framed : Framed c fs.numbers fs.memory u
+  pub comes : Comes c.start k u
+  pub output : u.output ≡ c.start.output ++ fs.spent.output
+  pub known : jump_keeps (is_place c.slots) j ≡ true
+  pub credit : ℕ
+  pub paid : jump_cost j ≤ credit
+  pub price : k + credit + 64 ≤ allowed fs
+  pub pace : fs.spent.turns ≤ 40000 * (k + 1)
+
+-- the machine is where it goes on after a jump
+pub record Landed (c : Setting) (to : ℕ) (fs : FlatState) (k : ℕ) (u : State) : Type 0 where
+  pub place : u.pc ≡ to
+  pub fixed : Fixed c.world.memory_map u
+  pub framed : Framed c fs.numbers fs.memory u
+  pub comes : Comes c.start k u
+  pub output : u.output ≡ c.start.output ++ fs.spent.output
+  pub price : k + 64 ≤ allowed fs
+  pub pace : fs.spent.turns ≤ 40000 * k
+
+-- ---- what is to be shown
+
+abbrev pub Performed : Setting → Code Location → FlatOutcome → Type 0
+Performed c f r = Performs c.world c.sp f.result c.before c.start (flat_after one_call r)
+
+abbrev pub step_of : Setting → Code Location → FlatGiven → FlatState → FlatEvent
+step_of c f j = flat_step f c.addresses (c.sp - c.area) j
+
+abbrev pub Log : Type 0
+Log = List (Entry FlatAsked FlatOutcome)
+
+-- from each line, where the code goes as r within n steps
+abbrev pub Follows : Setting → Code Location → FlatGiven → FlatOutcome → ℕ → Type 0
+Follows c f j r n =
+    (b : Block Location) (lines : List (Line Location)) (fs : FlatState) (k : ℕ) (u : State) → At c f b lines fs k u → (log : Log)
+    → Logged (step_of c f j) n fs log r → AllPerform c.world (bottom c) log → Performed c f r
+
+-- and after an event
+abbrev pub Then : Setting → Code Location → FlatGiven → FlatOutcome → ℕ → Log → FlatEvent → Type 0
+Then c f j r n log e = LoggedEvent (λ t rest. Logged (step_of c f j) n t rest r) r e log
+
+pub undefined : (c : Setting) (f : Code Location) (t : Spent) (r : FlatOutcome) → FlatEnded t Undefined ≡ r → Performed c f r
+undefined c f t r e = subst (λ o. Performed c f o) e tt
+
+-- ---- frames of states that differ in scratch registers
+
+same_places : (c : Setting) (numbers : Numbers) (memory : Spots) (s u : State) → Framed c numbers memory s → Scratched s u
+    → (p : Location) (v : ℕ) → is_place c.slots p ≡ true → numbers p ≡ Some v → value_at c u p ≡ v
+same_places c numbers memory s u framed h (InRegister r) v good known =
+    let hi = (place_is c.slots r good).to_27 in
+    h.registers r (omega (arith, hi)) ∙ framed.places (InRegister r) v good known
+same_places c numbers memory s u framed h (Slot i) v good known =
+    ap (λ (m : ℕ → ℕ). number_at m (slot_at c i) 8) h.bytes ∙ framed.places (Slot i) v good known
+
+pub framed_same : (c : Setting) (numbers : Numbers) (memory : Spots) (s u : State) → Framed c numbers memory s → Scratched s u → Framed c numbers memory u
+framed_same c numbers memory s u framed h = record {
+  pointer = h.registers 2 (lit< tt) ∙ framed.pointer;
+  places = same_places c numbers memory s u framed h;
+  spots = record { known = λ x n k. ap (λ (m : ℕ → ℕ). m x) h.bytes ∙ framed.spots.known x n k; usable = framed.spots.usable };
+  clear = framed.clear;
+  reach = framed.reach;
+  saved = λ k r e. ap (λ (m : ℕ → ℕ). number_at m (save_at c k) 8) h.bytes ∙ framed.saved k r e;
+  thread = λ n lo hi. h.registers n (omega (arith, hi)) ∙ framed.thread n lo hi;
+  others = λ x hi away. ap (λ (m : ℕ → ℕ). m x) h.bytes ∙ framed.others x hi away;
+}
+
+-- ---- lines
+
+assoc : (a b d e : List Item) → ((a ++ b) ++ d) ++ e ≡ a ++ ((b ++ d) ++ e)
+assoc a b d e = ap (λ l. l ++ e) (append_assoc a b d) ∙ append_assoc a (b ++ d) e
+
+pub reach : (c : Setting) (f : Code Location) (b : Block Location) (l : Line Location) (lines : List (Line Location)) (fs : FlatState) (k : ℕ) (u : State)
+    (P : State → Type 0) → (a : At c f b (l ∷ lines) fs k u) → Leads (site c) (line_items c.layout l) u P
+    → Reaches (site c) (longest_size (line_items c.layout l)) ((lines_items c.layout lines ++ jump_items c.layout b.jump) ++ a.rest) u P
+reach c f b l lines fs k u P a leads =
+    leads.from ((lines_items c.layout lines ++ jump_items c.layout b.jump) ++ a.rest)
+    (subst (λ is. StandAt (site c) is u.pc) (assoc (line_items c.layout l) (lines_items c.layout lines) (jump_items c.layout b.jump) a.rest) a.stands) a.fixed
+
+pub next_index : (n i : ℕ) → n + 1 + i ≡ n + suc i
+next_index n i = omega arith
+
+-- after a line that is no tick, with what it leaves in places
+pub advance : (c : Setting) (f : Code Location) (b : Block Location) (l : Line Location) (lines : List (Line Location)) (fs : FlatState) (k : ℕ) (u : State)
+    (numbers : Numbers) (memory : Spots) (used : ℕ) → (a : At c f b (l ∷ lines) fs k u) → turns_of l ≡ 0
+    → (nat_le (line_cost l) a.credit && affords (a.credit - line_cost l) b.jump lines) ≡ true
+    → (m : Reaches (site c) (longest_size (line_items c.layout l)) ((lines_items c.layout lines ++ jump_items c.layout b.jump) ++ a.rest) u
+    (λ w. Framed c numbers memory w × (w.output ≡ u.output)))
+    → At c f b lines (record fs { next = fs.next + 1; numbers = numbers; memory = memory; used = used }) (k + m.steps) m.after
+advance c f b l lines fs k u numbers memory used a calm pays m =
+    let parts = and_parts (nat_le (line_cost l) a.credit) (affords (a.credit - line_cost l) b.jump lines) pays in
+    let enough = le_is (line_cost l) a.credit parts.0 in
+    let size = line_size c.layout l in
+    let few = m.few in
+    let price = a.price in
+    let pace = a.pace in
+    let sum = sum_by-cons turns_of l lines in
+    record {
+      block = a.block;
+      ahead = λ i. ap (λ n. slice_get b.lines n) (next_index fs.next i) ∙ a.ahead (suc i);
+      rest = a.rest;
+      stands = m.stands;
+      fixed = m.fixed;
+      framed = m.holds.0;
+      comes = comes_then a.comes m.comes;
+      output = m.holds.1 ∙ a.output;
+      known = (and_parts (line_keeps (is_place c.slots) l) (list_all (line_keeps (is_place c.slots)) lines) a.known).1;
+      jump_known = a.jump_known;
+      covered = (and_parts (covers_line l) (list_all covers_line lines) a.covered).1;
+      credit = a.credit - line_cost l;
+      paid = parts.1;
+      price = omega (arith, enough, size, few, price);
+      pace = omega (arith, pace, sum, calm);
+    }
