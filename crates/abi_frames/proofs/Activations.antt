@@ -54,6 +54,7 @@ pub record IsSetting (c : Setting) : Type 0 where
   pub above : c.world.bottom + c.layout.size ≤ c.sp
   pub below : c.sp ≤ c.world.top
   pub fits : c.layout.slots + 8 * c.slots + c.area ≤ c.layout.size
+  pub blocks : c.layout.area + c.area ≡ c.layout.size
   pub saves_fit : c.layout.saves + 104 ≤ c.layout.slots
   pub saves_near : c.layout.saves < 1024
   pub small : c.layout.size < 2 ^ 21

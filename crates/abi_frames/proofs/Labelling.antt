@@ -30,7 +30,7 @@ use Rattle.vcode.specs.declared.line.Jump.TheVariants.{Goto, Branch, Return, Hal
 use Rattle.vcode.specs.declared.code.Block.{Block}
 use Rattle.vcode.specs.Cost.{is_immediate}
 use Rattle.vcode.specs.Named.{is_place, operand_keeps, line_keeps, jump_keeps, block_keeps}
-use Rattle.vcode.specs.Regular.{leads_inside, is_target, code_weight}
+use Rattle.vcode.specs.Regular.{leads_inside, is_target, alloc_bytes, code_weight}
 use Rattle.abi_frames.specs.Layout.{layout, saved_registers}
 use Rattle.abi_frames.specs.declared.layout.Layout.{Layout}
 use Rattle.abi_frames.specs.Emission.{reg, add_low, extend, sum_to, load_8, store_8, long_constant, constant, far_load, load_slot, far_store, store_slot, slot_offset, into, fetch, source, target, deliver, set_items, negate, is_zero, compare_items, operation_items, operate_items, load_to, line_items, lines_items, move_pointer, save_all, restore_all, go_back, prologue, epilogue, result_items, jump_items, blocks_items}
@@ -243,32 +243,34 @@ operate_plainly n y slots to op a b good known_a known_b =
     (source_nameable slots 29 b (lit< tt) known_b))
     (deliver_plainly n y to)))
 
-line_plainly : (n : ℕ) (y : Layout) (slots : ℕ) (l : Line Location) → line_keeps (is_place slots) l ≡ true → Plainly n (line_items y l)
-line_plainly n y slots (Tick turn w) known = plainly_nothing n
-line_plainly n y slots (Set to a) known =
+line_plainly : (n : ℕ) (y : Layout) (used slots : ℕ) (l : Line Location) → line_keeps (is_place slots) l ≡ true → Plainly n (line_items y used l)
+line_plainly n y used slots (Tick turn w) known = plainly_nothing n
+line_plainly n y used slots (Set to a) known =
     let parts = and_parts (is_place slots to) (operand_keeps (is_place slots) a) known in
     set_plainly n y slots to a parts.0 parts.1
-line_plainly n y slots (Operate to op a b) known =
+line_plainly n y used slots (Operate to op a b) known =
     let parts = and_parts (is_place slots to) (operand_keeps (is_place slots) a && operand_keeps (is_place slots) b) known in
     let operands = and_parts (operand_keeps (is_place slots) a) (operand_keeps (is_place slots) b) parts.1 in
     operate_plainly n y slots to op a b parts.0 operands.0 operands.1
-line_plainly n y slots (Load to op at) known =
+line_plainly n y used slots (Load to op at) known =
     let parts = and_parts (is_place slots to) (operand_keeps (is_place slots) at) known in
     plainly_then n (fetch y 28 at) ((load_to op (target to) (source 28 at) ∷ []) ++ deliver y to) (fetch_plainly n y 28 at (lit< tt) (lit< tt))
     (plainly_then n (load_to op (target to) (source 28 at) ∷ []) (deliver y to)
     (one_of_two n (load_to op (target to) (source 28 at)) (target to) (source 28 at) (target_nameable slots to parts.0)
     (source_nameable slots 28 at (lit< tt) parts.1) refl (λ l. refl) refl)
     (deliver_plainly n y to))
-line_plainly n y slots (Store size a at) known = plainly_nothing n
-line_plainly n y slots (Alloc to size) known = plainly_nothing n
-line_plainly n y slots (Blit from to count) known = plainly_nothing n
-line_plainly n y slots (Call to callee args) known = plainly_nothing n
+line_plainly n y used slots (Store size a at) known = plainly_nothing n
+line_plainly n y used slots (Alloc to size) known = plainly_nothing n
+line_plainly n y used slots (Blit from to count) known = plainly_nothing n
+line_plainly n y used slots (Call to callee args) known = plainly_nothing n
 
-lines_plainly : (n : ℕ) (y : Layout) (slots : ℕ) (lines : List (Line Location)) → list_all (line_keeps (is_place slots)) lines ≡ true → Plainly n (lines_items y lines)
-lines_plainly n y slots [] known = plainly_nothing n
-lines_plainly n y slots (l ∷ lines) known =
+lines_plainly : (n : ℕ) (y : Layout) (used slots : ℕ) (lines : List (Line Location)) → list_all (line_keeps (is_place slots)) lines ≡ true
+    → Plainly n (lines_items y used lines)
+lines_plainly n y used slots [] known = plainly_nothing n
+lines_plainly n y used slots (l ∷ lines) known =
     let parts = and_parts (line_keeps (is_place slots) l) (list_all (line_keeps (is_place slots)) lines) known in
-    plainly_then n (line_items y l) (lines_items y lines) (line_plainly n y slots l parts.0) (lines_plainly n y slots lines parts.1)
+    plainly_then n (line_items y used l) (lines_items y (used + alloc_bytes l) lines) (line_plainly n y used slots l parts.0)
+    (lines_plainly n y (used + alloc_bytes l) slots lines parts.1)
 
 -- ---- jumps
 
@@ -362,8 +364,8 @@ blocks_labelled n y slots all k (b ∷ blocks) leave more few known inside =
     let known_parts = and_parts (block_keeps (is_place slots) b) (list_all (block_keeps (is_place slots)) blocks) known in
     let inside_parts = and_parts (leads_inside all b.jump) (list_all (λ (d : Block Location). leads_inside all d.jump) blocks) inside in
     let here = and_parts (list_all (line_keeps (is_place slots)) b.lines) (jump_keeps (is_place slots) b.jump) known_parts.0 in
-    let body : List Item = lines_items y b.lines ++ jump_items y b.jump in
-    let plain = plainly_then n (lines_items y b.lines) (jump_items y b.jump) (lines_plainly n y slots b.lines here.0)
+    let body : List Item = lines_items y 0 b.lines ++ jump_items y b.jump in
+    let plain = plainly_then n (lines_items y 0 b.lines) (jump_items y b.jump) (lines_plainly n y 0 slots b.lines here.0)
     (jump_plainly n y slots all b.jump leave more here.1 inside_parts.0) in
     let count = length-more b blocks in
     let rest = blocks_labelled n y slots all (k + 1) blocks leave more (omega (arith, few, count)) known_parts.1 inside_parts.1 in

@@ -1,5 +1,5 @@
 -- The frame of code without calls and blocks of memory.
-use Rattle.std.proofs.Common.{◌≡◌, ℕ, ◌+◌, ◌*◌, true, List, [], ◌∷◌, ◌++◌, refl, ap, ◌∙◌, arith}
+use Rattle.std.proofs.Common.{◌≡◌, ℕ, ◌+◌, ◌-◌, ◌*◌, true, List, [], ◌∷◌, ◌++◌, refl, ap, ◌∙◌, arith}
 use Rattle.std.specs.Prelude.{nat_eq, length}
 use Rattle.std.specs.List.{list_all, sum_by}
 use Rattle.std.proofs.lemmas.Bool.{and_parts}
@@ -57,12 +57,19 @@ blocks_take_nothing (b ∷ blocks) h =
     (omega (arith, x, z, sum), omega (arith, y, t))
 
 abbrev pub make_layout : (saves slots size leave : ℕ) → Code Location → Layout
-make_layout a b c l f = record { saves = a; slots = b; size = c; result = f.result; leave = l }
+make_layout a b c l f = record { saves = a; slots = b; area = c; size = c; result = f.result; leave = l }
 
 -- 13 saved registers and the slots
 abbrev pub plain_layout : Code Location → (slots : ℕ) → Layout
 plain_layout f slots =
-    record { saves = 0; slots = 104; size = round_16 (8 * (slots + 13)); result = f.result; leave = length f.blocks }
+    record {
+      saves = 0;
+      slots = 104;
+      area = round_16 (8 * (slots + 13));
+      size = round_16 (8 * (slots + 13));
+      result = f.result;
+      leave = length f.blocks;
+    }
 
 pub layout_is : (f : Code Location) (slots : ℕ) → is_covered f ≡ true → plain_layout f slots ≡ layout f slots
 layout_is f slots h =
@@ -73,11 +80,17 @@ layout_is f slots h =
     let saves : 0 ≡ 8 * outgoing f = omega (arith, no_args) in
     let first : 104 ≡ 8 * (outgoing f + 13) = omega (arith, no_args) in
     let size : round_16 (8 * (slots + 13)) ≡ frame_size f slots = omega (arith, no_area, no_args) in
-    ap (λ x. make x 104 (round_16 (8 * (slots + 13)))) saves
-    ∙ (ap (λ x. make (8 * outgoing f) x (round_16 (8 * (slots + 13)))) first ∙ ap (λ x. make (8 * outgoing f) (8 * (outgoing f + 13)) x) size)
+    let blocks : frame_size f slots ≡ frame_size f slots - area f = omega (arith, no_area) in
+    ap (λ x. make x 104 n n) saves
+    ∙ (ap (λ x. make (8 * outgoing f) x n n) first
+    ∙ (ap (λ x. make (8 * outgoing f) (8 * (outgoing f + 13)) x x) size
+    ∙ ap (λ x. make (8 * outgoing f) (8 * (outgoing f + 13)) x (frame_size f slots)) blocks))
   where
-    make : (saves slots size : ℕ) → Layout
-    make a b c = record { saves = a; slots = b; size = c; result = f.result; leave = length f.blocks }
+    n : ℕ
+    n = round_16 (8 * (slots + 13))
+
+    make : (saves slots area size : ℕ) → Layout
+    make a b d c = record { saves = a; slots = b; area = d; size = c; result = f.result; leave = length f.blocks }
 
 pub layout_from : (f : Code Location) (slots n l : ℕ) → is_covered f ≡ true → n ≡ slots → l ≡ length f.blocks
     → make_layout 0 104 (round_16 (8 * (n + 13))) l f ≡ layout f slots

@@ -2,8 +2,9 @@
 use Rattle.std.proofs.Common.{◌≡◌, ◌≢◌, ℕ, zero, suc, ◌+◌, ◌-◌, ◌*◌, ◌%◌, ◌^◌, ◌<◌, Bool, true, false, List, [], ◌∷◌, ◌++◌, refl, sym, ◌∙◌, ap, subst, arith, lit<, zero-add, append-nil}
 use Rattle.std.specs.Prelude.{◌&&◌, nat_eq, nat_lt, if◌then◌else◌, slice_get, Option, Some, None, Err}
 use Rattle.std.specs.Option.{option_map, option_and_then}
-use Rattle.std.specs.List.{list_all}
+use Rattle.std.specs.List.{list_all, list_any}
 use Rattle.std.proofs.lemmas.Bool.{and_parts}
+use Rattle.std.proofs.lemmas.Bool.Decides.{nat_tests}
 use Rattle.std.proofs.lemmas.List.Sums.{sum_by-cons}
 use Rattle.il_ast.specs.declared.operation.Class.{Class}
 use Rattle.il_ast.specs.declared.operation.Class.TheVariants.{W}
@@ -30,7 +31,7 @@ use Rattle.vcode.specs.declared.line.Jump.TheVariants.{Goto, Branch, Return, Hal
 use Rattle.vcode.specs.declared.code.Block.{Block}
 use Rattle.vcode.specs.declared.code.Code.{Code}
 use Rattle.vcode.specs.Named.{is_place, operand_keeps, line_keeps}
-use Rattle.vcode.specs.Regular.{area, turns_of}
+use Rattle.vcode.specs.Regular.{area, turns_of, alloc_bytes, is_alloc, is_target}
 use Rattle.vcode.specs.Cost.{jump_cost}
 use Rattle.vcode.specs.Step.{weighs}
 use Rattle.flat_code.specs.Spots.{Away, Known, Spots}
@@ -49,7 +50,7 @@ use Rattle.abi_frames.proofs.LineCode.{leads_set_line, leads_operate_line, leads
 use Rattle.abi_frames.proofs.FrameEnds.{Lands, Ends, ends_then, Jumped, ends_frame}
 use Rattle.abi_frames.proofs.JumpCode.{ends_so, ends_goto, ends_branch, leads_result, way}
 use Rattle.abi_frames.proofs.Sizes.{jump_size, epilogue_size, le_is}
-use Rattle.abi_frames.proofs.Simulation.{CodeStands, At, AtJump, Landed, Performed, step_of, Log, Follows, Then, undefined, framed_same, reach, next_index, advance}
+use Rattle.abi_frames.proofs.Simulation.{CodeStands, At, AtJump, Landed, Performed, step_of, nothing_taken, Log, Follows, Then, undefined, framed_same, reach, next_index, advance}
 
 -- a tick
 abbrev tick : Bool → ℕ → Line Location
@@ -63,6 +64,8 @@ ticked c f b turn w lines fs k u t a turns weight calls output =
     let price = a.price in
     let pace = a.pace in
     let sum = sum_by-cons turns_of (Tick turn w) lines in
+    let room = a.room in
+    let bytes = sum_by-cons alloc_bytes (Tick turn w) lines in
     record {
       block = a.block;
       ahead = λ i. ap (λ n. slice_get b.lines n) (next_index fs.next i) ∙ a.ahead (suc i);
@@ -79,6 +82,11 @@ ticked c f b turn w lines fs k u t a turns weight calls output =
       paid = a.paid;
       price = omega (arith, price, weight, calls);
       pace = omega (arith, pace, sum, turns);
+      blocks = a.blocks;
+      inside = a.inside;
+      used = a.used + 0;
+      room = omega (arith, room, bytes);
+      used_is = λ e. a.used_is e ∙ nothing_taken a.used;
     }
 
 out_of_turns : (c : Setting) (f : Code Location) (b : Block Location) (lines : List (Line Location)) (fs : FlatState) (k : ℕ) (u : State) (r : FlatOutcome)
@@ -124,7 +132,7 @@ set_case c f is j r n go b to x lines fs k u a log goes all =
     (and_parts (line_keeps (is_place c.slots) (Set to x)) (list_all (line_keeps (is_place c.slots)) lines) a.known).0 in
     let v : ℕ = operand_in c u x in
     let m = reach c f b (Set to x) lines fs k u (λ w. Framed c numbers fs.memory w × (w.output ≡ u.output)) a
-    (leads_so (site c) (line_items c.layout (Set to x)) u (Assigned c u to v) (λ w. Framed c numbers fs.memory w × (w.output ≡ u.output))
+    (leads_so (site c) (line_items c.layout a.used (Set to x)) u (Assigned c u to v) (λ w. Framed c numbers fs.memory w × (w.output ≡ u.output))
     (leads_set_line c is.setting u to x a.framed.pointer known.0 known.1)
     (λ w fixed made. (
       assigned c is.setting fs.numbers fs.memory u w to v (number_of c.addresses fs.numbers x) known.0 a.framed made
@@ -132,7 +140,7 @@ set_case c f is j r n go b to x lines fs k u a log goes all =
       assigned_output c u to v w made,
     ))) in
     go b lines (record fs { next = fs.next + 1; numbers = numbers }) (k + m.steps) m.after
-    (advance c f b (Set to x) lines fs k u numbers fs.memory fs.used a refl a.paid m) log goes all
+    (advance c f b (Set to x) lines fs k u numbers fs.memory fs.used a refl (nothing_taken fs.used) a.paid m) log goes all
 
 -- an operation
 operated : (c : Setting) (f : Code Location) → CodeStands c f → (j : FlatGiven) (r : FlatOutcome) (n : ℕ) → Follows c f j r n
@@ -151,14 +159,14 @@ operated c f is j r n go b to op x y lines fs k u a log all v w is_x is_y goes =
     ap (λ q. computed op q (operand_in c u y)) at_x ∙ ap (computed op v) at_y in
     let made_v : ℕ = computed op (operand_in c u x) (operand_in c u y) in
     let m = reach c f b (Operate to op x y) lines fs k u (λ t. Framed c numbers fs.memory t × (t.output ≡ u.output)) a
-    (leads_so (site c) (line_items c.layout (Operate to op x y)) u (Assigned c u to made_v) (λ t. Framed c numbers fs.memory t × (t.output ≡ u.output))
+    (leads_so (site c) (line_items c.layout a.used (Operate to op x y)) u (Assigned c u to made_v) (λ t. Framed c numbers fs.memory t × (t.output ≡ u.output))
     (leads_operate_line c is.setting u to op x y a.framed.pointer known.0 operands.0 operands.1)
     (λ t fixed made. (
       assigned c is.setting fs.numbers fs.memory u t to made_v (Some (computed op v w)) known.0 a.framed made (λ q e. value ∙ some_is (computed op v w) q e),
       assigned_output c u to made_v t made,
     ))) in
     go b lines (record fs { next = fs.next + 1; numbers = numbers }) (k + m.steps) m.after
-    (advance c f b (Operate to op x y) lines fs k u numbers fs.memory fs.used a refl a.paid m) log goes all
+    (advance c f b (Operate to op x y) lines fs k u numbers fs.memory fs.used a refl (nothing_taken fs.used) a.paid m) log goes all
   where
     some_is : (p q : ℕ) → Some p ≡ Some q → p ≡ q
     some_is p q e = cc
@@ -198,14 +206,14 @@ loaded c f is j r n go b to op x lines fs k u a log all p v is_x is_v goes =
     let value : made_v ≡ load_value op v =
     ap (λ q. load_value op (number_at u.bytes q (load_size op))) at_x ∙ ap (load_value op) read.value in
     let m = reach c f b (Load to op x) lines fs k u (λ t. Framed c numbers fs.memory t × (t.output ≡ u.output)) a
-    (leads_so (site c) (line_items c.layout (Load to op x)) u (Assigned c u to made_v) (λ t. Framed c numbers fs.memory t × (t.output ≡ u.output))
+    (leads_so (site c) (line_items c.layout a.used (Load to op x)) u (Assigned c u to made_v) (λ t. Framed c numbers fs.memory t × (t.output ≡ u.output))
     (leads_load_line c is.setting u to op x a.framed.pointer known.0 known.1 usable)
     (λ t fixed made. (
       assigned c is.setting fs.numbers fs.memory u t to made_v (Some (load_value op v)) known.0 a.framed made (λ q e. value ∙ some_is (load_value op v) q e),
       assigned_output c u to made_v t made,
     ))) in
     go b lines (record fs { next = fs.next + 1; numbers = numbers }) (k + m.steps) m.after
-    (advance c f b (Load to op x) lines fs k u numbers fs.memory fs.used a refl a.paid m) log goes all
+    (advance c f b (Load to op x) lines fs k u numbers fs.memory fs.used a refl (nothing_taken fs.used) a.paid m) log goes all
   where
     some_is : (p q : ℕ) → Some p ≡ Some q → p ≡ q
     some_is p q e = cc
@@ -279,10 +287,27 @@ undefined_next c f j r (suc n) t log e goes =
     let over : Then c f j r n log (fails t) = subst (λ v. Then c f j r n log v) e goes in
     undefined c f t.spent r over.0
 
+-- no byte of the area is taken before the first block
+none_used : (i n : ℕ) (lines : List (Line Location)) → (i ≡ 0 → n ≡ 0) → (0 < i → list_any is_alloc lines ≡ false) → list_any is_alloc lines ≡ true → n ≡ 0
+none_used i n lines new made_first h = by_test (nat_eq i 0) refl
+  where
+    both_ways : (b : Bool) → b ≡ true → b ≡ false → ⊥
+    both_ways b e d = cc
+
+    by_test : (b : Bool) → nat_eq i 0 ≡ b → n ≡ 0
+    by_test true e = new (grind (arith, nat_tests))
+    by_test false e = absurd (both_ways (list_any is_alloc lines) h (made_first (grind (arith, nat_tests))))
+
+-- a jump goes to no first block
+not_first : (blocks i n : ℕ) → is_target blocks i ≡ true → i ≡ 0 → n ≡ 0
+not_first blocks i n h e =
+    let some = (and_parts (nat_lt 0 i) (nat_lt i blocks) h).0 in
+    absurd (let no : ⊥ = grind (arith, nat_tests) in no)
+
 pub enter : (c : Setting) (f : Code Location) → CodeStands c f → (j : FlatGiven) (r : FlatOutcome) (n : ℕ) → Follows c f j r n
-    → (i : ℕ) (fs : FlatState) (k : ℕ) (u : State) → Landed c (c.label i) fs k u → (log : Log)
+    → (i : ℕ) (fs : FlatState) (k : ℕ) (u : State) → Landed c (c.label i) fs k u → (i ≡ 0 → fs.used ≡ 0) → (log : Log)
     → Logged (step_of c f j) n (record fs { block = i; next = 0 }) log r → AllPerform c.world (bottom c) log → Performed c f r
-enter c f is j r n go i fs k u a log goes all = by_block (slice_get f.blocks i) refl
+enter c f is j r n go i fs k u a new log goes all = by_block (slice_get f.blocks i) refl
   where
     by_block : (o : Option (Block Location)) → slice_get f.blocks i ≡ o → Performed c f r
     by_block None e = undefined_next c f j r n (record fs { block = i; next = 0 }) log (no_block c f j (record fs { block = i; next = 0 }) e) goes
@@ -291,12 +316,14 @@ enter c f is j r n go i fs k u a log goes all = by_block (slice_get f.blocks i) 
         let paced = stands.paced in
         let pace = a.pace in
         let price = a.price in
+        let room = stands.room in
         go b b.lines (record fs { block = i; next = 0 }) k u
         (record {
           block = e;
           ahead = λ q. ap (λ i. slice_get b.lines i) (zero-add q);
           rest = stands.rest;
-          stands = subst (λ x. StandAt (site c) ((lines_items c.layout b.lines ++ jump_items c.layout b.jump) ++ stands.rest) x) (sym a.place) stands.stands;
+          used = 0;
+          stands = subst (λ x. StandAt (site c) ((lines_items c.layout 0 b.lines ++ jump_items c.layout b.jump) ++ stands.rest) x) (sym a.place) stands.stands;
           fixed = a.fixed;
           framed = a.framed;
           comes = a.comes;
@@ -308,6 +335,10 @@ enter c f is j r n go i fs k u a log goes all = by_block (slice_get f.blocks i) 
           paid = stands.paid;
           price = omega (arith, price);
           pace = omega (arith, paced, pace);
+          blocks = stands.blocks;
+          inside = stands.inside;
+          room = omega (arith, room);
+          used_is = λ h. none_used i fs.used b.lines new stands.made_first h;
         }) log goes all
 
 -- ---- the return
@@ -486,6 +517,9 @@ branch_case c f is j r n go on nonzero otherwise fs k u a log goes all = by_valu
     m : Lands (site c) (longest_size (jump_items c.layout (Branch on nonzero otherwise))) u (Jumped u (way c (operand_in c u on) nonzero otherwise))
     m = (ends_branch c is.setting u on nonzero otherwise a.framed.pointer a.known).from a.rest a.stands a.fixed
 
+    targets : (is_target a.blocks nonzero ≡ true) × (is_target a.blocks otherwise ≡ true)
+    targets = and_parts (is_target a.blocks nonzero) (is_target a.blocks otherwise) a.inside
+
     by_test : (v : ℕ) → operand_in c u on ≡ v → (t : Bool) → nat_eq (v % 2 ^ 32) 0 ≡ t
         → Then c f j r n log (enters fs (if t then otherwise else nonzero)) → Performed c f r
     by_test v e true z e_goes =
@@ -493,13 +527,13 @@ branch_case c f is j r n go on nonzero otherwise fs k u a log goes all = by_valu
         ap (λ x. way c x nonzero otherwise) e ∙ ap (λ (b : Bool). if b then c.label otherwise else c.label nonzero) z in
         enter c f is j r n go otherwise fs (k + m.steps) m.after
         (subst (λ x. Landed c x fs (k + m.steps) m.after) to (landed c (Branch on nonzero otherwise) fs k u (way c (operand_in c u on) nonzero otherwise) a m))
-        log e_goes all
+        (not_first a.blocks otherwise fs.used targets.1) log e_goes all
     by_test v e false z e_goes =
         let to : way c (operand_in c u on) nonzero otherwise ≡ c.label nonzero =
         ap (λ x. way c x nonzero otherwise) e ∙ ap (λ (b : Bool). if b then c.label otherwise else c.label nonzero) z in
         enter c f is j r n go nonzero fs (k + m.steps) m.after
         (subst (λ x. Landed c x fs (k + m.steps) m.after) to (landed c (Branch on nonzero otherwise) fs k u (way c (operand_in c u on) nonzero otherwise) a m))
-        log e_goes all
+        (not_first a.blocks nonzero fs.used targets.0) log e_goes all
 
     by_value : (o : Option ℕ) → number_of c.addresses fs.numbers on ≡ o → Then c f j r n log (branches fs nonzero otherwise (option_map (taken W) o))
         → Performed c f r
@@ -512,7 +546,7 @@ goto_case : (c : Setting) (f : Code Location) → CodeStands c f → (j : FlatGi
     → Then c f j r n log (enters fs i) → AllPerform c.world (bottom c) log → Performed c f r
 goto_case c f is j r n go i fs k u a log goes all =
     let m = (ends_goto (site c) u i).from a.rest a.stands a.fixed in
-    enter c f is j r n go i fs (k + m.steps) m.after (landed c (Goto i) fs k u (c.label i) a m) log goes all
+    enter c f is j r n go i fs (k + m.steps) m.after (landed c (Goto i) fs k u (c.label i) a m) (not_first a.blocks i fs.used a.inside) log goes all
 
 jump_case : (c : Setting) (f : Code Location) → CodeStands c f → (j : FlatGiven) (r : FlatOutcome) (n : ℕ) → Follows c f j r n
     → (x : Jump Location) (fs : FlatState) (k : ℕ) (u : State) → AtJump c x fs k u → (log : Log)
@@ -554,6 +588,8 @@ at_jump c f b fs k u a =
       known = a.jump_known;
       credit = a.credit;
       paid = le_is (jump_cost b.jump) a.credit a.paid;
+      blocks = a.blocks;
+      inside = a.inside;
       price = price;
       pace = omega (arith, pace);
     }

@@ -1,7 +1,7 @@
 -- What holds at each line while the machine follows the code on bytes, and what is to be shown of it.
-use Rattle.std.proofs.Common.{◌≡◌, ℕ, suc, ◌+◌, ◌-◌, ◌*◌, ◌%◌, ◌≤◌, true, List, ◌∷◌, ◌++◌, ◌∙◌, ap, subst, arith, lit<, append_assoc}
-use Rattle.std.specs.Prelude.{◌&&◌, nat_le, slice_get, Some}
-use Rattle.std.specs.List.{list_all, sum_by}
+use Rattle.std.proofs.Common.{◌≡◌, ℕ, suc, ◌+◌, ◌-◌, ◌*◌, ◌%◌, ◌<◌, ◌≤◌, Bool, true, false, refl, List, ◌∷◌, ◌++◌, ◌∙◌, ap, subst, arith, lit<, append_assoc}
+use Rattle.std.specs.Prelude.{◌&&◌, ◌||◌, nat_le, slice_get, Some}
+use Rattle.std.specs.List.{list_all, list_any, sum_by}
 use Rattle.std.proofs.lemmas.Bool.{and_parts}
 use Rattle.std.proofs.lemmas.List.Sums.{sum_by-cons}
 use Rattle.il_ast.specs.declared.value.End.TheVariants.{Undefined}
@@ -21,7 +21,7 @@ use Rattle.vcode.specs.declared.line.Jump.{Jump}
 use Rattle.vcode.specs.declared.code.Block.{Block}
 use Rattle.vcode.specs.declared.code.Code.{Code}
 use Rattle.vcode.specs.Named.{is_place, line_keeps, jump_keeps}
-use Rattle.vcode.specs.Regular.{area, turns_of}
+use Rattle.vcode.specs.Regular.{area, turns_of, alloc_bytes, is_alloc, leads_inside}
 use Rattle.vcode.specs.Cost.{line_cost, jump_cost, affords}
 use Rattle.flat_code.specs.Spots.{Spots}
 use Rattle.flat_code.specs.Flat.{FlatGiven, FlatAsked, FlatOutcome, FlatEnded, flat_after}
@@ -38,12 +38,16 @@ use Rattle.abi_frames.proofs.Sizes.{line_size, le_is}
 
 pub record BlockStands (c : Setting) (b : Block Location) (i : ℕ) : Type 0 where
   pub rest : List Item
-  pub stands : StandAt (site c) ((lines_items c.layout b.lines ++ jump_items c.layout b.jump) ++ rest) (c.label i)
+  pub stands : StandAt (site c) ((lines_items c.layout 0 b.lines ++ jump_items c.layout b.jump) ++ rest) (c.label i)
   pub known : list_all (line_keeps (is_place c.slots)) b.lines ≡ true
   pub jump_known : jump_keeps (is_place c.slots) b.jump ≡ true
   pub covered : list_all covers_line b.lines ≡ true
   pub paid : affords 0 b.jump b.lines ≡ true
   pub paced : sum_by turns_of b.lines ≤ 40000
+  pub blocks : ℕ
+  pub inside : leads_inside blocks b.jump ≡ true
+  pub room : sum_by alloc_bytes b.lines ≤ c.area
+  pub made_first : 0 < i → list_any is_alloc b.lines ≡ false
 
 pub record CodeStands (c : Setting) (f : Code Location) : Type 0 where
   pub setting : IsSetting c
@@ -65,7 +69,8 @@ pub record At (c : Setting) (f : Code Location) (b : Block Location) (lines : Li
   pub block : slice_get f.blocks fs.block ≡ Some b
   pub ahead : (i : ℕ) → slice_get b.lines (fs.next + i) ≡ slice_get lines i
   pub rest : List Item
-  pub stands : StandAt (site c) ((lines_items c.layout lines ++ jump_items c.layout b.jump) ++ rest) u.pc
+  pub used : ℕ
+  pub stands : StandAt (site c) ((lines_items c.layout used lines ++ jump_items c.layout b.jump) ++ rest) u.pc
   pub fixed : Fixed c.world.memory_map u
   pub framed : Framed c fs.numbers fs.memory u
   pub comes : Comes c.start k u
@@ -77,6 +82,10 @@ pub record At (c : Setting) (f : Code Location) (b : Block Location) (lines : Li
   pub paid : affords credit b.jump lines ≡ true
   pub price : k + credit + 64 ≤ allowed fs
   pub pace : fs.spent.turns + sum_by turns_of lines ≤ 40000 * (k + 1)
+  pub blocks : ℕ
+  pub inside : leads_inside blocks b.jump ≡ true
+  pub room : used + sum_by alloc_bytes lines ≤ c.area
+  pub used_is : list_any is_alloc lines ≡ true → fs.used ≡ used
 
 pub record AtJump (c : Setting) (j : Jump Location) (fs : FlatState) (k : ℕ) (u : State) : Type 0 where
   pub rest : List Item
@@ -88,6 +97,8 @@ pub record AtJump (c : Setting) (j : Jump Location) (fs : FlatState) (k : ℕ) (
   pub known : jump_keeps (is_place c.slots) j ≡ true
   pub credit : ℕ
   pub paid : jump_cost j ≤ credit
+  pub blocks : ℕ
+  pub inside : leads_inside blocks j ≡ true
   pub price : k + credit + 64 ≤ allowed fs
   pub pace : fs.spent.turns ≤ 40000 * (k + 1)
 
@@ -153,26 +164,42 @@ assoc : (a b d e : List Item) → ((a ++ b) ++ d) ++ e ≡ a ++ ((b ++ d) ++ e)
 assoc a b d e = ap (λ l. l ++ e) (append_assoc a b d) ∙ append_assoc a (b ++ d) e
 
 pub reach : (c : Setting) (f : Code Location) (b : Block Location) (l : Line Location) (lines : List (Line Location)) (fs : FlatState) (k : ℕ) (u : State)
-    (P : State → Type 0) → (a : At c f b (l ∷ lines) fs k u) → Leads (site c) (line_items c.layout l) u P
-    → Reaches (site c) (longest_size (line_items c.layout l)) ((lines_items c.layout lines ++ jump_items c.layout b.jump) ++ a.rest) u P
+    (P : State → Type 0) → (a : At c f b (l ∷ lines) fs k u) → Leads (site c) (line_items c.layout a.used l) u P
+    → Reaches (site c) (longest_size (line_items c.layout a.used l))
+    ((lines_items c.layout (a.used + alloc_bytes l) lines ++ jump_items c.layout b.jump) ++ a.rest) u P
 reach c f b l lines fs k u P a leads =
-    leads.from ((lines_items c.layout lines ++ jump_items c.layout b.jump) ++ a.rest)
-    (subst (λ is. StandAt (site c) is u.pc) (assoc (line_items c.layout l) (lines_items c.layout lines) (jump_items c.layout b.jump) a.rest) a.stands) a.fixed
+    leads.from ((lines_items c.layout (a.used + alloc_bytes l) lines ++ jump_items c.layout b.jump) ++ a.rest)
+    (subst (λ is. StandAt (site c) is u.pc)
+    (assoc (line_items c.layout a.used l) (lines_items c.layout (a.used + alloc_bytes l) lines) (jump_items c.layout b.jump) a.rest) a.stands) a.fixed
+
+-- a block of memory is still to be made
+later_alloc : (l : Line Location) (lines : List (Line Location)) → list_any is_alloc lines ≡ true → list_any is_alloc (l ∷ lines) ≡ true
+later_alloc l lines e = by_test (is_alloc l)
+  where
+    by_test : (b : Bool) → (b || list_any is_alloc lines) ≡ true
+    by_test true = refl
+    by_test false = e
+
+pub nothing_taken : (n : ℕ) → n ≡ n + 0
+nothing_taken n = omega arith
 
 pub next_index : (n i : ℕ) → n + 1 + i ≡ n + suc i
 next_index n i = omega arith
 
 -- after a line that is no tick, with what it leaves in places
 pub advance : (c : Setting) (f : Code Location) (b : Block Location) (l : Line Location) (lines : List (Line Location)) (fs : FlatState) (k : ℕ) (u : State)
-    (numbers : Numbers) (memory : Spots) (used : ℕ) → (a : At c f b (l ∷ lines) fs k u) → turns_of l ≡ 0
+    (numbers : Numbers) (memory : Spots) (used : ℕ) → (a : At c f b (l ∷ lines) fs k u) → turns_of l ≡ 0 → used ≡ fs.used + alloc_bytes l
     → (nat_le (line_cost l) a.credit && affords (a.credit - line_cost l) b.jump lines) ≡ true
-    → (m : Reaches (site c) (longest_size (line_items c.layout l)) ((lines_items c.layout lines ++ jump_items c.layout b.jump) ++ a.rest) u
+    → (m : Reaches (site c) (longest_size (line_items c.layout a.used l))
+    ((lines_items c.layout (a.used + alloc_bytes l) lines ++ jump_items c.layout b.jump) ++ a.rest) u
     (λ w. Framed c numbers memory w × (w.output ≡ u.output)))
     → At c f b lines (record fs { next = fs.next + 1; numbers = numbers; memory = memory; used = used }) (k + m.steps) m.after
-advance c f b l lines fs k u numbers memory used a calm pays m =
+advance c f b l lines fs k u numbers memory used a calm takes pays m =
     let parts = and_parts (nat_le (line_cost l) a.credit) (affords (a.credit - line_cost l) b.jump lines) pays in
     let enough = le_is (line_cost l) a.credit parts.0 in
-    let size = line_size c.layout l in
+    let size = line_size c.layout a.used l in
+    let room = a.room in
+    let bytes = sum_by-cons alloc_bytes l lines in
     let few = m.few in
     let price = a.price in
     let pace = a.pace in
@@ -193,4 +220,9 @@ advance c f b l lines fs k u numbers memory used a calm pays m =
       paid = parts.1;
       price = omega (arith, enough, size, few, price);
       pace = omega (arith, pace, sum, calm);
+      blocks = a.blocks;
+      inside = a.inside;
+      used = a.used + alloc_bytes l;
+      room = omega (arith, room, bytes);
+      used_is = λ e. takes ∙ ap (λ n. n + alloc_bytes l) (a.used_is (later_alloc l lines e));
     }

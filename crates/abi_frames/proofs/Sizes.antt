@@ -25,8 +25,9 @@ use Rattle.vcode.specs.declared.line.Line.TheVariants.{Tick, Set, Operate, Load,
 use Rattle.vcode.specs.declared.line.Jump.{Jump}
 use Rattle.vcode.specs.declared.line.Jump.TheVariants.{Goto, Branch, Return, Halt}
 use Rattle.vcode.specs.declared.code.Block.{Block}
+use Rattle.il_ast.specs.Cost.{round_16}
 use Rattle.vcode.specs.Cost.{is_immediate, operand_cost, operation_cost, line_cost, jump_cost, affords, is_paid}
-use Rattle.vcode.specs.Regular.{weight_of}
+use Rattle.vcode.specs.Regular.{weight_of, alloc_bytes}
 use Rattle.abi_frames.specs.Layout.{layout, saved_registers}
 use Rattle.abi_frames.specs.Laws.{FramesAreSmall}
 use Rattle.abi_frames.specs.declared.layout.Layout.{Layout}
@@ -120,15 +121,15 @@ load_line_size y to op at =
     let k = deliver_size y to in
     omega (arith, one, two, h, k)
 
-pub line_size : (y : Layout) (l : Line Location) → longest_size (line_items y l) ≤ line_cost l
-line_size y (Tick turn w) = lit≤ tt
-line_size y (Set to a) = set_size y to a
-line_size y (Operate to op a b) = operate_size y to op a b
-line_size y (Load to op at) = load_line_size y to op at
-line_size y (Store size a at) = omega arith
-line_size y (Alloc to size) = omega arith
-line_size y (Blit from to count) = omega arith
-line_size y (Call to callee args) = omega arith
+pub line_size : (y : Layout) (used : ℕ) (l : Line Location) → longest_size (line_items y used l) ≤ line_cost l
+line_size y used (Tick turn w) = lit≤ tt
+line_size y used (Set to a) = set_size y to a
+line_size y used (Operate to op a b) = operate_size y to op a b
+line_size y used (Load to op at) = load_line_size y to op at
+line_size y used (Store size a at) = omega arith
+line_size y used (Alloc to size) = omega arith
+line_size y used (Blit from to count) = omega arith
+line_size y used (Call to callee args) = omega arith
 
 -- ---- jumps
 
@@ -160,47 +161,47 @@ pub le_is : (a b : ℕ) → nat_le a b ≡ true → a ≤ b
 le_is a b h = grind (arith, nat_tests)
 
 -- the code of the lines and of the jump
-abbrev pub LinesFit : Layout → (credit : ℕ) → Jump Location → List (Line Location) → Type 0
-LinesFit y credit j lines = longest_size (lines_items y lines) + longest_size (jump_items y j) ≤ credit + 32 * sum_by weight_of lines
+abbrev pub LinesFit : Layout → (used credit : ℕ) → Jump Location → List (Line Location) → Type 0
+LinesFit y used credit j lines = longest_size (lines_items y used lines) + longest_size (jump_items y j) ≤ credit + 32 * sum_by weight_of lines
 
 -- after a line that is no tick
-fits_more : (y : Layout) (credit : ℕ) (j : Jump Location) (l : Line Location) (lines : List (Line Location)) → weight_of l ≡ 0
+fits_more : (y : Layout) (used credit : ℕ) (j : Jump Location) (l : Line Location) (lines : List (Line Location)) → weight_of l ≡ 0
     → (nat_le (line_cost l) credit && affords (credit - line_cost l) j lines) ≡ true
-    → (affords (credit - line_cost l) j lines ≡ true → LinesFit y (credit - line_cost l) j lines)
-    → LinesFit y credit j (l ∷ lines)
-fits_more y credit j l lines light paid rest =
+    → (affords (credit - line_cost l) j lines ≡ true → LinesFit y (used + alloc_bytes l) (credit - line_cost l) j lines)
+    → LinesFit y used credit j (l ∷ lines)
+fits_more y used credit j l lines light paid rest =
     let parts = and_parts (nat_le (line_cost l) credit) (affords (credit - line_cost l) j lines) paid in
     let enough = le_is (line_cost l) credit parts.0 in
     let others = rest parts.1 in
     let sum = sum_by-cons weight_of l lines in
-    let all = longest-append (line_items y l) (lines_items y lines) in
-    let size = line_size y l in
+    let all = longest-append (line_items y used l) (lines_items y (used + alloc_bytes l) lines) in
+    let size = line_size y used l in
     omega (arith, enough, others, sum, all, size, light)
 
-pub lines_size : (y : Layout) (credit : ℕ) (j : Jump Location) (lines : List (Line Location)) → affords credit j lines ≡ true
-    → LinesFit y credit j lines
-lines_size y credit j [] paid =
+pub lines_size : (y : Layout) (used credit : ℕ) (j : Jump Location) (lines : List (Line Location)) → affords credit j lines ≡ true
+    → LinesFit y used credit j lines
+lines_size y used credit j [] paid =
     let enough = le_is (jump_cost j) credit paid in
     let size = jump_size y j in
     omega (arith, enough, size)
-lines_size y credit j (Tick turn w ∷ lines) paid =
-    let others = lines_size y (credit + 32 * w) j lines paid in
+lines_size y used credit j (Tick turn w ∷ lines) paid =
+    let others = lines_size y (used + 0) (credit + 32 * w) j lines paid in
     let sum = sum_by-cons weight_of (Tick turn w) lines in
     omega (arith, others, sum)
-lines_size y credit j (Set to a ∷ lines) paid =
-    fits_more y credit j (Set to a) lines refl paid (λ h. lines_size y (credit - line_cost (Set to a)) j lines h)
-lines_size y credit j (Operate to op a b ∷ lines) paid =
-    fits_more y credit j (Operate to op a b) lines refl paid (λ h. lines_size y (credit - line_cost (Operate to op a b)) j lines h)
-lines_size y credit j (Load to op at ∷ lines) paid =
-    fits_more y credit j (Load to op at) lines refl paid (λ h. lines_size y (credit - line_cost (Load to op at)) j lines h)
-lines_size y credit j (Store size a at ∷ lines) paid =
-    fits_more y credit j (Store size a at) lines refl paid (λ h. lines_size y (credit - line_cost (Store size a at)) j lines h)
-lines_size y credit j (Alloc to size ∷ lines) paid =
-    fits_more y credit j (Alloc to size) lines refl paid (λ h. lines_size y (credit - line_cost (Alloc to size)) j lines h)
-lines_size y credit j (Blit from to count ∷ lines) paid =
-    fits_more y credit j (Blit from to count) lines refl paid (λ h. lines_size y (credit - line_cost (Blit from to count)) j lines h)
-lines_size y credit j (Call to callee args ∷ lines) paid =
-    fits_more y credit j (Call to callee args) lines refl paid (λ h. lines_size y (credit - line_cost (Call to callee args)) j lines h)
+lines_size y used credit j (Set to a ∷ lines) paid =
+    fits_more y used credit j (Set to a) lines refl paid (λ h. lines_size y (used + 0) (credit - line_cost (Set to a)) j lines h)
+lines_size y used credit j (Operate to op a b ∷ lines) paid =
+    fits_more y used credit j (Operate to op a b) lines refl paid (λ h. lines_size y (used + 0) (credit - line_cost (Operate to op a b)) j lines h)
+lines_size y used credit j (Load to op at ∷ lines) paid =
+    fits_more y used credit j (Load to op at) lines refl paid (λ h. lines_size y (used + 0) (credit - line_cost (Load to op at)) j lines h)
+lines_size y used credit j (Store size a at ∷ lines) paid =
+    fits_more y used credit j (Store size a at) lines refl paid (λ h. lines_size y (used + 0) (credit - line_cost (Store size a at)) j lines h)
+lines_size y used credit j (Alloc to size ∷ lines) paid =
+    fits_more y used credit j (Alloc to size) lines refl paid (λ h. lines_size y (used + round_16 size) (credit - line_cost (Alloc to size)) j lines h)
+lines_size y used credit j (Blit from to count ∷ lines) paid =
+    fits_more y used credit j (Blit from to count) lines refl paid (λ h. lines_size y (used + 0) (credit - line_cost (Blit from to count)) j lines h)
+lines_size y used credit j (Call to callee args ∷ lines) paid =
+    fits_more y used credit j (Call to callee args) lines refl paid (λ h. lines_size y (used + 0) (credit - line_cost (Call to callee args)) j lines h)
 
 abbrev pub block_weight : Block Location → ℕ
 block_weight b = sum_by weight_of b.lines
@@ -211,8 +212,8 @@ blocks_size y k [] good = omega arith
 blocks_size y k (b ∷ blocks) good =
     let parts = and_parts (is_paid b) (list_all is_paid blocks) good in
     let pays = parts.0 in
-    let one = lines_size y 0 b.jump b.lines pays in
-    let two = longest-append (lines_items y b.lines) (jump_items y b.jump) in
+    let one = lines_size y 0 0 b.jump b.lines pays in
+    let two = longest-append (lines_items y 0 b.lines) (jump_items y b.jump) in
     let all = longest-append (block_items y k b) (blocks_items y (k + 1) blocks) in
     let others = blocks_size y (k + 1) blocks parts.1 in
     let sum = sum_by-cons block_weight b blocks in

@@ -1,8 +1,9 @@
 -- From the call of a function to its first line: where its code stands, what the begin of its frame leaves, and that it keeps its promise.
 use Rattle.std.proofs.Common.{◌≡◌, ◌≢◌, ℕ, zero, suc, ◌+◌, ◌-◌, ◌%◌, ◌^◌, ◌<◌, ◌≤◌, Bool, true, false, List, [], ◌∷◌, ◌++◌, refl, sym, ◌∙◌, ap, subst, arith, lit<, zero-add, append_assoc, append-nil}
-use Rattle.std.specs.Prelude.{◌&&◌, nat_eq, nat_le, nat_lt, max, map, length, slice_get, Option, Some, None}
-use Rattle.std.specs.List.{list_all, sum_by}
+use Rattle.std.specs.Prelude.{◌&&◌, not, nat_eq, nat_le, nat_lt, max, map, length, slice_get, Option, Some, None}
+use Rattle.std.specs.List.{list_all, list_any, sum_by}
 use Rattle.std.proofs.lemmas.Bool.{and_parts}
+use Rattle.std.proofs.lemmas.List.Sums.{sum_by-cons}
 use Rattle.std.proofs.lemmas.Bool.Decides.{nat_tests}
 use Rattle.rv_isa.specs.State.{State}
 use Rattle.rv_isa.specs.Labelled.{Stand, Stands}
@@ -16,7 +17,7 @@ use Rattle.vcode.specs.declared.code.Block.{Block}
 use Rattle.vcode.specs.declared.code.Code.{Code}
 use Rattle.vcode.specs.Named.{is_place, block_keeps, line_keeps, jump_keeps}
 use Rattle.vcode.specs.Cost.{is_paid}
-use Rattle.vcode.specs.Regular.{area, turns_of, passes_few}
+use Rattle.vcode.specs.Regular.{area, turns_of, passes_few, is_alloc, allocs_first, alloc_bytes, leads_inside}
 use Rattle.flat_code.specs.Spots.{Spot, Away, Known, Spots, Clear}
 use Rattle.flat_code.specs.Step.{Numbers, bound, flat_begin, flat_step}
 use Rattle.abi_frames.specs.Calls.{World, IsWorld, GoodStack, HoldsSpots}
@@ -47,7 +48,7 @@ stand_after c (i ∷ is) js a stands = stand_after c is js stands.0 stands.2
 -- the code of a block, at its label
 pub record BlockCode (c : Site) (y : Layout) (b : Block Location) (l : ℕ) : Type 0 where
   pub rest : List Item
-  pub stands : StandAt c ((lines_items y b.lines ++ jump_items y b.jump) ++ rest) (c.label l)
+  pub stands : StandAt c ((lines_items y 0 b.lines ++ jump_items y b.jump) ++ rest) (c.label l)
 
 some_block : (a b : Block Location) → Some a ≡ Some b → a ≡ b
 some_block a b e = cc
@@ -57,7 +58,7 @@ blocks_stand : (c : Site) (y : Layout) (k : ℕ) (blocks : List (Block Location)
 unfolding Stand Stands
 blocks_stand c y k [] tail a stands i b e = absurd (let no : ⊥ = cc in no)
 blocks_stand c y k (d ∷ blocks) tail a stands zero b e =
-    let here : List Item = lines_items y d.lines ++ jump_items y d.jump in
+    let here : List Item = lines_items y 0 d.lines ++ jump_items y d.jump in
     let more : List Item = blocks_items y (k + 1) blocks in
     let at : c.label k ≡ stands.0 = stands.1.0 ∙ sym stands.1.1 in
     let place : stands.0 ≡ c.label (k + zero) = sym at ∙ ap c.label (no_more k) in
@@ -70,7 +71,7 @@ blocks_stand c y k (d ∷ blocks) tail a stands zero b e =
     no_more : (n : ℕ) → n ≡ n + zero
     no_more n = omega arith
 blocks_stand c y k (d ∷ blocks) tail a stands (suc i) b e =
-    let here : List Item = lines_items y d.lines ++ jump_items y d.jump in
+    let here : List Item = lines_items y 0 d.lines ++ jump_items y d.jump in
     let more : List Item = blocks_items y (k + 1) blocks in
     let next = stand_after c here (more ++ tail) stands.0 (subst (λ l. StandAt c l stands.0) (append_assoc here more tail) stands.2) in
     let place : k + 1 + i ≡ k + suc i = omega arith in
@@ -254,14 +255,41 @@ is_setting w label global addresses f slots sp room before s is world globals st
       above = omega (arith, above, fits);
       below = stack.below;
       fits = omega arith;
+      blocks = omega arith;
       saves_fit = omega arith;
       saves_near = omega (arith, few);
       small = omega (arith, few, small, slots_few);
     }
 
-block_stands : (c : Setting) (f : Code Location) (slots : ℕ) → c.slots ≡ slots → IsCode f slots → (b : Block Location) (i : ℕ) → slice_get f.blocks i ≡ Some b
+-- the bytes of a block are among all, and only the first block takes some
+abbrev block_bytes : Block Location → ℕ
+block_bytes b = sum_by alloc_bytes b.lines
+
+block_within : (blocks : List (Block Location)) (i : ℕ) (b : Block Location) → slice_get blocks i ≡ Some b → block_bytes b ≤ sum_by block_bytes blocks
+block_within [] i b e = absurd (let no : ⊥ = cc in no)
+block_within (d ∷ blocks) zero b e =
+    let same = ap block_bytes (some_block d b e) in
+    let sum = sum_by-cons block_bytes d blocks in
+    omega (arith, same, sum)
+block_within (d ∷ blocks) (suc i) b e =
+    let rest = block_within blocks i b e in
+    let sum = sum_by-cons block_bytes d blocks in
+    omega (arith, rest, sum)
+
+not_true : (b : Bool) → not b ≡ true → b ≡ false
+not_true true h = absurd (let no : ⊥ = cc in no)
+not_true false h = refl
+
+made_first : (blocks : List (Block Location)) (i : ℕ) (b : Block Location) → allocs_first blocks ≡ true → slice_get blocks i ≡ Some b → 0 < i
+    → list_any is_alloc b.lines ≡ false
+made_first [] i b h e some = absurd (let no : ⊥ = cc in no)
+made_first (d ∷ blocks) zero b h e some = absurd (omega (arith, some))
+made_first (d ∷ blocks) (suc i) b h e some =
+    not_true (list_any is_alloc b.lines) (each (λ (x : Block Location). not (list_any is_alloc x.lines)) blocks i b h e)
+
+block_stands : (c : Setting) (f : Code Location) (slots : ℕ) → c.slots ≡ slots → c.area ≡ area f → IsCode f slots → (b : Block Location) (i : ℕ) → slice_get f.blocks i ≡ Some b
     → BlockCode (site c) c.layout b i → BlockStands c b i
-block_stands c f slots same is b i e code =
+block_stands c f slots same same_area is b i e code =
     let known = and_parts (list_all (λ (d : Destination Location). is_place slots d.place) f.params) (list_all (block_keeps (is_place slots)) f.blocks) is.known in
     let keeps : block_keeps (is_place slots) b ≡ true = each (block_keeps (is_place slots)) f.blocks i b known.1 e in
     let keeps_here : block_keeps (is_place c.slots) b ≡ true = subst (λ n. block_keeps (is_place n) b ≡ true) (sym same) keeps in
@@ -269,6 +297,8 @@ block_stands c f slots same is b i e code =
     let covered = and_parts (nat_eq (length f.params) 0) (list_all covers_block f.blocks) is.covered in
     let here = each covers_block f.blocks i b covered.1 e in
     let pays = each is_paid f.blocks i b is.regular.paid e in
+    let inside = each (λ (d : Block Location). leads_inside (length f.blocks) d.jump) f.blocks i b is.regular.inside e in
+    let within = block_within f.blocks i b e in
     let paced = each (λ (d : Block Location). nat_le (sum_by turns_of d.lines) 40000) f.blocks i b is.regular.paced e in
     record {
       rest = code.rest;
@@ -278,6 +308,10 @@ block_stands c f slots same is b i e code =
       covered = here;
       paid = pays;
       paced = le_is (sum_by turns_of b.lines) 40000 paced;
+      blocks = length f.blocks;
+      inside = inside;
+      room = omega (arith, within, same_area);
+      made_first = made_first f.blocks i b is.regular.first e;
     }
 
 -- from the call on
@@ -294,7 +328,7 @@ performs w at label global addresses f slots is world globals stands sp j stack 
     let code : CodeStands c f = record {
       setting = good;
       blocks = λ i b e.
-          block_stands c f slots refl is b i e
+          block_stands c f slots refl refl is b i e
           (subst (λ k. BlockCode (site c) y b k) (zero-add i) (blocks_stand (site c) y 0 f.blocks (Label y.leave ∷ epilogue y) blocks.place blocks.stands i b e));
       result = refl;
       rest = [];
@@ -318,7 +352,7 @@ performs w at label global addresses f slots is world globals stands sp j stack 
       output = m.holds.1 ∙ sym (append-nil s.output);
       price = omega (arith, few, size);
       pace = omega arith;
-    }) log goes all
+    }) (λ e. refl) log goes all
 
 pub frames_perform : FramesPerform
 frames_perform f slots is =

@@ -34,6 +34,7 @@ use Rattle.vcode.specs.declared.line.Jump.TheVariants.{Goto, Branch, Return, Hal
 use Rattle.vcode.specs.declared.code.Block.{Block}
 use Rattle.vcode.specs.declared.code.Code.{Code}
 use Rattle.vcode.specs.Cost.{is_immediate}
+use Rattle.vcode.specs.Regular.{alloc_bytes}
 use Rattle.abi_frames.specs.Layout.{saved_registers, layout}
 use Rattle.abi_frames.specs.declared.layout.Layout.{Layout}
 
@@ -186,15 +187,16 @@ load_to op d base = Plain (Load op (reg d) (reg base) (low 0))
 abbrev pub load_items : Layout → Location → LoadOp → (at : Operand Location) → List Item
 load_items y to op at = fetch y 28 at ++ ((load_to op (target to) (source 28 at) ∷ []) ++ deliver y to)
 
-abbrev pub line_items : Layout → Line Location → List Item
-line_items y (Set to a) = set_items y to a
-line_items y (Operate to op a b) = operate_items y to op a b
-line_items y (LoadLine to op at) = load_items y to op at
-line_items y l = []
+-- `used` bytes of the area for blocks of memory are taken by the lines before
+abbrev pub line_items : Layout → (used : ℕ) → Line Location → List Item
+line_items y used (Set to a) = set_items y to a
+line_items y used (Operate to op a b) = operate_items y to op a b
+line_items y used (LoadLine to op at) = load_items y to op at
+line_items y used l = []
 
-abbrev pub lines_items : Layout → List (Line Location) → List Item
-lines_items y [] = []
-lines_items y (l ∷ lines) = line_items y l ++ lines_items y lines
+abbrev pub lines_items : Layout → (used : ℕ) → List (Line Location) → List Item
+lines_items y used [] = []
+lines_items y used (l ∷ lines) = line_items y used l ++ lines_items y (used + alloc_bytes l) lines
 
 -- ---- the begin and the end of a frame
 
@@ -239,7 +241,7 @@ jump_items y Halt = Plain Ebreak ∷ []
 -- ---- functions
 
 abbrev pub block_items : Layout → ℕ → Block Location → List Item
-block_items y k b = Label k ∷ (lines_items y b.lines ++ jump_items y b.jump)
+block_items y k b = Label k ∷ (lines_items y 0 b.lines ++ jump_items y b.jump)
 
 abbrev pub blocks_items : Layout → ℕ → List (Block Location) → List Item
 blocks_items y k [] = []

@@ -47,4 +47,12 @@ abbrev pub frame_bound : Code Location → (slots : ℕ) → ℕ
 frame_bound f slots = round_16 (area f + 8 * (slots + outgoing f + 16))
 
 abbrev pub layout : Code Location → (slots : ℕ) → Layout
-layout f slots = record { saves = saves_offset f; slots = slots_offset f; size = frame_size f slots; result = f.result; leave = length f.blocks }
+layout f slots =
+    record {
+      saves = saves_offset f;
+      slots = slots_offset f;
+      area = frame_size f slots - area f;
+      size = frame_size f slots;
+      result = f.result;
+      leave = length f.blocks;
+    }

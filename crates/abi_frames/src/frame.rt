@@ -1,7 +1,8 @@
 //! Functions with their frames.
 ghost use Rattle.std.specs.Prelude.{◌≡◌, ◌+◌, ◌*◌, ◌^◌, ◌<◌, ◌≤◌, IsTrue, [], ◌∷◌, ◌++◌, length, map, nat_le, OnOk, IfOk};
 ghost use Rattle.rv_isa.specs.Labels.{longest_size};
-ghost use Rattle.vcode.specs.Regular.{area, code_weight};
+ghost use Rattle.std.specs.List.{sum_by};
+ghost use Rattle.vcode.specs.Regular.{area, alloc_bytes, code_weight};
 ghost use Rattle.flat_code.specs.Step.{flat_begin, flat_step};
 ghost use Rattle.abi_frames.specs.Covered.{is_covered};
 ghost use Rattle.abi_frames.specs.Layout.{layout, frame_bound, frame_size};
@@ -24,8 +25,9 @@ fn push_body(
     layout: &Layout,
     block: &Block<Location>,
 ) -> Result<(), AllocError>
-    requires { layout.now.slots < 2 ^ 16 }
-    ensures { OnOk result (items.new.items ≡ items.old.items ++ (lines_items layout.now block.now.lines ++ jump_items layout.now block.now.jump)) }
+    requires slots { layout.now.slots < 2 ^ 16 }
+    requires room { sum_by alloc_bytes block.now.lines ≤ 1048576 }
+    ensures { OnOk result (items.new.items ≡ items.old.items ++ (lines_items layout.now 0 block.now.lines ++ jump_items layout.now block.now.jump)) }
 {
     push_lines(items, layout, block.lines.as_slice())?;
     push_jump(items, layout, &block.jump)
@@ -37,7 +39,8 @@ fn push_block(
     label: usize,
     block: &Block<Location>,
 ) -> Result<(), AllocError>
-    requires { layout.now.slots < 2 ^ 16 }
+    requires slots { layout.now.slots < 2 ^ 16 }
+    requires room { sum_by alloc_bytes block.now.lines ≤ 1048576 }
     ensures { OnOk result (items.new.items ≡ items.old.items ++ block_items layout.now label block.now) }
 {
     items.push(Item::Label(label))?;
@@ -49,7 +52,8 @@ fn push_blocks(
     layout: &Layout,
     blocks: &[Block<Location>],
 ) -> Result<(), AllocError>
-    requires { layout.now.slots < 2 ^ 16 }
+    requires slots { layout.now.slots < 2 ^ 16 }
+    requires room { sum_by (λ b. sum_by alloc_bytes b.lines) blocks.now ≤ 1048576 }
     ensures { OnOk result (items.new.items ≡ items.old.items ++ blocks_items layout.now 0 blocks.now) }
 {
     for (label, block) in blocks.iter().enumerate() {
@@ -75,6 +79,7 @@ fn push_function(
     requires saves { layout.now.saves < 2 ^ 16 }
     requires slots { layout.now.slots < 2 ^ 16 }
     requires size { 0 < layout.now.size }
+    requires room { sum_by (λ b. sum_by alloc_bytes b.lines) blocks.now ≤ 1048576 }
     ensures { OnOk result (items.new.items ≡ items.old.items ++ function_items layout.now blocks.now) }
 {
     push_prologue(items, layout)?;
@@ -88,10 +93,12 @@ fn layout_of(function: &FlatFunc) -> Layout
     ensures value { result ≡ layout function.now.located.code function.now.located.slots }
     ensures near { (result.saves < 2 ^ 16) × (result.slots < 2 ^ 16) × (0 < result.size) }
 {
+    let size = (8 * (u64::from(function.located.slots) + 13) + 15) / 16 * 16;
     Layout {
         saves: 0,
         slots: 104,
-        size: (8 * (u64::from(function.located.slots) + 13) + 15) / 16 * 16,
+        area: size,
+        size,
         result: function.located.code.result,
         leave: function.located.code.blocks.len(),
     }

@@ -8,6 +8,8 @@ pub struct Layout {
     pub saves: u64,
     /// where the slots begin
     pub slots: u64,
+    /// where the area for blocks of memory begins
+    pub area: u64,
     /// the size of the frame
     pub size: u64,
     /// the class of the function's result

@@ -1,5 +1,7 @@
 //! The machine code of lines.
-ghost use Rattle.std.specs.Prelude.{◌≡◌, ◌^◌, ◌<◌, [], ◌∷◌, ◌++◌, OnOk};
+ghost use Rattle.std.specs.Prelude.{◌≡◌, ◌^◌, ◌<◌, ◌≤◌, [], ◌∷◌, ◌++◌, OnOk};
+ghost use Rattle.std.specs.List.{sum_by};
+ghost use Rattle.vcode.specs.Regular.{alloc_bytes};
 ghost use Rattle.vcode.specs.declared.place.Location.TheVariants.{Slot};
 ghost use Rattle.abi_frames.specs.Emission.{operation_items, set_items, operate_items, load_to, load_items, line_items, lines_items};
 
@@ -128,14 +130,15 @@ fn push_load_line(
     Ok(())
 }
 
-/// Puts the code of a line at the end.
+/// Puts the code of a line at the end; `used` bytes of the area for blocks of memory are taken by the lines before.
 pub(crate) fn push_line(
     items: &mut Vec<Item>,
     layout: &Layout,
+    _used: u64,
     line: &Line<Location>,
 ) -> Result<(), AllocError>
     requires { layout.now.slots < 2 ^ 16 }
-    ensures { OnOk result (items.new.items ≡ items.old.items ++ line_items layout.now line.now) }
+    ensures { OnOk result (items.new.items ≡ items.old.items ++ line_items layout.now _used line.now) }
 {
     match line {
         Line::Set { to, value } => push_set(items, layout, to, value)?,
@@ -155,17 +158,37 @@ pub(crate) fn push_line(
     Ok(())
 }
 
-/// Puts the code of lines at the end.
+// the bytes of the area for blocks of memory that a line takes
+fn alloc_bytes(line: &Line<Location>) -> u64
+    requires { alloc_bytes line.now ≤ 1048576 }
+    ensures { result ≡ alloc_bytes line.now }
+{
+    match line {
+        Line::Alloc { size, .. } => (*size + 15) / 16 * 16,
+        Line::Tick { .. }
+        | Line::Set { .. }
+        | Line::Operate { .. }
+        | Line::Load { .. }
+        | Line::Store { .. }
+        | Line::Blit { .. }
+        | Line::Call { .. } => 0,
+    }
+}
+
+/// Puts the code of a block's lines at the end.
 pub(crate) fn push_lines(
     items: &mut Vec<Item>,
     layout: &Layout,
     lines: &[Line<Location>],
 ) -> Result<(), AllocError>
-    requires { layout.now.slots < 2 ^ 16 }
-    ensures { OnOk result (items.new.items ≡ items.old.items ++ lines_items layout.now lines.now) }
+    requires slots { layout.now.slots < 2 ^ 16 }
+    requires room { sum_by alloc_bytes lines.now ≤ 1048576 }
+    ensures { OnOk result (items.new.items ≡ items.old.items ++ lines_items layout.now 0 lines.now) }
 {
+    let mut used = 0;
     for line in lines {
-        push_line(items, layout, line)?;
+        push_line(items, layout, used, line)?;
+        used += alloc_bytes(line);
     }
     Ok(())
 }

@@ -18,6 +18,7 @@ use vcode::place::{Location, Operand};
 const SMALL: Layout = Layout {
     saves: 0,
     slots: 104,
+    area: 128,
     size: 128,
     result: Some(Class::W),
     leave: 5,
@@ -50,7 +51,7 @@ fn a_sum_goes_to_a_slot(rt: HostRuntime) -> Result<(), Fail> {
         left: Operand::At(Location::Register(5)),
         right: Operand::Number(7),
     };
-    push_line(&mut items, &SMALL, &line)?;
+    push_line(&mut items, &SMALL, 0, &line)?;
     assert_eq!(rt; items.len(), 3);
     match items.get(1) {
         Some(Item::Plain(Instr::Reg { rd, rs1, rs2, .. })) => {
@@ -74,7 +75,7 @@ fn far_slots_and_long_numbers_take_more(rt: HostRuntime) -> Result<(), Fail> {
         to: Location::Slot(300),
         value: Operand::Number(0x1234_5678_9abc_def0),
     };
-    push_line(&mut items, &SMALL, &line)?;
+    push_line(&mut items, &SMALL, 0, &line)?;
     assert_eq!(rt; items.len(), 9 + 3);
     Ok(())
 }
@@ -101,7 +102,7 @@ fn a_byte_is_loaded(rt: HostRuntime) -> Result<(), Fail> {
         op: LoadOp::Lbu,
         at: Operand::At(Location::Register(6)),
     };
-    push_line(&mut items, &SMALL, &line)?;
+    push_line(&mut items, &SMALL, 0, &line)?;
     assert_eq!(rt; items.len(), 1);
     match items.get(0) {
         Some(Item::Plain(Instr::Load { op, rd, rs1, .. })) => {
@@ -121,7 +122,7 @@ fn words_are_extended_before_they_are_compared(rt: HostRuntime) -> Result<(), Fa
         left: Operand::At(Location::Register(5)),
         right: Operand::At(Location::Register(6)),
     };
-    push_line(&mut items, &SMALL, &line)?;
+    push_line(&mut items, &SMALL, 0, &line)?;
     assert_eq!(rt; items.len(), 2 + 2);
     Ok(())
 }

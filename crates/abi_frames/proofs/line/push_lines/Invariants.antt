@@ -1,6 +1,10 @@
-use Rattle.std.proofs.Common.{◌≡◌, ◌++◌, drop}
+use Rattle.std.proofs.Common.{◌≡◌, ◌+◌, ◌≤◌, ◌++◌, drop}
+use Rattle.std.specs.List.{sum_by}
+use Rattle.vcode.specs.Regular.{alloc_bytes}
 use Rattle.abi_frames.specs.Emission.{lines_items}
 use Rattle.abi_frames.proofs.line.push_lines.Given as goal
 
 abbrev pub invariant-loop-line : goal.invariant-loop-line
-invariant-loop-line l = l.items.items ++ lines_items l.layout (drop l.line-index l.lines) ≡ l.fn.items.items ++ lines_items l.fn.layout l.fn.lines
+invariant-loop-line l =
+    (l.items.items ++ lines_items l.layout l.used (drop l.line-index l.lines) ≡ l.fn.items.items ++ lines_items l.fn.layout 0 l.fn.lines)
+    × (l.used + sum_by alloc_bytes (drop l.line-index l.lines) ≤ 1048576)
