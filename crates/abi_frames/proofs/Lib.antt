@@ -6,6 +6,7 @@ pub mod LineCode
 pub mod FrameEnds
 pub mod Sizes
 pub mod JumpCode
+pub mod Passing
 pub mod Simulation
 pub mod Simulating
 pub mod Starting

@@ -25,6 +25,8 @@ use Rattle.vcode.specs.declared.place.Location.{Location}
 use Rattle.vcode.specs.declared.place.Location.TheVariants.{Register as InRegister, Slot}
 use Rattle.vcode.specs.declared.place.Operand.{Operand}
 use Rattle.vcode.specs.declared.place.Operand.TheVariants.{At, Number, Name}
+use Rattle.vcode.specs.declared.place.Argument.{Argument}
+use Rattle.vcode.specs.declared.place.Destination.{Destination}
 use Rattle.vcode.specs.declared.line.Operation.{Operation}
 use Rattle.vcode.specs.declared.line.Operation.TheVariants.{Reg as RegOperation, RegW as RegWOperation, Compare}
 use Rattle.vcode.specs.declared.line.Line.{Line}
@@ -186,6 +188,40 @@ load_to op d base = Plain (Load op (reg d) (reg base) (low 0))
 
 abbrev pub load_items : Layout → Location → LoadOp → (at : Operand Location) → List Item
 load_items y to op at = fetch y 28 at ++ ((load_to op (target to) (source 28 at) ∷ []) ++ deliver y to)
+
+-- ---- calls
+
+-- the argument into the register d, a word sign-extended
+abbrev pub argument_items : Layout → (d : ℕ) → Class → Operand Location → List Item
+argument_items y d L a = into y d a
+argument_items y d W a = into y d a ++ (extend d d ∷ [])
+
+-- the k-th argument: the first eight go into x10 to x17, the others to the stack, eight bytes each from the stack pointer upward
+abbrev pub pass_items : Layout → (k : ℕ) → Argument Location → List Item
+pass_items y k a =
+    if nat_lt k 8
+    then argument_items y (10 + k) a.class a.value
+    else argument_items y 28 a.class a.value ++ (store_8 28 2 (8 * (k - 8)) ∷ [])
+
+-- arguments from the k-th on
+abbrev pub arguments_items : Layout → (k : ℕ) → List (Argument Location) → List Item
+arguments_items y k [] = []
+arguments_items y k (a ∷ args) = pass_items y k a ++ arguments_items y (k + 1) args
+
+-- to the address in a register, with the address of the next instruction in x1
+abbrev pub call_through : ℕ → Item
+call_through r = Plain (Jalr (reg 1) (reg r) (low 0))
+
+-- the result from x10 to its place
+abbrev pub receive_items : Layout → Option (Destination Location) → List Item
+receive_items y None = []
+receive_items y (Some d) = set_items y d.place (At (InRegister 10))
+
+abbrev pub call_items : Layout → Option (Destination Location) → (callee : Operand Location) → List (Argument Location) → List Item
+call_items y to callee args =
+    arguments_items y 0 args ++ (fetch y 28 callee ++ ((call_through (source 28 callee) ∷ []) ++ receive_items y to))
+
+-- ---- lines
 
 -- `used` bytes of the area for blocks of memory are taken by the lines before
 abbrev pub line_items : Layout → (used : ℕ) → Line Location → List Item
