@@ -1,5 +1,5 @@
 -- The labelled code of a function keeps the invariants of such code.
-use Rattle.std.proofs.Common.{◌≡◌, ℕ, ◌+◌, ◌-◌, ◌%◌, ◌^◌, ◌<◌, ◌≤◌, Bool, true, false, List, [], ◌∷◌, ◌++◌, refl, sym, ◌∙◌, ap, arith, lit<, zero-add}
+use Rattle.std.proofs.Common.{◌≡◌, ℕ, ◌+◌, ◌-◌, ◌*◌, ◌%◌, ◌^◌, ◌<◌, ◌≤◌, Bool, true, false, List, [], ◌∷◌, ◌++◌, refl, sym, ◌∙◌, ap, subst, arith, lit<, zero-add, append_assoc}
 use Rattle.std.specs.Prelude.{◌&&◌, not, nat_eq, nat_le, nat_lt, if◌then◌else◌, length, Option, Some, None}
 use Rattle.std.specs.List.{list_all}
 use Rattle.std.proofs.lemmas.Bool.{and_parts, and_from}
@@ -11,7 +11,7 @@ use Rattle.il_ast.specs.declared.operation.Condition.{Condition}
 use Rattle.il_ast.specs.declared.operation.Condition.TheVariants.{Equal, NotEqual, SignedLessEqual, SignedLess, SignedGreaterEqual, SignedGreater, UnsignedLessEqual, UnsignedLess, UnsignedGreaterEqual, UnsignedGreater}
 use Rattle.il_ast.specs.declared.operation.Class.{Class}
 use Rattle.il_ast.specs.declared.operation.Class.TheVariants.{W, L}
-use Rattle.rv_isa.specs.Labels.{times_labelled, has_label_below, has_good_registers, longest_size}
+use Rattle.rv_isa.specs.Labels.{IsLabelled, times_labelled, has_label_below, has_good_registers, longest_size}
 use Rattle.rv_isa.specs.declared.instruction.Instr.TheVariants.{Reg, RegW}
 use Rattle.rv_isa.specs.declared.instruction.BranchOp.TheVariants.{Bne}
 use Rattle.rv_isa.specs.declared.labelled.Item.{Item}
@@ -34,9 +34,11 @@ use Rattle.vcode.specs.Regular.{leads_inside, is_target, alloc_bytes, code_weigh
 use Rattle.abi_frames.specs.Layout.{layout, saved_registers}
 use Rattle.abi_frames.specs.declared.layout.Layout.{Layout}
 use Rattle.abi_frames.specs.Emission.{reg, add_low, extend, sum_to, load_8, store_8, long_constant, constant, far_load, load_slot, far_store, store_slot, slot_offset, into, fetch, source, target, deliver, set_items, negate, is_zero, compare_items, operation_items, operate_items, load_to, line_items, lines_items, move_pointer, save_all, restore_all, go_back, prologue, epilogue, result_items, jump_items, blocks_items}
+use Rattle.abi_frames.specs.Functions.{caller_pointer, from_register, from_stack, argument_items, arguments_items, pointer_items, entry_items}
 use Rattle.abi_frames.specs.Laws.{FramesAreLabelled}
 use Rattle.abi_frames.proofs.Leading.{longest-append}
 use Rattle.abi_frames.proofs.Activations.{place_is}
+use Rattle.abi_frames.proofs.Outgoing.{slots_near}
 use Rattle.abi_frames.proofs.Sizes.{function_size, le_is}
 
 -- ---- code without a label of its own, whose jumps go to labels below n
@@ -387,6 +389,47 @@ blocks_labelled n y slots all k (b ∷ blocks) leave more few known inside =
     first_of : (x s p q m t : ℕ) → s ≡ p + q → p ≡ 0 → q ≡ m → x + m ≡ t → x + s ≡ t
     first_of x s p q m t e f g h = omega (arith, e, f, g, h)
 
+-- ---- arguments come to the places of their parameters
+
+argument_plainly : (n : ℕ) (y : Layout) (slots k : ℕ) (p : Location) → is_place slots p ≡ true → Plainly n (argument_items y k p)
+argument_plainly n y slots k (InRegister r) good = by_test (nat_lt k 8) refl
+  where
+    by_test : (b : Bool) → nat_lt k 8 ≡ b → Plainly n (if b then from_register y k (InRegister r) else from_stack y k (InRegister r))
+    by_test true e = add_plainly n r (10 + k) 0 (place_nameable slots r good) (nameable (10 + k) (grind (arith, nat_tests)))
+    by_test false e = load_plainly n r 30 (8 * (k - 8)) (place_nameable slots r good) (nameable 30 (lit< tt))
+argument_plainly n y slots k (Slot i) good = by_test (nat_lt k 8) refl
+  where
+    by_test : (b : Bool) → nat_lt k 8 ≡ b → Plainly n (if b then from_register y k (Slot i) else from_stack y k (Slot i))
+    by_test true e = store_slot_plainly n (10 + k) (slot_offset y i) (nameable (10 + k) (grind (arith, nat_tests)))
+    by_test false e =
+        plainly_then n (load_8 28 30 (8 * (k - 8)) ∷ []) (store_slot 28 (slot_offset y i))
+        (load_plainly n 28 30 (8 * (k - 8)) (nameable 28 (lit< tt)) (nameable 30 (lit< tt)))
+        (store_slot_plainly n 28 (slot_offset y i) (nameable 28 (lit< tt)))
+
+arguments_plainly : (n : ℕ) (y : Layout) (slots k : ℕ) (ds : List (Destination Location)) → list_all (λ (d : Destination Location). is_place slots d.place) ds ≡ true
+    → Plainly n (arguments_items y k ds)
+arguments_plainly n y slots k [] known = plainly_nothing n
+arguments_plainly n y slots k (d ∷ ds) known =
+    let parts = and_parts (is_place slots d.place) (list_all (λ (e : Destination Location). is_place slots e.place) ds) known in
+    plainly_then n (argument_items y k d.place) (arguments_items y (k + 1) ds) (argument_plainly n y slots k d.place parts.0)
+    (arguments_plainly n y slots (k + 1) ds parts.1)
+
+pointer_plainly : (n : ℕ) (y : Layout) (params : ℕ) → Plainly n (pointer_items y params)
+pointer_plainly n y params = by_test (nat_lt 8 params)
+  where
+    by_test : (b : Bool) → Plainly n (if b then caller_pointer y else [])
+    by_test true =
+        plainly_then n (constant 30 y.size) (sum_to 30 30 2 ∷ []) (constant_plainly n 30 y.size (nameable 30 (lit< tt)))
+        (record { labels = refl; none = λ l. refl; registers = refl })
+    by_test false = plainly_nothing n
+
+-- the begin of the frame, and the entry
+begin_plainly : (n : ℕ) (y : Layout) (slots : ℕ) (params : List (Destination Location)) → list_all (λ (d : Destination Location). is_place slots d.place) params ≡ true
+    → Plainly n (prologue y ++ entry_items y params)
+begin_plainly n y slots params known =
+    plainly_then n (prologue y) (entry_items y params) (prologue_plainly n y)
+    (plainly_then n (pointer_items y (length params)) (arguments_items y 0 params) (pointer_plainly n y (length params)) (arguments_plainly n y slots 0 params known))
+
 -- ---- functions
 
 all_numbered : (n l : ℕ) → l < n + 1 → numbered 0 n l + (if nat_eq n l then 1 else 0) ≡ 1
@@ -403,34 +446,39 @@ frames_are_labelled f slots is =
     let y : Layout = layout f slots in
     let n : ℕ = length f.blocks in
     let known = and_parts (list_all (λ (d : Destination Location). is_place slots d.place) f.params) (list_all (block_keeps (is_place slots)) f.blocks) is.known in
-    let begin = prologue_plainly (n + 1) y in
-    let end = epilogue_plainly (n + 1) y in
-    let blocks = blocks_labelled (n + 1) y slots n 0 f.blocks (omega arith) (omega arith) (omega arith) known.1 is.regular.inside in
+    let first : List Item = prologue y ++ entry_items y f.params in
     let mid : List Item = blocks_items y 0 f.blocks in
     let last : List Item = Label n ∷ epilogue y in
     let tail : List Item = mid ++ last in
-    let size = function_size y f.blocks is.regular.paid in
+    let begin = begin_plainly (n + 1) y slots f.params known.0 in
+    let end = epilogue_plainly (n + 1) y in
+    let blocks = blocks_labelled (n + 1) y slots n 0 f.blocks (omega arith) (omega arith) (omega arith) known.1 is.regular.inside in
+    let at_most = le_is (length f.params) 64 is.regular.few_params in
+    let size = function_size y f.params f.blocks (slots_near f is.regular) at_most is.near is.regular.paid in
     let light = le_is (code_weight f) 40000 is.light in
     let some = some_size y in
-    let sum_one = longest-append (prologue y) tail in
+    let whole = append_assoc (prologue y) (entry_items y f.params) tail in
+    let sum_whole = ap longest_size whole in
+    let sum_one = longest-append first tail in
     let sum_two = longest-append mid last in
-    record {
-      labels = all_both (has_label_below (n + 1)) (prologue y) tail begin.labels
+    subst (λ (is : List Item). IsLabelled (record { items = is; labels = n + 1 })) whole
+    (record {
+      labels = all_both (has_label_below (n + 1)) first tail begin.labels
           (all_both (has_label_below (n + 1)) mid last blocks.labels
           (and_from (nat_lt n (n + 1)) (list_all (has_label_below (n + 1)) (epilogue y)) (lt_from n (n + 1) (omega arith)) end.labels));
       once = λ l h.
-          let one = times-append l (prologue y) tail in
+          let one = times-append l first tail in
           let two = times-append l mid last in
           let none = begin.none l in
           let once = blocks.once l in
           let none_last = end.none l in
           let whole = all_numbered n l h in
-          total (times_labelled l (prologue y ++ tail)) (times_labelled l (prologue y)) (times_labelled l tail) (times_labelled l mid)
+          total (times_labelled l (first ++ tail)) (times_labelled l first) (times_labelled l tail) (times_labelled l mid)
           (if nat_eq n l then 1 else 0) (times_labelled l (epilogue y)) (numbered 0 n l) one two none once none_last whole;
-      registers = all_both has_good_registers (prologue y) tail begin.registers (all_both has_good_registers mid last blocks.registers end.registers);
+      registers = all_both has_good_registers first tail begin.registers (all_both has_good_registers mid last blocks.registers end.registers);
       not_empty = omega (arith, some, sum_one, sum_two);
-      near = omega (arith, size, light);
-    }
+      near = omega (arith, size, light, sum_whole);
+    })
   where
     total : (s p t m x e k : ℕ) → s ≡ p + t → t ≡ m + (x + e) → p ≡ 0 → m ≡ k → e ≡ 0 → k + x ≡ 1 → s ≡ 1
     total s p t m x e k h1 h2 h3 h4 h5 h6 = omega (arith, h1, h2, h3, h4, h5, h6)

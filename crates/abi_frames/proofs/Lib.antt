@@ -15,3 +15,5 @@ pub mod Joining
 pub mod PlainLayout
 pub mod Comparing
 pub mod Reading
+pub mod Entering
+pub mod Outgoing

@@ -1,11 +1,12 @@
 -- The frame of code without calls and blocks of memory.
 use Rattle.std.proofs.Common.{◌≡◌, ℕ, ◌+◌, ◌-◌, ◌*◌, true, List, [], ◌∷◌, ◌++◌, refl, ap, ◌∙◌, arith}
-use Rattle.std.specs.Prelude.{nat_eq, length}
+use Rattle.std.specs.Prelude.{length}
 use Rattle.std.specs.List.{list_all, sum_by}
 use Rattle.std.proofs.lemmas.Bool.{and_parts}
 use Rattle.std.proofs.lemmas.List.Sums.{sum_by-cons}
 use Rattle.il_ast.specs.Cost.{round_16}
 use Rattle.vcode.specs.declared.place.Location.{Location}
+use Rattle.vcode.specs.declared.place.Destination.{Destination}
 use Rattle.vcode.specs.declared.line.Line.{Line}
 use Rattle.vcode.specs.declared.line.Line.TheVariants.{Tick, Set, Operate, Load, Store, Alloc, Blit, Call}
 use Rattle.vcode.specs.declared.code.Block.{Block}
@@ -14,8 +15,8 @@ use Rattle.vcode.specs.Regular.{area, alloc_bytes}
 use Rattle.abi_frames.specs.declared.layout.Layout.{Layout}
 use Rattle.abi_frames.specs.Layout.{layout, outgoing, args_on_stack, most_in_lines, most_in_blocks, frame_size}
 use Rattle.rv_isa.specs.declared.labelled.Item.{Item}
-use Rattle.abi_frames.specs.Emission.{function_items}
-use Rattle.abi_frames.specs.Covered.{is_covered, covers_line, covers_block}
+use Rattle.abi_frames.specs.Functions.{function_items}
+use Rattle.abi_frames.specs.Covered.{is_covered, covers_line, covers_block, covers_params}
 
 line_takes_nothing : (l : Line Location) → covers_line l ≡ true → (alloc_bytes l ≡ 0) × (args_on_stack l ≡ 0)
 line_takes_nothing (Tick turn w) h = (refl, refl)
@@ -73,7 +74,7 @@ plain_layout f slots =
 
 pub layout_is : (f : Code Location) (slots : ℕ) → is_covered f ≡ true → plain_layout f slots ≡ layout f slots
 layout_is f slots h =
-    let parts = and_parts (nat_eq (length f.params) 0) (list_all covers_block f.blocks) h in
+    let parts = and_parts (covers_params f.params) (list_all covers_block f.blocks) h in
     let none = blocks_take_nothing f.blocks parts.1 in
     let no_area : area f ≡ 0 = none.0 in
     let no_args : outgoing f ≡ 0 = none.1 in
@@ -99,6 +100,8 @@ layout_from f slots n l h e k =
     ∙ (ap (λ x. make_layout 0 104 (round_16 (8 * (slots + 13))) x f) k ∙ layout_is f slots h)
 
 -- what was put behind nothing
-pub items_are : (p o : List Item) (y z : Layout) (bs cs : List (Block Location)) → p ≡ o ++ function_items y bs → o ≡ [] → y ≡ z → bs ≡ cs → p ≡ function_items z cs
-items_are p o y z bs cs e f g h =
-    e ∙ (ap (λ l. l ++ function_items y bs) f ∙ (ap (λ x. function_items x bs) g ∙ ap (λ x. function_items z x) h))
+pub items_are : (p o : List Item) (y z : Layout) (ps qs : List (Destination Location)) (bs cs : List (Block Location)) → p ≡ o ++ function_items y ps bs → o ≡ []
+    → y ≡ z → ps ≡ qs → bs ≡ cs → p ≡ function_items z qs cs
+items_are p o y z ps qs bs cs e f g k h =
+    e ∙ (ap (λ l. l ++ function_items y ps bs) f
+    ∙ (ap (λ x. function_items x ps bs) g ∙ (ap (λ x. function_items z x bs) k ∙ ap (λ x. function_items z qs x) h)))

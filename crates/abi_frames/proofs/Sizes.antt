@@ -1,5 +1,5 @@
 -- The code of a line is no longer than the line's cost, and so that of a function within its price.
-use Rattle.std.proofs.Common.{◌≡◌, ℕ, ◌+◌, ◌-◌, ◌*◌, ◌%◌, ◌^◌, ◌≤◌, Bool, true, false, List, [], ◌∷◌, ◌++◌, refl, arith, lit≤}
+use Rattle.std.proofs.Common.{◌≡◌, ℕ, ◌+◌, ◌-◌, ◌*◌, ◌%◌, ◌^◌, ◌<◌, ◌≤◌, Bool, true, false, List, [], ◌∷◌, ◌++◌, refl, arith, lit≤}
 use Rattle.std.specs.Prelude.{◌&&◌, nat_le, nat_lt, if◌then◌else◌, length, Option, Some, None}
 use Rattle.std.specs.List.{list_all, sum_by}
 use Rattle.std.proofs.lemmas.Bool.{and_parts}
@@ -18,6 +18,7 @@ use Rattle.vcode.specs.declared.place.Location.{Location}
 use Rattle.vcode.specs.declared.place.Location.TheVariants.{Register as InRegister, Slot}
 use Rattle.vcode.specs.declared.place.Operand.{Operand}
 use Rattle.vcode.specs.declared.place.Operand.TheVariants.{At, Number, Name}
+use Rattle.vcode.specs.declared.place.Destination.{Destination}
 use Rattle.vcode.specs.declared.line.Operation.{Operation}
 use Rattle.vcode.specs.declared.line.Operation.TheVariants.{Reg as RegOperation, RegW as RegWOperation, Compare}
 use Rattle.vcode.specs.declared.line.Line.{Line}
@@ -28,11 +29,14 @@ use Rattle.vcode.specs.declared.code.Block.{Block}
 use Rattle.il_ast.specs.Cost.{round_16}
 use Rattle.vcode.specs.Cost.{is_immediate, operand_cost, operation_cost, line_cost, jump_cost, affords, is_paid}
 use Rattle.vcode.specs.Regular.{weight_of, alloc_bytes}
+use Rattle.vcode.specs.Named.{is_near, are_near}
 use Rattle.abi_frames.specs.Layout.{layout, saved_registers}
 use Rattle.abi_frames.specs.Laws.{FramesAreSmall}
 use Rattle.abi_frames.specs.declared.layout.Layout.{Layout}
-use Rattle.abi_frames.specs.Emission.{reg, add_low, extend, long_constant, constant, load_8, store_8, far_load, far_store, sum_to, load_slot, store_slot, slot_offset, into, fetch, source, target, deliver, set_items, compare_items, operation_items, operate_items, load_to, load_items, line_items, lines_items, move_pointer, save_all, restore_all, go_back, prologue, epilogue, result_items, jump_items, block_items, blocks_items, function_items}
+use Rattle.abi_frames.specs.Emission.{reg, add_low, extend, long_constant, constant, load_8, store_8, far_load, far_store, sum_to, load_slot, store_slot, slot_offset, into, fetch, source, target, deliver, set_items, compare_items, operation_items, operate_items, load_to, load_items, line_items, lines_items, move_pointer, save_all, restore_all, go_back, prologue, epilogue, result_items, jump_items, block_items, blocks_items}
+use Rattle.abi_frames.specs.Functions.{caller_pointer, from_register, from_stack, argument_items, arguments_items, pointer_items, entry_items, function_items}
 use Rattle.abi_frames.proofs.Leading.{longest-append}
+use Rattle.abi_frames.proofs.Outgoing.{slots_near}
 
 -- ---- lines
 
@@ -259,17 +263,76 @@ epilogue_size y =
     let two = restores_size y.saves saved_registers in
     omega (arith, all, more, one, two)
 
-pub function_size : (y : Layout) (blocks : List (Block Location)) → list_all is_paid blocks ≡ true
-    → longest_size (function_items y blocks) ≤ 32 * sum_by block_weight blocks + 47
-function_size y blocks good =
-    let all = longest-append (prologue y) (blocks_items y 0 blocks ++ (Label y.leave ∷ epilogue y)) in
+-- ---- arguments come to the places of their parameters
+
+argument_size : (y : Layout) (k : ℕ) (p : Location) → y.slots < 1024 → is_near p ≡ true → longest_size (argument_items y k p) ≤ 2
+argument_size y k (InRegister r) few near = by_test (nat_lt k 8)
+  where
+    by_test : (b : Bool) → longest_size (if b then from_register y k (InRegister r) else from_stack y k (InRegister r)) ≤ 2
+    by_test true = lit≤ tt
+    by_test false = lit≤ tt
+argument_size y k (Slot i) few near = by_test (nat_lt k 8)
+  where
+    near_size : (v : ℕ) → longest_size (store_slot v (slot_offset y i)) ≡ 1
+    near_size v =
+        let close : nat_lt (slot_offset y i) 2048 ≡ true = grind (arith, nat_tests) in
+        rw close refl
+
+    by_test : (b : Bool) → longest_size (if b then from_register y k (Slot i) else from_stack y k (Slot i)) ≤ 2
+    by_test true = let one = near_size (10 + k) in omega (arith, one)
+    by_test false = let one = near_size 28 in omega (arith, one)
+
+arguments_size : (y : Layout) (k : ℕ) (ds : List (Destination Location)) → y.slots < 1024 → are_near ds ≡ true
+    → longest_size (arguments_items y k ds) ≤ 2 * length ds
+arguments_size y k [] few near = omega arith
+arguments_size y k (d ∷ ds) few near =
+    let parts = and_parts (is_near d.place) (are_near ds) near in
+    let one = argument_size y k d.place few parts.0 in
+    let rest = arguments_size y (k + 1) ds few parts.1 in
+    let all = longest-append (argument_items y k d.place) (arguments_items y (k + 1) ds) in
+    omega (arith, one, rest, all)
+
+pointer_size : (y : Layout) (params : ℕ) → longest_size (pointer_items y params) ≤ 10
+pointer_size y params = by_test (nat_lt 8 params)
+  where
+    by_test : (b : Bool) → longest_size (if b then caller_pointer y else []) ≤ 10
+    by_test false = omega arith
+    by_test true =
+        let all = longest-append (constant 30 y.size) (sum_to 30 30 2 ∷ []) in
+        let h = constant_size 30 y.size in
+        let nine = at_most_9 (is_immediate y.size) h in
+        omega (arith, all, nine)
+      where
+        at_most_9 : (b : Bool) → longest_size (constant 30 y.size) ≤ (if b then 1 else 9) → longest_size (constant 30 y.size) ≤ 9
+        at_most_9 true h = omega (arith, h)
+        at_most_9 false h = h
+
+pub entry_size : (y : Layout) (params : List (Destination Location)) → y.slots < 1024 → length params ≤ 64 → are_near params ≡ true
+    → longest_size (entry_items y params) ≤ 138
+entry_size y params few at_most near =
+    let all = longest-append (pointer_items y (length params)) (arguments_items y 0 params) in
+    let one = pointer_size y (length params) in
+    let two = arguments_size y 0 params few near in
+    omega (arith, all, one, two, at_most)
+
+-- ---- functions
+
+pub function_size : (y : Layout) (params : List (Destination Location)) (blocks : List (Block Location)) → y.slots < 1024 → length params ≤ 64
+    → are_near params ≡ true → list_all is_paid blocks ≡ true
+    → longest_size (function_items y params blocks) ≤ 32 * sum_by block_weight blocks + 185
+function_size y params blocks few at_most near good =
+    let body : List Item = blocks_items y 0 blocks ++ (Label y.leave ∷ epilogue y) in
+    let all = longest-append (prologue y) (entry_items y params ++ body) in
+    let entry = longest-append (entry_items y params) body in
     let more = longest-append (blocks_items y 0 blocks) (Label y.leave ∷ epilogue y) in
     let one = prologue_size y in
+    let between = entry_size y params few at_most near in
     let two = epilogue_size y in
     let three = blocks_size y 0 blocks good in
-    omega (arith, all, more, one, two, three)
+    omega (arith, all, entry, more, one, between, two, three)
 
 pub frames_are_small : FramesAreSmall
 frames_are_small f slots is =
-    let size = function_size (layout f slots) f.blocks is.regular.paid in
+    let at_most = le_is (length f.params) 64 is.regular.few_params in
+    let size = function_size (layout f slots) f.params f.blocks (slots_near f is.regular) at_most is.near is.regular.paid in
     omega (arith, size)

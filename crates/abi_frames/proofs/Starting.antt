@@ -1,36 +1,42 @@
 -- From the call of a function to its first line: where its code stands, what the begin of its frame leaves, and that it keeps its promise.
-use Rattle.std.proofs.Common.{◌≡◌, ◌≢◌, ℕ, zero, suc, ◌+◌, ◌-◌, ◌%◌, ◌^◌, ◌<◌, ◌≤◌, Bool, true, false, List, [], ◌∷◌, ◌++◌, refl, sym, ◌∙◌, ap, subst, arith, lit<, zero-add, append_assoc, append-nil}
-use Rattle.std.specs.Prelude.{◌&&◌, not, nat_eq, nat_le, nat_lt, max, map, length, slice_get, Option, Some, None}
+use Rattle.std.proofs.Common.{◌≡◌, ◌≢◌, ℕ, zero, suc, ◌+◌, ◌-◌, ◌*◌, ◌%◌, ◌^◌, ◌<◌, ◌≤◌, Bool, true, false, List, [], ◌∷◌, ◌++◌, refl, sym, ◌∙◌, ap, subst, arith, lit<, zero-add, append_assoc, append-nil}
+use Rattle.std.specs.Prelude.{◌&&◌, not, nat_le, nat_lt, if◌then◌else◌, max, map, length, slice_get, Some, None}
 use Rattle.std.specs.List.{list_all, list_any, sum_by}
 use Rattle.std.proofs.lemmas.Bool.{and_parts}
 use Rattle.std.proofs.lemmas.List.Sums.{sum_by-cons}
 use Rattle.std.proofs.lemmas.Bool.Decides.{nat_tests}
+use Rattle.il_ast.specs.declared.operation.Class.{Class}
+use Rattle.il_ast.specs.declared.operation.Class.TheVariants.{W, L}
 use Rattle.rv_isa.specs.State.{State}
+use Rattle.rv_isa.specs.Memory.{number_at}
+use Rattle.rv_isa.specs.Labels.{longest_size}
 use Rattle.rv_isa.specs.Labelled.{Stand, Stands}
 use Rattle.rv_isa.specs.declared.labelled.Item.{Item}
 use Rattle.rv_isa.specs.declared.labelled.Item.TheVariants.{Label}
 use Rattle.vcode.specs.declared.place.Location.{Location}
 use Rattle.vcode.specs.declared.place.Destination.{Destination}
-use Rattle.vcode.specs.declared.line.Line.{Line}
-use Rattle.vcode.specs.declared.line.Line.TheVariants.{Tick, Set, Operate, Load, Store, Alloc, Blit, Call}
 use Rattle.vcode.specs.declared.code.Block.{Block}
 use Rattle.vcode.specs.declared.code.Code.{Code}
 use Rattle.vcode.specs.Named.{is_place, block_keeps, line_keeps, jump_keeps}
 use Rattle.vcode.specs.Cost.{is_paid}
-use Rattle.vcode.specs.Regular.{area, turns_of, passes_few, is_alloc, allocs_first, alloc_bytes, leads_inside}
+use Rattle.vcode.specs.Regular.{area, turns_of, is_alloc, allocs_first, alloc_bytes, leads_inside}
 use Rattle.flat_code.specs.Spots.{Spot, Away, Known, Spots, Clear}
-use Rattle.flat_code.specs.Step.{Numbers, bound, flat_begin, flat_step}
-use Rattle.abi_frames.specs.Calls.{World, IsWorld, GoodStack, HoldsSpots}
+use Rattle.flat_code.specs.Flat.{FlatGiven}
+use Rattle.flat_code.specs.Step.{Numbers, bound, held, flat_begin, flat_step}
+use Rattle.abi_frames.specs.Calls.{World, IsWorld, GoodStack, Ready, HoldsSpots, passed}
 use Rattle.abi_frames.specs.Performs.{KeepsFrame}
-use Rattle.abi_frames.specs.Layout.{layout, outgoing, args_on_stack, most_in_lines, most_in_blocks, saved_registers, frame_size, frame_bound}
+use Rattle.abi_frames.specs.Layout.{layout, outgoing, saved_registers, frame_size, frame_bound}
 use Rattle.abi_frames.specs.declared.layout.Layout.{Layout}
-use Rattle.abi_frames.specs.Emission.{lines_items, jump_items, blocks_items, prologue, epilogue, frame_items, move_pointer, save_all}
-use Rattle.abi_frames.specs.Covered.{covers_block}
+use Rattle.abi_frames.specs.Emission.{lines_items, jump_items, blocks_items, prologue, epilogue, move_pointer, save_all}
+use Rattle.abi_frames.specs.Functions.{entry_items, frame_items}
+use Rattle.abi_frames.specs.Covered.{covers_block, covers_params}
 use Rattle.abi_frames.specs.Laws.{IsCode, FramesPerform}
-use Rattle.abi_frames.proofs.Leading.{Site, StandAt, Leads, leads_then, leads_so}
-use Rattle.abi_frames.proofs.Activations.{Setting, IsSetting, site, bottom, Framed}
+use Rattle.abi_frames.proofs.Leading.{Site, StandAt, Leads, leads_then, leads_so, longest-append}
+use Rattle.abi_frames.proofs.Activations.{Setting, IsSetting, site, bottom}
 use Rattle.abi_frames.proofs.FrameEnds.{PointerMoved, leads_move_pointer, AllSaved, leads_save_all}
-use Rattle.abi_frames.proofs.Sizes.{prologue_size, le_is}
+use Rattle.abi_frames.proofs.Outgoing.{few_outgoing}
+use Rattle.abi_frames.proofs.Sizes.{prologue_size, entry_size, le_is}
+use Rattle.abi_frames.proofs.Entering.{Entering, argument_in, ArePassed, CanTake, leads_entry}
 use Rattle.abi_frames.proofs.Simulation.{BlockStands, CodeStands}
 use Rattle.abi_frames.proofs.Simulating.{follows, enter}
 
@@ -99,33 +105,6 @@ each {X} test (y ∷ xs) zero x h e = ap test (same x y e) ∙ (and_parts (test 
     same a b e = cc
 each test (y ∷ xs) (suc i) x h e = each test xs i x (and_parts (test y) (list_all test xs) h).1 e
 
--- ---- the numbers of the layout
-
-few_in_line : (l : Line Location) → passes_few l ≡ true → args_on_stack l ≤ 56
-few_in_line (Tick turn w) h = omega arith
-few_in_line (Set to a) h = omega arith
-few_in_line (Operate to op a b) h = omega arith
-few_in_line (Load to op at) h = omega arith
-few_in_line (Store size a at) h = omega arith
-few_in_line (Alloc to size) h = omega arith
-few_in_line (Blit from to count) h = omega arith
-few_in_line (Call to callee args) h = let le = le_is (length args) 64 h in omega (arith, le)
-
-max_le : (a b m : ℕ) → a ≤ m → b ≤ m → max a b ≤ m
-max_le a b m h k = omega (arith, h, k)
-
-few_in_lines : (lines : List (Line Location)) → list_all passes_few lines ≡ true → most_in_lines lines ≤ 56
-few_in_lines [] h = omega arith
-few_in_lines (l ∷ lines) h =
-    let parts = and_parts (passes_few l) (list_all passes_few lines) h in
-    max_le (args_on_stack l) (most_in_lines lines) 56 (few_in_line l parts.0) (few_in_lines lines parts.1)
-
-few_in_blocks : (blocks : List (Block Location)) → list_all (λ (b : Block Location). list_all passes_few b.lines) blocks ≡ true → most_in_blocks blocks ≤ 56
-few_in_blocks [] h = omega arith
-few_in_blocks (b ∷ blocks) h =
-    let parts = and_parts (list_all passes_few b.lines) (list_all (λ (d : Block Location). list_all passes_few d.lines) blocks) h in
-    max_le (most_in_lines b.lines) (most_in_blocks blocks) 56 (few_in_lines b.lines parts.0) (few_in_blocks blocks parts.1)
-
 -- ---- the begin of the frame
 
 known_not_away : (m : Spot) (k : ℕ) → m ≡ Known k → m ≡ Away → ⊥
@@ -161,13 +140,9 @@ begun_spots c is u w clear holds same saved x n known =
         let above = is.above in
         absurd (known_not_away (c.before x) n known (clear x (omega (arith, from, above)) (omega (arith, to, fits, saves, above))))
 
-none_known : (v : ℕ) (o : Option ℕ) → o ≡ None → o ≡ Some v → ⊥
-none_known v o e f = let no : ⊥ = cc in no
-
-pub begun : (c : Setting) → IsSetting c → (numbers : Numbers) → ((p : Location) → numbers p ≡ None) → c.start.registers 2 ≡ c.sp
-    → Clear c.world.bottom c.sp c.before → HoldsSpots c.world.memory_map c.before c.start
-    → Leads (site c) (prologue c.layout) c.start (λ w. Framed c numbers c.before w × (w.output ≡ c.start.output))
-begun c is numbers unknown pointer clear holds =
+pub begun : (c : Setting) → IsSetting c → c.start.registers 2 ≡ c.sp → Clear c.world.bottom c.sp c.before
+    → HoldsSpots c.world.memory_map c.before c.start → Leads (site c) (prologue c.layout) c.start (Entering c 0 (λ p. None))
+begun c is pointer clear holds =
     let n : ℕ = 2 ^ 64 - c.layout.size in
     let s : State = c.start in
     let above = is.above in
@@ -176,17 +151,19 @@ begun c is numbers unknown pointer clear holds =
     let fits = is.fits in
     let saves = is.saves_fit in
     leads_then (site c) (move_pointer n) (save_all c.layout.saves saved_registers) s (PointerMoved s ((s.registers 2 + n) % 2 ^ 64))
-    (λ w. Framed c numbers c.before w × (w.output ≡ s.output)) (leads_move_pointer (site c) s n)
+    (Entering c 0 (λ p. None)) (leads_move_pointer (site c) s n)
     (λ u fixed one.
     let value = one.value in
     let at_u : u.registers 2 ≡ bottom c = value ∙ moved_down (s.registers 2) c.sp c.layout.size pointer (omega (arith, above)) (omega (arith, below, top)) in
-    leads_so (site c) (save_all c.layout.saves saved_registers) u (AllSaved c c.layout.saves saved_registers u)
-    (λ w. Framed c numbers c.before w × (w.output ≡ s.output))
+    leads_so (site c) (save_all c.layout.saves saved_registers) u (AllSaved c c.layout.saves saved_registers u) (Entering c 0 (λ p. None))
     (leads_save_all c is u c.layout.saves saved_registers at_u refl (omega arith))
-    (λ w g two. (
-      record {
+    (λ w g two.
+    let stays : (x : ℕ) → c.sp ≤ x → w.bytes x ≡ s.bytes x =
+    λ x hi. two.above x (omega (arith, hi, above, fits, saves)) ∙ ap (λ (m : ℕ → ℕ). m x) one.bytes in
+    record {
+      framed = record {
         pointer = two.registers 2 (lit< tt) ∙ at_u;
-        places = λ p v good known. absurd (none_known v (numbers p) (unknown p) known);
+        places = λ p v good known. absurd (let no : ⊥ = cc in no);
         spots = record { known = begun_spots c is u w clear holds one.bytes two; usable = holds.usable };
         clear = λ x lo hi. clear x (omega (arith, lo, above)) (omega (arith, hi));
         reach = λ x hi away. away;
@@ -194,13 +171,54 @@ begun c is numbers unknown pointer clear holds =
             let good = saved_same k r e in
             two.saved k r e ∙ one.others r good.0 good.1;
         thread = λ m lo hi. two.registers m (omega (arith, hi)) ∙ one.others m (omega (arith, hi)) (λ e. absurd (omega (arith, e, lo)));
-        others = λ x hi away. two.above x (omega (arith, hi, above, fits, saves)) ∙ ap (λ (m : ℕ → ℕ). m x) one.bytes;
-      },
-      two.output ∙ one.output,
-    )))
+        others = λ x hi away. stays x hi;
+      };
+      output = two.output ∙ one.output;
+      registers = λ k few. two.registers (10 + k) (omega (arith, few)) ∙ one.others (10 + k) (omega (arith, few)) (λ e. absurd (omega (arith, e)));
+      stack = stays;
+      caller = λ some. absurd (let no : ⊥ = omega (arith, some) in no);
+    }))
   where
     moved_down : (x sp size : ℕ) → x ≡ sp → size ≤ sp → sp < 2 ^ 63 → (x + (2 ^ 64 - size)) % 2 ^ 64 ≡ sp - size
     moved_down x sp size e h small = omega (arith, e, h, small)
+
+-- ---- what the caller passed
+
+-- the classes of the parameters that are left
+abbrev classes : List (Destination Location) → List Class
+classes ds = map (λ (d : Destination Location). d.class) ds
+
+same_held : (k : Class) (n : ℕ) → passed k n ≡ held k n
+same_held W n = refl
+same_held L n = refl
+
+length-classes : (ds : List (Destination Location)) → length (classes ds) ≡ length ds
+length-classes [] = refl
+length-classes (d ∷ ds) = let rest = length-classes ds in omega (arith, rest)
+
+are_passed : (c : Setting) (k : ℕ) (ds : List (Destination Location)) (xs : List ℕ)
+    → ((i n : ℕ) (a : Class) → slice_get (classes ds) i ≡ Some a → slice_get xs i ≡ Some n → argument_in c c.start (k + i) ≡ passed a n) → ArePassed c k ds xs
+are_passed c k [] xs all = tt
+are_passed c k (d ∷ ds) [] all = tt
+are_passed c k (d ∷ ds) (x ∷ xs) all = (
+  ap (argument_in c c.start) (no_more k) ∙ all zero x d.class refl refl ∙ same_held d.class x,
+  are_passed c (k + 1) ds xs (λ i n a e f. ap (argument_in c c.start) (one_more k i) ∙ all (suc i) n a e f),
+)
+  where
+    no_more : (n : ℕ) → n ≡ n + zero
+    no_more n = omega arith
+
+    one_more : (n i : ℕ) → n + 1 + i ≡ n + suc i
+    one_more n i = omega arith
+
+ready_passes : (c : Setting) (at : ℕ) (ks : List Class) (j : FlatGiven) → Ready c.world at c.sp ks j c.start
+    → (i n : ℕ) (a : Class) → slice_get ks i ≡ Some a → slice_get j.args i ≡ Some n → argument_in c c.start i ≡ passed a n
+ready_passes c at ks j ready i n a e f = by_test (nat_lt i 8) refl
+  where
+    by_test : (t : Bool) → nat_lt i 8 ≡ t
+        → (if t then c.start.registers (10 + i) else number_at c.start.bytes (c.sp + 8 * (i - 8)) 8) ≡ passed a n
+    by_test true h = ready.in_registers i n a (grind (arith, nat_tests)) e f
+    by_test false h = ready.on_stack i n a (grind (arith, nat_tests)) e f
 
 -- ---- the promise
 
@@ -219,13 +237,6 @@ setting w label global addresses f slots sp before s =
       start = s;
     }
 
-no_params : (params : List (Destination Location)) → nat_eq (length params) 0 ≡ true → params ≡ []
-no_params [] h = refl
-no_params (d ∷ params) h = absurd (let n = length params in let no : ⊥ = grind (arith, nat_tests) in no)
-
-unknown_at_first : (params : List (Destination Location)) (args : List ℕ) → params ≡ [] → (p : Location) → bound (λ q. None) params args p ≡ None
-unknown_at_first params args e p = ap (λ ps. bound (λ q. None) ps args p) e
-
 -- how large the frame is
 pub record FrameFits (f : Code Location) (slots : ℕ) : Type 0 where
   pub few : outgoing f ≤ 56
@@ -234,7 +245,7 @@ pub record FrameFits (f : Code Location) (slots : ℕ) : Type 0 where
 
 pub frame_fits : (f : Code Location) (slots : ℕ) → IsCode f slots → FrameFits f slots
 frame_fits f slots is = record {
-  few = few_in_blocks f.blocks is.regular.few_args;
+  few = few_outgoing f is.regular;
   small = le_is (area f) 1048576 is.regular.small;
   fits = omega arith;
 }
@@ -294,7 +305,7 @@ block_stands c f slots same same_area is b i e code =
     let keeps : block_keeps (is_place slots) b ≡ true = each (block_keeps (is_place slots)) f.blocks i b known.1 e in
     let keeps_here : block_keeps (is_place c.slots) b ≡ true = subst (λ n. block_keeps (is_place n) b ≡ true) (sym same) keeps in
     let parts = and_parts (list_all (line_keeps (is_place c.slots)) b.lines) (jump_keeps (is_place c.slots) b.jump) keeps_here in
-    let covered = and_parts (nat_eq (length f.params) 0) (list_all covers_block f.blocks) is.covered in
+    let covered = and_parts (covers_params f.params) (list_all covers_block f.blocks) is.covered in
     let here = each covers_block f.blocks i b covered.1 e in
     let pays = each is_paid f.blocks i b is.regular.paid e in
     let inside = each (λ (d : Block Location). leads_inside (length f.blocks) d.jump) f.blocks i b is.regular.inside e in
@@ -314,6 +325,38 @@ block_stands c f slots same same_area is b i e code =
       made_first = made_first f.blocks i b is.regular.first e;
     }
 
+-- from the call to the first block
+begins : (c : Setting) (f : Code Location) (slots at : ℕ) (j : FlatGiven) → IsSetting c → c.slots ≡ slots → IsCode f slots → Clear c.world.bottom c.sp c.before
+    → Ready c.world at c.sp (classes f.params) (record j { memory = c.before }) c.start
+    → Leads (site c) (prologue c.layout ++ entry_items c.layout f.params) c.start (Entering c (length f.params) (bound (λ p. None) f.params j.args))
+begins c f slots at j good same is clear ready =
+    let covered = and_parts (covers_params f.params) (list_all covers_block f.blocks) is.covered in
+    let known = and_parts (list_all (λ (d : Destination Location). is_place slots d.place) f.params) (list_all (block_keeps (is_place slots)) f.blocks) is.known in
+    let below = ready.below_top in
+    let count = length-classes f.params in
+    let can : CanTake c (length f.params) 0 f.params = record {
+      count = omega arith;
+      few = le_is (length f.params) 64 is.regular.few_params;
+      fits = omega (arith, below, count);
+      places = subst (λ n. list_all (λ (d : Destination Location). is_place n d.place) f.params ≡ true) (sym same) known.0;
+      off = covered.0;
+    } in
+    leads_then (site c) (prologue c.layout) (entry_items c.layout f.params) c.start (Entering c 0 (λ p. None))
+    (Entering c (length f.params) (bound (λ p. None) f.params j.args)) (begun c good ready.stack_pointer clear ready.memory)
+    (λ u fixed now.
+    leads_entry c good f.params j.args u can is.apart
+    (are_passed c 0 f.params j.args (λ i n a e k. ap (argument_in c c.start) (zero-add i) ∙ ready_passes c at (classes f.params) (record j { memory = c.before }) ready i n a e k)) now)
+
+begin_size : (f : Code Location) (slots : ℕ) → IsCode f slots → longest_size (prologue (layout f slots) ++ entry_items (layout f slots) f.params) ≤ 161
+begin_size f slots is =
+    let y : Layout = layout f slots in
+    let frame = frame_fits f slots is in
+    let few = frame.few in
+    let all = longest-append (prologue y) (entry_items y f.params) in
+    let one = prologue_size y in
+    let two = entry_size y f.params (omega (arith, few)) (le_is (length f.params) 64 is.regular.few_params) is.near in
+    omega (arith, all, one, two)
+
 -- from the call on
 performs : (w : World) (at : ℕ) (label global : ℕ → ℕ) (addresses : List ℕ) (f : Code Location) (slots : ℕ) → IsCode f slots → IsWorld w
     → ((n a : ℕ) → slice_get addresses n ≡ Some a → global n ≡ a) → Stand w.memory_map label global (frame_items f slots) at
@@ -322,8 +365,10 @@ performs w at label global addresses f slots is world globals stands sp j stack 
     let c : Setting = setting w label global addresses f slots sp j.memory s in
     let y : Layout = layout f slots in
     let good : IsSetting c = is_setting w label global addresses f slots sp j.room j.memory s is world globals stack in
-    let tail : List Item = blocks_items y 0 f.blocks ++ (Label y.leave ∷ epilogue y) in
-    let blocks = stand_after (site c) (prologue y) tail at stands in
+    let body : List Item = blocks_items y 0 f.blocks ++ (Label y.leave ∷ epilogue y) in
+    let tail : List Item = entry_items y f.params ++ body in
+    let entry = stand_after (site c) (prologue y) tail at stands in
+    let blocks = stand_after (site c) (entry_items y f.params) body entry.place entry.stands in
     let leave = stand_after (site c) (blocks_items y 0 f.blocks) (Label y.leave ∷ epilogue y) blocks.place blocks.stands in
     let code : CodeStands c f = record {
       setting = good;
@@ -337,19 +382,20 @@ performs w at label global addresses f slots is world globals stands sp j stack 
       pointer = ready.stack_pointer;
       aligned = ready.return_address;
     } in
-    let covered = and_parts (nat_eq (length f.params) 0) (list_all covers_block f.blocks) is.covered in
+    let begin : List Item = prologue y ++ entry_items y f.params in
     let numbers : Numbers = bound (λ p. None) f.params j.args in
-    let m = (begun c good numbers (unknown_at_first f.params j.args (no_params f.params covered.0)) ready.stack_pointer clear ready.memory).from tail
-    (subst (λ a. StandAt (site c) (prologue y ++ tail) a) (sym ready.place) stands) ready.fixed in
+    let m = (begins c f slots at j good refl is clear ready).from body
+    (subst (λ a. StandAt (site c) (begin ++ body) a) (sym ready.place) (subst (λ is. StandAt (site c) is at) (sym (append_assoc (prologue y) (entry_items y f.params) body)) stands))
+    ready.fixed in
     let few = m.few in
-    let size = prologue_size y in
+    let size = begin_size f slots is in
     enter c f code j r n (follows c f code j r n) 0 (flat_begin f (sp - area f) j) m.steps m.after
     (record {
       place = first_label (site c) y f.blocks (epilogue y) m.after.pc refl m.stands;
       fixed = m.fixed;
-      framed = m.holds.0;
+      framed = m.holds.framed;
       comes = m.comes;
-      output = m.holds.1 ∙ sym (append-nil s.output);
+      output = m.holds.output ∙ sym (append-nil s.output);
       price = omega (arith, few, size);
       pace = omega arith;
     }) (λ e. refl) log goes all

@@ -1,8 +1,9 @@
--- The code that frames are made for so far: no parameters, no calls, and nothing that makes or changes memory.
-use Rattle.std.specs.Prelude.{Bool, true, false, ◌&&◌, ◌||◌, nat_eq, nat_lt, length}
+-- The code that frames are made for so far: no parameter in a register of arguments, no calls, and nothing that makes or changes memory.
+use Rattle.std.specs.Prelude.{Bool, true, false, ◌&&◌, ◌||◌, nat_lt, List}
 use Rattle.std.specs.List.{list_all}
 use Rattle.vcode.specs.declared.place.Location.{Location}
 use Rattle.vcode.specs.declared.place.Location.TheVariants.{Register, Slot}
+use Rattle.vcode.specs.declared.place.Destination.{Destination}
 use Rattle.vcode.specs.declared.line.Line.{Line}
 use Rattle.vcode.specs.declared.line.Line.TheVariants.{Tick, Set, Operate, Load}
 use Rattle.vcode.specs.declared.code.Block.{Block}
@@ -23,5 +24,8 @@ covers_line l = false
 abbrev pub covers_block : Block Location → Bool
 covers_block b = list_all covers_line b.lines
 
+abbrev pub covers_params : List (Destination Location) → Bool
+covers_params params = list_all (λ (d : Destination Location). is_off_arguments d.place) params
+
 abbrev pub is_covered : Code Location → Bool
-is_covered f = nat_eq (length f.params) 0 && list_all covers_block f.blocks
+is_covered f = covers_params f.params && list_all covers_block f.blocks

@@ -34,10 +34,9 @@ use Rattle.vcode.specs.declared.line.Line.TheVariants.{Set, Operate, Load as Loa
 use Rattle.vcode.specs.declared.line.Jump.{Jump}
 use Rattle.vcode.specs.declared.line.Jump.TheVariants.{Goto, Branch, Return, Halt}
 use Rattle.vcode.specs.declared.code.Block.{Block}
-use Rattle.vcode.specs.declared.code.Code.{Code}
 use Rattle.vcode.specs.Cost.{is_immediate}
 use Rattle.vcode.specs.Regular.{alloc_bytes}
-use Rattle.abi_frames.specs.Layout.{saved_registers, layout}
+use Rattle.abi_frames.specs.Layout.{saved_registers}
 use Rattle.abi_frames.specs.declared.layout.Layout.{Layout}
 
 -- ---- fields
@@ -274,7 +273,7 @@ jump_items y (Branch on nonzero otherwise) =
 jump_items y (Return a) = return_items y a
 jump_items y Halt = Plain Ebreak ∷ []
 
--- ---- functions
+-- ---- blocks
 
 abbrev pub block_items : Layout → ℕ → Block Location → List Item
 block_items y k b = Label k ∷ (lines_items y 0 b.lines ++ jump_items y b.jump)
@@ -282,9 +281,3 @@ block_items y k b = Label k ∷ (lines_items y 0 b.lines ++ jump_items y b.jump)
 abbrev pub blocks_items : Layout → ℕ → List (Block Location) → List Item
 blocks_items y k [] = []
 blocks_items y k (b ∷ blocks) = block_items y k b ++ blocks_items y (k + 1) blocks
-
-abbrev pub function_items : Layout → List (Block Location) → List Item
-function_items y blocks = prologue y ++ (blocks_items y 0 blocks ++ (Label y.leave ∷ epilogue y))
-
-abbrev pub frame_items : Code Location → (slots : ℕ) → List Item
-frame_items f slots = function_items (layout f slots) f.blocks

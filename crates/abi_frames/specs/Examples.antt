@@ -13,7 +13,7 @@ use Rattle.vcode.specs.declared.line.Jump.TheVariants.{Goto, Branch, Return}
 use Rattle.vcode.specs.declared.code.Code.{Code}
 use Rattle.vcode.specs.ExampleCodes.{block, code}
 use Rattle.abi_frames.specs.Laws.{IsCode}
-use Rattle.abi_frames.specs.Emission.{frame_items}
+use Rattle.abi_frames.specs.Functions.{frame_items}
 
 -- counts in a slot up to 10
 abbrev pub counter : Code Location

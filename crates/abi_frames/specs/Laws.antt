@@ -3,12 +3,13 @@ use Rattle.std.specs.Prelude.{ℕ, ◌+◌, ◌*◌, ◌<◌, ◌≤◌, IsTrue,
 use Rattle.rv_isa.specs.Labels.{IsLabelled, longest_size}
 use Rattle.vcode.specs.declared.place.Location.{Location}
 use Rattle.vcode.specs.declared.code.Code.{Code}
-use Rattle.vcode.specs.Named.{keeps_places, is_place}
+use Rattle.vcode.specs.Places.{located}
+use Rattle.vcode.specs.Named.{keeps_places, is_place, are_near, are_distinct}
 use Rattle.vcode.specs.Regular.{IsRegular, area, code_weight}
 use Rattle.flat_code.specs.Step.{flat_begin, flat_step}
 use Rattle.abi_frames.specs.Promise.{FramePromise}
 use Rattle.abi_frames.specs.Layout.{frame_bound, frame_size}
-use Rattle.abi_frames.specs.Emission.{frame_items}
+use Rattle.abi_frames.specs.Functions.{frame_items}
 use Rattle.abi_frames.specs.Covered.{is_covered}
 
 -- the code of a function, with places as location code has them
@@ -16,6 +17,8 @@ pub record IsCode (f : Code Location) (slots : ℕ) : Type 0 where
   pub few : slots < 65536
   pub regular : IsRegular f
   pub known : IsTrue (keeps_places (is_place slots) f)
+  pub near : IsTrue (are_near f.params)
+  pub apart : IsTrue (are_distinct located f.params)
   pub covered : IsTrue (is_covered f)
   pub light : IsTrue (nat_le (code_weight f) 40000)
 

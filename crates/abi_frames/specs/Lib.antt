@@ -3,6 +3,7 @@ pub mod Performs
 pub mod Promise
 pub mod Layout
 pub mod Emission
+pub mod Functions
 pub mod Covered
 pub mod Laws
 pub mod Examples

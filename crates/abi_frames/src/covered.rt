@@ -1,12 +1,12 @@
 //! Which code frames can be made for so far.
 ghost use Rattle.std.specs.Prelude.{◌≡◌};
 ghost use Rattle.std.specs.List.{list_all};
-ghost use Rattle.abi_frames.specs.Covered.{covers_line, covers_block, is_covered};
+ghost use Rattle.abi_frames.specs.Covered.{is_off_arguments, covers_line, covers_block, covers_params, is_covered};
 
 use flat_code::function::FlatFunc;
 use vcode::code::Block;
 use vcode::line::Line;
-use vcode::place::Location;
+use vcode::place::{Destination, Location};
 
 fn covers_line(line: &Line<Location>) -> bool
     ensures { result ≡ covers_line line.now }
@@ -45,10 +45,31 @@ fn covers_blocks(blocks: &[Block<Location>]) -> bool
     true
 }
 
+fn is_off_arguments(place: &Location) -> bool
+    ensures { result ≡ is_off_arguments place.now }
+{
+    match place {
+        Location::Register(number) => *number < 10 || 17 < *number,
+        Location::Slot(_) => true,
+    }
+}
+
+/// Does no parameter stand in a register of arguments?
+pub(crate) fn covers_params(params: &[Destination<Location>]) -> bool
+    ensures { result ≡ covers_params params.now }
+{
+    for parameter in params {
+        if !is_off_arguments(&parameter.place) {
+            return false;
+        }
+    }
+    true
+}
+
 /// Can `frame` be called for this function?
 pub fn covers(function: &FlatFunc) -> bool
     ensures { result ≡ is_covered function.now.located.code }
 {
-    function.located.code.params.len() == 0
+    covers_params(function.located.code.params.as_slice())
         && covers_blocks(function.located.code.blocks.as_slice())
 }

@@ -6,11 +6,13 @@ ghost use Rattle.vcode.specs.Regular.{area, alloc_bytes, code_weight};
 ghost use Rattle.flat_code.specs.Step.{flat_begin, flat_step};
 ghost use Rattle.abi_frames.specs.Covered.{is_covered};
 ghost use Rattle.abi_frames.specs.Layout.{layout, frame_bound, frame_size};
-ghost use Rattle.abi_frames.specs.Emission.{lines_items, jump_items, epilogue, block_items, blocks_items, function_items, frame_items};
+ghost use Rattle.abi_frames.specs.Emission.{lines_items, jump_items, epilogue, block_items, blocks_items};
+ghost use Rattle.abi_frames.specs.Functions.{entry_items, function_items, frame_items};
 ghost use Rattle.rv_isa.specs.declared.labelled.Item.TheVariants.{Label};
 ghost use Rattle.abi_frames.specs.Promise.{FramePromise};
 
 use crate::ends::{push_epilogue, push_prologue};
+use crate::entry::push_entry;
 use crate::jump::push_jump;
 use crate::layout::Layout;
 use crate::line::push_lines;
@@ -18,7 +20,7 @@ use flat_code::function::FlatFunc;
 use rv_isa::labelled::{Item, LabelledCode};
 use std::alloc::{AllocError, Global};
 use vcode::code::Block;
-use vcode::place::Location;
+use vcode::place::{Destination, Location};
 
 fn push_body(
     items: &mut Vec<Item>,
@@ -74,15 +76,18 @@ fn push_end(items: &mut Vec<Item>, layout: &Layout) -> Result<(), AllocError>
 fn push_function(
     items: &mut Vec<Item>,
     layout: &Layout,
+    params: &[Destination<Location>],
     blocks: &[Block<Location>],
 ) -> Result<(), AllocError>
     requires saves { layout.now.saves < 2 ^ 16 }
     requires slots { layout.now.slots < 2 ^ 16 }
     requires size { 0 < layout.now.size }
     requires room { sum_by (λ b. sum_by alloc_bytes b.lines) blocks.now ≤ 1048576 }
-    ensures { OnOk result (items.new.items ≡ items.old.items ++ function_items layout.now blocks.now) }
+    requires few { length params.now ≤ 64 }
+    ensures { OnOk result (items.new.items ≡ items.old.items ++ function_items layout.now params.now blocks.now) }
 {
     push_prologue(items, layout)?;
+    push_entry(items, layout, params)?;
     push_blocks(items, layout, blocks)?;
     push_end(items, layout)?;
     Ok(())
@@ -118,6 +123,11 @@ pub fn frame(alloc: Global, function: &FlatFunc) -> Result<LabelledCode, AllocEr
 {
     let layout = layout_of(function);
     let mut items = Vec::new(alloc);
-    push_function(&mut items, &layout, function.located.code.blocks.as_slice())?;
+    push_function(
+        &mut items,
+        &layout,
+        function.located.code.params.as_slice(),
+        function.located.code.blocks.as_slice(),
+    )?;
     Ok(LabelledCode::new(items, function.located.code.blocks.len() + 1))
 }

@@ -9,12 +9,15 @@
 //! at most 32 instructions for each unit of weight and 256 for each call, with at most 40,000 turns between two instructions; and it takes no more stack than the
 //! language counts for the function. `specs/Layout.antt` says where things stand in a frame, `specs/Emission.antt` which instructions a line becomes.
 //!
-//! So far frames are made for code without parameters and calls, which makes and changes no memory: `covered::covers` says for which (`specs/Covered.antt`).
+//! On entry each argument comes to the place of its parameter (`specs/Functions.antt`).
+//!
+//! So far frames are made for code whose parameters are not in registers of arguments, without calls, which makes and changes no memory: `covered::covers` says for which (`specs/Covered.antt`).
 #![tactic(auto)]
 
 mod compare;
 pub mod covered;
 mod ends;
+mod entry;
 mod fields;
 pub mod frame;
 mod jump;

@@ -1,5 +1,6 @@
 //! The code of small functions.
-use crate::covered::covers;
+use crate::covered::{covers, covers_params};
+use crate::entry::push_entry;
 use crate::frame::frame;
 use crate::jump::push_jump;
 use crate::layout::Layout;
@@ -13,7 +14,7 @@ use std::test::Fail;
 use vcode::code::Code;
 use vcode::function::LFunc;
 use vcode::line::{Jump, Line, Operation};
-use vcode::place::{Location, Operand};
+use vcode::place::{Destination, Location, Operand};
 
 const SMALL: Layout = Layout {
     saves: 0,
@@ -124,5 +125,115 @@ fn words_are_extended_before_they_are_compared(rt: HostRuntime) -> Result<(), Fa
     };
     push_line(&mut items, &SMALL, 0, &line)?;
     assert_eq!(rt; items.len(), 2 + 2);
+    Ok(())
+}
+
+fn parameter(place: Location) -> Destination<Location> {
+    Destination {
+        place,
+        class: Class::L,
+    }
+}
+
+#[test]
+fn ten_arguments_come_to_their_places(rt: HostRuntime) -> Result<(), Fail> {
+    let mut items = Vec::new(rt.alloc());
+    let params = [
+        parameter(Location::Slot(0)),
+        parameter(Location::Slot(1)),
+        parameter(Location::Register(9)),
+        parameter(Location::Slot(3)),
+        parameter(Location::Slot(4)),
+        parameter(Location::Slot(5)),
+        parameter(Location::Slot(6)),
+        parameter(Location::Slot(7)),
+        parameter(Location::Slot(8)),
+        parameter(Location::Register(18)),
+    ];
+    push_entry(&mut items, &SMALL, params.as_slice())?;
+    // the caller's stack pointer, eight from registers, one through x28, one into a register
+    assert_eq!(rt; items.len(), 2 + 8 + 2 + 1);
+    match items.get(1) {
+        Some(Item::Plain(Instr::Reg { rd, rs1, rs2, .. })) => {
+            assert!(rt; rd.number == 30 && rs1.number == 30 && rs2.number == 2);
+        }
+        _ => assert!(rt; false),
+    }
+    match items.get(4) {
+        Some(Item::Plain(Instr::Imm { rd, rs1, .. })) => {
+            assert!(rt; rd.number == 9 && rs1.number == 12);
+        }
+        _ => assert!(rt; false),
+    }
+    match items.get(9) {
+        Some(
+            Item::Plain(
+                Instr::Store {
+                    rs1,
+                    rs2,
+                    offset,
+                    ..
+                },
+            ),
+        ) => {
+            assert!(rt; rs1.number == 2 && rs2.number == 17 && offset.value == 104 + 56);
+        }
+        _ => assert!(rt; false),
+    }
+    match items.get(10) {
+        Some(
+            Item::Plain(
+                Instr::Load {
+                    rd,
+                    rs1,
+                    offset,
+                    ..
+                },
+            ),
+        ) => {
+            assert!(rt; rd.number == 28 && rs1.number == 30 && offset.value == 0);
+        }
+        _ => assert!(rt; false),
+    }
+    match items.get(12) {
+        Some(
+            Item::Plain(
+                Instr::Load {
+                    rd,
+                    rs1,
+                    offset,
+                    ..
+                },
+            ),
+        ) => {
+            assert!(rt; rd.number == 18 && rs1.number == 30 && offset.value == 8);
+        }
+        _ => assert!(rt; false),
+    }
+    Ok(())
+}
+
+#[test]
+fn eight_arguments_need_no_pointer(rt: HostRuntime) -> Result<(), Fail> {
+    let mut items = Vec::new(rt.alloc());
+    let none: [Destination<Location>; 0] = [];
+    push_entry(&mut items, &SMALL, none.as_slice())?;
+    assert_eq!(rt; items.len(), 0);
+    let eight = [parameter(Location::Slot(2)); 8];
+    push_entry(&mut items, &SMALL, eight.as_slice())?;
+    assert_eq!(rt; items.len(), 8);
+    Ok(())
+}
+
+#[test]
+fn parameters_stand_off_the_registers_of_arguments(rt: HostRuntime) -> Result<(), Fail> {
+    let around = [
+        parameter(Location::Register(9)),
+        parameter(Location::Slot(10)),
+        parameter(Location::Register(18)),
+    ];
+    assert!(rt; covers_params(around.as_slice()));
+    assert!(rt; !covers_params([parameter(Location::Register(10))].as_slice()));
+    assert!(rt; !covers_params([parameter(Location::Register(17))].as_slice()));
     Ok(())
 }

@@ -5,7 +5,7 @@ use Rattle.rv_isa.specs.declared.labelled.Item.{Item}
 use Rattle.vcode.specs.Regular.{area, code_weight}
 use Rattle.flat_code.specs.Step.{flat_begin, flat_step}
 use Rattle.abi_frames.specs.Layout.{frame_bound, frame_size}
-use Rattle.abi_frames.specs.Emission.{frame_items}
+use Rattle.abi_frames.specs.Functions.{frame_items}
 use Rattle.abi_frames.specs.Promise.{FramePromise}
 use Rattle.abi_frames.specs.Laws.{IsCode}
 use Rattle.abi_frames.proofs.PlainLayout.{items_are}
@@ -22,11 +22,13 @@ new-requires c =
       few = c.args.function.now.located.few;
       regular = c.args.function.now.located.regular;
       known = c.args.function.now.located.known;
+      near = c.args.function.now.located.near;
+      apart = c.args.function.now.located.apart;
       covered = c.requires.covered;
       light = c.requires.light;
     } in
     let items : c.push_function.new.items.items ≡ frame_items f slots =
-    items_are _ _ _ _ _ _ c.in_ok-push_function.ensures c.new-items.ensures.items c.layout_of-layout.ensures.value c.as_slice.ensures in
+    items_are _ _ _ _ _ _ _ _ c.in_ok-push_function.ensures c.new-items.ensures.items c.layout_of-layout.ensures.value c.as_slice.ensures c.as_slice-2.ensures in
     subst (λ (l : List Item). IsLabelled (record { items = l; labels = c.len.result + 1 })) (sym items)
     (subst (λ (n : ℕ). IsLabelled (record { items = frame_items f slots; labels = n + 1 })) (sym c.len.ensures) (frames_are_labelled f slots is))
 
@@ -38,11 +40,13 @@ returns-clause-promise c =
       few = c.args.function.now.located.few;
       regular = c.args.function.now.located.regular;
       known = c.args.function.now.located.known;
+      near = c.args.function.now.located.near;
+      apart = c.args.function.now.located.apart;
       covered = c.requires.covered;
       light = c.requires.light;
     } in
     let items : c.push_function.new.items.items ≡ frame_items f slots =
-    items_are _ _ _ _ _ _ c.in_ok-push_function.ensures c.new-items.ensures.items c.layout_of-layout.ensures.value c.as_slice.ensures in
+    items_are _ _ _ _ _ _ _ _ c.in_ok-push_function.ensures c.new-items.ensures.items c.layout_of-layout.ensures.value c.as_slice.ensures c.as_slice-2.ensures in
     let whole : c.new.result.items ≡ frame_items f slots = ap (λ l. l.items) c.new.ensures ∙ items in
     subst (λ (l : List Item).
     FramePromise l (frame_bound f slots) (frame_size f slots) (area f) (map (λ d. d.class) f.params) f.result (λ addresses. flat_begin f)
@@ -56,10 +60,12 @@ returns-clause-size c =
       few = c.args.function.now.located.few;
       regular = c.args.function.now.located.regular;
       known = c.args.function.now.located.known;
+      near = c.args.function.now.located.near;
+      apart = c.args.function.now.located.apart;
       covered = c.requires.covered;
       light = c.requires.light;
     } in
     let items : c.push_function.new.items.items ≡ frame_items f slots =
-    items_are _ _ _ _ _ _ c.in_ok-push_function.ensures c.new-items.ensures.items c.layout_of-layout.ensures.value c.as_slice.ensures in
+    items_are _ _ _ _ _ _ _ _ c.in_ok-push_function.ensures c.new-items.ensures.items c.layout_of-layout.ensures.value c.as_slice.ensures c.as_slice-2.ensures in
     let whole : c.new.result.items ≡ frame_items f slots = ap (λ l. l.items) c.new.ensures ∙ items in
     subst (λ (l : List Item). longest_size l ≤ 32 * code_weight f + 256) (sym whole) (frames_are_small f slots is)

@@ -7,6 +7,8 @@ returns c = record {
     few = lit< tt;
     regular = record { few_params = refl; inside = refl; first = refl; small = refl; paid = refl; paced = refl; few_args = refl };
     known = refl;
+    near = refl;
+    apart = refl;
     covered = refl;
     light = refl;
   };
