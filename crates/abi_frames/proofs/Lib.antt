@@ -7,6 +7,7 @@ pub mod FrameEnds
 pub mod Sizes
 pub mod JumpCode
 pub mod Passing
+pub mod Calling
 pub mod Simulation
 pub mod Simulating
 pub mod Starting

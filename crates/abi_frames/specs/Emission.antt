@@ -220,7 +220,7 @@ abbrev pub call_items : Layout → Option (Destination Location) → (callee : O
 call_items y to callee args =
     arguments_items y 0 args ++ (fetch y 28 callee ++ ((call_through (source 28 callee) ∷ []) ++ receive_items y to))
 
--- ---- lines
+-- ---- each line
 
 -- `used` bytes of the area for blocks of memory are taken by the lines before
 abbrev pub line_items : Layout → (used : ℕ) → Line Location → List Item

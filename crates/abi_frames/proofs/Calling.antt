@@ -1,0 +1,334 @@
+-- A call, and the return from it: the machine is ready for the callee, and what a frame keeps is there again afterwards.
+use Rattle.std.proofs.Common.{◌≡◌, ◌≢◌, ℕ, zero, suc, ◌+◌, ◌-◌, ◌*◌, ◌%◌, ◌^◌, ◌<◌, ◌≤◌, Bool, true, false, List, [], ◌∷◌, ◌++◌, refl, sym, ◌∙◌, ap, subst, arith, lit<}
+use Rattle.std.specs.Prelude.{nat_le, if◌then◌else◌, length, map, slice_get, Option, Some, None, Ok}
+use Rattle.std.specs.Option.{option_map, option_and_then}
+use Rattle.std.specs.List.{list_all}
+use Rattle.std.proofs.lemmas.Bool.{and_parts}
+use Rattle.std.proofs.lemmas.Bool.Decides.{nat_tests}
+use Rattle.std.proofs.lemmas.Option.{slice_get_within}
+use Rattle.il_ast.specs.declared.operation.Class.{Class}
+use Rattle.rv_isa.specs.State.{State, register, written}
+use Rattle.rv_isa.specs.Memory.{number_at}
+use Rattle.rv_isa.specs.Step.{act, jump, even_below}
+use Rattle.rv_isa.specs.Arithmetic.{moved}
+use Rattle.rv_isa.specs.Runs.{Comes}
+use Rattle.rv_isa.specs.Labelled.{Fixed, Stand, Stands}
+use Rattle.rv_isa.specs.declared.instruction.Instr.TheVariants.{Jalr}
+use Rattle.rv_isa.specs.declared.labelled.Item.{Item}
+use Rattle.rv_isa.proofs.MemoryLemmas.{number_same, updated_elsewhere}
+use Rattle.rv_isa.proofs.RunLemmas.{comes_by_step}
+use Rattle.vcode.specs.declared.place.Location.{Location}
+use Rattle.vcode.specs.declared.place.Location.TheVariants.{Register as InRegister, Slot}
+use Rattle.vcode.specs.declared.place.Operand.{Operand}
+use Rattle.vcode.specs.declared.place.Argument.{Argument}
+use Rattle.vcode.specs.Places.{is_callers}
+use Rattle.vcode.specs.Named.{is_place, operand_keeps}
+use Rattle.flat_code.specs.Spots.{Spot, Away, Known, Spots, SameReach}
+use Rattle.flat_code.specs.Step.{Numbers, kept, number_of, read_all, taken}
+use Rattle.abi_frames.specs.Calls.{Ready, Back, is_kept, passed}
+use Rattle.abi_frames.specs.Covered.{is_off_arguments}
+use Rattle.abi_frames.specs.Layout.{saved_registers}
+use Rattle.abi_frames.specs.Emission.{reg, low, fetch, source, arguments_items, call_through}
+use Rattle.abi_frames.proofs.ConstantNumbers.{near_moves}
+use Rattle.abi_frames.proofs.Leading.{Site, StandAt, Leads, leads_then, leads_so, stepped, IsReg, register_reg}
+use Rattle.abi_frames.proofs.Instructions.{is_28}
+use Rattle.abi_frames.proofs.Activations.{Setting, IsSetting, site, bottom, slot_at, save_at, value_at, operand_in, place_is, slot_is, Framed, operand_known}
+use Rattle.abi_frames.proofs.LineCode.{Fetched, leads_fetch}
+use Rattle.abi_frames.proofs.Passing.{Unmoved, unmoved, operand_unmoved, sent, Passed, can_pass, leads_arguments}
+
+-- ---- the arguments, and the callee's address
+
+pub record Prepared (c : Setting) (s : State) (callee : Operand Location) (args : List (Argument Location)) (u : State) : Type 0 where
+  pub passed : Passed c s 0 args u
+  pub address : u.registers (source 28 callee) ≡ operand_in c s callee
+
+passed_still : (c : Setting) (s u w : State) (args : List (Argument Location)) → Passed c s 0 args u → ((n : ℕ) → n ≢ 28 → w.registers n ≡ u.registers n)
+    → w.bytes ≡ u.bytes → w.output ≡ u.output → Passed c s 0 args w
+passed_still c s u w args h others bytes output = record {
+  in_registers = λ i a few e. others (10 + (0 + i)) (λ x. absurd (omega (arith, x, few))) ∙ h.in_registers i a few e;
+  on_stack = λ i a many e. ap (λ (m : ℕ → ℕ). number_at m (bottom c + 8 * (0 + i - 8)) 8) bytes ∙ h.on_stack i a many e;
+  before = λ n lo below. others n (λ x. absurd (omega (arith, x, below))) ∙ h.before n lo below;
+  high = λ n hi below. others n (λ x. absurd (omega (arith, x, below))) ∙ h.high n hi below;
+  below = λ x lo. ap (λ (m : ℕ → ℕ). m x) bytes ∙ h.below x lo;
+  above = λ x hi. ap (λ (m : ℕ → ℕ). m x) bytes ∙ h.above x hi;
+  output = output ∙ h.output;
+}
+
+pub leads_prepared : (c : Setting) → IsSetting c → (s : State) (callee : Operand Location) (args : List (Argument Location)) → s.registers 2 ≡ bottom c
+    → operand_keeps (is_place c.slots) callee ≡ true → operand_keeps is_off_arguments callee ≡ true → list_all (can_pass c.slots) args ≡ true
+    → 8 * (length args - 8) ≤ c.layout.saves
+    → Leads (site c) (arguments_items c.layout 0 args ++ fetch c.layout 28 callee) s (Prepared c s callee args)
+leads_prepared c is s callee args pointer known off good fits =
+    let room : 8 * (0 + length args - 8) ≤ c.layout.saves = omega (arith, fits) in
+    leads_then (site c) (arguments_items c.layout 0 args) (fetch c.layout 28 callee) s (Passed c s 0 args) (Prepared c s callee args)
+    (leads_arguments c is s 0 args pointer good room)
+    (λ u f one.
+    leads_so (site c) (fetch c.layout 28 callee) u (Fetched c u 28 callee) (Prepared c s callee args)
+    (leads_fetch c is u 28 callee is_28 (λ e. absurd (omega (arith, e))) (one.before 2 (lit< tt) (lit< tt) ∙ pointer) known)
+    (λ w g two. record {
+      passed = passed_still c s u w args one two.others two.bytes two.output;
+      address = two.value ∙ operand_unmoved c is s u callee (unmoved c s 0 args u room one) known off;
+    }))
+
+-- ---- the jump to the callee
+
+abbrev pub gone_to : State → ℕ → State
+gone_to s to = record s { pc = to; registers = written s.registers (reg 1) ((s.pc + 4) % 2 ^ 64) }
+
+-- the machine is at the callee's address, with the address of the code that follows in x1
+pub record Gone (c : Site) (rest : List Item) (to : ℕ) (s v : State) : Type 0 where
+  pub comes : Comes s 1 v
+  pub fixed : Fixed c.ground v
+  pub place : v.pc ≡ to
+  pub stands : StandAt c rest (v.registers 1)
+  pub aligned : v.registers 1 % 4 ≡ 0
+  pub others : (n : ℕ) → n ≢ 1 → v.registers n ≡ s.registers n
+  pub bytes : v.bytes ≡ s.bytes
+  pub output : v.output ≡ s.output
+
+jump_goes : (s : State) (x target : ℕ) → x ≡ target → target % 4 ≡ 0 → jump s (reg 1) x ≡ Ok (gone_to s target)
+jump_goes s x target e aligned = subst (λ y. jump s (reg 1) y ≡ Ok (gone_to s target)) (sym e) (rw aligned refl)
+
+even_target : (x : ℕ) → x < 2 ^ 64 → x % 4 ≡ 0 → even_below ((x + 0) % 2 ^ 64) ≡ x
+even_target x h aligned = omega (arith, h, aligned)
+
+pub goes_through : (c : Site) (s : State) (r to : ℕ) (rest : List Item) → IsReg r → s.registers r ≡ to → to % 4 ≡ 0
+    → StandAt c (call_through r ∷ rest) s.pc → Fixed c.ground s → Gone c rest to s (gone_to s to)
+unfolding Stand Stands
+goes_through c s r to rest is held even stands fixed =
+    let at = stands.1.0 in
+    let inside = at.inside in
+    let start = at.aligned in
+    let word : to < 2 ^ 64 = subst (λ x. x < 2 ^ 64) held (fixed.words r) in
+    let target : even_below (moved (register s (reg r)) (low 0).value) ≡ to =
+    ap (λ x. even_below (moved x (low 0).value)) (register_reg s r is ∙ held) ∙ (ap even_below (near_moves to 0 (lit< tt)) ∙ even_target to word even) in
+    let acts : act (Jalr (reg 1) (reg r) (low 0)) s ≡ Ok (gone_to s to) =
+    jump_goes s (even_below (moved (register s (reg r)) (low 0).value)) to target even in
+    let both = stepped c s (gone_to s to) (Jalr (reg 1) (reg r) (low 0)) fixed at acts refl (λ a h. refl) in
+    let next : stands.0 ≡ (gone_to s to).registers 1 = stands.1.1 ∙ after s.pc inside in
+    record {
+      comes = comes_by_step s (gone_to s to) both.0;
+      fixed = both.1;
+      place = refl;
+      stands = subst (λ a. StandAt c rest a) next stands.2;
+      aligned = four_more s.pc inside start;
+      others = λ n other. updated_elsewhere s.registers 1 ((s.pc + 4) % 2 ^ 64) n other;
+      bytes = refl;
+      output = refl;
+    }
+  where
+    after : (p : ℕ) → p + 4 < 2 ^ 64 → p + 4 ≡ (p + 4) % 2 ^ 64
+    after p h = omega (arith, h)
+
+    four_more : (p : ℕ) → p + 4 < 2 ^ 64 → p % 4 ≡ 0 → (p + 4) % 2 ^ 64 % 4 ≡ 0
+    four_more p h e = omega (arith, h, e)
+
+-- ---- what the arguments are
+
+-- the arguments that are read, one after another
+pub record ReadMore (c : Setting) (numbers : Numbers) (a : Argument Location) (args : List (Argument Location)) (xs : List ℕ) : Type 0 where
+  pub first : ℕ
+  pub others : List ℕ
+  pub is_first : number_of c.addresses numbers a.value ≡ Some first
+  pub is_others : read_all c.addresses numbers args ≡ Some others
+  pub all : xs ≡ taken a.class first ∷ others
+
+none_is : (xs : List ℕ) (o : Option (List ℕ)) → o ≡ None → o ≡ Some xs → ⊥
+none_is xs o e f = let no : ⊥ = cc in no
+
+list_is : (xs ys : List ℕ) → Some xs ≡ Some ys → ys ≡ xs
+list_is xs ys e = cc
+
+read_more : (c : Setting) (numbers : Numbers) (a : Argument Location) (args : List (Argument Location)) (xs : List ℕ)
+    → read_all c.addresses numbers (a ∷ args) ≡ Some xs → ReadMore c numbers a args xs
+read_more c numbers a args xs h = by_parts (number_of c.addresses numbers a.value) refl (read_all c.addresses numbers args) refl h
+  where
+    by_parts : (o : Option ℕ) → number_of c.addresses numbers a.value ≡ o → (q : Option (List ℕ)) → read_all c.addresses numbers args ≡ q
+        → option_and_then (λ x. option_map (λ ys. x ∷ ys) q) (option_map (taken a.class) o) ≡ Some xs → ReadMore c numbers a args xs
+    by_parts None e q d f = absurd (none_is xs None refl f)
+    by_parts (Some x) e None d f = absurd (none_is xs None refl f)
+    by_parts (Some x) e (Some ys) d f =
+        record { first = x; others = ys; is_first = e; is_others = d; all = list_is (taken a.class x ∷ ys) xs f }
+
+-- the i-th argument, of class k, is the number n
+pub record Sends (c : Setting) (s : State) (args : List (Argument Location)) (i : ℕ) (k : Class) (n : ℕ) : Type 0 where
+  pub argument : Argument Location
+  pub is : slice_get args i ≡ Some argument
+  pub value : sent c s argument ≡ passed k n
+
+same_number : (a b : ℕ) → Some a ≡ Some b → a ≡ b
+same_number a b e = cc
+
+same_class : (a b : Class) → Some a ≡ Some b → a ≡ b
+same_class a b e = cc
+
+no_class : (k : Class) (o : Option Class) → o ≡ None → o ≡ Some k → ⊥
+no_class k o e f = let no : ⊥ = cc in no
+
+pub sends : (c : Setting) → IsSetting c → (numbers : Numbers) (memory : Spots) (s : State) → Framed c numbers memory s → (args : List (Argument Location))
+    → list_all (can_pass c.slots) args ≡ true → (xs : List ℕ) → read_all c.addresses numbers args ≡ Some xs
+    → (i : ℕ) (k : Class) (n : ℕ) → slice_get (map (λ a. a.class) args) i ≡ Some k → slice_get xs i ≡ Some n → Sends c s args i k n
+sends c is numbers memory s framed [] good xs known i k n e d = absurd (no_class k None refl e)
+sends c is numbers memory s framed (a ∷ args) good xs known zero k n e d =
+    let parts = and_parts (can_pass c.slots a) (list_all (can_pass c.slots) args) good in
+    let places = and_parts (operand_keeps (is_place c.slots) a.value) (operand_keeps is_off_arguments a.value) parts.0 in
+    let more = read_more c numbers a args xs known in
+    let first : taken a.class more.first ≡ n =
+    same_number (taken a.class more.first) n (ap (λ (ys : List ℕ). slice_get ys zero) (sym more.all) ∙ d) in
+    let value : operand_in c s a.value ≡ more.first = operand_known c numbers memory s a.value more.first is framed places.0 more.is_first in
+    record {
+      argument = a;
+      is = refl;
+      value = ap (λ x. passed a.class (taken a.class x)) value ∙ (ap (passed a.class) first ∙ ap (λ q. passed q n) (same_class a.class k e));
+    }
+sends c is numbers memory s framed (a ∷ args) good xs known (suc i) k n e d =
+    let parts = and_parts (can_pass c.slots a) (list_all (can_pass c.slots) args) good in
+    let more = read_more c numbers a args xs known in
+    let next = sends c is numbers memory s framed args parts.1 more.others more.is_others i k n e
+    (ap (λ (ys : List ℕ). slice_get ys (suc i)) (sym more.all) ∙ d) in
+    record { argument = next.argument; is = next.is; value = next.value }
+
+-- ---- the machine is ready for the callee
+
+known_not_away : (m : Spot) (n : ℕ) → m ≡ Known n → m ≡ Away → ⊥
+known_not_away m n e f = let no : ⊥ = cc in no
+
+spots_then : (c : Setting) → IsSetting c → (numbers : Numbers) (memory : Spots) (s u v : State) (args : List (Argument Location)) → Framed c numbers memory s
+    → Passed c s 0 args u → 8 * (length args - 8) ≤ c.layout.saves → v.bytes ≡ u.bytes → (x n : ℕ) → memory x ≡ Known n → v.bytes x ≡ n
+spots_then c is numbers memory s u v args framed h fits same x n known =
+    ap (λ (m : ℕ → ℕ). m x) same ∙ (by_test (nat_le (bottom c) x) refl (nat_le (bottom c + c.layout.saves) x) refl ∙ framed.spots.known x n known)
+  where
+    by_test : (a : Bool) → nat_le (bottom c) x ≡ a → (b : Bool) → nat_le (bottom c + c.layout.saves) x ≡ b → u.bytes x ≡ s.bytes x
+    by_test false e b f = h.below x (grind (arith, nat_tests))
+    by_test true e true f =
+        let hi : bottom c + c.layout.saves ≤ x = grind (arith, nat_tests) in
+        h.above x (omega (arith, hi, fits))
+    by_test true e false f =
+        let lo : bottom c ≤ x = grind (arith, nat_tests) in
+        let hi : x < bottom c + c.layout.saves = grind (arith, nat_tests) in
+        let saves = is.saves_fit in
+        let frame = is.fits in
+        let above = is.above in
+        absurd (known_not_away (memory x) n known (framed.clear x lo (omega (arith, hi, saves, frame, above))))
+
+pub ready : (c : Setting) → IsSetting c → (numbers : Numbers) (memory : Spots) (s u v : State) (rest : List Item) (at turns room : ℕ)
+    (args : List (Argument Location)) (xs : List ℕ) → Framed c numbers memory s → Passed c s 0 args u → Gone (site c) rest at u v
+    → list_all (can_pass c.slots) args ≡ true → 8 * (length args - 8) ≤ c.layout.saves → read_all c.addresses numbers args ≡ Some xs
+    → length (map (λ (a : Argument Location). a.class) args) ≡ length args
+    → Ready c.world at (bottom c) (map (λ a. a.class) args) (record { turns = turns; room = room; args = xs; memory = memory }) v
+ready c is numbers memory s u v rest at turns room args xs framed h gone good fits known many =
+    let saves = is.saves_fit in
+    let frame = is.fits in
+    let above = is.above in
+    let below = is.below in
+    record {
+      fixed = gone.fixed;
+      place = gone.place;
+      stack_pointer = gone.others 2 (λ e. absurd (omega (arith, e))) ∙ (h.before 2 (lit< tt) (lit< tt) ∙ framed.pointer);
+      return_address = gone.aligned;
+      in_registers = λ i n k few e d.
+          let one = sends c is numbers memory s framed args good xs known i k n e d in
+          let here : 10 + i ≡ 10 + (0 + i) = omega arith in
+          gone.others (10 + i) (λ x. absurd (omega (arith, x)))
+          ∙ (ap u.registers here ∙ (h.in_registers i one.argument (omega (arith, few)) one.is ∙ one.value));
+      on_stack = λ i n k hi e d.
+          let one = sends c is numbers memory s framed args good xs known i k n e d in
+          let here : bottom c + 8 * (i - 8) ≡ bottom c + 8 * (0 + i - 8) = omega arith in
+          ap (λ (m : ℕ → ℕ). number_at m (bottom c + 8 * (i - 8)) 8) gone.bytes
+          ∙ (ap (λ x. number_at u.bytes x 8) here ∙ (h.on_stack i one.argument (omega (arith, hi)) one.is ∙ one.value));
+      below_top = omega (arith, many, fits, saves, frame, above, below);
+      memory = record {
+        known = spots_then c is numbers memory s u v args framed h fits gone.bytes;
+        usable = framed.spots.usable;
+      };
+    }
+
+-- ---- back from the callee
+
+-- what the callee finds of the caller's frame
+pub record SameFrame (c : Setting) (s v : State) : Type 0 where
+  pub registers : (n : ℕ) → is_kept n ≡ true → v.registers n ≡ s.registers n
+  pub bytes : (x : ℕ) → bottom c + c.layout.saves ≤ x → v.bytes x ≡ s.bytes x
+
+kept_range : (n : ℕ) → is_kept n ≡ true → n ≢ 1
+kept_range n h e = absurd (let no : ⊥ = grind (arith, nat_tests) in no)
+
+pub same_frame : (c : Setting) (s u v : State) (rest : List Item) (at : ℕ) (args : List (Argument Location)) → 8 * (length args - 8) ≤ c.layout.saves
+    → Passed c s 0 args u → Gone (site c) rest at u v → SameFrame c s v
+same_frame c s u v rest at args fits h gone =
+    let still : Unmoved c s u = unmoved c s 0 args u (omega (arith, fits)) h in
+    record {
+      registers = λ n k. gone.others n (kept_range n k) ∙ by_test still n k (nat_le n 9) refl;
+      bytes = λ x hi. ap (λ (m : ℕ → ℕ). m x) gone.bytes ∙ still.bytes x hi;
+    }
+  where
+    by_test : Unmoved c s u → (n : ℕ) → is_kept n ≡ true → (b : Bool) → nat_le n 9 ≡ b → u.registers n ≡ s.registers n
+    by_test still n k true e = still.low n (grind (arith, nat_tests))
+    by_test still n k false e = still.high n (grind (arith, nat_tests)) (grind (arith, nat_tests))
+
+-- a byte of the frame, or above it, that the program may not access
+byte_back : (c : Setting) (memory now : Spots) (s v w : State) → SameFrame c s v → Back c.world (bottom c) memory v now w
+    → (x : ℕ) → bottom c + c.layout.saves ≤ x → memory x ≡ Away → w.bytes x ≡ s.bytes x
+byte_back c memory now s v w same back x hi away = back.others x (omega (arith, hi)) away ∙ same.bytes x hi
+
+-- a register that a call leaves as it was
+callers_not : (r : ℕ) → 5 ≤ r → r ≤ 27 → is_callers (InRegister r) ≡ false → is_kept r ≡ true
+callers_not r lo hi h = grind (arith, nat_tests)
+
+places_back : (c : Setting) → IsSetting c → (numbers : Numbers) (memory now : Spots) (s v w : State) → Framed c numbers memory s → SameFrame c s v
+    → Back c.world (bottom c) memory v now w → (p : Location) (x : ℕ) → is_place c.slots p ≡ true → kept numbers p ≡ Some x → value_at c w p ≡ x
+places_back c is numbers memory now s v w framed same back (InRegister r) x good known = by_test (is_callers (InRegister r)) refl known
+  where
+    by_test : (b : Bool) → is_callers (InRegister r) ≡ b → (if b then None else numbers (InRegister r)) ≡ Some x → w.registers r ≡ x
+    by_test true e k = absurd (let no : ⊥ = cc in no)
+    by_test false e k =
+        let place = place_is c.slots r good in
+        let stays = callers_not r place.from_5 place.to_27 e in
+        back.kept r stays ∙ (same.registers r stays ∙ framed.places (InRegister r) x good k)
+places_back c is numbers memory now s v w framed same back (Slot i) x good known =
+    let few = slot_is c.slots i good in
+    let saves = is.saves_fit in
+    let frame = is.fits in
+    let above = is.above in
+    number_same w.bytes s.bytes (slot_at c i) 8
+    (λ y lo hi.
+    byte_back c memory now s v w same back y (omega (arith, lo, saves))
+    (framed.clear y (omega (arith, lo)) (omega (arith, hi, few, frame, above))))
+    ∙ framed.places (Slot i) x good known
+
+saved_back : (c : Setting) → IsSetting c → (numbers : Numbers) (memory now : Spots) (s v w : State) → Framed c numbers memory s → SameFrame c s v
+    → Back c.world (bottom c) memory v now w → (k r : ℕ) → k < 13 → slice_get saved_registers k ≡ Some r
+    → number_at w.bytes (save_at c k) 8 ≡ c.start.registers r
+saved_back c is numbers memory now s v w framed same back k r few e =
+    let saves = is.saves_fit in
+    let frame = is.fits in
+    let above = is.above in
+    number_same w.bytes s.bytes (save_at c k) 8
+    (λ y lo hi.
+    byte_back c memory now s v w same back y (omega (arith, lo))
+    (framed.clear y (omega (arith, lo)) (omega (arith, hi, few, saves, frame, above))))
+    ∙ framed.saved k r e
+
+-- after a return, before its result is in its place
+pub framed_back : (c : Setting) → IsSetting c → (numbers : Numbers) (memory now : Spots) (s v w : State) → Framed c numbers memory s → SameFrame c s v
+    → Back c.world (bottom c) memory v now w → SameReach memory now → Framed c (kept numbers) now w
+framed_back c is numbers memory now s v w framed same back stays =
+    let saves = is.saves_fit in
+    let frame = is.fits in
+    let above = is.above in
+    record {
+      pointer = back.kept 2 refl ∙ (same.registers 2 refl ∙ framed.pointer);
+      places = places_back c is numbers memory now s v w framed same back;
+      spots = back.memory;
+      clear = λ x lo hi. stays x (framed.clear x lo hi);
+      reach = λ x hi away. stays x (framed.reach x hi away);
+      saved = λ k r e.
+          let few : k < 13 = slice_get_within saved_registers k r e in
+          saved_back c is numbers memory now s v w framed same back k r few e;
+      thread = λ n lo hi. let thread = threads n lo hi in back.kept n thread ∙ (same.registers n thread ∙ framed.thread n lo hi);
+      others = λ x hi away.
+          byte_back c memory now s v w same back x (omega (arith, hi, saves, frame, above)) (framed.reach x hi away) ∙ framed.others x hi away;
+    }
+  where
+    threads : (n : ℕ) → 2 < n → n < 5 → is_kept n ≡ true
+    threads n lo hi = grind (arith, nat_tests)
