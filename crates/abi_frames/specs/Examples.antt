@@ -1,6 +1,6 @@
--- A small code that frames are made for.
+-- Small codes that frames are made for.
 use Rattle.std.specs.Prelude.{◌≡◌, [], ◌∷◌, Some, true}
-use Rattle.il_ast.specs.declared.operation.Class.TheVariants.{L}
+use Rattle.il_ast.specs.declared.operation.Class.TheVariants.{W, L}
 use Rattle.il_ast.specs.declared.operation.Condition.TheVariants.{SignedLess}
 use Rattle.rv_isa.specs.declared.instruction.RegOp.TheVariants.{Add}
 use Rattle.rv_isa.specs.Labels.{longest_size}
@@ -11,7 +11,7 @@ use Rattle.vcode.specs.declared.line.Operation.TheVariants.{Reg, Compare}
 use Rattle.vcode.specs.declared.line.Line.TheVariants.{Tick, Set, Operate}
 use Rattle.vcode.specs.declared.line.Jump.TheVariants.{Goto, Branch, Return}
 use Rattle.vcode.specs.declared.code.Code.{Code}
-use Rattle.vcode.specs.ExampleCodes.{block, code}
+use Rattle.vcode.specs.ExampleCodes.{block, code, destination}
 use Rattle.abi_frames.specs.Laws.{IsCode}
 use Rattle.abi_frames.specs.Functions.{frame_items}
 
@@ -29,7 +29,24 @@ counter =
     ∷ block (Tick true 1 ∷ []) (Return (Some (At (Slot 0))))
     ∷ [])
 
--- the premises of the laws hold of it; and so many words its code has at most
+-- returns its ninth argument, which is passed on the stack
+abbrev pub ninth : Code Location
+ninth =
+    code (Some W)
+    (destination (Slot 0) L
+    ∷ destination (Register 9) W
+    ∷ destination (Slot 2) L
+    ∷ destination (Slot 3) L
+    ∷ destination (Slot 4) L
+    ∷ destination (Slot 5) L
+    ∷ destination (Slot 6) L
+    ∷ destination (Slot 7) L
+    ∷ destination (Slot 8) W
+    ∷ [])
+    (block (Tick true 1 ∷ []) (Return (Some (At (Slot 8)))) ∷ [])
+
+-- the premises of the laws hold of these; and so many words the code of the first has at most
 pub record Examples : Type 0 where
   pub is_code : IsCode counter 1
+  pub takes_nine : IsCode ninth 9
   pub size : longest_size (frame_items counter 1) ≡ 49

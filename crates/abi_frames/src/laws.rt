@@ -17,7 +17,7 @@ pub fn frames_are_labelled()
     ensures { FramesAreLabelled }
 {}
 
-/// The premises of these laws hold of a small function.
+/// The premises of these laws hold of small functions.
 pub fn example_is_code()
     ensures { Examples }
 {}
