@@ -181,7 +181,7 @@ leads_load c s d base o a is is_base fixed there usable =
     ap (load s Ld (reg d)) at ∙ (rw readable refl) in
     leads_set c s (Load Ld (reg d) (reg base) (low o)) d (number_at s.bytes a 8) (number_at s.bytes a 8) is acts refl
 
-some_bytes : (op : LoadOp) → 0 < load_size op
+pub some_bytes : (op : LoadOp) → 0 < load_size op
 some_bytes Lb = lit< tt
 some_bytes Lh = lit< tt
 some_bytes Lw = lit< tt
@@ -190,14 +190,14 @@ some_bytes Lbu = lit< tt
 some_bytes Lhu = lit< tt
 some_bytes Lwu = lit< tt
 
-n_readable : (g : Ground) (a n : ℕ) → 0 < n → UsableFrom g a n → allowed (λ x. (g.allows x).readable) a n ≡ true
+pub n_readable : (g : Ground) (a n : ℕ) → 0 < n → UsableFrom g a n → allowed (λ x. (g.allows x).readable) a n ≡ true
 n_readable g a n some usable =
     let last = (usable (a + (n - 1)) (omega arith) (omega (arith, some))).small in
     let whole : a + n ≤ 2 ^ 64 = omega (arith, last, some) in
     and_from (nat_le (a + n) (2 ^ 64)) (each_of (λ x. (g.allows x).readable) a n) (grind (arith, nat_tests))
     (each_from (λ x. (g.allows x).readable) a n (λ x lo hi. (usable x lo hi).readable))
 
-same_address : (a : ℕ) → a < 2 ^ 64 → moved a (low 0).value ≡ a
+pub same_address : (a : ℕ) → a < 2 ^ 64 → moved a (low 0).value ≡ a
 same_address a h = near_moves a 0 (lit< tt) ∙ omega (arith, h)
 
 -- a load of any size, at a register's address
@@ -221,10 +221,10 @@ pub record Writes (s : State) (a v : ℕ) (u : State) : Type 0 where
   pub registers : (n : ℕ) → n ≢ 29 → u.registers n ≡ s.registers n
   pub output : u.output ≡ s.output
 
-not_code : (b : Bool) → b ≡ false → not b ≡ true
+pub not_code : (b : Bool) → b ≡ false → not b ≡ true
 not_code b e = ap not e
 
-code_not : (b : Bool) → b ≡ true → not b ≡ false
+pub code_not : (b : Bool) → b ≡ true → not b ≡ false
 code_not b e = ap not e
 
 pub leads_store : (c : Site) (s : State) (v base o a : ℕ) → IsReg v → IsReg base → Fixed c.ground s → moved (s.registers base) (low o).value ≡ a

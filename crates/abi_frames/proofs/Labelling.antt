@@ -33,7 +33,7 @@ use Rattle.vcode.specs.Named.{is_place, operand_keeps, line_keeps, jump_keeps, b
 use Rattle.vcode.specs.Regular.{leads_inside, is_target, alloc_bytes, code_weight}
 use Rattle.abi_frames.specs.Layout.{layout, saved_registers}
 use Rattle.abi_frames.specs.declared.layout.Layout.{Layout}
-use Rattle.abi_frames.specs.Emission.{reg, add_low, extend, sum_to, load_8, store_8, long_constant, constant, far_load, load_slot, far_store, store_slot, slot_offset, into, fetch, source, target, deliver, set_items, negate, is_zero, compare_items, operation_items, operate_items, load_to, line_items, lines_items, move_pointer, save_all, restore_all, go_back, prologue, epilogue, result_items, jump_items, blocks_items}
+use Rattle.abi_frames.specs.Emission.{reg, add_low, extend, sum_to, load_8, store_8, long_constant, constant, far_load, load_slot, far_store, store_slot, slot_offset, into, fetch, source, target, deliver, set_items, negate, is_zero, compare_items, operation_items, operate_items, load_to, store_at, store_op, line_items, lines_items, move_pointer, save_all, restore_all, go_back, prologue, epilogue, result_items, jump_items, blocks_items}
 use Rattle.abi_frames.specs.Functions.{caller_pointer, from_register, from_stack, argument_items, arguments_items, pointer_items, entry_items}
 use Rattle.abi_frames.specs.Laws.{FramesAreLabelled}
 use Rattle.abi_frames.proofs.Leading.{longest-append}
@@ -261,7 +261,13 @@ line_plainly n y used slots (Load to op at) known =
     (one_of_two n (load_to op (target to) (source 28 at)) (target to) (source 28 at) (target_nameable slots to parts.0)
     (source_nameable slots 28 at (lit< tt) parts.1) refl (λ l. refl) refl)
     (deliver_plainly n y to))
-line_plainly n y used slots (Store size a at) known = plainly_nothing n
+line_plainly n y used slots (Store size a at) known =
+    let parts = and_parts (operand_keeps (is_place slots) a) (operand_keeps (is_place slots) at) known in
+    let made : List Item = store_at (store_op size) (source 28 a) (source 29 at) 0 ∷ [] in
+    plainly_then n (fetch y 28 a) (fetch y 29 at ++ made) (fetch_plainly n y 28 a (lit< tt) (lit< tt))
+    (plainly_then n (fetch y 29 at) made (fetch_plainly n y 29 at (lit< tt) (lit< tt))
+    (one_of_two n (store_at (store_op size) (source 28 a) (source 29 at) 0) (source 29 at) (source 28 a) (source_nameable slots 29 at (lit< tt) parts.1)
+    (source_nameable slots 28 a (lit< tt) parts.0) refl (λ l. refl) refl))
 line_plainly n y used slots (Alloc to size) known = plainly_nothing n
 line_plainly n y used slots (Blit from to count) known = plainly_nothing n
 line_plainly n y used slots (Call to callee args) known = plainly_nothing n

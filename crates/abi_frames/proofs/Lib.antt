@@ -18,3 +18,6 @@ pub mod Comparing
 pub mod Reading
 pub mod Entering
 pub mod Outgoing
+pub mod Accesses
+pub mod MemoryChanges
+pub mod Storing

@@ -50,6 +50,7 @@ use Rattle.abi_frames.proofs.LineCode.{leads_set_line, leads_operate_line, leads
 use Rattle.abi_frames.proofs.FrameEnds.{Lands, Ends, ends_then, Jumped, ends_frame}
 use Rattle.abi_frames.proofs.JumpCode.{ends_so, ends_goto, ends_branch, leads_result, way}
 use Rattle.abi_frames.proofs.Sizes.{jump_size, epilogue_size, le_is}
+use Rattle.abi_frames.proofs.Storing.{store_case}
 use Rattle.abi_frames.proofs.Simulation.{CodeStands, At, AtJump, Landed, Performed, step_of, nothing_taken, Log, Follows, Then, undefined, framed_same, reach, next_index, advance}
 
 -- a tick
@@ -245,7 +246,7 @@ line_case c f is j r n go b (Tick turn w) lines fs k u a log goes all = tick_cas
 line_case c f is j r n go b (Set to x) lines fs k u a log goes all = set_case c f is j r n go b to x lines fs k u a log goes all
 line_case c f is j r n go b (Operate to op x y) lines fs k u a log goes all = operate_case c f is j r n go b to op x y lines fs k u a log all goes
 line_case c f is j r n go b (Load to op at) lines fs k u a log goes all = load_case c f is j r n go b to op at lines fs k u a log all goes
-line_case c f is j r n go b (Store size x at) lines fs k u a log goes all = absurd (let no : ⊥ = let h = a.covered in cc in no)
+line_case c f is j r n go b (Store size x at) lines fs k u a log goes all = store_case c f is j r n go b size x at lines fs k u a log goes all
 line_case c f is j r n go b (Alloc to size) lines fs k u a log goes all = absurd (let no : ⊥ = let h = a.covered in cc in no)
 line_case c f is j r n go b (Blit from to count) lines fs k u a log goes all = absurd (let no : ⊥ = let h = a.covered in cc in no)
 line_case c f is j r n go b (Call to callee args) lines fs k u a log goes all = absurd (let no : ⊥ = let h = a.covered in cc in no)

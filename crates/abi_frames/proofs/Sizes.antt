@@ -8,6 +8,7 @@ use Rattle.il_ast.specs.declared.operation.Condition.{Condition}
 use Rattle.il_ast.specs.declared.operation.Condition.TheVariants.{Equal, NotEqual, SignedLessEqual, SignedLess, SignedGreaterEqual, SignedGreater, UnsignedLessEqual, UnsignedLess, UnsignedGreaterEqual, UnsignedGreater}
 use Rattle.il_ast.specs.declared.operation.Class.{Class}
 use Rattle.il_ast.specs.declared.operation.Class.TheVariants.{W, L}
+use Rattle.il_ast.specs.declared.operation.Size.{Size}
 use Rattle.rv_isa.specs.Labels.{longest_size}
 use Rattle.rv_isa.specs.declared.instruction.BranchOp.TheVariants.{Bne}
 use Rattle.rv_isa.specs.declared.instruction.LoadOp.{LoadOp}
@@ -33,7 +34,7 @@ use Rattle.vcode.specs.Named.{is_near, are_near}
 use Rattle.abi_frames.specs.Layout.{layout, saved_registers}
 use Rattle.abi_frames.specs.Laws.{FramesAreSmall}
 use Rattle.abi_frames.specs.declared.layout.Layout.{Layout}
-use Rattle.abi_frames.specs.Emission.{reg, add_low, extend, long_constant, constant, load_8, store_8, far_load, far_store, sum_to, load_slot, store_slot, slot_offset, into, fetch, source, target, deliver, set_items, compare_items, operation_items, operate_items, load_to, load_items, line_items, lines_items, move_pointer, save_all, restore_all, go_back, prologue, epilogue, result_items, jump_items, block_items, blocks_items}
+use Rattle.abi_frames.specs.Emission.{reg, add_low, extend, long_constant, constant, load_8, store_8, far_load, far_store, sum_to, load_slot, store_slot, slot_offset, into, fetch, source, target, deliver, set_items, compare_items, operation_items, operate_items, load_to, load_items, store_at, store_op, store_items, line_items, lines_items, move_pointer, save_all, restore_all, go_back, prologue, epilogue, result_items, jump_items, block_items, blocks_items}
 use Rattle.abi_frames.specs.Functions.{caller_pointer, from_register, from_stack, argument_items, arguments_items, pointer_items, entry_items, function_items}
 use Rattle.abi_frames.proofs.Leading.{longest-append}
 use Rattle.abi_frames.proofs.Outgoing.{slots_near}
@@ -125,12 +126,21 @@ load_line_size y to op at =
     let k = deliver_size y to in
     omega (arith, one, two, h, k)
 
+store_line_size : (y : Layout) (size : Size) (a at : Operand Location) → longest_size (store_items y size a at) ≤ operand_cost a + operand_cost at + 1
+store_line_size y size a at =
+    let made : List Item = store_at (store_op size) (source 28 a) (source 29 at) 0 ∷ [] in
+    let one = longest-append (fetch y 28 a) (fetch y 29 at ++ made) in
+    let two = longest-append (fetch y 29 at) made in
+    let h = fetch_size y 28 a in
+    let k = fetch_size y 29 at in
+    omega (arith, one, two, h, k)
+
 pub line_size : (y : Layout) (used : ℕ) (l : Line Location) → longest_size (line_items y used l) ≤ line_cost l
 line_size y used (Tick turn w) = lit≤ tt
 line_size y used (Set to a) = set_size y to a
 line_size y used (Operate to op a b) = operate_size y to op a b
 line_size y used (Load to op at) = load_line_size y to op at
-line_size y used (Store size a at) = omega arith
+line_size y used (Store size a at) = store_line_size y size a at
 line_size y used (Alloc to size) = omega arith
 line_size y used (Blit from to count) = omega arith
 line_size y used (Call to callee args) = omega arith

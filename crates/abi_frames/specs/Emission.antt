@@ -3,6 +3,8 @@ use Rattle.std.specs.Prelude.{ℕ, ◌+◌, ◌-◌, ◌*◌, ◌/◌, ◌%◌, 
 use Rattle.std.proofs.Common.{lit<, mod-lt}
 use Rattle.il_ast.specs.declared.operation.Class.{Class}
 use Rattle.il_ast.specs.declared.operation.Class.TheVariants.{W, L}
+use Rattle.il_ast.specs.declared.operation.Size.{Size}
+use Rattle.il_ast.specs.declared.operation.Size.TheVariants.{Byte, Half, Word, Long}
 use Rattle.il_ast.specs.declared.operation.Condition.{Condition}
 use Rattle.il_ast.specs.declared.operation.Condition.TheVariants.{Equal, NotEqual, SignedLessEqual, SignedLess, SignedGreaterEqual, SignedGreater, UnsignedLessEqual, UnsignedLess, UnsignedGreaterEqual, UnsignedGreater}
 use Rattle.rv_isa.specs.Formats.{signed}
@@ -14,7 +16,8 @@ use Rattle.rv_isa.specs.declared.ranges.Amount.{Amount}
 use Rattle.rv_isa.specs.declared.instruction.Instr.TheVariants.{Lui, Jalr, Load, Store, Imm, Addiw, Shift, Reg, RegW, Ebreak}
 use Rattle.rv_isa.specs.declared.instruction.LoadOp.{LoadOp}
 use Rattle.rv_isa.specs.declared.instruction.LoadOp.TheVariants.{Ld}
-use Rattle.rv_isa.specs.declared.instruction.StoreOp.TheVariants.{Sd}
+use Rattle.rv_isa.specs.declared.instruction.StoreOp.{StoreOp}
+use Rattle.rv_isa.specs.declared.instruction.StoreOp.TheVariants.{Sb, Sh, Sw, Sd}
 use Rattle.rv_isa.specs.declared.instruction.ImmOp.TheVariants.{Addi, Xori, Sltiu}
 use Rattle.rv_isa.specs.declared.instruction.ShiftOp.TheVariants.{Slli, Srli}
 use Rattle.rv_isa.specs.declared.instruction.RegOp.TheVariants.{Add, Sub, Slt, Sltu}
@@ -30,7 +33,7 @@ use Rattle.vcode.specs.declared.place.Destination.{Destination}
 use Rattle.vcode.specs.declared.line.Operation.{Operation}
 use Rattle.vcode.specs.declared.line.Operation.TheVariants.{Reg as RegOperation, RegW as RegWOperation, Compare}
 use Rattle.vcode.specs.declared.line.Line.{Line}
-use Rattle.vcode.specs.declared.line.Line.TheVariants.{Set, Operate, Load as LoadLine}
+use Rattle.vcode.specs.declared.line.Line.TheVariants.{Set, Operate, Load as LoadLine, Store as StoreLine}
 use Rattle.vcode.specs.declared.line.Jump.{Jump}
 use Rattle.vcode.specs.declared.line.Jump.TheVariants.{Goto, Branch, Return, Halt}
 use Rattle.vcode.specs.declared.code.Block.{Block}
@@ -185,6 +188,19 @@ operate_items y to op a b =
 abbrev pub load_to : LoadOp → (d base : ℕ) → Item
 load_to op d base = Plain (Load op (reg d) (reg base) (low 0))
 
+-- a store of this size at an offset from a register
+abbrev pub store_at : StoreOp → (v base offset : ℕ) → Item
+store_at op v base offset = Plain (Store op (reg base) (reg v) (low offset))
+
+abbrev pub store_op : Size → StoreOp
+store_op Byte = Sb
+store_op Half = Sh
+store_op Word = Sw
+store_op Long = Sd
+
+abbrev pub store_items : Layout → Size → (a at : Operand Location) → List Item
+store_items y size a at = fetch y 28 a ++ (fetch y 29 at ++ (store_at (store_op size) (source 28 a) (source 29 at) 0 ∷ []))
+
 abbrev pub load_items : Layout → Location → LoadOp → (at : Operand Location) → List Item
 load_items y to op at = fetch y 28 at ++ ((load_to op (target to) (source 28 at) ∷ []) ++ deliver y to)
 
@@ -227,6 +243,7 @@ abbrev pub line_items : Layout → (used : ℕ) → Line Location → List Item
 line_items y used (Set to a) = set_items y to a
 line_items y used (Operate to op a b) = operate_items y to op a b
 line_items y used (LoadLine to op at) = load_items y to op at
+line_items y used (StoreLine size a at) = store_items y size a at
 line_items y used l = []
 
 abbrev pub lines_items : Layout → (used : ℕ) → List (Line Location) → List Item

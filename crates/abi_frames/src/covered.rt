@@ -12,8 +12,12 @@ fn covers_line(line: &Line<Location>) -> bool
     ensures { result ≡ covers_line line.now }
 {
     match line {
-        Line::Tick { .. } | Line::Set { .. } | Line::Operate { .. } | Line::Load { .. } => true,
-        Line::Store { .. } | Line::Alloc { .. } | Line::Blit { .. } | Line::Call { .. } => false,
+        Line::Tick { .. }
+        | Line::Set { .. }
+        | Line::Operate { .. }
+        | Line::Load { .. }
+        | Line::Store { .. } => true,
+        Line::Alloc { .. } | Line::Blit { .. } | Line::Call { .. } => false,
     }
 }
 

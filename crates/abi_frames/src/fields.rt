@@ -4,7 +4,7 @@ ghost use Rattle.rv_isa.specs.Formats.{signed};
 ghost use Rattle.rv_isa.specs.declared.labelled.Item.TheVariants.{Plain};
 ghost use Rattle.rv_isa.specs.declared.instruction.Instr.TheVariants.{Lui, Shift};
 ghost use Rattle.rv_isa.specs.declared.instruction.ShiftOp.TheVariants.{Srli};
-ghost use Rattle.abi_frames.specs.Emission.{reg, low, field, high, by_1, by_11, add_low, extend, sum_to, load_8, store_8, shift_11};
+ghost use Rattle.abi_frames.specs.Emission.{reg, low, field, high, by_1, by_11, add_low, extend, sum_to, load_8, store_8, store_at, shift_11};
 
 use rv_isa::instruction::{ImmOp, Instr, LoadOp, RegOp, ShiftOp, StoreOp};
 use rv_isa::labelled::Item;
@@ -88,6 +88,18 @@ pub(crate) fn load(to: u8, base: u8, offset: u64) -> Item
         op: LoadOp::Ld,
         rd: register(to),
         rs1: register(base),
+        offset: low_part(offset),
+    })
+}
+
+/// A store at the low part of an offset from a register.
+pub(crate) fn store_at(op: StoreOp, value: u8, base: u8, offset: u64) -> Item
+    ensures { result ≡ store_at op value base offset }
+{
+    Item::Plain(Instr::Store {
+        op,
+        rs1: register(base),
+        rs2: register(value),
         offset: low_part(offset),
     })
 }

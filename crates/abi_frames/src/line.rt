@@ -3,16 +3,16 @@ ghost use Rattle.std.specs.Prelude.{◌≡◌, ◌^◌, ◌<◌, ◌≤◌, [], 
 ghost use Rattle.std.specs.List.{sum_by};
 ghost use Rattle.vcode.specs.Regular.{alloc_bytes};
 ghost use Rattle.vcode.specs.declared.place.Location.TheVariants.{Slot};
-ghost use Rattle.abi_frames.specs.Emission.{operation_items, set_items, operate_items, load_to, load_items, line_items, lines_items};
+ghost use Rattle.abi_frames.specs.Emission.{operation_items, set_items, operate_items, load_to, load_items, store_op, store_items, line_items, lines_items};
 
 use crate::compare::{push_compare, push_compare_words};
-use crate::fields::{low_part, register};
+use crate::fields::{low_part, register, store_at};
 use crate::layout::Layout;
 use crate::operand::{
     push_deliver, push_fetch, push_into_slot, push_operand, source_of, target_of,
 };
-use il_ast::operation::Class;
-use rv_isa::instruction::{Instr, LoadOp};
+use il_ast::operation::{Class, Size};
+use rv_isa::instruction::{Instr, LoadOp, StoreOp};
 use rv_isa::labelled::Item;
 use std::alloc::AllocError;
 use vcode::line::{Line, Operation};
@@ -130,6 +130,33 @@ fn push_load_line(
     Ok(())
 }
 
+fn store_op(size: Size) -> StoreOp
+    ensures { result ≡ store_op size }
+{
+    match size {
+        Size::Byte => StoreOp::Sb,
+        Size::Half => StoreOp::Sh,
+        Size::Word => StoreOp::Sw,
+        Size::Long => StoreOp::Sd,
+    }
+}
+
+fn push_store_line(
+    items: &mut Vec<Item>,
+    layout: &Layout,
+    size: Size,
+    value: &Operand<Location>,
+    at: &Operand<Location>,
+) -> Result<(), AllocError>
+    requires { layout.now.slots < 2 ^ 16 }
+    ensures { OnOk result (items.new.items ≡ items.old.items ++ store_items layout.now size value.now at.now) }
+{
+    push_fetch(items, layout, 28, value)?;
+    push_fetch(items, layout, 29, at)?;
+    items.push(store_at(store_op(size), source_of(28, value), source_of(29, at), 0))?;
+    Ok(())
+}
+
 /// Puts the code of a line at the end; `used` bytes of the area for blocks of memory are taken by the lines before.
 pub(crate) fn push_line(
     items: &mut Vec<Item>,
@@ -149,11 +176,8 @@ pub(crate) fn push_line(
             right,
         } => push_operate(items, layout, to, operation, left, right)?,
         Line::Load { to, op, at } => push_load_line(items, layout, to, *op, at)?,
-        Line::Tick { .. }
-        | Line::Store { .. }
-        | Line::Alloc { .. }
-        | Line::Blit { .. }
-        | Line::Call { .. } => {}
+        Line::Store { size, value, at } => push_store_line(items, layout, *size, value, at)?,
+        Line::Tick { .. } | Line::Alloc { .. } | Line::Blit { .. } | Line::Call { .. } => {}
     }
     Ok(())
 }

@@ -1,0 +1,79 @@
+-- Loads and stores of any size, at an offset from a register; and the bytes that they change.
+use Rattle.std.proofs.Common.{◌≡◌, ℕ, zero, suc, ◌+◌, ◌-◌, ◌*◌, ◌/◌, ◌%◌, ◌^◌, ◌<◌, ◌≤◌, Bool, true, [], ◌∷◌, refl, sym, ◌∙◌, ap, subst, arith, lit<}
+use Rattle.std.specs.Prelude.{not, nat_le, Ok}
+use Rattle.std.specs.Int.{byte_at}
+use Rattle.std.proofs.Math.Nat.{pow-suc, div-div-eq-div-mul}
+use Rattle.std.proofs.lemmas.Bool.{and_from}
+use Rattle.std.proofs.lemmas.Bool.Decides.{nat_tests}
+use Rattle.rv_isa.specs.State.{State, register}
+use Rattle.rv_isa.specs.Memory.{stored, each_of, allowed, can_write}
+use Rattle.rv_isa.specs.Arithmetic.{moved}
+use Rattle.rv_isa.specs.Step.{act, store, store_size}
+use Rattle.rv_isa.specs.Labelled.{Ground, Fixed}
+use Rattle.rv_isa.specs.declared.permission.Permission.{Permission}
+use Rattle.rv_isa.specs.declared.instruction.Instr.TheVariants.{Store}
+use Rattle.rv_isa.specs.declared.instruction.StoreOp.{StoreOp}
+use Rattle.rv_isa.specs.declared.instruction.StoreOp.TheVariants.{Sb, Sh, Sw, Sd}
+use Rattle.rv_isa.proofs.MemoryLemmas.{updated_here, updated_elsewhere, each_from, stored_avoids}
+use Rattle.abi_frames.specs.Emission.{reg, low, store_at}
+use Rattle.abi_frames.proofs.Leading.{Site, Leads, leads_by, IsReg, register_reg}
+use Rattle.abi_frames.proofs.Instructions.{UsableFrom, not_code, code_not}
+
+-- ---- a store
+
+pub some_stored : (op : StoreOp) → 0 < store_size op
+some_stored Sb = lit< tt
+some_stored Sh = lit< tt
+some_stored Sw = lit< tt
+some_stored Sd = lit< tt
+
+n_writable : (g : Ground) (a n : ℕ) → 0 < n → UsableFrom g a n → allowed (λ x. (g.allows x).writable) a n ≡ true
+n_writable g a n some usable =
+    let last = (usable (a + (n - 1)) (omega arith) (omega (arith, some))).small in
+    let whole : a + n ≤ 2 ^ 64 = omega (arith, last, some) in
+    and_from (nat_le (a + n) (2 ^ 64)) (each_of (λ x. (g.allows x).writable) a n) (grind (arith, nat_tests))
+    (each_from (λ x. (g.allows x).writable) a n (λ x lo hi. (usable x lo hi).writable))
+
+-- n bytes at `a` are the lowest of v, and no register has changed
+pub record Written (s : State) (a n v : ℕ) (u : State) : Type 0 where
+  pub bytes : u.bytes ≡ stored s.bytes a n v
+  pub registers : (m : ℕ) → u.registers m ≡ s.registers m
+  pub output : u.output ≡ s.output
+
+pub leads_store_any : (c : Site) (s : State) (op : StoreOp) (v base o a : ℕ) → IsReg v → IsReg base → Fixed c.ground s
+    → moved (s.registers base) (low o).value ≡ a → UsableFrom c.ground a (store_size op)
+    → Leads c (store_at op v base o ∷ []) s (Written s a (store_size op) (s.registers v))
+leads_store_any c s op v base o a is is_base fixed there usable =
+    let n : ℕ = store_size op in
+    let P : (ℕ → Permission) → Type 0 = λ p. allowed (λ x. (p x).writable) a n ≡ true in
+    let writable : can_write s a n ≡ true = subst P (sym fixed.permissions) (n_writable c.ground a n (some_stored op) usable) in
+    let at : moved (register s (reg base)) (low o).value ≡ a = ap (λ x. moved x (low o).value) (register_reg s base is_base) ∙ there in
+    let t : State = record s { pc = (s.pc + 4) % 2 ^ 64; bytes = stored s.bytes a n (s.registers v) } in
+    let acts : act (Store op (reg base) (reg v) (low o)) s ≡ Ok t =
+    ap (store s op (register s (reg v))) at ∙ (ap (λ x. store s op x a) (register_reg s v is) ∙ (rw writable refl)) in
+    let p : ℕ → Bool = λ x. not (c.ground.allows x).executable in
+    let each : each_of p a n ≡ true = each_from p a n (λ x lo hi. not_code (c.ground.allows x).executable (usable x lo hi).no_code) in
+    leads_by c s t (Store op (reg base) (reg v) (low o)) (Written s a n (s.registers v)) acts refl refl
+    (λ x h. stored_avoids p s.bytes a n (s.registers v) x each (code_not (c.ground.allows x).executable h))
+    (record { bytes = refl; registers = λ m. refl; output = refl })
+
+-- ---- the bytes that are stored
+
+byte_later : (j n : ℕ) → byte_at j (n / 256) ≡ byte_at (suc j) n
+byte_later zero n = refl
+byte_later (suc i) n =
+    let power : 256 * 256 ^ suc i ≡ 256 ^ suc (suc i) = (let e : 256 ^ suc (suc i) ≡ 256 ^ suc i * 256 = pow-suc 256 (suc i) in omega arith) in
+    ap (λ d. d % 256) (div-div-eq-div-mul n 256 (256 ^ suc i) ∙ ap (λ d. n / d) power)
+
+pub stored_byte : (f : ℕ → ℕ) (a n v k : ℕ) → k < n → stored f a n v (a + k) ≡ byte_at k v
+unfolding stored
+stored_byte f a zero v k h = absurd (omega (arith, h))
+stored_byte f a (suc n) v zero h =
+    let here : a + zero ≡ a = omega arith in
+    let g : ℕ → ℕ = stored f (a + 1) n (v / 256) in
+    ap (stored f a (suc n) v) here ∙ updated_here g a (v % 256)
+stored_byte f a (suc n) v (suc k) h =
+    let next : a + suc k ≡ a + 1 + k = omega arith in
+    let g : ℕ → ℕ = stored f (a + 1) n (v / 256) in
+    updated_elsewhere g a (v % 256) (a + suc k) (λ e. absurd (omega (arith, e)))
+    ∙ (ap g next ∙ (stored_byte f (a + 1) n (v / 256) k (omega (arith, h)) ∙ byte_later k v))

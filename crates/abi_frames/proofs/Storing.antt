@@ -1,0 +1,195 @@
+-- A store: its code, and that the machine follows the code on bytes over it.
+use Rattle.std.proofs.Common.{inl, inr, ◌≡◌, ℕ, zero, suc, ◌+◌, ◌-◌, ◌%◌, ◌^◌, ◌<◌, Bool, true, false, List, [], ◌∷◌, ◌++◌, refl, sym, ◌∙◌, ap, subst, arith, lit<}
+use Rattle.std.specs.Prelude.{if◌then◌else◌, Option, Some, None}
+use Rattle.std.specs.Int.{byte_at}
+use Rattle.std.specs.List.{list_all}
+use Rattle.std.specs.Option.{option_map, option_and_then}
+use Rattle.std.proofs.lemmas.Bool.{and_parts}
+use Rattle.il_ast.specs.declared.operation.Size.{Size}
+use Rattle.il_ast.specs.declared.operation.Size.TheVariants.{Byte, Half, Word, Long}
+use Rattle.il_ast.specs.Values.{byte_count}
+use Rattle.il_ast.specs.Effect.{stored_class}
+use Rattle.rv_isa.specs.State.{State}
+use Rattle.rv_isa.specs.Memory.{stored}
+use Rattle.rv_isa.specs.Arithmetic.{moved}
+use Rattle.rv_isa.specs.Step.{store_size}
+use Rattle.rv_isa.specs.declared.labelled.Item.{Item}
+use Rattle.rv_isa.proofs.MemoryLemmas.{stored_below, stored_above}
+use Rattle.vcode.specs.declared.place.Location.{Location}
+use Rattle.vcode.specs.declared.place.Operand.{Operand}
+use Rattle.vcode.specs.declared.line.Line.{Line}
+use Rattle.vcode.specs.declared.line.Line.TheVariants.{Store}
+use Rattle.vcode.specs.declared.code.Block.{Block}
+use Rattle.vcode.specs.declared.code.Code.{Code}
+use Rattle.vcode.specs.Named.{is_place, operand_keeps, line_keeps}
+use Rattle.flat_code.specs.Spots.{Away, Known, Spots}
+use Rattle.flat_code.specs.Flat.{FlatGiven, FlatOutcome}
+use Rattle.flat_code.specs.Step.{all_there, is_in, with_number, stored as stored_spots, FlatState, number_of, read, taken, changes, goes_on}
+use Rattle.abi_frames.specs.Calls.{HoldsSpots}
+use Rattle.abi_frames.specs.Performs.{AllPerform}
+use Rattle.abi_frames.specs.Emission.{low, fetch, source, store_at, store_op, store_items, line_items}
+use Rattle.abi_frames.proofs.Leading.{Leads, leads_then, leads_so}
+use Rattle.abi_frames.proofs.Instructions.{UsableFrom, is_28, is_29, same_address}
+use Rattle.abi_frames.proofs.Activations.{Setting, IsSetting, site, bottom, operand_in, Framed, operand_known}
+use Rattle.abi_frames.proofs.LineCode.{Fetched, leads_fetch, fetched_scratched, scratched_then, operand_same, source_reg, source_not_29}
+use Rattle.abi_frames.proofs.Accesses.{Written, leads_store_any, stored_byte}
+use Rattle.abi_frames.proofs.MemoryChanges.{Changed, changed, there_at, usable_from, inside_is, outside_is}
+use Rattle.abi_frames.proofs.Simulation.{CodeStands, At, Performed, Log, Follows, Then, undefined, reach, advance, nothing_taken}
+
+-- ---- the code
+
+-- n bytes at `a` are the lowest of v; of the registers only scratch may have changed
+pub record Stored (s : State) (a n v : ℕ) (u : State) : Type 0 where
+  pub bytes : u.bytes ≡ stored s.bytes a n v
+  pub registers : (m : ℕ) → m < 28 → u.registers m ≡ s.registers m
+  pub output : u.output ≡ s.output
+
+size_is : (size : Size) → store_size (store_op size) ≡ byte_count size
+size_is Byte = refl
+size_is Half = refl
+size_is Word = refl
+size_is Long = refl
+
+pub leads_store_line : (c : Setting) → IsSetting c → (s : State) (size : Size) (a at : Operand Location) → s.registers 2 ≡ bottom c
+    → operand_keeps (is_place c.slots) a ≡ true → operand_keeps (is_place c.slots) at ≡ true
+    → UsableFrom c.world.memory_map (operand_in c s at) (byte_count size)
+    → Leads (site c) (store_items c.layout size a at) s (Stored s (operand_in c s at) (byte_count size) (operand_in c s a))
+leads_store_line c is s size a at pointer known_a known_at usable =
+    let p : ℕ = operand_in c s at in
+    let v : ℕ = operand_in c s a in
+    let n : ℕ = byte_count size in
+    let x : ℕ = source 28 a in
+    let y : ℕ = source 29 at in
+    let made : List Item = store_at (store_op size) x y 0 ∷ [] in
+    leads_then (site c) (fetch c.layout 28 a) (fetch c.layout 29 at ++ made) s (Fetched c s 28 a) (Stored s p n v)
+    (leads_fetch c is s 28 a is_28 (λ e. absurd (omega (arith, e))) pointer known_a)
+    (λ u f one.
+    let same = fetched_scratched c s 28 a u (omega arith) one in
+    leads_then (site c) (fetch c.layout 29 at) made u (Fetched c u 29 at) (Stored s p n v)
+    (leads_fetch c is u 29 at is_29 (λ e. absurd (omega (arith, e))) (same.registers 2 (lit< tt) ∙ pointer) known_at)
+    (λ w g two.
+    let all = scratched_then s u w same (fetched_scratched c u 29 at w (omega arith) two) in
+    let value : w.registers x ≡ v = two.others x (source_not_29 c.slots a known_a) ∙ one.value in
+    let place : w.registers y ≡ p = two.value ∙ operand_same c s u at known_at same in
+    let word : p < 2 ^ 64 = subst (λ q. q < 2 ^ 64) place (g.words y) in
+    let there = subst (λ q. UsableFrom c.world.memory_map p q) (sym (size_is size)) usable in
+    leads_so (site c) made w (Written w p (store_size (store_op size)) (w.registers x)) (Stored s p n v)
+    (leads_store_any (site c) w (store_op size) x y 0 p (source_reg c.slots 28 a is_28 known_a) (source_reg c.slots 29 at is_29 known_at) g
+    (ap (λ q. moved q (low 0).value) place ∙ same_address p word) there)
+    (λ t h three. record {
+      bytes = three.bytes ∙ (ap (λ q. stored w.bytes p q (w.registers x)) (size_is size) ∙ (ap (stored w.bytes p n) value ∙ ap (λ (m : ℕ → ℕ). stored m p n v) all.bytes));
+      registers = λ m lo. three.registers m ∙ all.registers m lo;
+      output = three.output ∙ all.output;
+    })))
+
+-- ---- the bytes after it
+
+low_byte : (v k : ℕ) → k < 4 → byte_at k v ≡ byte_at k (v % 2 ^ 32)
+low_byte v zero h = omega arith
+low_byte v (suc zero) h = omega arith
+low_byte v (suc (suc zero)) h = omega arith
+low_byte v (suc (suc (suc zero))) h = omega arith
+low_byte v (suc (suc (suc (suc k)))) h = absurd (omega (arith, h))
+
+-- the bytes that are stored are those of the part of the number that the class takes
+byte_taken : (size : Size) (v k : ℕ) → k < byte_count size → byte_at k v ≡ byte_at k (taken (stored_class size) v)
+byte_taken Long v k h = refl
+byte_taken Byte v k h = low_byte v k (omega (arith, h))
+byte_taken Half v k h = low_byte v k (omega (arith, h))
+byte_taken Word v k h = low_byte v k h
+
+known_is : (a b : ℕ) → Known a ≡ Known b → a ≡ b
+known_is a b h = cc
+
+pub stored_changes : (c : Setting) (memory : Spots) (s u : State) (a n v z : ℕ) → HoldsSpots c.world.memory_map memory s → all_there memory a n ≡ true
+    → ((k : ℕ) → k < n → byte_at k v ≡ byte_at k z) → Stored s a n v u → Changed memory (with_number memory a n z) s u
+stored_changes c memory s u a n v z holds there same h = record {
+  registers = h.registers;
+  output = h.output;
+  spared = λ x away. at_x x ∙ elsewhere x (spared x away (is_in a n x) refl);
+  known = λ x m e. known x m (is_in a n x) refl e;
+  stays = λ x away. stays x away (is_in a n x) refl;
+}
+  where
+    at_x : (x : ℕ) → u.bytes x ≡ stored s.bytes a n v x
+    at_x x = ap (λ (m : ℕ → ℕ). m x) h.bytes
+
+    elsewhere : (x : ℕ) → is_in a n x ≡ false → stored s.bytes a n v x ≡ s.bytes x
+    elsewhere x out = elim (outside_is a n x out) [
+      | inl below ↦ stored_below s.bytes a n v x below
+      | inr above ↦ stored_above s.bytes a n v x above
+    ]
+
+    spared : (x : ℕ) → memory x ≡ Away → (b : Bool) → is_in a n x ≡ b → is_in a n x ≡ false
+    spared x away false e = e
+    spared x away true e = let at = inside_is a n x e in absurd (there_at memory a n x there at.0 at.1 away)
+
+    stays : (x : ℕ) → memory x ≡ Away → (b : Bool) → is_in a n x ≡ b → (if b then Known (byte_at (x - a) z) else memory x) ≡ Away
+    stays x away false e = away
+    stays x away true e = let at = inside_is a n x e in absurd (there_at memory a n x there at.0 at.1 away)
+
+    known : (x m : ℕ) → (b : Bool) → is_in a n x ≡ b → (if b then Known (byte_at (x - a) z) else memory x) ≡ Known m → u.bytes x ≡ m
+    known x m false e is = at_x x ∙ (elsewhere x e ∙ holds.known x m is)
+    known x m true e is =
+        let at = inside_is a n x e in
+        let lo = at.0 in
+        let hi = at.1 in
+        let place : x ≡ a + (x - a) = omega (arith, lo) in
+        let few : x - a < n = omega (arith, lo, hi) in
+        at_x x ∙ (ap (stored s.bytes a n v) place ∙ (stored_byte s.bytes a n v (x - a) few ∙ (same (x - a) few ∙ known_is (byte_at (x - a) z) m is)))
+
+-- ---- the line
+
+stores : (c : Setting) (f : Code Location) → CodeStands c f → (j : FlatGiven) (r : FlatOutcome) (n : ℕ) → Follows c f j r n
+    → (b : Block Location) (size : Size) (x y : Operand Location) (lines : List (Line Location)) (fs : FlatState) (k : ℕ) (u : State)
+    → (a : At c f b (Store size x y ∷ lines) fs k u) → (log : Log) → AllPerform c.world (bottom c) log
+    → (v p : ℕ) → number_of c.addresses fs.numbers x ≡ Some v → number_of c.addresses fs.numbers y ≡ Some p
+    → all_there fs.memory p (byte_count size) ≡ true
+    → Then c f j r n log (goes_on (record fs { memory = with_number fs.memory p (byte_count size) (taken (stored_class size) v) })) → Performed c f r
+stores c f is j r n go b size x y lines fs k u a log all v p is_x is_y there goes =
+    let m : ℕ = byte_count size in
+    let now : Spots = with_number fs.memory p m (taken (stored_class size) v) in
+    let known = and_parts (operand_keeps (is_place c.slots) x) (operand_keeps (is_place c.slots) y)
+    (and_parts (line_keeps (is_place c.slots) (Store size x y)) (list_all (line_keeps (is_place c.slots)) lines) a.known).0 in
+    let at_x : operand_in c u x ≡ v = operand_known c fs.numbers fs.memory u x v is.setting a.framed known.0 is_x in
+    let at_y : operand_in c u y ≡ p = operand_known c fs.numbers fs.memory u y p is.setting a.framed known.1 is_y in
+    let usable = subst (λ q. UsableFrom c.world.memory_map q m) (sym at_y) (usable_from c.world.memory_map fs.memory u p m a.framed.spots there) in
+    let reached = reach c f b (Store size x y) lines fs k u (λ t. Framed c fs.numbers now t × (t.output ≡ u.output)) a
+    (leads_so (site c) (line_items c.layout a.used (Store size x y)) u (Stored u (operand_in c u y) m (operand_in c u x))
+    (λ t. Framed c fs.numbers now t × (t.output ≡ u.output)) (leads_store_line c is.setting u size x y a.framed.pointer known.0 known.1 usable)
+    (λ t fixed made. (
+      changed c is.setting fs.numbers fs.memory now u t a.framed
+          (stored_changes c fs.memory u t p m v (taken (stored_class size) v) a.framed.spots there (byte_taken size v)
+          (subst (λ q. Stored u p m q t) at_x (subst (λ q. Stored u q m (operand_in c u x) t) at_y made))),
+      made.output,
+    ))) in
+    go b lines (record fs { next = fs.next + 1; memory = now }) (k + reached.steps) reached.after
+    (advance c f b (Store size x y) lines fs k u fs.numbers now fs.used a refl (nothing_taken fs.used) a.paid reached) log goes all
+
+pub store_case : (c : Setting) (f : Code Location) → CodeStands c f → (j : FlatGiven) (r : FlatOutcome) (n : ℕ) → Follows c f j r n
+    → (b : Block Location) (size : Size) (x y : Operand Location) (lines : List (Line Location)) (fs : FlatState) (k : ℕ) (u : State)
+    → At c f b (Store size x y ∷ lines) fs k u → (log : Log)
+    → Then c f j r n log
+    (changes fs
+    (option_and_then
+    (λ v. option_and_then (λ p. stored_spots fs.memory p (byte_count size) v) (number_of c.addresses fs.numbers y))
+    (read c.addresses fs.numbers (stored_class size) x)))
+    → AllPerform c.world (bottom c) log → Performed c f r
+store_case c f is j r n go b size x y lines fs k u a log goes all =
+    by_operands (number_of c.addresses fs.numbers x) refl (number_of c.addresses fs.numbers y) refl goes
+  where
+    by_test : (v p : ℕ) → number_of c.addresses fs.numbers x ≡ Some v → number_of c.addresses fs.numbers y ≡ Some p
+        → (t : Bool) → all_there fs.memory p (byte_count size) ≡ t
+        → Then c f j r n log (changes fs (if t then Some (with_number fs.memory p (byte_count size) (taken (stored_class size) v)) else None))
+        → Performed c f r
+    by_test v p e d false h e_goes = undefined c f fs.spent r e_goes.0
+    by_test v p e d true h e_goes = stores c f is j r n go b size x y lines fs k u a log all v p e d h e_goes
+
+    by_operands : (o : Option ℕ) → number_of c.addresses fs.numbers x ≡ o → (q : Option ℕ) → number_of c.addresses fs.numbers y ≡ q
+        → Then c f j r n log
+        (changes fs
+        (option_and_then (λ v. option_and_then (λ p. stored_spots fs.memory p (byte_count size) v) q) (option_map (taken (stored_class size)) o)))
+        → Performed c f r
+    by_operands None e q d e_goes = undefined c f fs.spent r e_goes.0
+    by_operands (Some v) e None d e_goes = undefined c f fs.spent r e_goes.0
+    by_operands (Some v) e (Some p) d e_goes = by_test v p e d (all_there fs.memory p (byte_count size)) refl e_goes
