@@ -1,17 +1,19 @@
 //! # The command line of qbec
 //!
 //! [`command_of`] takes the words after the program's name and answers what they ask for, [`Command`], or the text to show instead, [`Refusal`].
-//! The grammar of the words and all texts are `clap`'s: what is said here of either is shown by tests alone, and no contract says it.
+//! The grammar of the words and all texts are `clap`'s: what is said here of either is shown by tests alone, and no contract says it. Which argument each part of a
+//! command is taken from is the contract of [`asked::asked`].
 #![tactic(auto)]
 
+pub mod asked;
 mod grammar;
 pub mod refusal;
 #[cfg(test)]
 mod tests;
 
-use crate::grammar::{EXECUTABLE, FILES, LIMIT, OUT, TEXT, WORDS, grammar};
+use crate::asked::asked;
+use crate::grammar::grammar;
 pub use crate::refusal::Refusal;
-use clap::ArgMatches;
 use clap::error::ErrorKind;
 use std::alloc::{AllocError, Global};
 
@@ -55,63 +57,17 @@ pub const DEFAULT_LIMIT: u64 = 1_000_000_000;
 /// memory was refused.
 pub fn command_of<'a>(alloc: Global, words: &'a [&'a str]) -> Result<Command<'a>, Refusal> {
     let matches = grammar(alloc)?.try_get_matches_from(words)?;
-    match matches.subcommand() {
-        Some(("build", found)) => Ok(build_of(alloc, found)?),
-        Some(("run", found)) => Ok(run_of(alloc, found)?),
-        Some(("interp", found)) => Ok(interpret_of(alloc, found)?),
-        Some(("dis", found)) => Ok(Command::Disassemble {
-            file: word_of(found, EXECUTABLE),
-        }),
-        _ => Err(no_command(alloc)?),
+    let command = match matches.subcommand() {
+        Some((name, found)) => asked(alloc, name, found)?,
+        None => None,
+    };
+    match command {
+        Some(command) => Ok(command),
+        None => Err(no_command(alloc)?),
     }
 }
 
 fn no_command(alloc: Global) -> Result<Refusal, AllocError> {
     let error = grammar(alloc)?.error(ErrorKind::MissingSubcommand, "no command was given")?;
     Ok(Refusal::from(error))
-}
-
-/// The one word of an argument.
-fn word_of<'a>(found: &ArgMatches<'a>, name: &str) -> &'a str {
-    found.get_str(name).unwrap_or("")
-}
-
-/// All words of an argument.
-fn words_of<'a>(
-    alloc: Global,
-    found: &ArgMatches<'a>,
-    name: &str,
-) -> Result<Vec<&'a str>, AllocError> {
-    let words = found.get_strs(name).unwrap_or(&[]);
-    words.to_vec(alloc)
-}
-
-fn limit_of(found: &ArgMatches<'_>) -> u64 {
-    found.get_one::<u64>(LIMIT).unwrap_or(DEFAULT_LIMIT)
-}
-
-fn build_of<'a>(alloc: Global, found: &ArgMatches<'a>) -> Result<Command<'a>, AllocError> {
-    let files = words_of(alloc, found, FILES)?;
-    Ok(Command::Build {
-        out: word_of(found, OUT),
-        files,
-    })
-}
-
-fn run_of<'a>(alloc: Global, found: &ArgMatches<'a>) -> Result<Command<'a>, AllocError> {
-    let words = words_of(alloc, found, WORDS)?;
-    Ok(Command::Run {
-        limit: limit_of(found),
-        file: word_of(found, EXECUTABLE),
-        words,
-    })
-}
-
-fn interpret_of<'a>(alloc: Global, found: &ArgMatches<'a>) -> Result<Command<'a>, AllocError> {
-    let words = words_of(alloc, found, WORDS)?;
-    Ok(Command::Interpret {
-        limit: limit_of(found),
-        file: word_of(found, TEXT),
-        words,
-    })
 }

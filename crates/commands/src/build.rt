@@ -1,7 +1,8 @@
 //! `qbec build`.
-use crate::compiler::Compiler;
 use crate::failure::Failure;
 use crate::files::{read, write};
+use qbec::compile::compile;
+use regalloc::strategy::Strategy;
 use shell::disk::Disk;
 use std::alloc::{AllocError, Global};
 
@@ -28,16 +29,16 @@ fn slices(alloc: Global, texts: &[Vec<u8>]) -> Result<Vec<&[u8]>, AllocError> {
 }
 
 /// Compiles the files to the file `out`, which is written only after success.
-pub(crate) fn build<'a, C: Compiler, D: Disk>(
+pub(crate) fn build<'a, D: Disk>(
     alloc: Global,
-    compiler: &mut C,
+    how: &mut dyn Strategy,
     disk: &mut D,
     out: &'a str,
     paths: &[&'a str],
 ) -> Result<u8, Failure<'a>> {
     let texts = read_all(alloc, disk, paths)?;
     let slices = slices(alloc, texts.as_slice())?;
-    let bytes = compiler.compile(alloc, slices.as_slice())?;
+    let bytes = compile(alloc, slices.as_slice(), how)?;
     write(disk, out, bytes.as_slice())?;
     Ok(0)
 }

@@ -1,10 +1,10 @@
 //! What the user asks for, done.
 use crate::build::build;
-use crate::compiler::Compiler;
 use crate::disassemble::disassemble;
 use crate::failure::Failure;
 use crate::run::{interpret, run};
 use command_line::{Command, Refusal, command_of};
+use regalloc::strategy::Strategy;
 use shell::disk::Disk;
 use shell::message::Message;
 use shell::sink::Sink;
@@ -33,16 +33,16 @@ fn show<O: Sink, E: Sink>(refusal: Refusal, out: &mut O, err: &mut E) -> u8 {
     }
 }
 
-fn perform<'a, C: Compiler, D: Disk, O: Sink>(
+fn perform<'a, D: Disk, O: Sink>(
     alloc: Global,
     command: &Command<'a>,
-    compiler: &mut C,
+    how: &mut dyn Strategy,
     disk: &mut D,
     out: &mut O,
 ) -> Result<u8, Failure<'a>> {
     match command {
         Command::Build { out: target, files } => {
-            build(alloc, compiler, disk, *target, files.as_slice())
+            build(alloc, how, disk, *target, files.as_slice())
         }
         Command::Run { limit, file, words } => {
             run(alloc, disk, out, *limit, *file, words.as_slice())
@@ -58,7 +58,7 @@ fn perform<'a, C: Compiler, D: Disk, O: Sink>(
 ///
 /// | Words | What is done |
 /// |---|---|
-/// | `build -o OUT FILE...` | compiles the files as texts, in order, and writes OUT only after success |
+/// | `build -o OUT FILE...` | compiles the files as texts, in order, with registers as the strategy chooses, and writes OUT only after success |
 /// | `run [--limit N] EXE WORD...` | runs the executable file for at most N instructions |
 /// | `interp [--limit N] FILE WORD...` | interprets one text for at most N turns |
 /// | `dis EXE` | shows the instructions of the executable file |
@@ -69,16 +69,16 @@ fn perform<'a, C: Compiler, D: Disk, O: Sink>(
 ///
 /// Failures are found in this order: the command line; the files in order, at the first that can't be read; refusals of the texts or of the executable file; the
 /// argument words; the run; writing.
-pub fn command<C: Compiler, D: Disk, O: Sink, E: Sink>(
+pub fn command<D: Disk, O: Sink, E: Sink>(
     alloc: Global,
     words: &[&str],
-    compiler: &mut C,
+    how: &mut dyn Strategy,
     disk: &mut D,
     out: &mut O,
     err: &mut E,
 ) -> u8 {
     match command_of(alloc, words) {
-        Ok(command) => match perform(alloc, &command, compiler, disk, out) {
+        Ok(command) => match perform(alloc, &command, how, disk, out) {
             Ok(status) => status,
             Err(failure) => report(failure, err),
         },

@@ -6,15 +6,13 @@
 //! - [`runs::run_file`] runs the executable file of some bytes, exactly as the machine of the definitions does.
 //! - [`runs::interpret_text`] interprets one text, exactly as its program means.
 //! - [`failure::Failure`] says why a command did not end well; its status is that of `specs/Statuses.antt`.
-//! - [`compiler::Compiler`] is what `build` compiles with: it keeps the promise of `qbec::compile::compile`.
 //!
 //! Which line is written, and what goes to which stream, is shown by the tests alone; so are the texts of the command line. That `build` writes the bytes that
-//! its compiler answers and nothing else is read in the code.
+//! `compile` answers and nothing else is read in the code.
 #![tactic(auto)]
 
 mod build;
 pub mod command;
-pub mod compiler;
 mod disassemble;
 pub mod failure;
 mod files;

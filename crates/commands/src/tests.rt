@@ -1,6 +1,9 @@
 //! The commands over files and streams in memory.
 use crate::command::command;
-use crate::compiler::Spilling;
+use crate::failure::Failure;
+use crate::refusal::Refusal;
+use elf_file::LoadError;
+use regalloc::spill_all::SpillAll;
 use shell::disk::{Disk, FileFault};
 use shell::sink::{Sink, SinkFault};
 use std::alloc::{AllocError, Global};
@@ -139,7 +142,8 @@ fn done(
 ) -> Result<String, AllocError> {
     let mut out = Stream::new(alloc, most, fails_at);
     let mut err = Stream::new(alloc, 1, 0);
-    let status = command(alloc, words, &mut Spilling, files, &mut out, &mut err);
+    let mut how = SpillAll::new(alloc);
+    let status = command(alloc, words, &mut how, files, &mut out, &mut err);
     let output = out.text();
     let message = err.text();
     format!(in alloc; "{status}|{output}|{message}")
@@ -330,11 +334,12 @@ fn texts_are_refused(rt: HostRuntime) -> Result<(), Fail> {
     Ok(())
 }
 
-/// Stores a file of one segment of these bytes, with these flags, at 0x10000.
-fn store_code(
+/// Stores a file of one segment of these bytes, with these flags, at so many times 0x10000.
+fn store_segment(
     files: &mut Files,
     path: &str,
     flags: u8,
+    place: u8,
     entry: u8,
     word: &[u8],
 ) -> Result<(), AllocError> {
@@ -345,11 +350,24 @@ fn store_code(
         b"\x40\0\0\0\0\0\0\0\0\0\0\0\0\0\0\0\0\0\0\0\x40\0\x38\0\x01\0\0\0\0\0\0\0",
     )?;
     file.extend_from_slice(&[1, 0, 0, 0, flags, 0, 0, 0])?;
-    file.extend_from_slice(b"\0\x10\0\0\0\0\0\0\0\0\x01\0\0\0\0\0\0\0\x01\0\0\0\0\0")?;
+    file.extend_from_slice(b"\0\x10\0\0\0\0\0\0")?;
+    file.extend_from_slice(&[0, 0, place, 0, 0, 0, 0, 0])?;
+    file.extend_from_slice(&[0, 0, place, 0, 0, 0, 0, 0])?;
     file.extend_from_slice(b"\x04\0\0\0\0\0\0\0\x04\0\0\0\0\0\0\0\0\x10\0\0\0\0\0\0")?;
     file.resize(4096, 0)?;
     file.extend_from_slice(word)?;
     files.store(path, file.as_slice())
+}
+
+/// The same at 0x10000.
+fn store_code(
+    files: &mut Files,
+    path: &str,
+    flags: u8,
+    entry: u8,
+    word: &[u8],
+) -> Result<(), AllocError> {
+    store_segment(files, path, flags, 1, entry, word)
 }
 
 #[test]
@@ -379,6 +397,7 @@ fn files_are_refused(rt: HostRuntime) -> Result<(), Fail> {
     let mut files = Files::new(rt.alloc());
     store_code(&mut files, "short", 1, 0, b"\0\0\0")?;
     store_code(&mut files, "flags", 7, 0, b"\0\0\0\0")?;
+    store_segment(&mut files, "place", 1, 0, 0, b"\0\0\0\0")?;
     store_code(&mut files, "entry", 1, 2, b"\0\0\0\0")?;
     files.store(
         "other",
@@ -388,9 +407,53 @@ fn files_are_refused(rt: HostRuntime) -> Result<(), Fail> {
         "run short => 126||qbec: refused L1\n",
         "dis other => 126||qbec: refused L2\n",
         "run flags => 126||qbec: refused L3\n",
+        "run place => 126||qbec: refused L4\n",
+        "dis place => 126||qbec: refused L4\n",
         "run entry => 126||qbec: refused L5\n",
     ];
     check_rows(&rt, rt.alloc(), &mut files, &rows)?;
+    Ok(())
+}
+
+/// The status of a failure, and its line.
+fn told(alloc: Global, failure: Failure<'_>) -> Result<String, AllocError> {
+    let status = failure.status();
+    format!(in alloc; "{status} {failure}")
+}
+
+#[test]
+fn want_of_memory_has_lines(rt: HostRuntime) -> Result<(), Fail> {
+    let texts = Failure::Refused(Refusal::Memory);
+    assert_eq!(rt; told(rt.alloc(), texts)?.as_str(), "126 refused E7");
+    let file = Failure::Refused(Refusal::File(LoadError::Memory));
+    assert_eq!(rt; told(rt.alloc(), file)?.as_str(), "126 refused L6");
+    assert_eq!(rt; told(rt.alloc(), Failure::Memory)?.as_str(), "126 memory");
+    Ok(())
+}
+
+/// Each command does what is expected, or says that memory was refused and writes nothing.
+#[test]
+fn commands_want_memory_or_answer(rt: HostRuntime) -> Result<(), Fail> {
+    let mut files = Files::new(rt.alloc());
+    files.store("zero", b"export function w $main() {\n@s\nret 7\n}\n")?;
+    store_code(&mut files, "halt", 5, 0, b"\x73\0\x10\0")?;
+    let rows = [
+        ("build -o m zero", "0||"),
+        ("interp zero", "7||"),
+        ("run halt", "134||qbec: halt\n"),
+        ("dis halt", "0|00010000  00100073  ebreak\n|"),
+    ];
+    for (words, expected) in rows {
+        let words: Vec<&str> = words.split(' ').collect(rt.alloc())?;
+        let text = shown(rt.alloc(), &mut files, words.as_slice())?;
+        let refusals = [
+            "126||qbec: refused E7\n",
+            "126||qbec: refused L6\n",
+            "126||qbec: memory\n",
+        ];
+        let is_refused = refusals.contains(&text.as_str());
+        assert!(rt; is_refused || text.as_str() == expected, "{text}");
+    }
     Ok(())
 }
 

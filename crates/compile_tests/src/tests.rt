@@ -34,7 +34,7 @@ fn ends_with(
     alloc: Global,
     texts: &[&[u8]],
     limit: u64,
-    how: &mut Box<dyn Strategy>,
+    how: &mut dyn Strategy,
 ) -> Result<String, AllocError> {
     let file = match compile(alloc, texts, how) {
         Ok(file) => file,
@@ -54,7 +54,7 @@ fn ends_with(
 
 /// The same, with a strategy that answers nothing.
 fn ends(alloc: Global, texts: &[&[u8]], limit: u64) -> Result<String, AllocError> {
-    let mut how: Box<dyn Strategy> = Box::new(alloc, Fixed::new(alloc, Answer::Nothing))?;
+    let mut how = Fixed::new(alloc, Answer::Nothing);
     ends_with(alloc, texts, limit, &mut how)
 }
 
@@ -106,7 +106,7 @@ fn strategies_that_are_wrong(rt: HostRuntime) -> Result<(), Fail> {
     ];
     for answer in answers {
         let alloc = rt.alloc();
-        let mut how: Box<dyn Strategy> = Box::new(alloc, Fixed::new(alloc, answer))?;
+        let mut how = Fixed::new(alloc, answer);
         let first = ends_with(alloc, &[LOOP], 19776, &mut how)?;
         let second = ends_with(alloc, &[LOOP], 19776, &mut how)?;
         assert_eq!(rt; first.as_str(), "Exit(186)");
@@ -119,7 +119,7 @@ fn strategies_that_are_wrong(rt: HostRuntime) -> Result<(), Fail> {
 fn every_register_in_x9_where_one_is_enough(rt: HostRuntime) -> Result<(), Fail> {
     let alloc = rt.alloc();
     let answer = Answer::Everywhere(Location::Register(9));
-    let mut how: Box<dyn Strategy> = Box::new(alloc, Fixed::new(alloc, answer))?;
+    let mut how = Fixed::new(alloc, answer);
     let text =
         b"export function w $main() {\n@s\n%a =w copy 40\n%b =w add %a, 1\n%c =w add %b, 1\nret %c\n}\n";
     assert_eq!(rt;

@@ -30,7 +30,7 @@ fn push_code(codes: &mut Vec<Code>, code: Code) -> Result<(), AllocError>
 pub fn codes_of(
     alloc: Global,
     functions: &[Placed<&Func>],
-    how: &mut Box<dyn Strategy>,
+    how: &mut dyn Strategy,
 ) -> Result<Option<Vec<Code>>, AllocError>
     requires { AreGood functions.now }
     ensures words { IfOk result (λ o. IfSome o (λ v. AreWords v.items (map shown functions.now))) }

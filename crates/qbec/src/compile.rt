@@ -67,7 +67,7 @@ fn file_of(alloc: Global, linked: &Linked<'_>, codes: &[Code]) -> Result<Vec<u8>
 fn compiled(
     alloc: Global,
     linked: &Linked<'_>,
-    how: &mut Box<dyn Strategy>,
+    how: &mut dyn Strategy,
 ) -> Result<Vec<u8>, CompileError>
     requires program { IsProgram linked.now.texts.now (program linked.now) }
     requires good { AreGood linked.now.functions }
@@ -128,7 +128,7 @@ fn link_refusal(alloc: Global, error: LinkError<'_>) -> CompileError
 pub fn compile(
     alloc: Global,
     texts: &[&[u8]],
-    how: &mut Box<dyn Strategy>,
+    how: &mut dyn Strategy,
 ) -> Result<Vec<u8>, CompileError>
     ensures file { IfOk result (λ v. IsCompiled texts.now v.items) }
     ensures refused { IfErr result (λ e. Refuses e texts.now) }

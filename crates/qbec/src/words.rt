@@ -47,7 +47,7 @@ fn certified(
 pub fn allocated(
     alloc: Global,
     function: &VFunc,
-    how: &mut Box<dyn Strategy>,
+    how: &mut dyn Strategy,
 ) -> Result<LFunc, AllocError>
     ensures { IfOk result (λ l. IsAllocated function.now.code function.now.registers l.code l.slots) }
 {
@@ -66,7 +66,7 @@ pub fn allocated(
 pub fn located(
     alloc: Global,
     func: &Func,
-    how: &mut Box<dyn Strategy>,
+    how: &mut dyn Strategy,
 ) -> Result<FlatFunc, AllocError>
     requires { IsGoodFunction func.now }
     ensures { IfOk result (λ f. IsLocated func.now f.located.code f.located.slots) }
@@ -96,7 +96,7 @@ pub fn laid_out(alloc: Global, function: &FlatFunc) -> Result<Code, AllocError>
 pub fn function_words(
     alloc: Global,
     func: &Func,
-    how: &mut Box<dyn Strategy>,
+    how: &mut dyn Strategy,
 ) -> Result<Option<Code>, AllocError>
     requires { IsGoodFunction func.now }
     ensures words { IfOk result (λ o. IfSome o (λ c. StandFor func.now c × (length c.words ≤ 32 * weight func.now + 256))) }

@@ -9,7 +9,7 @@ mod stream;
 use crate::host_files::HostFiles;
 use crate::stream::Stream;
 use commands::command::command;
-use commands::compiler::Spilling;
+use regalloc::spill_all::SpillAll;
 use shell::message::Message;
 use shell::sink::Sink;
 use std::alloc::Global;
@@ -37,7 +37,15 @@ fn perform<R: Env + Files + AllocGlobal, O: Sink, E: Sink>(
     let args: Vec<String> = env::args(rt)?.collect(alloc)?;
     let words = words_of(alloc, args.as_slice())?;
     let mut files = HostFiles::new(rt);
-    Ok(command(alloc, words.as_slice(), &mut Spilling, &mut files, out, err))
+    let mut how = SpillAll::new(alloc);
+    Ok(command(
+        alloc,
+        words.as_slice(),
+        &mut how,
+        &mut files,
+        out,
+        err,
+    ))
 }
 
 fn main(rt: HostRuntime) -> ExitCode {

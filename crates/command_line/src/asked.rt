@@ -1,0 +1,88 @@
+//! What parsed words ask for.
+ghost use Rattle.std.specs.Prelude.{◌≡◌, IfOk, IfSome, codes, map};
+ghost use Rattle.command_line.specs.Asked.{Asks, IsLimit, word_in, words_in};
+
+use crate::grammar::{EXECUTABLE, FILES, LIMIT, OUT, TEXT, WORDS};
+use crate::{Command, DEFAULT_LIMIT};
+use clap::ArgMatches;
+use std::alloc::{AllocError, Global};
+
+/// The one word of an argument.
+fn word_of<'a>(found: &ArgMatches<'a>, name: &str) -> &'a str
+    ensures { result.now ≡ word_in found.now name.now }
+{
+    found.get_str(name).unwrap_or("")
+}
+
+/// All words of an argument.
+fn words_of<'a>(
+    alloc: Global,
+    found: &ArgMatches<'a>,
+    name: &str,
+) -> Result<Vec<&'a str>, AllocError>
+    ensures { IfOk result (λ v. map (λ s. s.now) v.items ≡ words_in found.now name.now) }
+{
+    let words = found.get_strs(name).unwrap_or(&[]);
+    words.to_vec(alloc)
+}
+
+fn limit_of(found: &ArgMatches<'_>) -> u64
+    ensures { IsLimit found.now result }
+{
+    found.get_one::<u64>(LIMIT).unwrap_or(DEFAULT_LIMIT)
+}
+
+fn build_of<'a>(alloc: Global, found: &ArgMatches<'a>) -> Result<Command<'a>, AllocError>
+    ensures { IfOk result (Asks (codes "build") found.now) }
+{
+    let files = words_of(alloc, found, FILES)?;
+    Ok(Command::Build {
+        out: word_of(found, OUT),
+        files,
+    })
+}
+
+fn run_of<'a>(alloc: Global, found: &ArgMatches<'a>) -> Result<Command<'a>, AllocError>
+    ensures { IfOk result (Asks (codes "run") found.now) }
+{
+    let words = words_of(alloc, found, WORDS)?;
+    Ok(Command::Run {
+        limit: limit_of(found),
+        file: word_of(found, EXECUTABLE),
+        words,
+    })
+}
+
+fn interpret_of<'a>(alloc: Global, found: &ArgMatches<'a>) -> Result<Command<'a>, AllocError>
+    ensures { IfOk result (Asks (codes "interp") found.now) }
+{
+    let words = words_of(alloc, found, WORDS)?;
+    Ok(Command::Interpret {
+        limit: limit_of(found),
+        file: word_of(found, TEXT),
+        words,
+    })
+}
+
+/// What the subcommand of this name asks for, with the values of its arguments; none where no command has the name.
+///
+/// # Errors
+///
+/// Only where memory was refused.
+pub fn asked<'a>(
+    alloc: Global,
+    name: &str,
+    found: &ArgMatches<'a>,
+) -> Result<Option<Command<'a>>, AllocError>
+    ensures { IfOk result (λ o. IfSome o (Asks name.now found.now)) }
+{
+    match name {
+        "build" => Ok(Some(build_of(alloc, found)?)),
+        "run" => Ok(Some(run_of(alloc, found)?)),
+        "interp" => Ok(Some(interpret_of(alloc, found)?)),
+        "dis" => Ok(Some(Command::Disassemble {
+            file: word_of(found, EXECUTABLE),
+        })),
+        _ => Ok(None),
+    }
+}
