@@ -2,7 +2,12 @@
 use Rattle.std.proofs.Common.{◌≡◌, ℕ, ◌%◌, ◌^◌, ◌<◌, Bool, false, List, [], ◌∷◌, ◌++◌, sym, ◌∙◌, ap, arith, append_assoc}
 use Rattle.std.specs.Prelude.{if◌then◌else◌}
 use Rattle.rv_isa.specs.declared.labelled.Item.{Item}
+use Rattle.vcode.specs.declared.place.Location.{Location}
+use Rattle.vcode.specs.declared.place.Destination.{Destination}
+use Rattle.vcode.specs.declared.code.Block.{Block}
 use Rattle.vcode.specs.Cost.{is_immediate}
+use Rattle.abi_frames.specs.declared.layout.Layout.{Layout}
+use Rattle.abi_frames.specs.Functions.{function_items}
 use Rattle.abi_frames.specs.Emission.{add_low, long_constant, constant}
 
 pub joined_2 : (o p q a b : List Item) → p ≡ o ++ a → q ≡ p ++ b → q ≡ o ++ (a ++ b)
@@ -21,3 +26,10 @@ long_is_constant d n h e =
 
 pub joined_as : (o p a b : List Item) → p ≡ o ++ a → a ≡ b → p ≡ o ++ b
 joined_as o p a b e f = e ∙ ap (λ l. o ++ l) f
+
+-- what was put behind nothing
+pub items_are : (p o : List Item) (y z : Layout) (ps qs : List (Destination Location)) (bs cs : List (Block Location)) → p ≡ o ++ function_items y ps bs → o ≡ []
+    → y ≡ z → ps ≡ qs → bs ≡ cs → p ≡ function_items z qs cs
+items_are p o y z ps qs bs cs e f g k h =
+    e ∙ (ap (λ l. l ++ function_items y ps bs) f
+    ∙ (ap (λ x. function_items x ps bs) g ∙ (ap (λ x. function_items z x bs) k ∙ ap (λ x. function_items z qs x) h)))

@@ -13,7 +13,6 @@ pub mod Simulating
 pub mod Starting
 pub mod Labelling
 pub mod Joining
-pub mod PlainLayout
 pub mod Comparing
 pub mod Reading
 pub mod Entering

@@ -16,6 +16,7 @@ use crate::entry::push_entry;
 use crate::jump::push_jump;
 use crate::layout::Layout;
 use crate::line::push_lines;
+use crate::room::{area_of, outgoing_of};
 use flat_code::function::FlatFunc;
 use rv_isa::labelled::{Item, LabelledCode};
 use std::alloc::{AllocError, Global};
@@ -93,16 +94,20 @@ fn push_function(
     Ok(())
 }
 
+#[tactic(auto, using(crate::proofs::Outgoing::few_outgoing))]
 fn layout_of(function: &FlatFunc) -> Layout
-    requires { IsTrue (is_covered function.now.located.code) }
     ensures value { result ≡ layout function.now.located.code function.now.located.slots }
     ensures near { (result.saves < 2 ^ 16) × (result.slots < 2 ^ 16) × (0 < result.size) }
 {
-    let size = (8 * (u64::from(function.located.slots) + 13) + 15) / 16 * 16;
+    let code = &function.located.code;
+    let area = area_of(code);
+    let outgoing = outgoing_of(code);
+    let words = u64::from(function.located.slots) + outgoing + 13;
+    let size = (area + 8 * words + 15) / 16 * 16;
     Layout {
-        saves: 0,
-        slots: 104,
-        area: size,
+        saves: 8 * outgoing,
+        slots: 8 * (outgoing + 13),
+        area: size - area,
         size,
         result: function.located.code.result,
         leave: function.located.code.blocks.len(),

@@ -27,5 +27,6 @@ mod line;
 #[cfg(test)]
 mod memory_tests;
 mod operand;
+mod room;
 #[cfg(test)]
 mod tests;

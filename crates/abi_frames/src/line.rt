@@ -11,6 +11,7 @@ use crate::layout::Layout;
 use crate::operand::{
     push_deliver, push_fetch, push_into_slot, push_operand, source_of, target_of,
 };
+use crate::room::alloc_bytes;
 use il_ast::operation::{Class, Size};
 use rv_isa::instruction::{Instr, LoadOp, StoreOp};
 use rv_isa::labelled::Item;
@@ -180,23 +181,6 @@ pub(crate) fn push_line(
         Line::Tick { .. } | Line::Alloc { .. } | Line::Blit { .. } | Line::Call { .. } => {}
     }
     Ok(())
-}
-
-// the bytes of the area for blocks of memory that a line takes
-fn alloc_bytes(line: &Line<Location>) -> u64
-    requires { alloc_bytes line.now ≤ 1048576 }
-    ensures { result ≡ alloc_bytes line.now }
-{
-    match line {
-        Line::Alloc { size, .. } => (*size + 15) / 16 * 16,
-        Line::Tick { .. }
-        | Line::Set { .. }
-        | Line::Operate { .. }
-        | Line::Load { .. }
-        | Line::Store { .. }
-        | Line::Blit { .. }
-        | Line::Call { .. } => 0,
-    }
 }
 
 /// Puts the code of a block's lines at the end.

@@ -8,7 +8,7 @@ use Rattle.abi_frames.specs.Layout.{frame_bound, frame_size}
 use Rattle.abi_frames.specs.Functions.{frame_items}
 use Rattle.abi_frames.specs.Promise.{FramePromise}
 use Rattle.abi_frames.specs.Laws.{IsCode}
-use Rattle.abi_frames.proofs.PlainLayout.{items_are}
+use Rattle.abi_frames.proofs.Joining.{items_are}
 use Rattle.abi_frames.proofs.Labelling.{frames_are_labelled}
 use Rattle.abi_frames.proofs.Sizes.{frames_are_small}
 use Rattle.abi_frames.proofs.Starting.{frames_perform}

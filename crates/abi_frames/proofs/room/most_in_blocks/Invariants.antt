@@ -1,0 +1,7 @@
+use Rattle.std.proofs.Common.{◌≡◌, drop}
+use Rattle.std.specs.Prelude.{max}
+use Rattle.abi_frames.specs.Layout.{most_in_blocks}
+use Rattle.abi_frames.proofs.room.most_in_blocks.Given as goal
+
+abbrev pub invariant-loop-block : goal.invariant-loop-block
+invariant-loop-block l = max l.most (most_in_blocks (drop l.block-index l.blocks)) ≡ most_in_blocks l.fn.blocks
