@@ -28,7 +28,7 @@ use Rattle.flat_code.specs.Step.{Numbers, kept, number_of, read_all, taken}
 use Rattle.abi_frames.specs.Calls.{Ready, Back, is_kept, passed}
 use Rattle.abi_frames.specs.Covered.{is_off_arguments}
 use Rattle.abi_frames.specs.Layout.{saved_registers}
-use Rattle.abi_frames.specs.Emission.{reg, low, fetch, source, arguments_items, call_through}
+use Rattle.abi_frames.specs.Emission.{reg, low, fetch, source, pass_all, call_through}
 use Rattle.abi_frames.proofs.ConstantNumbers.{near_moves}
 use Rattle.abi_frames.proofs.Leading.{Site, StandAt, Leads, leads_then, leads_so, stepped, IsReg, register_reg}
 use Rattle.abi_frames.proofs.Instructions.{is_28}
@@ -57,10 +57,10 @@ passed_still c s u w args h others bytes output = record {
 pub leads_prepared : (c : Setting) → IsSetting c → (s : State) (callee : Operand Location) (args : List (Argument Location)) → s.registers 2 ≡ bottom c
     → operand_keeps (is_place c.slots) callee ≡ true → operand_keeps is_off_arguments callee ≡ true → list_all (can_pass c.slots) args ≡ true
     → 8 * (length args - 8) ≤ c.layout.saves
-    → Leads (site c) (arguments_items c.layout 0 args ++ fetch c.layout 28 callee) s (Prepared c s callee args)
+    → Leads (site c) (pass_all c.layout 0 args ++ fetch c.layout 28 callee) s (Prepared c s callee args)
 leads_prepared c is s callee args pointer known off good fits =
     let room : 8 * (0 + length args - 8) ≤ c.layout.saves = omega (arith, fits) in
-    leads_then (site c) (arguments_items c.layout 0 args) (fetch c.layout 28 callee) s (Passed c s 0 args) (Prepared c s callee args)
+    leads_then (site c) (pass_all c.layout 0 args) (fetch c.layout 28 callee) s (Passed c s 0 args) (Prepared c s callee args)
     (leads_arguments c is s 0 args pointer good room)
     (λ u f one.
     leads_so (site c) (fetch c.layout 28 callee) u (Fetched c u 28 callee) (Prepared c s callee args)

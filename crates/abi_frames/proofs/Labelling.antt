@@ -19,6 +19,7 @@ use Rattle.rv_isa.specs.declared.labelled.Item.TheVariants.{Plain, Label, Branch
 use Rattle.vcode.specs.declared.place.Location.{Location}
 use Rattle.vcode.specs.declared.place.Location.TheVariants.{Register as InRegister, Slot}
 use Rattle.vcode.specs.declared.place.Operand.{Operand}
+use Rattle.vcode.specs.declared.place.Argument.{Argument}
 use Rattle.vcode.specs.declared.place.Operand.TheVariants.{At, Number, Name}
 use Rattle.vcode.specs.declared.place.Destination.{Destination}
 use Rattle.vcode.specs.declared.line.Operation.{Operation}
@@ -29,11 +30,11 @@ use Rattle.vcode.specs.declared.line.Jump.{Jump}
 use Rattle.vcode.specs.declared.line.Jump.TheVariants.{Goto, Branch, Return, Halt}
 use Rattle.vcode.specs.declared.code.Block.{Block}
 use Rattle.vcode.specs.Cost.{is_immediate}
-use Rattle.vcode.specs.Named.{is_place, operand_keeps, line_keeps, jump_keeps, block_keeps}
+use Rattle.vcode.specs.Named.{is_place, operand_keeps, line_keeps, jump_keeps, block_keeps, wanted_keeps}
 use Rattle.vcode.specs.Regular.{leads_inside, is_target, alloc_bytes, code_weight}
 use Rattle.abi_frames.specs.Layout.{layout, saved_registers}
 use Rattle.abi_frames.specs.declared.layout.Layout.{Layout}
-use Rattle.abi_frames.specs.Emission.{reg, add_low, extend, sum_to, load_8, store_8, long_constant, constant, far_load, load_slot, far_store, store_slot, slot_offset, into, fetch, source, target, deliver, set_items, negate, is_zero, compare_items, operation_items, operate_items, load_to, store_at, store_op, line_items, lines_items, move_pointer, save_all, restore_all, go_back, prologue, epilogue, result_items, jump_items, blocks_items}
+use Rattle.abi_frames.specs.Emission.{reg, add_low, extend, sum_to, load_8, store_8, long_constant, constant, far_load, load_slot, far_store, store_slot, slot_offset, into, fetch, source, target, deliver, set_items, negate, is_zero, compare_items, operation_items, operate_items, load_to, store_at, store_op, line_items, lines_items, move_pointer, save_all, restore_all, go_back, prologue, epilogue, result_items, jump_items, blocks_items, pass_into, pass_items, pass_all, call_through, receive_items, call_items}
 use Rattle.abi_frames.specs.Functions.{caller_pointer, from_register, from_stack, argument_items, arguments_items, pointer_items, entry_items}
 use Rattle.abi_frames.specs.Laws.{FramesAreLabelled}
 use Rattle.abi_frames.proofs.Leading.{longest-append}
@@ -245,6 +246,48 @@ operate_plainly n y slots to op a b good known_a known_b =
     (source_nameable slots 29 b (lit< tt) known_b))
     (deliver_plainly n y to)))
 
+pass_into_plainly : (n : ℕ) (y : Layout) (slots d : ℕ) (k : Class) (a : Operand Location) → 0 < d → d < 31 → operand_keeps (is_place slots) a ≡ true
+    → Plainly n (pass_into y d k a)
+pass_into_plainly n y slots d L a some h known = into_plainly n y slots d a some h known
+pass_into_plainly n y slots d W a some h known =
+    plainly_then n (into y d a) (extend d d ∷ []) (into_plainly n y slots d a some h known) (extend_plainly n d d (nameable d h) (nameable d h))
+
+pass_plainly : (n : ℕ) (y : Layout) (slots k : ℕ) (a : Argument Location) → operand_keeps (is_place slots) a.value ≡ true → Plainly n (pass_items y k a)
+pass_plainly n y slots k a known = by_test (nat_lt k 8) refl
+  where
+    by_test : (b : Bool) → nat_lt k 8 ≡ b
+        → Plainly n (if b then pass_into y (10 + k) a.class a.value else pass_into y 28 a.class a.value ++ (store_8 28 2 (8 * (k - 8)) ∷ []))
+    by_test true e =
+        let few : k < 8 = grind (arith, nat_tests) in
+        pass_into_plainly n y slots (10 + k) a.class a.value (omega arith) (omega (arith, few)) known
+    by_test false e =
+        plainly_then n (pass_into y 28 a.class a.value) (store_8 28 2 (8 * (k - 8)) ∷ [])
+        (pass_into_plainly n y slots 28 a.class a.value (lit< tt) (lit< tt) known)
+        (store_plainly n 28 2 (8 * (k - 8)) (nameable 28 (lit< tt)) (nameable 2 (lit< tt)))
+
+pass_all_plainly : (n : ℕ) (y : Layout) (slots k : ℕ) (args : List (Argument Location))
+    → list_all (λ (a : Argument Location). operand_keeps (is_place slots) a.value) args ≡ true → Plainly n (pass_all y k args)
+pass_all_plainly n y slots k [] known = plainly_nothing n
+pass_all_plainly n y slots k (a ∷ args) known =
+    let parts = and_parts (operand_keeps (is_place slots) a.value) (list_all (λ (b : Argument Location). operand_keeps (is_place slots) b.value) args) known in
+    plainly_then n (pass_items y k a) (pass_all y (k + 1) args) (pass_plainly n y slots k a parts.0) (pass_all_plainly n y slots (k + 1) args parts.1)
+
+receive_plainly : (n : ℕ) (y : Layout) (slots : ℕ) (to : Option (Destination Location)) → wanted_keeps (is_place slots) to ≡ true → Plainly n (receive_items y to)
+receive_plainly n y slots None good = plainly_nothing n
+receive_plainly n y slots (Some d) good = set_plainly n y slots d.place (At (InRegister 10)) good refl
+
+call_plainly : (n : ℕ) (y : Layout) (slots : ℕ) (to : Option (Destination Location)) (callee : Operand Location) (args : List (Argument Location))
+    → wanted_keeps (is_place slots) to ≡ true → operand_keeps (is_place slots) callee ≡ true
+    → list_all (λ (a : Argument Location). operand_keeps (is_place slots) a.value) args ≡ true → Plainly n (call_items y to callee args)
+call_plainly n y slots to callee args good known known_args =
+    let there : List Item = call_through (source 28 callee) ∷ [] in
+    plainly_then n (pass_all y 0 args) (fetch y 28 callee ++ (there ++ receive_items y to)) (pass_all_plainly n y slots 0 args known_args)
+    (plainly_then n (fetch y 28 callee) (there ++ receive_items y to) (fetch_plainly n y 28 callee (lit< tt) (lit< tt))
+    (plainly_then n there (receive_items y to)
+    (one_of_two n (call_through (source 28 callee)) 1 (source 28 callee) (nameable 1 (lit< tt)) (source_nameable slots 28 callee (lit< tt) known) refl
+    (λ l. refl) refl)
+    (receive_plainly n y slots to good)))
+
 line_plainly : (n : ℕ) (y : Layout) (used slots : ℕ) (l : Line Location) → line_keeps (is_place slots) l ≡ true → Plainly n (line_items y used l)
 line_plainly n y used slots (Tick turn w) known = plainly_nothing n
 line_plainly n y used slots (Set to a) known =
@@ -270,7 +313,11 @@ line_plainly n y used slots (Store size a at) known =
     (source_nameable slots 28 a (lit< tt) parts.0) refl (λ l. refl) refl))
 line_plainly n y used slots (Alloc to size) known = plainly_nothing n
 line_plainly n y used slots (Blit from to count) known = plainly_nothing n
-line_plainly n y used slots (Call to callee args) known = plainly_nothing n
+line_plainly n y used slots (Call to callee args) known =
+    let parts = and_parts (wanted_keeps (is_place slots) to)
+    (operand_keeps (is_place slots) callee && list_all (λ (a : Argument Location). operand_keeps (is_place slots) a.value) args) known in
+    let operands = and_parts (operand_keeps (is_place slots) callee) (list_all (λ (a : Argument Location). operand_keeps (is_place slots) a.value) args) parts.1 in
+    call_plainly n y slots to callee args parts.0 operands.0 operands.1
 
 lines_plainly : (n : ℕ) (y : Layout) (used slots : ℕ) (lines : List (Line Location)) → list_all (line_keeps (is_place slots)) lines ≡ true
     → Plainly n (lines_items y used lines)

@@ -19,7 +19,7 @@ use Rattle.vcode.specs.Named.{is_place, operand_keeps}
 use Rattle.flat_code.specs.Step.{taken}
 use Rattle.abi_frames.specs.Calls.{passed}
 use Rattle.abi_frames.specs.Covered.{is_off_arguments}
-use Rattle.abi_frames.specs.Emission.{extend, store_8, into, argument_items, pass_items, arguments_items}
+use Rattle.abi_frames.specs.Emission.{extend, store_8, into, pass_into, pass_items, pass_all}
 use Rattle.abi_frames.proofs.Leading.{Leads, leads_nowhere, leads_then, leads_so, Sets, IsReg}
 use Rattle.abi_frames.proofs.Instructions.{Writes, leads_extend, leads_store, near_address, is_2, is_28}
 use Rattle.abi_frames.proofs.Activations.{Setting, IsSetting, site, bottom, slot_at, operand_in, place_is, in_frame}
@@ -84,7 +84,7 @@ word_again v = omega arith
 
 pub leads_argument : (c : Setting) → IsSetting c → (s : State) (d : ℕ) (k : Class) (a : Operand Location) → IsReg d → d ≢ 2 → s.registers 2 ≡ bottom c
     → operand_keeps (is_place c.slots) a ≡ true
-    → Leads (site c) (argument_items c.layout d k a) s (Sets s d (passed k (taken k (operand_in c s a))))
+    → Leads (site c) (pass_into c.layout d k a) s (Sets s d (passed k (taken k (operand_in c s a))))
 leads_argument c is s d L a reg other pointer known = leads_into c is s d a reg other pointer known
 leads_argument c is s d W a reg other pointer known =
     let v : ℕ = operand_in c s a in
@@ -156,12 +156,12 @@ leads_pass c is s k a pointer known fits = by_test (nat_lt k 8) refl
 
     by_test : (t : Bool) → nat_lt k 8 ≡ t
         → Leads (site c)
-        (if t then argument_items c.layout (10 + k) a.class a.value else argument_items c.layout 28 a.class a.value ++ (store_8 28 2 near ∷ [])) s
+        (if t then pass_into c.layout (10 + k) a.class a.value else pass_into c.layout 28 a.class a.value ++ (store_8 28 2 near ∷ [])) s
         (Passed c s k (a ∷ []))
     by_test true e =
         let few : k < 8 = grind (arith, nat_tests) in
         let is_d : IsReg (10 + k) = record { some = omega arith; small = omega (arith, few) } in
-        leads_so (site c) (argument_items c.layout (10 + k) a.class a.value) s (Sets s (10 + k) (sent c s a)) (Passed c s k (a ∷ []))
+        leads_so (site c) (pass_into c.layout (10 + k) a.class a.value) s (Sets s (10 + k) (sent c s a)) (Passed c s k (a ∷ []))
         (leads_argument c is s (10 + k) a.class a.value is_d (λ e. absurd (omega (arith, e))) pointer known)
         (λ u f h. in_register c s k a u few h)
     by_test false e =
@@ -170,7 +170,7 @@ leads_pass c is s k a pointer known fits = by_test (nat_lt k 8) refl
         let near_saves = is.saves_near in
         let frame = is.fits in
         let inside = in_frame c is (8 * (k - 8)) (omega (arith, many, fits, saves, frame)) in
-        leads_then (site c) (argument_items c.layout 28 a.class a.value) (store_8 28 2 near ∷ []) s (Sets s 28 (sent c s a)) (Passed c s k (a ∷ []))
+        leads_then (site c) (pass_into c.layout 28 a.class a.value) (store_8 28 2 near ∷ []) s (Sets s 28 (sent c s a)) (Passed c s k (a ∷ []))
         (leads_argument c is s 28 a.class a.value is_28 (λ e. absurd (omega (arith, e))) pointer known)
         (λ u f one.
         let small : sent c s a < 2 ^ 64 = subst (λ x. x < 2 ^ 64) one.value (f.words 28) in
@@ -238,7 +238,7 @@ passed_then c is s u w k a args same good one two =
 
 pub leads_arguments : (c : Setting) → IsSetting c → (s : State) (k : ℕ) (args : List (Argument Location)) → s.registers 2 ≡ bottom c
     → list_all (can_pass c.slots) args ≡ true → 8 * (k + length args - 8) ≤ c.layout.saves
-    → Leads (site c) (arguments_items c.layout k args) s (Passed c s k args)
+    → Leads (site c) (pass_all c.layout k args) s (Passed c s k args)
 leads_arguments c is s k [] pointer good fits =
     leads_nowhere (site c) s (Passed c s k [])
     (record {
@@ -255,10 +255,10 @@ leads_arguments c is s k (a ∷ args) pointer good fits =
     let known = and_parts (operand_keeps (is_place c.slots) a.value) (operand_keeps is_off_arguments a.value) parts.0 in
     let more = length-more a args in
     let here : 8 * (k + 1 - 8) ≤ c.layout.saves = omega (arith, fits, more) in
-    leads_then (site c) (pass_items c.layout k a) (arguments_items c.layout (k + 1) args) s (Passed c s k (a ∷ [])) (Passed c s k (a ∷ args))
+    leads_then (site c) (pass_items c.layout k a) (pass_all c.layout (k + 1) args) s (Passed c s k (a ∷ [])) (Passed c s k (a ∷ args))
     (leads_pass c is s k a pointer known.0 here)
     (λ u f one.
     let same = unmoved c s k (a ∷ []) u here one in
-    leads_so (site c) (arguments_items c.layout (k + 1) args) u (Passed c u (k + 1) args) (Passed c s k (a ∷ args))
+    leads_so (site c) (pass_all c.layout (k + 1) args) u (Passed c u (k + 1) args) (Passed c s k (a ∷ args))
     (leads_arguments c is u (k + 1) args (one.before 2 (omega arith) (lit< tt) ∙ pointer) parts.1 (omega (arith, fits, more)))
     (λ w g two. passed_then c is s u w k a args same parts.1 one two))

@@ -18,6 +18,8 @@ use Rattle.std.proofs.lemmas.List.Sums.{sum_by-cons}
 use Rattle.vcode.specs.declared.place.Location.{Location}
 use Rattle.vcode.specs.declared.place.Location.TheVariants.{Register as InRegister, Slot}
 use Rattle.vcode.specs.declared.place.Operand.{Operand}
+use Rattle.vcode.specs.declared.place.Argument.{Argument}
+use Rattle.vcode.specs.declared.place.Destination.{Destination}
 use Rattle.vcode.specs.declared.place.Operand.TheVariants.{At, Number, Name}
 use Rattle.vcode.specs.declared.place.Destination.{Destination}
 use Rattle.vcode.specs.declared.line.Operation.{Operation}
@@ -34,7 +36,7 @@ use Rattle.vcode.specs.Named.{is_near, are_near}
 use Rattle.abi_frames.specs.Layout.{layout, saved_registers}
 use Rattle.abi_frames.specs.Laws.{FramesAreSmall}
 use Rattle.abi_frames.specs.declared.layout.Layout.{Layout}
-use Rattle.abi_frames.specs.Emission.{reg, add_low, extend, long_constant, constant, load_8, store_8, far_load, far_store, sum_to, load_slot, store_slot, slot_offset, into, fetch, source, target, deliver, set_items, compare_items, operation_items, operate_items, load_to, load_items, store_at, store_op, store_items, line_items, lines_items, move_pointer, save_all, restore_all, go_back, prologue, epilogue, result_items, jump_items, block_items, blocks_items}
+use Rattle.abi_frames.specs.Emission.{reg, add_low, extend, long_constant, constant, load_8, store_8, far_load, far_store, sum_to, load_slot, store_slot, slot_offset, into, fetch, source, target, deliver, set_items, compare_items, operation_items, operate_items, load_to, load_items, store_at, store_op, store_items, line_items, lines_items, move_pointer, save_all, restore_all, go_back, prologue, epilogue, result_items, jump_items, block_items, blocks_items, pass_into, pass_items, pass_all, call_through, receive_items, call_items}
 use Rattle.abi_frames.specs.Functions.{caller_pointer, from_register, from_stack, argument_items, arguments_items, pointer_items, entry_items, function_items}
 use Rattle.abi_frames.proofs.Leading.{longest-append}
 use Rattle.abi_frames.proofs.Outgoing.{slots_near}
@@ -135,6 +137,72 @@ store_line_size y size a at =
     let k = fetch_size y 29 at in
     omega (arith, one, two, h, k)
 
+operand_at_most_9 : (a : Operand Location) → operand_cost a ≤ 9
+operand_at_most_9 (At p) = lit≤ tt
+operand_at_most_9 (Number n) = by_test (is_immediate n)
+  where
+    by_test : (b : Bool) → (if b then 1 else 9) ≤ 9
+    by_test true = lit≤ tt
+    by_test false = lit≤ tt
+operand_at_most_9 (Name g) = lit≤ tt
+
+pass_into_size : (y : Layout) (d : ℕ) (k : Class) (a : Operand Location) → longest_size (pass_into y d k a) ≤ 10
+pass_into_size y d L a =
+    let h = into_size y d a in
+    let most = operand_at_most_9 a in
+    omega (arith, h, most)
+pass_into_size y d W a =
+    let all = longest-append (into y d a) (extend d d ∷ []) in
+    let h = into_size y d a in
+    let most = operand_at_most_9 a in
+    omega (arith, all, h, most)
+
+pass_size : (y : Layout) (k : ℕ) (a : Argument Location) → longest_size (pass_items y k a) ≤ 11
+pass_size y k a = by_test (nat_lt k 8)
+  where
+    by_test : (b : Bool)
+        → longest_size
+        (if b then pass_into y (10 + k) a.class a.value else pass_into y 28 a.class a.value ++ (store_8 28 2 (8 * (k - 8)) ∷ [])) ≤ 11
+    by_test true = let h = pass_into_size y (10 + k) a.class a.value in omega (arith, h)
+    by_test false =
+        let all = longest-append (pass_into y 28 a.class a.value) (store_8 28 2 (8 * (k - 8)) ∷ []) in
+        let h = pass_into_size y 28 a.class a.value in
+        omega (arith, all, h)
+
+pass_all_size : (y : Layout) (k : ℕ) (args : List (Argument Location)) → longest_size (pass_all y k args) ≤ 11 * length args
+pass_all_size y k [] = omega arith
+pass_all_size y k (a ∷ args) =
+    let all = longest-append (pass_items y k a) (pass_all y (k + 1) args) in
+    let one = pass_size y k a in
+    let rest = pass_all_size y (k + 1) args in
+    omega (arith, all, one, rest)
+
+receive_size : (y : Layout) (to : Option (Destination Location)) → longest_size (receive_items y to) ≤ 6
+receive_size y None = lit≤ tt
+receive_size y (Some d) = set_size y d.place (At (InRegister 10))
+
+-- the three parts of a call, and its jump
+pub call_parts : (y : Layout) (to : Option (Destination Location)) (callee : Operand Location) (args : List (Argument Location))
+    → longest_size (pass_all y 0 args ++ fetch y 28 callee) + 1 + longest_size (receive_items y to) ≤ 20 + 24 * length args
+call_parts y to callee args =
+    let all = longest-append (pass_all y 0 args) (fetch y 28 callee) in
+    let one = pass_all_size y 0 args in
+    let two = fetch_size y 28 callee in
+    let most = operand_at_most_9 callee in
+    let three = receive_size y to in
+    omega (arith, all, one, two, most, three)
+
+call_size : (y : Layout) (to : Option (Destination Location)) (callee : Operand Location) (args : List (Argument Location))
+    → longest_size (call_items y to callee args) ≤ 20 + 24 * length args
+call_size y to callee args =
+    let more : List Item = (call_through (source 28 callee) ∷ []) ++ receive_items y to in
+    let one = longest-append (pass_all y 0 args) (fetch y 28 callee) in
+    let two = longest-append (pass_all y 0 args) (fetch y 28 callee ++ more) in
+    let three = longest-append (fetch y 28 callee) more in
+    let four = longest-append (call_through (source 28 callee) ∷ []) (receive_items y to) in
+    let parts = call_parts y to callee args in
+    omega (arith, one, two, three, four, parts)
+
 pub line_size : (y : Layout) (used : ℕ) (l : Line Location) → longest_size (line_items y used l) ≤ line_cost l
 line_size y used (Tick turn w) = lit≤ tt
 line_size y used (Set to a) = set_size y to a
@@ -143,7 +211,7 @@ line_size y used (Load to op at) = load_line_size y to op at
 line_size y used (Store size a at) = store_line_size y size a at
 line_size y used (Alloc to size) = omega arith
 line_size y used (Blit from to count) = omega arith
-line_size y used (Call to callee args) = omega arith
+line_size y used (Call to callee args) = call_size y to callee args
 
 -- ---- jumps
 

@@ -33,7 +33,7 @@ use Rattle.vcode.specs.declared.place.Destination.{Destination}
 use Rattle.vcode.specs.declared.line.Operation.{Operation}
 use Rattle.vcode.specs.declared.line.Operation.TheVariants.{Reg as RegOperation, RegW as RegWOperation, Compare}
 use Rattle.vcode.specs.declared.line.Line.{Line}
-use Rattle.vcode.specs.declared.line.Line.TheVariants.{Set, Operate, Load as LoadLine, Store as StoreLine}
+use Rattle.vcode.specs.declared.line.Line.TheVariants.{Set, Operate, Load as LoadLine, Store as StoreLine, Call}
 use Rattle.vcode.specs.declared.line.Jump.{Jump}
 use Rattle.vcode.specs.declared.line.Jump.TheVariants.{Goto, Branch, Return, Halt}
 use Rattle.vcode.specs.declared.code.Block.{Block}
@@ -207,21 +207,21 @@ load_items y to op at = fetch y 28 at ++ ((load_to op (target to) (source 28 at)
 -- ---- calls
 
 -- the argument into the register d, a word sign-extended
-abbrev pub argument_items : Layout → (d : ℕ) → Class → Operand Location → List Item
-argument_items y d L a = into y d a
-argument_items y d W a = into y d a ++ (extend d d ∷ [])
+abbrev pub pass_into : Layout → (d : ℕ) → Class → Operand Location → List Item
+pass_into y d L a = into y d a
+pass_into y d W a = into y d a ++ (extend d d ∷ [])
 
 -- the k-th argument: the first eight go into x10 to x17, the others to the stack, eight bytes each from the stack pointer upward
 abbrev pub pass_items : Layout → (k : ℕ) → Argument Location → List Item
 pass_items y k a =
     if nat_lt k 8
-    then argument_items y (10 + k) a.class a.value
-    else argument_items y 28 a.class a.value ++ (store_8 28 2 (8 * (k - 8)) ∷ [])
+    then pass_into y (10 + k) a.class a.value
+    else pass_into y 28 a.class a.value ++ (store_8 28 2 (8 * (k - 8)) ∷ [])
 
 -- arguments from the k-th on
-abbrev pub arguments_items : Layout → (k : ℕ) → List (Argument Location) → List Item
-arguments_items y k [] = []
-arguments_items y k (a ∷ args) = pass_items y k a ++ arguments_items y (k + 1) args
+abbrev pub pass_all : Layout → (k : ℕ) → List (Argument Location) → List Item
+pass_all y k [] = []
+pass_all y k (a ∷ args) = pass_items y k a ++ pass_all y (k + 1) args
 
 -- to the address in a register, with the address of the next instruction in x1
 abbrev pub call_through : ℕ → Item
@@ -234,7 +234,7 @@ receive_items y (Some d) = set_items y d.place (At (InRegister 10))
 
 abbrev pub call_items : Layout → Option (Destination Location) → (callee : Operand Location) → List (Argument Location) → List Item
 call_items y to callee args =
-    arguments_items y 0 args ++ (fetch y 28 callee ++ ((call_through (source 28 callee) ∷ []) ++ receive_items y to))
+    pass_all y 0 args ++ (fetch y 28 callee ++ ((call_through (source 28 callee) ∷ []) ++ receive_items y to))
 
 -- ---- each line
 
@@ -244,6 +244,7 @@ line_items y used (Set to a) = set_items y to a
 line_items y used (Operate to op a b) = operate_items y to op a b
 line_items y used (LoadLine to op at) = load_items y to op at
 line_items y used (StoreLine size a at) = store_items y size a at
+line_items y used (Call to callee args) = call_items y to callee args
 line_items y used l = []
 
 abbrev pub lines_items : Layout → (used : ℕ) → List (Line Location) → List Item

@@ -1,8 +1,8 @@
 //! Functions with their frames.
 ghost use Rattle.std.specs.Prelude.{◌≡◌, ◌+◌, ◌*◌, ◌^◌, ◌<◌, ◌≤◌, IsTrue, [], ◌∷◌, ◌++◌, length, map, nat_le, OnOk, IfOk};
 ghost use Rattle.rv_isa.specs.Labels.{longest_size};
-ghost use Rattle.std.specs.List.{sum_by};
-ghost use Rattle.vcode.specs.Regular.{area, alloc_bytes, code_weight};
+ghost use Rattle.std.specs.List.{list_all, sum_by};
+ghost use Rattle.vcode.specs.Regular.{area, alloc_bytes, passes_few, code_weight};
 ghost use Rattle.flat_code.specs.Step.{flat_begin, flat_step};
 ghost use Rattle.abi_frames.specs.Covered.{is_covered};
 ghost use Rattle.abi_frames.specs.Layout.{layout, frame_bound, frame_size};
@@ -30,6 +30,7 @@ fn push_body(
 ) -> Result<(), AllocError>
     requires slots { layout.now.slots < 2 ^ 16 }
     requires room { sum_by alloc_bytes block.now.lines ≤ 1048576 }
+    requires few { IsTrue (list_all passes_few block.now.lines) }
     ensures { OnOk result (items.new.items ≡ items.old.items ++ (lines_items layout.now 0 block.now.lines ++ jump_items layout.now block.now.jump)) }
 {
     push_lines(items, layout, block.lines.as_slice())?;
@@ -44,6 +45,7 @@ fn push_block(
 ) -> Result<(), AllocError>
     requires slots { layout.now.slots < 2 ^ 16 }
     requires room { sum_by alloc_bytes block.now.lines ≤ 1048576 }
+    requires few { IsTrue (list_all passes_few block.now.lines) }
     ensures { OnOk result (items.new.items ≡ items.old.items ++ block_items layout.now label block.now) }
 {
     items.push(Item::Label(label))?;
@@ -57,6 +59,7 @@ fn push_blocks(
 ) -> Result<(), AllocError>
     requires slots { layout.now.slots < 2 ^ 16 }
     requires room { sum_by (λ b. sum_by alloc_bytes b.lines) blocks.now ≤ 1048576 }
+    requires calls { IsTrue (list_all (λ b. list_all passes_few b.lines) blocks.now) }
     ensures { OnOk result (items.new.items ≡ items.old.items ++ blocks_items layout.now 0 blocks.now) }
 {
     for (label, block) in blocks.iter().enumerate() {
@@ -84,6 +87,7 @@ fn push_function(
     requires slots { layout.now.slots < 2 ^ 16 }
     requires size { 0 < layout.now.size }
     requires room { sum_by (λ b. sum_by alloc_bytes b.lines) blocks.now ≤ 1048576 }
+    requires calls { IsTrue (list_all (λ b. list_all passes_few b.lines) blocks.now) }
     requires few { length params.now ≤ 64 }
     ensures { OnOk result (items.new.items ≡ items.old.items ++ function_items layout.now params.now blocks.now) }
 {

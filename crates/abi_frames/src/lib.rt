@@ -14,6 +14,7 @@
 //! So far frames are made for code whose parameters are not in registers of arguments, without calls, which makes and copies no blocks of memory: `covered::covers` says for which (`specs/Covered.antt`).
 #![tactic(auto)]
 
+mod call;
 mod compare;
 pub mod covered;
 mod ends;

@@ -1,10 +1,11 @@
 //! The machine code of lines.
-ghost use Rattle.std.specs.Prelude.{◌≡◌, ◌^◌, ◌<◌, ◌≤◌, [], ◌∷◌, ◌++◌, OnOk};
-ghost use Rattle.std.specs.List.{sum_by};
-ghost use Rattle.vcode.specs.Regular.{alloc_bytes};
+ghost use Rattle.std.specs.Prelude.{◌≡◌, ◌^◌, ◌<◌, ◌≤◌, IsTrue, [], ◌∷◌, ◌++◌, OnOk};
+ghost use Rattle.std.specs.List.{list_all, sum_by};
+ghost use Rattle.vcode.specs.Regular.{alloc_bytes, passes_few};
 ghost use Rattle.vcode.specs.declared.place.Location.TheVariants.{Slot};
 ghost use Rattle.abi_frames.specs.Emission.{operation_items, set_items, operate_items, load_to, load_items, store_op, store_items, line_items, lines_items};
 
+use crate::call::push_call;
 use crate::compare::{push_compare, push_compare_words};
 use crate::fields::{low_part, register, store_at};
 use crate::layout::Layout;
@@ -32,7 +33,7 @@ fn push_set_slot(
     push_into_slot(items, layout, source_of(28, value), slot)
 }
 
-fn push_set(
+pub(crate) fn push_set(
     items: &mut Vec<Item>,
     layout: &Layout,
     to: &Location,
@@ -165,7 +166,8 @@ pub(crate) fn push_line(
     _used: u64,
     line: &Line<Location>,
 ) -> Result<(), AllocError>
-    requires { layout.now.slots < 2 ^ 16 }
+    requires slots { layout.now.slots < 2 ^ 16 }
+    requires few { IsTrue (passes_few line.now) }
     ensures { OnOk result (items.new.items ≡ items.old.items ++ line_items layout.now _used line.now) }
 {
     match line {
@@ -177,8 +179,9 @@ pub(crate) fn push_line(
             right,
         } => push_operate(items, layout, to, operation, left, right)?,
         Line::Load { to, op, at } => push_load_line(items, layout, to, *op, at)?,
+        Line::Call { to, callee, args } => push_call(items, layout, to, callee, args.as_slice())?,
         Line::Store { size, value, at } => push_store_line(items, layout, *size, value, at)?,
-        Line::Tick { .. } | Line::Alloc { .. } | Line::Blit { .. } | Line::Call { .. } => {}
+        Line::Tick { .. } | Line::Alloc { .. } | Line::Blit { .. } => {}
     }
     Ok(())
 }
@@ -191,6 +194,7 @@ pub(crate) fn push_lines(
 ) -> Result<(), AllocError>
     requires slots { layout.now.slots < 2 ^ 16 }
     requires room { sum_by alloc_bytes lines.now ≤ 1048576 }
+    requires few { IsTrue (list_all passes_few lines.now) }
     ensures { OnOk result (items.new.items ≡ items.old.items ++ lines_items layout.now 0 lines.now) }
 {
     let mut used = 0;

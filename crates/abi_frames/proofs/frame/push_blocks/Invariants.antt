@@ -1,6 +1,6 @@
-use Rattle.std.proofs.Common.{◌≡◌, ◌≤◌, ◌++◌, drop}
-use Rattle.std.specs.List.{sum_by}
-use Rattle.vcode.specs.Regular.{alloc_bytes}
+use Rattle.std.proofs.Common.{◌≡◌, ◌≤◌, ◌++◌, drop, true}
+use Rattle.std.specs.List.{list_all, sum_by}
+use Rattle.vcode.specs.Regular.{alloc_bytes, passes_few}
 use Rattle.abi_frames.specs.Emission.{blocks_items}
 use Rattle.abi_frames.proofs.frame.push_blocks.Given as goal
 
@@ -8,3 +8,4 @@ abbrev pub invariant-loop-label : goal.invariant-loop-label
 invariant-loop-label l =
     (l.items.items ++ blocks_items l.layout l.label (drop l.label l.blocks) ≡ l.fn.items.items ++ blocks_items l.fn.layout 0 l.fn.blocks)
     × (sum_by (λ b. sum_by alloc_bytes b.lines) (drop l.label l.blocks) ≤ 1048576)
+    × (list_all (λ b. list_all passes_few b.lines) (drop l.label l.blocks) ≡ true)

@@ -1,0 +1,129 @@
+//! The machine code of calls.
+ghost use Rattle.std.specs.Prelude.{◌≡◌, ◌-◌, ◌*◌, ◌^◌, ◌<◌, ◌≤◌, [], ◌∷◌, ◌++◌, length, OnOk};
+ghost use Rattle.abi_frames.specs.Emission.{store_8, fetch, source, pass_into, pass_items, pass_all, call_through, receive_items, call_items};
+
+use crate::fields::{extend_word, low_part, register, store};
+use crate::layout::Layout;
+use crate::line::push_set;
+use crate::operand::{push_fetch, push_operand, source_of};
+use il_ast::operation::Class;
+use rv_isa::instruction::Instr;
+use rv_isa::labelled::Item;
+use std::alloc::AllocError;
+use vcode::place::{Argument, Destination, Location, Operand};
+
+// has an argument in a register, a word sign-extended
+fn push_argument(
+    items: &mut Vec<Item>,
+    layout: &Layout,
+    to: u8,
+    argument: &Argument<Location>,
+) -> Result<(), AllocError>
+    requires { layout.now.slots < 2 ^ 16 }
+    ensures { OnOk result (items.new.items ≡ items.old.items ++ pass_into layout.now to argument.now.class argument.now.value) }
+{
+    push_operand(items, layout, to, &argument.value)?;
+    match argument.class {
+        Class::W => items.push(extend_word(to, to))?,
+        Class::L => {}
+    }
+    Ok(())
+}
+
+// puts an argument on the stack, at an offset from the stack pointer
+fn push_stacked(
+    items: &mut Vec<Item>,
+    layout: &Layout,
+    offset: u64,
+    argument: &Argument<Location>,
+) -> Result<(), AllocError>
+    requires { layout.now.slots < 2 ^ 16 }
+    ensures { OnOk result (items.new.items ≡ items.old.items ++ (pass_into layout.now 28 argument.now.class argument.now.value ++ (store_8 28 2 offset ∷ []))) }
+{
+    push_argument(items, layout, 28, argument)?;
+    items.push(store(28, 2, offset))?;
+    Ok(())
+}
+
+// passes the argument of that number, from 0
+fn push_pass(
+    items: &mut Vec<Item>,
+    layout: &Layout,
+    number: usize,
+    argument: &Argument<Location>,
+) -> Result<(), AllocError>
+    requires slots { layout.now.slots < 2 ^ 16 }
+    requires few { number < 64 }
+    ensures { OnOk result (items.new.items ≡ items.old.items ++ pass_items layout.now number argument.now) }
+{
+    if number < 8 {
+        push_argument(items, layout, 10 + number as u8, argument)
+    } else {
+        push_stacked(items, layout, 8 * (number as u64 - 8), argument)
+    }
+}
+
+fn push_arguments(
+    items: &mut Vec<Item>,
+    layout: &Layout,
+    arguments: &[Argument<Location>],
+) -> Result<(), AllocError>
+    requires slots { layout.now.slots < 2 ^ 16 }
+    requires few { length arguments.now ≤ 64 }
+    ensures { OnOk result (items.new.items ≡ items.old.items ++ pass_all layout.now 0 arguments.now) }
+{
+    for (number, argument) in arguments.iter().enumerate() {
+        push_pass(items, layout, number, argument)?;
+    }
+    Ok(())
+}
+
+// to the address in a register
+fn call_through(number: u8) -> Item
+    ensures { result ≡ call_through number }
+{
+    Item::Plain(Instr::Jalr {
+        rd: register(1),
+        rs1: register(number),
+        offset: low_part(0),
+    })
+}
+
+fn push_receive(
+    items: &mut Vec<Item>,
+    layout: &Layout,
+    to: &Option<Destination<Location>>,
+) -> Result<(), AllocError>
+    requires { layout.now.slots < 2 ^ 16 }
+    ensures { OnOk result (items.new.items ≡ items.old.items ++ receive_items layout.now to.now) }
+{
+    match to {
+        None => {}
+        Some(wanted) => push_set(
+            items,
+            layout,
+            &wanted.place,
+            &Operand::At(Location::Register(10)),
+        )?,
+    }
+    Ok(())
+}
+
+/// Puts the code of a call at the end: its arguments, the jump to the callee, and what brings the result to its place.
+pub(crate) fn push_call(
+    items: &mut Vec<Item>,
+    layout: &Layout,
+    to: &Option<Destination<Location>>,
+    callee: &Operand<Location>,
+    arguments: &[Argument<Location>],
+) -> Result<(), AllocError>
+    requires slots { layout.now.slots < 2 ^ 16 }
+    requires few { length arguments.now ≤ 64 }
+    ensures { OnOk result (items.new.items ≡ items.old.items ++ call_items layout.now to.now callee.now arguments.now) }
+{
+    push_arguments(items, layout, arguments)?;
+    push_fetch(items, layout, 28, callee)?;
+    items.push(call_through(source_of(28, callee)))?;
+    push_receive(items, layout, to)?;
+    Ok(())
+}
