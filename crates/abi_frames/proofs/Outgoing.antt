@@ -1,6 +1,6 @@
 -- A call passes at most 56 arguments on the stack, so the slots begin near the stack pointer.
-use Rattle.std.proofs.Common.{◌≡◌, ℕ, ◌<◌, ◌≤◌, true, List, [], ◌∷◌, arith}
-use Rattle.std.specs.Prelude.{nat_le, max, length}
+use Rattle.std.proofs.Common.{◌≡◌, ℕ, zero, suc, ap, ◌<◌, ◌≤◌, true, List, [], ◌∷◌, arith}
+use Rattle.std.specs.Prelude.{nat_le, max, length, slice_get, Some}
 use Rattle.std.specs.List.{list_all}
 use Rattle.std.proofs.lemmas.Bool.{and_parts}
 use Rattle.std.proofs.lemmas.Bool.Decides.{nat_tests}
@@ -45,3 +45,20 @@ few_outgoing f is = few_in_blocks f.blocks is.few_args
 
 pub slots_near : (f : Code Location) → IsRegular f → slots_offset f < 1024
 slots_near f is = let few = few_outgoing f is in omega (arith, few)
+
+some_block : (a b : Block Location) → Some a ≡ Some b → a ≡ b
+some_block a b e = cc
+
+-- no block passes more than the most
+pub block_passes : (blocks : List (Block Location)) (i : ℕ) (b : Block Location) → slice_get blocks i ≡ Some b → most_in_lines b.lines ≤ most_in_blocks blocks
+block_passes [] i b e = absurd (let no : ⊥ = cc in no)
+block_passes (d ∷ blocks) zero b e =
+    let same : most_in_lines d.lines ≡ most_in_lines b.lines = ap (λ (x : Block Location). most_in_lines x.lines) (some_block d b e) in
+    first_of (most_in_lines d.lines) (most_in_lines b.lines) (most_in_blocks blocks) same
+  where
+    first_of : (x y m : ℕ) → x ≡ y → y ≤ max x m
+    first_of x y m e = omega (arith, e)
+block_passes (d ∷ blocks) (suc i) b e = later (most_in_lines d.lines) (most_in_lines b.lines) (most_in_blocks blocks) (block_passes blocks i b e)
+  where
+    later : (x y m : ℕ) → y ≤ m → y ≤ max x m
+    later x y m h = omega (arith, h)

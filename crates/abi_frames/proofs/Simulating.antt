@@ -43,6 +43,7 @@ use Rattle.abi_frames.proofs.Reading.{read_is}
 use Rattle.flat_code.specs.Step.{known_number, FlatState, Numbers, put, number_of, read, taken, computed, closed, is_in, sets, ticks, fails, goes_on, enters, branches, returns, returns_as, flat_line, flat_jump, block_step, step_in, flat_step}
 use Rattle.abi_frames.specs.Calls.{ResultIn, passed}
 use Rattle.abi_frames.specs.Performs.{AllPerform}
+use Rattle.abi_frames.specs.Layout.{most_in_lines}
 use Rattle.abi_frames.specs.Emission.{line_items, lines_items, jump_items, result_items, epilogue}
 use Rattle.abi_frames.proofs.Leading.{Site, StandAt, Leads, leads_so, Sets}
 use Rattle.abi_frames.proofs.Activations.{Setting, site, bottom, save_at, operand_in, Framed, operand_known, Assigned, assigned, assigned_output}
@@ -51,7 +52,7 @@ use Rattle.abi_frames.proofs.FrameEnds.{Lands, Ends, ends_then, Jumped, ends_fra
 use Rattle.abi_frames.proofs.JumpCode.{ends_so, ends_goto, ends_branch, leads_result, way}
 use Rattle.abi_frames.proofs.Sizes.{jump_size, epilogue_size, le_is}
 use Rattle.abi_frames.proofs.Storing.{store_case}
-use Rattle.abi_frames.proofs.Simulation.{CodeStands, At, AtJump, Landed, Performed, step_of, nothing_taken, Log, Follows, Then, undefined, framed_same, reach, next_index, advance}
+use Rattle.abi_frames.proofs.Simulation.{CodeStands, At, AtJump, Landed, Performed, step_of, nothing_taken, later_fits, Log, Follows, Then, undefined, framed_same, reach, next_index, advance}
 
 -- a tick
 abbrev tick : Bool → ℕ → Line Location
@@ -88,6 +89,7 @@ ticked c f b turn w lines fs k u t a turns weight calls output =
       used = a.used + 0;
       room = omega (arith, room, bytes);
       used_is = λ e. a.used_is e ∙ nothing_taken a.used;
+      passes = later_fits 0 (most_in_lines lines) c.layout.saves a.passes;
     }
 
 out_of_turns : (c : Setting) (f : Code Location) (b : Block Location) (lines : List (Line Location)) (fs : FlatState) (k : ℕ) (u : State) (r : FlatOutcome)
@@ -340,6 +342,7 @@ enter c f is j r n go i fs k u a new log goes all = by_block (slice_get f.blocks
           inside = stands.inside;
           room = omega (arith, room);
           used_is = λ h. none_used i fs.used b.lines new stands.made_first h;
+          passes = stands.passes;
         }) log goes all
 
 -- ---- the return

@@ -1,6 +1,6 @@
 -- What holds at each line while the machine follows the code on bytes, and what is to be shown of it.
 use Rattle.std.proofs.Common.{◌≡◌, ℕ, suc, ◌+◌, ◌-◌, ◌*◌, ◌%◌, ◌<◌, ◌≤◌, Bool, true, false, refl, List, ◌∷◌, ◌++◌, ◌∙◌, ap, subst, arith, lit<, append_assoc}
-use Rattle.std.specs.Prelude.{◌&&◌, ◌||◌, nat_le, slice_get, Some}
+use Rattle.std.specs.Prelude.{◌&&◌, ◌||◌, nat_le, slice_get, Some, max}
 use Rattle.std.specs.List.{list_all, list_any, sum_by}
 use Rattle.std.proofs.lemmas.Bool.{and_parts}
 use Rattle.std.proofs.lemmas.List.Sums.{sum_by-cons}
@@ -28,6 +28,7 @@ use Rattle.flat_code.specs.Flat.{FlatGiven, FlatAsked, FlatOutcome, FlatEnded, f
 use Rattle.flat_code.specs.Step.{FlatState, FlatEvent, Numbers, flat_step}
 use Rattle.abi_frames.specs.Performs.{Performs, AllPerform}
 use Rattle.abi_frames.specs.Covered.{covers_line}
+use Rattle.abi_frames.specs.Layout.{args_on_stack, most_in_lines}
 use Rattle.abi_frames.specs.Emission.{line_items, lines_items, jump_items, epilogue}
 use Rattle.abi_frames.proofs.Leading.{StandAt, Reaches, Leads}
 use Rattle.abi_frames.proofs.Activations.{Setting, IsSetting, site, bottom, slot_at, save_at, value_at, place_is, Framed}
@@ -48,6 +49,7 @@ pub record BlockStands (c : Setting) (b : Block Location) (i : ℕ) : Type 0 whe
   pub inside : leads_inside blocks b.jump ≡ true
   pub room : sum_by alloc_bytes b.lines ≤ c.area
   pub made_first : 0 < i → list_any is_alloc b.lines ≡ false
+  pub passes : 8 * most_in_lines b.lines ≤ c.layout.saves
 
 pub record CodeStands (c : Setting) (f : Code Location) : Type 0 where
   pub setting : IsSetting c
@@ -86,6 +88,7 @@ pub record At (c : Setting) (f : Code Location) (b : Block Location) (lines : Li
   pub inside : leads_inside blocks b.jump ≡ true
   pub room : used + sum_by alloc_bytes lines ≤ c.area
   pub used_is : list_any is_alloc lines ≡ true → fs.used ≡ used
+  pub passes : 8 * most_in_lines lines ≤ c.layout.saves
 
 pub record AtJump (c : Setting) (j : Jump Location) (fs : FlatState) (k : ℕ) (u : State) : Type 0 where
   pub rest : List Item
@@ -163,14 +166,21 @@ framed_same c numbers memory s u framed h = record {
 assoc : (a b d e : List Item) → ((a ++ b) ++ d) ++ e ≡ a ++ ((b ++ d) ++ e)
 assoc a b d e = ap (λ l. l ++ e) (append_assoc a b d) ∙ append_assoc a (b ++ d) e
 
+-- where the code of the next line and what follows it stands
+pub stands_here : (c : Setting) (f : Code Location) (b : Block Location) (l : Line Location) (lines : List (Line Location)) (fs : FlatState) (k : ℕ) (u : State)
+    → (a : At c f b (l ∷ lines) fs k u)
+    → StandAt (site c)
+    (line_items c.layout a.used l ++ ((lines_items c.layout (a.used + alloc_bytes l) lines ++ jump_items c.layout b.jump) ++ a.rest)) u.pc
+stands_here c f b l lines fs k u a =
+    subst (λ is. StandAt (site c) is u.pc)
+    (assoc (line_items c.layout a.used l) (lines_items c.layout (a.used + alloc_bytes l) lines) (jump_items c.layout b.jump) a.rest) a.stands
+
 pub reach : (c : Setting) (f : Code Location) (b : Block Location) (l : Line Location) (lines : List (Line Location)) (fs : FlatState) (k : ℕ) (u : State)
     (P : State → Type 0) → (a : At c f b (l ∷ lines) fs k u) → Leads (site c) (line_items c.layout a.used l) u P
     → Reaches (site c) (longest_size (line_items c.layout a.used l))
     ((lines_items c.layout (a.used + alloc_bytes l) lines ++ jump_items c.layout b.jump) ++ a.rest) u P
 reach c f b l lines fs k u P a leads =
-    leads.from ((lines_items c.layout (a.used + alloc_bytes l) lines ++ jump_items c.layout b.jump) ++ a.rest)
-    (subst (λ is. StandAt (site c) is u.pc)
-    (assoc (line_items c.layout a.used l) (lines_items c.layout (a.used + alloc_bytes l) lines) (jump_items c.layout b.jump) a.rest) a.stands) a.fixed
+    leads.from ((lines_items c.layout (a.used + alloc_bytes l) lines ++ jump_items c.layout b.jump) ++ a.rest) (stands_here c f b l lines fs k u a) a.fixed
 
 -- a block of memory is still to be made
 later_alloc : (l : Line Location) (lines : List (Line Location)) → list_any is_alloc lines ≡ true → list_any is_alloc (l ∷ lines) ≡ true
@@ -179,6 +189,10 @@ later_alloc l lines e = by_test (is_alloc l)
     by_test : (b : Bool) → (b || list_any is_alloc lines) ≡ true
     by_test true = refl
     by_test false = e
+
+-- what fits for a line and those behind it fits for those behind it
+pub later_fits : (a m s : ℕ) → 8 * max a m ≤ s → 8 * m ≤ s
+later_fits a m s h = omega (arith, h)
 
 pub nothing_taken : (n : ℕ) → n ≡ n + 0
 nothing_taken n = omega arith
@@ -225,4 +239,5 @@ advance c f b l lines fs k u numbers memory used a calm takes pays m =
       used = a.used + alloc_bytes l;
       room = omega (arith, room, bytes);
       used_is = λ e. takes ∙ ap (λ n. n + alloc_bytes l) (a.used_is (later_alloc l lines e));
+      passes = later_fits (args_on_stack l) (most_in_lines lines) c.layout.saves a.passes;
     }

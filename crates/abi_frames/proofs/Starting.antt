@@ -34,7 +34,7 @@ use Rattle.abi_frames.specs.Laws.{IsCode, FramesPerform}
 use Rattle.abi_frames.proofs.Leading.{Site, StandAt, Leads, leads_then, leads_so, longest-append}
 use Rattle.abi_frames.proofs.Activations.{Setting, IsSetting, site, bottom}
 use Rattle.abi_frames.proofs.FrameEnds.{PointerMoved, leads_move_pointer, AllSaved, leads_save_all}
-use Rattle.abi_frames.proofs.Outgoing.{few_outgoing}
+use Rattle.abi_frames.proofs.Outgoing.{few_outgoing, block_passes}
 use Rattle.abi_frames.proofs.Sizes.{prologue_size, entry_size, le_is}
 use Rattle.abi_frames.proofs.Entering.{Entering, argument_in, ArePassed, CanTake, leads_entry}
 use Rattle.abi_frames.proofs.Simulation.{BlockStands, CodeStands}
@@ -298,9 +298,9 @@ made_first (d ∷ blocks) zero b h e some = absurd (omega (arith, some))
 made_first (d ∷ blocks) (suc i) b h e some =
     not_true (list_any is_alloc b.lines) (each (λ (x : Block Location). not (list_any is_alloc x.lines)) blocks i b h e)
 
-block_stands : (c : Setting) (f : Code Location) (slots : ℕ) → c.slots ≡ slots → c.area ≡ area f → IsCode f slots → (b : Block Location) (i : ℕ) → slice_get f.blocks i ≡ Some b
+block_stands : (c : Setting) (f : Code Location) (slots : ℕ) → c.slots ≡ slots → c.area ≡ area f → c.layout.saves ≡ 8 * outgoing f → IsCode f slots → (b : Block Location) (i : ℕ) → slice_get f.blocks i ≡ Some b
     → BlockCode (site c) c.layout b i → BlockStands c b i
-block_stands c f slots same same_area is b i e code =
+block_stands c f slots same same_area same_saves is b i e code =
     let known = and_parts (list_all (λ (d : Destination Location). is_place slots d.place) f.params) (list_all (block_keeps (is_place slots)) f.blocks) is.known in
     let keeps : block_keeps (is_place slots) b ≡ true = each (block_keeps (is_place slots)) f.blocks i b known.1 e in
     let keeps_here : block_keeps (is_place c.slots) b ≡ true = subst (λ n. block_keeps (is_place n) b ≡ true) (sym same) keeps in
@@ -310,6 +310,7 @@ block_stands c f slots same same_area is b i e code =
     let pays = each is_paid f.blocks i b is.regular.paid e in
     let inside = each (λ (d : Block Location). leads_inside (length f.blocks) d.jump) f.blocks i b is.regular.inside e in
     let within = block_within f.blocks i b e in
+    let passes = block_passes f.blocks i b e in
     let paced = each (λ (d : Block Location). nat_le (sum_by turns_of d.lines) 40000) f.blocks i b is.regular.paced e in
     record {
       rest = code.rest;
@@ -323,6 +324,7 @@ block_stands c f slots same same_area is b i e code =
       inside = inside;
       room = omega (arith, within, same_area);
       made_first = made_first f.blocks i b is.regular.first e;
+      passes = omega (arith, passes, same_saves);
     }
 
 -- from the call to the first block
@@ -373,7 +375,7 @@ performs w at label global addresses f slots is world globals stands sp j stack 
     let code : CodeStands c f = record {
       setting = good;
       blocks = λ i b e.
-          block_stands c f slots refl refl is b i e
+          block_stands c f slots refl refl refl is b i e
           (subst (λ k. BlockCode (site c) y b k) (zero-add i) (blocks_stand (site c) y 0 f.blocks (Label y.leave ∷ epilogue y) blocks.place blocks.stands i b e));
       result = refl;
       rest = [];
