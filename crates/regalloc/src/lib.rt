@@ -7,11 +7,15 @@
 //! [`spill_all::SpillAll`] answers slot i for virtual register i, everywhere, and names live registers alone. [`list::certificate_of`] makes a certificate of a
 //! list with one place for each register. The contracts of both say what the certificate is (`specs/Listed`).
 //!
+//! [`linear_scan::LinearScan`] gives registers of the machine to those virtual registers whose intervals have room in them, and slots to the others.
+//!
 //! Points are those of `cfg_live`: lines but for ticks, and jumps, from 0 in the order of the text. The crate stands on it for live registers and on `vcode`
 //! for code and places.
 #![tactic(auto)]
 
 pub mod certificate;
+mod intervals;
+pub mod linear_scan;
 pub mod list;
 pub mod spill_all;
 pub mod strategy;

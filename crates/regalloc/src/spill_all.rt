@@ -23,8 +23,8 @@ impl SpillAll {
     }
 }
 
-// Slot i for each i below `registers`.
-fn slots(alloc: Global, registers: u32) -> Result<Vec<Location>, AllocError>
+/// Slot i for each i below `registers`.
+pub(crate) fn slots(alloc: Global, registers: u32) -> Result<Vec<Location>, AllocError>
     ensures { IfOk result (λ v. v.items ≡ slots registers) }
 {
     let mut list = Vec::new(alloc);

@@ -1,17 +1,18 @@
 //! A function of one line, and its certificates.
 use crate::certificate::Equality;
+use crate::linear_scan::{LinearScan, scanned};
 use crate::list::certificate_of;
 use crate::spill_all::SpillAll;
 use crate::strategy::Strategy;
 use cfg_live::live::live;
 use il_ast::list::Seq;
-use il_ast::operation::Class;
+use il_ast::operation::{Class, Condition};
 use std::alloc::{AllocError, Global};
 use std::test::Fail;
 use vcode::code::{Block, Code};
 use vcode::function::VFunc;
-use vcode::line::{Jump, Line};
-use vcode::place::{Destination, Location, Operand};
+use vcode::line::{Jump, Line, Operation};
+use vcode::place::{Argument, Destination, Location, Operand};
 
 /// Copies its argument from register 0 to register 1, and returns that.
 fn copying(alloc: Global) -> Result<VFunc, AllocError> {
@@ -93,5 +94,88 @@ fn registers_beyond_the_list_have_no_place(rt: HostRuntime) -> Result<(), Fail> 
         [at(0, Location::Register(10))].as_slice()
     );
     assert_eq!(rt; certificate.places.as_slice()[1].len(), 0);
+    Ok(())
+}
+
+#[test]
+fn one_register_after_another(rt: HostRuntime) -> Result<(), Fail> {
+    let alloc = rt.alloc();
+    let function = copying(alloc)?;
+    let live = live(alloc, &function)?;
+    match LinearScan::new(alloc).choose(&function, &live) {
+        Some(certificate) => {
+            // the copy is made where the argument ends
+            let x5 = Location::Register(5);
+            assert_eq!(rt; certificate.params.as_slice(), [x5].as_slice());
+            assert_eq!(rt; certificate.places.len(), 2);
+            assert_eq!(rt;
+                certificate.places.as_slice()[0].as_slice(),
+                [at(0, x5), at(1, x5)].as_slice()
+            );
+        }
+        None => assert!(rt; false, "no certificate"),
+    }
+    Ok(())
+}
+
+/// Passes its argument, register 0, to a call, compares the result, register 1, with it, and returns the truth, register 2.
+fn calling(alloc: Global) -> Result<VFunc, AllocError> {
+    let mut params = Seq::new(alloc);
+    params.push(Destination {
+        place: 0,
+        class: Class::L,
+    })?;
+    let mut args = Seq::new(alloc);
+    args.push(Argument {
+        class: Class::L,
+        value: Operand::At(0),
+    })?;
+    let mut lines = Seq::new(alloc);
+    lines.push(Line::Tick {
+        turn: true,
+        weight: 10,
+    })?;
+    lines.push(Line::Call {
+        to: Some(Destination {
+            place: 1,
+            class: Class::L,
+        }),
+        callee: Operand::Number(1),
+        args,
+    })?;
+    lines.push(Line::Operate {
+        to: 2,
+        operation: Operation::Compare(Condition::Equal, Class::L),
+        left: Operand::At(0),
+        right: Operand::At(1),
+    })?;
+    let mut blocks = Seq::new(alloc);
+    blocks.push(Block {
+        lines,
+        jump: Jump::Return(Some(Operand::At(2))),
+    })?;
+    Ok(VFunc {
+        code: Code {
+            result: Some(Class::L),
+            params,
+            blocks,
+        },
+        registers: 3,
+    })
+}
+
+#[test]
+fn a_value_over_a_call_stands_where_callees_keep_it(rt: HostRuntime) -> Result<(), Fail> {
+    let alloc = rt.alloc();
+    let function = calling(alloc)?;
+    let live = live(alloc, &function)?;
+    let certificate = scanned(alloc, &function, &live)?;
+    let [x5, x8] = [Location::Register(5), Location::Register(8)];
+    assert_eq!(rt; certificate.params.as_slice(), [x8].as_slice());
+    assert_eq!(rt; certificate.places.len(), 3);
+    assert_eq!(rt;
+        certificate.places.as_slice()[1].as_slice(),
+        [at(0, x8), at(1, x5), at(2, x5)].as_slice()
+    );
     Ok(())
 }
