@@ -259,11 +259,11 @@ is_29 = record { some = lit< tt; small = lit< tt }
 pub near_address : (x b o : ℕ) → x ≡ b → o < 2048 → b + o < 2 ^ 63 → moved x (low o).value ≡ b + o
 near_address x b o e h small = near_moves x o h ∙ omega (arith, e)
 
-far_address : (x b o : ℕ) → x ≡ (upper_value (high o) + b) % 2 ^ 64 → o < 2 ^ 21 → b + o < 2 ^ 63 → moved x (low o).value ≡ b + o
+pub far_address : (x b o : ℕ) → x ≡ (upper_value (high o) + b) % 2 ^ 64 → o < 2 ^ 21 → b + o < 2 ^ 63 → moved x (low o).value ≡ b + o
 far_address x b o e h small = ap (λ y. moved y (low o).value) e ∙ far_moves b o h (omega arith)
 
 -- the upper part of an offset, and the stack pointer
-high_part : (c : Site) (s : State) (d b o : ℕ) → IsReg d → d ≢ 2 → s.registers 2 ≡ b
+pub high_part : (c : Site) (s : State) (d b o : ℕ) → IsReg d → d ≢ 2 → s.registers 2 ≡ b
     → Leads c (Plain (Lui (reg d) (high o)) ∷ sum_to d d 2 ∷ []) s (Sets s d ((upper_value (high o) + b) % 2 ^ 64))
 high_part c s d b o is other pointer =
     leads_again c (Plain (Lui (reg d) (high o)) ∷ []) (sum_to d d 2 ∷ []) s d (upper_value (high o)) ((upper_value (high o) + b) % 2 ^ 64)

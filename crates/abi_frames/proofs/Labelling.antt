@@ -12,7 +12,7 @@ use Rattle.il_ast.specs.declared.operation.Condition.TheVariants.{Equal, NotEqua
 use Rattle.il_ast.specs.declared.operation.Class.{Class}
 use Rattle.il_ast.specs.declared.operation.Class.TheVariants.{W, L}
 use Rattle.rv_isa.specs.Labels.{IsLabelled, times_labelled, has_label_below, has_good_registers, longest_size}
-use Rattle.rv_isa.specs.declared.instruction.Instr.TheVariants.{Reg, RegW}
+use Rattle.rv_isa.specs.declared.instruction.Instr.TheVariants.{Lui, Reg, RegW}
 use Rattle.rv_isa.specs.declared.instruction.BranchOp.TheVariants.{Bne}
 use Rattle.rv_isa.specs.declared.labelled.Item.{Item}
 use Rattle.rv_isa.specs.declared.labelled.Item.TheVariants.{Plain, Label, Branch as BranchTo, Goto as GoTo, Address}
@@ -34,7 +34,7 @@ use Rattle.vcode.specs.Named.{is_place, operand_keeps, line_keeps, jump_keeps, b
 use Rattle.vcode.specs.Regular.{leads_inside, is_target, alloc_bytes, code_weight}
 use Rattle.abi_frames.specs.Layout.{layout, saved_registers}
 use Rattle.abi_frames.specs.declared.layout.Layout.{Layout}
-use Rattle.abi_frames.specs.Emission.{reg, add_low, extend, sum_to, load_8, store_8, long_constant, constant, far_load, load_slot, far_store, store_slot, slot_offset, into, fetch, source, target, deliver, set_items, negate, is_zero, compare_items, operation_items, operate_items, load_to, store_at, store_op, line_items, lines_items, move_pointer, save_all, restore_all, go_back, prologue, epilogue, result_items, jump_items, blocks_items, pass_into, pass_items, pass_all, call_through, receive_items, call_items}
+use Rattle.abi_frames.specs.Emission.{reg, add_low, extend, sum_to, load_8, store_8, long_constant, constant, far_load, load_slot, far_store, store_slot, slot_offset, into, fetch, source, target, deliver, set_items, negate, is_zero, compare_items, operation_items, operate_items, load_to, store_at, store_op, line_items, lines_items, move_pointer, save_all, restore_all, go_back, prologue, epilogue, result_items, jump_items, blocks_items, pass_into, pass_items, pass_all, call_through, receive_items, call_items, address_at, high}
 use Rattle.abi_frames.specs.Functions.{caller_pointer, from_register, from_stack, argument_items, arguments_items, pointer_items, entry_items}
 use Rattle.abi_frames.specs.Laws.{FramesAreLabelled}
 use Rattle.abi_frames.proofs.Leading.{longest-append}
@@ -288,6 +288,13 @@ call_plainly n y slots to callee args good known known_args =
     (λ l. refl) refl)
     (receive_plainly n y slots to good)))
 
+offset_plainly : (n d o : ℕ) → Nameable d → Plainly n (address_at d o)
+offset_plainly n d o h = by_test (nat_lt o 2048)
+  where
+    by_test : (b : Bool) → Plainly n (if b then add_low d 2 o ∷ [] else Plain (Lui (reg d) (high o)) ∷ sum_to d d 2 ∷ add_low d d o ∷ [])
+    by_test true = add_plainly n d 2 o h (nameable 2 (lit< tt))
+    by_test false = record { labels = refl; none = λ l. refl; registers = (let is = h.is in rw is refl) }
+
 line_plainly : (n : ℕ) (y : Layout) (used slots : ℕ) (l : Line Location) → line_keeps (is_place slots) l ≡ true → Plainly n (line_items y used l)
 line_plainly n y used slots (Tick turn w) known = plainly_nothing n
 line_plainly n y used slots (Set to a) known =
@@ -311,7 +318,9 @@ line_plainly n y used slots (Store size a at) known =
     (plainly_then n (fetch y 29 at) made (fetch_plainly n y 29 at (lit< tt) (lit< tt))
     (one_of_two n (store_at (store_op size) (source 28 a) (source 29 at) 0) (source 29 at) (source 28 a) (source_nameable slots 29 at (lit< tt) parts.1)
     (source_nameable slots 28 a (lit< tt) parts.0) refl (λ l. refl) refl))
-line_plainly n y used slots (Alloc to size) known = plainly_nothing n
+line_plainly n y used slots (Alloc to size) known =
+    plainly_then n (address_at (target to) (y.area + used)) (deliver y to) (offset_plainly n (target to) (y.area + used) (target_nameable slots to known))
+    (deliver_plainly n y to)
 line_plainly n y used slots (Blit from to count) known = plainly_nothing n
 line_plainly n y used slots (Call to callee args) known =
     let parts = and_parts (wanted_keeps (is_place slots) to)

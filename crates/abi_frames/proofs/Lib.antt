@@ -20,3 +20,4 @@ pub mod Outgoing
 pub mod Accesses
 pub mod MemoryChanges
 pub mod Storing
+pub mod Making

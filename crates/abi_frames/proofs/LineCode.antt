@@ -150,10 +150,10 @@ store_from c is s x i reg other pointer good =
       output = h.output;
     }))
 
-set_register : (s : State) (r v : ℕ) (u : State) → Sets s r v u → InPlace s r v u
+pub set_register : (s : State) (r v : ℕ) (u : State) → Sets s r v u → InPlace s r v u
 set_register s r v u h = record { value = h.value; others = λ n lo other. h.others n other; bytes = h.bytes; output = h.output }
 
-place_not_2 : (r : ℕ) → IsPlace r → r ≢ 2
+pub place_not_2 : (r : ℕ) → IsPlace r → r ≢ 2
 place_not_2 r is e = let lo = is.from_5 in absurd (omega (arith, e, lo))
 
 pub leads_set_line : (c : Setting) → IsSetting c → (s : State) (to : Location) (a : Operand Location) → s.registers 2 ≡ bottom c
@@ -223,14 +223,16 @@ leads_operation c s (Compare on L) d a b other is is_a is_b =
 leads_operation c s (Compare on W) d a b other is is_a is_b = leads_words c s on d a b other is is_a is_b
 
 -- the result in a register is brought to its place
-leads_made : (c : Setting) → IsSetting c → (s : State) (is_made : ℕ → List Item) (v : ℕ) (to : Location) → s.registers 2 ≡ bottom c
-    → is_place c.slots to ≡ true → ((d : ℕ) → IsReg d → Leads (site c) (is_made d) s (InPlace s d v))
+pub leads_made : (c : Setting) → IsSetting c → (s : State) (is_made : ℕ → List Item) (v : ℕ) (to : Location) → s.registers 2 ≡ bottom c
+    → is_place c.slots to ≡ true → ((d : ℕ) → IsReg d → d ≢ 2 → Leads (site c) (is_made d) s (InPlace s d v))
     → Leads (site c) (is_made (target to) ++ deliver c.layout to) s (Assigned c s to v)
 leads_made c is s is_made v (InRegister r) pointer good made =
-    leads_then (site c) (is_made r) [] s (InPlace s r v) (InPlace s r v) (made r (place_reg r (place_is c.slots r good)))
+    let place = place_is c.slots r good in
+    leads_then (site c) (is_made r) [] s (InPlace s r v) (InPlace s r v) (made r (place_reg r place) (place_not_2 r place))
     (λ u f h. leads_nowhere (site c) u (InPlace s r v) h)
 leads_made c is s is_made v (Slot i) pointer good made =
-    leads_then (site c) (is_made 28) (store_slot 28 (slot_offset c.layout i)) s (InPlace s 28 v) (OnStack s (slot_at c i) v) (made 28 is_28)
+    leads_then (site c) (is_made 28) (store_slot 28 (slot_offset c.layout i)) s (InPlace s 28 v) (OnStack s (slot_at c i) v)
+    (made 28 is_28 (λ e. absurd (omega (arith, e))))
     (λ u f one.
     let same : Scratched s u = record { registers = λ n lo. one.others n lo (not_scratch 28 n (omega arith) lo); bytes = one.bytes; output = one.output } in
     leads_so (site c) (store_slot 28 (slot_offset c.layout i)) u (OnStack u (slot_at c i) (u.registers 28)) (OnStack s (slot_at c i) v)
@@ -261,7 +263,7 @@ leads_operate_line c is s to op a b pointer good known_a known_b =
     leads_so (site c) (operation_items op (target to) x y ++ deliver c.layout to) w (Assigned c w to (computed op (w.registers x) (w.registers y)))
     (Assigned c s to v)
     (leads_made c is w (λ d. operation_items op d x y) (computed op (w.registers x) (w.registers y)) to (same_w.registers 2 (lit< tt) ∙ pointer_u) good
-    (λ d reg. leads_operation c w op d x y (source_not_28 c.slots b known_b) reg (source_reg c.slots 28 a is_28 known_a) (source_reg c.slots 29 b is_29 known_b)))
+    (λ d reg other. leads_operation c w op d x y (source_not_28 c.slots b known_b) reg (source_reg c.slots 28 a is_28 known_a) (source_reg c.slots 29 b is_29 known_b)))
     (λ t h three. assigned_value c s to (computed op (w.registers x) (w.registers y)) v t is_v
     (assigned_from c s w to (computed op (w.registers x) (w.registers y)) t all three))))
 
@@ -283,7 +285,7 @@ leads_load_line c is s to op at pointer good known usable =
     let value : w ≡ v = ap (λ (m : ℕ → ℕ). load_value op (number_at m x n)) one.bytes in
     leads_so (site c) ((load_to op (target to) y ∷ []) ++ deliver c.layout to) u (Assigned c u to w) (Assigned c s to v)
     (leads_made c is u (λ d. load_to op d y ∷ []) w to (same.registers 2 (lit< tt) ∙ pointer) good
-    (λ d reg.
+    (λ d reg other.
     leads_so (site c) (load_to op d y ∷ []) u (Sets u d w) (InPlace u d w)
     (leads_load_at (site c) u op d y x reg (source_reg c.slots 28 at is_28 known) f one.value usable)
     (λ t h two. set_register u d w t two)))

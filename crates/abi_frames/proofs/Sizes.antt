@@ -13,7 +13,8 @@ use Rattle.rv_isa.specs.Labels.{longest_size}
 use Rattle.rv_isa.specs.declared.instruction.BranchOp.TheVariants.{Bne}
 use Rattle.rv_isa.specs.declared.instruction.LoadOp.{LoadOp}
 use Rattle.rv_isa.specs.declared.labelled.Item.{Item}
-use Rattle.rv_isa.specs.declared.labelled.Item.TheVariants.{Label, Branch as BranchTo, Goto as GoTo}
+use Rattle.rv_isa.specs.declared.instruction.Instr.TheVariants.{Lui}
+use Rattle.rv_isa.specs.declared.labelled.Item.TheVariants.{Plain, Label, Branch as BranchTo, Goto as GoTo}
 use Rattle.std.proofs.lemmas.List.Sums.{sum_by-cons}
 use Rattle.vcode.specs.declared.place.Location.{Location}
 use Rattle.vcode.specs.declared.place.Location.TheVariants.{Register as InRegister, Slot}
@@ -36,7 +37,7 @@ use Rattle.vcode.specs.Named.{is_near, are_near}
 use Rattle.abi_frames.specs.Layout.{layout, saved_registers}
 use Rattle.abi_frames.specs.Laws.{FramesAreSmall}
 use Rattle.abi_frames.specs.declared.layout.Layout.{Layout}
-use Rattle.abi_frames.specs.Emission.{reg, add_low, extend, long_constant, constant, load_8, store_8, far_load, far_store, sum_to, load_slot, store_slot, slot_offset, into, fetch, source, target, deliver, set_items, compare_items, operation_items, operate_items, load_to, load_items, store_at, store_op, store_items, line_items, lines_items, move_pointer, save_all, restore_all, go_back, prologue, epilogue, result_items, jump_items, block_items, blocks_items, pass_into, pass_items, pass_all, call_through, receive_items, call_items}
+use Rattle.abi_frames.specs.Emission.{reg, add_low, extend, long_constant, constant, load_8, store_8, far_load, far_store, sum_to, load_slot, store_slot, slot_offset, into, fetch, source, target, deliver, set_items, compare_items, operation_items, operate_items, load_to, load_items, store_at, store_op, store_items, line_items, lines_items, move_pointer, save_all, restore_all, go_back, prologue, epilogue, result_items, jump_items, block_items, blocks_items, pass_into, pass_items, pass_all, call_through, receive_items, call_items, address_at, alloc_items, high}
 use Rattle.abi_frames.specs.Functions.{caller_pointer, from_register, from_stack, argument_items, arguments_items, pointer_items, entry_items, function_items}
 use Rattle.abi_frames.proofs.Leading.{longest-append}
 use Rattle.abi_frames.proofs.Outgoing.{slots_near}
@@ -203,13 +204,27 @@ call_size y to callee args =
     let parts = call_parts y to callee args in
     omega (arith, one, two, three, four, parts)
 
+address_size : (d o : ℕ) → longest_size (address_at d o) ≤ 3
+address_size d o = by_test (nat_lt o 2048)
+  where
+    by_test : (b : Bool) → longest_size (if b then add_low d 2 o ∷ [] else Plain (Lui (reg d) (high o)) ∷ sum_to d d 2 ∷ add_low d d o ∷ []) ≤ 3
+    by_test true = lit≤ tt
+    by_test false = lit≤ tt
+
+alloc_size : (y : Layout) (used : ℕ) (to : Location) → longest_size (alloc_items y used to) ≤ 3 + 3
+alloc_size y used to =
+    let all = longest-append (address_at (target to) (y.area + used)) (deliver y to) in
+    let h = address_size (target to) (y.area + used) in
+    let k = deliver_size y to in
+    omega (arith, all, h, k)
+
 pub line_size : (y : Layout) (used : ℕ) (l : Line Location) → longest_size (line_items y used l) ≤ line_cost l
 line_size y used (Tick turn w) = lit≤ tt
 line_size y used (Set to a) = set_size y to a
 line_size y used (Operate to op a b) = operate_size y to op a b
 line_size y used (Load to op at) = load_line_size y to op at
 line_size y used (Store size a at) = store_line_size y size a at
-line_size y used (Alloc to size) = omega arith
+line_size y used (Alloc to size) = alloc_size y used to
 line_size y used (Blit from to count) = omega arith
 line_size y used (Call to callee args) = call_size y to callee args
 

@@ -1,11 +1,11 @@
--- The code that frames are made for so far: no parameter in a register of arguments, no calls, and nothing that makes or copies blocks of memory.
+-- The code that frames are made for so far: no parameter in a register of arguments, no calls, and nothing that copies bytes of memory.
 use Rattle.std.specs.Prelude.{Bool, true, false, ◌&&◌, ◌||◌, nat_lt, List}
 use Rattle.std.specs.List.{list_all}
 use Rattle.vcode.specs.declared.place.Location.{Location}
 use Rattle.vcode.specs.declared.place.Location.TheVariants.{Register, Slot}
 use Rattle.vcode.specs.declared.place.Destination.{Destination}
 use Rattle.vcode.specs.declared.line.Line.{Line}
-use Rattle.vcode.specs.declared.line.Line.TheVariants.{Tick, Set, Operate, Load, Store}
+use Rattle.vcode.specs.declared.line.Line.TheVariants.{Tick, Set, Operate, Load, Store, Alloc}
 use Rattle.vcode.specs.declared.code.Block.{Block}
 use Rattle.vcode.specs.declared.code.Code.{Code}
 
@@ -20,6 +20,7 @@ covers_line (Set to a) = true
 covers_line (Operate to op a b) = true
 covers_line (Load to op at) = true
 covers_line (Store size a at) = true
+covers_line (Alloc to size) = true
 covers_line l = false
 
 abbrev pub covers_block : Block Location → Bool

@@ -33,7 +33,7 @@ use Rattle.vcode.specs.declared.place.Destination.{Destination}
 use Rattle.vcode.specs.declared.line.Operation.{Operation}
 use Rattle.vcode.specs.declared.line.Operation.TheVariants.{Reg as RegOperation, RegW as RegWOperation, Compare}
 use Rattle.vcode.specs.declared.line.Line.{Line}
-use Rattle.vcode.specs.declared.line.Line.TheVariants.{Set, Operate, Load as LoadLine, Store as StoreLine, Call}
+use Rattle.vcode.specs.declared.line.Line.TheVariants.{Set, Operate, Load as LoadLine, Store as StoreLine, Call, Alloc}
 use Rattle.vcode.specs.declared.line.Jump.{Jump}
 use Rattle.vcode.specs.declared.line.Jump.TheVariants.{Goto, Branch, Return, Halt}
 use Rattle.vcode.specs.declared.code.Block.{Block}
@@ -238,6 +238,15 @@ call_items y to callee args =
 
 -- ---- each line
 
+-- the address at an offset from the stack pointer, into the register d
+abbrev pub address_at : (d offset : ℕ) → List Item
+address_at d offset =
+    if nat_lt offset 2048 then add_low d 2 offset ∷ [] else Plain (Lui (reg d) (high offset)) ∷ sum_to d d 2 ∷ add_low d d offset ∷ []
+
+-- the address of the next block of memory
+abbrev pub alloc_items : Layout → (used : ℕ) → Location → List Item
+alloc_items y used to = address_at (target to) (y.area + used) ++ deliver y to
+
 -- `used` bytes of the area for blocks of memory are taken by the lines before
 abbrev pub line_items : Layout → (used : ℕ) → Line Location → List Item
 line_items y used (Set to a) = set_items y to a
@@ -245,6 +254,7 @@ line_items y used (Operate to op a b) = operate_items y to op a b
 line_items y used (LoadLine to op at) = load_items y to op at
 line_items y used (StoreLine size a at) = store_items y size a at
 line_items y used (Call to callee args) = call_items y to callee args
+line_items y used (Alloc to size) = alloc_items y used to
 line_items y used l = []
 
 abbrev pub lines_items : Layout → (used : ℕ) → List (Line Location) → List Item

@@ -16,8 +16,9 @@ fn covers_line(line: &Line<Location>) -> bool
         | Line::Set { .. }
         | Line::Operate { .. }
         | Line::Load { .. }
-        | Line::Store { .. } => true,
-        Line::Alloc { .. } | Line::Blit { .. } | Line::Call { .. } => false,
+        | Line::Store { .. }
+        | Line::Alloc { .. } => true,
+        Line::Blit { .. } | Line::Call { .. } => false,
     }
 }
 

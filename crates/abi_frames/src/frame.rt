@@ -29,6 +29,7 @@ fn push_body(
     block: &Block<Location>,
 ) -> Result<(), AllocError>
     requires slots { layout.now.slots < 2 ^ 16 }
+    requires near { layout.now.area < 2 ^ 32 }
     requires room { sum_by alloc_bytes block.now.lines ≤ 1048576 }
     requires few { IsTrue (list_all passes_few block.now.lines) }
     ensures { OnOk result (items.new.items ≡ items.old.items ++ (lines_items layout.now 0 block.now.lines ++ jump_items layout.now block.now.jump)) }
@@ -44,6 +45,7 @@ fn push_block(
     block: &Block<Location>,
 ) -> Result<(), AllocError>
     requires slots { layout.now.slots < 2 ^ 16 }
+    requires near { layout.now.area < 2 ^ 32 }
     requires room { sum_by alloc_bytes block.now.lines ≤ 1048576 }
     requires few { IsTrue (list_all passes_few block.now.lines) }
     ensures { OnOk result (items.new.items ≡ items.old.items ++ block_items layout.now label block.now) }
@@ -58,6 +60,7 @@ fn push_blocks(
     blocks: &[Block<Location>],
 ) -> Result<(), AllocError>
     requires slots { layout.now.slots < 2 ^ 16 }
+    requires near { layout.now.area < 2 ^ 32 }
     requires room { sum_by (λ b. sum_by alloc_bytes b.lines) blocks.now ≤ 1048576 }
     requires calls { IsTrue (list_all (λ b. list_all passes_few b.lines) blocks.now) }
     ensures { OnOk result (items.new.items ≡ items.old.items ++ blocks_items layout.now 0 blocks.now) }
@@ -86,6 +89,7 @@ fn push_function(
     requires saves { layout.now.saves < 2 ^ 16 }
     requires slots { layout.now.slots < 2 ^ 16 }
     requires size { 0 < layout.now.size }
+    requires near { layout.now.area < 2 ^ 32 }
     requires room { sum_by (λ b. sum_by alloc_bytes b.lines) blocks.now ≤ 1048576 }
     requires calls { IsTrue (list_all (λ b. list_all passes_few b.lines) blocks.now) }
     requires few { length params.now ≤ 64 }
@@ -101,7 +105,7 @@ fn push_function(
 #[tactic(auto, using(crate::proofs::Outgoing::few_outgoing))]
 fn layout_of(function: &FlatFunc) -> Layout
     ensures value { result ≡ layout function.now.located.code function.now.located.slots }
-    ensures near { (result.saves < 2 ^ 16) × (result.slots < 2 ^ 16) × (0 < result.size) }
+    ensures near { (result.saves < 2 ^ 16) × (result.slots < 2 ^ 16) × (0 < result.size) × (result.area < 2 ^ 32) }
 {
     let code = &function.located.code;
     let area = area_of(code);

@@ -1,16 +1,16 @@
 //! The machine code of lines.
-ghost use Rattle.std.specs.Prelude.{◌≡◌, ◌^◌, ◌<◌, ◌≤◌, IsTrue, [], ◌∷◌, ◌++◌, OnOk};
+ghost use Rattle.std.specs.Prelude.{◌≡◌, ◌^◌, ◌<◌, ◌≤◌, IsTrue, [], ◌∷◌, ◌++◌, OnOk, ◌+◌};
 ghost use Rattle.std.specs.List.{list_all, sum_by};
 ghost use Rattle.vcode.specs.Regular.{alloc_bytes, passes_few};
 ghost use Rattle.vcode.specs.declared.place.Location.TheVariants.{Slot};
-ghost use Rattle.abi_frames.specs.Emission.{operation_items, set_items, operate_items, load_to, load_items, store_op, store_items, line_items, lines_items};
+ghost use Rattle.abi_frames.specs.Emission.{operation_items, set_items, operate_items, load_to, load_items, store_op, store_items, alloc_items, line_items, lines_items};
 
 use crate::call::push_call;
 use crate::compare::{push_compare, push_compare_words};
 use crate::fields::{low_part, register, store_at};
 use crate::layout::Layout;
 use crate::operand::{
-    push_deliver, push_fetch, push_into_slot, push_operand, source_of, target_of,
+    push_address_at, push_deliver, push_fetch, push_into_slot, push_operand, source_of, target_of,
 };
 use crate::room::alloc_bytes;
 use il_ast::operation::{Class, Size};
@@ -159,16 +159,33 @@ fn push_store_line(
     Ok(())
 }
 
+// the address of a block of memory
+fn push_alloc(
+    items: &mut Vec<Item>,
+    layout: &Layout,
+    used: u64,
+    to: &Location,
+) -> Result<(), AllocError>
+    requires slots { layout.now.slots < 2 ^ 16 }
+    requires near { layout.now.area + used < 2 ^ 40 }
+    ensures { OnOk result (items.new.items ≡ items.old.items ++ alloc_items layout.now used to.now) }
+{
+    push_address_at(items, target_of(to), layout.area + used)?;
+    push_deliver(items, layout, to)?;
+    Ok(())
+}
+
 /// Puts the code of a line at the end; `used` bytes of the area for blocks of memory are taken by the lines before.
 pub(crate) fn push_line(
     items: &mut Vec<Item>,
     layout: &Layout,
-    _used: u64,
+    used: u64,
     line: &Line<Location>,
 ) -> Result<(), AllocError>
     requires slots { layout.now.slots < 2 ^ 16 }
     requires few { IsTrue (passes_few line.now) }
-    ensures { OnOk result (items.new.items ≡ items.old.items ++ line_items layout.now _used line.now) }
+    requires near { layout.now.area + used < 2 ^ 40 }
+    ensures { OnOk result (items.new.items ≡ items.old.items ++ line_items layout.now used line.now) }
 {
     match line {
         Line::Set { to, value } => push_set(items, layout, to, value)?,
@@ -181,7 +198,8 @@ pub(crate) fn push_line(
         Line::Load { to, op, at } => push_load_line(items, layout, to, *op, at)?,
         Line::Call { to, callee, args } => push_call(items, layout, to, callee, args.as_slice())?,
         Line::Store { size, value, at } => push_store_line(items, layout, *size, value, at)?,
-        Line::Tick { .. } | Line::Alloc { .. } | Line::Blit { .. } => {}
+        Line::Alloc { to, .. } => push_alloc(items, layout, used, to)?,
+        Line::Tick { .. } | Line::Blit { .. } => {}
     }
     Ok(())
 }
@@ -193,6 +211,7 @@ pub(crate) fn push_lines(
     lines: &[Line<Location>],
 ) -> Result<(), AllocError>
     requires slots { layout.now.slots < 2 ^ 16 }
+    requires near { layout.now.area < 2 ^ 32 }
     requires room { sum_by alloc_bytes lines.now ≤ 1048576 }
     requires few { IsTrue (list_all passes_few lines.now) }
     ensures { OnOk result (items.new.items ≡ items.old.items ++ lines_items layout.now 0 lines.now) }

@@ -1,6 +1,6 @@
 //! The code of lines that make and change memory.
 use crate::layout::Layout;
-use crate::line::push_line;
+use crate::line::{push_line, push_lines};
 use il_ast::operation::{Class, Size};
 use rv_isa::instruction::{Instr, StoreOp};
 use rv_isa::labelled::Item;
@@ -44,5 +44,70 @@ fn a_half_is_stored(rt: HostRuntime) -> Result<(), Fail> {
         }
         _ => assert!(rt; false),
     }
+    Ok(())
+}
+
+#[test]
+fn blocks_of_memory_stand_one_after_another(rt: HostRuntime) -> Result<(), Fail> {
+    let mut items = Vec::new(rt.alloc());
+    let lines = [
+        Line::Alloc {
+            to: Location::Register(5),
+            size: 20,
+        },
+        Line::Alloc {
+            to: Location::Slot(2),
+            size: 8,
+        },
+        Line::Alloc {
+            to: Location::Register(6),
+            size: 8,
+        },
+    ];
+    push_lines(&mut items, &SMALL, lines.as_slice())?;
+    // one instruction each, and one that stores the second address
+    assert_eq!(rt; items.len(), 4);
+    match items.get(0) {
+        Some(
+            Item::Plain(
+                Instr::Imm {
+                    rd,
+                    rs1,
+                    immediate,
+                    ..
+                },
+            ),
+        ) => {
+            assert!(rt; rd.number == 5 && rs1.number == 2 && immediate.value == 128);
+        }
+        _ => assert!(rt; false),
+    }
+    match items.get(3) {
+        Some(
+            Item::Plain(
+                Instr::Imm {
+                    rd,
+                    rs1,
+                    immediate,
+                    ..
+                },
+            ),
+        ) => {
+            assert!(rt; rd.number == 6 && rs1.number == 2 && immediate.value == 128 + 32 + 16);
+        }
+        _ => assert!(rt; false),
+    }
+    Ok(())
+}
+
+#[test]
+fn a_far_block_of_memory_takes_more(rt: HostRuntime) -> Result<(), Fail> {
+    let mut items = Vec::new(rt.alloc());
+    let line = Line::Alloc {
+        to: Location::Slot(0),
+        size: 16,
+    };
+    push_line(&mut items, &SMALL, 4096, &line)?;
+    assert_eq!(rt; items.len(), 3 + 1);
     Ok(())
 }

@@ -2,7 +2,7 @@
 ghost use Rattle.std.specs.Prelude.{◌≡◌, ◌+◌, ◌-◌, ◌*◌, ◌^◌, ◌<◌, [], ◌∷◌, ◌++◌, OnOk};
 ghost use Rattle.vcode.specs.Cost.{is_immediate};
 ghost use Rattle.rv_isa.specs.declared.labelled.Item.TheVariants.{Address};
-ghost use Rattle.abi_frames.specs.Emission.{top_part, next_part, long_constant, constant, high, far_load, load_slot, far_store, store_slot, slot_offset, into, fetch, source, target, deliver, reg};
+ghost use Rattle.abi_frames.specs.Emission.{top_part, next_part, long_constant, constant, high, far_load, load_slot, far_store, store_slot, address_at, slot_offset, into, fetch, source, target, deliver, reg};
 
 use crate::fields::{
     add, add_immediate, halve, load, load_upper, register, shift_by_11, store, upper_field,
@@ -80,6 +80,21 @@ pub(crate) fn push_load(items: &mut Vec<Item>, to: u8, offset: u64) -> Result<()
         items.push(load_upper(to, upper_part(offset)))?;
         items.push(add(to, to, 2))?;
         items.push(load(to, to, offset))?;
+    }
+    Ok(())
+}
+
+/// Puts the address at an offset from the stack pointer into a register.
+pub(crate) fn push_address_at(items: &mut Vec<Item>, to: u8, offset: u64) -> Result<(), AllocError>
+    requires { offset < 2 ^ 40 }
+    ensures { OnOk result (items.new.items ≡ items.old.items ++ address_at to offset) }
+{
+    if offset < 0x800 {
+        items.push(add_immediate(to, 2, offset))?;
+    } else {
+        items.push(load_upper(to, upper_part(offset)))?;
+        items.push(add(to, to, 2))?;
+        items.push(add_immediate(to, to, offset))?;
     }
     Ok(())
 }
