@@ -1,11 +1,13 @@
-//! Texts of one function: their virtual code, line for line, what is live in it, and that each register gets a slot.
+//! Texts of one function: their virtual code, line for line, what is live in it, and that answers of the strategies are accepted.
 
+use alloc_check::accept::accept;
 use alloc_check::spill_all::spill_all;
 use cfg_live::live::live;
 use il_ast::text::Definition;
 use il_reader::read::read;
 use il_types::check::check;
 use phi_copies::lower::lower;
+use regalloc::linear_scan::scanned;
 use regalloc::list::certificate_of;
 use regalloc::spill_all::SpillAll;
 use regalloc::strategy::Strategy;
@@ -13,9 +15,9 @@ use select::select::select;
 use std::alloc::{AllocError, Global};
 use std::test::Fail;
 use vcode::code::Block;
-use vcode::function::VFunc;
-use vcode::line::Line;
-use vcode::place::Location;
+use vcode::function::{LFunc, VFunc};
+use vcode::line::{Jump, Line};
+use vcode::place::{Destination, Location, Operand};
 
 /// The virtual code of the function that a text begins with; none where the text is no good one, begins with data, or memory is refused.
 fn code_of_first(alloc: Global, text: &[u8]) -> Option<VFunc> {
@@ -253,6 +255,120 @@ fn a_list_that_is_too_short(rt: HostRuntime) -> Result<(), Fail> {
             );
         }
         None => assert!(rt; false, "no code"),
+    }
+    Ok(())
+}
+
+/// The code that the answer of linear scan makes for a text's first function, where it is accepted.
+fn scanned_code(alloc: Global, text: &str) -> Result<Option<LFunc>, AllocError> {
+    match code_of_first(alloc, text.as_bytes()) {
+        Some(code) => {
+            let live = live(alloc, &code)?;
+            let certificate = scanned(alloc, &code, &live)?;
+            Ok(accept(alloc, &code, &certificate).ok())
+        }
+        None => Ok(None),
+    }
+}
+
+fn slots_among(params: &[Destination<Location>]) -> usize {
+    params
+        .iter()
+        .filter(|d| matches!(d.place, Location::Slot(_)))
+        .count()
+}
+
+#[test]
+fn linear_scan_needs_no_slot_for_five(rt: HostRuntime) -> Result<(), Fail> {
+    match scanned_code(rt.alloc(), SWAP)? {
+        Some(made) => match made.code.blocks.as_slice().get(2) {
+            Some(block) => {
+                assert!(rt;
+                    matches!(
+                        block.jump,
+                        Jump::Return(Some(Operand::At(Location::Register(_))))
+                    )
+                );
+            }
+            None => assert!(rt; false, "no third block"),
+        },
+        None => assert!(rt; false, "not accepted"),
+    }
+    Ok(())
+}
+
+#[test]
+fn linear_scan_is_accepted_for_all_kinds(rt: HostRuntime) -> Result<(), Fail> {
+    match scanned_code(rt.alloc(), ALL_KINDS)? {
+        Some(made) => assert_eq!(rt; slots_among(made.code.params.as_slice()), 0),
+        None => assert!(rt; false, "not accepted"),
+    }
+    Ok(())
+}
+
+const SUM_OF_TWENTY: &str =
+    "function l $sum(l %a, l %b, l %c, l %d, l %e, l %f, l %g, l %h, l %i, l %j, l %k, l %l, l %m, l %n, l %o, l %p, l %q, l %r, l %s, l %t) {
+@s
+%x1 =l add %a, %b
+%x2 =l add %x1, %c
+%x3 =l add %x2, %d
+%x4 =l add %x3, %e
+%x5 =l add %x4, %f
+%x6 =l add %x5, %g
+%x7 =l add %x6, %h
+%x8 =l add %x7, %i
+%x9 =l add %x8, %j
+%x10 =l add %x9, %k
+%x11 =l add %x10, %l
+%x12 =l add %x11, %m
+%x13 =l add %x12, %n
+%x14 =l add %x13, %o
+%x15 =l add %x14, %p
+%x16 =l add %x15, %q
+%x17 =l add %x16, %r
+%x18 =l add %x17, %s
+%x19 =l add %x18, %t
+ret %x19
+}
+";
+
+#[test]
+fn what_ends_last_has_its_slot(rt: HostRuntime) -> Result<(), Fail> {
+    match scanned_code(rt.alloc(), SUM_OF_TWENTY)? {
+        Some(made) => {
+            let params = made.code.params.as_slice();
+            assert_eq!(rt; params.len(), 20);
+            // fifteen have registers
+            assert_eq!(rt; slots_among(params), 5);
+            match params.last() {
+                Some(last) => assert_eq!(rt; last.place, Location::Slot(19)),
+                None => assert!(rt; false),
+            }
+        }
+        None => assert!(rt; false, "not accepted"),
+    }
+    Ok(())
+}
+
+const CALLS_IN_A_LOOP: &str = "function l $repeat(l %n, l %x) {
+@s
+jmp @l
+@l
+%i =l phi @s %n, @l %j
+%v =l phi @s %x, @l %w
+%w =l call $step(l %v)
+%j =l sub %i, 1
+jnz %j, @l, @e
+@e
+ret %w
+}
+";
+
+#[test]
+fn what_lasts_over_calls_is_kept(rt: HostRuntime) -> Result<(), Fail> {
+    match scanned_code(rt.alloc(), CALLS_IN_A_LOOP)? {
+        Some(made) => assert_eq!(rt; slots_among(made.code.params.as_slice()), 0),
+        None => assert!(rt; false, "not accepted"),
     }
     Ok(())
 }
