@@ -9,6 +9,7 @@ pub mod JumpCode
 pub mod Passing
 pub mod Calling
 pub mod Simulation
+pub mod CallCase
 pub mod Simulating
 pub mod Starting
 pub mod Labelling

@@ -1,12 +1,48 @@
 //! Which code frames can be made for so far.
 ghost use Rattle.std.specs.Prelude.{◌≡◌};
 ghost use Rattle.std.specs.List.{list_all};
-ghost use Rattle.abi_frames.specs.Covered.{is_off_arguments, covers_line, covers_block, covers_params, is_covered};
+ghost use Rattle.vcode.specs.Named.{operand_keeps};
+ghost use Rattle.abi_frames.specs.Covered.{is_off_arguments, covers_call, covers_line, covers_block, covers_params, is_covered};
 
 use flat_code::function::FlatFunc;
 use vcode::code::Block;
 use vcode::line::Line;
-use vcode::place::{Destination, Location};
+use vcode::place::{Argument, Destination, Location, Operand};
+
+fn is_off_arguments(place: &Location) -> bool
+    ensures { result ≡ is_off_arguments place.now }
+{
+    match place {
+        Location::Register(number) => *number < 10 || 17 < *number,
+        Location::Slot(_) => true,
+    }
+}
+
+fn is_off(operand: &Operand<Location>) -> bool
+    ensures { result ≡ operand_keeps is_off_arguments operand.now }
+{
+    match operand {
+        Operand::At(place) => is_off_arguments(place),
+        Operand::Number(_) | Operand::Name(_) => true,
+    }
+}
+
+fn are_off(arguments: &[Argument<Location>]) -> bool
+    ensures { result ≡ list_all (λ a. operand_keeps is_off_arguments a.value) arguments.now }
+{
+    for argument in arguments {
+        if !is_off(&argument.value) {
+            return false;
+        }
+    }
+    true
+}
+
+fn covers_call(callee: &Operand<Location>, arguments: &[Argument<Location>]) -> bool
+    ensures { result ≡ covers_call callee.now arguments.now }
+{
+    is_off(callee) && are_off(arguments)
+}
 
 fn covers_line(line: &Line<Location>) -> bool
     ensures { result ≡ covers_line line.now }
@@ -18,7 +54,8 @@ fn covers_line(line: &Line<Location>) -> bool
         | Line::Load { .. }
         | Line::Store { .. }
         | Line::Alloc { .. } => true,
-        Line::Blit { .. } | Line::Call { .. } => false,
+        Line::Call { callee, args, .. } => covers_call(callee, args.as_slice()),
+        Line::Blit { .. } => false,
     }
 }
 
@@ -48,15 +85,6 @@ fn covers_blocks(blocks: &[Block<Location>]) -> bool
         }
     }
     true
-}
-
-fn is_off_arguments(place: &Location) -> bool
-    ensures { result ≡ is_off_arguments place.now }
-{
-    match place {
-        Location::Register(number) => *number < 10 || 17 < *number,
-        Location::Slot(_) => true,
-    }
 }
 
 /// Does no parameter stand in a register of arguments?

@@ -1,0 +1,364 @@
+-- The machine follows a call: up to the callee, and from there as the call goes.
+use Rattle.std.proofs.Common.{◌≡◌, ℕ, suc, ◌+◌, ◌-◌, ◌*◌, ◌%◌, ◌<◌, ◌≤◌, true, List, [], ◌∷◌, ◌++◌, refl, sym, ◌∙◌, ap, subst, arith, append_assoc}
+use Rattle.std.specs.Prelude.{◌&&◌, nat_le, length, map, max, slice_get, Option, Some, None}
+use Rattle.std.specs.Option.{option_map}
+use Rattle.std.specs.List.{list_all}
+use Rattle.std.proofs.lemmas.Bool.{and_parts, and_from}
+use Rattle.std.proofs.lemmas.List.Sums.{sum_by-cons}
+use Rattle.il_ast.specs.declared.operation.Class.{Class}
+use Rattle.il_ast.specs.declared.operation.Class.TheVariants.{W, L}
+use Rattle.il_ast.specs.declared.value.End.TheVariants.{Exit, Halt as Halted, Undefined, Stack, Turns}
+use Rattle.il_ast.specs.Run.{Spent, one_call, both}
+use Rattle.il_ast.specs.Logged.{LoggedNext, Logged}
+use Rattle.rv_isa.specs.State.{State}
+use Rattle.rv_isa.specs.Step.{Stop, Exited, Broken}
+use Rattle.rv_isa.specs.Runs.{Comes}
+use Rattle.rv_isa.specs.Labels.{longest_size}
+use Rattle.rv_isa.specs.declared.labelled.Item.{Item}
+use Rattle.rv_isa.proofs.RunLemmas.{comes_then}
+use Rattle.vcode.specs.declared.place.Location.{Location}
+use Rattle.vcode.specs.declared.place.Location.TheVariants.{Register as InRegister}
+use Rattle.vcode.specs.declared.place.Operand.{Operand}
+use Rattle.vcode.specs.declared.place.Operand.TheVariants.{At as In}
+use Rattle.vcode.specs.declared.place.Destination.{Destination}
+use Rattle.vcode.specs.declared.place.Argument.{Argument}
+use Rattle.vcode.specs.declared.line.Line.{Line}
+use Rattle.vcode.specs.declared.line.Line.TheVariants.{Call}
+use Rattle.vcode.specs.declared.code.Block.{Block}
+use Rattle.vcode.specs.declared.code.Code.{Code}
+use Rattle.vcode.specs.Named.{is_place, operand_keeps, wanted_keeps, line_keeps}
+use Rattle.vcode.specs.Regular.{turns_of, alloc_bytes}
+use Rattle.vcode.specs.Cost.{affords}
+use Rattle.flat_code.specs.Spots.{Spots, SameReach}
+use Rattle.flat_code.specs.Flat.{FlatGiven, FlatAsked, FlatOutcome, FlatReturned, FlatEnded}
+use Rattle.flat_code.specs.Step.{FlatState, Numbers, put, kept, held, number_of, read_all, calls, resumes}
+use Rattle.abi_frames.specs.Calls.{Ready, passed}
+use Rattle.abi_frames.specs.Performs.{Returns, Stops, KeepsOn, Performs, PerformsAt, ReachStays, AllPerform}
+use Rattle.abi_frames.specs.Layout.{most_in_lines}
+use Rattle.abi_frames.specs.Covered.{is_off_arguments, covers_line}
+use Rattle.abi_frames.specs.Emission.{fetch, source, pass_all, call_through, receive_items, lines_items, jump_items}
+use Rattle.abi_frames.proofs.Leading.{StandAt, Reaches, Leads, leads_nowhere, leads_so}
+use Rattle.abi_frames.proofs.Instructions.{is_28}
+use Rattle.abi_frames.proofs.Activations.{Setting, IsSetting, site, bottom, operand_in, Framed, operand_known, Assigned, assigned, assigned_output}
+use Rattle.abi_frames.proofs.LineCode.{leads_set_line, source_reg}
+use Rattle.abi_frames.proofs.Sizes.{call_parts, le_is}
+use Rattle.abi_frames.proofs.Passing.{can_pass}
+use Rattle.abi_frames.proofs.Calling.{leads_prepared, gone_to, goes_through, ready, SameFrame, same_frame, framed_back}
+use Rattle.abi_frames.proofs.Simulation.{CodeStands, At, Performed, step_of, Log, Follows, Then, undefined, stands_here, nothing_taken, later_fits, next_index}
+
+-- ---- what is known of the line
+
+pub record CallLine (c : Setting) (to : Option (Destination Location)) (callee : Operand Location) (args : List (Argument Location)) : Type 0 where
+  pub wanted : wanted_keeps (is_place c.slots) to ≡ true
+  pub known : operand_keeps (is_place c.slots) callee ≡ true
+  pub off : operand_keeps is_off_arguments callee ≡ true
+  pub good : list_all (can_pass c.slots) args ≡ true
+  pub fits : 8 * (length args - 8) ≤ c.layout.saves
+
+all_can_pass : (slots : ℕ) (args : List (Argument Location)) → list_all (λ (a : Argument Location). operand_keeps (is_place slots) a.value) args ≡ true
+    → list_all (λ (a : Argument Location). operand_keeps is_off_arguments a.value) args ≡ true → list_all (can_pass slots) args ≡ true
+all_can_pass slots [] h k = refl
+all_can_pass slots (a ∷ args) h k =
+    let places = and_parts (operand_keeps (is_place slots) a.value) (list_all (λ (b : Argument Location). operand_keeps (is_place slots) b.value) args) h in
+    let off = and_parts (operand_keeps is_off_arguments a.value) (list_all (λ (b : Argument Location). operand_keeps is_off_arguments b.value) args) k in
+    and_from (can_pass slots a) (list_all (can_pass slots) args)
+    (and_from (operand_keeps (is_place slots) a.value) (operand_keeps is_off_arguments a.value) places.0 off.0) (all_can_pass slots args places.1 off.1)
+
+first_fits : (a m s : ℕ) → 8 * max a m ≤ s → 8 * a ≤ s
+first_fits a m s h = omega (arith, h)
+
+call_line : (c : Setting) (f : Code Location) (b : Block Location) (to : Option (Destination Location)) (callee : Operand Location)
+    (args : List (Argument Location)) (lines : List (Line Location)) (fs : FlatState) (k : ℕ) (u : State)
+    → At c f b (Call to callee args ∷ lines) fs k u → CallLine c to callee args
+call_line c f b to callee args lines fs k u a =
+    let known = (and_parts (line_keeps (is_place c.slots) (Call to callee args)) (list_all (line_keeps (is_place c.slots)) lines) a.known).0 in
+    let parts = and_parts (wanted_keeps (is_place c.slots) to)
+    (operand_keeps (is_place c.slots) callee && list_all (λ (x : Argument Location). operand_keeps (is_place c.slots) x.value) args) known in
+    let operands = and_parts (operand_keeps (is_place c.slots) callee)
+    (list_all (λ (x : Argument Location). operand_keeps (is_place c.slots) x.value) args) parts.1 in
+    let covered = (and_parts (covers_line (Call to callee args)) (list_all covers_line lines) a.covered).0 in
+    let off = and_parts (operand_keeps is_off_arguments callee) (list_all (λ (x : Argument Location). operand_keeps is_off_arguments x.value) args) covered in
+    record {
+      wanted = parts.0;
+      known = operands.0;
+      off = off.0;
+      good = all_can_pass c.slots args operands.1 off.1;
+      fits = first_fits (length args - 8) (most_in_lines lines) c.layout.saves a.passes;
+    }
+
+-- ---- up to the callee
+
+-- the machine has come from s to the callee at `at`, in v
+pub record Departs (c : Setting) (to : Option (Destination Location)) (callee : Operand Location) (args : List (Argument Location)) (at : ℕ)
+    (given : FlatGiven) (tail : List Item) (s : State) : Type 0 where
+  pub steps : ℕ
+  pub v : State
+  pub comes : Comes s steps v
+  pub some : 0 < steps
+  pub few : steps ≤ longest_size (pass_all c.layout 0 args ++ fetch c.layout 28 callee) + 1
+  pub ready : Ready c.world at (bottom c) (map (λ (a : Argument Location). a.class) args) given v
+  pub same : SameFrame c s v
+  pub stands : StandAt (site c) (receive_items c.layout to ++ tail) (v.registers 1)
+  pub output : v.output ≡ s.output
+
+-- the items of a call, as they are run
+call_assoc : (p q r t tail : List Item) → (p ++ (q ++ (r ++ t))) ++ tail ≡ (p ++ q) ++ (r ++ (t ++ tail))
+call_assoc p q r t tail =
+    append_assoc p (q ++ (r ++ t)) tail
+    ∙ (ap (λ l. p ++ l) (append_assoc q (r ++ t) tail)
+    ∙ (ap (λ l. p ++ (q ++ l)) (append_assoc r t tail) ∙ sym (append_assoc p q (r ++ (t ++ tail)))))
+
+length-classes : (args : List (Argument Location)) → length (map (λ (a : Argument Location). a.class) args) ≡ length args
+length-classes [] = refl
+length-classes (a ∷ args) = let rest = length-classes args in omega (arith, rest)
+
+departs : (c : Setting) (f : Code Location) → CodeStands c f → (b : Block Location) (to : Option (Destination Location)) (callee : Operand Location)
+    (args : List (Argument Location)) (lines : List (Line Location)) (fs : FlatState) (k : ℕ) (u : State)
+    → (a : At c f b (Call to callee args ∷ lines) fs k u) → (at : ℕ) (xs : List ℕ) (turns room : ℕ) → number_of c.addresses fs.numbers callee ≡ Some at
+    → read_all c.addresses fs.numbers args ≡ Some xs → at % 4 ≡ 0
+    → Departs c to callee args at (record { turns = turns; room = room; args = xs; memory = fs.memory })
+    ((lines_items c.layout (a.used + 0) lines ++ jump_items c.layout b.jump) ++ a.rest) u
+departs c f is b to callee args lines fs k u a at xs turns room is_at is_xs even =
+    let line = call_line c f b to callee args lines fs k u a in
+    let tail : List Item = (lines_items c.layout (a.used + 0) lines ++ jump_items c.layout b.jump) ++ a.rest in
+    let first : List Item = pass_all c.layout 0 args ++ fetch c.layout 28 callee in
+    let jump : List Item = call_through (source 28 callee) ∷ [] in
+    let m = (leads_prepared c is.setting u callee args a.framed.pointer line.known line.off line.good line.fits).from (jump ++ (receive_items c.layout to ++ tail))
+    (subst (λ l. StandAt (site c) l u.pc) (call_assoc (pass_all c.layout 0 args) (fetch c.layout 28 callee) jump (receive_items c.layout to) tail)
+    (stands_here c f b (Call to callee args) lines fs k u a)) a.fixed in
+    let address : operand_in c u callee ≡ at = operand_known c fs.numbers fs.memory u callee at is.setting a.framed line.known is_at in
+    let gone = goes_through (site c) m.after (source 28 callee) at (receive_items c.layout to ++ tail) (source_reg c.slots 28 callee is_28 line.known)
+    (m.holds.address ∙ address) even m.stands m.fixed in
+    let few = m.few in
+    record {
+      steps = m.steps + 1;
+      v = gone_to m.after at;
+      comes = comes_then m.comes gone.comes;
+      some = omega arith;
+      few = omega (arith, few);
+      ready = ready c is.setting fs.numbers fs.memory u m.after (gone_to m.after at) (receive_items c.layout to ++ tail) at turns room args xs a.framed
+          m.holds.passed gone line.good line.fits is_xs (length-classes args);
+      same = same_frame c u m.after (gone_to m.after at) (receive_items c.layout to ++ tail) at args line.fits m.holds.passed gone;
+      stands = gone.stands;
+      output = gone.output ∙ m.holds.passed.output;
+    }
+
+-- ---- the call returns
+
+-- the result comes to its place
+resumed : (c : Setting) (f : Code Location) (b : Block Location) (to : Option (Destination Location)) (callee : Operand Location)
+    (args : List (Argument Location)) (lines : List (Line Location)) (fs : FlatState) (k : ℕ) (u : State)
+    → (a : At c f b (Call to callee args ∷ lines) fs k u) → (at : ℕ) (given : FlatGiven)
+    → (d : Departs c to callee args at given ((lines_items c.layout (a.used + 0) lines ++ jump_items c.layout b.jump) ++ a.rest) u)
+    → (wants : Option Class) (before : Spots) (t : Spent) (x : Option ℕ) (now : Spots) → (back : Returns c.world (bottom c) wants before d.v t x now)
+    → (numbers : Numbers)
+    → (m : Reaches (site c) (longest_size (receive_items c.layout to)) ((lines_items c.layout (a.used + 0) lines ++ jump_items c.layout b.jump) ++ a.rest)
+    back.after (λ w. Framed c numbers now w × (w.output ≡ back.after.output)))
+    → At c f b lines (record fs { next = fs.next + 1; numbers = numbers; memory = now; spent = both fs.spent t })
+    (k + (d.steps + (back.steps + m.steps))) m.after
+resumed c f b to callee args lines fs k u a at given d wants before t x now back numbers m =
+    let cost : ℕ = 20 + 24 * length args in
+    let parts = and_parts (nat_le cost a.credit) (affords (a.credit - cost) b.jump lines) a.paid in
+    let enough = le_is cost a.credit parts.0 in
+    let size = call_parts c.layout to callee args in
+    let few = d.few in
+    let few_more = m.few in
+    let price = a.price in
+    let price_there = back.price in
+    let pace = a.pace in
+    let pace_there = back.pace in
+    let sum = sum_by-cons turns_of (Call to callee args) lines in
+    let room = a.room in
+    let bytes = sum_by-cons alloc_bytes (Call to callee args) lines in
+    record {
+      block = a.block;
+      ahead = λ i. ap (λ n. slice_get b.lines n) (next_index fs.next i) ∙ a.ahead (suc i);
+      rest = a.rest;
+      used = a.used + 0;
+      stands = m.stands;
+      fixed = m.fixed;
+      framed = m.holds.0;
+      comes = comes_then a.comes (comes_then d.comes (comes_then back.comes m.comes));
+      output = m.holds.1
+          ∙ (back.output
+          ∙ (ap (λ o. o ++ t.output) (d.output ∙ a.output) ∙ append_assoc c.start.output fs.spent.output t.output));
+      known = (and_parts (line_keeps (is_place c.slots) (Call to callee args)) (list_all (line_keeps (is_place c.slots)) lines) a.known).1;
+      jump_known = a.jump_known;
+      covered = (and_parts (covers_line (Call to callee args)) (list_all covers_line lines) a.covered).1;
+      credit = a.credit - cost;
+      paid = parts.1;
+      price = omega (arith, enough, size, few, few_more, price, price_there);
+      pace = omega (arith, pace, pace_there, sum);
+      blocks = a.blocks;
+      inside = a.inside;
+      room = omega (arith, room, bytes);
+      used_is = λ e. a.used_is e ∙ nothing_taken a.used;
+      passes = later_fits (length args - 8) (most_in_lines lines) c.layout.saves a.passes;
+    }
+
+-- how a number stands in a place is how it is passed
+held_is_passed : (q : Class) (n : ℕ) → passed q n ≡ held q n
+held_is_passed W n = refl
+held_is_passed L n = refl
+
+some_is : (a b : ℕ) → Some a ≡ Some b → a ≡ b
+some_is a b e = cc
+
+-- the result that is wanted, from x10
+received : (c : Setting) → IsSetting c → (numbers : Numbers) (now : Spots) (w : State) (d : Destination Location) (n : ℕ) → Framed c numbers now w
+    → is_place c.slots d.place ≡ true → w.registers 10 ≡ passed d.class n
+    → Leads (site c) (receive_items c.layout (Some d)) w
+    (λ z. Framed c (put d.place (Some (held d.class n)) numbers) now z × (z.output ≡ w.output))
+received c is numbers now w d n framed good result =
+    let v : ℕ = w.registers 10 in
+    leads_so (site c) (receive_items c.layout (Some d)) w (Assigned c w d.place v)
+    (λ z. Framed c (put d.place (Some (held d.class n)) numbers) now z × (z.output ≡ w.output))
+    (leads_set_line c is w d.place (In (InRegister 10)) framed.pointer good refl)
+    (λ z fixed made. (
+      assigned c is numbers now w z d.place v (Some (held d.class n)) good framed made
+          (λ y e. result ∙ (held_is_passed d.class n ∙ some_is (held d.class n) y e)),
+      assigned_output c w d.place v z made,
+    ))
+
+returned : (c : Setting) (f : Code Location) → CodeStands c f → (j : FlatGiven) (r : FlatOutcome) (n : ℕ) → Follows c f j r n
+    → (b : Block Location) (to : Option (Destination Location)) (callee : Operand Location) (args : List (Argument Location)) (lines : List (Line Location))
+    (fs : FlatState) (k : ℕ) (u : State) → (a : At c f b (Call to callee args ∷ lines) fs k u) → (at : ℕ) (given : FlatGiven)
+    → (d : Departs c to callee args at given ((lines_items c.layout (a.used + 0) lines ++ jump_items c.layout b.jump) ++ a.rest) u)
+    → (t : Spent) (x : Option ℕ) (now : Spots) → Returns c.world (bottom c) (option_map (λ (q : Destination Location). q.class) to) fs.memory d.v t x now
+    → SameReach fs.memory now → (log : Log)
+    → LoggedNext (λ s rest. Logged (step_of c f j) n s rest r) r (resumes fs to (FlatReturned t x now)) log → AllPerform c.world (bottom c) log
+    → Performed c f r
+returned c f is j r n go b None callee args lines fs k u a at given d t x now back stays log goes all =
+    let framed = framed_back c is.setting fs.numbers fs.memory now u d.v back.after a.framed d.same back.back stays in
+    let tail : List Item = (lines_items c.layout (a.used + 0) lines ++ jump_items c.layout b.jump) ++ a.rest in
+    let m = (leads_nowhere (site c) back.after (λ w. Framed c (kept fs.numbers) now w × (w.output ≡ back.after.output)) (framed, refl)).from tail
+    (subst (λ q. StandAt (site c) tail q) (sym back.back.place) d.stands) back.back.fixed in
+    go b lines (record fs { next = fs.next + 1; numbers = kept fs.numbers; memory = now; spent = both fs.spent t })
+    (k + (d.steps + (back.steps + m.steps))) m.after
+    (resumed c f b None callee args lines fs k u a at given d None fs.memory t x now back (kept fs.numbers) m) log goes all
+returned c f is j r n go b (Some q) callee args lines fs k u a at given d t None now back stays log goes all =
+    undefined c f (both fs.spent t) r goes.0
+returned c f is j r n go b (Some q) callee args lines fs k u a at given d t (Some v) now back stays log goes all =
+    let framed = framed_back c is.setting fs.numbers fs.memory now u d.v back.after a.framed d.same back.back stays in
+    let tail : List Item = (lines_items c.layout (a.used + 0) lines ++ jump_items c.layout b.jump) ++ a.rest in
+    let numbers : Numbers = put q.place (Some (held q.class v)) (kept fs.numbers) in
+    let line = call_line c f b (Some q) callee args lines fs k u a in
+    let m = (received c is.setting (kept fs.numbers) now back.after q v framed line.wanted back.result).from tail
+    (subst (λ p. StandAt (site c) (receive_items c.layout (Some q) ++ tail) p) (sym back.back.place) d.stands) back.back.fixed in
+    go b lines (record fs { next = fs.next + 1; numbers = numbers; memory = now; spent = both fs.spent t })
+    (k + (d.steps + (back.steps + m.steps))) m.after
+    (resumed c f b (Some q) callee args lines fs k u a at given d (Some q.class) fs.memory t (Some v) now back numbers m) log goes all
+
+-- ---- the run ends in the call
+
+stopped : (c : Setting) (f : Code Location) (b : Block Location) (to : Option (Destination Location)) (callee : Operand Location)
+    (args : List (Argument Location)) (lines : List (Line Location)) (fs : FlatState) (k : ℕ) (u : State)
+    → (a : At c f b (Call to callee args ∷ lines) fs k u) → (at : ℕ) (given : FlatGiven) (tail : List Item)
+    → (d : Departs c to callee args at given tail u) → (t : Spent) (stop : Stop) → Stops d.v t stop → Stops c.start (both one_call (both fs.spent t)) stop
+stopped c f b to callee args lines fs k u a at given tail d t stop there =
+    let cost : ℕ = 20 + 24 * length args in
+    let enough = le_is cost a.credit (and_parts (nat_le cost a.credit) (affords (a.credit - cost) b.jump lines) a.paid).0 in
+    let size = call_parts c.layout to callee args in
+    let few = d.few in
+    let price = a.price in
+    let price_there = there.price in
+    let steps = there.steps in
+    record {
+      steps = k + d.steps + there.steps;
+      last = there.last;
+      stopped = (comes_then a.comes d.comes).comes there.steps ∙ there.stopped;
+      price = omega (arith, enough, size, few, price, price_there);
+      output = there.output ∙ (ap (λ o. o ++ t.output) (d.output ∙ a.output) ∙ append_assoc c.start.output fs.spent.output t.output);
+    }
+
+kept_on : (c : Setting) (f : Code Location) (b : Block Location) (to : Option (Destination Location)) (callee : Operand Location)
+    (args : List (Argument Location)) (lines : List (Line Location)) (fs : FlatState) (k : ℕ) (u : State)
+    → (a : At c f b (Call to callee args ∷ lines) fs k u) → (at : ℕ) (given : FlatGiven) (tail : List Item)
+    → (d : Departs c to callee args at given tail u) → (t : Spent) → KeepsOn d.v t → KeepsOn c.start (both one_call (both fs.spent t))
+kept_on c f b to callee args lines fs k u a at given tail d t there =
+    let cost : ℕ = 20 + 24 * length args in
+    let enough = le_is cost a.credit (and_parts (nat_le cost a.credit) (affords (a.credit - cost) b.jump lines) a.paid).0 in
+    let size = call_parts c.layout to callee args in
+    let few = d.few in
+    let some = d.some in
+    let price = a.price in
+    let price_there = there.price in
+    let pace = a.pace in
+    let pace_there = there.pace in
+    record {
+      steps = k + d.steps + there.steps;
+      after = there.after;
+      comes = comes_then (comes_then a.comes d.comes) there.comes;
+      price = omega (arith, enough, size, few, price, price_there);
+      pace = omega (arith, some, pace, pace_there);
+      output = there.output ∙ (ap (λ o. o ++ t.output) (d.output ∙ a.output) ∙ append_assoc c.start.output fs.spent.output t.output);
+    }
+
+-- ---- as the call goes
+
+went : (c : Setting) (f : Code Location) → CodeStands c f → (j : FlatGiven) (r : FlatOutcome) (n : ℕ) → Follows c f j r n
+    → (b : Block Location) (to : Option (Destination Location)) (callee : Operand Location) (args : List (Argument Location)) (lines : List (Line Location))
+    (fs : FlatState) (k : ℕ) (u : State) → (a : At c f b (Call to callee args ∷ lines) fs k u) → (at : ℕ) (given : FlatGiven)
+    → (d : Departs c to callee args at given ((lines_items c.layout (a.used + 0) lines ++ jump_items c.layout b.jump) ++ a.rest) u)
+    → (o : FlatOutcome) → Performs c.world (bottom c) (option_map (λ (q : Destination Location). q.class) to) fs.memory d.v o → ReachStays fs.memory o
+    → (log : Log) → LoggedNext (λ s rest. Logged (step_of c f j) n s rest r) r (resumes fs to o) log → AllPerform c.world (bottom c) log
+    → Performed c f r
+went c f is j r n go b to callee args lines fs k u a at given d (FlatReturned t x now) there stays log goes all =
+    returned c f is j r n go b to callee args lines fs k u a at given d t x now there stays log goes all
+went c f is j r n go b to callee args lines fs k u a at given d (FlatEnded t (Exit m)) there stays log goes all =
+    let tail : List Item = (lines_items c.layout (a.used + 0) lines ++ jump_items c.layout b.jump) ++ a.rest in
+    subst (λ o. Performed c f o) goes.0 (stopped c f b to callee args lines fs k u a at given tail d t (Exited m) there)
+went c f is j r n go b to callee args lines fs k u a at given d (FlatEnded t Halted) there stays log goes all =
+    let tail : List Item = (lines_items c.layout (a.used + 0) lines ++ jump_items c.layout b.jump) ++ a.rest in
+    subst (λ o. Performed c f o) goes.0 (stopped c f b to callee args lines fs k u a at given tail d t Broken there)
+went c f is j r n go b to callee args lines fs k u a at given d (FlatEnded t Undefined) there stays log goes all =
+    subst (λ o. Performed c f o) goes.0 tt
+went c f is j r n go b to callee args lines fs k u a at given d (FlatEnded t Stack) there stays log goes all =
+    subst (λ o. Performed c f o) goes.0 tt
+went c f is j r n go b to callee args lines fs k u a at given d (FlatEnded t Turns) there stays log goes all =
+    let tail : List Item = (lines_items c.layout (a.used + 0) lines ++ jump_items c.layout b.jump) ++ a.rest in
+    subst (λ o. Performed c f o) goes.0 (kept_on c f b to callee args lines fs k u a at given tail d t there)
+
+-- ---- a call
+
+-- what the callee is given
+abbrev given_to : FlatGiven → FlatState → List ℕ → FlatGiven
+given_to j fs xs = record { turns = j.turns - fs.spent.turns; room = j.room; args = xs; memory = fs.memory }
+
+abbrev asked_by : FlatGiven → FlatState → Option (Destination Location) → List (Argument Location) → ℕ → List ℕ → FlatAsked
+asked_by j fs to args at xs =
+    record {
+      at = at;
+      classes = map (λ (a : Argument Location). a.class) args;
+      wants = option_map (λ (d : Destination Location). d.class) to;
+      given = given_to j fs xs;
+    }
+
+called : (c : Setting) (f : Code Location) → CodeStands c f → (j : FlatGiven) (r : FlatOutcome) (n : ℕ) → Follows c f j r n
+    → (b : Block Location) (to : Option (Destination Location)) (callee : Operand Location) (args : List (Argument Location)) (lines : List (Line Location))
+    (fs : FlatState) (k : ℕ) (u : State) → At c f b (Call to callee args ∷ lines) fs k u → (at : ℕ) (xs : List ℕ)
+    → number_of c.addresses fs.numbers callee ≡ Some at → read_all c.addresses fs.numbers args ≡ Some xs
+    → (log : Log) → Then c f j r n log (calls j fs to args (Some at) (Some xs)) → AllPerform c.world (bottom c) log → Performed c f r
+called c f is j r n go b to callee args lines fs k u a at xs is_at is_xs [] goes all = absurd goes
+called c f is j r n go b to callee args lines fs k u a at xs is_at is_xs (l ∷ log) goes all =
+    let asked : l.asked ≡ asked_by j fs to args at xs = goes.0 in
+    let performs = subst (λ (i : FlatAsked). PerformsAt c.world i.at (bottom c) i.classes i.wants i.given l.went) asked all.0 in
+    let even : at % 4 ≡ 0 = subst (λ (i : FlatAsked). i.at % 4 ≡ 0) asked all.1 in
+    let stays = subst (λ (i : FlatAsked). ReachStays i.given.memory l.went) asked all.2 in
+    let d = departs c f is b to callee args lines fs k u a at xs (j.turns - fs.spent.turns) j.room is_at is_xs even in
+    went c f is j r n go b to callee args lines fs k u a at (given_to j fs xs) d l.went (performs d.v d.ready) stays log goes.1 all.3
+
+-- the callee and the arguments are known, or the code is undefined
+pub call_case : (c : Setting) (f : Code Location) → CodeStands c f → (j : FlatGiven) (r : FlatOutcome) (n : ℕ) → Follows c f j r n
+    → (b : Block Location) (to : Option (Destination Location)) (callee : Operand Location) (args : List (Argument Location)) (lines : List (Line Location))
+    (fs : FlatState) (k : ℕ) (u : State) → At c f b (Call to callee args ∷ lines) fs k u → (log : Log)
+    → Then c f j r n log (calls j fs to args (number_of c.addresses fs.numbers callee) (read_all c.addresses fs.numbers args))
+    → AllPerform c.world (bottom c) log → Performed c f r
+call_case c f is j r n go b to callee args lines fs k u a log goes all =
+    by_operands (number_of c.addresses fs.numbers callee) refl (read_all c.addresses fs.numbers args) refl goes
+  where
+    by_operands : (o : Option ℕ) → number_of c.addresses fs.numbers callee ≡ o → (q : Option (List ℕ)) → read_all c.addresses fs.numbers args ≡ q
+        → Then c f j r n log (calls j fs to args o q) → Performed c f r
+    by_operands None e q d e_goes = undefined c f fs.spent r e_goes.0
+    by_operands (Some at) e None d e_goes = undefined c f fs.spent r e_goes.0
+    by_operands (Some at) e (Some xs) d e_goes = called c f is j r n go b to callee args lines fs k u a at xs e d log e_goes all
