@@ -8,6 +8,8 @@
 //! list with one place for each register. The contracts of both say what the certificate is (`specs/Listed`).
 //!
 //! [`linear_scan::LinearScan`] gives registers of the machine to those virtual registers whose intervals have room in them, and slots to the others.
+//! Its contract says that each register has one place, its own slot or one of x5 to x9 and x18 to x27 (`specs/Scanned`); that no two registers meet in a place
+//! is for the checker to see.
 //!
 //! Points are those of `cfg_live`: lines but for ticks, and jumps, from 0 in the order of the text. The crate stands on it for live registers and on `vcode`
 //! for code and places.

@@ -1,4 +1,7 @@
 //! Linear scan: registers of the machine for the virtual registers whose intervals have room in them (Poletto and Sarkar, 1999).
+ghost use Rattle.std.specs.Prelude.{◌≡◌, ◌<◌, true, length, IfOk, IfSome};
+ghost use Rattle.regalloc.specs.Scanned.{is_for_values, may_stand, all_stand, IsScanned};
+
 use crate::certificate::Certificate;
 use crate::intervals::{Interval, Position, intervals};
 use crate::list::certificate_of;
@@ -22,61 +25,48 @@ impl LinearScan {
     }
 }
 
-// What a register of the machine holds, and how long.
+// What a register of the machine holds or held last, and how long.
 #[derive(Clone, Copy)]
 struct Held {
     register: u32,
     end: Position,
 }
 
-// A register of the machine, with what it holds or held last.
-#[derive(Clone, Copy)]
-struct Machine {
-    number: u8,
-    held: Option<Held>,
+// How many registers of the machine there are: x5 to x9 and x18 to x27, in this order.
+const MACHINE: usize = 15;
+
+fn machine_register(k: u8) -> u8
+    requires { k < 15 }
+    ensures { is_for_values result ≡ true }
+{
+    if k < 5 { 5 + k } else { 13 + k }
 }
 
-fn machines(alloc: Global) -> Result<Vec<Machine>, AllocError> {
-    let mut machines = Vec::new(alloc);
-    for number in [5, 6, 7, 8, 9, 18, 19, 20, 21, 22, 23, 24, 25, 26, 27] {
-        machines.push(Machine { number, held: None })?;
-    }
-    Ok(machines)
+// What lasts over a call stands in a register that callees keep: x8 or above.
+fn may_hold(k: usize, interval: &Interval) -> bool {
+    !interval.over_call || 3 <= k
 }
 
-// A register over a call stands in one that the callee keeps.
-fn may_hold(machine: &Machine, interval: &Interval) -> bool {
-    !interval.over_call || 8 <= machine.number
-}
-
-fn is_free(machine: &Machine, start: Position) -> bool {
-    match machine.held {
+fn is_free(held: Option<Held>, start: Position) -> bool {
+    match held {
         Some(held) => held.end < start,
         None => true,
     }
 }
 
 // The first that is free for the interval.
-fn free_for(machines: &[Machine], interval: &Interval) -> Option<usize> {
-    for (k, machine) in machines.iter().enumerate() {
-        if may_hold(machine, interval) && is_free(machine, interval.start) {
+fn free_for(machine: &[Option<Held>], interval: &Interval) -> Option<usize> {
+    for (k, held) in machine.iter().enumerate() {
+        if may_hold(k, interval) && is_free(*held, interval.start) {
             return Some(k);
         }
     }
     None
 }
 
-// The later of what was found and machine register k, if that may hold the interval.
-fn later(
-    found: Option<(usize, Held)>,
-    k: usize,
-    machine: &Machine,
-    interval: &Interval,
-) -> Option<(usize, Held)> {
-    if !may_hold(machine, interval) {
-        return found;
-    }
-    match (found, machine.held) {
+// The one whose own ends later: what was found, or k.
+fn later(found: Option<(usize, Held)>, k: usize, held: Option<Held>) -> Option<(usize, Held)> {
+    match (found, held) {
         (found, None) => found,
         (None, Some(held)) => Some((k, held)),
         (Some((other, before)), Some(held)) => {
@@ -90,67 +80,122 @@ fn later(
 }
 
 // Of those that may hold the interval, the one whose own ends last.
-fn latest_for(machines: &[Machine], interval: &Interval) -> Option<(usize, Held)> {
+fn latest_for(machine: &[Option<Held>], interval: &Interval) -> Option<(usize, Held)> {
     let mut found = None;
-    for (k, machine) in machines.iter().enumerate() {
-        found = later(found, k, machine, interval);
+    for (k, held) in machine.iter().enumerate() {
+        if may_hold(k, interval) {
+            found = later(found, k, *held);
+        }
     }
     found
 }
 
-fn set(list: &mut [Location], register: u32, place: Location) {
-    match list.get_mut(register as usize) {
-        Some(at) => *at = place,
+fn set(list: &mut [Location], register: u32, place: Location)
+    requires stands { may_stand register place ≡ true }
+    requires stand { all_stand 0 list.old ≡ true }
+    ensures stand { all_stand 0 list.new ≡ true }
+    ensures long { length list.new ≡ length list.old }
+{
+    if (register as usize) < list.len() {
+        list[register as usize] = place;
+    }
+}
+
+fn hold(machine: &mut [Option<Held>], k: usize, held: Held) {
+    match machine.get_mut(k) {
+        Some(at) => *at = Some(held),
         None => {}
     }
 }
 
-fn take(list: &mut [Location], machines: &mut [Machine], k: usize, interval: &Interval) {
-    match machines.get_mut(k) {
-        Some(machine) => {
-            machine.held = Some(Held {
+fn take(list: &mut [Location], machine: &mut [Option<Held>], k: usize, interval: &Interval)
+    requires { all_stand 0 list.old ≡ true }
+    ensures stand { all_stand 0 list.new ≡ true }
+    ensures long { length list.new ≡ length list.old }
+{
+    if k < MACHINE {
+        hold(
+            machine,
+            k,
+            Held {
                 register: interval.register,
                 end: interval.end,
-            });
-            set(list, interval.register, Location::Register(machine.number));
-        }
-        None => {}
+            },
+        );
+        set(
+            list,
+            interval.register,
+            Location::Register(machine_register(k as u8)),
+        );
     }
 }
 
 // Where none is free, what ends last has its slot.
-fn take_from(list: &mut [Location], machines: &mut [Machine], interval: &Interval) {
-    match latest_for(machines, interval) {
+fn take_from(list: &mut [Location], machine: &mut [Option<Held>], interval: &Interval)
+    requires { all_stand 0 list.old ≡ true }
+    ensures stand { all_stand 0 list.new ≡ true }
+    ensures long { length list.new ≡ length list.old }
+{
+    match latest_for(machine, interval) {
         Some((k, held)) => {
             if interval.end < held.end {
                 set(list, held.register, Location::Slot(held.register));
-                take(list, machines, k, interval);
+                take(list, machine, k, interval);
             }
         }
         None => {}
     }
 }
 
-fn place_next(list: &mut [Location], machines: &mut [Machine], interval: &Interval) {
-    match free_for(machines, interval) {
-        Some(k) => take(list, machines, k, interval),
-        None => take_from(list, machines, interval),
+fn place_next(list: &mut [Location], machine: &mut [Option<Held>], interval: &Interval)
+    requires { all_stand 0 list.old ≡ true }
+    ensures stand { all_stand 0 list.new ≡ true }
+    ensures long { length list.new ≡ length list.old }
+{
+    match free_for(machine, interval) {
+        Some(k) => take(list, machine, k, interval),
+        None => take_from(list, machine, interval),
     }
 }
 
-fn place_all(list: &mut [Location], machines: &mut [Machine], intervals: &[Interval]) {
+fn place_all(list: &mut [Location], machine: &mut [Option<Held>], intervals: &[Interval])
+    requires { all_stand 0 list.old ≡ true }
+    ensures stand { all_stand 0 list.new ≡ true }
+    ensures long { length list.new ≡ length list.old }
+{
     for interval in intervals {
-        place_next(list, machines, interval);
+        place_next(list, machine, interval);
     }
+}
+
+// Each register in its slot.
+#[tactic(auto, using(crate::proofs::Standing::slots_stand, crate::proofs::Standing::slots_count))]
+fn all_in_slots(alloc: Global, registers: u32) -> Result<Vec<Location>, AllocError>
+    ensures stand { IfOk result (λ v. all_stand 0 v.items ≡ true) }
+    ensures long { IfOk result (λ v. length v.items ≡ registers) }
+{
+    let list = slots(alloc, registers)?;
+    Ok(list)
+}
+
+fn place_in(list: &mut [Location], intervals: &[Interval])
+    requires { all_stand 0 list.old ≡ true }
+    ensures stand { all_stand 0 list.new ≡ true }
+    ensures long { length list.new ≡ length list.old }
+{
+    let mut machine = [None; MACHINE];
+    place_all(list, machine.as_mut_slice(), intervals);
 }
 
 // A place for each register.
-fn places(alloc: Global, function: &VFunc, live: &Live) -> Result<Vec<Location>, AllocError> {
-    let mut list = slots(alloc, function.registers)?;
-    let mut machines = machines(alloc)?;
+fn places(alloc: Global, function: &VFunc, live: &Live) -> Result<Vec<Location>, AllocError>
+    ensures stand { IfOk result (λ v. all_stand 0 v.items ≡ true) }
+    ensures long { IfOk result (λ v. length v.items ≡ function.now.registers) }
+{
+    let mut list = all_in_slots(alloc, function.registers)?;
     let mut intervals = intervals(alloc, function, live)?;
     intervals.sort()?;
-    place_all(list.as_mut_slice(), machines.as_mut_slice(), &intervals);
+    place_in(list.as_mut_slice(), &intervals);
     Ok(list)
 }
 
@@ -159,13 +204,17 @@ fn places(alloc: Global, function: &VFunc, live: &Live) -> Result<Vec<Location>,
 /// # Errors
 ///
 /// Only where memory was refused.
-pub fn scanned(alloc: Global, function: &VFunc, live: &Live) -> Result<Certificate, AllocError> {
+pub fn scanned(alloc: Global, function: &VFunc, live: &Live) -> Result<Certificate, AllocError>
+    ensures { IfOk result (λ c. IsScanned function.now.code function.now.registers live.now c) }
+{
     let list = places(alloc, function, live)?;
     certificate_of(alloc, function, live, &list)
 }
 
 impl Strategy for LinearScan {
-    fn choose(&mut self, function: &VFunc, live: &Live) -> Option<Certificate> {
+    fn choose(&mut self, function: &VFunc, live: &Live) -> Option<Certificate>
+        ensures { IfSome result (λ c. IsScanned function.now.code function.now.registers live.now c) }
+    {
         scanned(self.alloc, function, live).ok()
     }
 }
