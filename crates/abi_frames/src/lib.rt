@@ -11,7 +11,8 @@
 //!
 //! On entry each argument comes to the place of its parameter (`specs/Functions.antt`).
 //!
-//! So far frames are made for code whose parameters are not in registers of arguments, without calls, which copies no bytes of memory: `covered::covers` says for which (`specs/Covered.antt`).
+//! So far frames are made for code that has no parameter, argument or callee in a register of arguments, and that copies no bytes of memory: `covered::covers`
+//! says for which (`specs/Covered.antt`).
 #![tactic(auto)]
 
 mod call;
