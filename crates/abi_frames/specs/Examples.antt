@@ -1,19 +1,25 @@
 -- Small codes that frames are made for.
 use Rattle.std.specs.Prelude.{◌≡◌, [], ◌∷◌, Some, true}
+use Rattle.il_ast.specs.declared.operation.Class.{Class}
 use Rattle.il_ast.specs.declared.operation.Class.TheVariants.{W, L}
 use Rattle.il_ast.specs.declared.operation.Condition.TheVariants.{SignedLess}
 use Rattle.rv_isa.specs.declared.instruction.RegOp.TheVariants.{Add}
 use Rattle.rv_isa.specs.Labels.{longest_size}
 use Rattle.vcode.specs.declared.place.Location.{Location}
 use Rattle.vcode.specs.declared.place.Location.TheVariants.{Register, Slot}
+use Rattle.vcode.specs.declared.place.Argument.{Argument}
+use Rattle.vcode.specs.declared.place.Operand.{Operand}
 use Rattle.vcode.specs.declared.place.Operand.TheVariants.{At, Number}
 use Rattle.vcode.specs.declared.line.Operation.TheVariants.{Reg, Compare}
-use Rattle.vcode.specs.declared.line.Line.TheVariants.{Tick, Set, Operate}
+use Rattle.vcode.specs.declared.line.Line.TheVariants.{Tick, Set, Operate, Call}
 use Rattle.vcode.specs.declared.line.Jump.TheVariants.{Goto, Branch, Return}
 use Rattle.vcode.specs.declared.code.Code.{Code}
 use Rattle.vcode.specs.ExampleCodes.{block, code, destination}
 use Rattle.abi_frames.specs.Laws.{IsCode}
 use Rattle.abi_frames.specs.Functions.{frame_items}
+
+abbrev argument : Class → Operand Location → Argument Location
+argument k a = record { class = k; value = a }
 
 -- counts in a slot up to 10
 abbrev pub counter : Code Location
@@ -45,8 +51,20 @@ ninth =
     ∷ [])
     (block (Tick true 1 ∷ []) (Return (Some (At (Slot 8)))) ∷ [])
 
+-- calls the function whose address it is given, with a word and that address, and returns what it returns
+abbrev pub caller : Code Location
+caller =
+    code (Some W) (destination (Slot 0) L ∷ [])
+    (block
+    (Tick true 4
+    ∷ Call (Some (destination (Register 9) W)) (At (Slot 0)) (argument W (Number 7) ∷ argument L (At (Slot 0)) ∷ [])
+    ∷ [])
+    (Return (Some (At (Register 9))))
+    ∷ [])
+
 -- the premises of the laws hold of these; and so many words the code of the first has at most
 pub record Examples : Type 0 where
   pub is_code : IsCode counter 1
   pub takes_nine : IsCode ninth 9
+  pub makes_a_call : IsCode caller 1
   pub size : longest_size (frame_items counter 1) ≡ 49

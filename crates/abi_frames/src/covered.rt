@@ -38,7 +38,8 @@ fn are_off(arguments: &[Argument<Location>]) -> bool
     true
 }
 
-fn covers_call(callee: &Operand<Location>, arguments: &[Argument<Location>]) -> bool
+/// Does no operand of a call stand in a register of arguments?
+pub(crate) fn covers_call(callee: &Operand<Location>, arguments: &[Argument<Location>]) -> bool
     ensures { result ≡ covers_call callee.now arguments.now }
 {
     is_off(callee) && are_off(arguments)

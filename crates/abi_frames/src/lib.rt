@@ -9,13 +9,16 @@
 //! at most 32 instructions for each unit of weight and 256 for each call, with at most 40,000 turns between two instructions; and it takes no more stack than the
 //! language counts for the function. `specs/Layout.antt` says where things stand in a frame, `specs/Emission.antt` which instructions a line becomes.
 //!
-//! On entry each argument comes to the place of its parameter (`specs/Functions.antt`).
+//! On entry each argument comes to the place of its parameter (`specs/Functions.antt`). A call passes its arguments one after another, by the convention, goes to
+//! the callee through a register, and brings the result from x10 to its place. Arguments past the eighth stand below the saved registers.
 //!
 //! So far frames are made for code that has no parameter, argument or callee in a register of arguments, and that copies no bytes of memory: `covered::covers`
 //! says for which (`specs/Covered.antt`).
 #![tactic(auto)]
 
 mod call;
+#[cfg(test)]
+mod call_tests;
 mod compare;
 pub mod covered;
 mod ends;

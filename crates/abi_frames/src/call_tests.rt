@@ -1,0 +1,179 @@
+//! The code of calls.
+use crate::call::push_call;
+use crate::covered::covers_call;
+use crate::layout::Layout;
+use il_ast::operation::Class;
+use il_ast::symbol::Symbol;
+use rv_isa::instruction::Instr;
+use rv_isa::labelled::Item;
+use std::test::Fail;
+use vcode::place::{Argument, Destination, Location, Operand};
+
+// two words below the saved registers
+const OUTGOING: Layout = Layout {
+    saves: 16,
+    slots: 120,
+    area: 144,
+    size: 144,
+    result: None,
+    leave: 3,
+};
+
+fn argument(class: Class, place: Location) -> Argument<Location> {
+    Argument {
+        class,
+        value: Operand::At(place),
+    }
+}
+
+fn long(place: Location) -> Argument<Location> {
+    argument(Class::L, place)
+}
+
+#[test]
+fn a_word_and_a_long_are_passed_and_the_result_goes_to_a_slot(rt: HostRuntime) -> Result<(), Fail> {
+    let mut items = Vec::new(rt.alloc());
+    let wanted = Some(Destination {
+        place: Location::Slot(1),
+        class: Class::W,
+    });
+    let callee = Operand::Name(Symbol::at(7));
+    let arguments = [
+        argument(Class::W, Location::Register(9)),
+        long(Location::Slot(0)),
+    ];
+    push_call(
+        &mut items,
+        &OUTGOING,
+        &wanted,
+        &callee,
+        arguments.as_slice(),
+    )?;
+    // the word moves and is extended, the long is loaded, the address, the jump, the result
+    assert_eq!(rt; items.len(), 2 + 1 + 1 + 1 + 1);
+    match items.get(1) {
+        Some(Item::Plain(Instr::Addiw { rd, rs1, .. })) => {
+            assert!(rt; rd.number == 10 && rs1.number == 10);
+        }
+        _ => assert!(rt; false),
+    }
+    match items.get(2) {
+        Some(Item::Plain(Instr::Load { rd, offset, .. })) => {
+            assert!(rt; rd.number == 11 && offset.value == 120);
+        }
+        _ => assert!(rt; false),
+    }
+    match items.get(3) {
+        Some(Item::Address { rd, global }) => {
+            assert!(rt; rd.number == 28 && *global == 7);
+        }
+        _ => assert!(rt; false),
+    }
+    match items.get(4) {
+        Some(Item::Plain(Instr::Jalr { rd, rs1, .. })) => {
+            assert!(rt; rd.number == 1 && rs1.number == 28);
+        }
+        _ => assert!(rt; false),
+    }
+    match items.get(5) {
+        Some(
+            Item::Plain(
+                Instr::Store {
+                    rs1,
+                    rs2,
+                    offset,
+                    ..
+                },
+            ),
+        ) => {
+            assert!(rt; rs1.number == 2 && rs2.number == 10 && offset.value == 128);
+        }
+        _ => assert!(rt; false),
+    }
+    Ok(())
+}
+
+#[test]
+fn the_last_two_of_ten_arguments_go_to_the_stack(rt: HostRuntime) -> Result<(), Fail> {
+    let mut items = Vec::new(rt.alloc());
+    let callee = Operand::Name(Symbol::at(0));
+    let arguments = [
+        long(Location::Register(18)),
+        long(Location::Register(19)),
+        long(Location::Register(20)),
+        long(Location::Register(21)),
+        long(Location::Register(22)),
+        long(Location::Register(23)),
+        long(Location::Register(24)),
+        long(Location::Register(25)),
+        long(Location::Register(26)),
+        argument(Class::W, Location::Slot(0)),
+    ];
+    push_call(&mut items, &OUTGOING, &None, &callee, arguments.as_slice())?;
+    // eight moves, a move and a store, a load and an extension and a store, the address, the jump
+    assert_eq!(rt; items.len(), 8 + 2 + 3 + 1 + 1);
+    match items.get(7) {
+        Some(Item::Plain(Instr::Imm { rd, rs1, .. })) => {
+            assert!(rt; rd.number == 17 && rs1.number == 25);
+        }
+        _ => assert!(rt; false),
+    }
+    match items.get(9) {
+        Some(
+            Item::Plain(
+                Instr::Store {
+                    rs1,
+                    rs2,
+                    offset,
+                    ..
+                },
+            ),
+        ) => {
+            assert!(rt; rs1.number == 2 && rs2.number == 28 && offset.value == 0);
+        }
+        _ => assert!(rt; false),
+    }
+    match items.get(12) {
+        Some(
+            Item::Plain(
+                Instr::Store {
+                    rs1,
+                    rs2,
+                    offset,
+                    ..
+                },
+            ),
+        ) => {
+            assert!(rt; rs1.number == 2 && rs2.number == 28 && offset.value == 8);
+        }
+        _ => assert!(rt; false),
+    }
+    Ok(())
+}
+
+#[test]
+fn a_call_through_a_register_takes_one_instruction(rt: HostRuntime) -> Result<(), Fail> {
+    let mut items = Vec::new(rt.alloc());
+    let none: [Argument<Location>; 0] = [];
+    let callee = Operand::At(Location::Register(9));
+    push_call(&mut items, &OUTGOING, &None, &callee, none.as_slice())?;
+    assert_eq!(rt; items.len(), 1);
+    match items.get(0) {
+        Some(Item::Plain(Instr::Jalr { rd, rs1, offset })) => {
+            assert!(rt; rd.number == 1 && rs1.number == 9 && offset.value == 0);
+        }
+        _ => assert!(rt; false),
+    }
+    Ok(())
+}
+
+#[test]
+fn operands_of_calls_are_off_the_registers_of_arguments(rt: HostRuntime) -> Result<(), Fail> {
+    let callee = Operand::Name(Symbol::at(0));
+    let good = [long(Location::Register(9)), long(Location::Slot(3))];
+    let bad = [long(Location::Register(10))];
+    assert!(rt; covers_call(&callee, good.as_slice()));
+    assert!(rt; !covers_call(&callee, bad.as_slice()));
+    assert!(rt; !covers_call(&Operand::At(Location::Register(17)), good.as_slice()));
+    Ok(())
+}
