@@ -59,7 +59,7 @@ leads_store_any c s op v base o a is is_base fixed there usable =
 
 -- ---- the bytes that are stored
 
-byte_later : (j n : ℕ) → byte_at j (n / 256) ≡ byte_at (suc j) n
+pub byte_later : (j n : ℕ) → byte_at j (n / 256) ≡ byte_at (suc j) n
 byte_later zero n = refl
 byte_later (suc i) n =
     let power : 256 * 256 ^ suc i ≡ 256 ^ suc (suc i) = (let e : 256 ^ suc (suc i) ≡ 256 ^ suc i * 256 = pow-suc 256 (suc i) in omega arith) in

@@ -1,5 +1,5 @@
 -- The labelled code of a function keeps the invariants of such code.
-use Rattle.std.proofs.Common.{◌≡◌, ℕ, ◌+◌, ◌-◌, ◌*◌, ◌%◌, ◌^◌, ◌<◌, ◌≤◌, Bool, true, false, List, [], ◌∷◌, ◌++◌, refl, sym, ◌∙◌, ap, subst, arith, lit<, zero-add, append_assoc}
+use Rattle.std.proofs.Common.{suc, zero, ◌/◌, ◌≡◌, ℕ, ◌+◌, ◌-◌, ◌*◌, ◌%◌, ◌^◌, ◌<◌, ◌≤◌, Bool, true, false, List, [], ◌∷◌, ◌++◌, refl, sym, ◌∙◌, ap, subst, arith, lit<, zero-add, append_assoc}
 use Rattle.std.specs.Prelude.{◌&&◌, not, nat_eq, nat_le, nat_lt, if◌then◌else◌, length, Option, Some, None}
 use Rattle.std.specs.List.{list_all}
 use Rattle.std.proofs.lemmas.Bool.{and_parts, and_from}
@@ -14,6 +14,10 @@ use Rattle.il_ast.specs.declared.operation.Class.TheVariants.{W, L}
 use Rattle.rv_isa.specs.Labels.{IsLabelled, times_labelled, has_label_below, has_good_registers, longest_size}
 use Rattle.rv_isa.specs.declared.instruction.Instr.TheVariants.{Lui, Reg, RegW}
 use Rattle.rv_isa.specs.declared.instruction.BranchOp.TheVariants.{Bne}
+use Rattle.rv_isa.specs.declared.instruction.LoadOp.{LoadOp}
+use Rattle.rv_isa.specs.declared.instruction.LoadOp.TheVariants.{Lwu, Lhu, Lbu}
+use Rattle.rv_isa.specs.declared.instruction.StoreOp.{StoreOp}
+use Rattle.rv_isa.specs.declared.instruction.StoreOp.TheVariants.{Sb, Sh, Sw}
 use Rattle.rv_isa.specs.declared.labelled.Item.{Item}
 use Rattle.rv_isa.specs.declared.labelled.Item.TheVariants.{Plain, Label, Branch as BranchTo, Goto as GoTo, Address}
 use Rattle.vcode.specs.declared.place.Location.{Location}
@@ -34,7 +38,7 @@ use Rattle.vcode.specs.Named.{is_place, operand_keeps, line_keeps, jump_keeps, b
 use Rattle.vcode.specs.Regular.{leads_inside, is_target, alloc_bytes, code_weight}
 use Rattle.abi_frames.specs.Layout.{layout, saved_registers}
 use Rattle.abi_frames.specs.declared.layout.Layout.{Layout}
-use Rattle.abi_frames.specs.Emission.{reg, add_low, extend, sum_to, load_8, store_8, long_constant, constant, far_load, load_slot, far_store, store_slot, slot_offset, into, fetch, source, target, deliver, set_items, negate, is_zero, compare_items, operation_items, operate_items, load_to, store_at, store_op, line_items, lines_items, move_pointer, save_all, restore_all, go_back, prologue, epilogue, result_items, jump_items, blocks_items, pass_into, pass_items, pass_all, call_through, receive_items, call_items, address_at, high}
+use Rattle.abi_frames.specs.Emission.{copy_at, copy_eight, copy_eights, copy_rest, reg, add_low, extend, sum_to, load_8, store_8, long_constant, constant, far_load, load_slot, far_store, store_slot, slot_offset, into, fetch, source, target, deliver, set_items, negate, is_zero, compare_items, operation_items, operate_items, load_to, store_at, store_op, line_items, lines_items, move_pointer, save_all, restore_all, go_back, prologue, epilogue, result_items, jump_items, blocks_items, pass_into, pass_items, pass_all, call_through, receive_items, call_items, address_at, high}
 use Rattle.abi_frames.specs.Functions.{caller_pointer, from_register, from_stack, argument_items, arguments_items, pointer_items, entry_items}
 use Rattle.abi_frames.specs.Laws.{FramesAreLabelled}
 use Rattle.abi_frames.proofs.Leading.{longest-append}
@@ -295,6 +299,22 @@ offset_plainly n d o h = by_test (nat_lt o 2048)
     by_test true = add_plainly n d 2 o h (nameable 2 (lit< tt))
     by_test false = record { labels = refl; none = λ l. refl; registers = (let is = h.is in rw is refl) }
 
+eights_plainly : (n k : ℕ) → Plainly n (copy_eights k)
+eights_plainly n zero = plainly_nothing n
+eights_plainly n (suc k) = plainly_then n copy_eight (copy_eights k) (record { labels = refl; none = λ l. refl; registers = refl }) (eights_plainly n k)
+
+piece_plainly : (n : ℕ) (load : LoadOp) (store : StoreOp) (o : ℕ) (t : Bool) → Plainly n (if t then [] else copy_at load store o)
+piece_plainly n load store o true = plainly_nothing n
+piece_plainly n load store o false = record { labels = refl; none = λ l. refl; registers = refl }
+
+rest_plainly : (n r : ℕ) → Plainly n (copy_rest r)
+rest_plainly n r =
+    let a : List Item = if nat_lt r 4 then [] else copy_at Lwu Sw 0 in
+    let b : List Item = if nat_lt (r % 4) 2 then [] else copy_at Lhu Sh (r / 4 * 4) in
+    let d : List Item = if nat_lt (r % 2) 1 then [] else copy_at Lbu Sb (r / 2 * 2) in
+    plainly_then n a (b ++ d) (piece_plainly n Lwu Sw 0 (nat_lt r 4))
+    (plainly_then n b d (piece_plainly n Lhu Sh (r / 4 * 4) (nat_lt (r % 4) 2)) (piece_plainly n Lbu Sb (r / 2 * 2) (nat_lt (r % 2) 1)))
+
 line_plainly : (n : ℕ) (y : Layout) (used slots : ℕ) (l : Line Location) → line_keeps (is_place slots) l ≡ true → Plainly n (line_items y used l)
 line_plainly n y used slots (Tick turn w) known = plainly_nothing n
 line_plainly n y used slots (Set to a) known =
@@ -321,7 +341,12 @@ line_plainly n y used slots (Store size a at) known =
 line_plainly n y used slots (Alloc to size) known =
     plainly_then n (address_at (target to) (y.area + used)) (deliver y to) (offset_plainly n (target to) (y.area + used) (target_nameable slots to known))
     (deliver_plainly n y to)
-line_plainly n y used slots (Blit from to count) known = plainly_nothing n
+line_plainly n y used slots (Blit from to count) known =
+    let parts = and_parts (operand_keeps (is_place slots) from) (operand_keeps (is_place slots) to) known in
+    plainly_then n (into y 28 from) (into y 29 to ++ (copy_eights (count / 8) ++ copy_rest (count % 8)))
+    (into_plainly n y slots 28 from (lit< tt) (lit< tt) parts.0)
+    (plainly_then n (into y 29 to) (copy_eights (count / 8) ++ copy_rest (count % 8)) (into_plainly n y slots 29 to (lit< tt) (lit< tt) parts.1)
+    (plainly_then n (copy_eights (count / 8)) (copy_rest (count % 8)) (eights_plainly n (count / 8)) (rest_plainly n (count % 8))))
 line_plainly n y used slots (Call to callee args) known =
     let parts = and_parts (wanted_keeps (is_place slots) to)
     (operand_keeps (is_place slots) callee && list_all (λ (a : Argument Location). operand_keeps (is_place slots) a.value) args) known in

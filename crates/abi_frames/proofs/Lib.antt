@@ -22,3 +22,6 @@ pub mod Accesses
 pub mod MemoryChanges
 pub mod Storing
 pub mod Making
+pub mod Eights
+pub mod CopyCode
+pub mod Copying

@@ -55,6 +55,7 @@ use Rattle.abi_frames.proofs.Storing.{store_case}
 use Rattle.abi_frames.proofs.CallCase.{call_case}
 use Rattle.abi_frames.proofs.Simulation.{CodeStands, At, AtJump, Landed, Performed, step_of, nothing_taken, later_fits, Log, Follows, Then, undefined, framed_same, reach, next_index, advance}
 use Rattle.abi_frames.proofs.Making.{alloc_case}
+use Rattle.abi_frames.proofs.Copying.{blit_case}
 
 -- a tick
 abbrev tick : Bool → ℕ → Line Location
@@ -252,7 +253,7 @@ line_case c f is j r n go b (Operate to op x y) lines fs k u a log goes all = op
 line_case c f is j r n go b (Load to op at) lines fs k u a log goes all = load_case c f is j r n go b to op at lines fs k u a log all goes
 line_case c f is j r n go b (Store size x at) lines fs k u a log goes all = store_case c f is j r n go b size x at lines fs k u a log goes all
 line_case c f is j r n go b (Alloc to size) lines fs k u a log goes all = alloc_case c f is j r n go b to size lines fs k u a log goes all
-line_case c f is j r n go b (Blit from to count) lines fs k u a log goes all = absurd (let no : ⊥ = let h = a.covered in cc in no)
+line_case c f is j r n go b (Blit from to count) lines fs k u a log goes all = blit_case c f is j r n go b from to count lines fs k u a log goes all
 line_case c f is j r n go b (Call to callee args) lines fs k u a log goes all = call_case c f is j r n go b to callee args lines fs k u a log goes all
 
 -- ---- jumps

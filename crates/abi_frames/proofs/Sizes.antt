@@ -1,5 +1,5 @@
 -- The code of a line is no longer than the line's cost, and so that of a function within its price.
-use Rattle.std.proofs.Common.{◌≡◌, ℕ, ◌+◌, ◌-◌, ◌*◌, ◌%◌, ◌^◌, ◌<◌, ◌≤◌, Bool, true, false, List, [], ◌∷◌, ◌++◌, refl, arith, lit≤}
+use Rattle.std.proofs.Common.{suc, zero, ◌/◌, ◌≡◌, ℕ, ◌+◌, ◌-◌, ◌*◌, ◌%◌, ◌^◌, ◌<◌, ◌≤◌, Bool, true, false, List, [], ◌∷◌, ◌++◌, refl, arith, lit≤}
 use Rattle.std.specs.Prelude.{◌&&◌, nat_le, nat_lt, if◌then◌else◌, length, Option, Some, None}
 use Rattle.std.specs.List.{list_all, sum_by}
 use Rattle.std.proofs.lemmas.Bool.{and_parts}
@@ -12,6 +12,9 @@ use Rattle.il_ast.specs.declared.operation.Size.{Size}
 use Rattle.rv_isa.specs.Labels.{longest_size}
 use Rattle.rv_isa.specs.declared.instruction.BranchOp.TheVariants.{Bne}
 use Rattle.rv_isa.specs.declared.instruction.LoadOp.{LoadOp}
+use Rattle.rv_isa.specs.declared.instruction.LoadOp.TheVariants.{Lwu, Lhu, Lbu}
+use Rattle.rv_isa.specs.declared.instruction.StoreOp.{StoreOp}
+use Rattle.rv_isa.specs.declared.instruction.StoreOp.TheVariants.{Sb, Sh, Sw}
 use Rattle.rv_isa.specs.declared.labelled.Item.{Item}
 use Rattle.rv_isa.specs.declared.instruction.Instr.TheVariants.{Lui}
 use Rattle.rv_isa.specs.declared.labelled.Item.TheVariants.{Plain, Label, Branch as BranchTo, Goto as GoTo}
@@ -37,7 +40,7 @@ use Rattle.vcode.specs.Named.{is_near, are_near}
 use Rattle.abi_frames.specs.Layout.{layout, saved_registers}
 use Rattle.abi_frames.specs.Laws.{FramesAreSmall}
 use Rattle.abi_frames.specs.declared.layout.Layout.{Layout}
-use Rattle.abi_frames.specs.Emission.{reg, add_low, extend, long_constant, constant, load_8, store_8, far_load, far_store, sum_to, load_slot, store_slot, slot_offset, into, fetch, source, target, deliver, set_items, compare_items, operation_items, operate_items, load_to, load_items, store_at, store_op, store_items, line_items, lines_items, move_pointer, save_all, restore_all, go_back, prologue, epilogue, result_items, jump_items, block_items, blocks_items, pass_into, pass_items, pass_all, call_through, receive_items, call_items, address_at, alloc_items, high}
+use Rattle.abi_frames.specs.Emission.{reg, add_low, extend, long_constant, constant, load_8, store_8, far_load, far_store, sum_to, load_slot, store_slot, slot_offset, into, fetch, source, target, deliver, set_items, compare_items, operation_items, operate_items, load_to, load_items, store_at, store_op, store_items, line_items, lines_items, move_pointer, save_all, restore_all, go_back, prologue, epilogue, result_items, jump_items, block_items, blocks_items, pass_into, pass_items, pass_all, call_through, receive_items, call_items, copy_at, copy_eight, copy_eights, copy_rest, blit_items, address_at, alloc_items, high}
 use Rattle.abi_frames.specs.Functions.{caller_pointer, from_register, from_stack, argument_items, arguments_items, pointer_items, entry_items, function_items}
 use Rattle.abi_frames.proofs.Leading.{longest-append}
 use Rattle.abi_frames.proofs.Outgoing.{slots_near}
@@ -218,6 +221,53 @@ alloc_size y used to =
     let k = deliver_size y to in
     omega (arith, all, h, k)
 
+eights_size : (k : ℕ) → longest_size (copy_eights k) ≡ 4 * k
+eights_size zero = refl
+eights_size (suc k) =
+    let all = longest-append copy_eight (copy_eights k) in
+    let rest = eights_size k in
+    omega (arith, all, rest)
+
+-- each part copies some byte
+piece_size : (load : LoadOp) (store : StoreOp) (o n most : ℕ) (t : Bool) → (t ≡ false → most ≤ n)
+    → (longest_size (if t then [] else copy_at load store o) ≤ 2) × (most * longest_size (if t then [] else copy_at load store o) ≤ 2 * n)
+piece_size load store o n most true h = (lit≤ tt, omega arith)
+piece_size load store o n most false h = let some = h refl in (lit≤ tt, omega (arith, some))
+
+rest_size : (n : ℕ) → n < 8 → (longest_size (copy_rest n) ≤ 6) × (longest_size (copy_rest n) ≤ 2 * n)
+rest_size n few =
+    let a : List Item = if nat_lt n 4 then [] else copy_at Lwu Sw 0 in
+    let b : List Item = if nat_lt (n % 4) 2 then [] else copy_at Lhu Sh (n / 4 * 4) in
+    let d : List Item = if nat_lt (n % 2) 1 then [] else copy_at Lbu Sb (n / 2 * 2) in
+    let one = piece_size Lwu Sw 0 (n / 4 * 4) 4 (nat_lt n 4) (λ e. grind (arith, nat_tests)) in
+    let two = piece_size Lhu Sh (n / 4 * 4) (n % 4 / 2 * 2) 2 (nat_lt (n % 4) 2) (λ e. grind (arith, nat_tests)) in
+    let three = piece_size Lbu Sb (n / 2 * 2) (n % 2) 1 (nat_lt (n % 2) 1) (λ e. grind (arith, nat_tests)) in
+    let all = longest-append a (b ++ d) in
+    let more = longest-append b d in
+    let one_most = one.0 in
+    let one_some = one.1 in
+    let two_most = two.0 in
+    let two_some = two.1 in
+    let three_most = three.0 in
+    let three_some = three.1 in
+    (omega (arith, all, more, one_most, two_most, three_most), omega (arith, all, more, one_some, two_some, three_some))
+
+blit_size : (y : Layout) (from to : Operand Location) (count : ℕ)
+    → longest_size (blit_items y from to count) ≤ operand_cost from + operand_cost to + 8 * ((count + 7) / 8)
+blit_size y from to count =
+    let eights : List Item = copy_eights (count / 8) in
+    let rest : List Item = copy_rest (count % 8) in
+    let one = longest-append (into y 28 from) (into y 29 to ++ (eights ++ rest)) in
+    let two = longest-append (into y 29 to) (eights ++ rest) in
+    let three = longest-append eights rest in
+    let h = into_size y 28 from in
+    let k = into_size y 29 to in
+    let m = eights_size (count / 8) in
+    let both = rest_size (count % 8) (omega arith) in
+    let most = both.0 in
+    let some = both.1 in
+    omega (arith, one, two, three, h, k, m, most, some)
+
 pub line_size : (y : Layout) (used : ℕ) (l : Line Location) → longest_size (line_items y used l) ≤ line_cost l
 line_size y used (Tick turn w) = lit≤ tt
 line_size y used (Set to a) = set_size y to a
@@ -225,7 +275,7 @@ line_size y used (Operate to op a b) = operate_size y to op a b
 line_size y used (Load to op at) = load_line_size y to op at
 line_size y used (Store size a at) = store_line_size y size a at
 line_size y used (Alloc to size) = alloc_size y used to
-line_size y used (Blit from to count) = omega arith
+line_size y used (Blit from to count) = blit_size y from to count
 line_size y used (Call to callee args) = call_size y to callee args
 
 -- ---- jumps

@@ -1,5 +1,5 @@
--- The code that frames are made for so far: no parameter, no argument and no callee in a register of arguments, and nothing that copies bytes of memory.
-use Rattle.std.specs.Prelude.{Bool, true, false, ◌&&◌, ◌||◌, nat_lt, List}
+-- The code that frames are made for so far: no parameter, no argument and no callee in a register of arguments.
+use Rattle.std.specs.Prelude.{Bool, true, ◌&&◌, ◌||◌, nat_lt, List}
 use Rattle.std.specs.List.{list_all}
 use Rattle.vcode.specs.declared.place.Location.{Location}
 use Rattle.vcode.specs.declared.place.Location.TheVariants.{Register, Slot}
@@ -7,7 +7,7 @@ use Rattle.vcode.specs.declared.place.Operand.{Operand}
 use Rattle.vcode.specs.declared.place.Destination.{Destination}
 use Rattle.vcode.specs.declared.place.Argument.{Argument}
 use Rattle.vcode.specs.declared.line.Line.{Line}
-use Rattle.vcode.specs.declared.line.Line.TheVariants.{Tick, Set, Operate, Load, Store, Alloc, Call}
+use Rattle.vcode.specs.declared.line.Line.TheVariants.{Call}
 use Rattle.vcode.specs.declared.code.Block.{Block}
 use Rattle.vcode.specs.declared.code.Code.{Code}
 use Rattle.vcode.specs.Named.{operand_keeps}
@@ -23,14 +23,8 @@ covers_call callee args =
     operand_keeps is_off_arguments callee && list_all (λ (a : Argument Location). operand_keeps is_off_arguments a.value) args
 
 abbrev pub covers_line : Line Location → Bool
-covers_line (Tick turn w) = true
-covers_line (Set to a) = true
-covers_line (Operate to op a b) = true
-covers_line (Load to op at) = true
-covers_line (Store size a at) = true
-covers_line (Alloc to size) = true
 covers_line (Call to callee args) = covers_call callee args
-covers_line l = false
+covers_line l = true
 
 abbrev pub covers_block : Block Location → Bool
 covers_block b = list_all covers_line b.lines

@@ -1,5 +1,5 @@
 -- The machine code of each line and jump. x2 is the stack pointer; x28 to x30 hold operands and addresses for a moment.
-use Rattle.std.specs.Prelude.{ℕ, ◌+◌, ◌-◌, ◌*◌, ◌/◌, ◌%◌, ◌^◌, nat_lt, if◌then◌else◌, List, [], ◌∷◌, ◌++◌, Option, Some, None}
+use Rattle.std.specs.Prelude.{ℕ, zero, suc, ◌+◌, ◌-◌, ◌*◌, ◌/◌, ◌%◌, ◌^◌, nat_lt, if◌then◌else◌, List, [], ◌∷◌, ◌++◌, Option, Some, None}
 use Rattle.std.proofs.Common.{lit<, mod-lt}
 use Rattle.il_ast.specs.declared.operation.Class.{Class}
 use Rattle.il_ast.specs.declared.operation.Class.TheVariants.{W, L}
@@ -15,7 +15,7 @@ use Rattle.rv_isa.specs.declared.ranges.UpperField.{UpperField}
 use Rattle.rv_isa.specs.declared.ranges.Amount.{Amount}
 use Rattle.rv_isa.specs.declared.instruction.Instr.TheVariants.{Lui, Jalr, Load, Store, Imm, Addiw, Shift, Reg, RegW, Ebreak}
 use Rattle.rv_isa.specs.declared.instruction.LoadOp.{LoadOp}
-use Rattle.rv_isa.specs.declared.instruction.LoadOp.TheVariants.{Ld}
+use Rattle.rv_isa.specs.declared.instruction.LoadOp.TheVariants.{Ld, Lwu, Lhu, Lbu}
 use Rattle.rv_isa.specs.declared.instruction.StoreOp.{StoreOp}
 use Rattle.rv_isa.specs.declared.instruction.StoreOp.TheVariants.{Sb, Sh, Sw, Sd}
 use Rattle.rv_isa.specs.declared.instruction.ImmOp.TheVariants.{Addi, Xori, Sltiu}
@@ -33,7 +33,7 @@ use Rattle.vcode.specs.declared.place.Destination.{Destination}
 use Rattle.vcode.specs.declared.line.Operation.{Operation}
 use Rattle.vcode.specs.declared.line.Operation.TheVariants.{Reg as RegOperation, RegW as RegWOperation, Compare}
 use Rattle.vcode.specs.declared.line.Line.{Line}
-use Rattle.vcode.specs.declared.line.Line.TheVariants.{Set, Operate, Load as LoadLine, Store as StoreLine, Call, Alloc}
+use Rattle.vcode.specs.declared.line.Line.TheVariants.{Tick, Set, Operate, Load as LoadLine, Store as StoreLine, Call, Alloc, Blit}
 use Rattle.vcode.specs.declared.line.Jump.{Jump}
 use Rattle.vcode.specs.declared.line.Jump.TheVariants.{Goto, Branch, Return, Halt}
 use Rattle.vcode.specs.declared.code.Block.{Block}
@@ -238,6 +238,27 @@ call_items y to callee args =
 
 -- ---- each line
 
+-- as many bytes as the load and the store take, at an offset from the addresses in x28 and x29
+abbrev pub copy_at : LoadOp → StoreOp → (offset : ℕ) → List Item
+copy_at load store o = Plain (Load load (reg 30) (reg 28) (low o)) ∷ store_at store 30 29 o ∷ []
+
+abbrev pub copy_eight : List Item
+copy_eight = copy_at Ld Sd 0 ++ (add_low 28 28 8 ∷ add_low 29 29 8 ∷ [])
+
+-- so many times eight bytes
+abbrev pub copy_eights : ℕ → List Item
+copy_eights zero = []
+copy_eights (suc n) = copy_eight ++ copy_eights n
+
+-- fewer than eight bytes: four, two and one
+abbrev pub copy_rest : ℕ → List Item
+copy_rest n =
+    (if nat_lt n 4 then [] else copy_at Lwu Sw 0)
+    ++ ((if nat_lt (n % 4) 2 then [] else copy_at Lhu Sh (n / 4 * 4)) ++ (if nat_lt (n % 2) 1 then [] else copy_at Lbu Sb (n / 2 * 2)))
+
+abbrev pub blit_items : Layout → (from to : Operand Location) → (count : ℕ) → List Item
+blit_items y from to count = into y 28 from ++ (into y 29 to ++ (copy_eights (count / 8) ++ copy_rest (count % 8)))
+
 -- the address at an offset from the stack pointer, into the register d
 abbrev pub address_at : (d offset : ℕ) → List Item
 address_at d offset =
@@ -255,7 +276,8 @@ line_items y used (LoadLine to op at) = load_items y to op at
 line_items y used (StoreLine size a at) = store_items y size a at
 line_items y used (Call to callee args) = call_items y to callee args
 line_items y used (Alloc to size) = alloc_items y used to
-line_items y used l = []
+line_items y used (Blit from to count) = blit_items y from to count
+line_items y used (Tick turn w) = []
 
 abbrev pub lines_items : Layout → (used : ℕ) → List (Line Location) → List Item
 lines_items y used [] = []

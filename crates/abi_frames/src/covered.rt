@@ -54,9 +54,9 @@ fn covers_line(line: &Line<Location>) -> bool
         | Line::Operate { .. }
         | Line::Load { .. }
         | Line::Store { .. }
-        | Line::Alloc { .. } => true,
+        | Line::Alloc { .. }
+        | Line::Blit { .. } => true,
         Line::Call { callee, args, .. } => covers_call(callee, args.as_slice()),
-        Line::Blit { .. } => false,
     }
 }
 

@@ -2,7 +2,7 @@
 ghost use Rattle.std.specs.Prelude.{◌≡◌, ◌<◌};
 ghost use Rattle.rv_isa.specs.Formats.{signed};
 ghost use Rattle.rv_isa.specs.declared.labelled.Item.TheVariants.{Plain};
-ghost use Rattle.rv_isa.specs.declared.instruction.Instr.TheVariants.{Lui, Shift};
+ghost use Rattle.rv_isa.specs.declared.instruction.Instr.TheVariants.{Lui, Load, Shift};
 ghost use Rattle.rv_isa.specs.declared.instruction.ShiftOp.TheVariants.{Srli};
 ghost use Rattle.abi_frames.specs.Emission.{reg, low, field, high, by_1, by_11, add_low, extend, sum_to, load_8, store_8, store_at, shift_11};
 
@@ -86,6 +86,18 @@ pub(crate) fn load(to: u8, base: u8, offset: u64) -> Item
 {
     Item::Plain(Instr::Load {
         op: LoadOp::Ld,
+        rd: register(to),
+        rs1: register(base),
+        offset: low_part(offset),
+    })
+}
+
+/// A load at the low part of an offset from a register.
+pub(crate) fn load_at(op: LoadOp, to: u8, base: u8, offset: u64) -> Item
+    ensures { result ≡ Plain (Load op (reg to) (reg base) (low offset)) }
+{
+    Item::Plain(Instr::Load {
+        op,
         rd: register(to),
         rs1: register(base),
         offset: low_part(offset),

@@ -12,14 +12,15 @@
 //! On entry each argument comes to the place of its parameter (`specs/Functions.antt`). A call passes its arguments one after another, by the convention, goes to
 //! the callee through a register, and brings the result from x10 to its place. Arguments past the eighth stand below the saved registers.
 //!
-//! So far frames are made for code that has no parameter, argument or callee in a register of arguments, and that copies no bytes of memory: `covered::covers`
-//! says for which (`specs/Covered.antt`).
+//! So far frames are made for code that has no parameter, argument or callee in a register of arguments: `covered::covers` says for which
+//! (`specs/Covered.antt`).
 #![tactic(auto)]
 
 mod call;
 #[cfg(test)]
 mod call_tests;
 mod compare;
+mod copy;
 pub mod covered;
 mod ends;
 mod entry;

@@ -7,6 +7,7 @@ ghost use Rattle.abi_frames.specs.Emission.{operation_items, set_items, operate_
 
 use crate::call::push_call;
 use crate::compare::{push_compare, push_compare_words};
+use crate::copy::push_blit;
 use crate::fields::{low_part, register, store_at};
 use crate::layout::Layout;
 use crate::operand::{
@@ -199,7 +200,8 @@ pub(crate) fn push_line(
         Line::Call { to, callee, args } => push_call(items, layout, to, callee, args.as_slice())?,
         Line::Store { size, value, at } => push_store_line(items, layout, *size, value, at)?,
         Line::Alloc { to, .. } => push_alloc(items, layout, used, to)?,
-        Line::Tick { .. } | Line::Blit { .. } => {}
+        Line::Blit { from, to, count } => push_blit(items, layout, from, to, *count)?,
+        Line::Tick { .. } => {}
     }
     Ok(())
 }

@@ -2,7 +2,7 @@
 use crate::layout::Layout;
 use crate::line::{push_line, push_lines};
 use il_ast::operation::{Class, Size};
-use rv_isa::instruction::{Instr, StoreOp};
+use rv_isa::instruction::{Instr, LoadOp, StoreOp};
 use rv_isa::labelled::Item;
 use std::test::Fail;
 use vcode::line::Line;
@@ -109,5 +109,66 @@ fn a_far_block_of_memory_takes_more(rt: HostRuntime) -> Result<(), Fail> {
     };
     push_line(&mut items, &SMALL, 4096, &line)?;
     assert_eq!(rt; items.len(), 3 + 1);
+    Ok(())
+}
+
+#[test]
+fn fifteen_bytes_are_copied(rt: HostRuntime) -> Result<(), Fail> {
+    let mut items = Vec::new(rt.alloc());
+    let line = Line::Blit {
+        from: Operand::At(Location::Register(5)),
+        to: Operand::At(Location::Slot(1)),
+        count: 15,
+    };
+    push_line(&mut items, &SMALL, 0, &line)?;
+    // two addresses, eight bytes and on, and then four, two and one
+    assert_eq!(rt; items.len(), 2 + 4 + 2 + 2 + 2);
+    match items.get(8) {
+        Some(
+            Item::Plain(
+                Instr::Load {
+                    op,
+                    rd,
+                    rs1,
+                    offset,
+                },
+            ),
+        ) => {
+            assert!(rt;
+                *op == LoadOp::Lhu && rd.number == 30 && rs1.number == 28 && offset.value == 4
+            );
+        }
+        _ => assert!(rt; false),
+    }
+    match items.get(11) {
+        Some(
+            Item::Plain(
+                Instr::Store {
+                    op,
+                    rs1,
+                    rs2,
+                    offset,
+                },
+            ),
+        ) => {
+            assert!(rt;
+                *op == StoreOp::Sb && rs1.number == 29 && rs2.number == 30 && offset.value == 6
+            );
+        }
+        _ => assert!(rt; false),
+    }
+    Ok(())
+}
+
+#[test]
+fn no_bytes_are_copied_without_an_access(rt: HostRuntime) -> Result<(), Fail> {
+    let mut items = Vec::new(rt.alloc());
+    let line = Line::Blit {
+        from: Operand::Number(0),
+        to: Operand::Number(0),
+        count: 0,
+    };
+    push_line(&mut items, &SMALL, 0, &line)?;
+    assert_eq!(rt; items.len(), 2);
     Ok(())
 }
