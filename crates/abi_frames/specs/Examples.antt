@@ -3,6 +3,8 @@ use Rattle.std.specs.Prelude.{◌≡◌, [], ◌∷◌, Some, true}
 use Rattle.il_ast.specs.declared.operation.Class.{Class}
 use Rattle.il_ast.specs.declared.operation.Class.TheVariants.{W, L}
 use Rattle.il_ast.specs.declared.operation.Condition.TheVariants.{SignedLess}
+use Rattle.il_ast.specs.declared.operation.Size.TheVariants.{Long}
+use Rattle.rv_isa.specs.declared.instruction.LoadOp.TheVariants.{Ld}
 use Rattle.rv_isa.specs.declared.instruction.RegOp.TheVariants.{Add}
 use Rattle.rv_isa.specs.Labels.{longest_size}
 use Rattle.vcode.specs.declared.place.Location.{Location}
@@ -11,7 +13,7 @@ use Rattle.vcode.specs.declared.place.Argument.{Argument}
 use Rattle.vcode.specs.declared.place.Operand.{Operand}
 use Rattle.vcode.specs.declared.place.Operand.TheVariants.{At, Number}
 use Rattle.vcode.specs.declared.line.Operation.TheVariants.{Reg, Compare}
-use Rattle.vcode.specs.declared.line.Line.TheVariants.{Tick, Set, Operate, Call}
+use Rattle.vcode.specs.declared.line.Line.TheVariants.{Tick, Set, Operate, Call, Load, Store, Alloc, Blit}
 use Rattle.vcode.specs.declared.line.Jump.TheVariants.{Goto, Branch, Return}
 use Rattle.vcode.specs.declared.code.Code.{Code}
 use Rattle.vcode.specs.ExampleCodes.{block, code, destination}
@@ -62,9 +64,25 @@ caller =
     (Return (Some (At (Register 9))))
     ∷ [])
 
+-- makes two blocks of memory, stores a number into one, copies its 15 bytes into the other, and returns what stands there
+abbrev pub copier : Code Location
+copier =
+    code (Some L) []
+    (block
+    (Tick true 4
+    ∷ Alloc (Slot 0) 15
+    ∷ Alloc (Register 8) 15
+    ∷ Store Long (Number 7) (At (Slot 0))
+    ∷ Blit (At (Slot 0)) (At (Register 8)) 15
+    ∷ Load (Register 9) Ld (At (Register 8))
+    ∷ [])
+    (Return (Some (At (Register 9))))
+    ∷ [])
+
 -- the premises of the laws hold of these; and so many words the code of the first has at most
 pub record Examples : Type 0 where
   pub is_code : IsCode counter 1
   pub takes_nine : IsCode ninth 9
   pub makes_a_call : IsCode caller 1
+  pub copies_bytes : IsCode copier 1
   pub size : longest_size (frame_items counter 1) ≡ 49

@@ -30,5 +30,14 @@ returns c = record {
     covered = refl;
     light = refl;
   };
+  copies_bytes = record {
+    few = lit< tt;
+    regular = record { few_params = refl; inside = refl; first = refl; small = refl; paid = refl; paced = refl; few_args = refl };
+    known = refl;
+    near = refl;
+    apart = refl;
+    covered = refl;
+    light = refl;
+  };
   size = refl;
 }
