@@ -36,9 +36,6 @@ pub enum Failure<'a> {
     /// Texts, a file or argument words were refused.
     #[error("refused {0}")]
     Refused(Refusal),
-    /// The texts are a program whose machine code can't be made yet.
-    #[error("not yet")]
-    NotYet,
     /// This file could not be read.
     #[error("cannot read {0}")]
     Unread(&'a str),
@@ -161,7 +158,6 @@ impl From<CompileError> for Failure<'_> {
             CompileError::NoMain => Failure::Refused(Refusal::NoMain),
             CompileError::Limit => Failure::Refused(Refusal::Limit),
             CompileError::Memory => Failure::Refused(Refusal::Memory),
-            CompileError::NotYet => Failure::NotYet,
         }
     }
 }

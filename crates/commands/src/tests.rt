@@ -3,7 +3,7 @@ use crate::command::command;
 use crate::failure::Failure;
 use crate::refusal::Refusal;
 use elf_file::LoadError;
-use regalloc::spill_all::SpillAll;
+use regalloc::linear_scan::LinearScan;
 use shell::disk::{Disk, FileFault};
 use shell::sink::{Sink, SinkFault};
 use std::alloc::{AllocError, Global};
@@ -142,7 +142,7 @@ fn done(
 ) -> Result<String, AllocError> {
     let mut out = Stream::new(alloc, most, fails_at);
     let mut err = Stream::new(alloc, 1, 0);
-    let mut how = SpillAll::new(alloc);
+    let mut how = LinearScan::new(alloc);
     let status = command(alloc, words, &mut how, files, &mut out, &mut err);
     let output = out.text();
     let message = err.text();
@@ -274,7 +274,7 @@ fn ends_of_the_interpreter(rt: HostRuntime) -> Result<(), Fail> {
 }
 
 #[test]
-fn texts_with_calls_are_interpreted(rt: HostRuntime) -> Result<(), Fail> {
+fn texts_with_calls_are_built_and_interpreted(rt: HostRuntime) -> Result<(), Fail> {
     let mut files = Files::new(rt.alloc());
     files.store(
         "hi",
@@ -295,6 +295,12 @@ fn texts_with_calls_are_interpreted(rt: HostRuntime) -> Result<(), Fail> {
         "interp echo -- -p -bc => 134|-bc|qbec: halt\n",
         "interp deep => 125||qbec: stack\n",
         "interp hi a\0 => 126||qbec: refused E8\n",
+        "build -o h hi => 0||",
+        "run h => 7|Hi\n|",
+        "run h a\0 => 126||qbec: refused E8\n",
+        "build -o e echo => 0||",
+        "run e p abc => 134|abc|qbec: halt\n",
+        "run e -- -p -bc => 134|-bc|qbec: halt\n",
     ];
     check_rows(&rt, rt.alloc(), &mut files, &rows)?;
     Ok(())

@@ -4,6 +4,10 @@
 #![tactic(auto)]
 
 #[cfg(test)]
+mod programs;
+#[cfg(test)]
+mod run;
+#[cfg(test)]
 mod strategies;
 #[cfg(test)]
 mod tests;

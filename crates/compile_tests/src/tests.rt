@@ -1,61 +1,15 @@
 //! What the machine does with the file of a text.
 
+use crate::run::ended;
 use crate::strategies::{Answer, Fixed};
-use elf_file::read_image;
-use qbec::compile::{CompileError, compile};
-use regalloc::strategy::Strategy;
-use rv_machine::flat_ram::FlatRam;
-use rv_machine::machine::Machine;
 use std::alloc::{AllocError, Global};
-use std::str;
 use std::test::Fail;
 use vcode::place::Location;
 
-/// A name that is refused, after the refusal's number.
-fn named(alloc: Global, number: &str, name: &[u8]) -> Result<String, AllocError> {
-    format!(in alloc; "{number} {}", str::from_utf8(name).unwrap_or(""))
-}
-
-/// A refusal to compile.
-fn refusal(alloc: Global, error: CompileError) -> Result<String, AllocError> {
-    match error {
-        CompileError::Text(why) => format!(in alloc; "{why:?}"),
-        CompileError::UnknownName(name) => named(alloc, "E3", name.as_slice()),
-        CompileError::ExportedTwice(name) => named(alloc, "E4", name.as_slice()),
-        CompileError::NoMain => format!(in alloc; "E5"),
-        CompileError::Limit => format!(in alloc; "E6"),
-        CompileError::Memory => format!(in alloc; "memory"),
-        CompileError::NotYet => format!(in alloc; "not yet"),
-    }
-}
-
-/// How the machine ends with the file of these texts, in so many instructions at most, with registers where the strategy has them.
-fn ends_with(
-    alloc: Global,
-    texts: &[&[u8]],
-    limit: u64,
-    how: &mut dyn Strategy,
-) -> Result<String, AllocError> {
-    let file = match compile(alloc, texts, how) {
-        Ok(file) => file,
-        Err(error) => return refusal(alloc, error),
-    };
-    let loaded = match read_image(alloc, file.as_slice()) {
-        Ok(loaded) => loaded,
-        Err(_) => return format!(in alloc; "not loaded"),
-    };
-    let machine: Machine<FlatRam> = match Machine::start(alloc, &loaded, &[]) {
-        Ok(machine) => machine,
-        Err(_) => return format!(in alloc; "not started"),
-    };
-    let (_, stop) = machine.run(alloc, limit);
-    format!(in alloc; "{stop:?}")
-}
-
-/// The same, with a strategy that answers nothing.
+/// How the machine ends with the file of these texts, in so many instructions at most, with a strategy that answers nothing.
 fn ends(alloc: Global, texts: &[&[u8]], limit: u64) -> Result<String, AllocError> {
     let mut how = Fixed::new(alloc, Answer::Nothing);
-    ends_with(alloc, texts, limit, &mut how)
+    ended(alloc, texts, &[], limit, &mut how)
 }
 
 const ZERO: &[u8] = b"export function w $main() {\n@s\nret 0\n}\n";
@@ -107,8 +61,8 @@ fn strategies_that_are_wrong(rt: HostRuntime) -> Result<(), Fail> {
     for answer in answers {
         let alloc = rt.alloc();
         let mut how = Fixed::new(alloc, answer);
-        let first = ends_with(alloc, &[LOOP], 19776, &mut how)?;
-        let second = ends_with(alloc, &[LOOP], 19776, &mut how)?;
+        let first = ended(alloc, &[LOOP], &[], 19776, &mut how)?;
+        let second = ended(alloc, &[LOOP], &[], 19776, &mut how)?;
         assert_eq!(rt; first.as_str(), "Exit(186)");
         assert_eq!(rt; second.as_str(), "Exit(186)");
     }
@@ -123,7 +77,7 @@ fn every_register_in_x9_where_one_is_enough(rt: HostRuntime) -> Result<(), Fail>
     let text =
         b"export function w $main() {\n@s\n%a =w copy 40\n%b =w add %a, 1\n%c =w add %b, 1\nret %c\n}\n";
     assert_eq!(rt;
-        ends_with(alloc, &[text], 1000, &mut how)?.as_str(),
+        ended(alloc, &[text], &[], 1000, &mut how)?.as_str(),
         "Exit(42)"
     );
     Ok(())
@@ -174,12 +128,5 @@ fn refused_texts(rt: HostRuntime) -> Result<(), Fail> {
     assert_eq!(rt; ends(rt.alloc(), &[ZERO, ZERO], 0)?.as_str(), "E4 main");
     let unknown = b"export function w $main() {\n@s\n%r =w call $g()\nret 0\n}\n";
     assert_eq!(rt; ends(rt.alloc(), &[unknown], 0)?.as_str(), "E3 g");
-    Ok(())
-}
-
-#[test]
-fn calls_come_later(rt: HostRuntime) -> Result<(), Fail> {
-    let call = b"export function w $main() {\n@s\ncall $exit(w 3)\nret 0\n}\n";
-    assert_eq!(rt; ends(rt.alloc(), &[call], 0)?.as_str(), "not yet");
     Ok(())
 }

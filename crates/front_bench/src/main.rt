@@ -8,7 +8,7 @@
 //! `functions` is a text of so many functions with a loop of six lines each, `lines` one function of
 //! so many additions over 4,000 temporaries, `phi` one with so many blocks before a phi that names them
 //! all, `bytes` a datum of so many bytes, of four characters each. A further word `read` or `check`
-//! stops there. Without words the text has ten functions.
+//! stops there, and `text` writes the text alone, for `qbec build`. Without words the text has ten functions.
 #![tactic(auto)]
 
 use il_reader::read::read;
@@ -29,6 +29,7 @@ enum Shape {
 /// Where the work ends.
 #[derive(Clone, Copy)]
 enum Stage {
+    Write,
     Read,
     Check,
     Link,
@@ -124,12 +125,16 @@ fn main(rt: HostRuntime) -> io::Result<()> {
             "lines" => shape = Shape::Lines,
             "phi" => shape = Shape::Phi,
             "bytes" => shape = Shape::Bytes,
+            "text" => stage = Stage::Write,
             "read" => stage = Stage::Read,
             "check" => stage = Stage::Check,
             other => size = other.parse::<u32>().unwrap_or(size),
         }
     }
     let text = text_of(rt.alloc(), shape, size)?;
+    if let Stage::Write = stage {
+        return print!(rt; "{text}");
+    }
     let length = text.len();
     let said = answer(rt.alloc(), text.as_bytes(), stage)?;
     println!(rt; "{length} bytes: {said}")

@@ -19,7 +19,6 @@ use Rattle.alloc_check.specs.Placed.{Layout, placed_argument, placed_destination
 use Rattle.vcode.specs.declared.function.VFunc.{VFunc}
 use Rattle.alloc_check.specs.Accepted.{end_point, starts_exist, is_placed, is_accepted}
 use Rattle.alloc_check.specs.Certified.{moves_at, layout_at, transfers, certified_lines, certified_blocks, certified_params, jump_point, placed_by, params_placed, is_sound}
-use Rattle.abi_frames.specs.Covered.{covers_line, covers_block, is_covered}
 use Rattle.abi_frames.specs.Layout.{args_on_stack, most_in_lines, most_in_blocks, outgoing}
 use Rattle.qbec.specs.Words.{IsPlacing}
 use Rattle.std.proofs.lemmas.List.{length-map}
@@ -173,31 +172,6 @@ same_outgoing v l is =
 
 -- ---- what is covered
 
-covers_placed : (f : Layout) (l : Line ℕ) → covers_line (placed_line f l) ≡ covers_line (placed_line Slot l)
-covers_placed f (Tick turn w) = refl
-covers_placed f (Set to a) = refl
-covers_placed f (Operate to o a b) = refl
-covers_placed f (Load to o at) = refl
-covers_placed f (Store size a at) = refl
-covers_placed f (Alloc to size) = refl
-covers_placed f (Blit from to count) = refl
-covers_placed f (Call to callee args) = refl
-
-all_folded : {X : Type 0} (test : X → Bool) (xs : List X) → list_all test xs ≡ folded true (λ a b. a && b) test xs
-all_folded test [] = refl
-all_folded test (x ∷ xs) = ap (λ b. test x && b) (all_folded test xs)
-
-all_blocks_folded : (blocks : List (Block Location)) → list_all covers_block blocks ≡ folded true (λ a b. a && b) (λ (b : Block Location). folded true (λ x y. x && y) covers_line b.lines) blocks
-all_blocks_folded [] = refl
-all_blocks_folded (b ∷ blocks) =
-    ap (λ x. x && list_all covers_block blocks) (all_folded covers_line b.lines)
-    ∙ ap (λ x. folded true (λ a c. a && c) covers_line b.lines && x) (all_blocks_folded blocks)
-
-same_covers : (v : Code ℕ) (l : Code Location) → IsPlacing v l → list_all covers_block l.blocks ≡ list_all covers_block (in_slots v).blocks
-same_covers v l is =
-    all_blocks_folded l.blocks
-    ∙ (counted true (λ a b. a && b) covers_line (record { none = λ x. refl; moves = λ d a. refl; places = covers_placed }) v l is ∙ sym (all_blocks_folded (in_slots v).blocks))
-
 -- ---- parameters and the result
 
 certified_classes : (ds : List (Destination ℕ)) (qs : List Location) → params_placed ds qs ≡ true → map (λ (d : Destination Location). d.class) (certified_params ds qs) ≡ map (λ (d : Destination Location). d.class) (map (placed_destination Slot) ds)
@@ -217,15 +191,6 @@ same_param_classes v l (inr right) =
 pub same_result : (v : Code ℕ) (l : Code Location) → IsPlacing v l → l.result ≡ v.result
 same_result v l (inl same) = ap (λ (x : Code Location). x.result) same
 same_result v l (inr right) = ap (λ (x : Code Location). x.result) right.2
-
-param_count : (v : Code ℕ) (l : Code Location) → IsPlacing v l → length l.params ≡ length (in_slots v).params
-param_count v l is =
-    sym (length-map l.params (λ (d : Destination Location). d.class))
-    ∙ (ap (λ (cs : List Class). length cs) (same_param_classes v l is) ∙ length-map (in_slots v).params (λ (d : Destination Location). d.class))
-
-pub same_covered : (v : Code ℕ) (l : Code Location) → IsPlacing v l → is_covered l ≡ is_covered (in_slots v)
-same_covered v l is =
-    ap (λ n. nat_eq n 0 && list_all covers_block l.blocks) (param_count v l is) ∙ ap (λ b. nat_eq (length (in_slots v).params) 0 && b) (same_covers v l is)
 
 -- what the checker accepts is sound
 pub accepted_is_sound : (v : VFunc) (c : Certificate) → is_accepted v c ≡ true → is_sound v.code c ≡ true

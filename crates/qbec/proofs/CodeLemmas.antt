@@ -1,6 +1,6 @@
 -- Words for one function after another.
 use Rattle.std.proofs.Common.{◌≡◌, ℕ, zero, suc, ◌+◌, ◌*◌, ◌<◌, ◌≤◌, List, [], ◌∷◌, ◌++◌, length, map, drop, refl, sym, ◌∙◌, ap, subst, arith, append_assoc, drop_of_length-le}
-use Rattle.std.specs.Prelude.{false, slice_get, slice_index_or, Option, Some, None, IfSome}
+use Rattle.std.specs.Prelude.{slice_get, slice_index_or, Some}
 use Rattle.std.specs.Borrow.{Bor}
 use Rattle.std.proofs.lemmas.Option.{slice_get-get_or}
 use Rattle.il_ast.specs.declared.function.Func.{Func}
@@ -11,7 +11,6 @@ use Rattle.rv_isa.specs.Words.{Words, IsCode}
 use Rattle.obj_link.specs.Shown.{shown}
 use Rattle.headline.specs.Compiled.{StandFor}
 use Rattle.qbec.specs.Codes.{AreGood, AreWords}
-use Rattle.qbec.specs.Plain.{is_plain, HasOther}
 
 pub record CodesSoFar (fs : List (Placed (Bor Func))) (k : ℕ) (codes : List Words) : Type 0 where
   pub whole : (rest : List Words) → AreWords rest (map shown (drop k fs)) → AreWords (codes ++ rest) (map shown fs)
@@ -49,17 +48,3 @@ pub all_codes : (fs : List (Placed (Bor Func))) (k : ℕ) (codes : List Words) �
 all_codes fs k codes end s =
     subst (λ l. AreWords l (map shown fs)) (no_more codes)
     (s.whole [] (subst (λ (l : List (Placed (Bor Func))). AreWords [] (map shown l)) (sym (drop_of_length-le fs end)) (record { stand = tt; few = tt; every = tt })))
-
-shown_there : (fs : List (Placed (Bor Func))) (k : ℕ) (f : Placed (Bor Func)) → slice_get fs k ≡ Some f → slice_get (map shown fs) k ≡ Some (shown f)
-shown_there [] k f h = absurd (let no : ⊥ = cc in no)
-shown_there (x ∷ fs) zero f h = let same : x ≡ f = cc in ap (λ (y : Placed (Bor Func)). Some (shown y)) same
-shown_there (x ∷ fs) (suc k) f h = shown_there fs k f h
-
--- one for which none are made
-pub other_here : (fs : List (Placed (Bor Func))) (k : ℕ) (o : Placed (Bor Func)) → k < length fs → is_plain (slice_index_or fs k o).item.now ≡ false → HasOther (map shown fs)
-other_here fs k o lt h =
-    record { number = k; function = shown (slice_index_or fs k o); there = shown_there fs k (slice_index_or fs k o) (slice_get-get_or fs k o lt); other = h }
-
-pub some_code : (P : Words → Type 0) (o : Option Words) (c : Words) → o ≡ Some c → IfSome o P → P c
-some_code P (Some x) c is h = let same : x ≡ c = cc in subst P same h
-some_code P None c is h = absurd (let no : ⊥ = cc in no)

@@ -14,10 +14,9 @@ use Rattle.headline.specs.Read.{AreRead}
 use Rattle.qbec.specs.declared.texts.TextError.{TextError}
 use Rattle.qbec.specs.declared.texts.TextError.TheVariants.{Syntax, Rule, Limit as TextLimit, Memory as TextMemory}
 use Rattle.qbec.specs.declared.compile.CompileError.{CompileError}
-use Rattle.qbec.specs.declared.compile.CompileError.TheVariants.{Text, UnknownName, ExportedTwice, NoMain, Limit, Memory, NotYet}
+use Rattle.qbec.specs.declared.compile.CompileError.TheVariants.{Text, UnknownName, ExportedTwice, NoMain, Limit, Memory}
 use Rattle.qbec.specs.Texts.{AreTexts, Says}
-use Rattle.qbec.specs.Plain.{HasOther}
-use Rattle.qbec.specs.Compile.{AreProgram, IsFile, IsCompiled, Refuses, IsOurs, SaysAsMuch, text_refusal}
+use Rattle.qbec.specs.Compile.{AreProgram, IsFile, IsCompiled, Refuses, SaysAsMuch, text_refusal}
 
 -- ---- texts that were read
 
@@ -36,8 +35,8 @@ text_says texts (Rule text fault) h = h
 text_says texts TextLimit h = h
 text_says texts TextMemory h = tt
 
-pub text_ours : (e : TextError) → e ≡ TextMemory → IsOurs (text_refusal e)
-text_ours e h = inl (ap text_refusal h)
+pub text_ours : (e : TextError) → e ≡ TextMemory → text_refusal e ≡ Memory
+text_ours e h = ap text_refusal h
 
 -- ---- refusals to link
 
@@ -48,62 +47,54 @@ link_says texts checked are (LinkUnknown name) (ExportedTwice copy) h says = abs
 link_says texts checked are (LinkUnknown name) NoMain h says = absurd h
 link_says texts checked are (LinkUnknown name) Limit h says = absurd h
 link_says texts checked are (LinkUnknown name) Memory h says = tt
-link_says texts checked are (LinkUnknown name) NotYet h says = absurd h
 link_says texts checked are (LinkTwice name) (Text t) h says = absurd h
 link_says texts checked are (LinkTwice name) (UnknownName copy) h says = absurd h
 link_says texts checked are (LinkTwice name) (ExportedTwice copy) h says = (checked, are, subst (λ xs. 1 < times_exported checked (names_of checked) xs) (sym h) says)
 link_says texts checked are (LinkTwice name) NoMain h says = absurd h
 link_says texts checked are (LinkTwice name) Limit h says = absurd h
 link_says texts checked are (LinkTwice name) Memory h says = tt
-link_says texts checked are (LinkTwice name) NotYet h says = absurd h
 link_says texts checked are LinkNoMain (Text t) h says = absurd h
 link_says texts checked are LinkNoMain (UnknownName copy) h says = absurd h
 link_says texts checked are LinkNoMain (ExportedTwice copy) h says = absurd h
 link_says texts checked are LinkNoMain NoMain h says = (checked, are, says)
 link_says texts checked are LinkNoMain Limit h says = absurd h
 link_says texts checked are LinkNoMain Memory h says = tt
-link_says texts checked are LinkNoMain NotYet h says = absurd h
 link_says texts checked are LinkLimit (Text t) h says = absurd h
 link_says texts checked are LinkLimit (UnknownName copy) h says = absurd h
 link_says texts checked are LinkLimit (ExportedTwice copy) h says = absurd h
 link_says texts checked are LinkLimit NoMain h says = absurd h
 link_says texts checked are LinkLimit Limit h says = (checked, are, says)
 link_says texts checked are LinkLimit Memory h says = tt
-link_says texts checked are LinkLimit NotYet h says = absurd h
 link_says texts checked are LinkMemory (Text t) h says = absurd h
 link_says texts checked are LinkMemory (UnknownName copy) h says = absurd h
 link_says texts checked are LinkMemory (ExportedTwice copy) h says = absurd h
 link_says texts checked are LinkMemory NoMain h says = absurd h
 link_says texts checked are LinkMemory Limit h says = absurd h
 link_says texts checked are LinkMemory Memory h says = tt
-link_says texts checked are LinkMemory NotYet h says = absurd h
 
-pub link_ours : (e : LinkError) (r : CompileError) → SaysAsMuch e r → e ≡ LinkMemory → IsOurs r
+pub link_ours : (e : LinkError) (r : CompileError) → SaysAsMuch e r → e ≡ LinkMemory → r ≡ Memory
 link_ours e r h is = by r (subst (λ x. SaysAsMuch x r) is h)
   where
-    by : (x : CompileError) → SaysAsMuch LinkMemory x → IsOurs x
+    by : (x : CompileError) → SaysAsMuch LinkMemory x → x ≡ Memory
     by (Text t) k = absurd k
     by (UnknownName copy) k = absurd k
     by (ExportedTwice copy) k = absurd k
     by NoMain k = absurd k
     by Limit k = absurd k
-    by Memory k = inl refl
-    by NotYet k = absurd k
+    by Memory k = refl
 
 -- ---- files
 
-pub file_compiled : (texts : List (Bor (List ℕ))) (p : Program) (r : Result (Vec ℕ Global) CompileError) → AreProgram texts p → MatchResult r (λ v. IsFile p v.items) IsOurs → IfOk r (λ v. IsCompiled texts v.items)
+pub file_compiled : (texts : List (Bor (List ℕ))) (p : Program) (r : Result (Vec ℕ Global) CompileError) → AreProgram texts p
+    → MatchResult r (λ v. IsFile p v.items) (λ e. e ≡ Memory) → IfOk r (λ v. IsCompiled texts v.items)
 file_compiled texts p (Ok v) are h = record { program = p; are = are; is = h }
 file_compiled texts p (Err e) are h = tt
 
-ours_refuses : (texts : List (Bor (List ℕ))) (p : Program) (e : CompileError) → AreProgram texts p → IsOurs e → (e ≡ NotYet → HasOther p.functions) → Refuses e texts
-ours_refuses texts p e are (inl is) other = subst (λ x. Refuses x texts) (sym is) tt
-ours_refuses texts p e are (inr is) other = subst (λ x. Refuses x texts) (sym is) (p, are, other is)
+pub file_refused : (texts : List (Bor (List ℕ))) (p : Program) (r : Result (Vec ℕ Global) CompileError) → MatchResult r (λ v. IsFile p v.items) (λ e. e ≡ Memory)
+    → IfErr r (λ e. Refuses e texts)
+file_refused texts p (Ok v) h = tt
+file_refused texts p (Err e) h = subst (λ x. Refuses x texts) (sym h) tt
 
-pub file_refused : (texts : List (Bor (List ℕ))) (p : Program) (r : Result (Vec ℕ Global) CompileError) → AreProgram texts p → MatchResult r (λ v. IsFile p v.items) IsOurs → IfErr r (λ e. e ≡ NotYet → HasOther p.functions) → IfErr r (λ e. Refuses e texts)
-file_refused texts p (Ok v) are h other = tt
-file_refused texts p (Err e) are h other = ours_refuses texts p e are h other
-
-pub file_ours : (p : Program) (r : Result (Vec ℕ Global) CompileError) → MatchResult r (λ v. IsFile p v.items) IsOurs → IfErr r IsOurs
+pub file_ours : (p : Program) (r : Result (Vec ℕ Global) CompileError) → MatchResult r (λ v. IsFile p v.items) (λ e. e ≡ Memory) → IfErr r (λ e. e ≡ Memory)
 file_ours p (Ok v) h = tt
 file_ours p (Err e) h = h

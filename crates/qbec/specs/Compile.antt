@@ -18,13 +18,12 @@ use Rattle.elf_file.specs.Stands.{Stands}
 use Rattle.rv_machine.specs.Start.{Starts}
 use Rattle.headline.specs.Headline.{Executes}
 use Rattle.qbec.specs.declared.compile.CompileError.{CompileError}
-use Rattle.qbec.specs.declared.compile.CompileError.TheVariants.{Text, UnknownName, ExportedTwice, NoMain, Limit, Memory, NotYet}
+use Rattle.qbec.specs.declared.compile.CompileError.TheVariants.{Text, UnknownName, ExportedTwice, NoMain, Limit, Memory}
 use Rattle.obj_link.specs.declared.error.LinkError.{LinkError}
 use Rattle.obj_link.specs.declared.error.LinkError.TheVariants.{UnknownName as LinkUnknown, ExportedTwice as LinkTwice, NoMain as LinkNoMain, Limit as LinkLimit}
 use Rattle.qbec.specs.declared.texts.TextError.{TextError}
 use Rattle.qbec.specs.declared.texts.TextError.TheVariants.{Syntax, Rule, Limit as TextLimit, Memory as TextMemory}
 use Rattle.qbec.specs.Texts.{AreTexts, Says}
-use Rattle.qbec.specs.Plain.{HasOther}
 
 -- texts that are this program: each is in the grammar and keeps the rules, and together they link to it
 pub record AreProgram (texts : List (Bor (List ℕ))) (p : Program) : Type 0 where
@@ -46,7 +45,7 @@ pub record IsCompiled (texts : List (Bor (List ℕ))) (bytes : List ℕ) : Type 
   pub are : AreProgram texts program
   pub is : IsFile program bytes
 
--- what a refusal says of texts: nothing where memory was refused; and of a program, that one of its functions can't be compiled yet
+-- what a refusal says of texts: nothing where memory was refused
 abbrev pub Refuses : CompileError → List (Bor (List ℕ)) → Type 0
 Refuses (Text e) texts = Says e 1 texts
 Refuses (UnknownName name) texts = (checked : List Checked) × AreTexts texts checked × IsUnknown (meaning_of checked) checked name.items
@@ -54,11 +53,6 @@ Refuses (ExportedTwice name) texts = (checked : List Checked) × AreTexts texts 
 Refuses NoMain texts = (checked : List Checked) × AreTexts texts checked × (main_of checked ≡ None)
 Refuses Limit texts = (checked : List Checked) × AreTexts texts checked × (within_limits checked (functions_of checked) (objects_of checked) ≡ false)
 Refuses Memory texts = Unit {0}
-Refuses NotYet texts = (p : Program) × AreProgram texts p × HasOther p.functions
-
--- the refusals that a program may meet
-abbrev pub IsOurs : CompileError → Type 0
-IsOurs e = (e ≡ Memory) ⊎ (e ≡ NotYet)
 
 -- why the texts are refused, where one of them is
 abbrev pub text_refusal : TextError → CompileError

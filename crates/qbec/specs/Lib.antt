@@ -2,4 +2,3 @@ pub mod Texts
 pub mod Words
 pub mod Codes
 pub mod Compile
-pub mod Plain

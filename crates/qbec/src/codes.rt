@@ -1,9 +1,8 @@
 //! The words of all functions of a program.
-ghost use Rattle.std.specs.Prelude.{◌≡◌, ◌++◌, ◌∷◌, [], IfOk, IfSome, None, OnOk, map};
+ghost use Rattle.std.specs.Prelude.{◌≡◌, ◌++◌, ◌∷◌, [], IfOk, OnOk, map};
 ghost use Rattle.obj_link.specs.Shown.{shown};
 ghost use Rattle.rv_isa.specs.Words.{IsCode};
 ghost use Rattle.qbec.specs.Codes.{AreGood, AreWords};
-ghost use Rattle.qbec.specs.Plain.{HasOther};
 
 use crate::words::function_words;
 use il_ast::function::Func;
@@ -22,7 +21,7 @@ fn push_code(codes: &mut Vec<Code>, code: Code) -> Result<(), AllocError>
     Ok(())
 }
 
-/// The words of all functions of a program, in order, or none where the machine code of one can't be made yet, which isn't plain.
+/// The words of all functions of a program, in order.
 ///
 /// # Errors
 ///
@@ -31,17 +30,14 @@ pub fn codes_of(
     alloc: Global,
     functions: &[Placed<&Func>],
     how: &mut dyn Strategy,
-) -> Result<Option<Vec<Code>>, AllocError>
+) -> Result<Vec<Code>, AllocError>
     requires { AreGood functions.now }
-    ensures words { IfOk result (λ o. IfSome o (λ v. AreWords v.items (map shown functions.now))) }
-    ensures none { IfOk result (λ o. o ≡ None → HasOther (map shown functions.now)) }
+    ensures { IfOk result (λ v. AreWords v.items (map shown functions.now)) }
 {
     let mut codes = Vec::new(alloc);
     for k in 0..functions.len() {
-        match function_words(alloc, functions[k].item, how)? {
-            Some(code) => push_code(&mut codes, code)?,
-            None => return Ok(None),
-        }
+        let code = function_words(alloc, functions[k].item, how)?;
+        push_code(&mut codes, code)?;
     }
-    Ok(Some(codes))
+    Ok(codes)
 }

@@ -5,9 +5,8 @@ ghost use Rattle.il_ast.specs.declared.program.Program.{Program};
 ghost use Rattle.obj_link.specs.ProgramOf.{program};
 ghost use Rattle.obj_link.specs.Program.{IsProgram};
 ghost use Rattle.qbec.specs.Codes.{AreGood, AreWords};
-ghost use Rattle.qbec.specs.Plain.{HasOther};
-ghost use Rattle.qbec.specs.declared.compile.CompileError.TheVariants.{Memory, NotYet};
-ghost use Rattle.qbec.specs.Compile.{AreProgram, IsFile, IsCompiled, Refuses, IsOurs, SaysAsMuch, text_refusal};
+ghost use Rattle.qbec.specs.declared.compile.CompileError.TheVariants.{Memory};
+ghost use Rattle.qbec.specs.Compile.{AreProgram, IsFile, IsCompiled, Refuses, SaysAsMuch, text_refusal};
 
 use crate::codes::codes_of;
 use crate::texts::{TextError, checked_texts};
@@ -35,8 +34,6 @@ pub enum CompileError {
     Limit,
     /// Memory was refused.
     Memory,
-    /// The texts are a program, for which machine code can't be made yet.
-    NotYet,
 }
 
 impl From<AllocError> for CompileError {
@@ -71,13 +68,10 @@ fn compiled(
 ) -> Result<Vec<u8>, CompileError>
     requires program { IsProgram linked.now.texts.now (program linked.now) }
     requires good { AreGood linked.now.functions }
-    ensures all { MatchResult result (λ v. IsFile (program linked.now) v.items) IsOurs }
-    ensures other { IfErr result (λ e. e ≡ NotYet → HasOther (program linked.now).functions) }
+    ensures { MatchResult result (λ v. IsFile (program linked.now) v.items) (λ e. e ≡ Memory) }
 {
-    match codes_of(alloc, linked.functions.as_slice(), how)? {
-        Some(codes) => file_of(alloc, linked, codes.as_slice()),
-        None => Err(CompileError::NotYet),
-    }
+    let codes = codes_of(alloc, linked.functions.as_slice(), how)?;
+    file_of(alloc, linked, codes.as_slice())
 }
 
 fn name_of(alloc: Global, name: &[u8]) -> Result<Vec<u8>, AllocError>
@@ -123,8 +117,7 @@ fn link_refusal(alloc: Global, error: LinkError<'_>) -> CompileError
 /// # Errors
 ///
 /// `CompileError::Text`, `UnknownName`, `ExportedTwice`, `NoMain` and `Limit` say why the texts are no program, and are answered for no others. `Memory` is
-/// answered only where memory was refused. `NotYet` says that the texts are a program, and that the machine code of one of its functions can't be made yet: of one that
-/// has parameters, calls, or makes or changes memory.
+/// answered only where memory was refused.
 pub fn compile(
     alloc: Global,
     texts: &[&[u8]],
@@ -132,7 +125,7 @@ pub fn compile(
 ) -> Result<Vec<u8>, CompileError>
     ensures file { IfOk result (λ v. IsCompiled texts.now v.items) }
     ensures refused { IfErr result (λ e. Refuses e texts.now) }
-    ensures only { (p : Program) → AreProgram texts.now p → IfErr result IsOurs }
+    ensures only { (p : Program) → AreProgram texts.now p → IfErr result (λ e. e ≡ Memory) }
 {
     match checked_texts(alloc, texts) {
         Ok(checked) => match resolve(alloc, checked.as_slice()) {

@@ -1,11 +1,10 @@
 //! The words of one function.
-ghost use Rattle.std.specs.Prelude.{◌≡◌, ◌+◌, ◌*◌, ◌≤◌, IfOk, IfSome, IsTrue, None, false, length, nat_le};
+ghost use Rattle.std.specs.Prelude.{◌≡◌, ◌+◌, ◌*◌, ◌≤◌, IfOk, IsTrue, length, nat_le};
 ghost use Rattle.il_ast.specs.Cost.{weight};
 ghost use Rattle.phi_copies.specs.Good.{IsGoodFunction};
 ghost use Rattle.vcode.specs.Regular.{code_weight};
 ghost use Rattle.abi_frames.specs.Covered.{is_covered};
 ghost use Rattle.headline.specs.Compiled.{StandFor};
-ghost use Rattle.qbec.specs.Plain.{is_plain};
 ghost use Rattle.qbec.specs.Words.{IsAllocated, IsLocated, IsLaidOut};
 
 use abi_frames::covered::covers;
@@ -58,23 +57,26 @@ pub fn allocated(
     }
 }
 
-/// The function in location code, to be read on bytes.
+/// The function in location code, to be read on bytes, such as frames are made for: as the strategy has it where parameters and what calls take stand in no
+/// register that arguments are passed in, else with every register in a slot of its own.
 ///
 /// # Errors
 ///
 /// Only where memory was refused.
-pub fn located(
-    alloc: Global,
-    func: &Func,
-    how: &mut dyn Strategy,
-) -> Result<FlatFunc, AllocError>
+pub fn located(alloc: Global, func: &Func, how: &mut dyn Strategy) -> Result<FlatFunc, AllocError>
     requires { IsGoodFunction func.now }
-    ensures { IfOk result (λ f. IsLocated func.now f.located.code f.located.slots) }
+    ensures located { IfOk result (λ f. IsLocated func.now f.located.code f.located.slots) }
+    ensures covered { IfOk result (λ f. IsTrue (is_covered f.located.code)) }
 {
     let lowered = lower(alloc, func)?;
     let function = select(alloc, &lowered)?;
     let placed = allocated(alloc, &function, how)?;
-    Ok(flat(placed))
+    let chosen = flat(placed);
+    if covers(&chosen) {
+        return Ok(chosen);
+    }
+    let spilled = spill_all(alloc, &function)?;
+    Ok(flat(spilled))
 }
 
 /// The words of a function's machine code.
@@ -88,7 +90,7 @@ pub fn laid_out(alloc: Global, function: &FlatFunc) -> Result<Code, AllocError>
     Ok(code)
 }
 
-/// The words of a function, or none where the machine code of its frame can't be made yet, which is so of no plain function.
+/// The words of a function.
 ///
 /// # Errors
 ///
@@ -97,15 +99,11 @@ pub fn function_words(
     alloc: Global,
     func: &Func,
     how: &mut dyn Strategy,
-) -> Result<Option<Code>, AllocError>
+) -> Result<Code, AllocError>
     requires { IsGoodFunction func.now }
-    ensures words { IfOk result (λ o. IfSome o (λ c. StandFor func.now c × (length c.words ≤ 32 * weight func.now + 256))) }
-    ensures none { IfOk result (λ o. o ≡ None → is_plain func.now ≡ false) }
+    ensures { IfOk result (λ c. StandFor func.now c × (length c.words ≤ 32 * weight func.now + 256)) }
 {
     let function = located(alloc, func, how)?;
-    if !covers(&function) {
-        return Ok(None);
-    }
     let code = laid_out(alloc, &function)?;
-    Ok(Some(code))
+    Ok(code)
 }

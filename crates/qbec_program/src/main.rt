@@ -9,7 +9,7 @@ mod stream;
 use crate::host_files::HostFiles;
 use crate::stream::Stream;
 use commands::command::command;
-use regalloc::spill_all::SpillAll;
+use regalloc::linear_scan::LinearScan;
 use shell::message::Message;
 use shell::sink::Sink;
 use std::alloc::Global;
@@ -37,7 +37,7 @@ fn perform<R: Env + Files + AllocGlobal, O: Sink, E: Sink>(
     let args: Vec<String> = env::args(rt)?.collect(alloc)?;
     let words = words_of(alloc, args.as_slice())?;
     let mut files = HostFiles::new(rt);
-    let mut how = SpillAll::new(alloc);
+    let mut how = LinearScan::new(alloc);
     Ok(command(
         alloc,
         words.as_slice(),
