@@ -1,5 +1,5 @@
 -- What parsed words ask for: which argument each part of a command is taken from.
-use Rattle.std.specs.Prelude.{◌≡◌, ℕ, ◌^◌, ◌<◌, List, [], map, codes, Some, None, unwrap_or, option_map}
+use Rattle.std.specs.Prelude.{◌≡◌, ◌≢◌, ℕ, ◌^◌, ◌<◌, List, [], map, codes, Option, Some, None, unwrap_or, option_map}
 use Rattle.std.specs.Str.Parse.{IsNumeral, digits_value, without_leading_plus}
 use Rattle.clap.specs.Matches.{found_of, first_value, matched_of, one_text, raw_values}
 use Rattle.clap.specs.declared.parser.matches.ArgMatches.{ArgMatches}
@@ -31,3 +31,8 @@ Asks name m (Run limit file words) =
 Asks name m (Interpret limit file words) =
     (name ≡ codes "interp") × IsLimit m limit × (file.now ≡ word_in m (codes "FILE")) × (map (λ s. s.now) words.items ≡ words_in m (codes "WORDS"))
 Asks name m (Disassemble file) = (name ≡ codes "dis") × (file.now ≡ word_in m (codes "EXE"))
+
+-- the same where no subcommand may have the name: then there is no command
+abbrev pub AsksFor : (name : List ℕ) → ArgMatches → Option Command → Type 0
+AsksFor name m None = (name ≢ codes "build") × (name ≢ codes "run") × (name ≢ codes "interp") × (name ≢ codes "dis")
+AsksFor name m (Some command) = Asks name m command

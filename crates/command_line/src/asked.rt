@@ -1,6 +1,6 @@
 //! What parsed words ask for.
-ghost use Rattle.std.specs.Prelude.{◌≡◌, IfOk, IfSome, codes, map};
-ghost use Rattle.command_line.specs.Asked.{Asks, IsLimit, word_in, words_in};
+ghost use Rattle.std.specs.Prelude.{◌≡◌, IfOk, codes, map};
+ghost use Rattle.command_line.specs.Asked.{Asks, AsksFor, IsLimit, word_in, words_in};
 
 use crate::grammar::{EXECUTABLE, FILES, LIMIT, OUT, TEXT, WORDS};
 use crate::{Command, DEFAULT_LIMIT};
@@ -74,7 +74,7 @@ pub fn asked<'a>(
     name: &str,
     found: &ArgMatches<'a>,
 ) -> Result<Option<Command<'a>>, AllocError>
-    ensures { IfOk result (λ o. IfSome o (Asks name.now found.now)) }
+    ensures { IfOk result (AsksFor name.now found.now) }
 {
     match name {
         "build" => Ok(Some(build_of(alloc, found)?)),
