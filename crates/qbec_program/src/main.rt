@@ -38,14 +38,7 @@ fn perform<R: Env + Files + AllocGlobal, O: Sink, E: Sink>(
     let words = words_of(alloc, args.as_slice())?;
     let mut files = HostFiles::new(rt);
     let mut how = LinearScan::new(alloc);
-    Ok(command(
-        alloc,
-        words.as_slice(),
-        &mut how,
-        &mut files,
-        out,
-        err,
-    ))
+    Ok(command(alloc, words.as_slice(), &mut how, &mut files, out, err))
 }
 
 fn main(rt: HostRuntime) -> ExitCode {
