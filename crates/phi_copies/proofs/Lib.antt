@@ -1,3 +1,4 @@
+pub mod ArgumentLemmas
 pub mod Placing
 pub mod Progress
 pub mod Paths

@@ -1,3 +1,4 @@
+pub mod Arguments
 pub mod Endings
 pub mod Good
 pub mod Keeping

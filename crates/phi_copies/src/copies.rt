@@ -1,11 +1,12 @@
 //! The copies that phis become.
-ghost use Rattle.std.specs.Prelude.{◌≡◌, ℕ, ◌+◌, ◌≤◌, length, nat_eq, IfOk, OnOk, ◌++◌};
+ghost use Rattle.std.specs.Prelude.{◌≡◌, ℕ, ◌+◌, ◌≤◌, length, nat_eq, true, Some, IfOk, IfSome, OnOk, ◌++◌};
 ghost use Rattle.std.specs.List.{find};
 ghost use Rattle.il_ast.specs.declared.block.PhiArg.{PhiArg as PhiArgOf};
+ghost use Rattle.phi_copies.specs.Arguments.{are_distinct, are_all_distinct};
 ghost use Rattle.phi_copies.specs.Lowered.{source, reads, writes, copies_of, entry_copies};
 
 use crate::ending::Assignment;
-use crate::map::{Map, first_number, phis_at};
+use crate::map::{Map, first_number, phis_at, places_for};
 use il_ast::block::{Phi, PhiArg};
 use il_ast::label::Label;
 use il_ast::list::Seq;
@@ -13,8 +14,8 @@ use il_ast::operand::{Dest, Val};
 use il_ast::temp::Temp;
 use std::alloc::{AllocError, Global};
 
-/// The argument of a phi for the block of a label.
-fn argument(args: &[PhiArg], from: Label) -> Option<PhiArg>
+/// The first argument for the block of a label.
+fn search(args: &[PhiArg], from: Label) -> Option<PhiArg>
     ensures { result ≡ find (λ (a : PhiArgOf). nat_eq a.from from) args.now }
 {
     for arg in args {
@@ -25,36 +26,83 @@ fn argument(args: &[PhiArg], from: Label) -> Option<PhiArg>
     None
 }
 
+/// The argument at a place, where that is the one for the block of a label.
+#[tactic(auto, using(crate::proofs::ArgumentLemmas::found_at))]
+fn argument_at(args: &[PhiArg], from: Label, place: usize) -> Option<PhiArg>
+    requires { are_distinct args.now ≡ true }
+    ensures { IfSome result (λ arg. find (λ (a : PhiArgOf). nat_eq a.from from) args.now ≡ Some arg) }
+{
+    match args.get(place) {
+        Some(arg) => {
+            if arg.from.number() == from.number() {
+                Some(*arg)
+            } else {
+                None
+            }
+        }
+        None => None,
+    }
+}
+
+/// The argument of a phi for the block of a label. It is looked for at two places first.
+fn argument(args: &[PhiArg], from: Label, place: usize, other: usize) -> Option<PhiArg>
+    requires { are_distinct args.now ≡ true }
+    ensures { result ≡ find (λ (a : PhiArgOf). nat_eq a.from from) args.now }
+{
+    if let Some(arg) = argument_at(args, from, place) {
+        return Some(arg);
+    }
+    if let Some(arg) = argument_at(args, from, other) {
+        return Some(arg);
+    }
+    search(args, from)
+}
+
 /// What a phi takes from the block of a label; 0 where it has nothing for that, which the rules exclude.
-fn source(from: Label, phi: &Phi) -> Val
+fn source(from: Label, phi: &Phi, place: usize, other: usize) -> Val
+    requires { are_distinct phi.now.args ≡ true }
     ensures { result ≡ source from phi.now }
 {
-    match argument(phi.args.as_slice(), from) {
+    match argument(phi.args.as_slice(), from, place, other) {
         Some(arg) => arg.value,
         None => Val::Int(0),
     }
 }
 
-/// Reads each phi's operand into the temporary of its own.
+/// The place that is noted there, or 0.
+fn noted(places: &[usize], at: usize) -> usize {
+    match places.get(at) {
+        Some(place) => *place,
+        None => 0,
+    }
+}
+
+/// Reads each phi's operand into the temporary of its own. The places of the operands are the first or the last of those that are noted.
 fn push_reads(
     from: Label,
     number: usize,
+    places: &[usize],
     phis: &[Phi],
     copies: &mut Vec<Assignment>,
 ) -> Result<(), AllocError>
-    requires { number + length phis.now ≤ 44000 }
+    requires few { number + length phis.now ≤ 44000 }
+    requires distinct { are_all_distinct phis.now ≡ true }
     ensures { OnOk result (copies.new.items ≡ copies.old.items ++ reads from number phis.now) }
 {
     let mut number = number;
+    let mut at: usize = 0;
+    let mut last = places.len().saturating_sub(phis.len());
     for phi in phis {
         copies.push(Assignment {
             to: Dest {
                 temp: Temp::at(number),
                 class: phi.to.class,
             },
-            value: source(from, phi),
+            value: source(from, phi, noted(places, at), noted(places, last)),
         })?;
         number += 1;
+        at = at.saturating_add(1);
+        last = last.saturating_add(1);
     }
     Ok(())
 }
@@ -80,20 +128,22 @@ fn copies_of(
     alloc: Global,
     from: Label,
     number: usize,
+    places: &[usize],
     phis: &[Phi],
 ) -> Result<Seq<Assignment>, AllocError>
-    requires { number + length phis.now ≤ 44000 }
+    requires few { number + length phis.now ≤ 44000 }
+    requires distinct { are_all_distinct phis.now ≡ true }
     ensures { IfOk result (λ copies. copies ≡ copies_of from number phis.now) }
 {
     let mut copies = Vec::new(alloc);
-    push_reads(from, number, phis, &mut copies)?;
+    push_reads(from, number, places, phis, &mut copies)?;
     push_writes(number, phis, &mut copies)?;
     Ok(Seq::from_vec(copies))
 }
 
 /// The copies where the block at a place is entered from the block of a label.
 
-#[tactic(auto, using(crate::proofs::EntryNumbers::entry_small, crate::proofs::EntryNumbers::entry_found, crate::proofs::EntryNumbers::entry_unnumbered))]
+#[tactic(auto, using(crate::proofs::ArgumentLemmas::good_distinct, crate::proofs::EntryNumbers::entry_small, crate::proofs::EntryNumbers::entry_found, crate::proofs::EntryNumbers::entry_unnumbered))]
 pub fn entry_copies(
     alloc: Global,
     map: &Map<'_>,
@@ -103,7 +153,13 @@ pub fn entry_copies(
     ensures { IfOk result (λ copies. copies ≡ entry_copies map.now.func.now from place) }
 {
     match first_number(map, place) {
-        Some(first) => copies_of(alloc, from, first, phis_at(map, place)),
+        Some(first) => copies_of(
+            alloc,
+            from,
+            first,
+            places_for(map, from),
+            phis_at(map, place),
+        ),
         None => Ok(Seq::new(alloc)),
     }
 }

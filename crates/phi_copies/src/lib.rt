@@ -6,7 +6,7 @@
 //! place of its jump, [`ending::Ending`]: what turn and weight it spends, copies, and where it leaves to. The phis of a block are done where the block is entered
 //! from: each operand is read into a temporary of the phi's own, and then each is written. After a branch they stand in a block of their own, an edge, so that they
 //! are done on that way alone. The lowered function keeps what the function means, turn for turn (`specs/Endings` has what it does, `specs/Lowered` what it is,
-//! `specs/Keeping` what it owes; `laws::lowering_keeps`). The work is linear in the function, but that an argument of a phi is searched among the phi's.
+//! `specs/Keeping` what it owes; `laws::lowering_keeps`). The work is linear in the function: where an argument of a phi stands is noted once for its label, and looked up there.
 //!
 //! `sequence::sequence` puts copies that are to be done at once in an order. Places are numbers, and the scratch place is one that no move names. Done one after
 //! another, the moves of the answer leave in each destination what its source held before, and change no other place but scratch. For n moves between two places
@@ -21,6 +21,7 @@
 //! The crate stands on `il_ast` for functions and their meaning, and on `il_types` for the rules that they keep.
 #![tactic(auto)]
 
+mod arguments;
 mod copies;
 mod edges;
 pub mod ending;

@@ -7,17 +7,20 @@ ghost use Rattle.phi_copies.specs.Lowered.{target, phis_at};
 ghost use Rattle.phi_copies.specs.Map.{place_in, first_numbers};
 ghost use Rattle.std.proofs.Props.{props};
 
+use crate::arguments::argument_places;
 use il_ast::block::{Block, Phi};
 use il_ast::function::Func;
 use il_ast::label::Label;
 use std::alloc::{AllocError, Global};
 
-/// A function, with the place of each label's block and the number of the first temporary for each block's phis.
+/// A function, with the place of each label's block and the number of the first temporary for each block's phis; and where to look for the arguments of phis for
+/// each label, which nothing is promised of.
 #[derive(Drop)]
 pub struct Map<'a> {
     pub func: &'a Func,
     pub places: Vec<Option<usize>>,
     pub firsts: Vec<usize>,
+    pub arguments: Vec<Vec<usize>>,
     pub ghost good: { IsGoodFunction func.now } by { Prim.hlevel props },
     pub ghost places_are: { (l : ℕ) → place_in places.items l ≡ place_of func.now.blocks l } by { Prim.hlevel props },
     pub ghost firsts_are: { firsts.items ≡ first_numbers (length func.now.temps) func.now.blocks } by { Prim.hlevel props },
@@ -30,10 +33,12 @@ pub fn map_of<'a>(alloc: Global, func: &'a Func) -> Result<Map<'a>, AllocError>
 {
     let places = block_places(alloc, func.blocks.as_slice())?;
     let firsts = count_phis(alloc, func)?;
+    let arguments = argument_places(alloc, func)?;
     Ok(Map {
         func,
         places,
         firsts,
+        arguments,
     })
 }
 
@@ -102,4 +107,12 @@ pub fn first_number(map: &Map<'_>, place: usize) -> Option<usize>
     ensures { result ≡ slice_get map.now.firsts.items place }
 {
     map.firsts.get(place).copied()
+}
+
+/// Where to look for the arguments of phis for the block of a label: for those of the one block that it leads to, and then for those of the other.
+pub fn places_for<'a>(map: &'a Map<'_>, label: Label) -> &'a [usize] {
+    match map.arguments.get(label.number()) {
+        Some(places) => places.as_slice(),
+        None => &[],
+    }
 }
