@@ -1,6 +1,7 @@
 -- An activation of a function: where its places are, and what holds in each state of its run.
-use Rattle.std.proofs.Common.{◌≡◌, ◌≢◌, ℕ, ◌+◌, ◌-◌, ◌*◌, ◌%◌, ◌^◌, ◌<◌, ◌≤◌, Bool, true, false, List, refl, ◌∙◌, ap, arith, lit<}
-use Rattle.std.specs.Prelude.{nat_eq, nat_lt, nat_le, if◌then◌else◌, slice_get, Option, Some}
+use Rattle.std.proofs.Common.{◌≡◌, ◌≢◌, ℕ, ◌+◌, ◌-◌, ◌*◌, ◌%◌, ◌^◌, ◌<◌, ◌≤◌, Bool, true, false, List, [], ◌∷◌, refl, sym, ◌∙◌, ap, arith, lit<}
+use Rattle.std.specs.Prelude.{◌&&◌, ◌||◌, not, length, nat_eq, nat_lt, nat_le, if◌then◌else◌, slice_get, Option, Some}
+use Rattle.std.specs.List.{list_all}
 use Rattle.std.proofs.lemmas.Bool.{and_parts}
 use Rattle.std.proofs.lemmas.Bool.Decides.{nat_tests}
 use Rattle.std.proofs.lemmas.Option.{slice_get_within}
@@ -15,12 +16,19 @@ use Rattle.vcode.specs.declared.place.Operand.TheVariants.{At, Number, Name}
 use Rattle.vcode.specs.Named.{is_place, operand_keeps}
 use Rattle.flat_code.specs.Spots.{Spot, Away, Known, Spots}
 use Rattle.flat_code.specs.Step.{Numbers, put, number_of}
-use Rattle.abi_frames.specs.Calls.{World, IsWorld, HoldsSpots}
-use Rattle.abi_frames.specs.Layout.{saved_registers}
+use Rattle.abi_frames.specs.Calls.{World, IsWorld, HoldsSpots, is_kept}
 use Rattle.abi_frames.specs.declared.layout.Layout.{Layout}
 use Rattle.abi_frames.specs.Emission.{slot_offset}
 use Rattle.abi_frames.proofs.Leading.{Site, IsReg}
 use Rattle.abi_frames.proofs.Instructions.{UsableFrom}
+
+-- registers that a frame can save
+abbrev pub can_save : ℕ → Bool
+can_save r = (nat_lt 0 r && nat_lt r 28) && (not (nat_eq r 2) && not (nat_eq r 10))
+
+abbrev pub is_among : ℕ → List ℕ → Bool
+is_among n [] = false
+is_among n (r ∷ rs) = nat_eq n r || is_among n rs
 
 -- what stays during an activation
 pub record Setting : Type 0 where
@@ -29,6 +37,7 @@ pub record Setting : Type 0 where
   pub global : ℕ → ℕ
   pub addresses : List ℕ
   pub layout : Layout
+  pub saved : List ℕ
   pub slots : ℕ
   pub area : ℕ
   pub sp : ℕ
@@ -55,8 +64,11 @@ pub record IsSetting (c : Setting) : Type 0 where
   pub below : c.sp ≤ c.world.top
   pub fits : c.layout.slots + 8 * c.slots + c.area ≤ c.layout.size
   pub blocks : c.layout.area + c.area ≡ c.layout.size
-  pub saves_fit : c.layout.saves + 104 ≤ c.layout.slots
+  pub saves_fit : c.layout.saves + 8 * length c.saved ≤ c.layout.slots
   pub saves_near : c.layout.saves < 1024
+  pub slots_near : c.layout.slots < 1024
+  pub savable : list_all can_save c.saved ≡ true
+  pub return_saved : is_among 1 c.saved ≡ true
   pub small : c.layout.size < 2 ^ 21
 
 -- ---- places
@@ -118,8 +130,8 @@ pub record Framed (c : Setting) (numbers : Numbers) (memory : Spots) (u : State)
   pub spots : HoldsSpots c.world.memory_map memory u
   pub clear : (x : ℕ) → bottom c ≤ x → x < c.sp - c.area → memory x ≡ Away
   pub reach : (x : ℕ) → c.sp ≤ x → c.before x ≡ Away → memory x ≡ Away
-  pub saved : (k r : ℕ) → slice_get saved_registers k ≡ Some r → number_at u.bytes (save_at c k) 8 ≡ c.start.registers r
-  pub thread : (n : ℕ) → 2 < n → n < 5 → u.registers n ≡ c.start.registers n
+  pub saved : (k r : ℕ) → slice_get c.saved k ≡ Some r → number_at u.bytes (save_at c k) 8 ≡ c.start.registers r
+  pub thread : (n : ℕ) → is_kept n ≡ true → n ≢ 2 → is_among n c.saved ≡ false → u.registers n ≡ c.start.registers n
   pub others : (x : ℕ) → c.sp ≤ x → c.before x ≡ Away → u.bytes x ≡ c.start.bytes x
 
 some_is : (a b : ℕ) → Some a ≡ Some b → a ≡ b
@@ -159,6 +171,26 @@ eq_is a b h = grind (arith, nat_tests)
 ne_is : (a b : ℕ) → nat_eq a b ≡ false → a ≢ b
 ne_is a b h e = absurd (let no : ⊥ = grind (arith, nat_tests) in no)
 
+-- ---- the registers that a callee keeps
+
+pub kept_below : (n : ℕ) → is_kept n ≡ true → n < 28
+kept_below n h = grind (arith, nat_tests)
+
+pub kept_not_10 : (n : ℕ) → is_kept n ≡ true → n ≢ 10
+kept_not_10 n h e = absurd (let no : ⊥ = grind (arith, nat_tests) in no)
+
+-- a place that may be written where these registers are saved
+abbrev pub MayWrite : List ℕ → Location → Type 0
+MayWrite rs (InRegister r) = is_kept r ≡ true → is_among r rs ≡ true
+MayWrite rs (Slot i) = Unit {0}
+
+two_ways : (b : Bool) → b ≡ true → b ≡ false → ⊥
+two_ways b e d = cc
+
+not_written : (rs : List ℕ) (n r : ℕ) → is_kept n ≡ true → is_among n rs ≡ false → MayWrite rs (InRegister r) → n ≢ r
+not_written rs n r kept out may e =
+    two_ways (is_among n rs) (ap (λ m. is_among m rs) e ∙ may (ap is_kept (sym e) ∙ kept)) out
+
 -- a register is written
 register_place : (c : Setting) (numbers : Numbers) (memory : Spots) (s u : State) (r v : ℕ) (o : Option ℕ) → Framed c numbers memory s
     → InPlace s r v u → ((x : ℕ) → o ≡ Some x → v ≡ x)
@@ -176,9 +208,9 @@ register_place c numbers memory s u r v o framed h value (Slot i) x good known =
 spots_same : (g : Ground) (f : Spots) (s u : State) → u.bytes ≡ s.bytes → HoldsSpots g f s → HoldsSpots g f u
 spots_same g f s u e h = record { known = λ x n k. ap (λ (m : ℕ → ℕ). m x) e ∙ h.known x n k; usable = h.usable }
 
-register_assigned : (c : Setting) (numbers : Numbers) (memory : Spots) (s u : State) (r v : ℕ) (o : Option ℕ) → Framed c numbers memory s → IsPlace r
+register_assigned : (c : Setting) (numbers : Numbers) (memory : Spots) (s u : State) (r v : ℕ) (o : Option ℕ) → Framed c numbers memory s → IsPlace r → MayWrite c.saved (InRegister r)
     → InPlace s r v u → ((x : ℕ) → o ≡ Some x → v ≡ x) → Framed c (put (InRegister r) o numbers) memory u
-register_assigned c numbers memory s u r v o framed is h value =
+register_assigned c numbers memory s u r v o framed is may h value =
     let lo = is.from_5 in
     record {
       pointer = h.others 2 (lit< tt) (λ e. absurd (omega (arith, e, lo))) ∙ framed.pointer;
@@ -187,7 +219,7 @@ register_assigned c numbers memory s u r v o framed is h value =
       clear = framed.clear;
       reach = framed.reach;
       saved = λ k q e. ap (λ (m : ℕ → ℕ). number_at m (save_at c k) 8) h.bytes ∙ framed.saved k q e;
-      thread = λ n above below. h.others n (omega (arith, below)) (λ e. absurd (omega (arith, e, lo, below))) ∙ framed.thread n above below;
+      thread = λ n kept other out. h.others n (kept_below n kept) (not_written c.saved n r kept out may) ∙ framed.thread n kept other out;
       others = λ x above away. ap (λ (m : ℕ → ℕ). m x) h.bytes ∙ framed.others x above away;
     }
 
@@ -251,20 +283,19 @@ slot_assigned c is numbers memory s u i v o small few framed h value =
       clear = framed.clear;
       reach = framed.reach;
       saved = λ k q e.
-          let within = slice_get_within saved_registers k q e in
-          let few_saves : k < 13 = within in
+          let few_saves : k < length c.saved = slice_get_within c.saved k q e in
           ap (λ (m : ℕ → ℕ). number_at m (save_at c k) 8) h.bytes
           ∙ (read_below s.bytes (slot_at c i) 8 v (save_at c k) 8 (omega (arith, few_saves, saves)) ∙ framed.saved k q e);
-      thread = λ n a b. h.registers n (omega (arith, b)) ∙ framed.thread n a b;
+      thread = λ n kept other out. h.registers n (kept_below n kept) ∙ framed.thread n kept other out;
       others = λ x high away.
           ap (λ (m : ℕ → ℕ). m x) h.bytes
           ∙ (stored_above s.bytes (slot_at c i) 8 v x (omega (arith, high, fits, above, few)) ∙ framed.others x high away);
     }
 
 pub assigned : (c : Setting) → IsSetting c → (numbers : Numbers) (memory : Spots) (s u : State) (p : Location) (v : ℕ) (o : Option ℕ)
-    → is_place c.slots p ≡ true → Framed c numbers memory s → Assigned c s p v u → ((x : ℕ) → o ≡ Some x → v ≡ x)
+    → is_place c.slots p ≡ true → MayWrite c.saved p → Framed c numbers memory s → Assigned c s p v u → ((x : ℕ) → o ≡ Some x → v ≡ x)
     → Framed c (put p o numbers) memory u
-assigned c is numbers memory s u (InRegister r) v o good framed h value =
-    register_assigned c numbers memory s u r v o framed (place_is c.slots r good) h value
-assigned c is numbers memory s u (Slot i) v o good framed h value =
+assigned c is numbers memory s u (InRegister r) v o good may framed h value =
+    register_assigned c numbers memory s u r v o framed (place_is c.slots r good) may h value
+assigned c is numbers memory s u (Slot i) v o good may framed h value =
     slot_assigned c is numbers memory s u i v o h.small (slot_is c.slots i good) framed h value

@@ -39,12 +39,12 @@ use Rattle.abi_frames.specs.Covered.{is_off_arguments, covers_line}
 use Rattle.abi_frames.specs.Emission.{fetch, source, pass_all, call_through, receive_items, lines_items, jump_items}
 use Rattle.abi_frames.proofs.Leading.{StandAt, Reaches, Leads, leads_nowhere, leads_so}
 use Rattle.abi_frames.proofs.Instructions.{is_28}
-use Rattle.abi_frames.proofs.Activations.{Setting, IsSetting, site, bottom, operand_in, Framed, operand_known, Assigned, assigned, assigned_output}
+use Rattle.abi_frames.proofs.Activations.{Setting, IsSetting, site, bottom, operand_in, Framed, operand_known, Assigned, MayWrite, assigned, assigned_output}
 use Rattle.abi_frames.proofs.LineCode.{leads_set_line, source_reg}
 use Rattle.abi_frames.proofs.Sizes.{call_parts, le_is}
 use Rattle.abi_frames.proofs.Passing.{can_pass}
 use Rattle.abi_frames.proofs.Calling.{leads_prepared, gone_to, goes_through, ready, SameFrame, same_frame, framed_back}
-use Rattle.abi_frames.proofs.Simulation.{CodeStands, At, Performed, step_of, Log, Follows, Then, undefined, stands_here, nothing_taken, later_fits, next_index}
+use Rattle.abi_frames.proofs.Simulation.{CodeStands, At, Performed, step_of, Log, Follows, Then, undefined, stands_here, nothing_taken, later_fits, next_index, may_write}
 
 -- ---- what is known of the line
 
@@ -206,16 +206,16 @@ some_is a b e = cc
 
 -- the result that is wanted, from x10
 received : (c : Setting) → IsSetting c → (numbers : Numbers) (now : Spots) (w : State) (d : Destination Location) (n : ℕ) → Framed c numbers now w
-    → is_place c.slots d.place ≡ true → w.registers 10 ≡ passed d.class n
+    → is_place c.slots d.place ≡ true → MayWrite c.saved d.place → w.registers 10 ≡ passed d.class n
     → Leads (site c) (receive_items c.layout (Some d)) w
     (λ z. Framed c (put d.place (Some (held d.class n)) numbers) now z × (z.output ≡ w.output))
-received c is numbers now w d n framed good result =
+received c is numbers now w d n framed good may result =
     let v : ℕ = w.registers 10 in
     leads_so (site c) (receive_items c.layout (Some d)) w (Assigned c w d.place v)
     (λ z. Framed c (put d.place (Some (held d.class n)) numbers) now z × (z.output ≡ w.output))
     (leads_set_line c is w d.place (In (InRegister 10)) framed.pointer good refl)
     (λ z fixed made. (
-      assigned c is numbers now w z d.place v (Some (held d.class n)) good framed made
+      assigned c is numbers now w z d.place v (Some (held d.class n)) good may framed made
           (λ y e. result ∙ (held_is_passed d.class n ∙ some_is (held d.class n) y e)),
       assigned_output c w d.place v z made,
     ))
@@ -243,7 +243,8 @@ returned c f is j r n go b (Some q) callee args lines fs k u a at given d t (Som
     let tail : List Item = (lines_items c.layout (a.used + 0) lines ++ jump_items c.layout b.jump) ++ a.rest in
     let numbers : Numbers = put q.place (Some (held q.class v)) (kept fs.numbers) in
     let line = call_line c f b (Some q) callee args lines fs k u a in
-    let m = (received c is.setting (kept fs.numbers) now back.after q v framed line.wanted back.result).from tail
+    let may = may_write c f is b (Call (Some q) callee args) lines fs k u a q.place line.wanted (λ n. refl) in
+    let m = (received c is.setting (kept fs.numbers) now back.after q v framed line.wanted may back.result).from tail
     (subst (λ p. StandAt (site c) (receive_items c.layout (Some q) ++ tail) p) (sym back.back.place) d.stands) back.back.fixed in
     go b lines (record fs { next = fs.next + 1; numbers = numbers; memory = now; spent = both fs.spent t })
     (k + (d.steps + (back.steps + m.steps))) m.after

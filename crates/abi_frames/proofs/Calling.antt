@@ -27,7 +27,6 @@ use Rattle.flat_code.specs.Spots.{Spot, Away, Known, Spots, SameReach}
 use Rattle.flat_code.specs.Step.{Numbers, kept, number_of, read_all, taken}
 use Rattle.abi_frames.specs.Calls.{Ready, Back, is_kept, passed}
 use Rattle.abi_frames.specs.Covered.{is_off_arguments}
-use Rattle.abi_frames.specs.Layout.{saved_registers}
 use Rattle.abi_frames.specs.Emission.{reg, low, fetch, source, pass_all, call_through}
 use Rattle.abi_frames.proofs.ConstantNumbers.{near_moves}
 use Rattle.abi_frames.proofs.Leading.{Site, StandAt, Leads, leads_then, leads_so, stepped, IsReg, register_reg}
@@ -297,7 +296,7 @@ places_back c is numbers memory now s v w framed same back (Slot i) x good known
     ∙ framed.places (Slot i) x good known
 
 saved_back : (c : Setting) → IsSetting c → (numbers : Numbers) (memory now : Spots) (s v w : State) → Framed c numbers memory s → SameFrame c s v
-    → Back c.world (bottom c) memory v now w → (k r : ℕ) → k < 13 → slice_get saved_registers k ≡ Some r
+    → Back c.world (bottom c) memory v now w → (k r : ℕ) → k < length c.saved → slice_get c.saved k ≡ Some r
     → number_at w.bytes (save_at c k) 8 ≡ c.start.registers r
 saved_back c is numbers memory now s v w framed same back k r few e =
     let saves = is.saves_fit in
@@ -323,12 +322,9 @@ framed_back c is numbers memory now s v w framed same back stays =
       clear = λ x lo hi. stays x (framed.clear x lo hi);
       reach = λ x hi away. stays x (framed.reach x hi away);
       saved = λ k r e.
-          let few : k < 13 = slice_get_within saved_registers k r e in
+          let few : k < length c.saved = slice_get_within c.saved k r e in
           saved_back c is numbers memory now s v w framed same back k r few e;
-      thread = λ n lo hi. let thread = threads n lo hi in back.kept n thread ∙ (same.registers n thread ∙ framed.thread n lo hi);
+      thread = λ n k other out. back.kept n k ∙ (same.registers n k ∙ framed.thread n k other out);
       others = λ x hi away.
           byte_back c memory now s v w same back x (omega (arith, hi, saves, frame, above)) (framed.reach x hi away) ∙ framed.others x hi away;
     }
-  where
-    threads : (n : ℕ) → 2 < n → n < 5 → is_kept n ≡ true
-    threads n lo hi = grind (arith, nat_tests)

@@ -19,7 +19,8 @@ use Rattle.abi_frames.specs.Functions.{caller_pointer, from_register, from_stack
 use Rattle.abi_frames.proofs.ConstantNumbers.{near_moves}
 use Rattle.abi_frames.proofs.Leading.{Site, Leads, leads_nowhere, leads_then, leads_so, leads_fixed, leads_again, Sets, IsReg, register_reg}
 use Rattle.abi_frames.proofs.Instructions.{UsableFrom, Writes, leads_add_low, leads_sum, leads_constant, leads_load, leads_store_slot, near_address, is_2, is_28}
-use Rattle.abi_frames.proofs.Activations.{Setting, IsSetting, site, bottom, slot_at, place_is, place_reg, slot_is, slot_in_frame, Framed, Assigned, assigned, assigned_output}
+use Rattle.abi_frames.proofs.Activations.{Setting, IsSetting, site, bottom, slot_at, place_is, place_reg, slot_is, slot_in_frame, Framed, Assigned, MayWrite, assigned, assigned_output}
+use Rattle.abi_frames.proofs.Saving.{AllMayWrite}
 use Rattle.abi_frames.proofs.Simulation.{framed_same}
 
 -- ---- what holds before an argument is taken
@@ -195,10 +196,10 @@ took_keeps_stack c is s (Slot i) v u good h x above =
     ap (λ (m : ℕ → ℕ). m x) h.bytes ∙ stored_above s.bytes (slot_at c i) 8 v x (omega (arith, few, fits, bottom_fits, above))
 
 entering_more : (c : Setting) → IsSetting c → (params : ℕ) (numbers : Numbers) (s : State) (p : Location) (v : ℕ) (o : Option ℕ) (u : State)
-    → is_place c.slots p ≡ true → is_off_arguments p ≡ true → ((x : ℕ) → o ≡ Some x → v ≡ x) → Entering c params numbers s → Took c s p v u
+    → is_place c.slots p ≡ true → MayWrite c.saved p → is_off_arguments p ≡ true → ((x : ℕ) → o ≡ Some x → v ≡ x) → Entering c params numbers s → Took c s p v u
     → Entering c params (put p o numbers) u
-entering_more c is params numbers s p v o u good off value entering took = record {
-  framed = assigned c is numbers c.before s u p v o good entering.framed took.assigned value;
+entering_more c is params numbers s p v o u good may off value entering took = record {
+  framed = assigned c is numbers c.before s u p v o good may entering.framed took.assigned value;
   output = assigned_output c s p v u took.assigned ∙ entering.output;
   registers = λ k few. took_keeps_registers c s p v u off took.assigned k few ∙ entering.registers k few;
   stack = λ x above. took_keeps_stack c is s p v u good took.assigned x above ∙ entering.stack x above;
@@ -301,6 +302,7 @@ pub record CanTake (c : Setting) (params k : ℕ) (ds : List (Destination Locati
   pub fits : c.sp + 8 * (params - 8) ≤ c.world.top
   pub places : list_all (λ (d : Destination Location). is_place c.slots d.place) ds ≡ true
   pub off : covers_params ds ≡ true
+  pub may : AllMayWrite c.saved ds
 
 can_take_more : (c : Setting) (params k : ℕ) (d : Destination Location) (ds : List (Destination Location)) → CanTake c params k (d ∷ ds) → CanTake c params (k + 1) ds
 can_take_more c params k d ds can =
@@ -311,6 +313,7 @@ can_take_more c params k d ds can =
       fits = can.fits;
       places = (and_parts (is_place c.slots d.place) (list_all (λ (e : Destination Location). is_place c.slots e.place) ds) can.places).1;
       off = (and_parts (is_off_arguments d.place) (covers_params ds) can.off).1;
+      may = can.may.1;
     }
 
 -- one more of them
@@ -324,7 +327,7 @@ leads_next c is params k d ds numbers o s can value entering =
     leads_so (site c) (argument_items c.layout k d.place) s (Took c s d.place (argument_in c s k)) (Entering c params (put d.place o numbers))
     (leads_argument c is params k d.place numbers s (omega (arith, count)) can.few can.fits entering good)
     (λ u f took.
-    entering_more c is params numbers s d.place (argument_in c s k) o u good off (λ x e. argument_same c params k numbers s entering ∙ value x e) entering took)
+    entering_more c is params numbers s d.place (argument_in c s k) o u good can.may.0 off (λ x e. argument_same c params k numbers s entering ∙ value x e) entering took)
 
 no_value : (a x : ℕ) → None ≡ Some x → a ≡ x
 no_value a x e = absurd (let no : ⊥ = cc in no)

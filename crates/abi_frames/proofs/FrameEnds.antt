@@ -1,6 +1,6 @@
 -- What the begin and the end of a frame do.
-use Rattle.std.proofs.Common.{◌≡◌, ◌≢◌, ℕ, zero, suc, ◌+◌, ◌*◌, ◌%◌, ◌^◌, ◌<◌, ◌≤◌, Bool, true, false, List, [], ◌∷◌, ◌++◌, refl, sym, ◌∙◌, ap, subst, arith, lit<, inl, inr}
-use Rattle.std.specs.Prelude.{◌⊎◌, ◌||◌, ◌&&◌, not, nat_eq, nat_lt, if◌then◌else◌, slice_get, length, Some, Ok}
+use Rattle.std.proofs.Common.{◌≡◌, ◌≢◌, ℕ, zero, suc, ◌+◌, ◌*◌, ◌%◌, ◌^◌, ◌<◌, ◌≤◌, Bool, true, false, List, [], ◌∷◌, ◌++◌, refl, sym, ◌∙◌, ap, subst, arith, lit<}
+use Rattle.std.specs.Prelude.{◌||◌, ◌&&◌, not, nat_eq, nat_lt, if◌then◌else◌, slice_get, length, Some, Ok}
 use Rattle.std.specs.List.{list_all}
 use Rattle.std.proofs.lemmas.Bool.{and_parts}
 use Rattle.std.proofs.lemmas.Bool.Decides.{nat_tests}
@@ -17,12 +17,11 @@ use Rattle.rv_isa.proofs.MemoryLemmas.{number_same, stored_below, stored_above, 
 use Rattle.rv_isa.proofs.RunLemmas.{comes_by_step, comes_then}
 use Rattle.vcode.specs.Cost.{is_immediate}
 use Rattle.abi_frames.specs.Calls.{is_kept}
-use Rattle.abi_frames.specs.Layout.{saved_registers}
 use Rattle.abi_frames.specs.Emission.{reg, low, add_low, sum_to, constant, load_8, store_8, move_pointer, save_all, restore_all, go_back, epilogue}
 use Rattle.abi_frames.proofs.ConstantNumbers.{immediate_adds, near_moves}
 use Rattle.abi_frames.proofs.Leading.{Site, StandAt, Leads, leads_nowhere, leads_then, leads_so, leads_fixed, longest-append, stepped, Sets, IsReg, register_reg}
 use Rattle.abi_frames.proofs.Instructions.{Writes, leads_add_low, leads_sum, leads_constant, leads_load, leads_store, near_address, is_2, is_28}
-use Rattle.abi_frames.proofs.Activations.{Setting, IsSetting, site, bottom, save_at, in_frame}
+use Rattle.abi_frames.proofs.Activations.{Setting, IsSetting, site, bottom, save_at, in_frame, can_save, is_among, kept_below}
 use Rattle.std.proofs.Common.{append_assoc}
 
 -- ---- the stack pointer
@@ -61,9 +60,6 @@ leads_move_pointer c s n = by_test (is_immediate n) refl
 
 -- ---- saved registers
 
-abbrev pub can_save : ℕ → Bool
-can_save r = (nat_lt 0 r && nat_lt r 28) && not (nat_eq r 2)
-
 pub record Savable (r : ℕ) : Type 0 where
   pub reg : IsReg r
   pub below : r < 28
@@ -73,13 +69,14 @@ not_is_false : (b : Bool) → not b ≡ true → b ≡ false
 not_is_false true e = absurd (let no : ⊥ = cc in no)
 not_is_false false e = refl
 
-savable : (r : ℕ) → can_save r ≡ true → Savable r
+pub savable : (r : ℕ) → can_save r ≡ true → Savable r
 savable r h =
-    let parts = and_parts (nat_lt 0 r && nat_lt r 28) (not (nat_eq r 2)) h in
+    let parts = and_parts (nat_lt 0 r && nat_lt r 28) (not (nat_eq r 2) && not (nat_eq r 10)) h in
     let range = and_parts (nat_lt 0 r) (nat_lt r 28) parts.0 in
+    let others = and_parts (not (nat_eq r 2)) (not (nat_eq r 10)) parts.1 in
     let lo = range.0 in
     let hi = range.1 in
-    let other = not_is_false (nat_eq r 2) parts.1 in
+    let other = not_is_false (nat_eq r 2) others.0 in
     let below : r < 28 = grind (arith, nat_tests) in
     record {
       reg = record { some = grind (arith, nat_tests); small = omega (arith, below) };
@@ -121,17 +118,16 @@ saved_more c o r rs s u w small good one rest (suc k) q e =
     each (x ∷ xs) (suc i) h f = each xs i (and_parts (can_save x) (list_all can_save xs) h).1 f
 
 pub leads_save_all : (c : Setting) → IsSetting c → (s : State) (o : ℕ) (rs : List ℕ) → s.registers 2 ≡ bottom c → list_all can_save rs ≡ true
-    → o + 8 * length rs ≤ c.layout.saves + 104 → Leads (site c) (save_all o rs) s (AllSaved c o rs s)
+    → o + 8 * length rs ≤ c.layout.slots → Leads (site c) (save_all o rs) s (AllSaved c o rs s)
 leads_save_all c is s o [] pointer good h =
     leads_nowhere (site c) s (AllSaved c o [] s)
     (record { saved = λ k r e. absurd (let no : ⊥ = cc in no); below = λ x lo. refl; above = λ x hi. refl; registers = λ n lo. refl; output = refl })
 leads_save_all c is s o (r ∷ rs) pointer good h =
     let parts = and_parts (can_save r) (list_all can_save rs) good in
     let ok = savable r parts.0 in
-    let saves = is.saves_fit in
     let fits = is.fits in
-    let near = is.saves_near in
-    let inside = in_frame c is o (omega (arith, h, saves, fits)) in
+    let near = is.slots_near in
+    let inside = in_frame c is o (omega (arith, h, fits)) in
     leads_fixed (site c) (save_all o (r ∷ rs)) s (AllSaved c o (r ∷ rs) s)
     (λ fixed.
     leads_then (site c) (store_8 r 2 o ∷ []) (save_all (o + 8) rs) s (Writes s (bottom c + o) (s.registers r)) (AllSaved c o (r ∷ rs) s)
@@ -151,10 +147,6 @@ leads_save_all c is s o (r ∷ rs) pointer good h =
     })))
 
 -- ---- registers are restored
-
-abbrev pub is_among : ℕ → List ℕ → Bool
-is_among n [] = false
-is_among n (r ∷ rs) = nat_eq n r || is_among n rs
 
 pub record AllRestored (c : Setting) (rs : List ℕ) (s u : State) : Type 0 where
   pub gains : (n : ℕ) → is_among n rs ≡ true → u.registers n ≡ c.start.registers n
@@ -184,7 +176,7 @@ gains_more c r rs s u w one rest n h = by_test (nat_eq n r) refl (is_among n rs)
     by_test false e false f k = absurd (let no : ⊥ = cc in no)
 
 pub leads_restore_all : (c : Setting) → IsSetting c → (s : State) (o : ℕ) (rs : List ℕ) → s.registers 2 ≡ bottom c → list_all can_save rs ≡ true
-    → o + 8 * length rs ≤ c.layout.saves + 104
+    → o + 8 * length rs ≤ c.layout.slots
     → ((k r : ℕ) → slice_get rs k ≡ Some r → number_at s.bytes (bottom c + (o + 8 * k)) 8 ≡ c.start.registers r)
     → Leads (site c) (restore_all o rs) s (AllRestored c rs s)
 leads_restore_all c is s o [] pointer good h held =
@@ -193,10 +185,9 @@ leads_restore_all c is s o [] pointer good h held =
 leads_restore_all c is s o (r ∷ rs) pointer good h held =
     let parts = and_parts (can_save r) (list_all can_save rs) good in
     let ok = savable r parts.0 in
-    let saves = is.saves_fit in
     let fits = is.fits in
-    let near = is.saves_near in
-    let inside = in_frame c is o (omega (arith, h, saves, fits)) in
+    let near = is.slots_near in
+    let inside = in_frame c is o (omega (arith, h, fits)) in
     leads_fixed (site c) (restore_all o (r ∷ rs)) s (AllRestored c (r ∷ rs) s)
     (λ fixed.
     leads_then (site c) (load_8 r 2 o ∷ []) (restore_all (o + 8) rs) s (Sets s r (number_at s.bytes (bottom c + o) 8)) (AllRestored c (r ∷ rs) s)
@@ -300,58 +291,50 @@ pub record Left (c : Setting) (s u : State) : Type 0 where
   pub bytes : u.bytes ≡ s.bytes
   pub output : u.output ≡ s.output
 
--- a kept register is the stack pointer, one of the two that no code writes, or saved
-pub kept_is : (n : ℕ) → is_kept n ≡ true → (n ≡ 2) ⊎ ((2 < n) × (n < 5) ⊎ (is_among n saved_registers ≡ true))
-kept_is n h = by_test (nat_eq n 2) refl (nat_lt n 5) refl
+-- a register that can't be saved isn't
+not_among : (n : ℕ) (rs : List ℕ) → can_save n ≡ false → list_all can_save rs ≡ true → is_among n rs ≡ false
+not_among n [] never good = refl
+not_among n (r ∷ rs) never good =
+    let parts = and_parts (can_save r) (list_all can_save rs) good in
+    by_test parts.0 (not_among n rs never parts.1) (nat_eq n r) refl
   where
-    by_test : (a : Bool) → nat_eq n 2 ≡ a → (b : Bool) → nat_lt n 5 ≡ b → (n ≡ 2) ⊎ ((2 < n) × (n < 5) ⊎ (is_among n saved_registers ≡ true))
-    by_test true e b f = inl (eq_is n 2 e)
-    by_test false e true f =
-        let other = ne_is n 2 e in
-        inr (inl (grind (arith, nat_tests), grind (arith, nat_tests)))
-    by_test false e false f = inr (inr (grind (arith, nat_tests)))
+    two_ways : (b : Bool) → b ≡ true → b ≡ false → ⊥
+    two_ways b e d = cc
+
+    by_test : can_save r ≡ true → is_among n rs ≡ false → (b : Bool) → nat_eq n r ≡ b → (b || is_among n rs) ≡ false
+    by_test one rest true e = absurd (two_ways (can_save n) (ap can_save (eq_is n r e) ∙ one) never)
+    by_test one rest false e = rest
 
 sum_back : (b n : ℕ) → b + n < 2 ^ 64 → (b + n) % 2 ^ 64 ≡ b + n
 sum_back b n h = omega (arith, h)
 
 -- the end of a frame: the registers are as at its begin, and the machine is back at its caller
 pub ends_frame : (c : Setting) → IsSetting c → (s : State) → s.registers 2 ≡ bottom c → c.start.registers 2 ≡ c.sp → c.start.registers 1 % 4 ≡ 0
-    → ((k r : ℕ) → slice_get saved_registers k ≡ Some r → number_at s.bytes (save_at c k) 8 ≡ c.start.registers r)
-    → ((n : ℕ) → 2 < n → n < 5 → s.registers n ≡ c.start.registers n)
-    → Ends (site c) (epilogue c.layout) s (Left c s)
+    → ((k r : ℕ) → slice_get c.saved k ≡ Some r → number_at s.bytes (save_at c k) 8 ≡ c.start.registers r)
+    → ((n : ℕ) → is_kept n ≡ true → n ≢ 2 → is_among n c.saved ≡ false → s.registers n ≡ c.start.registers n)
+    → Ends (site c) (epilogue c.layout c.saved) s (Left c s)
 ends_frame c is s pointer start aligned held thread =
     let saves = is.saves_fit in
     let above = is.above in
     let below = is.below in
     let top = is.world.small in
     let size : ℕ = c.layout.size in
-    ends_then (site c) (restore_all c.layout.saves saved_registers) (move_pointer size ++ (go_back ∷ [])) s (AllRestored c saved_registers s) (Left c s)
-    (leads_restore_all c is s c.layout.saves saved_registers pointer refl (omega arith) held)
+    ends_then (site c) (restore_all c.layout.saves c.saved) (move_pointer size ++ (go_back ∷ [])) s (AllRestored c c.saved s) (Left c s)
+    (leads_restore_all c is s c.layout.saves c.saved pointer is.savable saves held)
     (λ u f one.
-    let at_u : u.registers 2 ≡ bottom c = one.others 2 refl ∙ pointer in
+    let at_u : u.registers 2 ≡ bottom c = one.others 2 (not_among 2 c.saved refl is.savable) ∙ pointer in
     ends_then (site c) (move_pointer size) (go_back ∷ []) u (PointerMoved u ((u.registers 2 + size) % 2 ^ 64)) (Left c s)
     (leads_move_pointer (site c) u size)
     (λ w g two.
-    let address : w.registers 1 ≡ c.start.registers 1 = two.others 1 (lit< tt) (λ e. absurd (omega (arith, e))) ∙ one.gains 1 refl in
+    let address : w.registers 1 ≡ c.start.registers 1 = two.others 1 (lit< tt) (λ e. absurd (omega (arith, e))) ∙ one.gains 1 is.return_saved in
     let back : (u.registers 2 + size) % 2 ^ 64 ≡ c.sp = omega (arith, at_u, above, below, top) in
     ends_so (go_back ∷ []) w (Jumped w (c.start.registers 1)) (Left c s) (ends_go_back (site c) w (c.start.registers 1) address aligned)
     (λ t three.
     let same : (n : ℕ) → n < 28 → n ≢ 2 → t.registers n ≡ u.registers n = λ n lo other. three.registers n lo ∙ two.others n lo other in
     record {
       place = three.place;
-      kept = λ n k. elim (kept_is n k) [
-        | inl e ↦
-            let at_2 : t.registers 2 ≡ c.start.registers 2 = three.registers 2 (lit< tt) ∙ (two.value ∙ (back ∙ sym start)) in
-            ap t.registers e ∙ (at_2 ∙ ap c.start.registers (sym e))
-        | inr others ↦ elim others [
-          | inl between ↦
-              let lo = between.0 in
-              let hi = between.1 in
-              same n (omega (arith, hi)) (λ e. absurd (omega (arith, e, lo))) ∙ (one.others n (not_saved n lo hi) ∙ thread n lo hi)
-          | inr among ↦ same n (among_below n among) (λ e. absurd (pointer_is_not_saved n e among)) ∙ one.gains n among
-        ]
-      ];
-      result = same 10 (lit< tt) (λ e. absurd (omega (arith, e))) ∙ one.others 10 refl;
+      kept = λ n k. kept_by u t one same (three.registers 2 (lit< tt) ∙ (two.value ∙ (back ∙ sym start))) n k (nat_eq n 2) refl (is_among n c.saved) refl;
+      result = same 10 (lit< tt) (λ e. absurd (omega (arith, e))) ∙ one.others 10 (not_among 10 c.saved refl is.savable);
       bytes = three.bytes ∙ (two.bytes ∙ one.bytes);
       output = three.output ∙ (two.output ∙ one.output);
     })))
@@ -363,13 +346,10 @@ ends_frame c is s pointer start aligned held thread =
           record { steps = one.steps; after = one.after; comes = one.comes; some = one.some; few = one.few; fixed = one.fixed; holds = so one.after one.holds };
     }
 
-    not_saved : (n : ℕ) → 2 < n → n < 5 → is_among n saved_registers ≡ false
-    not_saved n lo hi = grind (arith, nat_tests)
-
-    among_below : (n : ℕ) → is_among n saved_registers ≡ true → n < 28
-    among_below n h = grind (arith, nat_tests)
-
-    pointer_is_not_saved : (n : ℕ) → n ≡ 2 → is_among n saved_registers ≡ true → ⊥
-    pointer_is_not_saved n e h =
-        let f : is_among 2 saved_registers ≡ true = subst (λ m. is_among m saved_registers ≡ true) e h in
-        let no : ⊥ = cc in no
+    -- a kept register is the stack pointer, or saved, or as it was all the time
+    kept_by : (u t : State) → AllRestored c c.saved s u → ((n : ℕ) → n < 28 → n ≢ 2 → t.registers n ≡ u.registers n)
+        → t.registers 2 ≡ c.start.registers 2 → (n : ℕ) → is_kept n ≡ true → (a : Bool) → nat_eq n 2 ≡ a → (b : Bool) → is_among n c.saved ≡ b
+        → t.registers n ≡ c.start.registers n
+    kept_by u t one same at_2 n k true e b d = let is_2 = eq_is n 2 e in ap t.registers is_2 ∙ (at_2 ∙ ap c.start.registers (sym is_2))
+    kept_by u t one same at_2 n k false e true d = same n (kept_below n k) (ne_is n 2 e) ∙ one.gains n d
+    kept_by u t one same at_2 n k false e false d = same n (kept_below n k) (ne_is n 2 e) ∙ (one.others n d ∙ thread n k (ne_is n 2 e) d)

@@ -28,8 +28,9 @@ pub joined_as : (o p a b : List Item) → p ≡ o ++ a → a ≡ b → p ≡ o +
 joined_as o p a b e f = e ∙ ap (λ l. o ++ l) f
 
 -- what was put behind nothing
-pub items_are : (p o : List Item) (y z : Layout) (ps qs : List (Destination Location)) (bs cs : List (Block Location)) → p ≡ o ++ function_items y ps bs → o ≡ []
-    → y ≡ z → ps ≡ qs → bs ≡ cs → p ≡ function_items z qs cs
-items_are p o y z ps qs bs cs e f g k h =
-    e ∙ (ap (λ l. l ++ function_items y ps bs) f
-    ∙ (ap (λ x. function_items x ps bs) g ∙ (ap (λ x. function_items z x bs) k ∙ ap (λ x. function_items z qs x) h)))
+pub items_are : (p o : List Item) (y z : Layout) (rs ss : List ℕ) (ps qs : List (Destination Location)) (bs cs : List (Block Location))
+    → p ≡ o ++ function_items y rs ps bs → o ≡ [] → y ≡ z → rs ≡ ss → ps ≡ qs → bs ≡ cs → p ≡ function_items z ss qs cs
+items_are p o y z rs ss ps qs bs cs e f g i k h =
+    e ∙ (ap (λ l. l ++ function_items y rs ps bs) f
+    ∙ (ap (λ x. function_items x rs ps bs) g
+    ∙ (ap (λ x. function_items z x ps bs) i ∙ (ap (λ x. function_items z ss x bs) k ∙ ap (λ x. function_items z ss qs x) h))))

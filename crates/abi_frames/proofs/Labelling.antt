@@ -42,7 +42,9 @@ use Rattle.abi_frames.specs.Emission.{copy_at, copy_eight, copy_eights, copy_res
 use Rattle.abi_frames.specs.Functions.{caller_pointer, from_register, from_stack, argument_items, arguments_items, pointer_items, entry_items}
 use Rattle.abi_frames.specs.Laws.{FramesAreLabelled}
 use Rattle.abi_frames.proofs.Leading.{longest-append}
-use Rattle.abi_frames.proofs.Activations.{place_is}
+use Rattle.abi_frames.proofs.Activations.{place_is, can_save}
+use Rattle.abi_frames.proofs.FrameEnds.{savable}
+use Rattle.abi_frames.proofs.Saving.{can_save_all, few_saved_registers}
 use Rattle.abi_frames.proofs.Outgoing.{slots_near}
 use Rattle.abi_frames.proofs.Sizes.{function_size, le_is}
 
@@ -414,15 +416,30 @@ move_plainly n m = by_test (is_immediate m)
         plainly_then n (constant 28 m) (sum_to 2 2 28 ∷ []) (constant_plainly n 28 m (nameable 28 (lit< tt)))
         (record { labels = refl; none = λ l. refl; registers = refl })
 
-prologue_plainly : (n : ℕ) (y : Layout) → Plainly n (prologue y)
-prologue_plainly n y =
-    plainly_then n (move_pointer (2 ^ 64 - y.size)) (save_all y.saves saved_registers) (move_plainly n (2 ^ 64 - y.size))
-    (record { labels = refl; none = λ l. refl; registers = refl })
+save_nameable : (r : ℕ) → can_save r ≡ true → Nameable r
+save_nameable r h = let below = (savable r h).below in nameable r (omega (arith, below))
 
-epilogue_plainly : (n : ℕ) (y : Layout) → Plainly n (epilogue y)
-epilogue_plainly n y =
-    plainly_then n (restore_all y.saves saved_registers) (move_pointer y.size ++ (go_back ∷ []))
-    (record { labels = refl; none = λ l. refl; registers = refl })
+saves_plainly : (n o : ℕ) (rs : List ℕ) → list_all can_save rs ≡ true → Plainly n (save_all o rs)
+saves_plainly n o [] good = plainly_nothing n
+saves_plainly n o (r ∷ rs) good =
+    let parts = and_parts (can_save r) (list_all can_save rs) good in
+    plainly_then n (store_8 r 2 o ∷ []) (save_all (o + 8) rs) (store_plainly n r 2 o (save_nameable r parts.0) (nameable 2 (lit< tt)))
+    (saves_plainly n (o + 8) rs parts.1)
+
+restores_plainly : (n o : ℕ) (rs : List ℕ) → list_all can_save rs ≡ true → Plainly n (restore_all o rs)
+restores_plainly n o [] good = plainly_nothing n
+restores_plainly n o (r ∷ rs) good =
+    let parts = and_parts (can_save r) (list_all can_save rs) good in
+    plainly_then n (load_8 r 2 o ∷ []) (restore_all (o + 8) rs) (load_plainly n r 2 o (save_nameable r parts.0) (nameable 2 (lit< tt)))
+    (restores_plainly n (o + 8) rs parts.1)
+
+prologue_plainly : (n : ℕ) (y : Layout) (rs : List ℕ) → list_all can_save rs ≡ true → Plainly n (prologue y rs)
+prologue_plainly n y rs good =
+    plainly_then n (move_pointer (2 ^ 64 - y.size)) (save_all y.saves rs) (move_plainly n (2 ^ 64 - y.size)) (saves_plainly n y.saves rs good)
+
+epilogue_plainly : (n : ℕ) (y : Layout) (rs : List ℕ) → list_all can_save rs ≡ true → Plainly n (epilogue y rs)
+epilogue_plainly n y rs good =
+    plainly_then n (restore_all y.saves rs) (move_pointer y.size ++ (go_back ∷ [])) (restores_plainly n y.saves rs good)
     (plainly_then n (move_pointer y.size) (go_back ∷ []) (move_plainly n y.size) (record { labels = refl; none = λ l. refl; registers = refl }))
 
 -- ---- blocks
@@ -511,10 +528,11 @@ pointer_plainly n y params = by_test (nat_lt 8 params)
     by_test false = plainly_nothing n
 
 -- the begin of the frame, and the entry
-begin_plainly : (n : ℕ) (y : Layout) (slots : ℕ) (params : List (Destination Location)) → list_all (λ (d : Destination Location). is_place slots d.place) params ≡ true
-    → Plainly n (prologue y ++ entry_items y params)
-begin_plainly n y slots params known =
-    plainly_then n (prologue y) (entry_items y params) (prologue_plainly n y)
+begin_plainly : (n : ℕ) (y : Layout) (rs : List ℕ) (slots : ℕ) (params : List (Destination Location)) → list_all can_save rs ≡ true
+    → list_all (λ (d : Destination Location). is_place slots d.place) params ≡ true
+    → Plainly n (prologue y rs ++ entry_items y params)
+begin_plainly n y rs slots params good known =
+    plainly_then n (prologue y rs) (entry_items y params) (prologue_plainly n y rs good)
     (plainly_then n (pointer_items y (length params)) (arguments_items y 0 params) (pointer_plainly n y (length params)) (arguments_plainly n y slots 0 params known))
 
 -- ---- functions
@@ -522,9 +540,9 @@ begin_plainly n y slots params known =
 all_numbered : (n l : ℕ) → l < n + 1 → numbered 0 n l + (if nat_eq n l then 1 else 0) ≡ 1
 all_numbered n l h = grind (arith, nat_tests)
 
-some_size : (y : Layout) → 0 < longest_size (epilogue y)
-some_size y =
-    let all = longest-append (restore_all y.saves saved_registers) (move_pointer y.size ++ (go_back ∷ [])) in
+some_size : (y : Layout) (rs : List ℕ) → 0 < longest_size (epilogue y rs)
+some_size y rs =
+    let all = longest-append (restore_all y.saves rs) (move_pointer y.size ++ (go_back ∷ [])) in
     let more = longest-append (move_pointer y.size) (go_back ∷ []) in
     omega (arith, all, more)
 
@@ -533,18 +551,19 @@ frames_are_labelled f slots is =
     let y : Layout = layout f slots in
     let n : ℕ = length f.blocks in
     let known = and_parts (list_all (λ (d : Destination Location). is_place slots d.place) f.params) (list_all (block_keeps (is_place slots)) f.blocks) is.known in
-    let first : List Item = prologue y ++ entry_items y f.params in
+    let rs : List ℕ = saved_registers f in
+    let first : List Item = prologue y rs ++ entry_items y f.params in
     let mid : List Item = blocks_items y 0 f.blocks in
-    let last : List Item = Label n ∷ epilogue y in
+    let last : List Item = Label n ∷ epilogue y rs in
     let tail : List Item = mid ++ last in
-    let begin = begin_plainly (n + 1) y slots f.params known.0 in
-    let end = epilogue_plainly (n + 1) y in
+    let begin = begin_plainly (n + 1) y rs slots f.params (can_save_all f) known.0 in
+    let end = epilogue_plainly (n + 1) y rs (can_save_all f) in
     let blocks = blocks_labelled (n + 1) y slots n 0 f.blocks (omega arith) (omega arith) (omega arith) known.1 is.regular.inside in
     let at_most = le_is (length f.params) 64 is.regular.few_params in
-    let size = function_size y f.params f.blocks (slots_near f is.regular) at_most is.near is.regular.paid in
+    let size = function_size y rs f.params f.blocks (few_saved_registers f) (slots_near f is.regular) at_most is.near is.regular.paid in
     let light = le_is (code_weight f) 40000 is.light in
-    let some = some_size y in
-    let whole = append_assoc (prologue y) (entry_items y f.params) tail in
+    let some = some_size y rs in
+    let whole = append_assoc (prologue y rs) (entry_items y f.params) tail in
     let sum_whole = ap longest_size whole in
     let sum_one = longest-append first tail in
     let sum_two = longest-append mid last in
@@ -552,7 +571,7 @@ frames_are_labelled f slots is =
     (record {
       labels = all_both (has_label_below (n + 1)) first tail begin.labels
           (all_both (has_label_below (n + 1)) mid last blocks.labels
-          (and_from (nat_lt n (n + 1)) (list_all (has_label_below (n + 1)) (epilogue y)) (lt_from n (n + 1) (omega arith)) end.labels));
+          (and_from (nat_lt n (n + 1)) (list_all (has_label_below (n + 1)) (epilogue y rs)) (lt_from n (n + 1) (omega arith)) end.labels));
       once = λ l h.
           let one = times-append l first tail in
           let two = times-append l mid last in
@@ -561,7 +580,7 @@ frames_are_labelled f slots is =
           let none_last = end.none l in
           let whole = all_numbered n l h in
           total (times_labelled l (first ++ tail)) (times_labelled l first) (times_labelled l tail) (times_labelled l mid)
-          (if nat_eq n l then 1 else 0) (times_labelled l (epilogue y)) (numbered 0 n l) one two none once none_last whole;
+          (if nat_eq n l then 1 else 0) (times_labelled l (epilogue y rs)) (numbered 0 n l) one two none once none_last whole;
       registers = all_both has_good_registers first tail begin.registers (all_both has_good_registers mid last blocks.registers end.registers);
       not_empty = omega (arith, some, sum_one, sum_two);
       near = omega (arith, size, light, sum_whole);

@@ -3,6 +3,7 @@ pub mod Leading
 pub mod Instructions
 pub mod Activations
 pub mod LineCode
+pub mod Saving
 pub mod FrameEnds
 pub mod Sizes
 pub mod JumpCode

@@ -28,7 +28,7 @@ use Rattle.abi_frames.proofs.Instructions.{leads_add_low, near_address, far_addr
 use Rattle.abi_frames.proofs.Activations.{Setting, IsSetting, site, bottom, InPlace, Framed, Assigned, assigned, assigned_output}
 use Rattle.abi_frames.proofs.LineCode.{leads_made, set_register}
 use Rattle.abi_frames.proofs.MemoryChanges.{inside_is}
-use Rattle.abi_frames.proofs.Simulation.{CodeStands, At, Performed, Log, Follows, Then, reach, advance}
+use Rattle.abi_frames.proofs.Simulation.{CodeStands, At, Performed, Log, Follows, Then, reach, advance, may_write}
 
 -- ---- the code
 
@@ -130,6 +130,7 @@ alloc_case c f is j r n go b to size lines fs k u a log goes all =
     let numbers : Numbers = put to (Some p) fs.numbers in
     let now : Spots = opened fs.memory p size in
     let good : is_place c.slots to ≡ true = (and_parts (line_keeps (is_place c.slots) (Alloc to size)) (list_all (line_keeps (is_place c.slots)) lines) a.known).0 in
+    let may = may_write c f is b (Alloc to size) lines fs k u a to good (λ q. refl) in
     let same : fs.used ≡ a.used = a.used_is refl in
     let room = a.room in
     let bytes = sum_by-cons alloc_bytes (Alloc to size) lines in
@@ -141,7 +142,7 @@ alloc_case c f is j r n go b to size lines fs k u a log goes all =
     (leads_alloc_line c is.setting u a.used to a.framed.pointer good (omega (arith, room, bytes)))
     (λ t fixed made. (
       opened_framed c is.setting numbers fs.memory t fs.used size (omega (arith, room, bytes, same))
-          (assigned c is.setting fs.numbers fs.memory u t to v (Some p) good a.framed made (λ q e. value ∙ some_is p q e)),
+          (assigned c is.setting fs.numbers fs.memory u t to v (Some p) good may a.framed made (λ q e. value ∙ some_is p q e)),
       assigned_output c u to v t made,
     ))) in
     go b lines (record fs { next = fs.next + 1; numbers = numbers; memory = now; used = fs.used + round_16 size }) (k + m.steps) m.after

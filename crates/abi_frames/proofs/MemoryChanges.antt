@@ -1,6 +1,6 @@
 -- Bytes that the program may access change, and the frame stays: its slots and saved registers, and what lies above it, may not be accessed.
 use Rattle.std.proofs.Common.{◌≡◌, ◌≢◌, ℕ, zero, suc, ◌+◌, ◌*◌, ◌<◌, ◌≤◌, ◌⊎◌, Bool, true, false, inl, inr, refl, sym, ◌∙◌, ap, arith, lit<, eq-or-lt_of_le}
-use Rattle.std.specs.Prelude.{◌&&◌, nat_le, nat_lt, Some}
+use Rattle.std.specs.Prelude.{length, ◌&&◌, nat_le, nat_lt, Some}
 use Rattle.std.proofs.lemmas.Bool.{and_parts}
 use Rattle.std.proofs.lemmas.Bool.Decides.{nat_tests}
 use Rattle.std.proofs.lemmas.Option.{slice_get_within}
@@ -14,8 +14,7 @@ use Rattle.vcode.specs.Named.{is_place}
 use Rattle.flat_code.specs.Spots.{Spot, Away, Known, Spots}
 use Rattle.flat_code.specs.Step.{Numbers, is_there, all_there, is_in}
 use Rattle.abi_frames.specs.Calls.{HoldsSpots}
-use Rattle.abi_frames.specs.Layout.{saved_registers}
-use Rattle.abi_frames.proofs.Activations.{Setting, IsSetting, bottom, value_at, place_is, slot_is, Framed}
+use Rattle.abi_frames.proofs.Activations.{Setting, IsSetting, bottom, value_at, place_is, slot_is, Framed, kept_below}
 use Rattle.abi_frames.proofs.Instructions.{UsableFrom}
 
 -- from s to u, scratch registers and bytes that may be accessed have changed, so that the bytes `now` are known
@@ -55,9 +54,9 @@ changed c is numbers memory now s u framed h =
       clear = λ x lo hi. h.stays x (framed.clear x lo hi);
       reach = λ x hi away. h.stays x (framed.reach x hi away);
       saved = λ k r e.
-          let few : k < 13 = slice_get_within saved_registers k r e in
+          let few : k < length c.saved = slice_get_within c.saved k r e in
           frame_bytes c is numbers memory now s u framed h (c.layout.saves + 8 * k) (omega (arith, few, saves)) ∙ framed.saved k r e;
-      thread = λ n lo hi. h.registers n (omega (arith, hi)) ∙ framed.thread n lo hi;
+      thread = λ n kept other out. h.registers n (kept_below n kept) ∙ framed.thread n kept other out;
       others = λ x hi away. h.spared x (framed.reach x hi away) ∙ framed.others x hi away;
     }
 

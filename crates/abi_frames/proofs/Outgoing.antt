@@ -11,6 +11,7 @@ use Rattle.vcode.specs.declared.code.Block.{Block}
 use Rattle.vcode.specs.declared.code.Code.{Code}
 use Rattle.vcode.specs.Regular.{IsRegular, passes_few}
 use Rattle.abi_frames.specs.Layout.{outgoing, args_on_stack, most_in_lines, most_in_blocks, slots_offset}
+use Rattle.abi_frames.proofs.Saving.{few_saved_registers}
 
 at_most_64 : (n : ℕ) → nat_le n 64 ≡ true → n ≤ 64
 at_most_64 n h = grind (arith, nat_tests)
@@ -44,7 +45,7 @@ pub few_outgoing : (f : Code Location) → IsRegular f → outgoing f ≤ 56
 few_outgoing f is = few_in_blocks f.blocks is.few_args
 
 pub slots_near : (f : Code Location) → IsRegular f → slots_offset f < 1024
-slots_near f is = let few = few_outgoing f is in omega (arith, few)
+slots_near f is = let few = few_outgoing f is in let saved = few_saved_registers f in omega (arith, few, saved)
 
 some_block : (a b : Block Location) → Some a ≡ Some b → a ≡ b
 some_block a b e = cc

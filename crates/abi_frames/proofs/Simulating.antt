@@ -1,6 +1,6 @@
 -- The machine follows the code on bytes, line by line: what holds at a line, and that it holds at the next one, until the code is over.
-use Rattle.std.proofs.Common.{◌≡◌, ◌≢◌, ℕ, zero, suc, ◌+◌, ◌-◌, ◌*◌, ◌%◌, ◌^◌, ◌<◌, Bool, true, false, List, [], ◌∷◌, ◌++◌, refl, sym, ◌∙◌, ap, subst, arith, lit<, zero-add, append-nil}
-use Rattle.std.specs.Prelude.{◌&&◌, nat_eq, nat_lt, if◌then◌else◌, slice_get, Option, Some, None, Err}
+use Rattle.std.proofs.Common.{◌≡◌, ◌≢◌, ℕ, zero, suc, ◌+◌, ◌-◌, ◌*◌, ◌%◌, ◌^◌, ◌<◌, ◌≤◌, Bool, true, false, List, [], ◌∷◌, ◌++◌, refl, sym, ◌∙◌, ap, subst, arith, lit<, zero-add, append-nil}
+use Rattle.std.specs.Prelude.{◌&&◌, nat_eq, nat_lt, if◌then◌else◌, length, slice_get, Option, Some, None, Err}
 use Rattle.std.specs.Option.{option_map, option_and_then}
 use Rattle.std.specs.List.{list_all, list_any}
 use Rattle.std.proofs.lemmas.Bool.{and_parts}
@@ -46,14 +46,15 @@ use Rattle.abi_frames.specs.Performs.{AllPerform}
 use Rattle.abi_frames.specs.Layout.{most_in_lines}
 use Rattle.abi_frames.specs.Emission.{line_items, lines_items, jump_items, result_items, epilogue}
 use Rattle.abi_frames.proofs.Leading.{Site, StandAt, Leads, leads_so, Sets}
-use Rattle.abi_frames.proofs.Activations.{Setting, site, bottom, save_at, operand_in, Framed, operand_known, Assigned, assigned, assigned_output}
+use Rattle.abi_frames.proofs.Activations.{Setting, site, bottom, save_at, operand_in, Framed, operand_known, Assigned, assigned, assigned_output, kept_below, kept_not_10}
 use Rattle.abi_frames.proofs.LineCode.{leads_set_line, leads_operate_line, leads_load_line}
 use Rattle.abi_frames.proofs.FrameEnds.{Lands, Ends, ends_then, Jumped, ends_frame}
 use Rattle.abi_frames.proofs.JumpCode.{ends_so, ends_goto, ends_branch, leads_result, way}
 use Rattle.abi_frames.proofs.Sizes.{jump_size, epilogue_size, le_is}
+use Rattle.abi_frames.proofs.Saving.{few_saved_registers}
 use Rattle.abi_frames.proofs.Storing.{store_case}
 use Rattle.abi_frames.proofs.CallCase.{call_case}
-use Rattle.abi_frames.proofs.Simulation.{CodeStands, At, AtJump, Landed, Performed, step_of, nothing_taken, later_fits, Log, Follows, Then, undefined, framed_same, reach, next_index, advance}
+use Rattle.abi_frames.proofs.Simulation.{CodeStands, At, AtJump, Landed, Performed, step_of, nothing_taken, later_fits, Log, Follows, Then, undefined, framed_same, reach, next_index, advance, may_write}
 use Rattle.abi_frames.proofs.Making.{alloc_case}
 use Rattle.abi_frames.proofs.Copying.{blit_case}
 
@@ -137,11 +138,12 @@ set_case c f is j r n go b to x lines fs k u a log goes all =
     let known = and_parts (is_place c.slots to) (operand_keeps (is_place c.slots) x)
     (and_parts (line_keeps (is_place c.slots) (Set to x)) (list_all (line_keeps (is_place c.slots)) lines) a.known).0 in
     let v : ℕ = operand_in c u x in
+    let may = may_write c f is b (Set to x) lines fs k u a to known.0 (λ q. refl) in
     let m = reach c f b (Set to x) lines fs k u (λ w. Framed c numbers fs.memory w × (w.output ≡ u.output)) a
     (leads_so (site c) (line_items c.layout a.used (Set to x)) u (Assigned c u to v) (λ w. Framed c numbers fs.memory w × (w.output ≡ u.output))
     (leads_set_line c is.setting u to x a.framed.pointer known.0 known.1)
     (λ w fixed made. (
-      assigned c is.setting fs.numbers fs.memory u w to v (number_of c.addresses fs.numbers x) known.0 a.framed made
+      assigned c is.setting fs.numbers fs.memory u w to v (number_of c.addresses fs.numbers x) known.0 may a.framed made
           (λ y e. operand_known c fs.numbers fs.memory u x y is.setting a.framed known.1 e),
       assigned_output c u to v w made,
     ))) in
@@ -164,11 +166,12 @@ operated c f is j r n go b to op x y lines fs k u a log all v w is_x is_y goes =
     let value : computed op (operand_in c u x) (operand_in c u y) ≡ computed op v w =
     ap (λ q. computed op q (operand_in c u y)) at_x ∙ ap (computed op v) at_y in
     let made_v : ℕ = computed op (operand_in c u x) (operand_in c u y) in
+    let may = may_write c f is b (Operate to op x y) lines fs k u a to known.0 (λ q. refl) in
     let m = reach c f b (Operate to op x y) lines fs k u (λ t. Framed c numbers fs.memory t × (t.output ≡ u.output)) a
     (leads_so (site c) (line_items c.layout a.used (Operate to op x y)) u (Assigned c u to made_v) (λ t. Framed c numbers fs.memory t × (t.output ≡ u.output))
     (leads_operate_line c is.setting u to op x y a.framed.pointer known.0 operands.0 operands.1)
     (λ t fixed made. (
-      assigned c is.setting fs.numbers fs.memory u t to made_v (Some (computed op v w)) known.0 a.framed made (λ q e. value ∙ some_is (computed op v w) q e),
+      assigned c is.setting fs.numbers fs.memory u t to made_v (Some (computed op v w)) known.0 may a.framed made (λ q e. value ∙ some_is (computed op v w) q e),
       assigned_output c u to made_v t made,
     ))) in
     go b lines (record fs { next = fs.next + 1; numbers = numbers }) (k + m.steps) m.after
@@ -211,11 +214,12 @@ loaded c f is j r n go b to op x lines fs k u a log all p v is_x is_v goes =
     let made_v : ℕ = load_value op (number_at u.bytes (operand_in c u x) (load_size op)) in
     let value : made_v ≡ load_value op v =
     ap (λ q. load_value op (number_at u.bytes q (load_size op))) at_x ∙ ap (load_value op) read.value in
+    let may = may_write c f is b (Load to op x) lines fs k u a to known.0 (λ q. refl) in
     let m = reach c f b (Load to op x) lines fs k u (λ t. Framed c numbers fs.memory t × (t.output ≡ u.output)) a
     (leads_so (site c) (line_items c.layout a.used (Load to op x)) u (Assigned c u to made_v) (λ t. Framed c numbers fs.memory t × (t.output ≡ u.output))
     (leads_load_line c is.setting u to op x a.framed.pointer known.0 known.1 usable)
     (λ t fixed made. (
-      assigned c is.setting fs.numbers fs.memory u t to made_v (Some (load_value op v)) known.0 a.framed made (λ q e. value ∙ some_is (load_value op v) q e),
+      assigned c is.setting fs.numbers fs.memory u t to made_v (Some (load_value op v)) known.0 may a.framed made (λ q e. value ∙ some_is (load_value op v) q e),
       assigned_output c u to made_v t made,
     ))) in
     go b lines (record fs { next = fs.next + 1; numbers = numbers }) (k + m.steps) m.after
@@ -369,12 +373,13 @@ leave_case : (c : Setting) (f : Code Location) → CodeStands c f → (fs : Flat
     → ((t : State) → t.registers 10 ≡ w.registers 10 → ResultIn f.result x t)
     → Performed c f (FlatReturned fs.spent x (closed fs.memory (c.sp - c.area) (area f)))
 leave_case c f is fs k w x a held =
-    let stands : StandAt (site c) (epilogue c.layout ++ is.rest) w.pc =
-    subst (λ q. StandAt (site c) (epilogue c.layout ++ is.rest) q) (sym a.place) is.leave in
+    let stands : StandAt (site c) (epilogue c.layout c.saved ++ is.rest) w.pc =
+    subst (λ q. StandAt (site c) (epilogue c.layout c.saved ++ is.rest) q) (sym a.place) is.leave in
     let m = (ends_frame c is.setting w a.framed.pointer is.pointer is.aligned a.framed.saved a.framed.thread).from is.rest stands a.fixed in
     let left = m.holds in
     let few = m.few in
-    let size = epilogue_size c.layout in
+    let few_saved : length c.saved ≤ 13 = subst (λ rs. length rs ≤ 13) (sym is.saved) (few_saved_registers f) in
+    let size = epilogue_size c.layout c.saved few_saved in
     let price = a.price in
     let pace = a.pace in
     let now : Spots = closed fs.memory (c.sp - c.area) (area f) in
@@ -439,7 +444,7 @@ result_framed c numbers memory u w to n framed h = record {
   clear = framed.clear;
   reach = framed.reach;
   saved = λ k r e. ap (λ (m : ℕ → ℕ). number_at m (save_at c k) 8) h.bytes ∙ framed.saved k r e;
-  thread = λ m lo hi. h.others m (omega (arith, hi)) (λ e. absurd (omega (arith, e, hi))) ∙ framed.thread m lo hi;
+  thread = λ m kept other out. h.others m (kept_below m kept) (kept_not_10 m kept) ∙ framed.thread m kept other out;
   others = λ x hi away. ap (λ (m : ℕ → ℕ). m x) h.bytes ∙ framed.others x hi away;
 }
 

@@ -1,5 +1,5 @@
 -- What holds at each line while the machine follows the code on bytes, and what is to be shown of it.
-use Rattle.std.proofs.Common.{◌≡◌, ℕ, suc, ◌+◌, ◌-◌, ◌*◌, ◌%◌, ◌<◌, ◌≤◌, Bool, true, false, refl, List, ◌∷◌, ◌++◌, ◌∙◌, ap, subst, arith, lit<, append_assoc}
+use Rattle.std.proofs.Common.{◌≡◌, ℕ, suc, ◌+◌, ◌-◌, ◌*◌, ◌%◌, ◌<◌, ◌≤◌, Bool, true, false, refl, List, ◌∷◌, ◌++◌, sym, ◌∙◌, ap, subst, arith, lit<, append_assoc}
 use Rattle.std.specs.Prelude.{◌&&◌, ◌||◌, nat_le, slice_get, Some, max}
 use Rattle.std.specs.List.{list_all, list_any, sum_by}
 use Rattle.std.proofs.lemmas.Bool.{and_parts}
@@ -28,10 +28,11 @@ use Rattle.flat_code.specs.Flat.{FlatGiven, FlatAsked, FlatOutcome, FlatEnded, f
 use Rattle.flat_code.specs.Step.{FlatState, FlatEvent, Numbers, flat_step}
 use Rattle.abi_frames.specs.Performs.{Performs, AllPerform}
 use Rattle.abi_frames.specs.Covered.{covers_line}
-use Rattle.abi_frames.specs.Layout.{args_on_stack, most_in_lines}
+use Rattle.abi_frames.specs.Layout.{args_on_stack, most_in_lines, is_register, writes, saved_registers}
 use Rattle.abi_frames.specs.Emission.{line_items, lines_items, jump_items, epilogue}
 use Rattle.abi_frames.proofs.Leading.{StandAt, Reaches, Leads}
-use Rattle.abi_frames.proofs.Activations.{Setting, IsSetting, site, bottom, slot_at, save_at, value_at, place_is, Framed}
+use Rattle.abi_frames.proofs.Activations.{Setting, IsSetting, site, bottom, slot_at, save_at, value_at, place_is, Framed, kept_below, MayWrite}
+use Rattle.abi_frames.proofs.Saving.{line_may}
 use Rattle.abi_frames.proofs.LineCode.{Scratched}
 use Rattle.abi_frames.proofs.Sizes.{line_size, le_is}
 
@@ -56,7 +57,8 @@ pub record CodeStands (c : Setting) (f : Code Location) : Type 0 where
   pub blocks : (i : ℕ) (b : Block Location) → slice_get f.blocks i ≡ Some b → BlockStands c b i
   pub result : c.layout.result ≡ f.result
   pub rest : List Item
-  pub leave : StandAt (site c) (epilogue c.layout ++ rest) (c.label c.layout.leave)
+  pub leave : StandAt (site c) (epilogue c.layout c.saved ++ rest) (c.label c.layout.leave)
+  pub saved : c.saved ≡ saved_registers f
   pub area : c.area ≡ area f
   pub pointer : c.start.registers 2 ≡ c.sp
   pub aligned : c.start.registers 1 % 4 ≡ 0
@@ -139,6 +141,14 @@ Then c f j r n log e = LoggedEvent (λ t rest. Logged (step_of c f j) n t rest r
 pub undefined : (c : Setting) (f : Code Location) (t : Spent) (r : FlatOutcome) → FlatEnded t Undefined ≡ r → Performed c f r
 undefined c f t r e = subst (λ o. Performed c f o) e tt
 
+-- ---- the destination of a line may be written
+
+pub may_write : (c : Setting) (f : Code Location) → CodeStands c f → (b : Block Location) (l : Line Location) (lines : List (Line Location)) (fs : FlatState)
+    (k : ℕ) (u : State) → At c f b (l ∷ lines) fs k u → (to : Location) → is_place c.slots to ≡ true → ((n : ℕ) → is_register n to ≡ writes n l)
+    → MayWrite c.saved to
+may_write c f is b l lines fs k u a to good writes_it =
+    subst (λ rs. MayWrite rs to) (sym is.saved) (line_may f c.slots fs.block (fs.next + 0) b l a.block (a.ahead 0) to good writes_it)
+
 -- ---- frames of states that differ in scratch registers
 
 same_places : (c : Setting) (numbers : Numbers) (memory : Spots) (s u : State) → Framed c numbers memory s → Scratched s u
@@ -157,7 +167,7 @@ framed_same c numbers memory s u framed h = record {
   clear = framed.clear;
   reach = framed.reach;
   saved = λ k r e. ap (λ (m : ℕ → ℕ). number_at m (save_at c k) 8) h.bytes ∙ framed.saved k r e;
-  thread = λ n lo hi. h.registers n (omega (arith, hi)) ∙ framed.thread n lo hi;
+  thread = λ n kept other out. h.registers n (kept_below n kept) ∙ framed.thread n kept other out;
   others = λ x hi away. ap (λ (m : ℕ → ℕ). m x) h.bytes ∙ framed.others x hi away;
 }
 

@@ -38,6 +38,7 @@ use Rattle.vcode.specs.Cost.{is_immediate, operand_cost, operation_cost, line_co
 use Rattle.vcode.specs.Regular.{weight_of, alloc_bytes}
 use Rattle.vcode.specs.Named.{is_near, are_near}
 use Rattle.abi_frames.specs.Layout.{layout, saved_registers}
+use Rattle.abi_frames.proofs.Saving.{few_saved_registers}
 use Rattle.abi_frames.specs.Laws.{FramesAreSmall}
 use Rattle.abi_frames.specs.declared.layout.Layout.{Layout}
 use Rattle.abi_frames.specs.Emission.{reg, add_low, extend, long_constant, constant, load_8, store_8, far_load, far_store, sum_to, load_slot, store_slot, slot_offset, into, fetch, source, target, deliver, set_items, compare_items, operation_items, operate_items, load_to, load_items, store_at, store_op, store_items, line_items, lines_items, move_pointer, save_all, restore_all, go_back, prologue, epilogue, result_items, jump_items, block_items, blocks_items, pass_into, pass_items, pass_all, call_through, receive_items, call_items, copy_at, copy_eight, copy_eights, copy_rest, blit_items, address_at, alloc_items, high}
@@ -390,21 +391,21 @@ restores_size : (o : ℕ) (rs : List ℕ) → longest_size (restore_all o rs) �
 restores_size o [] = refl
 restores_size o (r ∷ rs) = let rest = restores_size (o + 8) rs in omega (arith, rest)
 
-pub prologue_size : (y : Layout) → longest_size (prologue y) ≤ 23
-prologue_size y =
+pub prologue_size : (y : Layout) (rs : List ℕ) → length rs ≤ 13 → longest_size (prologue y rs) ≤ 23
+prologue_size y rs few =
     let n : ℕ = 2 ^ 64 - y.size in
-    let all = longest-append (move_pointer n) (save_all y.saves saved_registers) in
+    let all = longest-append (move_pointer n) (save_all y.saves rs) in
     let one = move_size n in
-    let two = saves_size y.saves saved_registers in
-    omega (arith, all, one, two)
+    let two = saves_size y.saves rs in
+    omega (arith, all, one, two, few)
 
-pub epilogue_size : (y : Layout) → longest_size (epilogue y) ≤ 24
-epilogue_size y =
-    let all = longest-append (restore_all y.saves saved_registers) (move_pointer y.size ++ (go_back ∷ [])) in
+pub epilogue_size : (y : Layout) (rs : List ℕ) → length rs ≤ 13 → longest_size (epilogue y rs) ≤ 24
+epilogue_size y rs few =
+    let all = longest-append (restore_all y.saves rs) (move_pointer y.size ++ (go_back ∷ [])) in
     let more = longest-append (move_pointer y.size) (go_back ∷ []) in
     let one = move_size y.size in
-    let two = restores_size y.saves saved_registers in
-    omega (arith, all, more, one, two)
+    let two = restores_size y.saves rs in
+    omega (arith, all, more, one, two, few)
 
 -- ---- arguments come to the places of their parameters
 
@@ -460,22 +461,22 @@ entry_size y params few at_most near =
 
 -- ---- functions
 
-pub function_size : (y : Layout) (params : List (Destination Location)) (blocks : List (Block Location)) → y.slots < 1024 → length params ≤ 64
-    → are_near params ≡ true → list_all is_paid blocks ≡ true
-    → longest_size (function_items y params blocks) ≤ 32 * sum_by block_weight blocks + 185
-function_size y params blocks few at_most near good =
-    let body : List Item = blocks_items y 0 blocks ++ (Label y.leave ∷ epilogue y) in
-    let all = longest-append (prologue y) (entry_items y params ++ body) in
+pub function_size : (y : Layout) (rs : List ℕ) (params : List (Destination Location)) (blocks : List (Block Location)) → length rs ≤ 13 → y.slots < 1024
+    → length params ≤ 64 → are_near params ≡ true → list_all is_paid blocks ≡ true
+    → longest_size (function_items y rs params blocks) ≤ 32 * sum_by block_weight blocks + 185
+function_size y rs params blocks saved few at_most near good =
+    let body : List Item = blocks_items y 0 blocks ++ (Label y.leave ∷ epilogue y rs) in
+    let all = longest-append (prologue y rs) (entry_items y params ++ body) in
     let entry = longest-append (entry_items y params) body in
-    let more = longest-append (blocks_items y 0 blocks) (Label y.leave ∷ epilogue y) in
-    let one = prologue_size y in
+    let more = longest-append (blocks_items y 0 blocks) (Label y.leave ∷ epilogue y rs) in
+    let one = prologue_size y rs saved in
     let between = entry_size y params few at_most near in
-    let two = epilogue_size y in
+    let two = epilogue_size y rs saved in
     let three = blocks_size y 0 blocks good in
     omega (arith, all, entry, more, one, between, two, three)
 
 pub frames_are_small : FramesAreSmall
 frames_are_small f slots is =
     let at_most = le_is (length f.params) 64 is.regular.few_params in
-    let size = function_size (layout f slots) f.params f.blocks (slots_near f is.regular) at_most is.near is.regular.paid in
+    let size = function_size (layout f slots) (saved_registers f) f.params f.blocks (few_saved_registers f) (slots_near f is.regular) at_most is.near is.regular.paid in
     omega (arith, size)

@@ -1,6 +1,6 @@
 -- From the call of a function to its first line: where its code stands, what the begin of its frame leaves, and that it keeps its promise.
-use Rattle.std.proofs.Common.{◌≡◌, ◌≢◌, ℕ, zero, suc, ◌+◌, ◌-◌, ◌*◌, ◌%◌, ◌^◌, ◌<◌, ◌≤◌, Bool, true, false, List, [], ◌∷◌, ◌++◌, refl, sym, ◌∙◌, ap, subst, arith, lit<, zero-add, append_assoc, append-nil}
-use Rattle.std.specs.Prelude.{◌&&◌, not, nat_le, nat_lt, if◌then◌else◌, max, map, length, slice_get, Some, None}
+use Rattle.std.proofs.Common.{◌≡◌, ℕ, zero, suc, ◌+◌, ◌-◌, ◌*◌, ◌%◌, ◌^◌, ◌<◌, ◌≤◌, Bool, true, false, List, [], ◌∷◌, ◌++◌, refl, sym, ◌∙◌, ap, subst, arith, lit<, zero-add, append_assoc, append-nil}
+use Rattle.std.specs.Prelude.{not, nat_le, nat_lt, if◌then◌else◌, map, length, slice_get, Some, None}
 use Rattle.std.specs.List.{list_all, list_any, sum_by}
 use Rattle.std.proofs.lemmas.Bool.{and_parts}
 use Rattle.std.proofs.lemmas.List.Sums.{sum_by-cons}
@@ -26,14 +26,15 @@ use Rattle.flat_code.specs.Step.{Numbers, bound, held, flat_begin, flat_step}
 use Rattle.abi_frames.specs.Calls.{World, IsWorld, GoodStack, Ready, HoldsSpots, passed}
 use Rattle.abi_frames.specs.Performs.{KeepsFrame}
 use Rattle.abi_frames.specs.Layout.{layout, outgoing, saved_registers, frame_size, frame_bound}
+use Rattle.abi_frames.proofs.Saving.{can_save_all, few_saved_registers, return_is_saved, AllMayWrite, all_params_may}
 use Rattle.abi_frames.specs.declared.layout.Layout.{Layout}
 use Rattle.abi_frames.specs.Emission.{lines_items, jump_items, blocks_items, prologue, epilogue, move_pointer, save_all}
 use Rattle.abi_frames.specs.Functions.{entry_items, frame_items}
 use Rattle.abi_frames.specs.Covered.{covers_block, covers_params}
 use Rattle.abi_frames.specs.Laws.{IsCode, FramesPerform}
 use Rattle.abi_frames.proofs.Leading.{Site, StandAt, Leads, leads_then, leads_so, longest-append}
-use Rattle.abi_frames.proofs.Activations.{Setting, IsSetting, site, bottom}
-use Rattle.abi_frames.proofs.FrameEnds.{PointerMoved, leads_move_pointer, AllSaved, leads_save_all}
+use Rattle.abi_frames.proofs.Activations.{Setting, IsSetting, site, bottom, can_save, kept_below}
+use Rattle.abi_frames.proofs.FrameEnds.{savable, PointerMoved, leads_move_pointer, AllSaved, leads_save_all}
 use Rattle.abi_frames.proofs.Outgoing.{few_outgoing, block_passes}
 use Rattle.abi_frames.proofs.Sizes.{prologue_size, entry_size, le_is}
 use Rattle.abi_frames.proofs.Entering.{Entering, argument_in, ArePassed, CanTake, leads_entry}
@@ -110,38 +111,27 @@ each test (y ∷ xs) (suc i) x h e = each test xs i x (and_parts (test y) (list_
 known_not_away : (m : Spot) (k : ℕ) → m ≡ Known k → m ≡ Away → ⊥
 known_not_away m k e f = let no : ⊥ = cc in no
 
-saved_same : (k r : ℕ) → slice_get saved_registers k ≡ Some r → (r < 28) × (r ≢ 2)
-saved_same k r e =
-    let test = each (λ n. nat_lt n 28 && nat_lt 0 (max (n - 2) (2 - n))) saved_registers k r refl e in
-    let parts = and_parts (nat_lt r 28) (nat_lt 0 (max (r - 2) (2 - r))) test in
-    let below = parts.0 in
-    let other = parts.1 in
-    (grind (arith, nat_tests), λ h. absurd (let no : ⊥ = two r h other in no))
-  where
-    two : (n : ℕ) → n ≡ 2 → nat_lt 0 (max (n - 2) (2 - n)) ≡ true → ⊥
-    two n h t = let u : nat_lt 0 (max (2 - 2) (2 - 2)) ≡ true = subst (λ x. nat_lt 0 (max (x - 2) (2 - x)) ≡ true) h t in let no : ⊥ = cc in no
-
 begun_spots : (c : Setting) → IsSetting c → (u w : State) → Clear c.world.bottom c.sp c.before → HoldsSpots c.world.memory_map c.before c.start
-    → u.bytes ≡ c.start.bytes → AllSaved c c.layout.saves saved_registers u w → (x n : ℕ) → c.before x ≡ Known n → w.bytes x ≡ n
+    → u.bytes ≡ c.start.bytes → AllSaved c c.layout.saves c.saved u w → (x n : ℕ) → c.before x ≡ Known n → w.bytes x ≡ n
 begun_spots c is u w clear holds same saved x n known =
-    by_test (nat_lt x (bottom c + c.layout.saves)) refl (nat_le (bottom c + (c.layout.saves + 104)) x) refl
+    by_test (nat_lt x (bottom c + c.layout.saves)) refl (nat_le (bottom c + (c.layout.saves + 8 * length c.saved)) x) refl
   where
     at_x : u.bytes x ≡ n
     at_x = ap (λ (m : ℕ → ℕ). m x) same ∙ holds.known x n known
 
-    by_test : (t : Bool) → nat_lt x (bottom c + c.layout.saves) ≡ t → (d : Bool) → nat_le (bottom c + (c.layout.saves + 104)) x ≡ d → w.bytes x ≡ n
+    by_test : (t : Bool) → nat_lt x (bottom c + c.layout.saves) ≡ t → (d : Bool) → nat_le (bottom c + (c.layout.saves + 8 * length c.saved)) x ≡ d → w.bytes x ≡ n
     by_test true e d f = saved.below x (grind (arith, nat_tests)) ∙ at_x
     by_test false e true f = saved.above x (grind (arith, nat_tests)) ∙ at_x
     by_test false e false f =
         let from : bottom c + c.layout.saves ≤ x = grind (arith, nat_tests) in
-        let to : x < bottom c + (c.layout.saves + 104) = grind (arith, nat_tests) in
+        let to : x < bottom c + (c.layout.saves + 8 * length c.saved) = grind (arith, nat_tests) in
         let fits = is.fits in
         let saves = is.saves_fit in
         let above = is.above in
         absurd (known_not_away (c.before x) n known (clear x (omega (arith, from, above)) (omega (arith, to, fits, saves, above))))
 
 pub begun : (c : Setting) → IsSetting c → c.start.registers 2 ≡ c.sp → Clear c.world.bottom c.sp c.before
-    → HoldsSpots c.world.memory_map c.before c.start → Leads (site c) (prologue c.layout) c.start (Entering c 0 (λ p. None))
+    → HoldsSpots c.world.memory_map c.before c.start → Leads (site c) (prologue c.layout c.saved) c.start (Entering c 0 (λ p. None))
 begun c is pointer clear holds =
     let n : ℕ = 2 ^ 64 - c.layout.size in
     let s : State = c.start in
@@ -150,13 +140,13 @@ begun c is pointer clear holds =
     let top = is.world.small in
     let fits = is.fits in
     let saves = is.saves_fit in
-    leads_then (site c) (move_pointer n) (save_all c.layout.saves saved_registers) s (PointerMoved s ((s.registers 2 + n) % 2 ^ 64))
+    leads_then (site c) (move_pointer n) (save_all c.layout.saves c.saved) s (PointerMoved s ((s.registers 2 + n) % 2 ^ 64))
     (Entering c 0 (λ p. None)) (leads_move_pointer (site c) s n)
     (λ u fixed one.
     let value = one.value in
     let at_u : u.registers 2 ≡ bottom c = value ∙ moved_down (s.registers 2) c.sp c.layout.size pointer (omega (arith, above)) (omega (arith, below, top)) in
-    leads_so (site c) (save_all c.layout.saves saved_registers) u (AllSaved c c.layout.saves saved_registers u) (Entering c 0 (λ p. None))
-    (leads_save_all c is u c.layout.saves saved_registers at_u refl (omega arith))
+    leads_so (site c) (save_all c.layout.saves c.saved) u (AllSaved c c.layout.saves c.saved u) (Entering c 0 (λ p. None))
+    (leads_save_all c is u c.layout.saves c.saved at_u is.savable saves)
     (λ w g two.
     let stays : (x : ℕ) → c.sp ≤ x → w.bytes x ≡ s.bytes x =
     λ x hi. two.above x (omega (arith, hi, above, fits, saves)) ∙ ap (λ (m : ℕ → ℕ). m x) one.bytes in
@@ -168,9 +158,9 @@ begun c is pointer clear holds =
         clear = λ x lo hi. clear x (omega (arith, lo, above)) (omega (arith, hi));
         reach = λ x hi away. away;
         saved = λ k r e.
-            let good = saved_same k r e in
-            two.saved k r e ∙ one.others r good.0 good.1;
-        thread = λ m lo hi. two.registers m (omega (arith, hi)) ∙ one.others m (omega (arith, hi)) (λ e. absurd (omega (arith, e, lo)));
+            let good = savable r (each can_save c.saved k r is.savable e) in
+            two.saved k r e ∙ one.others r good.below good.not_pointer;
+        thread = λ m kept other out. two.registers m (kept_below m kept) ∙ one.others m (kept_below m kept) other;
         others = λ x hi away. stays x hi;
       };
       output = two.output ∙ one.output;
@@ -230,6 +220,7 @@ setting w label global addresses f slots sp before s =
       global = global;
       addresses = addresses;
       layout = layout f slots;
+      saved = saved_registers f;
       slots = slots;
       area = area f;
       sp = sp;
@@ -247,7 +238,7 @@ pub frame_fits : (f : Code Location) (slots : ℕ) → IsCode f slots → FrameF
 frame_fits f slots is = record {
   few = few_outgoing f is.regular;
   small = le_is (area f) 1048576 is.regular.small;
-  fits = omega arith;
+  fits = let saved = few_saved_registers f in omega (arith, saved);
 }
 
 is_setting : (w : World) (label global : ℕ → ℕ) (addresses : List ℕ) (f : Code Location) (slots sp room : ℕ) (before : Spots) (s : State) → IsCode f slots
@@ -260,6 +251,7 @@ is_setting w label global addresses f slots sp room before s is world globals st
     let fits = frame.fits in
     let above = stack.above in
     let slots_few = is.few in
+    let saved = few_saved_registers f in
     record {
       world = world;
       globals = globals;
@@ -269,7 +261,10 @@ is_setting w label global addresses f slots sp room before s is world globals st
       blocks = omega arith;
       saves_fit = omega arith;
       saves_near = omega (arith, few);
-      small = omega (arith, few, small, slots_few);
+      slots_near = omega (arith, few, saved);
+      savable = can_save_all f;
+      return_saved = return_is_saved f;
+      small = omega (arith, few, small, slots_few, saved);
     }
 
 -- the bytes of a block are among all, and only the first block takes some
@@ -328,10 +323,10 @@ block_stands c f slots same same_area same_saves is b i e code =
     }
 
 -- from the call to the first block
-begins : (c : Setting) (f : Code Location) (slots at : ℕ) (j : FlatGiven) → IsSetting c → c.slots ≡ slots → IsCode f slots → Clear c.world.bottom c.sp c.before
+begins : (c : Setting) (f : Code Location) (slots at : ℕ) (j : FlatGiven) → IsSetting c → c.slots ≡ slots → c.saved ≡ saved_registers f → IsCode f slots → Clear c.world.bottom c.sp c.before
     → Ready c.world at c.sp (classes f.params) (record j { memory = c.before }) c.start
-    → Leads (site c) (prologue c.layout ++ entry_items c.layout f.params) c.start (Entering c (length f.params) (bound (λ p. None) f.params j.args))
-begins c f slots at j good same is clear ready =
+    → Leads (site c) (prologue c.layout c.saved ++ entry_items c.layout f.params) c.start (Entering c (length f.params) (bound (λ p. None) f.params j.args))
+begins c f slots at j good same same_saved is clear ready =
     let covered = and_parts (covers_params f.params) (list_all covers_block f.blocks) is.covered in
     let known = and_parts (list_all (λ (d : Destination Location). is_place slots d.place) f.params) (list_all (block_keeps (is_place slots)) f.blocks) is.known in
     let below = ready.below_top in
@@ -342,21 +337,23 @@ begins c f slots at j good same is clear ready =
       fits = omega (arith, below, count);
       places = subst (λ n. list_all (λ (d : Destination Location). is_place n d.place) f.params ≡ true) (sym same) known.0;
       off = covered.0;
+      may = subst (λ rs. AllMayWrite rs f.params) (sym same_saved) (all_params_may f slots known.0);
     } in
-    leads_then (site c) (prologue c.layout) (entry_items c.layout f.params) c.start (Entering c 0 (λ p. None))
+    leads_then (site c) (prologue c.layout c.saved) (entry_items c.layout f.params) c.start (Entering c 0 (λ p. None))
     (Entering c (length f.params) (bound (λ p. None) f.params j.args)) (begun c good ready.stack_pointer clear ready.memory)
     (λ u fixed now.
     leads_entry c good f.params j.args u can is.apart
     (are_passed c 0 f.params j.args (λ i n a e k. ap (argument_in c c.start) (zero-add i) ∙ ready_passes c at (classes f.params) (record j { memory = c.before }) ready i n a e k)) now)
 
-begin_size : (f : Code Location) (slots : ℕ) → IsCode f slots → longest_size (prologue (layout f slots) ++ entry_items (layout f slots) f.params) ≤ 161
+begin_size : (f : Code Location) (slots : ℕ) → IsCode f slots → longest_size (prologue (layout f slots) (saved_registers f) ++ entry_items (layout f slots) f.params) ≤ 161
 begin_size f slots is =
     let y : Layout = layout f slots in
     let frame = frame_fits f slots is in
     let few = frame.few in
-    let all = longest-append (prologue y) (entry_items y f.params) in
-    let one = prologue_size y in
-    let two = entry_size y f.params (omega (arith, few)) (le_is (length f.params) 64 is.regular.few_params) is.near in
+    let saved = few_saved_registers f in
+    let all = longest-append (prologue y (saved_registers f)) (entry_items y f.params) in
+    let one = prologue_size y (saved_registers f) saved in
+    let two = entry_size y f.params (omega (arith, few, saved)) (le_is (length f.params) 64 is.regular.few_params) is.near in
     omega (arith, all, one, two)
 
 -- from the call on
@@ -367,33 +364,36 @@ performs w at label global addresses f slots is world globals stands sp j stack 
     let c : Setting = setting w label global addresses f slots sp j.memory s in
     let y : Layout = layout f slots in
     let good : IsSetting c = is_setting w label global addresses f slots sp j.room j.memory s is world globals stack in
-    let body : List Item = blocks_items y 0 f.blocks ++ (Label y.leave ∷ epilogue y) in
+    let rs : List ℕ = saved_registers f in
+    let last : List Item = epilogue y rs in
+    let body : List Item = blocks_items y 0 f.blocks ++ (Label y.leave ∷ last) in
     let tail : List Item = entry_items y f.params ++ body in
-    let entry = stand_after (site c) (prologue y) tail at stands in
+    let entry = stand_after (site c) (prologue y rs) tail at stands in
     let blocks = stand_after (site c) (entry_items y f.params) body entry.place entry.stands in
-    let leave = stand_after (site c) (blocks_items y 0 f.blocks) (Label y.leave ∷ epilogue y) blocks.place blocks.stands in
+    let leave = stand_after (site c) (blocks_items y 0 f.blocks) (Label y.leave ∷ last) blocks.place blocks.stands in
     let code : CodeStands c f = record {
       setting = good;
       blocks = λ i b e.
           block_stands c f slots refl refl refl is b i e
-          (subst (λ k. BlockCode (site c) y b k) (zero-add i) (blocks_stand (site c) y 0 f.blocks (Label y.leave ∷ epilogue y) blocks.place blocks.stands i b e));
+          (subst (λ k. BlockCode (site c) y b k) (zero-add i) (blocks_stand (site c) y 0 f.blocks (Label y.leave ∷ last) blocks.place blocks.stands i b e));
       result = refl;
       rest = [];
-      leave = leave_stands (site c) y.leave (epilogue y) leave.place leave.stands;
+      leave = leave_stands (site c) y.leave last leave.place leave.stands;
+      saved = refl;
       area = refl;
       pointer = ready.stack_pointer;
       aligned = ready.return_address;
     } in
-    let begin : List Item = prologue y ++ entry_items y f.params in
+    let begin : List Item = prologue y rs ++ entry_items y f.params in
     let numbers : Numbers = bound (λ p. None) f.params j.args in
-    let m = (begins c f slots at j good refl is clear ready).from body
-    (subst (λ a. StandAt (site c) (begin ++ body) a) (sym ready.place) (subst (λ is. StandAt (site c) is at) (sym (append_assoc (prologue y) (entry_items y f.params) body)) stands))
+    let m = (begins c f slots at j good refl refl is clear ready).from body
+    (subst (λ a. StandAt (site c) (begin ++ body) a) (sym ready.place) (subst (λ is. StandAt (site c) is at) (sym (append_assoc (prologue y rs) (entry_items y f.params) body)) stands))
     ready.fixed in
     let few = m.few in
     let size = begin_size f slots is in
     enter c f code j r n (follows c f code j r n) 0 (flat_begin f (sp - area f) j) m.steps m.after
     (record {
-      place = first_label (site c) y f.blocks (epilogue y) m.after.pc refl m.stands;
+      place = first_label (site c) y f.blocks last m.after.pc refl m.stands;
       fixed = m.fixed;
       framed = m.holds.framed;
       comes = m.comes;

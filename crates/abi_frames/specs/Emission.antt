@@ -39,7 +39,6 @@ use Rattle.vcode.specs.declared.line.Jump.TheVariants.{Goto, Branch, Return, Hal
 use Rattle.vcode.specs.declared.code.Block.{Block}
 use Rattle.vcode.specs.Cost.{is_immediate}
 use Rattle.vcode.specs.Regular.{alloc_bytes}
-use Rattle.abi_frames.specs.Layout.{saved_registers}
 use Rattle.abi_frames.specs.declared.layout.Layout.{Layout}
 
 -- ---- fields
@@ -296,14 +295,14 @@ abbrev pub restore_all : (offset : ℕ) → List ℕ → List Item
 restore_all offset [] = []
 restore_all offset (r ∷ rs) = load_8 r 2 offset ∷ restore_all (offset + 8) rs
 
-abbrev pub prologue : Layout → List Item
-prologue y = move_pointer (2 ^ 64 - y.size) ++ save_all y.saves saved_registers
+abbrev pub prologue : Layout → (saved : List ℕ) → List Item
+prologue y rs = move_pointer (2 ^ 64 - y.size) ++ save_all y.saves rs
 
 abbrev pub go_back : Item
 go_back = Plain (Jalr (reg 0) (reg 1) (low 0))
 
-abbrev pub epilogue : Layout → List Item
-epilogue y = restore_all y.saves saved_registers ++ (move_pointer y.size ++ (go_back ∷ []))
+abbrev pub epilogue : Layout → (saved : List ℕ) → List Item
+epilogue y rs = restore_all y.saves rs ++ (move_pointer y.size ++ (go_back ∷ []))
 
 -- ---- jumps
 

@@ -7,7 +7,7 @@ use Rattle.vcode.specs.declared.place.Location.TheVariants.{Register as InRegist
 use Rattle.vcode.specs.declared.place.Destination.{Destination}
 use Rattle.vcode.specs.declared.code.Block.{Block}
 use Rattle.vcode.specs.declared.code.Code.{Code}
-use Rattle.abi_frames.specs.Layout.{layout}
+use Rattle.abi_frames.specs.Layout.{layout, saved_registers}
 use Rattle.abi_frames.specs.declared.layout.Layout.{Layout}
 use Rattle.abi_frames.specs.Emission.{add_low, sum_to, load_8, constant, store_slot, slot_offset, prologue, epilogue, blocks_items}
 
@@ -39,8 +39,9 @@ pointer_items y n = if nat_lt 8 n then caller_pointer y else []
 abbrev pub entry_items : Layout → List (Destination Location) → List Item
 entry_items y params = pointer_items y (length params) ++ arguments_items y 0 params
 
-abbrev pub function_items : Layout → List (Destination Location) → List (Block Location) → List Item
-function_items y params blocks = prologue y ++ (entry_items y params ++ (blocks_items y 0 blocks ++ (Label y.leave ∷ epilogue y)))
+abbrev pub function_items : Layout → (saved : List ℕ) → List (Destination Location) → List (Block Location) → List Item
+function_items y rs params blocks =
+    prologue y rs ++ (entry_items y params ++ (blocks_items y 0 blocks ++ (Label y.leave ∷ epilogue y rs)))
 
 abbrev pub frame_items : Code Location → (slots : ℕ) → List Item
-frame_items f slots = function_items (layout f slots) f.params f.blocks
+frame_items f slots = function_items (layout f slots) (saved_registers f) f.params f.blocks

@@ -1,10 +1,13 @@
 -- Where things stand in a function's frame. Upward from the stack pointer: arguments of calls past the eighth, saved registers, slots, and the area for blocks
 -- of memory, up to the stack pointer of the caller.
-use Rattle.std.specs.Prelude.{ℕ, ◌+◌, ◌-◌, ◌*◌, max, List, [], ◌∷◌, length}
+use Rattle.std.specs.Prelude.{ℕ, ◌+◌, ◌-◌, ◌*◌, Bool, false, ◌||◌, nat_eq, if◌then◌else◌, max, List, [], ◌∷◌, length, Option, Some, None}
+use Rattle.std.specs.List.{list_any}
 use Rattle.il_ast.specs.Cost.{round_16}
 use Rattle.vcode.specs.declared.place.Location.{Location}
+use Rattle.vcode.specs.declared.place.Location.TheVariants.{Register, Slot}
+use Rattle.vcode.specs.declared.place.Destination.{Destination}
 use Rattle.vcode.specs.declared.line.Line.{Line}
-use Rattle.vcode.specs.declared.line.Line.TheVariants.{Call}
+use Rattle.vcode.specs.declared.line.Line.TheVariants.{Set, Operate, Load, Alloc, Call}
 use Rattle.vcode.specs.declared.code.Block.{Block}
 use Rattle.vcode.specs.declared.code.Code.{Code}
 use Rattle.vcode.specs.Regular.{area}
@@ -27,20 +30,55 @@ most_in_blocks (b ∷ blocks) = max (most_in_lines b.lines) (most_in_blocks bloc
 abbrev pub outgoing : Code Location → ℕ
 outgoing f = most_in_blocks f.blocks
 
--- the return address, and the registers that a function keeps for its caller and may use: x1, x8, x9, x18 to x27
-abbrev pub saved_registers : List ℕ
-saved_registers = 1 ∷ 8 ∷ 9 ∷ 18 ∷ 19 ∷ 20 ∷ 21 ∷ 22 ∷ 23 ∷ 24 ∷ 25 ∷ 26 ∷ 27 ∷ []
+-- a place that is the register of this number
+abbrev pub is_register : (number : ℕ) → Location → Bool
+is_register n (Register r) = nat_eq n r
+is_register n (Slot i) = false
+
+-- the result of a call goes to this register
+abbrev pub receives : (number : ℕ) → Option (Destination Location) → Bool
+receives n None = false
+receives n (Some d) = is_register n d.place
+
+-- a line whose destination is this register
+abbrev pub writes : (number : ℕ) → Line Location → Bool
+writes n (Set to a) = is_register n to
+writes n (Operate to op a b) = is_register n to
+writes n (Load to op at) = is_register n to
+writes n (Alloc to size) = is_register n to
+writes n (Call to callee args) = receives n to
+writes n l = false
+
+abbrev pub block_writes : (number : ℕ) → Block Location → Bool
+block_writes n b = list_any (writes n) b.lines
+
+-- a register that is the place of a parameter, or the destination of a line
+abbrev pub is_written : Code Location → (number : ℕ) → Bool
+is_written f n = list_any (λ (d : Destination Location). is_register n d.place) f.params || list_any (block_writes n) f.blocks
+
+-- those of these registers that the code writes
+abbrev pub written_of : Code Location → List ℕ → List ℕ
+written_of f [] = []
+written_of f (r ∷ rs) = if is_written f r then r ∷ written_of f rs else written_of f rs
+
+-- the registers that a function keeps for its caller and may write: x8, x9, x18 to x27
+abbrev pub callee_saved : List ℕ
+callee_saved = 8 ∷ 9 ∷ 18 ∷ 19 ∷ 20 ∷ 21 ∷ 22 ∷ 23 ∷ 24 ∷ 25 ∷ 26 ∷ 27 ∷ []
+
+-- the return address, and those of them that the code writes
+unfoldable pub saved_registers : Code Location → List ℕ
+saved_registers f = 1 ∷ written_of f callee_saved
 
 -- the offset of the first saved register, and that of the first slot, in bytes from the stack pointer
 abbrev pub saves_offset : Code Location → ℕ
 saves_offset f = 8 * outgoing f
 
 abbrev pub slots_offset : Code Location → ℕ
-slots_offset f = 8 * (outgoing f + 13)
+slots_offset f = 8 * (outgoing f + length (saved_registers f))
 
 -- the bytes of the frame
 abbrev pub frame_size : Code Location → (slots : ℕ) → ℕ
-frame_size f slots = round_16 (area f + 8 * (slots + outgoing f + 13))
+frame_size f slots = round_16 (area f + 8 * (slots + outgoing f + length (saved_registers f)))
 
 -- the bytes of stack that a call of the function is counted for, at least
 abbrev pub frame_bound : Code Location → (slots : ℕ) → ℕ

@@ -1,6 +1,5 @@
 //! The begin and the end of a frame.
 ghost use Rattle.std.specs.Prelude.{◌≡◌, ◌+◌, ◌-◌, ◌*◌, ◌^◌, ◌<◌, ◌≤◌, [], ◌∷◌, ◌++◌, length, OnOk};
-ghost use Rattle.abi_frames.specs.Layout.{saved_registers};
 ghost use Rattle.abi_frames.specs.Emission.{constant, sum_to, move_pointer, save_all, restore_all, prologue, epilogue, go_back};
 
 use crate::fields::{add, add_immediate, load, low_part, register, store};
@@ -63,17 +62,18 @@ fn negative(number: u64) -> u64
 }
 
 /// Puts the begin of a frame at the end: the stack pointer goes down, and registers are saved.
-pub(crate) fn push_prologue(items: &mut Vec<Item>, layout: &Layout) -> Result<(), AllocError>
+pub(crate) fn push_prologue(
+    items: &mut Vec<Item>,
+    layout: &Layout,
+    saved: &[u8],
+) -> Result<(), AllocError>
     requires saves { layout.now.saves < 2 ^ 16 }
     requires size { 0 < layout.now.size }
-    ensures { OnOk result (items.new.items ≡ items.old.items ++ prologue layout.now) }
+    requires few { length saved.now ≤ 13 }
+    ensures { OnOk result (items.new.items ≡ items.old.items ++ prologue layout.now saved.now) }
 {
     push_move_pointer(items, negative(layout.size))?;
-    push_saves(
-        items,
-        layout.saves,
-        [1, 8, 9, 18, 19, 20, 21, 22, 23, 24, 25, 26, 27].as_slice(),
-    )
+    push_saves(items, layout.saves, saved)
 }
 
 fn push_way_back(items: &mut Vec<Item>, size: u64) -> Result<(), AllocError>
@@ -89,14 +89,15 @@ fn push_way_back(items: &mut Vec<Item>, size: u64) -> Result<(), AllocError>
 }
 
 /// Puts the end of a frame at the end: registers and the stack pointer are as they were, and the machine goes back.
-pub(crate) fn push_epilogue(items: &mut Vec<Item>, layout: &Layout) -> Result<(), AllocError>
-    requires { layout.now.saves < 2 ^ 16 }
-    ensures { OnOk result (items.new.items ≡ items.old.items ++ epilogue layout.now) }
+pub(crate) fn push_epilogue(
+    items: &mut Vec<Item>,
+    layout: &Layout,
+    saved: &[u8],
+) -> Result<(), AllocError>
+    requires saves { layout.now.saves < 2 ^ 16 }
+    requires few { length saved.now ≤ 13 }
+    ensures { OnOk result (items.new.items ≡ items.old.items ++ epilogue layout.now saved.now) }
 {
-    push_restores(
-        items,
-        layout.saves,
-        [1, 8, 9, 18, 19, 20, 21, 22, 23, 24, 25, 26, 27].as_slice(),
-    )?;
+    push_restores(items, layout.saves, saved)?;
     push_way_back(items, layout.size)
 }

@@ -5,7 +5,7 @@ ghost use Rattle.std.specs.List.{list_all, sum_by};
 ghost use Rattle.vcode.specs.Regular.{area, alloc_bytes, passes_few, code_weight};
 ghost use Rattle.flat_code.specs.Step.{flat_begin, flat_step};
 ghost use Rattle.abi_frames.specs.Covered.{is_covered};
-ghost use Rattle.abi_frames.specs.Layout.{layout, frame_bound, frame_size};
+ghost use Rattle.abi_frames.specs.Layout.{layout, saved_registers, frame_bound, frame_size};
 ghost use Rattle.abi_frames.specs.Emission.{lines_items, jump_items, epilogue, block_items, blocks_items};
 ghost use Rattle.abi_frames.specs.Functions.{entry_items, function_items, frame_items};
 ghost use Rattle.rv_isa.specs.declared.labelled.Item.TheVariants.{Label};
@@ -17,6 +17,7 @@ use crate::jump::push_jump;
 use crate::layout::Layout;
 use crate::line::push_lines;
 use crate::room::{area_of, outgoing_of};
+use crate::saved::saved_registers;
 use flat_code::function::FlatFunc;
 use rv_isa::labelled::{Item, LabelledCode};
 use std::alloc::{AllocError, Global};
@@ -71,18 +72,20 @@ fn push_blocks(
     Ok(())
 }
 
-fn push_end(items: &mut Vec<Item>, layout: &Layout) -> Result<(), AllocError>
-    requires { layout.now.saves < 2 ^ 16 }
-    ensures { OnOk result (items.new.items ≡ items.old.items ++ (Label layout.now.leave ∷ epilogue layout.now)) }
+fn push_end(items: &mut Vec<Item>, layout: &Layout, saved: &[u8]) -> Result<(), AllocError>
+    requires saves { layout.now.saves < 2 ^ 16 }
+    requires few { length saved.now ≤ 13 }
+    ensures { OnOk result (items.new.items ≡ items.old.items ++ (Label layout.now.leave ∷ epilogue layout.now saved.now)) }
 {
     items.push(Item::Label(layout.leave))?;
-    push_epilogue(items, layout)?;
+    push_epilogue(items, layout, saved)?;
     Ok(())
 }
 
 fn push_function(
     items: &mut Vec<Item>,
     layout: &Layout,
+    saved: &[u8],
     params: &[Destination<Location>],
     blocks: &[Block<Location>],
 ) -> Result<(), AllocError>
@@ -93,28 +96,31 @@ fn push_function(
     requires room { sum_by (λ b. sum_by alloc_bytes b.lines) blocks.now ≤ 1048576 }
     requires calls { IsTrue (list_all (λ b. list_all passes_few b.lines) blocks.now) }
     requires few { length params.now ≤ 64 }
-    ensures { OnOk result (items.new.items ≡ items.old.items ++ function_items layout.now params.now blocks.now) }
+    requires few_saved { length saved.now ≤ 13 }
+    ensures { OnOk result (items.new.items ≡ items.old.items ++ function_items layout.now saved.now params.now blocks.now) }
 {
-    push_prologue(items, layout)?;
+    push_prologue(items, layout, saved)?;
     push_entry(items, layout, params)?;
     push_blocks(items, layout, blocks)?;
-    push_end(items, layout)?;
+    push_end(items, layout, saved)?;
     Ok(())
 }
 
-#[tactic(auto, using(crate::proofs::Outgoing::few_outgoing))]
-fn layout_of(function: &FlatFunc) -> Layout
+#[tactic(auto, using(crate::proofs::Outgoing::few_outgoing, crate::proofs::Saving::few_saved_registers, crate::proofs::Saving::some_saved_register))]
+fn layout_of(function: &FlatFunc, saved: &[u8]) -> Layout
+    requires { saved.now ≡ saved_registers function.now.located.code }
     ensures value { result ≡ layout function.now.located.code function.now.located.slots }
     ensures near { (result.saves < 2 ^ 16) × (result.slots < 2 ^ 16) × (0 < result.size) × (result.area < 2 ^ 32) }
 {
     let code = &function.located.code;
     let area = area_of(code);
     let outgoing = outgoing_of(code);
-    let words = u64::from(function.located.slots) + outgoing + 13;
+    let below = outgoing + saved.len() as u64;
+    let words = u64::from(function.located.slots) + below;
     let size = (area + 8 * words + 15) / 16 * 16;
     Layout {
         saves: 8 * outgoing,
-        slots: 8 * (outgoing + 13),
+        slots: 8 * below,
         area: size - area,
         size,
         result: function.located.code.result,
@@ -134,11 +140,13 @@ pub fn frame(alloc: Global, function: &FlatFunc) -> Result<LabelledCode, AllocEr
     ensures promise { IfOk result (λ c. FramePromise c.items (frame_bound function.now.located.code function.now.located.slots) (frame_size function.now.located.code function.now.located.slots) (area function.now.located.code) (map (λ d. d.class) function.now.located.code.params) function.now.located.code.result (λ addresses. flat_begin function.now.located.code) (λ addresses. flat_step function.now.located.code addresses)) }
     ensures size { IfOk result (λ c. longest_size c.items ≤ 32 * code_weight function.now.located.code + 256) }
 {
-    let layout = layout_of(function);
+    let saved = saved_registers(alloc, &function.located.code)?;
+    let layout = layout_of(function, saved.as_slice());
     let mut items = Vec::new(alloc);
     push_function(
         &mut items,
         &layout,
+        saved.as_slice(),
         function.located.code.params.as_slice(),
         function.located.code.blocks.as_slice(),
     )?;

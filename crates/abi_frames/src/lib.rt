@@ -1,7 +1,7 @@
 //! # Frames: machine code for code on flat bytes
 //!
 //! `frame::frame` makes the machine code of a function in location code, with labels in place of addresses. A function's frame has, upward from the stack pointer
-//! x2, its saved registers, its slots, and the area for blocks of memory. Each line becomes instructions of its own: operands that are not in registers come into
+//! x2, the registers that it saves (x1, and those of a callee that its code writes), its slots, and the area for blocks of memory. Each line becomes instructions of its own: operands that are not in registers come into
 //! x28 and x29, and a value for a slot goes through x28. A return goes to the one end of the frame, behind the last block.
 //!
 //! What the code owes is `FramePromise` (`specs/Promise.antt`): in every world and wherever it stands, from every state that is ready for the call
@@ -34,5 +34,8 @@ mod line;
 mod memory_tests;
 mod operand;
 mod room;
+mod saved;
+#[cfg(test)]
+mod saved_tests;
 #[cfg(test)]
 mod tests;

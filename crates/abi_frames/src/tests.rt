@@ -38,8 +38,8 @@ fn an_empty_function_has_a_frame(rt: HostRuntime) -> Result<(), Fail> {
     assert!(rt; covers(&function));
     let code = frame(rt.alloc(), &function)?;
     assert_eq!(rt; code.labels(), 1);
-    // the stack pointer moves, 13 registers are saved, the label, and all of it back
-    assert_eq!(rt; code.items().len(), 1 + 13 + 1 + 13 + 1 + 1);
+    // the stack pointer moves, the return address is saved, the label, and all of it back
+    assert_eq!(rt; code.items().len(), 1 + 1 + 1 + 1 + 1 + 1);
     Ok(())
 }
 

@@ -1,4 +1,4 @@
-use Rattle.std.proofs.Common.{◌≡◌, ◌+◌, ◌*◌, ◌≤◌, ◌∙◌, sym, ap, subst, List, ℕ}
+use Rattle.std.proofs.Common.{◌≡◌, ◌+◌, ◌*◌, ◌≤◌, ◌∙◌, sym, ap, subst, List, ℕ, length}
 use Rattle.std.specs.Prelude.{map}
 use Rattle.rv_isa.specs.Labels.{IsLabelled, longest_size}
 use Rattle.rv_isa.specs.declared.labelled.Item.{Item}
@@ -11,6 +11,7 @@ use Rattle.abi_frames.specs.Laws.{IsCode}
 use Rattle.abi_frames.proofs.Joining.{items_are}
 use Rattle.abi_frames.proofs.Labelling.{frames_are_labelled}
 use Rattle.abi_frames.proofs.Sizes.{frames_are_small}
+use Rattle.abi_frames.proofs.Saving.{few_saved_registers}
 use Rattle.abi_frames.proofs.Starting.{frames_perform}
 use Rattle.abi_frames.proofs.frame.frame.Goals as goal
 
@@ -28,7 +29,8 @@ new-requires c =
       light = c.requires.light;
     } in
     let items : c.push_function.new.items.items ≡ frame_items f slots =
-    items_are _ _ _ _ _ _ _ _ c.in_ok-push_function.ensures c.new-items.ensures.items c.layout_of-layout.ensures.value c.as_slice.ensures c.as_slice-2.ensures in
+    items_are _ _ _ _ _ _ _ _ _ _ c.in_ok-push_function.ensures c.new-items.ensures.items c.layout_of-layout.ensures.value
+    (c.as_slice-2.ensures.value ∙ c.in_ok-saved.ensures) c.as_slice-3.ensures c.as_slice-4.ensures in
     subst (λ (l : List Item). IsLabelled (record { items = l; labels = c.len.result + 1 })) (sym items)
     (subst (λ (n : ℕ). IsLabelled (record { items = frame_items f slots; labels = n + 1 })) (sym c.len.ensures) (frames_are_labelled f slots is))
 
@@ -46,7 +48,8 @@ returns-clause-promise c =
       light = c.requires.light;
     } in
     let items : c.push_function.new.items.items ≡ frame_items f slots =
-    items_are _ _ _ _ _ _ _ _ c.in_ok-push_function.ensures c.new-items.ensures.items c.layout_of-layout.ensures.value c.as_slice.ensures c.as_slice-2.ensures in
+    items_are _ _ _ _ _ _ _ _ _ _ c.in_ok-push_function.ensures c.new-items.ensures.items c.layout_of-layout.ensures.value
+    (c.as_slice-2.ensures.value ∙ c.in_ok-saved.ensures) c.as_slice-3.ensures c.as_slice-4.ensures in
     let whole : c.new.result.items ≡ frame_items f slots = ap (λ l. l.items) c.new.ensures ∙ items in
     subst (λ (l : List Item).
     FramePromise l (frame_bound f slots) (frame_size f slots) (area f) (map (λ d. d.class) f.params) f.result (λ addresses. flat_begin f)
@@ -66,6 +69,11 @@ returns-clause-size c =
       light = c.requires.light;
     } in
     let items : c.push_function.new.items.items ≡ frame_items f slots =
-    items_are _ _ _ _ _ _ _ _ c.in_ok-push_function.ensures c.new-items.ensures.items c.layout_of-layout.ensures.value c.as_slice.ensures c.as_slice-2.ensures in
+    items_are _ _ _ _ _ _ _ _ _ _ c.in_ok-push_function.ensures c.new-items.ensures.items c.layout_of-layout.ensures.value
+    (c.as_slice-2.ensures.value ∙ c.in_ok-saved.ensures) c.as_slice-3.ensures c.as_slice-4.ensures in
     let whole : c.new.result.items ≡ frame_items f slots = ap (λ l. l.items) c.new.ensures ∙ items in
     subst (λ (l : List Item). longest_size l ≤ 32 * code_weight f + 256) (sym whole) (frames_are_small f slots is)
+
+pub push_function-requires-clause-few_saved : goal.push_function-requires-clause-few_saved
+push_function-requires-clause-few_saved c =
+    subst (λ (rs : List ℕ). length rs ≤ 13) (sym (c.as_slice-2.ensures.value ∙ c.in_ok-saved.ensures)) (few_saved_registers c.args.function.now.located.code)

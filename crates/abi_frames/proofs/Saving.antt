@@ -1,0 +1,167 @@
+-- The registers that a function saves: those of a callee that its code writes.
+use Rattle.std.proofs.Common.{◌≡◌, ℕ, zero, suc, ◌<◌, ◌≤◌, Bool, true, false, List, [], ◌∷◌, refl, sym, ◌∙◌, ap, arith}
+use Rattle.std.specs.Prelude.{◌||◌, nat_eq, if◌then◌else◌, length, slice_get, Some}
+use Rattle.std.specs.List.{list_all, list_any}
+use Rattle.std.proofs.lemmas.Bool.{and_parts, and_from}
+use Rattle.std.proofs.lemmas.Bool.Decides.{nat_tests}
+use Rattle.vcode.specs.declared.place.Location.{Location}
+use Rattle.vcode.specs.declared.place.Location.TheVariants.{Register as InRegister, Slot}
+use Rattle.vcode.specs.declared.place.Destination.{Destination}
+use Rattle.vcode.specs.declared.line.Line.{Line}
+use Rattle.vcode.specs.declared.code.Block.{Block}
+use Rattle.vcode.specs.declared.code.Code.{Code}
+use Rattle.vcode.specs.Named.{is_place}
+use Rattle.abi_frames.specs.Calls.{is_kept}
+use Rattle.abi_frames.specs.Layout.{is_register, writes, block_writes, is_written, written_of, callee_saved, saved_registers}
+use Rattle.abi_frames.proofs.Activations.{can_save, is_among, place_is, MayWrite}
+
+-- ---- those of a list that the code writes
+
+written_all : (test : ℕ → Bool) (f : Code Location) (rs : List ℕ) → list_all test rs ≡ true → list_all test (written_of f rs) ≡ true
+written_all test f [] h = refl
+written_all test f (r ∷ rs) h =
+    let parts = and_parts (test r) (list_all test rs) h in
+    by_test parts.0 (written_all test f rs parts.1) (is_written f r)
+  where
+    by_test : test r ≡ true → list_all test (written_of f rs) ≡ true → (b : Bool)
+        → list_all test (if b then r ∷ written_of f rs else written_of f rs) ≡ true
+    by_test one more true = and_from (test r) (list_all test (written_of f rs)) one more
+    by_test one more false = more
+
+few_written : (f : Code Location) (rs : List ℕ) → length (written_of f rs) ≤ length rs
+few_written f [] = omega arith
+few_written f (r ∷ rs) = by_test (few_written f rs) (is_written f r)
+  where
+    by_test : length (written_of f rs) ≤ length rs → (b : Bool) → length (if b then r ∷ written_of f rs else written_of f rs) ≤ suc (length rs)
+    by_test rest true = omega (arith, rest)
+    by_test rest false = omega (arith, rest)
+
+eq_is : (a b : ℕ) → nat_eq a b ≡ true → a ≡ b
+eq_is a b h = grind (arith, nat_tests)
+
+written_among : (f : Code Location) (n : ℕ) (rs : List ℕ) → is_written f n ≡ true → is_among n rs ≡ true → is_among n (written_of f rs) ≡ true
+written_among f n [] is h = absurd (let no : ⊥ = cc in no)
+written_among f n (r ∷ rs) is h = by_test (λ k. written_among f n rs is k) (nat_eq n r) refl (is_written f r) refl h
+  where
+    two_ways : (b : Bool) → b ≡ true → b ≡ false → ⊥
+    two_ways b e d = cc
+
+    first : (t : Bool) → t ≡ true → (t || is_among n (written_of f rs)) ≡ true
+    first true e = refl
+    first false e = absurd (let no : ⊥ = cc in no)
+
+    later : (t : Bool) → is_among n (written_of f rs) ≡ true → (t || is_among n (written_of f rs)) ≡ true
+    later true e = refl
+    later false e = e
+
+    by_test : (is_among n rs ≡ true → is_among n (written_of f rs) ≡ true) → (t : Bool) → nat_eq n r ≡ t → (b : Bool) → is_written f r ≡ b
+        → (t || is_among n rs) ≡ true → is_among n (if b then r ∷ written_of f rs else written_of f rs) ≡ true
+    by_test rest true e true d k = first (nat_eq n r) e
+    by_test rest true e false d k = absurd (two_ways (is_written f r) (ap (is_written f) (sym (eq_is n r e)) ∙ is) d)
+    by_test rest false e true d k = later (nat_eq n r) (rest k)
+    by_test rest false e false d k = rest k
+
+-- ---- the saved registers
+
+pub can_save_all : (f : Code Location) → list_all can_save (saved_registers f) ≡ true
+unfolding saved_registers
+can_save_all f = written_all can_save f callee_saved refl
+
+pub few_saved_registers : (f : Code Location) → length (saved_registers f) ≤ 13
+unfolding saved_registers
+few_saved_registers f = let few = few_written f callee_saved in more (length (written_of f callee_saved)) few
+  where
+    more : (n : ℕ) → n ≤ 12 → suc n ≤ 13
+    more n h = omega (arith, h)
+
+pub some_saved_register : (f : Code Location) → 0 < length (saved_registers f)
+unfolding saved_registers
+some_saved_register f = more (length (written_of f callee_saved))
+  where
+    more : (n : ℕ) → 0 < suc n
+    more n = omega arith
+
+pub return_is_saved : (f : Code Location) → is_among 1 (saved_registers f) ≡ true
+unfolding saved_registers
+return_is_saved f = refl
+
+among_callee_saved : (r : ℕ) → 5 ≤ r → is_kept r ≡ true → is_among r callee_saved ≡ true
+among_callee_saved r from kept = grind (arith, nat_tests)
+
+-- a written register that a callee keeps is saved
+written_saved : (f : Code Location) (r : ℕ) → 5 ≤ r → is_written f r ≡ true → is_kept r ≡ true → is_among r (saved_registers f) ≡ true
+unfolding saved_registers
+written_saved f r from is kept = later (nat_eq r 1) (written_among f r callee_saved is (among_callee_saved r from kept))
+  where
+    later : (t : Bool) → is_among r (written_of f callee_saved) ≡ true → (t || is_among r (written_of f callee_saved)) ≡ true
+    later true e = refl
+    later false e = e
+
+-- ---- destinations
+
+any_one : {X : Type 0} (test : X → Bool) (xs : List X) (i : ℕ) (x : X) → slice_get xs i ≡ Some x → test x ≡ true → list_any test xs ≡ true
+any_one test [] i x e h = absurd (let no : ⊥ = cc in no)
+any_one {X} test (y ∷ xs) zero x e h = first (test y) (ap test (same y x e) ∙ h)
+  where
+    same : (a b : X) → Some a ≡ Some b → a ≡ b
+    same a b d = cc
+
+    first : (t : Bool) → t ≡ true → (t || list_any test xs) ≡ true
+    first true d = refl
+    first false d = absurd (let no : ⊥ = cc in no)
+any_one test (y ∷ xs) (suc i) x e h = later (test y) (any_one test xs i x e h)
+  where
+    later : (t : Bool) → list_any test xs ≡ true → (t || list_any test xs) ≡ true
+    later true d = refl
+    later false d = d
+
+or_right : (a b : Bool) → b ≡ true → (a || b) ≡ true
+or_right true b e = refl
+or_right false b e = e
+
+or_left : (a b : Bool) → a ≡ true → (a || b) ≡ true
+or_left true b e = refl
+or_left false b e = absurd (let no : ⊥ = cc in no)
+
+equal_self : (r : ℕ) → nat_eq r r ≡ true
+equal_self r = by_test (nat_eq r r) refl
+  where
+    by_test : (b : Bool) → nat_eq r r ≡ b → nat_eq r r ≡ true
+    by_test true e = e
+    by_test false e = absurd (let no : ⊥ = grind (arith, nat_tests) in no)
+
+abbrev is_place_of : ℕ → Destination Location → Bool
+is_place_of n d = is_register n d.place
+
+-- the destination of a line may be written
+pub line_may : (f : Code Location) (slots i j : ℕ) (b : Block Location) (l : Line Location) → slice_get f.blocks i ≡ Some b → slice_get b.lines j ≡ Some l
+    → (to : Location) → is_place slots to ≡ true → ((n : ℕ) → is_register n to ≡ writes n l) → MayWrite (saved_registers f) to
+line_may f slots i j b l in_code in_block (Slot k) good it = tt
+line_may f slots i j b l in_code in_block (InRegister r) good it =
+    let here : writes r l ≡ true = sym (it r) ∙ equal_self r in
+    let block : block_writes r b ≡ true = any_one (writes r) b.lines j l in_block here in
+    let code = any_one (block_writes r) f.blocks i b in_code block in
+    written_saved f r (place_is slots r good).from_5 (or_right (list_any (is_place_of r) f.params) (list_any (block_writes r) f.blocks) code)
+
+-- the places of parameters may be written
+abbrev pub AllMayWrite : List ℕ → List (Destination Location) → Type 0
+AllMayWrite rs [] = Unit {0}
+AllMayWrite rs (d ∷ ds) = MayWrite rs d.place × AllMayWrite rs ds
+
+param_may : (f : Code Location) (slots : ℕ) (to : Location) → is_place slots to ≡ true → ((n : ℕ) → is_register n to ≡ true → is_written f n ≡ true)
+    → MayWrite (saved_registers f) to
+param_may f slots (Slot k) good it = tt
+param_may f slots (InRegister r) good it = written_saved f r (place_is slots r good).from_5 (it r (equal_self r))
+
+params_may : (f : Code Location) (slots : ℕ) (ds : List (Destination Location)) → list_all (λ (d : Destination Location). is_place slots d.place) ds ≡ true
+    → ((n : ℕ) → list_any (is_place_of n) ds ≡ true → is_written f n ≡ true) → AllMayWrite (saved_registers f) ds
+params_may f slots [] good it = tt
+params_may f slots (d ∷ ds) good it =
+    let parts = and_parts (is_place slots d.place) (list_all (λ (e : Destination Location). is_place slots e.place) ds) good in (
+      param_may f slots d.place parts.0 (λ n e. it n (or_left (is_place_of n d) (list_any (is_place_of n) ds) e)),
+      params_may f slots ds parts.1 (λ n e. it n (or_right (is_place_of n d) (list_any (is_place_of n) ds) e)),
+    )
+
+pub all_params_may : (f : Code Location) (slots : ℕ) → list_all (λ (d : Destination Location). is_place slots d.place) f.params ≡ true
+    → AllMayWrite (saved_registers f) f.params
+all_params_may f slots good = params_may f slots f.params good (λ n e. or_left (list_any (is_place_of n) f.params) (list_any (block_writes n) f.blocks) e)

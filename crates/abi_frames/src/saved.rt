@@ -1,0 +1,114 @@
+//! Which registers a function saves.
+ghost use Rattle.std.specs.Prelude.{◌≡◌, ◌++◌, ◌<◌, ◌≤◌, length, OnOk, IfOk};
+ghost use Rattle.std.specs.List.{list_any};
+ghost use Rattle.abi_frames.specs.Layout.{is_register, receives, writes, block_writes, is_written, written_of, saved_registers};
+
+use std::alloc::{AllocError, Global};
+use vcode::code::{Block, Code};
+use vcode::line::Line;
+use vcode::place::{Destination, Location};
+
+fn is_register(place: &Location, number: u8) -> bool
+    ensures { result ≡ is_register number place.now }
+{
+    match place {
+        Location::Register(register) => number == *register,
+        Location::Slot(_) => false,
+    }
+}
+
+fn receives(to: &Option<Destination<Location>>, number: u8) -> bool
+    ensures { result ≡ receives number to.now }
+{
+    match to {
+        None => false,
+        Some(wanted) => is_register(&wanted.place, number),
+    }
+}
+
+fn writes(line: &Line<Location>, number: u8) -> bool
+    ensures { result ≡ writes number line.now }
+{
+    match line {
+        Line::Set { to, .. }
+        | Line::Operate { to, .. }
+        | Line::Load { to, .. }
+        | Line::Alloc { to, .. } => is_register(to, number),
+        Line::Call { to, .. } => receives(to, number),
+        Line::Tick { .. } | Line::Store { .. } | Line::Blit { .. } => false,
+    }
+}
+
+fn block_writes(block: &Block<Location>, number: u8) -> bool
+    ensures { result ≡ block_writes number block.now }
+{
+    lines_write(block.lines.as_slice(), number)
+}
+
+fn lines_write(lines: &[Line<Location>], number: u8) -> bool
+    ensures { result ≡ list_any (writes number) lines.now }
+{
+    for line in lines {
+        if writes(line, number) {
+            return true;
+        }
+    }
+    false
+}
+
+fn blocks_write(blocks: &[Block<Location>], number: u8) -> bool
+    ensures { result ≡ list_any (block_writes number) blocks.now }
+{
+    for block in blocks {
+        if block_writes(block, number) {
+            return true;
+        }
+    }
+    false
+}
+
+fn params_take(params: &[Destination<Location>], number: u8) -> bool
+    ensures { result ≡ list_any (λ d. is_register number d.place) params.now }
+{
+    for parameter in params {
+        if is_register(&parameter.place, number) {
+            return true;
+        }
+    }
+    false
+}
+
+fn is_written(code: &Code<Location>, number: u8) -> bool
+    ensures { result ≡ is_written code.now number }
+{
+    params_take(code.params.as_slice(), number) || blocks_write(code.blocks.as_slice(), number)
+}
+
+fn push_written(
+    saved: &mut Vec<u8>,
+    code: &Code<Location>,
+    registers: &[u8],
+) -> Result<(), AllocError>
+    ensures { OnOk result (saved.new.items ≡ saved.old.items ++ written_of code.now registers.now) }
+{
+    for number in registers {
+        if is_written(code, *number) {
+            saved.push(*number)?;
+        }
+    }
+    Ok(())
+}
+
+/// The registers that a function saves: x1, and those of x8, x9 and x18 to x27 that its code writes.
+pub(crate) fn saved_registers(alloc: Global, code: &Code<Location>) -> Result<Vec<u8>, AllocError>
+    ensures { IfOk result (λ v. v.items ≡ saved_registers code.now) }
+{
+    let mut saved = Vec::new(alloc);
+    saved.push(1)?;
+    push_written(
+        &mut saved,
+        code,
+        [8, 9, 18, 19, 20, 21, 22, 23, 24, 25, 26, 27].as_slice(),
+    )?;
+    Ok(saved)
+}
