@@ -100,7 +100,7 @@ pub(crate) fn covers_params(params: &[Destination<Location>]) -> bool
     true
 }
 
-/// Can `frame` be called for this function?
+/// Is the function's code such as frames are made for? `frame` wants its weight to be at most 40,000 as well.
 pub fn covers(function: &FlatFunc) -> bool
     ensures { result ≡ is_covered function.now.located.code }
 {

@@ -1,8 +1,10 @@
 //! # Frames: machine code for code on flat bytes
 //!
 //! `frame::frame` makes the machine code of a function in location code, with labels in place of addresses. A function's frame has, upward from the stack pointer
-//! x2, the registers that it saves (x1, and those of a callee that its code writes), its slots, and the area for blocks of memory. Each line becomes instructions of its own: operands that are not in registers come into
-//! x28 and x29, and a value for a slot goes through x28. A return goes to the one end of the frame, behind the last block.
+//! x2, the arguments past the eighth of the calls that it makes, the registers that it saves (x1, and those of a callee that its code writes), its slots, and the
+//! area for blocks of memory. Each line becomes instructions of its own: operands that are not in registers come into x28 and x29, and a value for a slot goes
+//! through x28. Each block of memory stands behind those of the lines before it. Bytes are copied through x30, eight at a time and the rest as four, two and one.
+//! A return goes to the one end of the frame, behind the last block.
 //!
 //! What the code owes is `FramePromise` (`specs/Promise.antt`): in every world and wherever it stands, from every state that is ready for the call
 //! (`specs/Calls.antt`, by the integer calling convention of the RISC-V ELF psABI), the machine performs what the code on bytes runs (`specs/Performs.antt`), in
