@@ -5,7 +5,7 @@ use cfg_live::uses::Uses;
 use std::alloc::{AllocError, Global};
 use vcode::code::Block;
 use vcode::function::VFunc;
-use vcode::line::Line;
+use vcode::line::{Jump, Line};
 use vcode::place::Destination;
 
 /// Right before a point, or right after it.
@@ -132,17 +132,34 @@ fn push_lines(calls: &mut Vec<Calls>, lines: &[Line<u32>]) -> Result<(), AllocEr
     Ok(())
 }
 
-// Of the registers that are live in a block without being named in it, each is live at its start or at its jump.
+// Whether the jump of the block of this number may lead to the block itself or to one before it.
+fn leads_back(number: usize, jump: &Jump<u32>) -> bool {
+    match jump {
+        Jump::Goto(target) => *target <= number,
+        Jump::Branch {
+            nonzero,
+            otherwise,
+            ..
+        } => *nonzero <= number || *otherwise <= number,
+        _ => false,
+    }
+}
+
+// Of the registers that are live in a block without being named in it, each is live at its start. What is live at a jump is read by it, or live at the start of a
+// block that it leads to: if that comes later in the text, the interval lasts over the jump.
 fn push_block(
     calls: &mut Vec<Calls>,
     ranges: &mut [Option<Range>],
     live: &Live,
     registers: u32,
+    number: usize,
     block: &Block<u32>,
 ) -> Result<(), AllocError> {
     extend_live(ranges, live, calls.len(), registers);
     push_lines(calls, block.lines.as_slice())?;
-    extend_live(ranges, live, calls.len(), registers);
+    if leads_back(number, &block.jump) {
+        extend_live(ranges, live, calls.len(), registers);
+    }
     push_point(calls, false)
 }
 
@@ -153,8 +170,8 @@ fn push_blocks(
     registers: u32,
     blocks: &[Block<u32>],
 ) -> Result<(), AllocError> {
-    for block in blocks {
-        push_block(calls, ranges, live, registers, block)?;
+    for (number, block) in blocks.iter().enumerate() {
+        push_block(calls, ranges, live, registers, number, block)?;
     }
     Ok(())
 }

@@ -9,10 +9,12 @@ use crate::spill_all::slots;
 use crate::strategy::Strategy;
 use cfg_live::sets::Live;
 use std::alloc::{AllocError, Global};
+use vcode::code::Block;
 use vcode::function::VFunc;
 use vcode::place::Location;
 
-/// Answers one place for each register: one of x5 to x9 and x18 to x27, or its own slot; none where memory is refused.
+/// Answers one place for each register: one of x5 to x9 and x18 to x27, or its own slot; none where memory is refused, or where blocks and registers are so many for the
+/// lines that a list of registers for each block might be far longer than the function.
 #[derive(Drop)]
 pub struct LinearScan {
     alloc: Global,
@@ -187,6 +189,26 @@ fn place_in(list: &mut [Location], intervals: &[Interval])
     place_all(list, machine.as_mut_slice(), intervals);
 }
 
+// How many lines there are, and a jump for each block.
+fn line_count(blocks: &[Block<u32>]) -> usize {
+    let mut count = 0usize;
+    for block in blocks {
+        count = count.saturating_add(block.lines.len()).saturating_add(1);
+    }
+    count
+}
+
+// The registers that blocks are looked through for, for each line of the code, at most.
+const REGISTERS_A_LINE: usize = 256;
+
+// A certificate names the live registers of each block, which may be nearly all there are. Where that is more than so many for each line, making and checking it
+// would take far longer than all else.
+fn is_wide(function: &VFunc) -> bool {
+    let blocks = function.code.blocks.as_slice();
+    let most = line_count(blocks).saturating_mul(REGISTERS_A_LINE);
+    most < blocks.len().saturating_mul(function.registers as usize)
+}
+
 // A place for each register.
 fn places(alloc: Global, function: &VFunc, live: &Live) -> Result<Vec<Location>, AllocError>
     ensures stand { IfOk result (λ v. all_stand 0 v.items ≡ true) }
@@ -215,6 +237,9 @@ impl Strategy for LinearScan {
     fn choose(&mut self, function: &VFunc, live: &Live) -> Option<Certificate>
         ensures { IfSome result (λ c. IsScanned function.now.code function.now.registers live.now c) }
     {
+        if is_wide(function) {
+            return None;
+        }
         scanned(self.alloc, function, live).ok()
     }
 }

@@ -1,4 +1,6 @@
 //! A function of one line, and its certificates.
+ghost use Rattle.std.specs.Prelude.{◌<◌};
+
 use crate::certificate::Equality;
 use crate::linear_scan::{LinearScan, scanned};
 use crate::list::certificate_of;
@@ -16,6 +18,14 @@ use vcode::place::{Argument, Destination, Location, Operand};
 
 /// Copies its argument from register 0 to register 1, and returns that.
 fn copying(alloc: Global) -> Result<VFunc, AllocError> {
+    copying_among(alloc, 2)
+}
+
+/// The same, of a function with so many registers.
+fn copying_among(alloc: Global, registers: u32) -> Result<VFunc, AllocError>
+    requires some { 1 < registers }
+    requires few { registers < 65536 }
+{
     let mut params = Seq::new(alloc);
     params.push(Destination {
         place: 0,
@@ -41,7 +51,7 @@ fn copying(alloc: Global) -> Result<VFunc, AllocError> {
             params,
             blocks,
         },
-        registers: 2,
+        registers,
     })
 }
 
@@ -177,5 +187,18 @@ fn a_value_over_a_call_stands_where_callees_keep_it(rt: HostRuntime) -> Result<(
         certificate.places.as_slice()[1].as_slice(),
         [at(0, x8), at(1, x5), at(2, x5)].as_slice()
     );
+    Ok(())
+}
+
+/// A block that many registers would be looked for in, and one that more than many would be.
+#[test]
+fn too_many_registers_are_not_scanned(rt: HostRuntime) -> Result<(), Fail> {
+    let alloc = rt.alloc();
+    for (registers, scanned) in [(700u32, true), (800, false)] {
+        let function = copying_among(alloc, registers)?;
+        let live = live(alloc, &function)?;
+        let choice = LinearScan::new(alloc).choose(&function, &live);
+        assert_eq!(rt; choice.is_some(), scanned, "{registers} registers");
+    }
     Ok(())
 }
