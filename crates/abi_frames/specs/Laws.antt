@@ -1,14 +1,12 @@
 -- What is proved of the code of frames.
-use Rattle.std.specs.Prelude.{ℕ, ◌+◌, ◌*◌, ◌<◌, ◌≤◌, IsTrue, nat_le, map, length}
+use Rattle.std.specs.Prelude.{ℕ, ◌+◌, ◌*◌, ◌<◌, ◌≤◌, IsTrue, nat_le, length}
 use Rattle.rv_isa.specs.Labels.{IsLabelled, longest_size}
 use Rattle.vcode.specs.declared.place.Location.{Location}
 use Rattle.vcode.specs.declared.code.Code.{Code}
 use Rattle.vcode.specs.Places.{located}
 use Rattle.vcode.specs.Named.{keeps_places, is_place, are_near, are_distinct}
-use Rattle.vcode.specs.Regular.{IsRegular, area, code_weight}
-use Rattle.flat_code.specs.Step.{flat_begin, flat_step}
-use Rattle.abi_frames.specs.Promise.{FramePromise}
-use Rattle.abi_frames.specs.Layout.{frame_bound, frame_size}
+use Rattle.vcode.specs.Regular.{IsRegular, code_weight}
+use Rattle.abi_frames.specs.Frames.{IsFrameOf}
 use Rattle.abi_frames.specs.Functions.{frame_items}
 use Rattle.abi_frames.specs.Covered.{is_covered}
 
@@ -35,5 +33,4 @@ FramesAreSmall = (f : Code Location) (slots : ℕ) → IsCode f slots → longes
 abbrev pub FramesPerform : Type 0
 FramesPerform =
     (f : Code Location) (slots : ℕ) → IsCode f slots
-    → FramePromise (frame_items f slots) (frame_bound f slots) (frame_size f slots) (area f) (map (λ d. d.class) f.params) f.result
-    (λ addresses. flat_begin f) (λ addresses. flat_step f addresses)
+    → IsFrameOf f slots (frame_items f slots)

@@ -10,25 +10,9 @@ use Rattle.vcode.specs.declared.line.Line.{Line}
 use Rattle.vcode.specs.declared.line.Line.TheVariants.{Set, Operate, Load, Alloc, Call}
 use Rattle.vcode.specs.declared.code.Block.{Block}
 use Rattle.vcode.specs.declared.code.Code.{Code}
+pub use Rattle.vcode.specs.Outgoing.{args_on_stack, most_in_lines, most_in_blocks, outgoing}
 use Rattle.vcode.specs.Regular.{area}
 use Rattle.abi_frames.specs.declared.layout.Layout.{Layout}
-
--- the arguments of a call that are passed on the stack
-abbrev pub args_on_stack : Line Location → ℕ
-args_on_stack (Call to callee args) = length args - 8
-args_on_stack l = 0
-
-abbrev pub most_in_lines : List (Line Location) → ℕ
-most_in_lines [] = 0
-most_in_lines (l ∷ lines) = max (args_on_stack l) (most_in_lines lines)
-
-abbrev pub most_in_blocks : List (Block Location) → ℕ
-most_in_blocks [] = 0
-most_in_blocks (b ∷ blocks) = max (most_in_lines b.lines) (most_in_blocks blocks)
-
--- the most arguments that a call passes on the stack
-abbrev pub outgoing : Code Location → ℕ
-outgoing f = most_in_blocks f.blocks
 
 -- a place that is the register of this number
 abbrev pub is_register : (number : ℕ) → Location → Bool

@@ -7,3 +7,4 @@ pub mod Functions
 pub mod Covered
 pub mod Laws
 pub mod Examples
+pub mod Frames

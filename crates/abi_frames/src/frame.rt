@@ -9,7 +9,7 @@ ghost use Rattle.abi_frames.specs.Layout.{layout, saved_registers, frame_bound, 
 ghost use Rattle.abi_frames.specs.Emission.{lines_items, jump_items, epilogue, block_items, blocks_items};
 ghost use Rattle.abi_frames.specs.Functions.{entry_items, function_items, frame_items};
 ghost use Rattle.rv_isa.specs.declared.labelled.Item.TheVariants.{Label};
-ghost use Rattle.abi_frames.specs.Promise.{FramePromise};
+ghost use Rattle.abi_frames.specs.Frames.{IsFrameOf};
 
 use crate::ends::{push_epilogue, push_prologue};
 use crate::entry::push_entry;
@@ -128,7 +128,7 @@ fn layout_of(function: &FlatFunc, saved: &[u8]) -> Layout
     }
 }
 
-/// The machine code of a function whose code is covered and weighs at most 40,000, with at most 32 words for each unit of its weight, and 256. Wherever it stands, it performs what the
+/// The machine code of a function whose code is covered, with at most 32 words for each unit of its weight, and 256. Wherever it stands, it performs what the
 /// function's code on bytes runs.
 ///
 /// # Errors
@@ -136,8 +136,7 @@ fn layout_of(function: &FlatFunc, saved: &[u8]) -> Layout
 /// Only where memory was refused.
 pub fn frame(alloc: Global, function: &FlatFunc) -> Result<LabelledCode, AllocError>
     requires covered { IsTrue (is_covered function.now.located.code) }
-    requires light { IsTrue (nat_le (code_weight function.now.located.code) 40000) }
-    ensures promise { IfOk result (λ c. FramePromise c.items (frame_bound function.now.located.code function.now.located.slots) (frame_size function.now.located.code function.now.located.slots) (area function.now.located.code) (map (λ d. d.class) function.now.located.code.params) function.now.located.code.result (λ addresses. flat_begin function.now.located.code) (λ addresses. flat_step function.now.located.code addresses)) }
+    ensures promise { IfOk result (λ c. IsFrameOf function.now.located.code function.now.located.slots c.items) }
     ensures size { IfOk result (λ c. longest_size c.items ≤ 32 * code_weight function.now.located.code + 256) }
 {
     let saved = saved_registers(alloc, &function.located.code)?;

@@ -33,7 +33,7 @@ pub line_on : (c : Certificate) (p : ℕ) (l : Line ℕ) (lines : List (Line ℕ
     → certified_lines c p (l ∷ lines) ≡ transfers (moves_before c p l) ++ placed_line (layout_at c p) l ∷ certified_lines c (next_point p l) lines
 line_on c p l lines = lines_on c p l lines ∙ append_three (transfers (moves_before c p l)) (placed_line (layout_at c p) l ∷ []) (certified_lines c (next_point p l) lines)
 
-no_rest : (xs : List (Line Location)) → xs ≡ xs ++ []
+pub no_rest : (xs : List (Line Location)) → xs ≡ xs ++ []
 no_rest [] = refl
 no_rest (x ∷ xs) = ap (λ zs. x ∷ zs) (no_rest xs)
 
@@ -113,7 +113,7 @@ blocks_count : (c : Certificate) (p : ℕ) (blocks : List (Block ℕ)) → lengt
 blocks_count c p [] = refl
 blocks_count c p (b ∷ blocks) = ap suc (blocks_count c (jump_point p b.lines + 1) blocks)
 
-pub params_count : (ds : List (Destination ℕ)) (qs : List Location) → length (certified_params ds qs) ≤ length ds
+params_count : (ds : List (Destination ℕ)) (qs : List Location) → length (certified_params ds qs) ≤ length ds
 params_count [] qs = omega arith
 params_count (d ∷ ds) [] = omega arith
 params_count (d ∷ ds) (q ∷ qs) = let low = params_count ds qs in omega arith
@@ -124,12 +124,12 @@ first_same c p (b ∷ blocks) =
     blocks_pass (λ (x : Block ℕ). not (list_any is_alloc x.lines)) (λ (x : Block Location). not (list_any is_alloc x.lines)) c
     (λ q x. ap not (lines_fail is_alloc is_alloc (λ at a. refl) alloc_same c q x.lines)) (jump_point p b.lines + 1) blocks
 
-area_same : (v : Code ℕ) (c : Certificate) → area (placed_by v c) ≡ area v
+pub area_same : (v : Code ℕ) (c : Certificate) → area (placed_by v c) ≡ area v
 area_same v c =
     blocks_add (λ (b : Block ℕ). sum_by alloc_bytes b.lines) (λ (b : Block Location). sum_by alloc_bytes b.lines) c
     (λ p b. lines_sum alloc_bytes alloc_bytes (λ q a. refl) bytes_same c p b.lines) 0 0 v.blocks
 
-weight_same : (f : Layout) (l : Line ℕ) → weight_of (placed_line f l) ≡ weight_of l
+pub weight_same : (f : Layout) (l : Line ℕ) → weight_of (placed_line f l) ≡ weight_of l
 weight_same f (Tick turn w) = refl
 weight_same f (Set to a) = refl
 weight_same f (Operate to op a b) = refl
@@ -143,15 +143,6 @@ pub weighs_same : (v : Code ℕ) (c : Certificate) → code_weight (placed_by v 
 weighs_same v c =
     blocks_add (λ (b : Block ℕ). sum_by weight_of b.lines) (λ (b : Block Location). sum_by weight_of b.lines) c
     (λ p b. lines_sum weight_of weight_of (λ q a. refl) weight_same c p b.lines) 0 0 v.blocks
-
-pub kinds_same : (v : Code ℕ) (c : Certificate) (test : Line Location → Bool) → ((q : Location) (a : Operand Location) → test (Set q a) ≡ true)
-    → ((f g : Layout) (l : Line ℕ) → test (placed_line f l) ≡ test (placed_line g l))
-    → list_all (λ (b : Block Location). list_all test b.lines) (placed_by v c).blocks ≡ list_all (λ (b : Block Location). list_all test b.lines) (in_slots v).blocks
-kinds_same v c test sets same =
-    blocks_pass (λ (b : Block ℕ). list_all (λ l. test (placed_line Slot l)) b.lines) (λ (b : Block Location). list_all test b.lines) c
-    (λ p b. lines_pass (λ l. test (placed_line Slot l)) test sets (λ f l. same f Slot l) c p b.lines) 0 v.blocks
-    ∙ sym (all_map (λ (b : Block ℕ). list_all (λ l. test (placed_line Slot l)) b.lines) (λ (b : Block Location). list_all test b.lines) (placed_block Slot)
-    (λ b. all_map (λ l. test (placed_line Slot l)) test (placed_line Slot) (λ l. refl) b.lines) v.blocks)
 
 -- ---- all of it
 

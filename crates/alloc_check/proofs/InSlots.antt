@@ -30,7 +30,7 @@ use Rattle.vcode.specs.Operations.{held, operate, loaded}
 use Rattle.vcode.specs.Places.{Values, unknown, put, assign, kept, virtual, located}
 use Rattle.vcode.specs.Step.{State, bound, begin, value_of, read, read_all, goes_on, sets, takes, changes, weighs, ticks, receives, resumes, calls, line_step, branches, returns, jump_step, block_step, step_in, step}
 use Rattle.alloc_check.specs.Placed.{placed_operand, placed_argument, placed_destination, placed_line, placed_jump, placed_block, in_slots}
-use Rattle.alloc_check.specs.Kept.{Keeps}
+use Rattle.alloc_check.specs.Kept.{RunsAlike}
 
 -- ---- states side by side
 
@@ -288,7 +288,7 @@ lockstep : (globals : List Value) (v : Code ℕ) (i : Given) → Lockstep Beside
 lockstep globals v i s t h =
     subst (λ (u : State Location). Goes (step virtual globals v i s) (step located globals (in_slots v) i u)) (sym h.1) (step_goes globals v i s h.0 h.2)
 
-pub slots_keep : (v : Code ℕ) → Keeps v (in_slots v)
+pub slots_keep : (v : Code ℕ) → RunsAlike v (in_slots v)
 slots_keep v globals =
     lockstep_keeps (map (λ d. d.class) v.params) (begin virtual v) (step virtual globals v) (begin located (in_slots v)) (step located globals (in_slots v)) (λ i. Beside)
     (λ i args. begins v i)

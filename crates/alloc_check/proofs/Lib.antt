@@ -7,6 +7,7 @@ pub mod Counted
 pub mod Entering
 pub mod Walks
 pub mod Certifies
+pub mod Measures
 pub mod Accepts
 pub mod Slots
 pub mod Spilled

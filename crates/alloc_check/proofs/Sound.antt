@@ -33,7 +33,7 @@ use Rattle.regalloc.specs.declared.certificate.Equality.{Equality}
 use Rattle.regalloc.specs.declared.certificate.Transfer.{Transfer}
 use Rattle.regalloc.specs.declared.certificate.Certificate.{Certificate}
 use Rattle.alloc_check.specs.Placed.{Layout, placed_operand, placed_argument, placed_destination, placed_line, placed_jump}
-use Rattle.alloc_check.specs.Kept.{Keeps}
+use Rattle.alloc_check.specs.Kept.{RunsAlike}
 use Rattle.alloc_check.specs.Owners.{Owners, nobody, Agrees, own_put, own_move, own_kept, moved, known, owns, operand_held, args_held, all_hold, where_held, received, after_line}
 use Rattle.alloc_check.specs.Certified.{moves_at, starts_at, layout_at, transfers, certified_lines, jump_point, certified_block, certified_blocks, certified_params, placed_by, jump_right, lines_right, blocks_right, own_params, is_param, entry_right, params_placed, is_sound}
 use Rattle.alloc_check.proofs.Agreeing.{both_true, either_true, Follows, follows_then, operand_follows, read_follows, args_follow, put_agrees, move_agrees, kept_agrees, AllFollow, known_agrees, all_follow, nobody_agrees, params_agree, other_unknown, owned_follows}
@@ -641,7 +641,7 @@ begins v c i sound args =
     (entry_follows v.params c.params i.args (own_params v.params c.params nobody) (starts_at c 0)
     (params_agree nobody unknown unknown v.params c.params i.args first.0 args (nobody_agrees unknown unknown)) second.0)
 
-pub sound_keeps : (v : Code ℕ) (c : Certificate) → is_sound v c ≡ true → Keeps v (placed_by v c)
+pub sound_keeps : (v : Code ℕ) (c : Certificate) → is_sound v c ≡ true → RunsAlike v (placed_by v c)
 sound_keeps v c sound globals =
     let first = both_true (params_placed v.params c.params) (entry_right v c && blocks_right c 0 0 v.blocks) sound in
     let second = both_true (entry_right v c) (blocks_right c 0 0 v.blocks) first.1 in

@@ -3,7 +3,8 @@ ghost use Rattle.std.specs.Prelude.{◌≡◌, ◌<◌, ◌^◌, ◌&&◌, true,
 ghost use Rattle.alloc_check.specs.declared.accept.Refused.TheVariants.{No};
 ghost use Rattle.alloc_check.specs.Certified.{placed_by};
 ghost use Rattle.alloc_check.specs.Accepted.{end_point, starts_exist, is_accepted};
-ghost use Rattle.alloc_check.specs.Kept.{Keeps};
+ghost use Rattle.il_ast.specs.Passes.{Keeps};
+ghost use Rattle.vcode.specs.Coded.{virtual_code, location_code};
 ghost use Rattle.alloc_check.specs.Walk.{sound_in};
 
 use crate::certified::certified;
@@ -59,7 +60,7 @@ fn is_right(alloc: Global, function: &VFunc, certificate: &Certificate) -> Resul
 pub fn accept(alloc: Global, function: &VFunc, certificate: &Certificate) -> Result<LFunc, Refused>
     ensures code { IfOk result (λ l. l.code ≡ placed_by function.now.code certificate.now) }
     ensures slots { IfOk result (λ l. l.slots ≡ function.now.registers) }
-    ensures kept { IfOk result (λ l. Keeps function.now.code l.code) }
+    ensures kept { IfOk result (λ l. Keeps (virtual_code function.now) (location_code l)) }
     ensures yes { IfOk result (λ l. is_accepted function.now certificate.now ≡ true) }
     ensures no { IfErr result (λ e. e ≡ No → is_accepted function.now certificate.now ≡ false) }
 {

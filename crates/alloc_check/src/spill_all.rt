@@ -2,7 +2,8 @@
 ghost use Rattle.std.specs.Prelude.{◌≡◌, ◌++◌, map, drop, OnOk, IfOk};
 ghost use Rattle.vcode.specs.declared.place.Location.TheVariants.{Slot};
 ghost use Rattle.alloc_check.specs.Placed.{placed_line, placed_block, placed_destination, in_slots};
-ghost use Rattle.alloc_check.specs.Kept.{Keeps};
+ghost use Rattle.il_ast.specs.Passes.{Keeps};
+ghost use Rattle.vcode.specs.Coded.{virtual_code, location_code};
 
 use crate::placing::{SlotForEach, destination, jump, line};
 use il_ast::list::Seq;
@@ -83,7 +84,7 @@ fn code_in_slots(alloc: Global, code: &Code<u32>) -> Result<Code<Location>, Allo
 pub fn spill_all(alloc: Global, function: &VFunc) -> Result<LFunc, AllocError>
     ensures code { IfOk result (λ l. l.code ≡ in_slots function.now.code) }
     ensures slots { IfOk result (λ l. l.slots ≡ function.now.registers) }
-    ensures kept { IfOk result (λ l. Keeps function.now.code l.code) }
+    ensures kept { IfOk result (λ l. Keeps (virtual_code function.now) (location_code l)) }
 {
     let code = code_in_slots(alloc, &function.code)?;
     Ok(LFunc {

@@ -13,12 +13,13 @@ use Rattle.il_ast.specs.declared.value.Callee.TheVariants.{Defined, SystemWrite,
 use Rattle.il_ast.specs.Cost.{need, round_16}
 use Rattle.il_ast.specs.Start.{target_value, values_of, globals_of}
 use Rattle.il_types.specs.declared.checked.Checked.{Checked}
-use Rattle.phi_copies.specs.Keeping.{classes_of}
+use Rattle.il_ast.specs.Passes.{classes_of}
 use Rattle.vcode.specs.Places.{located}
 use Rattle.vcode.specs.Regular.{area}
 use Rattle.vcode.specs.Step.{begin, step}
 use Rattle.flat_code.specs.Spots.{AllShow}
 use Rattle.flat_code.specs.Step.{flat_begin, flat_step}
+use Rattle.abi_frames.specs.Layout.{frame_size}
 use Rattle.rv_isa.specs.Words.{Words}
 use Rattle.rv_isa.specs.State.{State}
 use Rattle.obj_link.specs.declared.addresses.Addresses.{Addresses}
@@ -37,6 +38,7 @@ use Rattle.headline.specs.Functions.{FunctionsKept, body_of}
 use Rattle.headline.specs.Places.{setting_of, start_places}
 use Rattle.headline.specs.Executables.{entries_of, places_of}
 use Rattle.headline.specs.Compiled.{StandFor, EachStands, CompiledRuns}
+use Rattle.headline.proofs.InNeed.{bytes_in_need, frame_in_need}
 use Rattle.headline.proofs.LayersKeep.{layers_keep}
 use Rattle.headline.proofs.StartMemory.{get_within}
 use Rattle.headline.proofs.Running.{setting_is, executable_runs}
@@ -169,11 +171,11 @@ function_kept texts p codes x words s is each every fits good stands starts k at
     let addresses = addresses_in a (slice_get p.targets f.text) in
     let here = function_stands p codes x words s good stands starts k at code.words f code.here found entry in
     let labelled = r.laid (ground_of s) at global (λ n. target_small p codes fits (option_and_then (λ ts. slice_get ts n) (slice_get p.targets f.text))) here in
-    let m = r.machine in
-    layers_keep c setting at (need f.item) r.frame (area r.code) (classes_of f.item.params) f.item.result (globals_of p f.text) addresses (body_of p f) (begin located r.code) (step located (globals_of p f.text) r.code) (flat_begin r.code) (flat_step r.code addresses)
+    let m = frame_in_need f.item r.code r.slots r.items r.is r.machine in
+    layers_keep c setting at (need f.item) (frame_size r.code r.slots) (area r.code) (classes_of f.item.params) f.item.result (globals_of p f.text) addresses (body_of p f) (begin located r.code) (step located (globals_of p f.text) r.code) (flat_begin r.code) (flat_step r.code addresses)
     (record {
-      meaning = r.meaning (globals_of p f.text);
-      flat = r.bytes (record { entries = entries_of p codes; globals = globals_of p f.text; addresses = addresses });
+      meaning = r.is.runs (globals_of p f.text);
+      flat = bytes_in_need f.item r.code r.slots r.is r.bytes (record { entries = entries_of p codes; globals = globals_of p f.text; addresses = addresses });
       machine =
           m.keeps c.world at labelled.0 global addresses setting.world (λ n y e. name_is a (slice_get p.targets f.text) n y e)
           (address_aligned functions_start codes refl k at entry) labelled.1;

@@ -35,7 +35,7 @@ use Rattle.headline.proofs.LayersKeep.{layers_keep}
 
 -- the function of the example
 abbrev pub main_function : Placed Func
-main_function = record { text = 0; item = Rattle.il_ast.specs.ExamplePrograms.function [] (Rattle.il_ast.specs.ExamplePrograms.block 0 [] [] Rattle.il_ast.specs.declared.instruction.Jump.TheVariants.Halt ∷ []) 0 1 refl refl refl refl }
+main_function = record { text = 0; item = Rattle.il_ast.specs.ExamplePrograms.function [] (Rattle.il_ast.specs.ExamplePrograms.block 0 [] [] Rattle.il_ast.specs.declared.instruction.Jump.TheVariants.Halt ∷ []) 0 1 refl refl refl refl refl refl }
 
 run_halts : (callees : Callees) (room t : ℕ) (m : Memory) → run (record { func = main_function.item; globals = globals_of halts 0 }) callees room t t (begun main_function.item []) m ≡ halting t
 unfolding run effect

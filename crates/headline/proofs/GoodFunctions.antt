@@ -1,4 +1,4 @@
--- The functions of checked texts that were read are such as can be lowered.
+-- The functions of checked texts are such as can be lowered.
 use Rattle.std.proofs.Common.{◌≡◌, ℕ, ◌+◌, List, [], ◌∷◌, ◌++◌, refl, sym, ◌∙◌, ap, subst}
 use Rattle.std.specs.Prelude.{zero, suc, slice_get, Some}
 use Rattle.std.specs.Borrow.{Bor}
@@ -12,9 +12,6 @@ use Rattle.il_ast.specs.declared.text.Text.{Text}
 use Rattle.il_ast.specs.declared.program.Placed.{Placed}
 use Rattle.il_ast.specs.declared.program.Program.{Program}
 use Rattle.il_types.specs.declared.checked.Checked.{Checked}
-use Rattle.il_types.specs.Rules.{IsGood}
-use Rattle.il_reader.specs.Reads.{Reads}
-use Rattle.il_reader.proofs.Written.{functions_written}
 use Rattle.obj_link.specs.declared.linked.Linked.{Linked}
 use Rattle.obj_link.specs.Names.{function_in, functions_from}
 use Rattle.obj_link.specs.Shown.{shown}
@@ -22,13 +19,6 @@ use Rattle.obj_link.specs.Program.{IsProgram}
 use Rattle.obj_link.specs.ProgramOf.{program, IsLinked}
 use Rattle.phi_copies.specs.Good.{IsGoodFunction}
 use Rattle.phi_copies.proofs.GoodTexts.{good_function}
-use Rattle.headline.specs.Read.{AreRead}
-
--- ---- one text
-
-read_function : (t : Text) (bytes : List ℕ) → IsGood t → Reads bytes t → (k : ℕ) (f : Func) → slice_get t.definitions k ≡ Some (Function f) → IsGoodFunction f
-read_function t bytes good read k f at =
-    let w = functions_written bytes t read k f at in good_function t good k f at w.has_block w.phis_have_arguments
 
 -- ---- all texts
 
@@ -50,18 +40,17 @@ text_good n [] each = tt
 text_good n (Function f ∷ ds) each = (each 0 f refl, text_good n ds (λ k. each (suc k)))
 text_good n (Object d ∷ ds) each = text_good n ds (λ k. each (suc k))
 
-texts_good : (n : ℕ) (texts : List Checked) → AreRead texts → AllGood (functions_from n texts)
-texts_good n [] read = tt
-texts_good n (t ∷ texts) read =
+texts_good : (n : ℕ) (texts : List Checked) → AllGood (functions_from n texts)
+texts_good n [] = tt
+texts_good n (t ∷ texts) =
     both_good (flat_map (function_in n) t.text.definitions) (functions_from (n + 1) texts)
-    (let r = read 0 t refl in text_good n t.text.definitions (read_function t.text r.0 t.good r.1))
-    (texts_good (n + 1) texts (λ k. read (suc k)))
+    (text_good n t.text.definitions (good_function t.text t.good)) (texts_good (n + 1) texts)
 
 -- of a program
-pub program_functions_are_good : (texts : List Checked) (p : Program) → AreRead texts → IsProgram texts p → (k : ℕ) (f : Placed Func) → slice_get p.functions k ≡ Some f → IsGoodFunction f.item
-program_functions_are_good texts p read is k f at = good_at p.functions (subst AllGood (sym is.functions) (texts_good 0 texts read)) k f at
+pub program_functions_are_good : (texts : List Checked) (p : Program) → IsProgram texts p → (k : ℕ) (f : Placed Func) → slice_get p.functions k ≡ Some f → IsGoodFunction f.item
+program_functions_are_good texts p is k f at = good_at p.functions (subst AllGood (sym is.functions) (texts_good 0 texts)) k f at
 
 -- of linked texts
-pub functions_are_good : (texts : List Checked) (l : Linked) → AreRead texts → IsLinked texts l → (k : ℕ) (f : Placed (Bor Func)) → slice_get l.functions k ≡ Some f → IsGoodFunction f.item.now
-functions_are_good texts l read linked k f at =
-    program_functions_are_good texts (program l) read linked.is_program k (shown f) (slice_get-map shown l.functions k ∙ ap (option_map shown) at)
+pub functions_are_good : (texts : List Checked) (l : Linked) → IsLinked texts l → (k : ℕ) (f : Placed (Bor Func)) → slice_get l.functions k ≡ Some f → IsGoodFunction f.item.now
+functions_are_good texts l linked k f at =
+    program_functions_are_good texts (program l) linked.is_program k (shown f) (slice_get-map shown l.functions k ∙ ap (option_map shown) at)

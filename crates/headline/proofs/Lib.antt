@@ -17,5 +17,5 @@ pub mod NativeCode
 pub mod StartCode
 pub mod DataPlaced
 pub mod GoodFunctions
+pub mod InNeed
 pub mod CompiledRuns
-pub mod LocationCode

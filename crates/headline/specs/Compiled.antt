@@ -3,20 +3,14 @@ use Rattle.std.specs.Prelude.{ℕ, ◌≤◌, List, [], ◌∷◌, length}
 use Rattle.il_ast.specs.declared.function.Func.{Func}
 use Rattle.il_ast.specs.declared.program.Placed.{Placed}
 use Rattle.il_ast.specs.declared.program.Program.{Program}
-use Rattle.il_ast.specs.declared.value.Value.{Value}
-use Rattle.il_ast.specs.Cost.{need}
-use Rattle.il_ast.specs.Run.{body}
-use Rattle.il_ast.specs.Keeps.{Given, KeepsMeaning}
+use Rattle.il_ast.specs.Passes.{IsCodeOf}
 use Rattle.il_types.specs.declared.checked.Checked.{Checked}
-use Rattle.phi_copies.specs.Keeping.{classes_of}
 use Rattle.vcode.specs.declared.place.Location.{Location}
 use Rattle.vcode.specs.declared.code.Code.{Code}
+use Rattle.vcode.specs.Coded.{coded}
 use Rattle.vcode.specs.Places.{located}
-use Rattle.vcode.specs.Regular.{area}
-use Rattle.vcode.specs.Step.{begin, step}
-use Rattle.flat_code.specs.Flat.{Names, KeepsFlat}
-use Rattle.flat_code.specs.Step.{flat_begin, flat_step}
-use Rattle.abi_frames.specs.Promise.{FramePromise}
+use Rattle.flat_code.specs.Laws.{FlatKept}
+use Rattle.abi_frames.specs.Frames.{IsFrameOf}
 use Rattle.rv_isa.specs.declared.labelled.Item.{Item}
 use Rattle.rv_isa.specs.Laid.{LaysOut}
 use Rattle.rv_isa.specs.Words.{Words}
@@ -30,19 +24,14 @@ use Rattle.elf_file.specs.Stands.{Stands}
 use Rattle.rv_machine.specs.Start.{Starts}
 use Rattle.headline.specs.Headline.{Executes}
 
--- Words that stand for a function: they are the layout of labelled code that performs, in a frame within the function's need, what location code on bytes runs, and
--- this code, on blocks, keeps what the function means, whatever its text's global names mean.
+-- Words that stand for a function: they are the layout of labelled code that performs what location code, which is the function's, runs on bytes.
 pub record StandFor (f : Func) (c : Words) : Type 0 where
   pub code : Code Location
+  pub slots : ℕ
   pub items : List Item
-  pub frame : ℕ
-  pub meaning : (globals : List Value)
-      → KeepsMeaning (classes_of f.params) (begin located code) (step located globals code)
-      (λ callees (i : Given). body (record { func = f; globals = globals }) callees i.turns i.room i.args i.memory)
-  pub bytes : (names : Names)
-      → KeepsFlat names (classes_of f.params) f.result (area code) (begin located code) (step located names.globals code) (flat_begin code)
-      (flat_step code names.addresses)
-  pub machine : FramePromise items (need f) frame (area code) (classes_of f.params) f.result (λ addresses. flat_begin code) (λ addresses. flat_step code addresses)
+  pub is : IsCodeOf f (coded located code slots)
+  pub bytes : FlatKept code
+  pub machine : IsFrameOf code slots items
   pub laid : LaysOut items c.words c.holes
 
 -- one for each function, in order

@@ -10,4 +10,3 @@ pub mod Executable
 pub mod Executables
 pub mod Read
 pub mod Compiled
-pub mod Located

@@ -1,7 +1,6 @@
 //! The theorem that joins the layers, and what the compiler's first steps give the next, each part as the contract of a function that does nothing.
 ghost use Rattle.headline.specs.Functions.{CallsAreKept};
 ghost use Rattle.headline.specs.Headline.{Executes};
-ghost use Rattle.headline.specs.Located.{LocationCodeKeeps};
 ghost use Rattle.headline.specs.Read.{FunctionsAreGood};
 ghost use Rattle.headline.specs.Whole.{ProgramIsExecuted};
 ghost use Rattle.headline.specs.Executable.{ExecutableRuns};
@@ -49,7 +48,7 @@ pub fn executables_stand()
     ensures { PlacedStands }
 {}
 
-/// Each function of linked texts that were read from bytes is one that can be lowered.
+/// Each function of linked texts is one that can be lowered.
 pub fn functions_are_good()
     ensures { FunctionsAreGood }
 {}
@@ -57,9 +56,4 @@ pub fn functions_are_good()
 /// Where words stand for each function of a program, its executable executes it: from every start with argument words within their limits.
 pub fn compiled_programs_run()
     ensures { CompiledRuns }
-{}
-
-/// Location code that keeps the virtual code of a function of a good text keeps what the function means.
-pub fn location_code_keeps()
-    ensures { LocationCodeKeeps }
 {}

@@ -4,3 +4,4 @@ pub mod Pacing
 pub mod Computed
 pub mod Simulated
 pub mod TurnsLogged
+pub mod Passing

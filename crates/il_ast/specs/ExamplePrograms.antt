@@ -30,6 +30,7 @@ use Rattle.il_ast.specs.declared.program.Target.{Target}
 use Rattle.il_ast.specs.declared.program.Target.TheVariants.{Code, Object}
 use Rattle.il_ast.specs.declared.program.Program.{Program}
 use Rattle.il_ast.specs.declared.value.Callee.TheVariants.{Defined, SystemWrite, SystemExit}
+use Rattle.il_ast.specs.Written.{has_block, have_arguments}
 use Rattle.il_ast.specs.Mentions.{come_after, temps_of, labels_of, are_distinct}
 
 -- ---- parts; lines do not matter here
@@ -64,8 +65,8 @@ names zero = []
 names (suc n) = (n ∷ []) ∷ names n
 
 -- a function whose result is a word, with so many temporaries and labels
-abbrev pub function : (params : List Param) (blocks : List Block) (temps labels : ℕ) → come_after 0 (temps_of params blocks) ≡ Some (length (names temps)) → come_after 0 (labels_of blocks) ≡ Some (length (names labels)) → are_distinct (names temps) ≡ true → are_distinct (names labels) ≡ true → Func
-function params blocks temps labels h k d e =
+abbrev pub function : (params : List Param) (blocks : List Block) (temps labels : ℕ) → come_after 0 (temps_of params blocks) ≡ Some (length (names temps)) → come_after 0 (labels_of blocks) ≡ Some (length (names labels)) → are_distinct (names temps) ≡ true → are_distinct (names labels) ≡ true → has_block blocks ≡ true → have_arguments blocks ≡ true → Func
+function params blocks temps labels h k d e some args =
     record {
       line = 1;
       exported = true;
@@ -79,6 +80,8 @@ function params blocks temps labels h k d e =
       labels_in_order = k;
       temps_distinct = d;
       labels_distinct = e;
+      some_block = some;
+      some_argument = args;
     }
 
 -- one text: what its names mean, its functions, its data, and which function is `main`
@@ -111,11 +114,11 @@ sum_function =
     (Branch (Temp 4) 1 2)
     ∷ block 2 [] [] (Return (Some (Temp 3)))
     ∷ [])
-    5 3 refl refl refl refl
+    5 3 refl refl refl refl refl refl
 
 -- `main` of one block, with so many temporaries
 abbrev pub straight : (temps : ℕ) (insts : List Inst) (result : Val) → come_after 0 (temps_of [] (block 0 [] insts (Return (Some result)) ∷ [])) ≡ Some (length (names temps)) → are_distinct (names temps) ≡ true → Func
-straight temps insts result h d = function [] (block 0 [] insts (Return (Some result)) ∷ []) temps 1 h refl d refl
+straight temps insts result h d = function [] (block 0 [] insts (Return (Some result)) ∷ []) temps 1 h refl d refl refl refl
 
 -- phis that exchange two values
 abbrev pub swap_function : Func
@@ -131,7 +134,7 @@ swap_function =
     (Branch (Temp 2) 2 1)
     ∷ block 2 [] (Binary (word 3) Mul (Temp 0) (Int 10) ∷ Binary (word 4) Add (Temp 3) (Temp 1) ∷ []) (Return (Some (Temp 4)))
     ∷ [])
-    5 3 refl refl refl refl
+    5 3 refl refl refl refl refl refl
 
 -- one operation on two integers
 abbrev pub of_two : BinaryOp → ℕ → ℕ → Program
@@ -146,7 +149,7 @@ abbrev pub ten_function : Func
 ten_function =
     function (map (λ (t : ℕ). param (word t)) (0 ∷ 1 ∷ 2 ∷ 3 ∷ 4 ∷ 5 ∷ 6 ∷ 7 ∷ 8 ∷ 9 ∷ []))
     (block 0 [] (Binary (word 10) Mul (Temp 8) (Int 10) ∷ Binary (word 11) Add (Temp 10) (Temp 9) ∷ []) (Return (Some (Temp 11))) ∷ [])
-    12 1 refl refl refl refl
+    12 1 refl refl refl refl refl refl
 
 abbrev pub ten_main : Func
 ten_main =
@@ -192,7 +195,7 @@ down_function =
     (Return (Some (Temp 2)))
     ∷ block 2 [] [] (Return (Some (Int 7)))
     ∷ [])
-    3 3 refl refl refl refl
+    3 3 refl refl refl refl refl refl
 
 abbrev pub down_main : ℕ → Func
 down_main n = straight 1 (Call (Some (word 0)) (Global 0) (arg W (Int n) ∷ []) ∷ []) (Temp 0) refl refl
@@ -274,7 +277,7 @@ with_words =
     ∷ [])
     (Return (Some (Int 0)))
     ∷ [])
-    5 1 refl refl refl refl
+    5 1 refl refl refl refl refl refl
     ∷ [])
     [] 0
 
@@ -285,7 +288,7 @@ early_read =
 
 -- `main` that halts; and `main` that returns no result
 abbrev pub halts : Program
-halts = alone (function [] (block 0 [] [] Halt ∷ []) 0 1 refl refl refl refl)
+halts = alone (function [] (block 0 [] [] Halt ∷ []) 0 1 refl refl refl refl refl refl)
 
 abbrev pub returns_nothing : Program
-returns_nothing = alone (function [] (block 0 [] [] (Return None) ∷ []) 0 1 refl refl refl refl)
+returns_nothing = alone (function [] (block 0 [] [] (Return None) ∷ []) 0 1 refl refl refl refl refl refl)

@@ -14,3 +14,5 @@ pub mod Examples
 pub mod Logged
 pub mod Keeps
 pub mod Simulation
+pub mod Written
+pub mod Passes

@@ -14,6 +14,7 @@ pub mod KindTests
 pub mod ExactFunctions
 pub mod ExactData
 pub mod ExactTexts
+pub mod Written
 pub mod OneTree
 pub mod Rounds
 pub mod Keywords
@@ -28,4 +29,3 @@ pub mod MentionedNames
 pub mod Ordered
 pub mod Computed
 pub mod WholeText
-pub mod Written

@@ -4,6 +4,7 @@ use Rattle.std.specs.Prelude.{map}
 use Rattle.std.proofs.lemmas.Option.{same_Some}
 use Rattle.std.proofs.Props.{props}
 use mathlib.Core.HLevel.{Σ_prop_path}
+use Rattle.il_ast.specs.Written.{has_block, have_arguments}
 use Rattle.il_ast.specs.Mentions.{come_after, temps_of, labels_of, are_distinct}
 use Rattle.il_ast.specs.Symbols.{symbols_of}
 use Rattle.il_ast.specs.declared.function.Func.{Func}
@@ -18,7 +19,7 @@ use Rattle.il_reader.proofs.ExactTexts.{text_complete, no_object, no_function, s
 abbrev pub Named : FunctionParts → Type 0
 Named p =
     (come_after 0 (temps_of p.params p.blocks) ≡ Some (length p.temps)) × (come_after 0 (labels_of p.blocks) ≡ Some (length p.labels))
-    × IsTrue (are_distinct p.temps) × IsTrue (are_distinct p.labels)
+    × IsTrue (are_distinct p.temps) × IsTrue (are_distinct p.labels) × IsTrue (has_block p.blocks) × IsTrue (have_arguments p.blocks)
 
 -- the function with these parts
 abbrev pub with_parts : ((p : FunctionParts) × Named p) → Func
@@ -35,6 +36,8 @@ with_parts x = record {
   labels_in_order = x.1.1;
   temps_distinct = x.1.2;
   labels_distinct = x.1.3;
+  some_block = x.1.4;
+  some_argument = x.1.5;
 }
 
 named_prop : (p : FunctionParts) → IsProp (Named p)
@@ -45,7 +48,7 @@ function_same f g e =
     let same : pair f ≡ pair g = Σ_prop_path named_prop e in ap with_parts same
   where
     pair : Func → (p : FunctionParts) × Named p
-    pair f = (function_parts f, (f.temps_in_order, f.labels_in_order, f.temps_distinct, f.labels_distinct))
+    pair f = (function_parts f, (f.temps_in_order, f.labels_in_order, f.temps_distinct, f.labels_distinct, f.some_block, f.some_argument))
 
 definition_same : (d e : Definition) → definition_parts d ≡ definition_parts e → d ≡ e
 definition_same (Function f) (Function g) h = ap Function (function_same f g (same_function (function_parts f) (function_parts g) h))

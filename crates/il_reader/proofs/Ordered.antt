@@ -10,6 +10,7 @@ use Rattle.il_reader.specs.Definitions.{FunctionParts, DefinitionParts, Function
 use Rattle.il_reader.proofs.ExactFunctions.{Functions, functions_exact}
 use Rattle.il_reader.proofs.ExactTexts.{AllParts, all_parts_exact}
 use Rattle.il_reader.proofs.OneTree.{Named}
+use Rattle.il_reader.proofs.Written.{parts_written}
 use Rattle.il_reader.proofs.Definers.{function_goes, in_function, all_mention}
 use Rattle.il_reader.proofs.Namings.{Temps, Labels, Symbols}
 use Rattle.il_reader.proofs.MentionedNames.{temps_function, labels_function, symbols_all}
@@ -25,11 +26,14 @@ function_named exported s p s' e =
     let no_temps : h.2.3.1.temps ≡ [] = ap (λ m. m.temps) h.2.3.2 in
     let no_labels : h.2.3.1.labels ≡ [] = ap (λ m. m.labels) h.2.3.2 in
     let t = function_goes Temps exported s p s' h in
-    let l = function_goes Labels exported s p s' h in (
+    let l = function_goes Labels exported s p s' h in
+    let w = parts_written exported s s' p h in (
       ap (come_after 0) (sym (temps_function p)) ∙ ap (λ ns. come_after (length ns) (in_function Temps p)) (sym no_temps) ∙ t.in_order ∙ ap (λ ns. Some (length ns)) (sym temps),
       ap (come_after 0) (sym (labels_function p)) ∙ ap (λ ns. come_after (length ns) (in_function Labels p)) (sym no_labels) ∙ l.in_order ∙ ap (λ ns. Some (length ns)) (sym labels),
       subst (λ ns. IsTrue (are_distinct ns)) (sym temps) (t.distinct (subst (λ ns. IsTrue (are_distinct ns)) (sym no_temps) refl)),
       subst (λ ns. IsTrue (are_distinct ns)) (sym labels) (l.distinct (subst (λ ns. IsTrue (are_distinct ns)) (sym no_labels) refl)),
+      w.0,
+      w.1,
     )
 
 -- what is proved of the global names of each text that is read

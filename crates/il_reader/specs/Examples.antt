@@ -86,6 +86,8 @@ falls_tree = record {
         labels_in_order = refl;
         temps_distinct = refl;
         labels_distinct = refl;
+        some_block = refl;
+        some_argument = refl;
       })
       ∷ Function (record {
         line = 7;
@@ -100,6 +102,8 @@ falls_tree = record {
         labels_in_order = refl;
         temps_distinct = refl;
         labels_distinct = refl;
+        some_block = refl;
+        some_argument = refl;
       })
       ∷ [];
   symbols = codes "f" ∷ codes "g" ∷ [];
@@ -139,6 +143,8 @@ loop_tree = record {
         labels_in_order = refl;
         temps_distinct = refl;
         labels_distinct = refl;
+        some_block = refl;
+        some_argument = refl;
       })
       ∷ [];
   symbols = codes "f" ∷ codes "p" ∷ [];

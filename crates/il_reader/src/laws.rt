@@ -1,7 +1,7 @@
 //! Laws of trees, each the contract of a function that does nothing.
 
 ghost use Rattle.il_reader.specs.Examples.{Examples};
-ghost use Rattle.il_reader.specs.Laws.{FunctionsAreWritten, OneTree};
+ghost use Rattle.il_reader.specs.Laws.{OneTree};
 
 /// A text has at most one tree.
 pub fn one_tree()
@@ -11,9 +11,4 @@ pub fn one_tree()
 /// The trees that some small texts have, and some texts that have none.
 pub fn examples_are_computed()
     ensures { Examples }
-{}
-
-/// Each function of a text has a block, and each of its phis an argument.
-pub fn functions_are_written()
-    ensures { FunctionsAreWritten }
 {}

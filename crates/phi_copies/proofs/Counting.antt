@@ -54,5 +54,5 @@ is_small f good =
     let many = and_first (nat_le (length f.temps) 4000) _ (and_second (nat_le (weight f) 40000) _ good.limits) in
     let light : weight f ≤ 40000 = grind (arith, nat_tests) in
     let few : length f.temps ≤ 4000 = grind (arith, nat_tests) in
-    let weigh = blocks_weigh f.blocks good.phis_have_arguments in
+    let weigh = blocks_weigh f.blocks f.some_argument in
     record { blocks = omega (arith, light, weigh); temporaries = omega (arith, light, few, weigh) }

@@ -1,4 +1,4 @@
--- A function of a good text that has a block, and an argument for each of its phis, is such as can be lowered.
+-- A function of a good text is such as can be lowered.
 use Rattle.std.proofs.Common.{◌≡◌, ℕ, ◌<◌, ◌*◌, ◌^◌, Bool, true, false, ◌&&◌, nat_lt, nat_le, List, [], ◌∷◌, length, refl, sym, ◌∙◌, ap}
 use Rattle.std.specs.Prelude.{zero, suc, slice_get, Option, Some, None}
 use Rattle.std.specs.List.{list_all}
@@ -49,11 +49,9 @@ no_rule_broken t good k f at DataFields = refl
 no_rule_broken t good k f at Alignment = refl
 no_rule_broken t good k f at BlitSize = none_at (broken_in BlitSize) t.definitions k (Function f) (good.rules BlitSize) at
 
-pub good_function : (t : Text) → IsGood t → (k : ℕ) (f : Func) → slice_get t.definitions k ≡ Some (Function f) → 0 < length f.blocks → list_all (λ (b : Block). list_all (λ (p : Phi). nat_lt 0 (length p.args)) b.phis) f.blocks ≡ true → IsGoodFunction f
-good_function t good k f at some arguments =
+pub good_function : (t : Text) → IsGood t → (k : ℕ) (f : Func) → slice_get t.definitions k ≡ Some (Function f) → IsGoodFunction f
+good_function t good k f at =
     record {
       rules = no_rule_broken t good k f at;
       limits = all_at definition_within t.definitions k (Function f) (both_true (nat_le t.bytes (16 * 2 ^ 20)) (list_all definition_within t.definitions) good.limits).1 at;
-      has_block = some;
-      phis_have_arguments = arguments;
     }

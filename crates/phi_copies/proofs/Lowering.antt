@@ -33,7 +33,8 @@ use Rattle.phi_copies.specs.declared.ending.Leave.TheVariants.{Goto as GotoBlock
 use Rattle.phi_copies.specs.declared.ending.Ending.{Ending}
 use Rattle.phi_copies.specs.Endings.{State, begin, weighs, receives, resumes, goes_on, in_turn, copied, branches, returns, returns_in, leaves, copies_and_leaves, after_mark, marked, ends, block_step, step_in, step}
 use Rattle.phi_copies.specs.Lowered.{or_zero, target, phis_of, phis_at, phis_before, copies_of, entry_copies, edge_with, edge, past_edge, branch_target, jump_edges, end_edges, one_turn_ending, jump_ending, end_ending, block_edges, all_edges, block_ending, lowered, straight_if, straight}
-use Rattle.phi_copies.specs.Keeping.{classes_of, KeepsFunction}
+use Rattle.il_ast.specs.Passes.{classes_of}
+use Rattle.phi_copies.specs.Keeping.{KeepsFunction}
 use Rattle.phi_copies.proofs.MoreKnown.{operand_less, behind, set_both, length_behind, Follows, locals, inst_follows}
 use Rattle.phi_copies.proofs.TwoRounds.{get_past, length_with_phis, AllBelow, copies_done}
 use Rattle.phi_copies.proofs.EdgePlaces.{phis_below, phis_counted, edges_before, ending_at, edge_at}
@@ -549,8 +550,11 @@ starts f i some =
       is = ap (λ ts. record { block = 0; next = 0; locals = locals ts []; memory = i.memory; spent = nothing }) all;
     }
 
-pub lowered_keeps : (f : Func) → 0 < length f.blocks → KeepsFunction f (lowered f)
-lowered_keeps f some globals =
+some_block : (f : Func) → 0 < length f.blocks
+some_block f = let some : nat_lt 0 (length f.blocks) ≡ true = f.some_block in grind (arith, nat_tests)
+
+pub lowered_keeps : (f : Func) → KeepsFunction f (lowered f)
+lowered_keeps f globals =
     turns_keep (classes_of f.params) (record { func = f; globals = globals }) (begin f) (step globals f (lowered f)) (λ i. Related f)
-    (λ i args. starts f i some)
+    (λ i args. starts f i (some_block f))
     (λ i. takes_turns (record { func = f; globals = globals; given = i }))

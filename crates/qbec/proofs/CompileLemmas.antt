@@ -4,28 +4,17 @@ use Rattle.std.specs.Prelude.{Result, Ok, Err, IfOk, IfErr}
 use Rattle.std.specs.Result.{MatchResult}
 use Rattle.std.specs.Borrow.{Bor}
 use Rattle.il_ast.specs.declared.program.Program.{Program}
-use Rattle.il_reader.specs.Reads.{Reads}
 use Rattle.il_types.specs.declared.checked.Checked.{Checked}
 use Rattle.obj_link.specs.declared.error.LinkError.{LinkError}
 use Rattle.obj_link.specs.declared.error.LinkError.TheVariants.{UnknownName as LinkUnknown, ExportedTwice as LinkTwice, NoMain as LinkNoMain, Limit as LinkLimit, Memory as LinkMemory}
 use Rattle.obj_link.specs.Names.{times_exported, meaning_of, names_of}
 use Rattle.obj_link.specs.Refusals.{IsUnknown, Refuses as LinkRefuses}
-use Rattle.headline.specs.Read.{AreRead}
 use Rattle.qbec.specs.declared.texts.TextError.{TextError}
 use Rattle.qbec.specs.declared.texts.TextError.TheVariants.{Syntax, Rule, Limit as TextLimit, Memory as TextMemory}
 use Rattle.qbec.specs.declared.compile.CompileError.{CompileError}
 use Rattle.qbec.specs.declared.compile.CompileError.TheVariants.{Text, UnknownName, ExportedTwice, NoMain, Limit, Memory}
 use Rattle.qbec.specs.Texts.{AreTexts, Says}
 use Rattle.qbec.specs.Compile.{AreProgram, IsFile, IsCompiled, Refuses, SaysAsMuch, text_refusal}
-
--- ---- texts that were read
-
-pub are_read : (texts : List (Bor (List ℕ))) (checked : List Checked) → AreTexts texts checked → AreRead checked
-are_read [] [] h k t is = absurd (let no : ⊥ = cc in no)
-are_read [] (c ∷ checked) h k t is = absurd h
-are_read (b ∷ texts) [] h k t is = absurd h
-are_read (b ∷ texts) (c ∷ checked) h zero t is = let same : c ≡ t = cc in (b.now, subst (λ (x : Checked). Reads b.now x.text) same h.0)
-are_read (b ∷ texts) (c ∷ checked) h (suc k) t is = are_read texts checked h.1 k t is
 
 -- ---- refusals of texts
 

@@ -1,11 +1,12 @@
 //! The words of one function.
-ghost use Rattle.std.specs.Prelude.{◌≡◌, ◌+◌, ◌*◌, ◌≤◌, IfOk, IsTrue, length, nat_le};
+ghost use Rattle.std.specs.Prelude.{◌+◌, ◌*◌, ◌≤◌, IfOk, IsTrue, length};
 ghost use Rattle.il_ast.specs.Cost.{weight};
+ghost use Rattle.il_ast.specs.Passes.{Keeps, IsCodeOf};
 ghost use Rattle.phi_copies.specs.Good.{IsGoodFunction};
-ghost use Rattle.vcode.specs.Regular.{code_weight};
+ghost use Rattle.vcode.specs.Coded.{virtual_code, location_code};
 ghost use Rattle.abi_frames.specs.Covered.{is_covered};
 ghost use Rattle.headline.specs.Compiled.{StandFor};
-ghost use Rattle.qbec.specs.Words.{IsAllocated, IsLocated, IsLaidOut};
+ghost use Rattle.qbec.specs.Words.{IsLocated, IsLaidOut};
 
 use abi_frames::covered::covers;
 use abi_frames::frame::frame;
@@ -29,7 +30,7 @@ fn certified(
     function: &VFunc,
     certificate: &Certificate,
 ) -> Result<LFunc, AllocError>
-    ensures { IfOk result (λ l. IsAllocated function.now.code function.now.registers l.code l.slots) }
+    ensures { IfOk result (λ l. Keeps (virtual_code function.now) (location_code l)) }
 {
     match accept(alloc, function, certificate) {
         Ok(located) => Ok(located),
@@ -48,13 +49,27 @@ pub fn allocated(
     function: &VFunc,
     how: &mut dyn Strategy,
 ) -> Result<LFunc, AllocError>
-    ensures { IfOk result (λ l. IsAllocated function.now.code function.now.registers l.code l.slots) }
+    ensures { IfOk result (λ l. Keeps (virtual_code function.now) (location_code l)) }
 {
     let live = live(alloc, function)?;
     match how.choose(function, &live) {
         Some(certificate) => certified(alloc, function, &certificate),
         None => spill_all(alloc, function),
     }
+}
+
+/// The function in virtual code. A pass on virtual code has its place behind `select`.
+///
+/// # Errors
+///
+/// Only where memory was refused.
+pub fn virtual_code_of(alloc: Global, func: &Func) -> Result<VFunc, AllocError>
+    requires { IsGoodFunction func.now }
+    ensures { IfOk result (λ v. IsCodeOf func.now (virtual_code v)) }
+{
+    let lowered = lower(alloc, func)?;
+    let selected = select(alloc, &lowered)?;
+    Ok(selected)
 }
 
 /// The function in location code, to be read on bytes, such as frames are made for: as the strategy has it where parameters and what calls take stand in no
@@ -65,11 +80,10 @@ pub fn allocated(
 /// Only where memory was refused.
 pub fn located(alloc: Global, func: &Func, how: &mut dyn Strategy) -> Result<FlatFunc, AllocError>
     requires { IsGoodFunction func.now }
-    ensures located { IfOk result (λ f. IsLocated func.now f.located.code f.located.slots) }
+    ensures located { IfOk result (λ f. IsLocated func.now f.located) }
     ensures covered { IfOk result (λ f. IsTrue (is_covered f.located.code)) }
 {
-    let lowered = lower(alloc, func)?;
-    let function = select(alloc, &lowered)?;
+    let function = virtual_code_of(alloc, func)?;
     let placed = allocated(alloc, &function, how)?;
     let chosen = flat(placed);
     if covers(&chosen) {
@@ -81,9 +95,8 @@ pub fn located(alloc: Global, func: &Func, how: &mut dyn Strategy) -> Result<Fla
 
 /// The words of a function's machine code.
 pub fn laid_out(alloc: Global, function: &FlatFunc) -> Result<Code, AllocError>
-    requires covered { IsTrue (is_covered function.now.located.code) }
-    requires light { IsTrue (nat_le (code_weight function.now.located.code) 40000) }
-    ensures { IfOk result (λ c. IsLaidOut function.now.located.code function.now.located.slots c) }
+    requires { IsTrue (is_covered function.now.located.code) }
+    ensures { IfOk result (λ c. IsLaidOut function.now.located c) }
 {
     let labelled = frame(alloc, function)?;
     let code = layout(alloc, labelled)?;

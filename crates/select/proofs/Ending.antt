@@ -25,7 +25,7 @@ use Rattle.phi_copies.specs.declared.ending.Leave.{Leave}
 use Rattle.phi_copies.specs.declared.ending.Leave.TheVariants.{Goto, Branch, Return, Halt}
 use Rattle.phi_copies.specs.declared.ending.Ending.{Ending}
 use Rattle.phi_copies.specs.Endings.{Endings, State as Source, begin as begin_source, weighs, in_turn, goes_on, copied, branches as source_branches, returns as source_returns, returns_in, leaves, copies_and_leaves, after_mark, marked, ends, block_step, step_in, step as source_step}
-use Rattle.phi_copies.specs.Keeping.{classes_of}
+use Rattle.il_ast.specs.Passes.{classes_of}
 use Rattle.vcode.specs.declared.line.Line.TheVariants.{Tick}
 use Rattle.vcode.specs.declared.code.Block.{Block as VirtualBlock}
 use Rattle.vcode.specs.Operations.{held}

@@ -12,6 +12,7 @@ pub mod OperationLines
 pub mod Registers
 pub mod Regular
 pub mod Sums
+pub mod Stack
 pub mod Weights
 pub mod Selecting
 pub mod Typing

@@ -107,7 +107,7 @@ and_first : (a b : Bool) → (a && b) ≡ true → a ≡ true
 and_first true b h = refl
 and_first false b h = h
 
-light : (f : Func) → IsGoodFunction f → weight f ≤ 40000
+pub light : (f : Func) → IsGoodFunction f → weight f ≤ 40000
 light f good =
     let heavy = and_first (nat_le (weight f) 40000) _ good.limits in
     let le : weight f ≤ 40000 = grind (arith, nat_tests) in

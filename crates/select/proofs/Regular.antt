@@ -40,7 +40,7 @@ use Rattle.select.proofs.UsedPlaces.{copy_sets, unary_sets, binary_sets, no_allo
 lt_true : (a b : ℕ) → a < b → nat_lt a b ≡ true
 lt_true a b h = grind (arith, nat_tests)
 
-le_true : (a b : ℕ) → a ≤ b → nat_le a b ≡ true
+pub le_true : (a b : ℕ) → a ≤ b → nat_le a b ≡ true
 le_true a b h = grind (arith, nat_tests)
 
 le_of : (a b : ℕ) → nat_le a b ≡ true → a ≤ b

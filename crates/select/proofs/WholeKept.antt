@@ -1,23 +1,49 @@
--- The virtual code of a function of a good text keeps the function.
+-- The virtual code of a function of a good text is the function's.
+use Rattle.std.proofs.Common.{◌≡◌, ℕ, ◌+◌, List, [], ◌∷◌, length, map, refl, ap, arith}
+use Rattle.std.specs.Prelude.{Option}
+use Rattle.il_ast.specs.declared.operation.Class.{Class}
+use Rattle.il_ast.specs.declared.function.Param.{Param}
 use Rattle.il_ast.specs.declared.function.Func.{Func}
-use Rattle.il_ast.specs.Run.{body}
-use Rattle.il_ast.specs.Keeps.{Given}
+use Rattle.il_ast.specs.Cost.{phi_count}
+use Rattle.il_ast.specs.Passes.{IsCodeOf, classes_of, body_of}
 use Rattle.il_ast.proofs.Simulated.{meaning_composes}
-use Rattle.phi_copies.specs.Keeping.{classes_of}
 use Rattle.phi_copies.specs.Endings.{begin as begin_source, step as step_source}
 use Rattle.phi_copies.specs.Good.{IsGoodFunction}
 use Rattle.phi_copies.specs.Lowered.{lowered}
 use Rattle.phi_copies.proofs.Lowering.{lowered_keeps}
+use Rattle.vcode.specs.Coded.{classes_in, coded}
 use Rattle.vcode.specs.Places.{virtual}
 use Rattle.vcode.specs.Step.{begin, step}
-use Rattle.select.specs.Selected.{selected}
-use Rattle.select.specs.Keeping.{KeepsVirtual}
+use Rattle.select.specs.Selected.{parameter_of, selected}
 use Rattle.select.proofs.Ending.{selected_keeps}
 use Rattle.select.proofs.LoweredTyping.{lowered_is_typed}
+use Rattle.select.proofs.Stack.{code_passes, code_area}
+use Rattle.select.proofs.Weights.{weighs_no_more}
 
-pub whole_kept : (f : Func) → IsGoodFunction f → KeepsVirtual f (selected f (lowered f))
-whole_kept f good = λ globals.
+classes_are : (ps : List Param) → classes_in (map parameter_of ps) ≡ classes_of ps
+classes_are [] = refl
+classes_are (p ∷ ps) = ap (λ (cs : List Class). p.class ∷ cs) (classes_are ps)
+
+selected_classes : (f : Func) → classes_in (selected f (lowered f)).params ≡ classes_of f.params
+unfolding selected
+selected_classes f = classes_are f.params
+
+selected_result : (f : Func) → (selected f (lowered f)).result ≡ f.result
+unfolding selected
+selected_result f = refl
+
+pub is_code : (f : Func) → IsGoodFunction f → IsCodeOf f (coded virtual (selected f (lowered f)) (length f.temps + phi_count f))
+is_code f good =
     let v = selected f (lowered f) in
-    meaning_composes (classes_of f.params) (λ callees (i : Given). body (record { func = f; globals = globals }) callees i.turns i.room i.args i.memory)
-    (begin_source f) (step_source globals f (lowered f)) (begin virtual v) (step virtual globals v)
-    (lowered_keeps f good.has_block globals) (selected_keeps f (lowered f) (lowered_is_typed f good) globals)
+    let bytes = code_area f in
+    record {
+      params = selected_classes f;
+      result = selected_result f;
+      weight = weighs_no_more f good;
+      area = omega (arith, bytes);
+      outgoing = code_passes f;
+      places = omega arith;
+      runs = λ globals.
+          meaning_composes (classes_of f.params) (body_of f globals) (begin_source f) (step_source globals f (lowered f)) (begin virtual v) (step virtual globals v)
+          (lowered_keeps f globals) (selected_keeps f (lowered f) (lowered_is_typed f good) globals);
+    }

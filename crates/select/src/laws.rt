@@ -1,5 +1,5 @@
 //! What is proved of selected code, each as the contract of a function that does nothing.
-ghost use Rattle.select.specs.Laws.{FunctionsAreKept, LoweredIsTyped, SelectedIsVirtual, SelectionKeeps, WeighsNoMore};
+ghost use Rattle.select.specs.Laws.{LoweredIsTyped, SelectedIsCode, SelectedIsVirtual, SelectionKeeps};
 
 /// The virtual code of a function without phis in which all fits keeps it, whatever its text's global names mean.
 pub fn selection_keeps()
@@ -16,13 +16,8 @@ pub fn selected_is_virtual()
     ensures { SelectedIsVirtual }
 {}
 
-/// The virtual code of a function of a good text keeps what the function means: given arguments of its parameters' classes, it runs as the function's body, whatever
-/// its calls do, turn for turn and for the same weight.
-pub fn functions_are_kept()
-    ensures { FunctionsAreKept }
-{}
-
-/// The ticks of a function's virtual code, each counted once, weigh no more than the function.
-pub fn code_weighs_no_more()
-    ensures { WeighsNoMore }
+/// The virtual code of a function of a good text is the function's: given arguments of its parameters' classes, it runs as the function's body, whatever its calls do, turn
+/// for turn and for the same weight, and it weighs and takes no more than the function is counted for.
+pub fn selected_is_code()
+    ensures { SelectedIsCode }
 {}

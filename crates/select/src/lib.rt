@@ -5,7 +5,7 @@
 //! or two lines; an ending becomes a tick, copies and a jump. Its contract also says that the code keeps what the function means (`specs/Keeping`), for every
 //! instruction of the language, turn for turn.
 //!
-//! That follows from laws. [`laws::functions_are_kept`] says it of each function of a good text, by way of the function without phis: `specs/Typed` says what the
+//! That follows from laws. [`laws::selected_is_code`] says it of each function of a good text, by way of the function without phis: `specs/Typed` says what the
 //! code takes of that, namely that each temporary has one class, and that a long place takes no word; [`laws::lowered_is_typed`] that the rules of a good text give
 //! it; [`laws::selection_keeps`] that the code then keeps it. [`laws::selected_is_virtual`] has the invariants of virtual code: where jumps lead, where memory is
 //! made, that ticks pay for lines, and which registers are named. `specs/Narrow` is for private calls alone: registers and weights have 32 bits in the code, which is

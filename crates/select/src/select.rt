@@ -4,7 +4,8 @@ ghost use Rattle.il_ast.specs.Cost.{phi_count};
 ghost use Rattle.phi_copies.specs.Lowered.{lowered};
 ghost use Rattle.select.specs.Selected.{selected};
 ghost use Rattle.select.specs.Narrow.{narrow_block, narrow_edge, narrow_blocks, narrow_code};
-ghost use Rattle.select.specs.Keeping.{KeepsVirtual};
+ghost use Rattle.il_ast.specs.Passes.{IsCodeOf};
+ghost use Rattle.vcode.specs.Coded.{virtual_code};
 
 use crate::instruction::push_turns;
 use crate::leave::{jump_of, push_ending};
@@ -110,7 +111,7 @@ fn count_registers(func: &Func) -> usize
 pub fn select(alloc: Global, source: &NoPhi<'_>) -> Result<VFunc, AllocError>
     ensures code { IfOk result (λ v. v.code ≡ selected source.now.func.now (lowered source.now.func.now)) }
     ensures registers { IfOk result (λ v. v.registers ≡ length source.now.func.now.temps + phi_count source.now.func.now) }
-    ensures keeps { IfOk result (λ v. KeepsVirtual source.now.func.now v.code) }
+    ensures is { IfOk result (λ v. IsCodeOf source.now.func.now (virtual_code v)) }
 {
     let code = code_of(alloc, source)?;
     let registers = count_registers(source.func);

@@ -7,3 +7,5 @@ pub mod Named
 pub mod ExampleCodes
 pub mod Examples
 pub mod Laws
+pub mod Outgoing
+pub mod Coded

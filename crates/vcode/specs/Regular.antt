@@ -50,7 +50,7 @@ abbrev pub weight_of : {P : Type 0} → Line P → ℕ
 weight_of (Tick turn w) = w
 weight_of l = 0
 
--- the weight of all ticks, each counted once. No type carries a bound of it: what takes code of at most a weight asks for that by name
+-- the weight of all ticks, each counted once
 abbrev pub code_weight : {P : Type 0} → Code P → ℕ
 code_weight f = sum_by (λ b. sum_by weight_of b.lines) f.blocks
 

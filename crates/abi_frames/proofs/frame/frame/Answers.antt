@@ -6,7 +6,7 @@ use Rattle.vcode.specs.Regular.{area, code_weight}
 use Rattle.flat_code.specs.Step.{flat_begin, flat_step}
 use Rattle.abi_frames.specs.Layout.{frame_bound, frame_size}
 use Rattle.abi_frames.specs.Functions.{frame_items}
-use Rattle.abi_frames.specs.Promise.{FramePromise}
+use Rattle.abi_frames.specs.Frames.{IsFrameOf}
 use Rattle.abi_frames.specs.Laws.{IsCode}
 use Rattle.abi_frames.proofs.Joining.{items_are}
 use Rattle.abi_frames.proofs.Labelling.{frames_are_labelled}
@@ -26,7 +26,7 @@ new-requires c =
       near = c.args.function.now.located.near;
       apart = c.args.function.now.located.apart;
       covered = c.requires.covered;
-      light = c.requires.light;
+      light = c.args.function.now.located.light;
     } in
     let items : c.push_function.new.items.items ≡ frame_items f slots =
     items_are _ _ _ _ _ _ _ _ _ _ c.in_ok-push_function.ensures c.new-items.ensures.items c.layout_of-layout.ensures.value
@@ -45,15 +45,13 @@ returns-clause-promise c =
       near = c.args.function.now.located.near;
       apart = c.args.function.now.located.apart;
       covered = c.requires.covered;
-      light = c.requires.light;
+      light = c.args.function.now.located.light;
     } in
     let items : c.push_function.new.items.items ≡ frame_items f slots =
     items_are _ _ _ _ _ _ _ _ _ _ c.in_ok-push_function.ensures c.new-items.ensures.items c.layout_of-layout.ensures.value
     (c.as_slice-2.ensures.value ∙ c.in_ok-saved.ensures) c.as_slice-3.ensures c.as_slice-4.ensures in
     let whole : c.new.result.items ≡ frame_items f slots = ap (λ l. l.items) c.new.ensures ∙ items in
-    subst (λ (l : List Item).
-    FramePromise l (frame_bound f slots) (frame_size f slots) (area f) (map (λ d. d.class) f.params) f.result (λ addresses. flat_begin f)
-    (λ addresses. flat_step f addresses)) (sym whole) (frames_perform f slots is)
+    subst (λ (l : List Item). IsFrameOf f slots l) (sym whole) (frames_perform f slots is)
 
 pub returns-clause-size : goal.returns-clause-size
 returns-clause-size c =
@@ -66,7 +64,7 @@ returns-clause-size c =
       near = c.args.function.now.located.near;
       apart = c.args.function.now.located.apart;
       covered = c.requires.covered;
-      light = c.requires.light;
+      light = c.args.function.now.located.light;
     } in
     let items : c.push_function.new.items.items ≡ frame_items f slots =
     items_are _ _ _ _ _ _ _ _ _ _ c.in_ok-push_function.ensures c.new-items.ensures.items c.layout_of-layout.ensures.value

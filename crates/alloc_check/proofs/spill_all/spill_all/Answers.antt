@@ -1,12 +1,13 @@
-use Rattle.std.proofs.Common.{sym, subst}
-use Rattle.std.specs.Prelude.{IsTrue}
+use Rattle.std.proofs.Common.{sym, ◌∙◌, ap, subst}
+use Rattle.std.specs.Prelude.{IsTrue, nat_le}
+use Rattle.il_ast.specs.Passes.{Keeps}
 use Rattle.vcode.specs.declared.place.Location.{Location}
 use Rattle.vcode.specs.declared.code.Code.{Code}
 use Rattle.vcode.specs.Named.{keeps_places, is_place, are_near, are_distinct}
 use Rattle.vcode.specs.Places.{located}
-use Rattle.vcode.specs.Regular.{IsRegular}
-use Rattle.alloc_check.specs.Kept.{Keeps}
-use Rattle.alloc_check.proofs.InSlots.{slots_keep}
+use Rattle.vcode.specs.Coded.{coded, virtual_code}
+use Rattle.vcode.specs.Regular.{IsRegular, code_weight}
+use Rattle.alloc_check.proofs.Measures.{slots_weigh_same, in_slots_keeps}
 use Rattle.alloc_check.proofs.Regular.{slots_regular, slots_known, slots_near, slots_apart}
 use Rattle.alloc_check.proofs.spill_all.spill_all.Goals as goal
 
@@ -17,6 +18,7 @@ invariant_of-result c =
     record {
       few = c.args.function.now.few;
       regular = subst (λ (l : Code Location). IsRegular l) e (slots_regular v c.args.function.now.regular);
+      light = subst (λ n. IsTrue (nat_le n 40000)) (sym (ap (λ (l : Code Location). code_weight l) c.in_ok-code.ensures ∙ slots_weigh_same v)) c.args.function.now.light;
       known = subst (λ (l : Code Location). IsTrue (keeps_places (is_place c.args.function.now.registers) l)) e (slots_known c.args.function.now.registers v c.args.function.now.known);
       near = subst (λ (l : Code Location). IsTrue (are_near l.params)) e (slots_near v.params c.args.function.now.low);
       apart = subst (λ (l : Code Location). IsTrue (are_distinct located l.params)) e (slots_apart v.params c.args.function.now.distinct);
@@ -24,4 +26,5 @@ invariant_of-result c =
 
 pub returns-clause-kept : goal.returns-clause-kept
 returns-clause-kept c =
-    subst (λ (l : Code Location). Keeps c.args.function.now.code l) (sym c.in_ok-code.ensures) (slots_keep c.args.function.now.code)
+    let v = c.args.function.now in
+    subst (λ (l : Code Location). Keeps (virtual_code v) (coded located l v.registers)) (sym c.in_ok-code.ensures) (in_slots_keeps v.code v.registers)

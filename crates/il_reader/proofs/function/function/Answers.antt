@@ -45,4 +45,4 @@ invariant_of-result c =
     ∙ ap (λ (temps : List (List ℕ)). Some (parts exported head params bs temps end.labels, end)) (sym c.in_ok-temps.ensures)
     ∙ ap (λ (labels : List (List ℕ)). Some (parts exported head params bs c.in_ok-temps.temps labels, end)) (sym c.in_ok-labels.ensures) in
     let n = function_named exported c.args.reader.now (parts exported head params bs c.in_ok-temps.temps c.in_ok-labels.labels) end read in
-    record { temps_in_order = n.0; labels_in_order = n.1; temps_distinct = n.2; labels_distinct = n.3 }
+    record { temps_in_order = n.0; labels_in_order = n.1; temps_distinct = n.2; labels_distinct = n.3; some_block = n.4; some_argument = n.5 }

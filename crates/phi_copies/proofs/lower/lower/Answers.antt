@@ -35,9 +35,9 @@ loop-block-preserved c =
     subst (λ es. SoFar f es c.push_edges.new.edges.items (drop (k + 1) blocks) (k + 1)) (sym c.in_ok-push.ensures.items)
     (further f endings edges c.push_edges.new.edges.items e b (drop (k + 1) blocks) k so ending_is edges_are)
 
-kept : (f : Func) → 0 < length f.blocks → KeepsFunction f (record { endings = all_endings f 0 f.blocks; edges = all_edges f f.blocks })
+kept : (f : Func) → KeepsFunction f (record { endings = all_endings f 0 f.blocks; edges = all_edges f f.blocks })
 unfolding lowered
-kept f some = lowered_keeps f some
+kept f = lowered_keeps f
 
 pub returns-clause-keeps : goal.returns-clause-keeps
 returns-clause-keeps c =
@@ -50,4 +50,4 @@ returns-clause-keeps c =
     let last = at_last f endings edges k (subst (λ rest. SoFar f endings edges rest k) none c.loop-block.invariant) in
     subst (λ es. KeepsFunction f (record { endings = es; edges = c.from_vec-2.result })) (sym (c.from_vec.ensures ∙ last.0))
     (subst (λ es. KeepsFunction f (record { endings = all_endings f 0 f.blocks; edges = es })) (sym (c.from_vec-2.ensures ∙ last.1))
-    (kept f c.requires.has_block))
+    (kept f))

@@ -7,7 +7,7 @@ returns c =
     let small = c.in_ok-labelled.ensures.size in
     record {
       items = c.in_ok-labelled.labelled.items;
-      promise = c.in_ok-labelled.ensures.promise;
+      machine = c.in_ok-labelled.ensures.promise;
       laid = c.in_ok-code.ensures.laid;
       few = omega (arith, short, small);
     }

@@ -1,12 +1,17 @@
-use Rattle.std.proofs.Common.{ℕ, ◌+◌, length, sym, ◌∙◌, subst, arith}
+use Rattle.std.proofs.Common.{ℕ, ◌+◌, length, sym, ◌∙◌, ap, subst, arith}
 use Rattle.il_ast.specs.Cost.{phi_count}
 use Rattle.phi_copies.proofs.Counting.{is_small}
+use Rattle.il_ast.specs.Passes.{IsCodeOf}
 use Rattle.vcode.specs.declared.code.Code.{Code}
+use Rattle.vcode.specs.Coded.{coded}
+use Rattle.vcode.specs.Places.{virtual}
+use Rattle.vcode.specs.Regular.{code_weight}
 use Rattle.select.specs.Invariants.{IsVirtual}
-use Rattle.select.specs.Keeping.{KeepsVirtual}
-use Rattle.select.proofs.Narrowing.{small, is_selected}
+use Rattle.select.proofs.Narrowing.{small, light, is_selected}
+use Rattle.select.proofs.Regular.{le_true}
+use Rattle.select.proofs.Weights.{weighs_no_more}
 use Rattle.select.proofs.Parameters.{is_virtual}
-use Rattle.select.proofs.WholeKept.{whole_kept}
+use Rattle.select.proofs.WholeKept.{is_code}
 use Rattle.select.proofs.select.select.Goals as goal
 
 pub count_registers-registers-requires : goal.count_registers-registers-requires
@@ -23,12 +28,16 @@ returns-clause-registers c =
     let few = (is_small c.args.source.now.func.now c.args.source.now.good).temporaries in
     c.low_bits.ensures ∙ small c.count_registers-registers.result (omega (arith, all, few)) ∙ all
 
-pub returns-clause-keeps : goal.returns-clause-keeps
-returns-clause-keeps c =
+pub returns-clause-is : goal.returns-clause-is
+returns-clause-is c =
     let s = c.args.source.now in
     let f = s.func.now in
     let is = c.in_ok-code.ensures ∙ is_selected f s.good s.endings s.edges s.endings_are s.edges_are in
-    subst (λ (v : Code ℕ). KeepsVirtual f v) (sym is) (whole_kept f s.good)
+    let all = c.count_registers-registers.ensures in
+    let few = (is_small f s.good).temporaries in
+    let many = c.low_bits.ensures ∙ small c.count_registers-registers.result (omega (arith, all, few)) ∙ all in
+    subst (λ n. IsCodeOf f (coded virtual c.in_ok-code.code n)) (sym many)
+    (subst (λ (v : Code ℕ). IsCodeOf f (coded virtual v (length f.temps + phi_count f))) (sym is) (is_code f s.good))
 
 pub invariant_of-result : goal.invariant_of-result
 invariant_of-result c =
@@ -39,4 +48,7 @@ invariant_of-result c =
     let few = (is_small f s.good).temporaries in
     let many = c.low_bits.ensures ∙ small c.count_registers-registers.result (omega (arith, all, few)) ∙ all in
     let v = subst (λ n. IsVirtual c.in_ok-code.code n) (sym many) (subst (λ (x : Code ℕ). IsVirtual x (length f.temps + phi_count f)) (sym is) (is_virtual f s.good)) in
-    record { few = omega (arith, many, few); regular = v.regular; known = v.known; low = v.low; distinct = v.distinct }
+    let weighs = ap (λ (x : Code ℕ). code_weight x) is in
+    let less = weighs_no_more f s.good in
+    let most = light f s.good in
+    record { few = omega (arith, many, few); regular = v.regular; light = le_true (code_weight c.in_ok-code.code) 40000 (omega (arith, weighs, less, most)); known = v.known; low = v.low; distinct = v.distinct }

@@ -1,5 +1,5 @@
--- The location code of a function takes no more stack than the function is counted for.
-use Rattle.std.proofs.Common.{◌≡◌, ℕ, ◌+◌, ◌≤◌, List, [], ◌∷◌, ◌++◌, length, map, refl, sym, ◌∙◌, ap, subst, arith, append_assoc}
+-- The virtual code of a function passes no more arguments on the stack, and makes no larger blocks of memory, than the function does.
+use Rattle.std.proofs.Common.{◌≡◌, ℕ, ◌+◌, ◌≤◌, List, [], ◌∷◌, ◌++◌, length, map, refl, sym, subst, arith, append_assoc}
 use Rattle.std.specs.Prelude.{max}
 use Rattle.std.proofs.lemmas.List.{length-map}
 use Rattle.il_ast.specs.declared.instruction.Inst.{Inst}
@@ -7,34 +7,23 @@ use Rattle.il_ast.specs.declared.instruction.Inst.TheVariants.{Unary, Binary, Al
 use Rattle.il_ast.specs.declared.instruction.Lined.{Lined}
 use Rattle.il_ast.specs.declared.block.Block.{Block}
 use Rattle.il_ast.specs.declared.function.Func.{Func}
-use Rattle.il_ast.specs.declared.function.Param.{Param}
-use Rattle.il_ast.specs.declared.operation.Class.{Class}
-use Rattle.il_ast.specs.Cost.{args_on_stack as inst_args, largest_in, largest_of, alloc_area, phi_count, need}
+use Rattle.il_ast.specs.Cost.{args_on_stack as inst_args, largest_in, largest_of, alloc_area}
 use Rattle.phi_copies.specs.declared.ending.Assignment.{Assignment}
 use Rattle.phi_copies.specs.declared.ending.Ending.{Ending}
-use Rattle.phi_copies.specs.Keeping.{classes_of}
 use Rattle.phi_copies.specs.Lowered.{all_edges, block_edges, block_ending, all_endings, lowered}
-use Rattle.vcode.specs.declared.place.Location.{Location}
-use Rattle.vcode.specs.declared.place.Location.TheVariants.{Slot}
-use Rattle.vcode.specs.declared.place.Destination.{Destination}
 use Rattle.vcode.specs.declared.place.Operand.{Operand}
 use Rattle.vcode.specs.declared.line.Line.{Line}
 use Rattle.vcode.specs.declared.line.Line.TheVariants.{Tick, Set, Operate, Load, Store, Alloc, Blit, Call}
 use Rattle.vcode.specs.declared.code.Block.{Block as VirtualBlock}
+use Rattle.vcode.specs.Outgoing.{most_in_lines, most_in_blocks, outgoing}
 use Rattle.vcode.specs.Regular.{area}
-use Rattle.select.specs.Selected.{operand_of, argument_of, inst_lines, turn_lines, all_lines, copy_lines, unary_lines, binary_lines, assignment_lines, ending_lines, edge_of, blocks_of, parameter_of, selected}
+use Rattle.select.specs.Selected.{operand_of, argument_of, inst_lines, turn_lines, all_lines, copy_lines, unary_lines, binary_lines, assignment_lines, ending_lines, edge_of, blocks_of, selected}
 use Rattle.select.proofs.UsedPlaces.{Sets, copy_sets, unary_sets, binary_sets}
 use Rattle.select.proofs.Regular.{area_is}
-use Rattle.alloc_check.specs.Placed.{placed_line, placed_argument, placed_block, placed_destination, in_slots}
-use Rattle.alloc_check.proofs.Regular.{area_same}
-use Rattle.abi_frames.specs.Layout.{most_in_lines, most_in_blocks, outgoing, frame_bound}
 
 -- ---- arguments past the eighth
 
-abbrev most_in : List (Line ℕ) → ℕ
-most_in lines = most_in_lines (map (placed_line Slot) lines)
-
-none_passed : (t : ℕ) (xs : List (Operand ℕ)) (ls : List (Line ℕ)) → Sets t xs ls → most_in ls ≡ 0
+none_passed : (t : ℕ) (xs : List (Operand ℕ)) (ls : List (Line ℕ)) → Sets t xs ls → most_in_lines ls ≡ 0
 none_passed t xs [] s = refl
 none_passed t xs (Tick turn w ∷ ls) s = absurd s
 none_passed t xs (Set p a ∷ ls) s = let e = none_passed t xs ls s.2 in omega (arith, e)
@@ -45,11 +34,11 @@ none_passed t xs (Alloc p size ∷ ls) s = absurd s
 none_passed t xs (Blit from to count ∷ ls) s = absurd s
 none_passed t xs (Call to callee args ∷ ls) s = absurd s
 
-both_most : (xs ys : List (Line ℕ)) (n : ℕ) → most_in xs ≤ n → most_in ys ≤ n → most_in (xs ++ ys) ≤ n
+both_most : (xs ys : List (Line ℕ)) (n : ℕ) → most_in_lines xs ≤ n → most_in_lines ys ≤ n → most_in_lines (xs ++ ys) ≤ n
 both_most [] ys n h k = k
 both_most (x ∷ xs) ys n h k = let rest = both_most xs ys n (omega (arith, h)) k in omega (arith, h, rest)
 
-inst_passes : (x : Inst) → most_in (inst_lines x) ≤ inst_args x
+inst_passes : (x : Inst) → most_in_lines (inst_lines x) ≤ inst_args x
 inst_passes (Unary to op a) = let e = none_passed to.temp (operand_of a ∷ []) (unary_lines to.temp op to.class (operand_of a)) (unary_sets to.temp op to.class (operand_of a)) in omega (arith, e)
 inst_passes (Binary to op a b) = let e = none_passed to.temp (operand_of a ∷ operand_of b ∷ []) (binary_lines to.temp op to.class (operand_of a) (operand_of b)) (binary_sets to.temp op to.class (operand_of a) (operand_of b)) in omega (arith, e)
 inst_passes (AllocInst to alignment size) = omega arith
@@ -57,31 +46,27 @@ inst_passes (StoreInst size a at) = omega arith
 inst_passes (BlitInst from to count) = omega arith
 inst_passes (CallInst to callee args) =
     let one : length (map argument_of args) ≡ length args = length-map args argument_of in
-    let two : length (map (placed_argument Slot) (map argument_of args)) ≡ length (map argument_of args) = length-map (map argument_of args) (placed_argument Slot) in
-    omega (arith, one, two)
+    omega (arith, one)
 
-copies_pass : (cs : List Assignment) → most_in (assignment_lines cs) ≤ 0
+copies_pass : (cs : List Assignment) → most_in_lines (assignment_lines cs) ≤ 0
 copies_pass [] = omega arith
 copies_pass (c ∷ cs) =
     let e = none_passed c.to.temp (operand_of c.value ∷ []) (copy_lines c.to.temp c.to.class (operand_of c.value)) (copy_sets c.to.temp c.to.class (operand_of c.value)) in
     both_most (copy_lines c.to.temp c.to.class (operand_of c.value)) (assignment_lines cs) 0 (omega (arith, e)) (copies_pass cs)
 
-insts_pass : (insts : List (Lined Inst)) (rest : List (Line ℕ)) → most_in rest ≤ 0 → most_in (all_lines insts ++ rest) ≤ largest_in insts
+insts_pass : (insts : List (Lined Inst)) (rest : List (Line ℕ)) → most_in_lines rest ≤ 0 → most_in_lines (all_lines insts ++ rest) ≤ largest_in insts
 insts_pass [] rest h = h
 insts_pass (i ∷ insts) rest h =
     let one = inst_passes i.item in
     let more = insts_pass insts rest h in
     let all = both_most (inst_lines i.item) (all_lines insts ++ rest) (max (inst_args i.item) (largest_in insts)) (omega (arith, one)) (omega (arith, more)) in
-    subst (λ ls. most_in ls ≤ max (inst_args i.item) (largest_in insts)) (sym (append_assoc (turn_lines i) (all_lines insts) rest)) (omega (arith, all))
+    subst (λ ls. most_in_lines ls ≤ max (inst_args i.item) (largest_in insts)) (sym (append_assoc (turn_lines i) (all_lines insts) rest)) (omega (arith, all))
 
-abbrev most_over : List (VirtualBlock ℕ) → ℕ
-most_over bs = most_in_blocks (map (placed_block Slot) bs)
-
-edges_pass : (es : List Ending) → most_over (map edge_of es) ≤ 0
+edges_pass : (es : List Ending) → most_in_blocks (map edge_of es) ≤ 0
 edges_pass [] = omega arith
 edges_pass (e ∷ es) = let one = copies_pass e.copies in let rest = edges_pass es in omega (arith, one, rest)
 
-blocks_pass : (f : Func) (n : ℕ) (bs : List Block) (rest : List (VirtualBlock ℕ)) → most_over rest ≤ 0 → most_over (blocks_of bs (all_endings f n bs) ++ rest) ≤ largest_of bs
+blocks_pass : (f : Func) (n : ℕ) (bs : List Block) (rest : List (VirtualBlock ℕ)) → most_in_blocks rest ≤ 0 → most_in_blocks (blocks_of bs (all_endings f n bs) ++ rest) ≤ largest_of bs
 blocks_pass f n [] rest h = h
 blocks_pass f n (b ∷ bs) rest h =
     let ending = block_ending f n b in
@@ -90,24 +75,12 @@ blocks_pass f n (b ∷ bs) rest h =
     let more = blocks_pass f (n + length (block_edges f b)) bs rest h in
     omega (arith, one, more)
 
-code_passes : (f : Func) → outgoing (in_slots (selected f (lowered f))) ≤ largest_of f.blocks
+pub code_passes : (f : Func) → outgoing (selected f (lowered f)) ≤ largest_of f.blocks
 unfolding selected lowered
 code_passes f = blocks_pass f 0 f.blocks (map edge_of (all_edges f f.blocks)) (edges_pass (all_edges f f.blocks))
 
--- ---- the stack
+-- ---- blocks of memory
 
-code_area : (f : Func) → area (in_slots (selected f (lowered f))) ≡ alloc_area f
+pub code_area : (f : Func) → area (selected f (lowered f)) ≡ alloc_area f
 unfolding selected lowered
-code_area f = area_same Slot (selected f (lowered f)) (in_slots (selected f (lowered f))) refl ∙ area_is f
-
-pub stack_enough : (f : Func) (slots : ℕ) → slots ≡ length f.temps + phi_count f → frame_bound (in_slots (selected f (lowered f))) slots ≤ need f
-stack_enough f slots same =
-    let passes = code_passes f in
-    let bytes = code_area f in
-    omega (arith, same, passes, bytes)
-
--- ---- parameters
-
-pub same_classes : (params : List Param) → map (λ (d : Destination Location). d.class) (map (placed_destination Slot) (map parameter_of params)) ≡ classes_of params
-same_classes [] = refl
-same_classes (x ∷ params) = ap (λ (cs : List Class). x.class ∷ cs) (same_classes params)
+code_area f = area_is f

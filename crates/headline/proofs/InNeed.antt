@@ -1,0 +1,58 @@
+-- Location code that is a function's, on bytes and in its frame, keeps the function with the stack that a call of it is counted for.
+use Rattle.std.proofs.Common.{◌≡◌, ℕ, ◌+◌, ◌≤◌, List, subst, arith}
+use Rattle.std.specs.Prelude.{Option}
+use Rattle.il_ast.specs.declared.operation.Class.{Class}
+use Rattle.il_ast.specs.declared.function.Func.{Func}
+use Rattle.il_ast.specs.Cost.{need}
+use Rattle.il_ast.specs.Logged.{Event}
+use Rattle.il_ast.specs.Passes.{IsCodeOf, classes_of}
+use Rattle.vcode.specs.declared.place.Location.{Location}
+use Rattle.vcode.specs.declared.code.Code.{Code}
+use Rattle.vcode.specs.Coded.{classes_in, coded}
+use Rattle.vcode.specs.Places.{located}
+use Rattle.vcode.specs.Regular.{area}
+use Rattle.vcode.specs.Step.{begin, step}
+use Rattle.flat_code.specs.Flat.{Names, FlatGiven, FlatAsked, FlatOutcome, KeepsFlat}
+use Rattle.flat_code.specs.Laws.{FlatKept}
+use Rattle.flat_code.specs.Step.{flat_begin, flat_step}
+use Rattle.abi_frames.specs.Calls.{World, GoodStack}
+use Rattle.abi_frames.specs.Frames.{IsFrameOf}
+use Rattle.abi_frames.specs.Layout.{frame_bound, frame_size}
+use Rattle.abi_frames.specs.Promise.{FramePromise}
+use Rattle.rv_isa.specs.declared.labelled.Item.{Item}
+
+-- with more stack, of which less was asked
+less_stack : (w : World) (sp low high room : ℕ) → low ≤ high → GoodStack w sp (high + room) → GoodStack w sp (low + room)
+less_stack w sp low high room le good = let above = good.above in record { above = omega (arith, above, le); below = good.below; aligned = good.aligned }
+
+more_need : {T : Type 0} (items : List Item) (low high frame area : ℕ) (params : List Class) (result : Option Class) (start : (addresses : List ℕ) → (base : ℕ) → FlatGiven → T) (step : (addresses : List ℕ) → (base : ℕ) → FlatGiven → T → Event T FlatAsked FlatOutcome) → low ≤ high → FramePromise items low frame area params result start step → FramePromise items high frame area params result start step
+more_need items low high frame area params result start step le f =
+    let fits = f.fits in
+    let some = f.some in
+    record {
+      fits = omega (arith, fits, le);
+      area_fits = f.area_fits;
+      some = omega (arith, some, le);
+      aligned = f.aligned;
+      keeps = λ w at label global addresses world names even stand sp j good. f.keeps w at label global addresses world names even stand sp j (less_stack w sp low high j.room le good);
+    }
+
+enough : (f : Func) (code : Code Location) (slots : ℕ) → IsCodeOf f (coded located code slots) → frame_bound code slots ≤ need f
+enough f code slots is =
+    let bytes = is.area in
+    let passed = is.outgoing in
+    let places = is.places in
+    omega (arith, bytes, passed, places)
+
+pub bytes_in_need : (f : Func) (code : Code Location) (slots : ℕ) → IsCodeOf f (coded located code slots) → FlatKept code → (names : Names)
+    → KeepsFlat names (classes_of f.params) f.result (area code) (begin located code) (step located names.globals code) (flat_begin code) (flat_step code names.addresses)
+bytes_in_need f code slots is kept names =
+    subst (λ (cs : List Class). KeepsFlat names cs f.result (area code) (begin located code) (step located names.globals code) (flat_begin code) (flat_step code names.addresses)) is.params
+    (subst (λ (r : Option Class). KeepsFlat names (classes_in code.params) r (area code) (begin located code) (step located names.globals code) (flat_begin code) (flat_step code names.addresses)) is.result (kept names))
+
+pub frame_in_need : (f : Func) (code : Code Location) (slots : ℕ) (items : List Item) → IsCodeOf f (coded located code slots) → IsFrameOf code slots items
+    → FramePromise items (need f) (frame_size code slots) (area code) (classes_of f.params) f.result (λ addresses. flat_begin code) (λ addresses. flat_step code addresses)
+frame_in_need f code slots items is frame =
+    more_need items (frame_bound code slots) (need f) (frame_size code slots) (area code) (classes_of f.params) f.result (λ addresses. flat_begin code) (λ addresses. flat_step code addresses) (enough f code slots is)
+    (subst (λ (cs : List Class). FramePromise items (frame_bound code slots) (frame_size code slots) (area code) cs f.result (λ addresses. flat_begin code) (λ addresses. flat_step code addresses)) is.params
+    (subst (λ (r : Option Class). FramePromise items (frame_bound code slots) (frame_size code slots) (area code) (classes_in code.params) r (λ addresses. flat_begin code) (λ addresses. flat_step code addresses)) is.result frame))

@@ -1,0 +1,23 @@
+-- How many arguments a code passes on the stack.
+use Rattle.std.specs.Prelude.{ℕ, ◌-◌, max, List, [], ◌∷◌, length}
+use Rattle.vcode.specs.declared.line.Line.{Line}
+use Rattle.vcode.specs.declared.line.Line.TheVariants.{Call}
+use Rattle.vcode.specs.declared.code.Block.{Block}
+use Rattle.vcode.specs.declared.code.Code.{Code}
+
+-- the arguments of a call that are passed on the stack: those past the eighth
+abbrev pub args_on_stack : {P : Type 0} → Line P → ℕ
+args_on_stack (Call to callee args) = length args - 8
+args_on_stack l = 0
+
+abbrev pub most_in_lines : {P : Type 0} → List (Line P) → ℕ
+most_in_lines [] = 0
+most_in_lines (l ∷ lines) = max (args_on_stack l) (most_in_lines lines)
+
+abbrev pub most_in_blocks : {P : Type 0} → List (Block P) → ℕ
+most_in_blocks [] = 0
+most_in_blocks (b ∷ blocks) = max (most_in_lines b.lines) (most_in_blocks blocks)
+
+-- the most arguments that a call passes on the stack
+abbrev pub outgoing : {P : Type 0} → Code P → ℕ
+outgoing f = most_in_blocks f.blocks
