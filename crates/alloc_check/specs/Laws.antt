@@ -7,12 +7,12 @@ use Rattle.vcode.specs.declared.line.Line.{Line}
 use Rattle.vcode.specs.declared.line.Line.TheVariants.{Set}
 use Rattle.vcode.specs.declared.code.Block.{Block}
 use Rattle.vcode.specs.declared.code.Code.{Code}
-use Rattle.regalloc.specs.declared.certificate.Certificate.{Certificate}
+use Rattle.certificates.specs.declared.certificate.Certificate.{Certificate}
 use Rattle.vcode.specs.Regular.{code_weight}
 use Rattle.bitset.specs.Bits.{Bits}
 use Rattle.cfg_live.specs.Points.{graph_of}
 use Rattle.cfg_live.specs.Rows.{AreLive}
-use Rattle.regalloc.specs.Listed.{slotted}
+use Rattle.certificates.specs.Listed.{slotted}
 use Rattle.alloc_check.specs.Kept.{Keeps}
 use Rattle.alloc_check.specs.Placed.{Layout, placed_line, in_slots}
 use Rattle.vcode.specs.declared.function.VFunc.{VFunc}

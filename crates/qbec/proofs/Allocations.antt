@@ -13,8 +13,8 @@ use Rattle.vcode.specs.declared.line.Line.TheVariants.{Tick, Set, Operate, Load,
 use Rattle.vcode.specs.declared.code.Block.{Block}
 use Rattle.vcode.specs.declared.code.Code.{Code}
 use Rattle.vcode.specs.Regular.{area, alloc_bytes, code_weight, weight_of}
-use Rattle.regalloc.specs.declared.certificate.Transfer.{Transfer}
-use Rattle.regalloc.specs.declared.certificate.Certificate.{Certificate}
+use Rattle.certificates.specs.declared.certificate.Transfer.{Transfer}
+use Rattle.certificates.specs.declared.certificate.Certificate.{Certificate}
 use Rattle.alloc_check.specs.Placed.{Layout, placed_argument, placed_destination, placed_line, placed_block, in_slots}
 use Rattle.vcode.specs.declared.function.VFunc.{VFunc}
 use Rattle.alloc_check.specs.Accepted.{end_point, starts_exist, is_placed, is_accepted}

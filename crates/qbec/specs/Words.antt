@@ -7,7 +7,7 @@ use Rattle.vcode.specs.declared.place.Location.{Location}
 use Rattle.vcode.specs.declared.code.Code.{Code}
 use Rattle.vcode.specs.Regular.{area, code_weight}
 use Rattle.select.specs.Selected.{selected}
-use Rattle.regalloc.specs.declared.certificate.Certificate.{Certificate}
+use Rattle.certificates.specs.declared.certificate.Certificate.{Certificate}
 use Rattle.alloc_check.specs.Placed.{in_slots}
 use Rattle.alloc_check.specs.Certified.{placed_by, is_sound}
 use Rattle.alloc_check.specs.Kept.{Keeps}
