@@ -7,7 +7,7 @@ use Rattle.vcode.specs.declared.function.VFunc.{VFunc}
 use Rattle.vcode.specs.Cost.{is_paid}
 use Rattle.vcode.specs.Named.{keeps_places, is_below, is_place, are_near, are_distinct}
 use Rattle.vcode.specs.Places.{located}
-use Rattle.regalloc.specs.declared.certificate.Certificate.{Certificate}
+use Rattle.certificates.specs.declared.certificate.Certificate.{Certificate}
 use Rattle.alloc_check.specs.Certified.{placed_by, is_sound}
 use Rattle.alloc_check.specs.Accepted.{end_point, starts_exist, is_placed, is_accepted}
 use Rattle.alloc_check.specs.Walk.{sound_in}

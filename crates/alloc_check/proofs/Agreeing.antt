@@ -16,8 +16,8 @@ use Rattle.vcode.specs.declared.place.Destination.{Destination}
 use Rattle.vcode.specs.Operations.{held}
 use Rattle.vcode.specs.Places.{Values, put, assign, kept, virtual, located, same_location, is_callers}
 use Rattle.vcode.specs.Step.{bound, value_of, read, read_all}
-use Rattle.regalloc.specs.declared.certificate.Equality.{Equality}
-use Rattle.regalloc.specs.declared.certificate.Transfer.{Transfer}
+use Rattle.certificates.specs.declared.certificate.Equality.{Equality}
+use Rattle.certificates.specs.declared.certificate.Transfer.{Transfer}
 use Rattle.alloc_check.specs.Placed.{Layout, placed_operand, placed_argument}
 use Rattle.alloc_check.specs.Owners.{Owners, nobody, Agrees, other_than, own_put, own_move, own_kept, own_also, known, owns, operand_held, args_held, all_hold}
 use Rattle.alloc_check.specs.Certified.{certified_params, own_params, is_param, params_placed}

@@ -14,8 +14,8 @@ use Rattle.vcode.specs.declared.code.Block.{Block}
 use Rattle.vcode.specs.declared.code.Code.{Code}
 use Rattle.vcode.specs.Cost.{is_paid}
 use Rattle.vcode.specs.Regular.{leads_inside, is_alloc, allocs_first, alloc_bytes, area, turns_of, passes_few, weight_of, code_weight, IsRegular}
-use Rattle.regalloc.specs.declared.certificate.Transfer.{Transfer}
-use Rattle.regalloc.specs.declared.certificate.Certificate.{Certificate}
+use Rattle.certificates.specs.declared.certificate.Transfer.{Transfer}
+use Rattle.certificates.specs.declared.certificate.Certificate.{Certificate}
 use Rattle.alloc_check.specs.Placed.{Layout, placed_line, placed_block, in_slots}
 use Rattle.alloc_check.specs.Certified.{moves_at, layout_at, transfers, next_point, jump_point, certified_lines, certified_block, certified_blocks, certified_params, placed_by}
 use Rattle.alloc_check.specs.Walk.{moves_before}

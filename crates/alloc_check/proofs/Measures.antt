@@ -16,8 +16,8 @@ use Rattle.vcode.specs.Coded.{classes_in, coded}
 use Rattle.vcode.specs.Outgoing.{args_on_stack, most_in_lines, most_in_blocks, outgoing}
 use Rattle.vcode.specs.Places.{virtual, located}
 use Rattle.vcode.specs.Regular.{area, weight_of, code_weight}
-use Rattle.regalloc.specs.declared.certificate.Transfer.{Transfer}
-use Rattle.regalloc.specs.declared.certificate.Certificate.{Certificate}
+use Rattle.certificates.specs.declared.certificate.Transfer.{Transfer}
+use Rattle.certificates.specs.declared.certificate.Certificate.{Certificate}
 use Rattle.alloc_check.specs.Kept.{RunsAlike}
 use Rattle.alloc_check.specs.Placed.{Layout, placed_argument, placed_destination, placed_line, placed_block, in_slots}
 use Rattle.alloc_check.specs.Certified.{moves_at, layout_at, transfers, next_point, jump_point, certified_lines, certified_blocks, certified_params, placed_by, params_placed, is_sound}

@@ -19,9 +19,9 @@ use Rattle.vcode.specs.declared.function.VFunc.{VFunc}
 use Rattle.vcode.specs.Cost.{is_paid}
 use Rattle.vcode.specs.Named.{operand_keeps, wanted_keeps, line_keeps, jump_keeps, keeps_places, is_place, are_near, are_distinct}
 use Rattle.vcode.specs.Places.{located, same_location}
-use Rattle.regalloc.specs.declared.certificate.Equality.{Equality}
-use Rattle.regalloc.specs.declared.certificate.Transfer.{Transfer}
-use Rattle.regalloc.specs.declared.certificate.Certificate.{Certificate}
+use Rattle.certificates.specs.declared.certificate.Equality.{Equality}
+use Rattle.certificates.specs.declared.certificate.Transfer.{Transfer}
+use Rattle.certificates.specs.declared.certificate.Certificate.{Certificate}
 use Rattle.cfg_live.specs.Registers.{with_operand, with_args, line_reads, jump_reads}
 use Rattle.alloc_check.specs.Placed.{placed_operand, placed_argument, placed_destination, placed_line, placed_jump, placed_block, in_slots}
 use Rattle.alloc_check.specs.Owners.{Owners, nobody, other_than, own_put, own_also, own_kept, moved, known, owns, operand_held, args_held, all_hold, where_held, received, after_line}

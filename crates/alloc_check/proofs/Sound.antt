@@ -29,9 +29,9 @@ use Rattle.vcode.specs.declared.code.Code.{Code}
 use Rattle.vcode.specs.Operations.{held, operate, loaded}
 use Rattle.vcode.specs.Places.{Places, Values, unknown, put, assign, kept, virtual, located}
 use Rattle.vcode.specs.Step.{State, bound, begin, value_of, read, read_all, fails, goes_on, sets, changes, weighs, ticks, receives, resumes, calls, line_step, enters, branches, returns, jump_step, block_step, step_in, step}
-use Rattle.regalloc.specs.declared.certificate.Equality.{Equality}
-use Rattle.regalloc.specs.declared.certificate.Transfer.{Transfer}
-use Rattle.regalloc.specs.declared.certificate.Certificate.{Certificate}
+use Rattle.certificates.specs.declared.certificate.Equality.{Equality}
+use Rattle.certificates.specs.declared.certificate.Transfer.{Transfer}
+use Rattle.certificates.specs.declared.certificate.Certificate.{Certificate}
 use Rattle.alloc_check.specs.Placed.{Layout, placed_operand, placed_argument, placed_destination, placed_line, placed_jump}
 use Rattle.alloc_check.specs.Kept.{RunsAlike}
 use Rattle.alloc_check.specs.Owners.{Owners, nobody, Agrees, own_put, own_move, own_kept, moved, known, owns, operand_held, args_held, all_hold, where_held, received, after_line}

@@ -19,8 +19,8 @@ use Rattle.vcode.specs.declared.code.Code.{Code}
 use Rattle.vcode.specs.declared.function.VFunc.{VFunc}
 use Rattle.vcode.specs.Named.{operand_keeps, line_keeps, jump_keeps, block_keeps, keeps_places, is_below}
 use Rattle.vcode.specs.Places.{same_location}
-use Rattle.regalloc.specs.declared.certificate.Equality.{Equality}
-use Rattle.regalloc.specs.Listed.{place_in, has, with_place, with_places, with_written, point_places, live_places, listed_params, listed_starts, no_moves, slots, slotted}
+use Rattle.certificates.specs.declared.certificate.Equality.{Equality}
+use Rattle.certificates.specs.Listed.{place_in, has, with_place, with_places, with_written, point_places, live_places, listed_params, listed_starts, no_moves, slots, slotted}
 use Rattle.cfg_live.specs.declared.uses.Uses.{Uses}
 use Rattle.cfg_live.specs.declared.graph.Graph.{Graph}
 use Rattle.cfg_live.specs.Registers.{with_operand, line_reads, line_writes, jump_reads}
@@ -28,7 +28,7 @@ use Rattle.cfg_live.specs.Points.{line_uses, jump_uses, with_line, with_lines, w
 use Rattle.cfg_live.specs.Points.{starts_after, starts}
 use Rattle.cfg_live.specs.Paths.{writes, leads}
 use Rattle.cfg_live.specs.Rows.{holds, AreLive}
-use Rattle.regalloc.proofs.Grows.{block_count, uses_count}
+use Rattle.certificates.proofs.Grows.{block_count, uses_count}
 use Rattle.alloc_check.specs.Certified.{place_by, starts_at, places_at, next_point, jump_point}
 use Rattle.alloc_check.specs.Accepted.{end_point}
 use Rattle.alloc_check.specs.Slotted.{is_empty, is_own, own_at, lines_own, blocks_own, start_wanted, targets_wanted, writes_to, LinesWant, names, BlocksWant, IsSlotted}

@@ -7,9 +7,9 @@ use Rattle.vcode.specs.declared.function.VFunc.{VFunc}
 use Rattle.vcode.specs.Cost.{is_paid}
 use Rattle.vcode.specs.Named.{keeps_places, is_place, are_near, are_distinct}
 use Rattle.vcode.specs.Places.{located}
-use Rattle.regalloc.specs.declared.certificate.Equality.{Equality}
-use Rattle.regalloc.specs.declared.certificate.Certificate.{Certificate}
-pub use Rattle.regalloc.specs.Listed.{end_point}
+use Rattle.certificates.specs.declared.certificate.Equality.{Equality}
+use Rattle.certificates.specs.declared.certificate.Certificate.{Certificate}
+pub use Rattle.certificates.specs.Listed.{end_point}
 use Rattle.alloc_check.specs.Certified.{placed_by, is_sound}
 
 -- an equality of a register and a place that there are

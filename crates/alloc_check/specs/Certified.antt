@@ -12,10 +12,10 @@ use Rattle.vcode.specs.declared.line.Jump.{Jump}
 use Rattle.vcode.specs.declared.line.Jump.TheVariants.{Goto, Branch, Return, Halt}
 use Rattle.vcode.specs.declared.code.Block.{Block}
 use Rattle.vcode.specs.declared.code.Code.{Code}
-use Rattle.regalloc.specs.declared.certificate.Equality.{Equality}
-use Rattle.regalloc.specs.declared.certificate.Transfer.{Transfer}
-use Rattle.regalloc.specs.declared.certificate.Certificate.{Certificate}
-pub use Rattle.regalloc.specs.Listed.{next_point, jump_point}
+use Rattle.certificates.specs.declared.certificate.Equality.{Equality}
+use Rattle.certificates.specs.declared.certificate.Transfer.{Transfer}
+use Rattle.certificates.specs.declared.certificate.Certificate.{Certificate}
+pub use Rattle.certificates.specs.Listed.{next_point, jump_point}
 use Rattle.alloc_check.specs.Placed.{Layout, placed_line, placed_jump}
 use Rattle.alloc_check.specs.Owners.{Owners, nobody, own_put, moved, known, operand_held, all_hold, owns, after_line}
 

@@ -1,14 +1,14 @@
 -- The laws of certificates.
 use Rattle.std.specs.Prelude.{◌≡◌, ℕ, true, List}
 use Rattle.vcode.specs.declared.code.Code.{Code}
-use Rattle.regalloc.specs.declared.certificate.Certificate.{Certificate}
+use Rattle.certificates.specs.declared.certificate.Certificate.{Certificate}
 use Rattle.il_ast.specs.Passes.{Keeps}
 use Rattle.vcode.specs.Coded.{coded}
 use Rattle.vcode.specs.Places.{virtual, located}
 use Rattle.bitset.specs.Bits.{Bits}
 use Rattle.cfg_live.specs.Points.{graph_of}
 use Rattle.cfg_live.specs.Rows.{AreLive}
-use Rattle.regalloc.specs.Listed.{slotted}
+use Rattle.certificates.specs.Listed.{slotted}
 use Rattle.alloc_check.specs.Placed.{in_slots}
 use Rattle.vcode.specs.declared.function.VFunc.{VFunc}
 use Rattle.alloc_check.specs.Certified.{placed_by, is_sound}

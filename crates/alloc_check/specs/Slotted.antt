@@ -11,9 +11,9 @@ use Rattle.vcode.specs.declared.code.Block.{Block}
 use Rattle.vcode.specs.declared.function.VFunc.{VFunc}
 use Rattle.vcode.specs.Named.{line_keeps, jump_keeps}
 use Rattle.vcode.specs.Places.{same_location}
-use Rattle.regalloc.specs.declared.certificate.Equality.{Equality}
-use Rattle.regalloc.specs.declared.certificate.Transfer.{Transfer}
-use Rattle.regalloc.specs.declared.certificate.Certificate.{Certificate}
+use Rattle.certificates.specs.declared.certificate.Equality.{Equality}
+use Rattle.certificates.specs.declared.certificate.Transfer.{Transfer}
+use Rattle.certificates.specs.declared.certificate.Certificate.{Certificate}
 use Rattle.cfg_live.specs.Registers.{line_reads, line_writes, jump_reads}
 use Rattle.alloc_check.specs.Certified.{starts_at, layout_at, next_point, jump_point}
 use Rattle.alloc_check.specs.Accepted.{end_point}

@@ -11,7 +11,7 @@ use crate::certified::certified;
 use crate::check::is_sound;
 use crate::fits::{is_placed, starts_exist};
 use crate::points::are_within;
-use regalloc::certificate::Certificate;
+use certificates::certificate::Certificate;
 use std::alloc::{AllocError, Global};
 use vcode::function::{LFunc, VFunc};
 

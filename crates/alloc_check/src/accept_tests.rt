@@ -1,12 +1,12 @@
 //! Certificates, right ones and hostile ones, for small functions.
 use crate::accept::{Refused, accept};
 use crate::spill_all::spill_all;
+use certificates::certificate::{Certificate, Equality, Transfer};
+use certificates::spill_all::SpillAll;
+use certificates::strategy::Strategy;
 use cfg_live::live::live;
 use il_ast::list::Seq;
 use il_ast::operation::Class;
-use regalloc::certificate::{Certificate, Equality, Transfer};
-use regalloc::spill_all::SpillAll;
-use regalloc::strategy::Strategy;
 use rv_isa::instruction::RegOp;
 use std::alloc::{AllocError, Global};
 use std::test::Fail;

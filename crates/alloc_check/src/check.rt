@@ -9,7 +9,7 @@ ghost use Rattle.alloc_check.specs.Walk.{put_in, moved_in, known_in, receives_in
 use crate::points::{jump_point, next_point};
 use crate::says::{moves_at, place_by, places_at, starts_at};
 use crate::table::Table;
-use regalloc::certificate::{Certificate, Equality, Transfer};
+use certificates::certificate::{Certificate, Equality, Transfer};
 use std::alloc::{AllocError, Global};
 use vcode::code::{Block, Code};
 use vcode::function::VFunc;

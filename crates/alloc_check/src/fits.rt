@@ -7,8 +7,8 @@ ghost use Rattle.vcode.specs.Places.{located, same_location};
 ghost use Rattle.alloc_check.specs.Accepted.{is_placed, exists_in, starts_exist};
 ghost use Rattle.alloc_check.specs.Walk.{spent};
 
+use certificates::certificate::Equality;
 use il_ast::list::Seq;
-use regalloc::certificate::Equality;
 use vcode::code::{Block, Code};
 use vcode::line::{Jump, Line, Operation};
 use vcode::place::{Argument, Destination, Location, Operand};

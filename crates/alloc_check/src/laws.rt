@@ -13,7 +13,7 @@ pub fn slots_are_accepted()
     ensures { SlotsAreAccepted }
 {}
 
-/// What `regalloc::spill_all::slotted` answers for the live registers of a function is accepted, and makes the code that `spill_all` makes.
+/// What `certificates::spill_all::slotted` answers for the live registers of a function is accepted, and makes the code that `spill_all` makes.
 pub fn spill_all_is_accepted()
     ensures { SpillAllIsAccepted }
 {}

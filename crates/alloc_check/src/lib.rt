@@ -4,7 +4,7 @@
 //! the code is (`specs/Placed`), and that it keeps the virtual code (`specs/Kept`): whatever global names mean, whatever calls are made and however they go,
 //! where the virtual code runs as an outcome that is not undefined, the other runs as the same one, with the same calls.
 //!
-//! A certificate of `regalloc` says where each register is from point to point, with moves between. `specs/Certified` has the code that it makes and what makes
+//! A certificate of `certificates` says where each register is from point to point, with moves between. `specs/Certified` has the code that it makes and what makes
 //! it sound: each line finds what it reads, and each jump what its targets ask for, as far as the owners of places are known (`specs/Owners`). The law
 //! [`laws::sound_certificates_keep`] says that the code of a sound certificate keeps the virtual code.
 //!
@@ -15,7 +15,7 @@
 //!
 //! [`placing`] makes lines and jumps with a place for each register, wherever a [`placing::Placing`] says that is.
 //!
-//! Only what makes code wants memory. The crate stands on `vcode` for both codes, on `regalloc` for certificates, and on `il_ast` for what keeping means.
+//! Only what makes code wants memory. The crate stands on `vcode` for both codes, on `certificates` for certificates, and on `il_ast` for what keeping means.
 #![tactic(auto)]
 
 pub mod accept;

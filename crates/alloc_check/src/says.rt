@@ -3,7 +3,7 @@ ghost use Rattle.std.specs.Prelude.{◌≡◌};
 ghost use Rattle.alloc_check.specs.Certified.{moves_at, starts_at, places_at, place_by};
 
 use crate::placing::Placing;
-use regalloc::certificate::{Certificate, Equality, Transfer};
+use certificates::certificate::{Certificate, Equality, Transfer};
 use vcode::place::Location;
 
 /// The moves right before a point.

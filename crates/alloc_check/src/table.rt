@@ -6,7 +6,7 @@ ghost use Rattle.alloc_check.specs.Owners.{nobody, own_kept, where_held};
 ghost use Rattle.alloc_check.specs.Table.{cell, cell_at, counts, own_of, in_table, IsTable, Rewrites};
 ghost use Rattle.alloc_check.specs.Walk.{put_in, move_in, also_in};
 
-use regalloc::certificate::{Equality, Transfer};
+use certificates::certificate::{Equality, Transfer};
 use std::alloc::{AllocError, Global};
 use vcode::place::Location;
 

@@ -1,8 +1,8 @@
 //! Texts compiled, and the machine's run of their file.
+use certificates::spill_all::SpillAll;
+use certificates::strategy::Strategy;
 use elf_file::read_image;
 use qbec::compile::{CompileError, compile};
-use regalloc::spill_all::SpillAll;
-use regalloc::strategy::Strategy;
 use rv_machine::flat_ram::FlatRam;
 use rv_machine::machine::Machine;
 use std::alloc::{AllocError, Global};

@@ -1,9 +1,9 @@
 //! Strategies that answer what they shouldn't.
+use certificates::certificate::Certificate;
+use certificates::list::certificate_of;
+use certificates::strategy::Strategy;
 use cfg_live::sets::Live;
 use il_ast::list::Seq;
-use regalloc::certificate::Certificate;
-use regalloc::list::certificate_of;
-use regalloc::strategy::Strategy;
 use std::alloc::{AllocError, Global};
 use vcode::function::VFunc;
 use vcode::place::Location;

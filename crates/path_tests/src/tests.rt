@@ -2,15 +2,15 @@
 
 use alloc_check::accept::accept;
 use alloc_check::spill_all::spill_all;
+use certificates::list::certificate_of;
+use certificates::spill_all::SpillAll;
+use certificates::strategy::Strategy;
 use cfg_live::live::live;
 use il_ast::text::Definition;
 use il_reader::read::read;
 use il_types::check::check;
 use phi_copies::lower::lower;
 use regalloc::linear_scan::scanned;
-use regalloc::list::certificate_of;
-use regalloc::spill_all::SpillAll;
-use regalloc::strategy::Strategy;
 use select::select::select;
 use std::alloc::{AllocError, Global};
 use std::test::Fail;

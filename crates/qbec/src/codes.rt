@@ -5,9 +5,9 @@ ghost use Rattle.rv_isa.specs.Words.{IsCode};
 ghost use Rattle.qbec.specs.Codes.{AreGood, AreWords};
 
 use crate::words::function_words;
+use certificates::strategy::Strategy;
 use il_ast::function::Func;
 use il_ast::program::Placed;
-use regalloc::strategy::Strategy;
 use rv_isa::code::Code;
 use std::alloc::{AllocError, Global};
 

@@ -10,12 +10,12 @@ ghost use Rattle.qbec.specs.Compile.{AreProgram, IsFile, IsCompiled, Refuses, Sa
 
 use crate::codes::codes_of;
 use crate::texts::{TextError, checked_texts};
+use certificates::strategy::Strategy;
 use elf_file::write_image;
 use obj_link::error::LinkError;
 use obj_link::linked::Linked;
 use obj_link::place::place;
 use obj_link::resolve::resolve;
-use regalloc::strategy::Strategy;
 use rv_isa::code::Code;
 use std::alloc::{AllocError, Global};
 

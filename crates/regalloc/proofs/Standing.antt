@@ -4,7 +4,7 @@ use Rattle.std.proofs.lemmas.Bool.{and_parts, and_from}
 use Rattle.std.proofs.lemmas.Bool.Decides.{nat_tests}
 use Rattle.vcode.specs.declared.place.Location.{Location}
 use Rattle.vcode.specs.declared.place.Location.TheVariants.{Slot}
-use Rattle.regalloc.specs.Listed.{slots}
+use Rattle.certificates.specs.Listed.{slots}
 use Rattle.regalloc.specs.Scanned.{may_stand, all_stand}
 
 -- one place is changed

@@ -4,8 +4,8 @@ use Rattle.bitset.specs.Bits.{Bits}
 use Rattle.vcode.specs.declared.place.Location.{Location}
 use Rattle.vcode.specs.declared.place.Location.TheVariants.{Register, Slot}
 use Rattle.vcode.specs.declared.code.Code.{Code}
-use Rattle.regalloc.specs.declared.certificate.Certificate.{Certificate}
-use Rattle.regalloc.specs.Listed.{listed}
+use Rattle.certificates.specs.declared.certificate.Certificate.{Certificate}
+use Rattle.certificates.specs.Listed.{listed}
 
 -- x5 to x9 and x18 to x27
 abbrev pub is_for_values : ℕ → Bool

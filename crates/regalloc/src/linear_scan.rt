@@ -2,11 +2,11 @@
 ghost use Rattle.std.specs.Prelude.{◌≡◌, ◌<◌, true, length, IfOk, IfSome};
 ghost use Rattle.regalloc.specs.Scanned.{is_for_values, may_stand, all_stand, IsScanned};
 
-use crate::certificate::Certificate;
 use crate::intervals::{Interval, Position, intervals};
-use crate::list::certificate_of;
-use crate::spill_all::slots;
-use crate::strategy::Strategy;
+use certificates::certificate::Certificate;
+use certificates::list::certificate_of;
+use certificates::spill_all::slots;
+use certificates::strategy::Strategy;
 use cfg_live::sets::Live;
 use std::alloc::{AllocError, Global};
 use vcode::code::Block;

@@ -1,11 +1,9 @@
 //! A function of one line, and its certificates.
 ghost use Rattle.std.specs.Prelude.{◌<◌};
 
-use crate::certificate::Equality;
 use crate::linear_scan::{LinearScan, scanned};
-use crate::list::certificate_of;
-use crate::spill_all::SpillAll;
-use crate::strategy::Strategy;
+use certificates::certificate::Equality;
+use certificates::strategy::Strategy;
 use cfg_live::live::live;
 use il_ast::list::Seq;
 use il_ast::operation::{Class, Condition};
@@ -57,54 +55,6 @@ fn copying_among(alloc: Global, registers: u32) -> Result<VFunc, AllocError>
 
 fn at(register: u32, place: Location) -> Equality {
     Equality { register, place }
-}
-
-#[test]
-fn each_register_in_its_slot(rt: HostRuntime) -> Result<(), Fail> {
-    let alloc = rt.alloc();
-    let function = copying(alloc)?;
-    let live = live(alloc, &function)?;
-    match SpillAll::new(alloc).choose(&function, &live) {
-        Some(certificate) => {
-            let [zero, one] = [Location::Slot(0), Location::Slot(1)];
-            assert_eq!(rt; certificate.params.as_slice(), [zero].as_slice());
-            // register 1 isn't live at the start
-            assert_eq!(rt; certificate.starts.len(), 1);
-            assert_eq!(rt;
-                certificate.starts.as_slice()[0].as_slice(),
-                [at(0, zero)].as_slice()
-            );
-            assert_eq!(rt; certificate.places.len(), 2);
-            assert_eq!(rt;
-                certificate.places.as_slice()[0].as_slice(),
-                [at(0, zero), at(1, one)].as_slice()
-            );
-            assert_eq!(rt;
-                certificate.places.as_slice()[1].as_slice(),
-                [at(1, one)].as_slice()
-            );
-            assert_eq!(rt; certificate.moves.len(), 2);
-        }
-        None => assert!(rt; false, "no certificate"),
-    }
-    Ok(())
-}
-
-#[test]
-fn registers_beyond_the_list_have_no_place(rt: HostRuntime) -> Result<(), Fail> {
-    let alloc = rt.alloc();
-    let function = copying(alloc)?;
-    let live = live(alloc, &function)?;
-    let list = [Location::Register(10)];
-    let certificate = certificate_of(alloc, &function, &live, list.as_slice())?;
-    assert_eq!(rt; certificate.params.as_slice(), list.as_slice());
-    assert_eq!(rt; certificate.places.len(), 2);
-    assert_eq!(rt;
-        certificate.places.as_slice()[0].as_slice(),
-        [at(0, Location::Register(10))].as_slice()
-    );
-    assert_eq!(rt; certificate.places.as_slice()[1].len(), 0);
-    Ok(())
 }
 
 #[test]

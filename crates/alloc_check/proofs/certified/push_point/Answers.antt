@@ -1,7 +1,7 @@
 use Rattle.std.proofs.Common.{◌≡◌, ◌++◌, List, [], ◌∷◌, ap, ◌∙◌}
 use Rattle.vcode.specs.declared.line.Line.{Line}
 use Rattle.vcode.specs.declared.place.Location.{Location}
-use Rattle.regalloc.specs.declared.certificate.Equality.{Equality}
+use Rattle.certificates.specs.declared.certificate.Equality.{Equality}
 use Rattle.alloc_check.specs.Placed.{placed_line}
 use Rattle.alloc_check.specs.Certified.{layout_at, transfers, place_by}
 use Rattle.alloc_check.specs.Walk.{moves_before}

@@ -1,5 +1,5 @@
 use Rattle.cfg_live.specs.Rows.{holds}
-use Rattle.regalloc.specs.Listed.{slotted}
+use Rattle.certificates.specs.Listed.{slotted}
 use Rattle.alloc_check.proofs.Slots.{slotted_accepted, slotted_code}
 use Rattle.alloc_check.proofs.Spilled.{spilled}
 use Rattle.alloc_check.proofs.laws.spill_all_is_accepted.Goals as goal

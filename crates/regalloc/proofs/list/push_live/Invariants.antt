@@ -1,6 +1,0 @@
-use Rattle.std.proofs.Common.{◌≡◌, ◌++◌}
-use Rattle.regalloc.specs.Listed.{live_places}
-use Rattle.regalloc.proofs.list.push_live.Given as goal
-
-abbrev pub invariant-loop-register : goal.invariant-loop-register
-invariant-loop-register l = l.equalities ≡ l.fn.equalities ++ live_places l.list l.live l.point l.register

@@ -1,6 +1,0 @@
-use Rattle.std.proofs.Common.{◌≡◌, ◌++◌, drop}
-use Rattle.regalloc.specs.Listed.{listed_params}
-use Rattle.regalloc.proofs.list.push_params.Given as goal
-
-abbrev pub invariant-loop-param : goal.invariant-loop-param
-invariant-loop-param l = l.params ++ listed_params l.list (drop l.param-index l.from) ≡ l.fn.params ++ listed_params l.list l.fn.from
