@@ -39,7 +39,7 @@ pub sum_from : {A B : Type 0} (f : A → ℕ) (f2 : B → ℕ) (g : A → B) →
 sum_from f f2 g same a [] = refl
 sum_from f f2 g same a (x ∷ xs) = ap (λ k. fold (λ n y. n + f2 y) (a + k) (map g xs)) (same x) ∙ sum_from f f2 g same (a + f x) xs
 
-sum_map : {A B : Type 0} (f : A → ℕ) (f2 : B → ℕ) (g : A → B) → ((x : A) → f2 (g x) ≡ f x) → (xs : List A) → sum_by f2 (map g xs) ≡ sum_by f xs
+pub sum_map : {A B : Type 0} (f : A → ℕ) (f2 : B → ℕ) (g : A → B) → ((x : A) → f2 (g x) ≡ f x) → (xs : List A) → sum_by f2 (map g xs) ≡ sum_by f xs
 sum_map f f2 g same xs = sum_from f f2 g same 0 xs
 
 -- ---- what a placed line costs
