@@ -5,7 +5,7 @@ use Rattle.std.specs.Int.{byte_at}
 use Rattle.std.proofs.Math.Nat.{pow-suc, div-div-eq-div-mul}
 use Rattle.std.proofs.lemmas.Bool.{and_from}
 use Rattle.std.proofs.lemmas.Bool.Decides.{nat_tests}
-use Rattle.rv_isa.specs.State.{State, register}
+use Rattle.rv_isa.specs.State.{State}
 use Rattle.rv_isa.specs.Memory.{stored, each_of, allowed, can_write}
 use Rattle.rv_isa.specs.Arithmetic.{moved}
 use Rattle.rv_isa.specs.Step.{act, store, store_size}
@@ -15,8 +15,9 @@ use Rattle.rv_isa.specs.declared.instruction.Instr.TheVariants.{Store}
 use Rattle.rv_isa.specs.declared.instruction.StoreOp.{StoreOp}
 use Rattle.rv_isa.specs.declared.instruction.StoreOp.TheVariants.{Sb, Sh, Sw, Sd}
 use Rattle.rv_isa.proofs.MemoryLemmas.{updated_here, updated_elsewhere, each_from, stored_avoids}
-use Rattle.abi_frames.specs.Emission.{reg, low, store_at}
-use Rattle.abi_frames.proofs.Leading.{Site, Leads, leads_by, IsReg, register_reg}
+use Rattle.abi_frames.specs.Fields.{reg, low}
+use Rattle.abi_frames.specs.Emission.{store_at}
+use Rattle.abi_frames.proofs.Leading.{Site, Leads, leads_by, IsReg, register_reg, in_register}
 use Rattle.abi_frames.proofs.Instructions.{UsableFrom, not_code, code_not}
 
 -- ---- a store
@@ -40,22 +41,28 @@ pub record Written (s : State) (a n v : ℕ) (u : State) : Type 0 where
   pub registers : (m : ℕ) → u.registers m ≡ s.registers m
   pub output : u.output ≡ s.output
 
+pub leads_store_any_in : (c : Site) (s : State) (op : StoreOp) (v base o a : ℕ) → Fixed c.ground s
+    → moved (in_register s base) (low o).value ≡ a → UsableFrom c.ground a (store_size op)
+    → Leads c (store_at op v base o ∷ []) s (Written s a (store_size op) (in_register s v))
+leads_store_any_in c s op v base o a fixed there usable =
+    let n : ℕ = store_size op in
+    let x : ℕ = in_register s v in
+    let P : (ℕ → Permission) → Type 0 = λ p. allowed (λ x. (p x).writable) a n ≡ true in
+    let writable : can_write s a n ≡ true = subst P (sym fixed.permissions) (n_writable c.ground a n (some_stored op) usable) in
+    let t : State = record s { pc = (s.pc + 4) % 2 ^ 64; bytes = stored s.bytes a n x } in
+    let acts : act (Store op (reg base) (reg v) (low o)) s ≡ Ok t = ap (store s op x) there ∙ (rw writable refl) in
+    let p : ℕ → Bool = λ x. not (c.ground.allows x).executable in
+    let each : each_of p a n ≡ true = each_from p a n (λ x lo hi. not_code (c.ground.allows x).executable (usable x lo hi).no_code) in
+    leads_by c s t (Store op (reg base) (reg v) (low o)) (Written s a n x) acts refl refl
+    (λ y h. stored_avoids p s.bytes a n x y each (code_not (c.ground.allows y).executable h))
+    (record { bytes = refl; registers = λ m. refl; output = refl })
+
 pub leads_store_any : (c : Site) (s : State) (op : StoreOp) (v base o a : ℕ) → IsReg v → IsReg base → Fixed c.ground s
     → moved (s.registers base) (low o).value ≡ a → UsableFrom c.ground a (store_size op)
     → Leads c (store_at op v base o ∷ []) s (Written s a (store_size op) (s.registers v))
 leads_store_any c s op v base o a is is_base fixed there usable =
-    let n : ℕ = store_size op in
-    let P : (ℕ → Permission) → Type 0 = λ p. allowed (λ x. (p x).writable) a n ≡ true in
-    let writable : can_write s a n ≡ true = subst P (sym fixed.permissions) (n_writable c.ground a n (some_stored op) usable) in
-    let at : moved (register s (reg base)) (low o).value ≡ a = ap (λ x. moved x (low o).value) (register_reg s base is_base) ∙ there in
-    let t : State = record s { pc = (s.pc + 4) % 2 ^ 64; bytes = stored s.bytes a n (s.registers v) } in
-    let acts : act (Store op (reg base) (reg v) (low o)) s ≡ Ok t =
-    ap (store s op (register s (reg v))) at ∙ (ap (λ x. store s op x a) (register_reg s v is) ∙ (rw writable refl)) in
-    let p : ℕ → Bool = λ x. not (c.ground.allows x).executable in
-    let each : each_of p a n ≡ true = each_from p a n (λ x lo hi. not_code (c.ground.allows x).executable (usable x lo hi).no_code) in
-    leads_by c s t (Store op (reg base) (reg v) (low o)) (Written s a n (s.registers v)) acts refl refl
-    (λ x h. stored_avoids p s.bytes a n (s.registers v) x each (code_not (c.ground.allows x).executable h))
-    (record { bytes = refl; registers = λ m. refl; output = refl })
+    subst (λ x. Leads c (store_at op v base o ∷ []) s (Written s a (store_size op) x)) (register_reg s v is)
+    (leads_store_any_in c s op v base o a fixed (ap (λ x. moved x (low o).value) (register_reg s base is_base) ∙ there) usable)
 
 -- ---- the bytes that are stored
 

@@ -38,9 +38,8 @@ use Rattle.abi_frames.specs.Layout.{most_in_lines}
 use Rattle.abi_frames.specs.Covered.{is_off_arguments, covers_line}
 use Rattle.abi_frames.specs.Emission.{fetch, source, pass_all, call_through, receive_items, lines_items, jump_items}
 use Rattle.abi_frames.proofs.Leading.{StandAt, Reaches, Leads, leads_nowhere, leads_so}
-use Rattle.abi_frames.proofs.Instructions.{is_28}
 use Rattle.abi_frames.proofs.Activations.{Setting, IsSetting, site, bottom, operand_in, Framed, operand_known, Assigned, MayWrite, assigned, assigned_output}
-use Rattle.abi_frames.proofs.LineCode.{leads_set_line, source_reg}
+use Rattle.abi_frames.proofs.LineCode.{leads_set_line}
 use Rattle.abi_frames.proofs.Sizes.{call_parts, le_is}
 use Rattle.abi_frames.proofs.Passing.{can_pass}
 use Rattle.abi_frames.proofs.Calling.{leads_prepared, gone_to, goes_through, ready, SameFrame, same_frame, framed_back}
@@ -127,7 +126,7 @@ departs c f is b to callee args lines fs k u a at xs turns room is_at is_xs even
     (subst (λ l. StandAt (site c) l u.pc) (call_assoc (pass_all c.layout 0 args) (fetch c.layout 28 callee) jump (receive_items c.layout to) tail)
     (stands_here c f b (Call to callee args) lines fs k u a)) a.fixed in
     let address : operand_in c u callee ≡ at = operand_known c fs.numbers fs.memory u callee at is.setting a.framed line.known is_at in
-    let gone = goes_through (site c) m.after (source 28 callee) at (receive_items c.layout to ++ tail) (source_reg c.slots 28 callee is_28 line.known)
+    let gone = goes_through (site c) m.after (source 28 callee) at (receive_items c.layout to ++ tail)
     (m.holds.address ∙ address) even m.stands m.fixed in
     let few = m.few in
     record {

@@ -27,9 +27,10 @@ use Rattle.flat_code.specs.Spots.{Spot, Away, Known, Spots, SameReach}
 use Rattle.flat_code.specs.Step.{Numbers, kept, number_of, read_all, taken}
 use Rattle.abi_frames.specs.Calls.{Ready, Back, is_kept, passed}
 use Rattle.abi_frames.specs.Covered.{is_off_arguments}
-use Rattle.abi_frames.specs.Emission.{reg, low, fetch, source, pass_all, call_through}
+use Rattle.abi_frames.specs.Fields.{reg, low}
+use Rattle.abi_frames.specs.Emission.{fetch, source, pass_all, call_through}
 use Rattle.abi_frames.proofs.ConstantNumbers.{near_moves}
-use Rattle.abi_frames.proofs.Leading.{Site, StandAt, Leads, leads_then, leads_so, stepped, IsReg, register_reg}
+use Rattle.abi_frames.proofs.Leading.{Site, StandAt, Leads, leads_then, leads_so, stepped, in_register, in_register_small}
 use Rattle.abi_frames.proofs.Instructions.{is_28}
 use Rattle.abi_frames.proofs.Activations.{Setting, IsSetting, site, bottom, slot_at, save_at, value_at, operand_in, place_is, slot_is, Framed, operand_known}
 use Rattle.abi_frames.proofs.LineCode.{Fetched, leads_fetch}
@@ -39,7 +40,7 @@ use Rattle.abi_frames.proofs.Passing.{Unmoved, unmoved, operand_unmoved, sent, P
 
 pub record Prepared (c : Setting) (s : State) (callee : Operand Location) (args : List (Argument Location)) (u : State) : Type 0 where
   pub passed : Passed c s 0 args u
-  pub address : u.registers (source 28 callee) ≡ operand_in c s callee
+  pub address : in_register u (source 28 callee) ≡ operand_in c s callee
 
 passed_still : (c : Setting) (s u w : State) (args : List (Argument Location)) → Passed c s 0 args u → ((n : ℕ) → n ≢ 28 → w.registers n ≡ u.registers n)
     → w.bytes ≡ u.bytes → w.output ≡ u.output → Passed c s 0 args w
@@ -91,16 +92,16 @@ jump_goes s x target e aligned = subst (λ y. jump s (reg 1) y ≡ Ok (gone_to s
 even_target : (x : ℕ) → x < 2 ^ 64 → x % 4 ≡ 0 → even_below ((x + 0) % 2 ^ 64) ≡ x
 even_target x h aligned = omega (arith, h, aligned)
 
-pub goes_through : (c : Site) (s : State) (r to : ℕ) (rest : List Item) → IsReg r → s.registers r ≡ to → to % 4 ≡ 0
+pub goes_through : (c : Site) (s : State) (r to : ℕ) (rest : List Item) → in_register s r ≡ to → to % 4 ≡ 0
     → StandAt c (call_through r ∷ rest) s.pc → Fixed c.ground s → Gone c rest to s (gone_to s to)
 unfolding Stand Stands
-goes_through c s r to rest is held even stands fixed =
+goes_through c s r to rest held even stands fixed =
     let at = stands.1.0 in
     let inside = at.inside in
     let start = at.aligned in
-    let word : to < 2 ^ 64 = subst (λ x. x < 2 ^ 64) held (fixed.words r) in
+    let word : to < 2 ^ 64 = subst (λ x. x < 2 ^ 64) held (in_register_small c.ground s r fixed) in
     let target : even_below (moved (register s (reg r)) (low 0).value) ≡ to =
-    ap (λ x. even_below (moved x (low 0).value)) (register_reg s r is ∙ held) ∙ (ap even_below (near_moves to 0 (lit< tt)) ∙ even_target to word even) in
+    ap (λ x. even_below (moved x (low 0).value)) held ∙ (ap even_below (near_moves to 0 (lit< tt)) ∙ even_target to word even) in
     let acts : act (Jalr (reg 1) (reg r) (low 0)) s ≡ Ok (gone_to s to) =
     jump_goes s (even_below (moved (register s (reg r)) (low 0).value)) to target even in
     let both = stepped c s (gone_to s to) (Jalr (reg 1) (reg r) (low 0)) fixed at acts refl (λ a h. refl) in

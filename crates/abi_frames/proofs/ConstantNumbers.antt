@@ -1,6 +1,7 @@
 -- The numbers that constants and offsets are made of.
-use Rattle.std.proofs.Common.{◌≡◌, ℕ, ◌+◌, ◌-◌, ◌*◌, ◌/◌, ◌%◌, ◌^◌, ◌<◌, true, arith}
+use Rattle.std.proofs.Common.{◌≡◌, refl, ap, ℕ, ◌+◌, ◌-◌, ◌*◌, ◌/◌, ◌%◌, ◌^◌, ◌<◌, true, arith}
 use Rattle.std.specs.Prelude.{nat_lt, if◌then◌else◌}
+use Rattle.std.specs.Int.{cast_unsigned, w64}
 use Rattle.std.proofs.lemmas.Int.{ints}
 use Rattle.std.proofs.lemmas.Bool.Decides.{nat_tests}
 use Rattle.bits.specs.Words.{sign_extended}
@@ -21,6 +22,26 @@ immediate_adds x n h = let is = low_moves x n in grind (arith, nat_tests)
 
 pub near_moves : (x n : ℕ) → n < 2048 → moved x (signed 12 (n % 4096)) ≡ (x + n) % 2 ^ 64
 near_moves x n h = let is = low_moves x n in grind (arith, nat_tests)
+
+-- ---- words
+
+pub word_by_bits : (m : ℕ) → m < 2 ^ 32 → sign_extended m ≡ (if nat_lt m (2 ^ 31) then m else m + (2 ^ 64 - 2 ^ 32))
+word_by_bits m h = grind (arith, ints, nat_tests)
+
+-- the upper part and the low part together
+parts_of_word : (m x : ℕ) → m < 2 ^ 32 → x ≡ sign_extended ((m + 2048) / 4096 % 2 ^ 20 * 4096) → (x + cast_unsigned w64 (signed 12 (m % 4096))) % 2 ^ 32 ≡ m
+parts_of_word m x h e =
+    let up = word_by_bits ((m + 2048) / 4096 % 2 ^ 20 * 4096) (omega arith) in
+    let low = low_moves x m in
+    grind (arith, nat_tests)
+
+pub word_made : (m : ℕ) → m < 2 ^ 32
+    → sign_extended ((sign_extended ((m + 2048) / 4096 % 2 ^ 20 * 4096) + cast_unsigned w64 (signed 12 (m % 4096))) % 2 ^ 32) ≡ sign_extended m
+word_made m h = ap sign_extended (parts_of_word m (sign_extended ((m + 2048) / 4096 % 2 ^ 20 * 4096)) h refl)
+
+-- without a low part
+pub upper_made : (m : ℕ) → m < 2 ^ 32 → m % 4096 ≡ 0 → sign_extended ((m + 2048) / 4096 % 2 ^ 20 * 4096) ≡ sign_extended m
+upper_made m h e = ap sign_extended (let whole : (m + 2048) / 4096 % 2 ^ 20 * 4096 ≡ m = omega (arith, h, e) in whole)
 
 -- ---- far offsets
 

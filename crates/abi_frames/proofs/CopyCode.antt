@@ -20,7 +20,8 @@ use Rattle.rv_isa.proofs.MemoryLemmas.{stored_below, stored_above}
 use Rattle.vcode.specs.declared.place.Location.{Location}
 use Rattle.vcode.specs.declared.place.Operand.{Operand}
 use Rattle.vcode.specs.Named.{is_place, operand_keeps}
-use Rattle.abi_frames.specs.Emission.{reg, low, add_low, into, store_at, copy_at, copy_eight, copy_eights, copy_rest, blit_items}
+use Rattle.abi_frames.specs.Fields.{reg, low, add_low}
+use Rattle.abi_frames.specs.Emission.{into, store_at, copy_at, copy_eight, copy_eights, copy_rest, blit_items}
 use Rattle.abi_frames.proofs.ConstantNumbers.{near_moves}
 use Rattle.abi_frames.proofs.Leading.{Site, Leads, leads_nowhere, leads_then, leads_so, leads_set, Sets, IsReg, register_reg}
 use Rattle.abi_frames.proofs.Instructions.{UsableFrom, n_readable, some_bytes, leads_add_low, is_28, is_29}

@@ -14,7 +14,8 @@ use Rattle.vcode.specs.Places.{same_location, located}
 use Rattle.vcode.specs.Named.{is_place, are_distinct}
 use Rattle.flat_code.specs.Step.{Numbers, put, bound, held}
 use Rattle.abi_frames.specs.Covered.{is_off_arguments, covers_params}
-use Rattle.abi_frames.specs.Emission.{add_low, sum_to, load_8, constant, store_slot, slot_offset}
+use Rattle.abi_frames.specs.Fields.{add_low, sum_to, load_8, constant}
+use Rattle.abi_frames.specs.Emission.{store_slot, slot_offset}
 use Rattle.abi_frames.specs.Functions.{caller_pointer, from_register, from_stack, argument_items, arguments_items, pointer_items, entry_items}
 use Rattle.abi_frames.proofs.ConstantNumbers.{near_moves}
 use Rattle.abi_frames.proofs.Leading.{Site, Leads, leads_nowhere, leads_then, leads_so, leads_fixed, leads_again, Sets, IsReg, register_reg}

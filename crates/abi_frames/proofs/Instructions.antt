@@ -1,22 +1,25 @@
 -- What each instruction of a frame's code does, and a few together: sums, constants, eight bytes of the stack.
 use Rattle.std.proofs.Common.{◌≡◌, ◌≢◌, ℕ, ◌+◌, ◌-◌, ◌*◌, ◌/◌, ◌%◌, ◌^◌, ◌<◌, ◌≤◌, Bool, true, false, [], ◌∷◌, refl, sym, ◌∙◌, ap, subst, arith, lit<, mod-lt}
-use Rattle.std.specs.Prelude.{not, nat_le, nat_lt, if◌then◌else◌, Ok}
+use Rattle.std.specs.Prelude.{not, nat_eq, nat_le, nat_lt, if◌then◌else◌, Ok}
 use Rattle.std.proofs.lemmas.Bool.{and_from}
 use Rattle.std.proofs.lemmas.Bool.Decides.{nat_tests}
 use Rattle.bits.specs.Words.{sign_extended}
 use Rattle.rv_isa.specs.State.{State, register, put}
 use Rattle.rv_isa.specs.Memory.{number_at, stored, each_of, allowed, can_read, can_write}
-use Rattle.rv_isa.specs.Arithmetic.{moved, upper_value, reg_value, regw_value, addiw_value}
+use Rattle.rv_isa.specs.Arithmetic.{moved, upper_value, reg_value, regw_value, imm_value, addiw_value, shift_value, shiftw_value}
 use Rattle.rv_isa.specs.Step.{act, load, load_size, load_value, store}
 use Rattle.rv_isa.specs.Labelled.{Ground, Fixed, Stand, Stands}
 use Rattle.rv_isa.specs.declared.permission.Permission.{Permission}
 use Rattle.rv_isa.specs.declared.ranges.UpperField.{UpperField}
-use Rattle.rv_isa.specs.declared.instruction.Instr.TheVariants.{Lui, Load, Store, Imm, Addiw, Shift, Reg, RegW}
+use Rattle.rv_isa.specs.declared.instruction.Instr.TheVariants.{Lui, Load, Store, Imm, Addiw, Shift, ShiftW, Reg, RegW}
 use Rattle.rv_isa.specs.declared.instruction.LoadOp.{LoadOp}
 use Rattle.rv_isa.specs.declared.instruction.LoadOp.TheVariants.{Lb, Lh, Lw, Ld, Lbu, Lhu, Lwu}
 use Rattle.rv_isa.specs.declared.instruction.StoreOp.TheVariants.{Sd}
+use Rattle.rv_isa.specs.declared.instruction.ImmOp.{ImmOp}
 use Rattle.rv_isa.specs.declared.instruction.ImmOp.TheVariants.{Addi}
+use Rattle.rv_isa.specs.declared.instruction.ShiftOp.{ShiftOp}
 use Rattle.rv_isa.specs.declared.instruction.ShiftOp.TheVariants.{Slli, Srli}
+use Rattle.rv_isa.specs.declared.instruction.ShiftWOp.{ShiftWOp}
 use Rattle.rv_isa.specs.declared.instruction.RegOp.{RegOp}
 use Rattle.rv_isa.specs.declared.instruction.RegOp.TheVariants.{Add}
 use Rattle.rv_isa.specs.declared.instruction.RegWOp.{RegWOp}
@@ -25,9 +28,10 @@ use Rattle.rv_isa.specs.declared.labelled.Item.TheVariants.{Plain, Address}
 use Rattle.rv_isa.proofs.MemoryLemmas.{each_from, stored_avoids}
 use Rattle.vcode.specs.Cost.{is_immediate}
 use Rattle.abi_frames.specs.Calls.{IsUsable}
-use Rattle.abi_frames.specs.Emission.{reg, low, field, high, by_1, by_11, add_low, extend, sum_to, load_8, store_8, shift_11, long_constant, constant, far_load, load_slot, far_store, store_slot}
-use Rattle.abi_frames.proofs.ConstantNumbers.{immediate_is, near_moves, far_moves, top_bits, part_1, part_2, part_3, part_4}
-use Rattle.abi_frames.proofs.Leading.{Site, StandAt, Leads, leads_then, leads_so, leads_by, leads_set, leads_again, Sets, IsReg, register_reg}
+use Rattle.abi_frames.specs.Fields.{reg, low, field, high, amount, word_amount, add_low, extend, sum_to, load_8, store_8, shift_11, long_constant, word, is_word, lower_part, word_constant, constant}
+use Rattle.abi_frames.specs.Emission.{far_load, load_slot, far_store, store_slot}
+use Rattle.abi_frames.proofs.ConstantNumbers.{immediate_is, near_moves, far_moves, top_bits, part_1, part_2, part_3, part_4, word_made, upper_made}
+use Rattle.abi_frames.proofs.Leading.{Site, StandAt, Leads, leads_nowhere, leads_then, leads_so, leads_by, leads_set, leads_again, Sets, IsReg, register_reg, in_register, same_in_register, in_register_small}
 
 -- ---- registers alone
 
@@ -41,39 +45,57 @@ leads_add_low c s d a n x v is held value =
     leads_set c s (Imm Addi (reg d) (reg a) (low n)) d (moved (register s (reg a)) (low n).value) v is refl
     (ap (λ y. moved y (low n).value) held ∙ value)
 
-pub leads_reg : (c : Site) (s : State) (op : RegOp) (d a b : ℕ) → IsReg d → IsReg a → IsReg b
-    → Leads c (Plain (Reg op (reg d) (reg a) (reg b)) ∷ []) s (Sets s d (reg_value op (s.registers a) (s.registers b)))
-leads_reg c s op d a b is is_a is_b =
-    leads_set c s (Reg op (reg d) (reg a) (reg b)) d (reg_value op (register s (reg a)) (register s (reg b)))
-    (reg_value op (s.registers a) (s.registers b)) is refl
-    (ap (λ x. reg_value op x (register s (reg b))) (register_reg s a is_a) ∙ ap (reg_value op (s.registers a)) (register_reg s b is_b))
+pub leads_reg : (c : Site) (s : State) (op : RegOp) (d a b : ℕ) → IsReg d
+    → Leads c (Plain (Reg op (reg d) (reg a) (reg b)) ∷ []) s (Sets s d (reg_value op (in_register s a) (in_register s b)))
+leads_reg c s op d a b is =
+    leads_set c s (Reg op (reg d) (reg a) (reg b)) d (reg_value op (in_register s a) (in_register s b)) (reg_value op (in_register s a) (in_register s b)) is refl refl
 
-pub leads_regw : (c : Site) (s : State) (op : RegWOp) (d a b : ℕ) → IsReg d → IsReg a → IsReg b
-    → Leads c (Plain (RegW op (reg d) (reg a) (reg b)) ∷ []) s (Sets s d (regw_value op (s.registers a) (s.registers b)))
-leads_regw c s op d a b is is_a is_b =
-    leads_set c s (RegW op (reg d) (reg a) (reg b)) d (regw_value op (register s (reg a)) (register s (reg b)))
-    (regw_value op (s.registers a) (s.registers b)) is refl
-    (ap (λ x. regw_value op x (register s (reg b))) (register_reg s a is_a) ∙ ap (regw_value op (s.registers a)) (register_reg s b is_b))
+pub leads_regw : (c : Site) (s : State) (op : RegWOp) (d a b : ℕ) → IsReg d
+    → Leads c (Plain (RegW op (reg d) (reg a) (reg b)) ∷ []) s (Sets s d (regw_value op (in_register s a) (in_register s b)))
+leads_regw c s op d a b is =
+    leads_set c s (RegW op (reg d) (reg a) (reg b)) d (regw_value op (in_register s a) (in_register s b)) (regw_value op (in_register s a) (in_register s b)) is refl refl
+
+pub leads_imm : (c : Site) (s : State) (op : ImmOp) (d a n : ℕ) → IsReg d
+    → Leads c (Plain (Imm op (reg d) (reg a) (low n)) ∷ []) s (Sets s d (imm_value op (in_register s a) (low n).value))
+leads_imm c s op d a n is =
+    leads_set c s (Imm op (reg d) (reg a) (low n)) d (imm_value op (in_register s a) (low n).value) (imm_value op (in_register s a) (low n).value) is refl refl
+
+pub leads_add_word : (c : Site) (s : State) (d a n : ℕ) → IsReg d
+    → Leads c (Plain (Addiw (reg d) (reg a) (low n)) ∷ []) s (Sets s d (addiw_value (in_register s a) (low n).value))
+leads_add_word c s d a n is =
+    leads_set c s (Addiw (reg d) (reg a) (low n)) d (addiw_value (in_register s a) (low n).value) (addiw_value (in_register s a) (low n).value) is refl refl
+
+pub leads_shift : (c : Site) (s : State) (op : ShiftOp) (d a n : ℕ) → IsReg d
+    → Leads c (Plain (Shift op (reg d) (reg a) (amount n)) ∷ []) s (Sets s d (shift_value op (in_register s a) (n % 64)))
+leads_shift c s op d a n is =
+    leads_set c s (Shift op (reg d) (reg a) (amount n)) d (shift_value op (in_register s a) (n % 64)) (shift_value op (in_register s a) (n % 64)) is refl refl
+
+pub leads_shift_word : (c : Site) (s : State) (op : ShiftWOp) (d a n : ℕ) → IsReg d
+    → Leads c (Plain (ShiftW op (reg d) (reg a) (word_amount n)) ∷ []) s (Sets s d (shiftw_value op (in_register s a) (n % 32)))
+leads_shift_word c s op d a n is =
+    leads_set c s (ShiftW op (reg d) (reg a) (word_amount n)) d (shiftw_value op (in_register s a) (n % 32)) (shiftw_value op (in_register s a) (n % 32)) is refl refl
 
 pub leads_sum : (c : Site) (s : State) (d a b : ℕ) → IsReg d → IsReg a → IsReg b
     → Leads c (sum_to d a b ∷ []) s (Sets s d ((s.registers a + s.registers b) % 2 ^ 64))
-leads_sum c s d a b is is_a is_b = leads_reg c s Add d a b is is_a is_b
+leads_sum c s d a b is is_a is_b =
+    leads_set c s (Reg Add (reg d) (reg a) (reg b)) d ((in_register s a + in_register s b) % 2 ^ 64) ((s.registers a + s.registers b) % 2 ^ 64) is refl
+    (ap (λ x. (x + in_register s b) % 2 ^ 64) (register_reg s a is_a) ∙ ap (λ x. (s.registers a + x) % 2 ^ 64) (register_reg s b is_b))
 
 no_more : (x : ℕ) → (x + 0) % 2 ^ 32 ≡ x % 2 ^ 32
 no_more x = omega arith
 
-pub leads_extend : (c : Site) (s : State) (d a : ℕ) → IsReg d → IsReg a → Leads c (extend d a ∷ []) s (Sets s d (sign_extended (s.registers a % 2 ^ 32)))
-leads_extend c s d a is is_a =
-    leads_set c s (Addiw (reg d) (reg a) (low 0)) d (addiw_value (register s (reg a)) (low 0).value) (sign_extended (s.registers a % 2 ^ 32)) is refl
-    (ap (λ x. sign_extended x) (no_more (register s (reg a))) ∙ ap (λ x. sign_extended (x % 2 ^ 32)) (register_reg s a is_a))
+pub leads_extend : (c : Site) (s : State) (d a : ℕ) → IsReg d → Leads c (extend d a ∷ []) s (Sets s d (sign_extended (in_register s a % 2 ^ 32)))
+leads_extend c s d a is =
+    leads_set c s (Addiw (reg d) (reg a) (low 0)) d (addiw_value (in_register s a) (low 0).value) (sign_extended (in_register s a % 2 ^ 32)) is refl
+    (ap (λ x. sign_extended x) (no_more (in_register s a)))
 
-pub leads_half : (c : Site) (s : State) (d v : ℕ) → IsReg d → s.registers d ≡ v → Leads c (Plain (Shift Srli (reg d) (reg d) by_1) ∷ []) s (Sets s d (v / 2))
+pub leads_half : (c : Site) (s : State) (d v : ℕ) → IsReg d → s.registers d ≡ v → Leads c (Plain (Shift Srli (reg d) (reg d) (amount 1)) ∷ []) s (Sets s d (v / 2))
 leads_half c s d v is held =
-    leads_set c s (Shift Srli (reg d) (reg d) by_1) d (register s (reg d) / 2) (v / 2) is refl (ap (λ x. x / 2) (register_reg s d is ∙ held))
+    leads_set c s (Shift Srli (reg d) (reg d) (amount 1)) d (register s (reg d) / 2) (v / 2) is refl (ap (λ x. x / 2) (register_reg s d is ∙ held))
 
 pub leads_shift_11 : (c : Site) (s : State) (d v : ℕ) → IsReg d → s.registers d ≡ v → Leads c (shift_11 d ∷ []) s (Sets s d ((v * 2 ^ 11) % 2 ^ 64))
 leads_shift_11 c s d v is held =
-    leads_set c s (Shift Slli (reg d) (reg d) by_11) d ((register s (reg d) * 2 ^ 11) % 2 ^ 64) ((v * 2 ^ 11) % 2 ^ 64) is refl
+    leads_set c s (Shift Slli (reg d) (reg d) (amount 11)) d ((register s (reg d) * 2 ^ 11) % 2 ^ 64) ((v * 2 ^ 11) % 2 ^ 64) is refl
     (ap (λ x. (x * 2 ^ 11) % 2 ^ 64) (register_reg s d is ∙ held))
 
 -- ---- constants
@@ -101,10 +123,10 @@ leads_long_constant c s d m is h =
     let whole : v4 ≡ m = part_4 m v3 h (part_3 m v2 h (part_2 m v1 h (part_1 m (v0 / 2) h (top_bits m h)))) in
     let is4 : Item = shift_11 d in
     leads_again c (Plain (Lui (reg d) (field (m / 2 ^ 44))) ∷ [])
-    (Plain (Shift Srli (reg d) (reg d) by_1) ∷ add_low d d c1 ∷ shift_11 d ∷ add_low d d c2 ∷ shift_11 d ∷ add_low d d c3 ∷ shift_11 d ∷ add_low d d c4 ∷ [])
+    (Plain (Shift Srli (reg d) (reg d) (amount 1)) ∷ add_low d d c1 ∷ shift_11 d ∷ add_low d d c2 ∷ shift_11 d ∷ add_low d d c3 ∷ shift_11 d ∷ add_low d d c4 ∷ [])
     s d v0 m (leads_lui c s d (field (m / 2 ^ 44)) is)
     (λ u0 f0 e0.
-    leads_again c (Plain (Shift Srli (reg d) (reg d) by_1) ∷ [])
+    leads_again c (Plain (Shift Srli (reg d) (reg d) (amount 1)) ∷ [])
     (add_low d d c1 ∷ shift_11 d ∷ add_low d d c2 ∷ shift_11 d ∷ add_low d d c3 ∷ shift_11 d ∷ add_low d d c4 ∷ [])
     u0 d (v0 / 2) m (leads_half c u0 d v0 is e0.value)
     (λ u1 f1 e1.
@@ -121,12 +143,35 @@ leads_long_constant c s d m is h =
     (shift_and_part c u4 d c4 v3 is (mod-lt _ (lit< tt)) e4.value)
     (λ t f e. record { value = e.value ∙ whole; others = e.others; bytes = e.bytes; output = e.output }))))))
 
-pub leads_constant : (c : Site) (s : State) (d n : ℕ) → IsReg d → Leads c (constant d n) s (Sets s d (n % 2 ^ 64))
-leads_constant c s d n is = by_test (is_immediate n) refl
+eq_is : (a b : ℕ) → nat_eq a b ≡ true → a ≡ b
+eq_is a b h = grind (arith, nat_tests)
+
+-- a number of 32 bits
+leads_word_constant : (c : Site) (s : State) (d m : ℕ) → IsReg d → m < 2 ^ 32 → Leads c (word_constant d m) s (Sets s d (sign_extended m))
+leads_word_constant c s d m is h =
+    let up : ℕ = upper_value (high m) in
+    leads_again c (Plain (Lui (reg d) (high m)) ∷ []) (lower_part d m) s d up (sign_extended m) (leads_lui c s d (high m) is)
+    (λ u f one. by_test u one.value (nat_eq (m % 4096) 0) refl)
   where
-    by_test : (b : Bool) → is_immediate n ≡ b → Leads c (if b then add_low d 0 n ∷ [] else long_constant d (n % 2 ^ 64)) s (Sets s d (n % 2 ^ 64))
-    by_test true e = leads_add_low c s d 0 n 0 (n % 2 ^ 64) is refl (immediate_is n e)
-    by_test false e = leads_long_constant c s d (n % 2 ^ 64) is (mod-lt n (lit< tt))
+    by_test : (u : State) → u.registers d ≡ upper_value (high m) → (b : Bool) → nat_eq (m % 4096) 0 ≡ b
+        → Leads c (if b then [] else Plain (Addiw (reg d) (reg d) (low m)) ∷ []) u (Sets u d (sign_extended m))
+    by_test u held true e =
+        leads_nowhere c u (Sets u d (sign_extended m))
+        (record { value = held ∙ upper_made m h (eq_is (m % 4096) 0 e); others = λ n other. refl; bytes = refl; output = refl })
+    by_test u held false e =
+        leads_set c u (Addiw (reg d) (reg d) (low m)) d (addiw_value (in_register u d) (low m).value) (sign_extended m) is refl
+        (ap (λ x. addiw_value x (low m).value) (register_reg u d is ∙ held) ∙ word_made m h)
+
+pub leads_constant : (c : Site) (s : State) (d n : ℕ) → IsReg d → Leads c (constant d n) s (Sets s d (n % 2 ^ 64))
+leads_constant c s d n is = by_test (is_immediate n) refl (is_word n) refl
+  where
+    by_test : (b : Bool) → is_immediate n ≡ b → (t : Bool) → is_word n ≡ t
+        → Leads c (if b then add_low d 0 n ∷ [] else if t then word_constant d (n % 2 ^ 32) else long_constant d (n % 2 ^ 64)) s (Sets s d (n % 2 ^ 64))
+    by_test true e t k = leads_add_low c s d 0 n 0 (n % 2 ^ 64) is refl (immediate_is n e)
+    by_test false e true k =
+        subst (λ v. Leads c (word_constant d (n % 2 ^ 32)) s (Sets s d v)) (eq_is (word n) (n % 2 ^ 64) k)
+        (leads_word_constant c s d (n % 2 ^ 32) is (mod-lt n (lit< tt)))
+    by_test false e false k = leads_long_constant c s d (n % 2 ^ 64) is (mod-lt n (lit< tt))
 
 -- ---- the address of a global
 
@@ -201,17 +246,17 @@ pub same_address : (a : ℕ) → a < 2 ^ 64 → moved a (low 0).value ≡ a
 same_address a h = near_moves a 0 (lit< tt) ∙ omega (arith, h)
 
 -- a load of any size, at a register's address
-pub leads_load_at : (c : Site) (s : State) (op : LoadOp) (d base a : ℕ) → IsReg d → IsReg base → Fixed c.ground s → s.registers base ≡ a
+pub leads_load_at : (c : Site) (s : State) (op : LoadOp) (d base a : ℕ) → IsReg d → Fixed c.ground s → in_register s base ≡ a
     → UsableFrom c.ground a (load_size op)
     → Leads c (Plain (Load op (reg d) (reg base) (low 0)) ∷ []) s (Sets s d (load_value op (number_at s.bytes a (load_size op))))
-leads_load_at c s op d base a is is_base fixed there usable =
+leads_load_at c s op d base a is fixed there usable =
     let n : ℕ = load_size op in
     let v : ℕ = load_value op (number_at s.bytes a n) in
     let P : (ℕ → Permission) → Type 0 = λ p. allowed (λ x. (p x).readable) a n ≡ true in
     let readable : can_read s a n ≡ true = subst P (sym fixed.permissions) (n_readable c.ground a n (some_bytes op) usable) in
-    let word : a < 2 ^ 64 = subst (λ x. x < 2 ^ 64) there (fixed.words base) in
+    let word : a < 2 ^ 64 = subst (λ x. x < 2 ^ 64) there (in_register_small c.ground s base fixed) in
     let at : moved (register s (reg base)) (low 0).value ≡ a =
-    ap (λ x. moved x (low 0).value) (register_reg s base is_base ∙ there) ∙ same_address a word in
+    ap (λ x. moved x (low 0).value) there ∙ same_address a word in
     let acts : act (Load op (reg d) (reg base) (low 0)) s ≡ Ok (put s (reg d) v) = ap (load s op (reg d)) at ∙ (rw readable refl) in
     leads_set c s (Load op (reg d) (reg base) (low 0)) d v v is acts refl
 
@@ -227,20 +272,25 @@ not_code b e = ap not e
 pub code_not : (b : Bool) → b ≡ true → not b ≡ false
 code_not b e = ap not e
 
-pub leads_store : (c : Site) (s : State) (v base o a : ℕ) → IsReg v → IsReg base → Fixed c.ground s → moved (s.registers base) (low o).value ≡ a
-    → UsableFrom c.ground a 8 → Leads c (store_8 v base o ∷ []) s (Writes s a (s.registers v))
-leads_store c s v base o a is is_base fixed there usable =
+pub leads_store_in : (c : Site) (s : State) (v base o a : ℕ) → IsReg base → Fixed c.ground s → moved (s.registers base) (low o).value ≡ a
+    → UsableFrom c.ground a 8 → Leads c (store_8 v base o ∷ []) s (Writes s a (in_register s v))
+leads_store_in c s v base o a is_base fixed there usable =
+    let x : ℕ = in_register s v in
     let P : (ℕ → Permission) → Type 0 = λ p. allowed (λ x. (p x).writable) a 8 ≡ true in
     let writable : can_write s a 8 ≡ true = subst P (sym fixed.permissions) (all_writable c.ground a usable) in
     let at : moved (register s (reg base)) (low o).value ≡ a = ap (λ x. moved x (low o).value) (register_reg s base is_base) ∙ there in
-    let t : State = record s { pc = (s.pc + 4) % 2 ^ 64; bytes = stored s.bytes a 8 (s.registers v) } in
-    let acts : act (Store Sd (reg base) (reg v) (low o)) s ≡ Ok t =
-    ap (store s Sd (register s (reg v))) at ∙ (ap (λ x. store s Sd x a) (register_reg s v is) ∙ (rw writable refl)) in
+    let t : State = record s { pc = (s.pc + 4) % 2 ^ 64; bytes = stored s.bytes a 8 x } in
+    let acts : act (Store Sd (reg base) (reg v) (low o)) s ≡ Ok t = ap (store s Sd x) at ∙ (rw writable refl) in
     let p : ℕ → Bool = λ x. not (c.ground.allows x).executable in
     let each : each_of p a 8 ≡ true = each_from p a 8 (λ x lo hi. not_code (c.ground.allows x).executable (usable x lo hi).no_code) in
-    leads_by c s t (Store Sd (reg base) (reg v) (low o)) (Writes s a (s.registers v)) acts refl refl
-    (λ x h. stored_avoids p s.bytes a 8 (s.registers v) x each (code_not (c.ground.allows x).executable h))
+    leads_by c s t (Store Sd (reg base) (reg v) (low o)) (Writes s a x) acts refl refl
+    (λ y h. stored_avoids p s.bytes a 8 x y each (code_not (c.ground.allows y).executable h))
     (record { bytes = refl; registers = λ n other. refl; output = refl })
+
+pub leads_store : (c : Site) (s : State) (v base o a : ℕ) → IsReg v → IsReg base → Fixed c.ground s → moved (s.registers base) (low o).value ≡ a
+    → UsableFrom c.ground a 8 → Leads c (store_8 v base o ∷ []) s (Writes s a (s.registers v))
+leads_store c s v base o a is is_base fixed there usable =
+    subst (λ x. Leads c (store_8 v base o ∷ []) s (Writes s a x)) (register_reg s v is) (leads_store_in c s v base o a is_base fixed there usable)
 
 -- ---- eight bytes at an offset from the stack pointer
 
@@ -302,21 +352,29 @@ leads_load_slot c s d b o is other fixed pointer h small usable = by_test (nat_l
           output = two.output;
         }))
 
-pub leads_store_slot : (c : Site) (s : State) (v b o : ℕ) → IsReg v → v ≢ 29 → Fixed c.ground s → s.registers 2 ≡ b → o < 2 ^ 21 → b + o < 2 ^ 63
-    → UsableFrom c.ground (b + o) 8 → Leads c (store_slot v o) s (Writes s (b + o) (s.registers v))
-leads_store_slot c s v b o is other fixed pointer h small usable = by_test (nat_lt o 2048) refl
+pub leads_store_slot_in : (c : Site) (s : State) (v b o : ℕ) → v < 32 → v ≢ 29 → Fixed c.ground s → s.registers 2 ≡ b → o < 2 ^ 21 → b + o < 2 ^ 63
+    → UsableFrom c.ground (b + o) 8 → Leads c (store_slot v o) s (Writes s (b + o) (in_register s v))
+leads_store_slot_in c s v b o few other fixed pointer h small usable = by_test (nat_lt o 2048) refl
   where
-    by_test : (t : Bool) → nat_lt o 2048 ≡ t → Leads c (if t then store_8 v 2 o ∷ [] else far_store v o) s (Writes s (b + o) (s.registers v))
+    by_test : (t : Bool) → nat_lt o 2048 ≡ t → Leads c (if t then store_8 v 2 o ∷ [] else far_store v o) s (Writes s (b + o) (in_register s v))
     by_test true e =
-        leads_store c s v 2 o (b + o) is is_2 fixed (near_address (s.registers 2) b o pointer (grind (arith, nat_tests)) small) usable
+        leads_store_in c s v 2 o (b + o) is_2 fixed (near_address (s.registers 2) b o pointer (grind (arith, nat_tests)) small) usable
     by_test false e =
         leads_then c (Plain (Lui (reg 29) (high o)) ∷ sum_to 29 29 2 ∷ []) (store_8 v 29 o ∷ []) s (Sets s 29 ((upper_value (high o) + b) % 2 ^ 64))
-        (Writes s (b + o) (s.registers v)) (high_part c s 29 b o is_29 (λ e. absurd (omega (arith, e))) pointer)
+        (Writes s (b + o) (in_register s v)) (high_part c s 29 b o is_29 (λ e. absurd (omega (arith, e))) pointer)
         (λ u f one.
-        leads_so c (store_8 v 29 o ∷ []) u (Writes u (b + o) (u.registers v)) (Writes s (b + o) (s.registers v))
-        (leads_store c u v 29 o (b + o) is is_29 f (far_address (u.registers 29) b o one.value h small) usable)
+        leads_so c (store_8 v 29 o ∷ []) u (Writes u (b + o) (in_register u v)) (Writes s (b + o) (in_register s v))
+        (leads_store_in c u v 29 o (b + o) is_29 f (far_address (u.registers 29) b o one.value h small) usable)
         (λ t g two. record {
-          bytes = two.bytes ∙ (ap (λ (m : ℕ → ℕ). stored m (b + o) 8 (u.registers v)) one.bytes ∙ ap (stored s.bytes (b + o) 8) (one.others v other));
+          bytes = two.bytes
+              ∙ (ap (λ (m : ℕ → ℕ). stored m (b + o) 8 (in_register u v)) one.bytes
+              ∙ ap (stored s.bytes (b + o) 8) (same_in_register s u v few (one.others v other)));
           registers = λ n differs. two.registers n differs ∙ one.others n differs;
           output = two.output ∙ one.output;
         }))
+
+pub leads_store_slot : (c : Site) (s : State) (v b o : ℕ) → IsReg v → v ≢ 29 → Fixed c.ground s → s.registers 2 ≡ b → o < 2 ^ 21 → b + o < 2 ^ 63
+    → UsableFrom c.ground (b + o) 8 → Leads c (store_slot v o) s (Writes s (b + o) (s.registers v))
+leads_store_slot c s v b o is other fixed pointer h small usable =
+    subst (λ x. Leads c (store_slot v o) s (Writes s (b + o) x)) (register_reg s v is)
+    (leads_store_slot_in c s v b o is.small other fixed pointer h small usable)

@@ -17,11 +17,12 @@ use Rattle.vcode.specs.declared.place.Operand.{Operand}
 use Rattle.vcode.specs.Named.{is_place, operand_keeps}
 use Rattle.flat_code.specs.Step.{taken as taken_as}
 use Rattle.abi_frames.specs.Calls.{passed}
-use Rattle.abi_frames.specs.Emission.{reg, extend, into, fetch, source, result_items}
-use Rattle.abi_frames.proofs.Leading.{Site, StandAt, Leads, leads_then, leads_so, Sets}
-use Rattle.abi_frames.proofs.Instructions.{leads_extend, is_10, is_28}
+use Rattle.abi_frames.specs.Fields.{reg, word}
+use Rattle.abi_frames.specs.Emission.{word_into, result_items}
+use Rattle.abi_frames.proofs.Leading.{Site, StandAt, Leads, Sets}
+use Rattle.abi_frames.proofs.Instructions.{is_10, is_28}
 use Rattle.abi_frames.proofs.Activations.{Setting, IsSetting, site, bottom, operand_in}
-use Rattle.abi_frames.proofs.LineCode.{Fetched, Scratched, fetched_scratched, leads_fetch, leads_into, source_reg}
+use Rattle.abi_frames.proofs.LineCode.{Scratched, leads_into, leads_word_into}
 use Rattle.abi_frames.proofs.FrameEnds.{Lands, Ends, ends_then, Jumped}
 
 -- ---- jumps to labels
@@ -120,31 +121,25 @@ way c v nonzero otherwise = if nat_eq (v % 2 ^ 32) 0 then c.label otherwise else
 
 pub ends_branch : (c : Setting) → IsSetting c → (s : State) (on : Operand Location) (nonzero otherwise : ℕ) → s.registers 2 ≡ bottom c
     → operand_keeps (is_place c.slots) on ≡ true
-    → Ends (site c) (fetch c.layout 28 on ++ (extend 28 (source 28 on) ∷ BranchTo Bne (reg 28) (reg 0) nonzero ∷ GoTo otherwise ∷ [])) s
+    → Ends (site c) (word_into c.layout 28 on ++ (BranchTo Bne (reg 28) (reg 0) nonzero ∷ GoTo otherwise ∷ [])) s
     (Jumped s (way c (operand_in c s on) nonzero otherwise))
 ends_branch c is s on nonzero otherwise pointer known =
     let v : ℕ = operand_in c s on in
-    let x : ℕ = source 28 on in
     let two_ways : List Item = BranchTo Bne (reg 28) (reg 0) nonzero ∷ GoTo otherwise ∷ [] in
-    ends_then (site c) (fetch c.layout 28 on) (extend 28 x ∷ two_ways) s (Fetched c s 28 on) (Jumped s (way c v nonzero otherwise))
-    (leads_fetch c is s 28 on is_28 (λ e. absurd (omega (arith, e))) pointer known)
-    (λ u f one.
-    let same = fetched_scratched c s 28 on u (omega arith) one in
-    ends_then (site c) (extend 28 x ∷ []) two_ways u (Sets u 28 (sign_extended (u.registers x % 2 ^ 32))) (Jumped s (way c v nonzero otherwise))
-    (leads_extend (site c) u 28 x is_28 (source_reg c.slots 28 on is_28 known))
+    ends_then (site c) (word_into c.layout 28 on) two_ways s (Sets s 28 (word v)) (Jumped s (way c v nonzero otherwise))
+    (leads_word_into c is s 28 on is_28 (λ e. absurd (omega (arith, e))) pointer known)
     (λ w g two.
-    let held : w.registers 28 ≡ sign_extended (v % 2 ^ 32) = two.value ∙ ap (λ n. sign_extended (n % 2 ^ 32)) one.value in
-    let test : (w.registers 28 == 0) ≡ nat_eq (v % 2 ^ 32) 0 = ap (λ n. n == 0) held ∙ zero_test (v % 2 ^ 32) (mod-lt v (lit< tt)) in
+    let test : (w.registers 28 == 0) ≡ nat_eq (v % 2 ^ 32) 0 = ap (λ n. n == 0) two.value ∙ zero_test (v % 2 ^ 32) (mod-lt v (lit< tt)) in
     let more : Scratched s w = record {
-      registers = λ n lo. two.others n (λ e. absurd (omega (arith, e, lo))) ∙ same.registers n lo;
-      bytes = two.bytes ∙ same.bytes;
-      output = two.output ∙ same.output;
+      registers = λ n lo. two.others n (λ e. absurd (omega (arith, e, lo)));
+      bytes = two.bytes;
+      output = two.output;
     } in
     ends_so (site c) two_ways w (Jumped w (if w.registers 28 == 0 then c.label otherwise else c.label nonzero)) (Jumped s (way c v nonzero otherwise))
     (ends_two_ways (site c) w nonzero otherwise)
     (λ t three.
     jumped_from s w (if w.registers 28 == 0 then c.label otherwise else c.label nonzero) (way c v nonzero otherwise) t more
-    (ap (λ (b : Bool). if b then c.label otherwise else c.label nonzero) test) three)))
+    (ap (λ (b : Bool). if b then c.label otherwise else c.label nonzero) test) three))
 
 -- ---- results
 
@@ -158,14 +153,5 @@ pub leads_result : (c : Setting) → IsSetting c → (s : State) (k : Class) (a 
 leads_result c is s L a pointer known = leads_into c is s 10 a is_10 (λ e. absurd (omega (arith, e))) pointer known
 leads_result c is s W a pointer known =
     let v : ℕ = operand_in c s a in
-    leads_then (site c) (into c.layout 10 a) (extend 10 10 ∷ []) s (Sets s 10 v) (Sets s 10 (sign_extended (v % 2 ^ 32 % 2 ^ 32)))
-    (leads_into c is s 10 a is_10 (λ e. absurd (omega (arith, e))) pointer known)
-    (λ u f one.
-    leads_so (site c) (extend 10 10 ∷ []) u (Sets u 10 (sign_extended (u.registers 10 % 2 ^ 32))) (Sets s 10 (sign_extended (v % 2 ^ 32 % 2 ^ 32)))
-    (leads_extend (site c) u 10 10 is_10 is_10)
-    (λ w g two. record {
-      value = two.value ∙ (ap (λ n. sign_extended (n % 2 ^ 32)) one.value ∙ ap sign_extended (word_again v));
-      others = λ n other. two.others n other ∙ one.others n other;
-      bytes = two.bytes ∙ one.bytes;
-      output = two.output ∙ one.output;
-    }))
+    subst (λ x. Leads (site c) (word_into c.layout 10 a) s (Sets s 10 x)) (ap sign_extended (word_again v))
+    (leads_word_into c is s 10 a is_10 (λ e. absurd (omega (arith, e))) pointer known)

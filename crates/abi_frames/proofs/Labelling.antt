@@ -12,7 +12,9 @@ use Rattle.il_ast.specs.declared.operation.Condition.TheVariants.{Equal, NotEqua
 use Rattle.il_ast.specs.declared.operation.Class.{Class}
 use Rattle.il_ast.specs.declared.operation.Class.TheVariants.{W, L}
 use Rattle.rv_isa.specs.Labels.{IsLabelled, times_labelled, has_label_below, has_good_registers, longest_size}
-use Rattle.rv_isa.specs.declared.instruction.Instr.TheVariants.{Lui, Reg, RegW}
+use Rattle.rv_isa.specs.declared.instruction.Instr.TheVariants.{Lui, Imm, Addiw, Shift, ShiftW, Reg, RegW}
+use Rattle.rv_isa.specs.declared.instruction.ImmOp.{ImmOp}
+use Rattle.rv_isa.specs.declared.instruction.ImmOp.TheVariants.{Addi, Slti, Sltiu}
 use Rattle.rv_isa.specs.declared.instruction.BranchOp.TheVariants.{Bne}
 use Rattle.rv_isa.specs.declared.instruction.LoadOp.{LoadOp}
 use Rattle.rv_isa.specs.declared.instruction.LoadOp.TheVariants.{Lwu, Lhu, Lbu}
@@ -38,7 +40,11 @@ use Rattle.vcode.specs.Named.{is_place, operand_keeps, line_keeps, jump_keeps, b
 use Rattle.vcode.specs.Regular.{leads_inside, is_target, alloc_bytes, code_weight}
 use Rattle.abi_frames.specs.Layout.{layout, saved_registers}
 use Rattle.abi_frames.specs.declared.layout.Layout.{Layout}
-use Rattle.abi_frames.specs.Emission.{copy_at, copy_eight, copy_eights, copy_rest, reg, add_low, extend, sum_to, load_8, store_8, long_constant, constant, far_load, load_slot, far_store, store_slot, slot_offset, into, fetch, source, target, deliver, set_items, negate, is_zero, compare_items, operation_items, operate_items, load_to, store_at, store_op, line_items, lines_items, move_pointer, save_all, restore_all, go_back, prologue, epilogue, result_items, jump_items, blocks_items, pass_into, pass_items, pass_all, call_through, receive_items, call_items, address_at, high}
+use Rattle.abi_frames.specs.Fields.{reg, low, high, amount, word_amount, add_low, extend, sum_to, load_8, store_8, long_constant, word, is_word, word_constant, constant, negate, is_zero, is_not_zero}
+use Rattle.abi_frames.specs.Immediates.{opposite, next, right_form, left_form, compare_number, form_items}
+use Rattle.abi_frames.specs.declared.immediate.Form.{Form}
+use Rattle.abi_frames.specs.declared.immediate.Form.TheVariants.{Immediate as ByImmediate, AddWord, Shift as ByShift, ShiftWord, Compare as ByComparison}
+use Rattle.abi_frames.specs.Emission.{copy_at, copy_eight, copy_eights, copy_rest, far_load, load_slot, far_store, store_slot, slot_offset, into, fetch, source, word_into, target, deliver, set_items, compare_items, operation_items, operand_into, operand_source, on_registers, by_form, operate_by, operate_items, load_to, store_at, store_op, line_items, lines_items, move_pointer, save_all, restore_all, go_back, prologue, epilogue, result_items, jump_items, blocks_items, pass_into, pass_items, pass_all, call_through, receive_items, call_items, address_at}
 use Rattle.abi_frames.specs.Functions.{caller_pointer, from_register, from_stack, argument_items, arguments_items, pointer_items, entry_items}
 use Rattle.abi_frames.specs.Laws.{FramesAreLabelled}
 use Rattle.abi_frames.proofs.Leading.{longest-append}
@@ -130,12 +136,20 @@ far_load_plainly n d o h = record { labels = refl; none = λ l. refl; registers 
 far_store_plainly : (n v o : ℕ) → Nameable v → Plainly n (far_store v o)
 far_store_plainly n v o h = record { labels = refl; none = λ l. refl; registers = (let is = h.is in rw is refl) }
 
-constant_plainly : (n d m : ℕ) → Nameable d → Plainly n (constant d m)
-constant_plainly n d m h = by_test (is_immediate m)
+word_plainly : (n d m : ℕ) → Nameable d → Plainly n (word_constant d m)
+word_plainly n d m h = by_test (nat_eq (m % 4096) 0)
   where
-    by_test : (b : Bool) → Plainly n (if b then add_low d 0 m ∷ [] else long_constant d (m % 2 ^ 64))
-    by_test true = add_plainly n d 0 m h (nameable 0 (lit< tt))
-    by_test false = long_plainly n d (m % 2 ^ 64) h
+    by_test : (b : Bool) → Plainly n (Plain (Lui (reg d) (high m)) ∷ (if b then [] else Plain (Addiw (reg d) (reg d) (low m)) ∷ []))
+    by_test true = record { labels = refl; none = λ l. refl; registers = (let is = h.is in rw is refl) }
+    by_test false = record { labels = refl; none = λ l. refl; registers = (let is = h.is in rw is refl) }
+
+constant_plainly : (n d m : ℕ) → Nameable d → Plainly n (constant d m)
+constant_plainly n d m h = by_test (is_immediate m) (is_word m)
+  where
+    by_test : (b t : Bool) → Plainly n (if b then add_low d 0 m ∷ [] else if t then word_constant d (m % 2 ^ 32) else long_constant d (m % 2 ^ 64))
+    by_test true t = add_plainly n d 0 m h (nameable 0 (lit< tt))
+    by_test false true = word_plainly n d (m % 2 ^ 32) h
+    by_test false false = long_plainly n d (m % 2 ^ 64) h
 
 load_slot_plainly : (n d o : ℕ) → Nameable d → Plainly n (load_slot d o)
 load_slot_plainly n d o h = by_test (nat_lt o 2048)
@@ -170,7 +184,11 @@ address_plainly n d g some h = record {
 }
 
 into_plainly : (n : ℕ) (y : Layout) (slots d : ℕ) (a : Operand Location) → 0 < d → d < 31 → operand_keeps (is_place slots) a ≡ true → Plainly n (into y d a)
-into_plainly n y slots d (At (InRegister r)) some h good = add_plainly n d r 0 (nameable d h) (place_nameable slots r good)
+into_plainly n y slots d (At (InRegister r)) some h good = by_test (nat_eq d r)
+  where
+    by_test : (b : Bool) → Plainly n (if b then [] else add_low d r 0 ∷ [])
+    by_test true = plainly_nothing n
+    by_test false = add_plainly n d r 0 (nameable d h) (place_nameable slots r good)
 into_plainly n y slots d (At (Slot i)) some h good = load_slot_plainly n d (slot_offset y i) (nameable d h)
 into_plainly n y slots d (Number m) some h good = constant_plainly n d m (nameable d h)
 into_plainly n y slots d (Name g) some h good = address_plainly n d g some h
@@ -178,14 +196,36 @@ into_plainly n y slots d (Name g) some h good = address_plainly n d g some h
 fetch_plainly : (n : ℕ) (y : Layout) (d : ℕ) (a : Operand Location) → 0 < d → d < 31 → Plainly n (fetch y d a)
 fetch_plainly n y d (At (InRegister r)) some h = plainly_nothing n
 fetch_plainly n y d (At (Slot i)) some h = load_slot_plainly n d (slot_offset y i) (nameable d h)
-fetch_plainly n y d (Number m) some h = constant_plainly n d m (nameable d h)
+fetch_plainly n y d (Number m) some h = by_test (nat_eq m 0)
+  where
+    by_test : (b : Bool) → Plainly n (if b then [] else constant d m)
+    by_test true = plainly_nothing n
+    by_test false = constant_plainly n d m (nameable d h)
 fetch_plainly n y d (Name g) some h = address_plainly n d g some h
 
 source_nameable : (slots d : ℕ) (a : Operand Location) → d < 31 → operand_keeps (is_place slots) a ≡ true → Nameable (source d a)
 source_nameable slots d (At (InRegister r)) h good = place_nameable slots r good
 source_nameable slots d (At (Slot i)) h good = nameable d h
-source_nameable slots d (Number m) h good = nameable d h
+source_nameable slots d (Number m) h good = by_test (nat_eq m 0)
+  where
+    by_test : (b : Bool) → Nameable (if b then 0 else d)
+    by_test true = nameable 0 (lit< tt)
+    by_test false = nameable d h
 source_nameable slots d (Name g) h good = nameable d h
+
+word_into_plainly : (n : ℕ) (y : Layout) (slots d : ℕ) (a : Operand Location) → 0 < d → d < 31 → operand_keeps (is_place slots) a ≡ true
+    → Plainly n (word_into y d a)
+word_into_plainly n y slots d a some h good = by_operand a good
+  where
+    extended : (a : Operand Location) → operand_keeps (is_place slots) a ≡ true → Plainly n (fetch y d a ++ (extend d (source d a) ∷ []))
+    extended a good =
+        plainly_then n (fetch y d a) (extend d (source d a) ∷ []) (fetch_plainly n y d a some h)
+        (extend_plainly n d (source d a) (nameable d h) (source_nameable slots d a h good))
+
+    by_operand : (a : Operand Location) → operand_keeps (is_place slots) a ≡ true → Plainly n (word_into y d a)
+    by_operand (At p) good = extended (At p) good
+    by_operand (Number m) good = constant_plainly n d (word m) (nameable d h)
+    by_operand (Name g) good = extended (Name g) good
 
 target_nameable : (slots : ℕ) (to : Location) → is_place slots to ≡ true → Nameable (target to)
 target_nameable slots (InRegister r) good = place_nameable slots r good
@@ -218,10 +258,10 @@ then_negate n op d a b h k m =
 
 compare_plainly : (n : ℕ) (on : Condition) (d a b : ℕ) → Nameable d → Nameable a → Nameable b → Plainly n (compare_items on d a b)
 compare_plainly n Equal d a b h k m =
-    plainly_then n (Plain (Reg Sub (reg d) (reg a) (reg b)) ∷ []) (is_zero d ∷ []) (reg_plainly n Sub d a b h k m)
-    (one_of_two n (is_zero d) d d h h refl (λ l. refl) refl)
+    plainly_then n (Plain (Reg Sub (reg d) (reg a) (reg b)) ∷ []) (is_zero d d ∷ []) (reg_plainly n Sub d a b h k m)
+    (one_of_two n (is_zero d d) d d h h refl (λ l. refl) refl)
 compare_plainly n NotEqual d a b h k m =
-    plainly_then n (Plain (Reg Sub (reg d) (reg a) (reg b)) ∷ []) (Plain (Reg Sltu (reg d) (reg 0) (reg d)) ∷ []) (reg_plainly n Sub d a b h k m)
+    plainly_then n (Plain (Reg Sub (reg d) (reg a) (reg b)) ∷ []) (is_not_zero d d ∷ []) (reg_plainly n Sub d a b h k m)
     (reg_plainly n Sltu d 0 d h (nameable 0 (lit< tt)) h)
 compare_plainly n SignedLess d a b h k m = reg_plainly n Slt d a b h k m
 compare_plainly n SignedGreater d a b h k m = reg_plainly n Slt d b a h m k
@@ -235,28 +275,92 @@ compare_plainly n UnsignedGreaterEqual d a b h k m = then_negate n Sltu d a b h 
 operation_plainly : (n : ℕ) (op : Operation) (d a b : ℕ) → Nameable d → Nameable a → Nameable b → Plainly n (operation_items op d a b)
 operation_plainly n (RegOperation op) d a b h k m = one_of_three n (Plain (Reg op (reg d) (reg a) (reg b))) d a b h k m refl (λ l. refl) refl
 operation_plainly n (RegWOperation op) d a b h k m = one_of_three n (Plain (RegW op (reg d) (reg a) (reg b))) d a b h k m refl (λ l. refl) refl
-operation_plainly n (Compare on L) d a b h k m = compare_plainly n on d a b h k m
-operation_plainly n (Compare on W) d a b h k m =
-    plainly_then n (extend 28 a ∷ []) (extend 29 b ∷ compare_items on d 28 29) (extend_plainly n 28 a (nameable 28 (lit< tt)) k)
-    (plainly_then n (extend 29 b ∷ []) (compare_items on d 28 29) (extend_plainly n 29 b (nameable 29 (lit< tt)) m)
-    (compare_plainly n on d 28 29 h (nameable 28 (lit< tt)) (nameable 29 (lit< tt))))
+operation_plainly n (Compare on k) d a b h m p = compare_plainly n on d a b h m p
+
+imm_plainly : (n : ℕ) (op : ImmOp) (d a m : ℕ) → Nameable d → Nameable a → Plainly n (Plain (Imm op (reg d) (reg a) (low m)) ∷ [])
+imm_plainly n op d a m h k = one_of_two n (Plain (Imm op (reg d) (reg a) (low m))) d a h k refl (λ l. refl) refl
+
+not_less_plainly : (n : ℕ) (op : ImmOp) (d a m : ℕ) → Nameable d → Nameable a → Plainly n (Plain (Imm op (reg d) (reg a) (low m)) ∷ negate d ∷ [])
+not_less_plainly n op d a m h k =
+    plainly_then n (Plain (Imm op (reg d) (reg a) (low m)) ∷ []) (negate d ∷ []) (imm_plainly n op d a m h k) (negate_plainly n d h)
+
+number_plainly : (n : ℕ) (on : Condition) (d a m : ℕ) → Nameable d → Nameable a → Plainly n (compare_number on d a m)
+number_plainly n Equal d a m h k = by_test (nat_eq m 0)
+  where
+    by_test : (b : Bool) → Plainly n (if b then is_zero d a ∷ [] else add_low d a (opposite m) ∷ is_zero d d ∷ [])
+    by_test true = imm_plainly n Sltiu d a 1 h k
+    by_test false =
+        plainly_then n (add_low d a (opposite m) ∷ []) (is_zero d d ∷ []) (imm_plainly n Addi d a (opposite m) h k) (imm_plainly n Sltiu d d 1 h h)
+number_plainly n NotEqual d a m h k = by_test (nat_eq m 0)
+  where
+    by_test : (b : Bool) → Plainly n (if b then is_not_zero d a ∷ [] else add_low d a (opposite m) ∷ is_not_zero d d ∷ [])
+    by_test true = reg_plainly n Sltu d 0 a h (nameable 0 (lit< tt)) k
+    by_test false =
+        plainly_then n (add_low d a (opposite m) ∷ []) (is_not_zero d d ∷ []) (imm_plainly n Addi d a (opposite m) h k)
+        (reg_plainly n Sltu d 0 d h (nameable 0 (lit< tt)) h)
+number_plainly n SignedLess d a m h k = imm_plainly n Slti d a m h k
+number_plainly n SignedGreaterEqual d a m h k = not_less_plainly n Slti d a m h k
+number_plainly n SignedLessEqual d a m h k = imm_plainly n Slti d a (next m) h k
+number_plainly n SignedGreater d a m h k = not_less_plainly n Slti d a (next m) h k
+number_plainly n UnsignedLess d a m h k = imm_plainly n Sltiu d a m h k
+number_plainly n UnsignedGreaterEqual d a m h k = not_less_plainly n Sltiu d a m h k
+number_plainly n UnsignedLessEqual d a m h k = imm_plainly n Sltiu d a (next m) h k
+number_plainly n UnsignedGreater d a m h k = not_less_plainly n Sltiu d a (next m) h k
+
+form_plainly : (n : ℕ) (form : Form) (d a : ℕ) → Nameable d → Nameable a → Plainly n (form_items form d a)
+form_plainly n (ByImmediate op m) d a h k = imm_plainly n op d a m h k
+form_plainly n (AddWord m) d a h k = one_of_two n (Plain (Addiw (reg d) (reg a) (low m))) d a h k refl (λ l. refl) refl
+form_plainly n (ByShift op m) d a h k = one_of_two n (Plain (Shift op (reg d) (reg a) (amount m))) d a h k refl (λ l. refl) refl
+form_plainly n (ShiftWord op m) d a h k = one_of_two n (Plain (ShiftW op (reg d) (reg a) (word_amount m))) d a h k refl (λ l. refl) refl
+form_plainly n (ByComparison on m) d a h k = number_plainly n on d a m h k
+
+read_plainly : (n : ℕ) (y : Layout) (slots : ℕ) (op : Operation) (d : ℕ) (a : Operand Location) → 0 < d → d < 31 → operand_keeps (is_place slots) a ≡ true
+    → Plainly n (operand_into y op d a)
+read_plainly n y slots (RegOperation op) d a some h good = fetch_plainly n y d a some h
+read_plainly n y slots (RegWOperation op) d a some h good = fetch_plainly n y d a some h
+read_plainly n y slots (Compare on L) d a some h good = fetch_plainly n y d a some h
+read_plainly n y slots (Compare on W) d a some h good = word_into_plainly n y slots d a some h good
+
+read_nameable : (slots : ℕ) (op : Operation) (d : ℕ) (a : Operand Location) → d < 31 → operand_keeps (is_place slots) a ≡ true → Nameable (operand_source op d a)
+read_nameable slots (RegOperation op) d a h good = source_nameable slots d a h good
+read_nameable slots (RegWOperation op) d a h good = source_nameable slots d a h good
+read_nameable slots (Compare on L) d a h good = source_nameable slots d a h good
+read_nameable slots (Compare on W) d a h good = nameable d h
+
+by_form_plainly : (n : ℕ) (y : Layout) (slots : ℕ) (to : Location) (op : Operation) (a : Operand Location) (form : Form) → is_place slots to ≡ true
+    → operand_keeps (is_place slots) a ≡ true → Plainly n (by_form y to op a form)
+by_form_plainly n y slots to op a form good known =
+    let x : ℕ = operand_source op 28 a in
+    plainly_then n (operand_into y op 28 a) (form_items form (target to) x ++ deliver y to) (read_plainly n y slots op 28 a (lit< tt) (lit< tt) known)
+    (plainly_then n (form_items form (target to) x) (deliver y to)
+    (form_plainly n form (target to) x (target_nameable slots to good) (read_nameable slots op 28 a (lit< tt) known)) (deliver_plainly n y to))
+
+on_registers_plainly : (n : ℕ) (y : Layout) (slots : ℕ) (to : Location) (op : Operation) (a b : Operand Location) → is_place slots to ≡ true
+    → operand_keeps (is_place slots) a ≡ true → operand_keeps (is_place slots) b ≡ true → Plainly n (on_registers y to op a b)
+on_registers_plainly n y slots to op a b good known_a known_b =
+    let p : ℕ = operand_source op 28 a in
+    let q : ℕ = operand_source op 29 b in
+    let made = operation_items op (target to) p q in
+    plainly_then n (operand_into y op 28 a) (operand_into y op 29 b ++ (made ++ deliver y to)) (read_plainly n y slots op 28 a (lit< tt) (lit< tt) known_a)
+    (plainly_then n (operand_into y op 29 b) (made ++ deliver y to) (read_plainly n y slots op 29 b (lit< tt) (lit< tt) known_b)
+    (plainly_then n made (deliver y to)
+    (operation_plainly n op (target to) p q (target_nameable slots to good) (read_nameable slots op 28 a (lit< tt) known_a)
+    (read_nameable slots op 29 b (lit< tt) known_b))
+    (deliver_plainly n y to)))
 
 operate_plainly : (n : ℕ) (y : Layout) (slots : ℕ) (to : Location) (op : Operation) (a b : Operand Location) → is_place slots to ≡ true
     → operand_keeps (is_place slots) a ≡ true → operand_keeps (is_place slots) b ≡ true → Plainly n (operate_items y to op a b)
-operate_plainly n y slots to op a b good known_a known_b =
-    let made = operation_items op (target to) (source 28 a) (source 29 b) in
-    plainly_then n (fetch y 28 a) (fetch y 29 b ++ (made ++ deliver y to)) (fetch_plainly n y 28 a (lit< tt) (lit< tt))
-    (plainly_then n (fetch y 29 b) (made ++ deliver y to) (fetch_plainly n y 29 b (lit< tt) (lit< tt))
-    (plainly_then n made (deliver y to)
-    (operation_plainly n op (target to) (source 28 a) (source 29 b) (target_nameable slots to good) (source_nameable slots 28 a (lit< tt) known_a)
-    (source_nameable slots 29 b (lit< tt) known_b))
-    (deliver_plainly n y to)))
+operate_plainly n y slots to op a b good known_a known_b = by_forms (right_form op b) (left_form op a)
+  where
+    by_forms : (right left : Option Form) → Plainly n (operate_by y to op a b right left)
+    by_forms (Some form) left = by_form_plainly n y slots to op a form good known_a
+    by_forms None (Some form) = by_form_plainly n y slots to op b form good known_b
+    by_forms None None = on_registers_plainly n y slots to op a b good known_a known_b
 
 pass_into_plainly : (n : ℕ) (y : Layout) (slots d : ℕ) (k : Class) (a : Operand Location) → 0 < d → d < 31 → operand_keeps (is_place slots) a ≡ true
     → Plainly n (pass_into y d k a)
 pass_into_plainly n y slots d L a some h known = into_plainly n y slots d a some h known
-pass_into_plainly n y slots d W a some h known =
-    plainly_then n (into y d a) (extend d d ∷ []) (into_plainly n y slots d a some h known) (extend_plainly n d d (nameable d h) (nameable d h))
+pass_into_plainly n y slots d W a some h known = word_into_plainly n y slots d a some h known
 
 pass_plainly : (n : ℕ) (y : Layout) (slots k : ℕ) (a : Argument Location) → operand_keeps (is_place slots) a.value ≡ true → Plainly n (pass_items y k a)
 pass_plainly n y slots k a known = by_test (nat_lt k 8) refl
@@ -379,9 +483,7 @@ goto_plainly n k h = record { labels = and_from (nat_lt k n) true h refl; none =
 result_plainly : (n : ℕ) (y : Layout) (slots : ℕ) (k : Option Class) (a : Operand Location) → operand_keeps (is_place slots) a ≡ true → Plainly n (result_items y k a)
 result_plainly n y slots None a known = plainly_nothing n
 result_plainly n y slots (Some L) a known = into_plainly n y slots 10 a (lit< tt) (lit< tt) known
-result_plainly n y slots (Some W) a known =
-    plainly_then n (into y 10 a) (extend 10 10 ∷ []) (into_plainly n y slots 10 a (lit< tt) (lit< tt) known)
-    (extend_plainly n 10 10 (nameable 10 (lit< tt)) (nameable 10 (lit< tt)))
+result_plainly n y slots (Some W) a known = word_into_plainly n y slots 10 a (lit< tt) (lit< tt) known
 
 jump_plainly : (n : ℕ) (y : Layout) (slots blocks : ℕ) (j : Jump Location) → y.leave < n → blocks < n → jump_keeps (is_place slots) j ≡ true
     → leads_inside blocks j ≡ true → Plainly n (jump_items y j)
@@ -391,14 +493,12 @@ jump_plainly n y slots blocks (Branch on nonzero otherwise) leave more known ins
     let first = target_below blocks n nonzero more parts.0 in
     let second = target_below blocks n otherwise more parts.1 in
     let two : List Item = BranchTo Bne (reg 28) (reg 0) nonzero ∷ GoTo otherwise ∷ [] in
-    plainly_then n (fetch y 28 on) (extend 28 (source 28 on) ∷ two) (fetch_plainly n y 28 on (lit< tt) (lit< tt))
-    (plainly_then n (extend 28 (source 28 on) ∷ []) two
-    (extend_plainly n 28 (source 28 on) (nameable 28 (lit< tt)) (source_nameable slots 28 on (lit< tt) known))
+    plainly_then n (word_into y 28 on) two (word_into_plainly n y slots 28 on (lit< tt) (lit< tt) known)
     (record {
       labels = and_from (nat_lt nonzero n) (nat_lt otherwise n && true) first (and_from (nat_lt otherwise n) true second refl);
       none = λ l. refl;
       registers = refl;
-    }))
+    })
 jump_plainly n y slots blocks (Return None) leave more known inside = goto_plainly n y.leave (lt_from y.leave n leave)
 jump_plainly n y slots blocks (Return (Some a)) leave more known inside =
     plainly_then n (result_items y y.result a) (GoTo y.leave ∷ []) (result_plainly n y slots y.result a known)

@@ -1,5 +1,5 @@
 -- What labelled code does from a state, wherever it stands: it leads the machine to what follows it, within its size, where something holds.
-use Rattle.std.proofs.Common.{◌≡◌, ◌≢◌, ℕ, ◌+◌, ◌%◌, ◌^◌, ◌<◌, ◌≤◌, true, List, [], ◌∷◌, ◌++◌, refl, sym, ◌∙◌, ap, subst, arith, ne_eqb, zero-add, append_assoc}
+use Rattle.std.proofs.Common.{◌≡◌, ◌≢◌, ℕ, ◌+◌, ◌%◌, ◌^◌, ◌<◌, ◌≤◌, Bool, true, false, List, [], ◌∷◌, ◌++◌, refl, sym, ◌∙◌, ap, subst, arith, lit<, ne_eqb, zero-add, append_assoc}
 use Rattle.std.specs.Prelude.{◌==◌, if◌then◌else◌, Ok}
 use Rattle.rv_isa.specs.State.{State, IsState, register, updated, written, put}
 use Rattle.rv_isa.specs.Step.{step, act}
@@ -14,7 +14,7 @@ use Rattle.rv_isa.proofs.MemoryLemmas.{updated_here, updated_elsewhere}
 use Rattle.rv_isa.proofs.RunLemmas.{comes_here, comes_by_step, comes_then}
 use Rattle.rv_isa.proofs.StepLemmas.{step_at}
 use Rattle.rv_isa.proofs.KeepLemmas.{step_keeps}
-use Rattle.abi_frames.specs.Emission.{reg}
+use Rattle.abi_frames.specs.Fields.{reg}
 
 -- where labelled code stands, with what its labels and globals are
 pub record Site : Type 0 where
@@ -197,3 +197,20 @@ register_reg s n is =
 pub leads_set : (c : Site) (s : State) (i : Instr) (d w v : ℕ) → IsReg d → act i s ≡ Ok (put s (reg d) w) → w ≡ v
     → Leads c (Plain i ∷ []) s (Sets s d v)
 leads_set c s i d w v is acts value = leads_put c s i (reg d) d w v (number_of_reg d is) is.some acts value
+
+-- ---- what an instruction reads by a register's number: 0 by that of x0
+
+abbrev pub in_register : State → ℕ → ℕ
+in_register s n = register s (reg n)
+
+pub same_in_register : (s u : State) (n : ℕ) → n < 32 → u.registers n ≡ s.registers n → in_register u n ≡ in_register s n
+same_in_register s u n small same =
+    let is : n % 32 ≡ n = omega (arith, small) in
+    ap (λ x. if n % 32 == 0 then 0 else x) (ap u.registers is ∙ (same ∙ ap s.registers (sym is)))
+
+pub in_register_small : (g : Ground) (s : State) (n : ℕ) → Fixed g s → in_register s n < 2 ^ 64
+in_register_small g s n fixed = by_test (n % 32 == 0)
+  where
+    by_test : (b : Bool) → (if b then 0 else s.registers (n % 32)) < 2 ^ 64
+    by_test true = lit< tt
+    by_test false = fixed.words (n % 32)

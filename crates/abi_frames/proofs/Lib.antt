@@ -16,6 +16,8 @@ pub mod Starting
 pub mod Labelling
 pub mod Joining
 pub mod Comparing
+pub mod FormNumbers
+pub mod Forms
 pub mod Reading
 pub mod Entering
 pub mod Outgoing

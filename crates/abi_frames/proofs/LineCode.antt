@@ -1,11 +1,14 @@
 -- What the code of operands and lines does.
-use Rattle.std.proofs.Common.{◌≡◌, ◌≢◌, ℕ, ◌+◌, ◌%◌, ◌^◌, ◌<◌, ◌≤◌, true, List, [], ◌∷◌, ◌++◌, refl, ◌∙◌, ap, subst, arith, lit<, mod-lt}
-use Rattle.bits.specs.Words.{sign_extended}
-use Rattle.il_ast.specs.declared.operation.Condition.{Condition}
+use Rattle.std.proofs.Common.{◌≡◌, ◌≢◌, ℕ, ◌+◌, ◌%◌, ◌^◌, ◌<◌, ◌≤◌, Bool, true, false, List, [], ◌∷◌, ◌++◌, refl, sym, ◌∙◌, ap, subst, arith, lit<}
+use Rattle.std.specs.Prelude.{nat_eq, if◌then◌else◌, Option, Some, None}
+use Rattle.std.specs.Option.{option_and_then}
+use Rattle.std.proofs.lemmas.Bool.Decides.{nat_tests}
 use Rattle.il_ast.specs.declared.operation.Class.TheVariants.{W, L}
-use Rattle.il_ast.specs.Operations.{holds, truth}
-use Rattle.rv_isa.specs.Arithmetic.{reg_value, regw_value}
-use Rattle.abi_frames.proofs.Comparing.{leads_compare, holds_extended}
+use Rattle.abi_frames.proofs.Comparing.{leads_compare}
+use Rattle.abi_frames.proofs.FormNumbers.{same_word, word_is_small}
+use Rattle.abi_frames.proofs.Forms.{made, as_read, computed_is, IsFormOf, leads_form, nothing_given, number_form_is, left_form_is}
+use Rattle.abi_frames.specs.declared.immediate.Form.{Form}
+use Rattle.abi_frames.specs.Immediates.{swapped, right_form, left_form, form_items}
 use Rattle.rv_isa.specs.Step.{load_size, load_value}
 use Rattle.rv_isa.specs.declared.instruction.LoadOp.{LoadOp}
 use Rattle.rv_isa.specs.State.{State}
@@ -19,17 +22,18 @@ use Rattle.vcode.specs.declared.line.Operation.{Operation}
 use Rattle.vcode.specs.declared.line.Operation.TheVariants.{Reg as RegOperation, RegW as RegWOperation, Compare}
 use Rattle.vcode.specs.Named.{is_place, operand_keeps}
 use Rattle.flat_code.specs.Step.{computed}
-use Rattle.abi_frames.specs.Emission.{load_to, load_items, extend, compare_items, slot_offset, add_low, load_slot, store_slot, into, fetch, source, target, deliver, set_items, operation_items, operate_items}
+use Rattle.abi_frames.specs.Fields.{add_low, extend, word, constant}
+use Rattle.abi_frames.specs.Emission.{load_to, load_items, slot_offset, load_slot, store_slot, into, fetch, source, word_into, target, deliver, set_items, operation_items, operand_into, operand_source, on_registers, by_form, operate_by, operate_items}
 use Rattle.abi_frames.proofs.ConstantNumbers.{near_moves}
-use Rattle.abi_frames.proofs.Leading.{Leads, leads_nowhere, leads_then, leads_so, leads_fixed, Sets, IsReg, register_reg}
-use Rattle.abi_frames.proofs.Instructions.{UsableFrom, leads_load_at, Writes, leads_extend, leads_add_low, leads_reg, leads_regw, leads_constant, leads_address, leads_load_slot, leads_store_slot, is_28, is_29}
+use Rattle.abi_frames.proofs.Leading.{Leads, leads_nowhere, leads_then, leads_so, leads_fixed, Sets, IsReg, register_reg, in_register, same_in_register, in_register_small}
+use Rattle.abi_frames.proofs.Instructions.{UsableFrom, leads_load_at, Writes, leads_extend, leads_add_low, leads_reg, leads_regw, leads_constant, leads_address, leads_load_slot, leads_store_slot_in, is_28, is_29}
 use Rattle.abi_frames.proofs.Activations.{Setting, IsSetting, site, bottom, slot_at, operand_in, IsPlace, place_is, place_reg, slot_is, slot_in_frame, InPlace, OnStack, Assigned}
 
 -- ---- operands
 
--- the operand's value is in the register d, or in its own; of the registers only d has changed
+-- the operand's value is in the register d, or in its own, or in x0; of the registers only d has changed
 pub record Fetched (c : Setting) (s : State) (d : ℕ) (a : Operand Location) (u : State) : Type 0 where
-  pub value : u.registers (source d a) ≡ operand_in c s a
+  pub value : in_register u (source d a) ≡ operand_in c s a
   pub others : (n : ℕ) → n ≢ d → u.registers n ≡ s.registers n
   pub bytes : u.bytes ≡ s.bytes
   pub output : u.output ≡ s.output
@@ -41,53 +45,107 @@ leads_slot c is s d i reg other pointer good =
     leads_fixed (site c) (load_slot d (slot_offset c.layout i)) s (Sets s d (number_at s.bytes (slot_at c i) 8))
     (λ fixed. leads_load_slot (site c) s d (bottom c) (slot_offset c.layout i) reg other fixed pointer inside.near inside.small inside.usable)
 
+-- it is in the register d
+fetched_in : (c : Setting) (s : State) (d v : ℕ) (a : Operand Location) (u : State) → IsReg d → source d a ≡ d → v ≡ operand_in c s a → Sets s d v u
+    → Fetched c s d a u
+fetched_in c s d v a u reg here is h = record {
+  value = ap (in_register u) here ∙ (register_reg u d reg ∙ (h.value ∙ is));
+  others = h.others;
+  bytes = h.bytes;
+  output = h.output;
+}
+
 pub leads_fetch : (c : Setting) → IsSetting c → (s : State) (d : ℕ) (a : Operand Location) → IsReg d → d ≢ 2 → s.registers 2 ≡ bottom c
     → operand_keeps (is_place c.slots) a ≡ true → Leads (site c) (fetch c.layout d a) s (Fetched c s d a)
 leads_fetch c is s d (At (InRegister r)) reg other pointer good =
-    leads_nowhere (site c) s (Fetched c s d (At (InRegister r))) (record { value = refl; others = λ n h. refl; bytes = refl; output = refl })
+    leads_nowhere (site c) s (Fetched c s d (At (InRegister r)))
+    (record { value = register_reg s r (place_reg r (place_is c.slots r good)); others = λ n h. refl; bytes = refl; output = refl })
 leads_fetch c is s d (At (Slot i)) reg other pointer good =
     leads_so (site c) (load_slot d (slot_offset c.layout i)) s (Sets s d (number_at s.bytes (slot_at c i) 8)) (Fetched c s d (At (Slot i)))
     (leads_slot c is s d i reg other pointer good)
-    (λ u f h. record { value = h.value; others = h.others; bytes = h.bytes; output = h.output })
-leads_fetch c is s d (Number n) reg other pointer good =
-    leads_so (site c) (fetch c.layout d (Number n)) s (Sets s d (n % 2 ^ 64)) (Fetched c s d (Number n)) (leads_constant (site c) s d n reg)
-    (λ u f h. record { value = h.value; others = h.others; bytes = h.bytes; output = h.output })
+    (λ u f h. fetched_in c s d (number_at s.bytes (slot_at c i) 8) (At (Slot i)) u reg refl refl h)
+leads_fetch c is s d (Number n) reg other pointer good = by_test (nat_eq n 0) refl
+  where
+    zero_is : nat_eq n 0 ≡ true → 0 ≡ n % 2 ^ 64
+    zero_is e = grind (arith, nat_tests)
+
+    by_test : (b : Bool) → nat_eq n 0 ≡ b → Leads (site c) (if b then [] else constant d n) s (Fetched c s d (Number n))
+    by_test true e =
+        let there : source d (Number n) ≡ 0 = ap (λ (t : Bool). if t then 0 else d) e in
+        leads_nowhere (site c) s (Fetched c s d (Number n))
+        (record { value = ap (in_register s) there ∙ zero_is e; others = λ m h. refl; bytes = refl; output = refl })
+    by_test false e =
+        let there : source d (Number n) ≡ d = ap (λ (t : Bool). if t then 0 else d) e in
+        leads_so (site c) (constant d n) s (Sets s d (n % 2 ^ 64)) (Fetched c s d (Number n)) (leads_constant (site c) s d n reg)
+        (λ u f h. fetched_in c s d (n % 2 ^ 64) (Number n) u reg there refl h)
 leads_fetch c is s d (Name g) reg other pointer good =
     leads_so (site c) (fetch c.layout d (Name g)) s (Sets s d (c.global g)) (Fetched c s d (Name g)) (leads_address (site c) s d g reg)
-    (λ u f h. record { value = h.value; others = h.others; bytes = h.bytes; output = h.output })
+    (λ u f h. fetched_in c s d (c.global g) (Name g) u reg refl refl h)
 
 same_low : (x : ℕ) → x < 2 ^ 64 → (x + 0) % 2 ^ 64 ≡ x
 same_low x h = omega (arith, h)
 
 pub leads_into : (c : Setting) → IsSetting c → (s : State) (d : ℕ) (a : Operand Location) → IsReg d → d ≢ 2 → s.registers 2 ≡ bottom c
     → operand_keeps (is_place c.slots) a ≡ true → Leads (site c) (into c.layout d a) s (Sets s d (operand_in c s a))
-leads_into c is s d (At (InRegister r)) reg other pointer good =
-    leads_fixed (site c) (add_low d r 0 ∷ []) s (Sets s d (s.registers r))
-    (λ fixed.
-    leads_add_low (site c) s d r 0 (s.registers r) (s.registers r) reg (register_reg s r (place_reg r (place_is c.slots r good)))
-    (near_moves (s.registers r) 0 (lit< tt) ∙ same_low (s.registers r) (fixed.words r)))
+leads_into c is s d (At (InRegister r)) reg other pointer good = by_test (nat_eq d r) refl
+  where
+    eq_is : nat_eq d r ≡ true → d ≡ r
+    eq_is e = grind (arith, nat_tests)
+
+    by_test : (b : Bool) → nat_eq d r ≡ b → Leads (site c) (if b then [] else add_low d r 0 ∷ []) s (Sets s d (s.registers r))
+    by_test true e =
+        leads_nowhere (site c) s (Sets s d (s.registers r)) (record { value = ap s.registers (eq_is e); others = λ n h. refl; bytes = refl; output = refl })
+    by_test false e =
+        leads_fixed (site c) (add_low d r 0 ∷ []) s (Sets s d (s.registers r))
+        (λ fixed.
+        leads_add_low (site c) s d r 0 (s.registers r) (s.registers r) reg (register_reg s r (place_reg r (place_is c.slots r good)))
+        (near_moves (s.registers r) 0 (lit< tt) ∙ same_low (s.registers r) (fixed.words r)))
 leads_into c is s d (At (Slot i)) reg other pointer good = leads_slot c is s d i reg other pointer good
 leads_into c is s d (Number n) reg other pointer good = leads_constant (site c) s d n reg
 leads_into c is s d (Name g) reg other pointer good = leads_address (site c) s d g reg
 
+-- its low 32 bits, extended, are in the register d
+extended_after : (c : Setting) → IsSetting c → (s : State) (d : ℕ) (a : Operand Location) → IsReg d → d ≢ 2 → s.registers 2 ≡ bottom c
+    → operand_keeps (is_place c.slots) a ≡ true → Leads (site c) (fetch c.layout d a ++ (extend d (source d a) ∷ [])) s (Sets s d (word (operand_in c s a)))
+extended_after c is s d a reg other pointer known =
+    leads_then (site c) (fetch c.layout d a) (extend d (source d a) ∷ []) s (Fetched c s d a) (Sets s d (word (operand_in c s a)))
+    (leads_fetch c is s d a reg other pointer known)
+    (λ u f one.
+    leads_so (site c) (extend d (source d a) ∷ []) u (Sets u d (word (in_register u (source d a)))) (Sets s d (word (operand_in c s a)))
+    (leads_extend (site c) u d (source d a) reg)
+    (λ w g two. record {
+      value = two.value ∙ ap word one.value;
+      others = λ n differs. two.others n differs ∙ one.others n differs;
+      bytes = two.bytes ∙ one.bytes;
+      output = two.output ∙ one.output;
+    }))
+
+pub leads_word_into : (c : Setting) → IsSetting c → (s : State) (d : ℕ) (a : Operand Location) → IsReg d → d ≢ 2 → s.registers 2 ≡ bottom c
+    → operand_keeps (is_place c.slots) a ≡ true → Leads (site c) (word_into c.layout d a) s (Sets s d (word (operand_in c s a)))
+leads_word_into c is s d (At p) reg other pointer known = extended_after c is s d (At p) reg other pointer known
+leads_word_into c is s d (Number n) reg other pointer known =
+    subst (λ v. Leads (site c) (constant d (word n)) s (Sets s d v)) (word_is_small n ∙ sym (same_word n)) (leads_constant (site c) s d (word n) reg)
+leads_word_into c is s d (Name g) reg other pointer known = extended_after c is s d (Name g) reg other pointer known
+
 -- the register that has the operand
-pub source_reg : (slots d : ℕ) (a : Operand Location) → IsReg d → operand_keeps (is_place slots) a ≡ true → IsReg (source d a)
-source_reg slots d (At (InRegister r)) reg good = place_reg r (place_is slots r good)
-source_reg slots d (At (Slot i)) reg good = reg
-source_reg slots d (Number n) reg good = reg
-source_reg slots d (Name g) reg good = reg
+source_number : (d n : ℕ) (P : ℕ → Type 0) → P 0 → P d → P (source d (Number n))
+source_number d n P none some = by_test (nat_eq n 0)
+  where
+    by_test : (b : Bool) → P (if b then 0 else d)
+    by_test true = none
+    by_test false = some
+
+pub source_small : (slots d : ℕ) (a : Operand Location) → d < 32 → operand_keeps (is_place slots) a ≡ true → source d a < 32
+source_small slots d (At (InRegister r)) h good = let hi = (place_is slots r good).to_27 in omega (arith, hi)
+source_small slots d (At (Slot i)) h good = h
+source_small slots d (Number n) h good = source_number d n (λ x. x < 32) (lit< tt) h
+source_small slots d (Name g) h good = h
 
 pub source_not_29 : (slots : ℕ) (a : Operand Location) → operand_keeps (is_place slots) a ≡ true → source 28 a ≢ 29
 source_not_29 slots (At (InRegister r)) good e = let hi = (place_is slots r good).to_27 in absurd (omega (arith, e, hi))
 source_not_29 slots (At (Slot i)) good e = absurd (omega (arith, e))
-source_not_29 slots (Number n) good e = absurd (omega (arith, e))
+source_not_29 slots (Number n) good e = source_number 28 n (λ x. x ≢ 29) (λ d. absurd (omega (arith, d))) (λ d. absurd (omega (arith, d))) e
 source_not_29 slots (Name g) good e = absurd (omega (arith, e))
-
-pub source_not_28 : (slots : ℕ) (a : Operand Location) → operand_keeps (is_place slots) a ≡ true → source 29 a ≢ 28
-source_not_28 slots (At (InRegister r)) good e = let hi = (place_is slots r good).to_27 in absurd (omega (arith, e, hi))
-source_not_28 slots (At (Slot i)) good e = absurd (omega (arith, e))
-source_not_28 slots (Number n) good e = absurd (omega (arith, e))
-source_not_28 slots (Name g) good e = absurd (omega (arith, e))
 
 -- ---- states that differ in scratch registers alone
 
@@ -135,16 +193,16 @@ assigned_value c s p v w u e a = subst (λ x. Assigned c s p x u) e a
 
 -- ---- a copy
 
-store_from : (c : Setting) → IsSetting c → (s : State) (x i : ℕ) → IsReg x → x ≢ 29 → s.registers 2 ≡ bottom c → is_place c.slots (Slot i) ≡ true
-    → Leads (site c) (store_slot x (slot_offset c.layout i)) s (OnStack s (slot_at c i) (s.registers x))
-store_from c is s x i reg other pointer good =
+store_from : (c : Setting) → IsSetting c → (s : State) (x i : ℕ) → x < 32 → x ≢ 29 → s.registers 2 ≡ bottom c → is_place c.slots (Slot i) ≡ true
+    → Leads (site c) (store_slot x (slot_offset c.layout i)) s (OnStack s (slot_at c i) (in_register s x))
+store_from c is s x i few other pointer good =
     let inside = slot_in_frame c is i (slot_is c.slots i good) in
-    leads_fixed (site c) (store_slot x (slot_offset c.layout i)) s (OnStack s (slot_at c i) (s.registers x))
+    leads_fixed (site c) (store_slot x (slot_offset c.layout i)) s (OnStack s (slot_at c i) (in_register s x))
     (λ fixed.
-    leads_so (site c) (store_slot x (slot_offset c.layout i)) s (Writes s (slot_at c i) (s.registers x)) (OnStack s (slot_at c i) (s.registers x))
-    (leads_store_slot (site c) s x (bottom c) (slot_offset c.layout i) reg other fixed pointer inside.near inside.small inside.usable)
+    leads_so (site c) (store_slot x (slot_offset c.layout i)) s (Writes s (slot_at c i) (in_register s x)) (OnStack s (slot_at c i) (in_register s x))
+    (leads_store_slot_in (site c) s x (bottom c) (slot_offset c.layout i) few other fixed pointer inside.near inside.small inside.usable)
     (λ u f h. record {
-      small = fixed.words x;
+      small = in_register_small c.world.memory_map s x fixed;
       bytes = h.bytes;
       registers = λ n lo. h.registers n (not_scratch 29 n (omega arith) lo);
       output = h.output;
@@ -169,58 +227,20 @@ leads_set_line c is s (Slot i) a pointer good known =
     (leads_fetch c is s 28 a is_28 (λ e. absurd (omega (arith, e))) pointer known)
     (λ u f one.
     let same = fetched_scratched c s 28 a u (omega arith) one in
-    leads_so (site c) (store_slot (source 28 a) (slot_offset c.layout i)) u (OnStack u (slot_at c i) (u.registers (source 28 a)))
+    leads_so (site c) (store_slot (source 28 a) (slot_offset c.layout i)) u (OnStack u (slot_at c i) (in_register u (source 28 a)))
     (OnStack s (slot_at c i) (operand_in c s a))
-    (store_from c is u (source 28 a) i (source_reg c.slots 28 a is_28 known) (source_not_29 c.slots a known) (same.registers 2 (lit< tt) ∙ pointer) good)
+    (store_from c is u (source 28 a) i (source_small c.slots 28 a (lit< tt) known) (source_not_29 c.slots a known) (same.registers 2 (lit< tt) ∙ pointer) good)
     (λ w g two.
-    assigned_value c s (Slot i) (u.registers (source 28 a)) (operand_in c s a) w one.value
-    (assigned_from c s u (Slot i) (u.registers (source 28 a)) w same two)))
+    assigned_value c s (Slot i) (in_register u (source 28 a)) (operand_in c s a) w one.value
+    (assigned_from c s u (Slot i) (in_register u (source 28 a)) w same two)))
 
 -- ---- an operation
 
--- words in x28 and x29, and then the comparison
-leads_words : (c : Setting) (s : State) (on : Condition) (d a b : ℕ) → b ≢ 28 → IsReg d → IsReg a → IsReg b
-    → Leads (site c) (operation_items (Compare on W) d a b) s (InPlace s d (truth (holds on W (s.registers a % 2 ^ 32) (s.registers b % 2 ^ 32))))
-leads_words c s on d a b other is is_a is_b =
-    let m : ℕ = s.registers a % 2 ^ 32 in
-    let n : ℕ = s.registers b % 2 ^ 32 in
-    let v : ℕ = truth (holds on W m n) in
-    leads_then (site c) (extend 28 a ∷ []) (extend 29 b ∷ compare_items on d 28 29) s (Sets s 28 (sign_extended m)) (InPlace s d v)
-    (leads_extend (site c) s 28 a is_28 is_a)
-    (λ u f one.
-    leads_then (site c) (extend 29 b ∷ []) (compare_items on d 28 29) u (Sets u 29 (sign_extended (u.registers b % 2 ^ 32))) (InPlace s d v)
-    (leads_extend (site c) u 29 b is_29 is_b)
-    (λ w g two.
-    let left : w.registers 28 ≡ sign_extended m = two.others 28 (λ e. absurd (omega (arith, e))) ∙ one.value in
-    let right : w.registers 29 ≡ sign_extended n = two.value ∙ ap (λ x. sign_extended (x % 2 ^ 32)) (one.others b other) in
-    let value : truth (holds on L (w.registers 28) (w.registers 29)) ≡ v =
-    ap (λ x. truth (holds on L x (w.registers 29))) left
-    ∙ (ap (λ x. truth (holds on L (sign_extended m) x)) right ∙ ap truth (holds_extended on m n (mod-lt (s.registers a) (lit< tt)) (mod-lt (s.registers b) (lit< tt)))) in
-    leads_so (site c) (compare_items on d 28 29) w (Sets w d (truth (holds on L (w.registers 28) (w.registers 29)))) (InPlace s d v)
-    (leads_compare (site c) w on d 28 29 is is_28 is_29)
-    (λ t h three. record {
-      value = three.value ∙ value;
-      others = λ k lo not_d. three.others k not_d ∙ (two.others k (not_scratch 29 k (omega arith) lo) ∙ one.others k (not_scratch 28 k (omega arith) lo));
-      bytes = three.bytes ∙ (two.bytes ∙ one.bytes);
-      output = three.output ∙ (two.output ∙ one.output);
-    })))
-
-leads_operation : (c : Setting) (s : State) (op : Operation) (d a b : ℕ) → b ≢ 28 → IsReg d → IsReg a → IsReg b
-    → Leads (site c) (operation_items op d a b) s (InPlace s d (computed op (s.registers a) (s.registers b)))
-unfolding computed
-leads_operation c s (RegOperation op) d a b other is is_a is_b =
-    leads_so (site c) (operation_items (RegOperation op) d a b) s (Sets s d (reg_value op (s.registers a) (s.registers b)))
-    (InPlace s d (reg_value op (s.registers a) (s.registers b))) (leads_reg (site c) s op d a b is is_a is_b)
-    (λ u f h. set_register s d (reg_value op (s.registers a) (s.registers b)) u h)
-leads_operation c s (RegWOperation op) d a b other is is_a is_b =
-    leads_so (site c) (operation_items (RegWOperation op) d a b) s (Sets s d (regw_value op (s.registers a) (s.registers b)))
-    (InPlace s d (regw_value op (s.registers a) (s.registers b))) (leads_regw (site c) s op d a b is is_a is_b)
-    (λ u f h. set_register s d (regw_value op (s.registers a) (s.registers b)) u h)
-leads_operation c s (Compare on L) d a b other is is_a is_b =
-    leads_so (site c) (compare_items on d a b) s (Sets s d (truth (holds on L (s.registers a) (s.registers b))))
-    (InPlace s d (truth (holds on L (s.registers a) (s.registers b)))) (leads_compare (site c) s on d a b is is_a is_b)
-    (λ u f h. set_register s d (truth (holds on L (s.registers a) (s.registers b))) u h)
-leads_operation c s (Compare on W) d a b other is is_a is_b = leads_words c s on d a b other is is_a is_b
+leads_operation : (c : Setting) (s : State) (op : Operation) (d a b : ℕ) → IsReg d
+    → Leads (site c) (operation_items op d a b) s (Sets s d (made op (in_register s a) (in_register s b)))
+leads_operation c s (RegOperation op) d a b is = leads_reg (site c) s op d a b is
+leads_operation c s (RegWOperation op) d a b is = leads_regw (site c) s op d a b is
+leads_operation c s (Compare on k) d a b is = leads_compare (site c) s on d a b is
 
 -- the result in a register is brought to its place
 pub leads_made : (c : Setting) → IsSetting c → (s : State) (is_made : ℕ → List Item) (v : ℕ) (to : Location) → s.registers 2 ≡ bottom c
@@ -236,36 +256,137 @@ leads_made c is s is_made v (Slot i) pointer good made =
     (λ u f one.
     let same : Scratched s u = record { registers = λ n lo. one.others n lo (not_scratch 28 n (omega arith) lo); bytes = one.bytes; output = one.output } in
     leads_so (site c) (store_slot 28 (slot_offset c.layout i)) u (OnStack u (slot_at c i) (u.registers 28)) (OnStack s (slot_at c i) v)
-    (store_from c is u 28 i is_28 (λ e. absurd (omega (arith, e))) (same.registers 2 (lit< tt) ∙ pointer) good)
+    (subst (λ x. Leads (site c) (store_slot 28 (slot_offset c.layout i)) u (OnStack u (slot_at c i) x)) (register_reg u 28 is_28)
+    (store_from c is u 28 i (lit< tt) (λ e. absurd (omega (arith, e))) (same.registers 2 (lit< tt) ∙ pointer) good))
     (λ w g two. assigned_value c s (Slot i) (u.registers 28) v w one.value (assigned_from c s u (Slot i) (u.registers 28) w same two)))
+
+-- an operand of the operation is read; of the registers only d has changed
+record ReadFor (c : Setting) (s : State) (op : Operation) (d : ℕ) (a : Operand Location) (u : State) : Type 0 where
+  value : in_register u (operand_source op d a) ≡ as_read op (operand_in c s a)
+  others : (n : ℕ) → n ≢ d → u.registers n ≡ s.registers n
+  bytes : u.bytes ≡ s.bytes
+  output : u.output ≡ s.output
+
+fetched_for : (c : Setting) (s : State) (op : Operation) (d : ℕ) (a : Operand Location) (u : State) → operand_source op d a ≡ source d a
+    → operand_in c s a ≡ as_read op (operand_in c s a) → Fetched c s d a u → ReadFor c s op d a u
+fetched_for c s op d a u here same h =
+    record { value = ap (in_register u) here ∙ (h.value ∙ same); others = h.others; bytes = h.bytes; output = h.output }
+
+leads_read : (c : Setting) → IsSetting c → (s : State) (op : Operation) (d : ℕ) (a : Operand Location) → IsReg d → d ≢ 2 → s.registers 2 ≡ bottom c
+    → operand_keeps (is_place c.slots) a ≡ true → Leads (site c) (operand_into c.layout op d a) s (ReadFor c s op d a)
+leads_read c is s (RegOperation op) d a reg other pointer known =
+    leads_so (site c) (fetch c.layout d a) s (Fetched c s d a) (ReadFor c s (RegOperation op) d a) (leads_fetch c is s d a reg other pointer known)
+    (λ u f h. fetched_for c s (RegOperation op) d a u refl refl h)
+leads_read c is s (RegWOperation op) d a reg other pointer known =
+    leads_so (site c) (fetch c.layout d a) s (Fetched c s d a) (ReadFor c s (RegWOperation op) d a) (leads_fetch c is s d a reg other pointer known)
+    (λ u f h. fetched_for c s (RegWOperation op) d a u refl refl h)
+leads_read c is s (Compare on L) d a reg other pointer known =
+    leads_so (site c) (fetch c.layout d a) s (Fetched c s d a) (ReadFor c s (Compare on L) d a) (leads_fetch c is s d a reg other pointer known)
+    (λ u f h. fetched_for c s (Compare on L) d a u refl refl h)
+leads_read c is s (Compare on W) d a reg other pointer known =
+    leads_so (site c) (word_into c.layout d a) s (Sets s d (word (operand_in c s a))) (ReadFor c s (Compare on W) d a)
+    (leads_word_into c is s d a reg other pointer known)
+    (λ u f h. record { value = register_reg u d reg ∙ h.value; others = h.others; bytes = h.bytes; output = h.output })
+
+read_scratched : (c : Setting) (s : State) (op : Operation) (d : ℕ) (a : Operand Location) (u : State) → 28 ≤ d → ReadFor c s op d a u → Scratched s u
+read_scratched c s op d a u h f = record { registers = λ n lo. f.others n (not_scratch d n h lo); bytes = f.bytes; output = f.output }
+
+read_small : (slots : ℕ) (op : Operation) (d : ℕ) (a : Operand Location) → d < 32 → operand_keeps (is_place slots) a ≡ true → operand_source op d a < 32
+read_small slots (RegOperation op) d a h good = source_small slots d a h good
+read_small slots (RegWOperation op) d a h good = source_small slots d a h good
+read_small slots (Compare on L) d a h good = source_small slots d a h good
+read_small slots (Compare on W) d a h good = h
+
+read_not_29 : (slots : ℕ) (op : Operation) (a : Operand Location) → operand_keeps (is_place slots) a ≡ true → operand_source op 28 a ≢ 29
+read_not_29 slots (RegOperation op) a good = source_not_29 slots a good
+read_not_29 slots (RegWOperation op) a good = source_not_29 slots a good
+read_not_29 slots (Compare on L) a good = source_not_29 slots a good
+read_not_29 slots (Compare on W) a good = λ e. absurd (omega (arith, e))
+
+-- the other operand is in the form
+leads_by_form : (c : Setting) → IsSetting c → (s : State) (to : Location) (op : Operation) (a : Operand Location) (form : Form) (g : ℕ → ℕ) (v : ℕ)
+    → s.registers 2 ≡ bottom c → is_place c.slots to ≡ true → operand_keeps (is_place c.slots) a ≡ true → IsFormOf g form
+    → g (as_read op (operand_in c s a)) ≡ v → Leads (site c) (by_form c.layout to op a form) s (Assigned c s to v)
+leads_by_form c is s to op a form g v pointer good known does value =
+    let x : ℕ = operand_source op 28 a in
+    leads_then (site c) (operand_into c.layout op 28 a) (form_items form (target to) x ++ deliver c.layout to) s (ReadFor c s op 28 a) (Assigned c s to v)
+    (leads_read c is s op 28 a is_28 (λ e. absurd (omega (arith, e))) pointer known)
+    (λ u f one.
+    let same = read_scratched c s op 28 a u (omega arith) one in
+    let w : ℕ = g (in_register u x) in
+    leads_so (site c) (form_items form (target to) x ++ deliver c.layout to) u (Assigned c u to w) (Assigned c s to v)
+    (leads_made c is u (λ d. form_items form d x) w to (same.registers 2 (lit< tt) ∙ pointer) good
+    (λ d reg other.
+    leads_so (site c) (form_items form d x) u (Sets u d w) (InPlace u d w) (leads_form (site c) u g form d x reg does) (λ t h two. set_register u d w t two)))
+    (λ t h two. assigned_value c s to w v t (ap g one.value ∙ value) (assigned_from c s u to w t same two)))
+
+leads_on_registers : (c : Setting) → IsSetting c → (s : State) (to : Location) (op : Operation) (a b : Operand Location) → s.registers 2 ≡ bottom c
+    → is_place c.slots to ≡ true → operand_keeps (is_place c.slots) a ≡ true → operand_keeps (is_place c.slots) b ≡ true
+    → Leads (site c) (on_registers c.layout to op a b) s (Assigned c s to (computed op (operand_in c s a) (operand_in c s b)))
+leads_on_registers c is s to op a b pointer good known_a known_b =
+    let x = operand_source op 28 a in
+    let y = operand_source op 29 b in
+    let v : ℕ = computed op (operand_in c s a) (operand_in c s b) in
+    leads_then (site c) (operand_into c.layout op 28 a) (operand_into c.layout op 29 b ++ (operation_items op (target to) x y ++ deliver c.layout to)) s
+    (ReadFor c s op 28 a) (Assigned c s to v) (leads_read c is s op 28 a is_28 (λ e. absurd (omega (arith, e))) pointer known_a)
+    (λ u f one.
+    let same = read_scratched c s op 28 a u (omega arith) one in
+    let pointer_u = same.registers 2 (lit< tt) ∙ pointer in
+    leads_then (site c) (operand_into c.layout op 29 b) (operation_items op (target to) x y ++ deliver c.layout to) u (ReadFor c u op 29 b) (Assigned c s to v)
+    (leads_read c is u op 29 b is_29 (λ e. absurd (omega (arith, e))) pointer_u known_b)
+    (λ w g two.
+    let same_w = read_scratched c u op 29 b w (omega arith) two in
+    let all = scratched_then s u w same same_w in
+    let left : in_register w x ≡ as_read op (operand_in c s a) =
+    same_in_register u w x (read_small c.slots op 28 a (lit< tt) known_a) (two.others x (read_not_29 c.slots op a known_a)) ∙ one.value in
+    let right : in_register w y ≡ as_read op (operand_in c s b) = two.value ∙ ap (as_read op) (operand_same c s u b known_b same) in
+    let n : ℕ = made op (in_register w x) (in_register w y) in
+    let is_v : n ≡ v =
+    ap (λ m. made op m (in_register w y)) left
+    ∙ (ap (made op (as_read op (operand_in c s a))) right ∙ computed_is op (operand_in c s a) (operand_in c s b)) in
+    leads_so (site c) (operation_items op (target to) x y ++ deliver c.layout to) w (Assigned c w to n) (Assigned c s to v)
+    (leads_made c is w (λ d. operation_items op d x y) n to (same_w.registers 2 (lit< tt) ∙ pointer_u) good
+    (λ d reg other.
+    leads_so (site c) (operation_items op d x y) w (Sets w d n) (InPlace w d n) (leads_operation c w op d x y reg) (λ t h three. set_register w d n t three)))
+    (λ t h three. assigned_value c s to n v t is_v (assigned_from c s w to n t all three))))
+
+-- an operand that is no number gives no form
+left_of_none : {X : Type 0} (op : Operation) (form : Form) (a : Operand Location) → ((o : Operation) → right_form o a ≡ None) → left_form op a ≡ Some form → X
+left_of_none {X} op form a none e = by_swapped (swapped op) e
+  where
+    by_swapped : (o : Option Operation) → option_and_then (λ q. right_form q a) o ≡ Some form → X
+    by_swapped None e = nothing_given form e
+    by_swapped (Some q) e = nothing_given form (sym (none q) ∙ e)
 
 pub leads_operate_line : (c : Setting) → IsSetting c → (s : State) (to : Location) (op : Operation) (a b : Operand Location) → s.registers 2 ≡ bottom c
     → is_place c.slots to ≡ true → operand_keeps (is_place c.slots) a ≡ true → operand_keeps (is_place c.slots) b ≡ true
     → Leads (site c) (operate_items c.layout to op a b) s (Assigned c s to (computed op (operand_in c s a) (operand_in c s b)))
-leads_operate_line c is s to op a b pointer good known_a known_b =
-    let x = source 28 a in
-    let y = source 29 b in
-    let v : ℕ = computed op (operand_in c s a) (operand_in c s b) in
-    leads_then (site c) (fetch c.layout 28 a) (fetch c.layout 29 b ++ (operation_items op (target to) x y ++ deliver c.layout to)) s (Fetched c s 28 a)
-    (Assigned c s to v) (leads_fetch c is s 28 a is_28 (λ e. absurd (omega (arith, e))) pointer known_a)
-    (λ u f one.
-    let same = fetched_scratched c s 28 a u (omega arith) one in
-    let pointer_u = same.registers 2 (lit< tt) ∙ pointer in
-    leads_then (site c) (fetch c.layout 29 b) (operation_items op (target to) x y ++ deliver c.layout to) u (Fetched c u 29 b) (Assigned c s to v)
-    (leads_fetch c is u 29 b is_29 (λ e. absurd (omega (arith, e))) pointer_u known_b)
-    (λ w g two.
-    let same_w = fetched_scratched c u 29 b w (omega arith) two in
-    let all = scratched_then s u w same same_w in
-    let left : w.registers x ≡ operand_in c s a = two.others x (source_not_29 c.slots a known_a) ∙ one.value in
-    let right : w.registers y ≡ operand_in c s b = two.value ∙ operand_same c s u b known_b same in
-    let is_v : computed op (w.registers x) (w.registers y) ≡ v =
-    ap (λ n. computed op n (w.registers y)) left ∙ ap (computed op (operand_in c s a)) right in
-    leads_so (site c) (operation_items op (target to) x y ++ deliver c.layout to) w (Assigned c w to (computed op (w.registers x) (w.registers y)))
-    (Assigned c s to v)
-    (leads_made c is w (λ d. operation_items op d x y) (computed op (w.registers x) (w.registers y)) to (same_w.registers 2 (lit< tt) ∙ pointer_u) good
-    (λ d reg other. leads_operation c w op d x y (source_not_28 c.slots b known_b) reg (source_reg c.slots 28 a is_28 known_a) (source_reg c.slots 29 b is_29 known_b)))
-    (λ t h three. assigned_value c s to (computed op (w.registers x) (w.registers y)) v t is_v
-    (assigned_from c s w to (computed op (w.registers x) (w.registers y)) t all three))))
+leads_operate_line c is s to op a b pointer good known_a known_b = by_forms (right_form op b) refl (left_form op a) refl
+  where
+    v : ℕ
+    v = computed op (operand_in c s a) (operand_in c s b)
+
+    by_right : (form : Form) (x : Operand Location) → right_form op x ≡ Some form
+        → Leads (site c) (by_form c.layout to op a form) s (Assigned c s to (computed op (operand_in c s a) (operand_in c s x)))
+    by_right form (Number n) e =
+        leads_by_form c is s to op a form (λ x. made op x (as_read op (n % 2 ^ 64))) (computed op (operand_in c s a) (n % 2 ^ 64)) pointer good known_a
+        (number_form_is op n form e) (computed_is op (operand_in c s a) (n % 2 ^ 64))
+    by_right form (At p) e = nothing_given form e
+    by_right form (Name g) e = nothing_given form e
+
+    by_left : (form : Form) (x : Operand Location) → left_form op x ≡ Some form
+        → Leads (site c) (by_form c.layout to op b form) s (Assigned c s to (computed op (operand_in c s x) (operand_in c s b)))
+    by_left form (Number n) e =
+        leads_by_form c is s to op b form (λ x. made op (as_read op (n % 2 ^ 64)) x) (computed op (n % 2 ^ 64) (operand_in c s b)) pointer good known_b
+        (left_form_is op n form e) (computed_is op (n % 2 ^ 64) (operand_in c s b))
+    by_left form (At p) e = left_of_none op form (At p) (λ o. refl) e
+    by_left form (Name g) e = left_of_none op form (Name g) (λ o. refl) e
+
+    by_forms : (right : Option Form) → right_form op b ≡ right → (left : Option Form) → left_form op a ≡ left
+        → Leads (site c) (operate_by c.layout to op a b right left) s (Assigned c s to v)
+    by_forms (Some form) e left d = by_right form b e
+    by_forms None e (Some form) d = by_left form a d
+    by_forms None e None d = leads_on_registers c is s to op a b pointer good known_a known_b
 
 -- ---- a load
 
@@ -287,6 +408,6 @@ leads_load_line c is s to op at pointer good known usable =
     (leads_made c is u (λ d. load_to op d y ∷ []) w to (same.registers 2 (lit< tt) ∙ pointer) good
     (λ d reg other.
     leads_so (site c) (load_to op d y ∷ []) u (Sets u d w) (InPlace u d w)
-    (leads_load_at (site c) u op d y x reg (source_reg c.slots 28 at is_28 known) f one.value usable)
+    (leads_load_at (site c) u op d y x reg f one.value usable)
     (λ t h two. set_register u d w t two)))
     (λ t h two. assigned_value c s to w v t value (assigned_from c s u to w t same two)))

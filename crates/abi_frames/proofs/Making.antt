@@ -22,7 +22,8 @@ use Rattle.flat_code.specs.Flat.{FlatGiven, FlatOutcome}
 use Rattle.flat_code.specs.Step.{FlatState, Numbers, put, is_in, opened, goes_on}
 use Rattle.abi_frames.specs.Calls.{IsUsable}
 use Rattle.abi_frames.specs.Performs.{AllPerform}
-use Rattle.abi_frames.specs.Emission.{reg, high, add_low, sum_to, address_at, alloc_items, line_items}
+use Rattle.abi_frames.specs.Fields.{reg, high, add_low, sum_to}
+use Rattle.abi_frames.specs.Emission.{address_at, alloc_items, line_items}
 use Rattle.abi_frames.proofs.Leading.{Site, Leads, leads_so, leads_again, Sets, IsReg, register_reg}
 use Rattle.abi_frames.proofs.Instructions.{leads_add_low, near_address, far_address, high_part, is_2}
 use Rattle.abi_frames.proofs.Activations.{Setting, IsSetting, site, bottom, InPlace, Framed, Assigned, assigned, assigned_output}

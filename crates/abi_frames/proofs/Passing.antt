@@ -19,11 +19,12 @@ use Rattle.vcode.specs.Named.{is_place, operand_keeps}
 use Rattle.flat_code.specs.Step.{taken}
 use Rattle.abi_frames.specs.Calls.{passed}
 use Rattle.abi_frames.specs.Covered.{is_off_arguments}
-use Rattle.abi_frames.specs.Emission.{extend, store_8, into, pass_into, pass_items, pass_all}
+use Rattle.abi_frames.specs.Fields.{store_8}
+use Rattle.abi_frames.specs.Emission.{word_into, pass_into, pass_items, pass_all}
 use Rattle.abi_frames.proofs.Leading.{Leads, leads_nowhere, leads_then, leads_so, Sets, IsReg}
-use Rattle.abi_frames.proofs.Instructions.{Writes, leads_extend, leads_store, near_address, is_2, is_28}
+use Rattle.abi_frames.proofs.Instructions.{Writes, leads_store, near_address, is_2, is_28}
 use Rattle.abi_frames.proofs.Activations.{Setting, IsSetting, site, bottom, slot_at, operand_in, place_is, in_frame}
-use Rattle.abi_frames.proofs.LineCode.{leads_into}
+use Rattle.abi_frames.proofs.LineCode.{leads_into, leads_word_into}
 
 -- ---- what the moves leave as it was
 
@@ -88,17 +89,8 @@ pub leads_argument : (c : Setting) → IsSetting c → (s : State) (d : ℕ) (k 
 leads_argument c is s d L a reg other pointer known = leads_into c is s d a reg other pointer known
 leads_argument c is s d W a reg other pointer known =
     let v : ℕ = operand_in c s a in
-    leads_then (site c) (into c.layout d a) (extend d d ∷ []) s (Sets s d v) (Sets s d (sign_extended (v % 2 ^ 32 % 2 ^ 32)))
-    (leads_into c is s d a reg other pointer known)
-    (λ u f one.
-    leads_so (site c) (extend d d ∷ []) u (Sets u d (sign_extended (u.registers d % 2 ^ 32))) (Sets s d (sign_extended (v % 2 ^ 32 % 2 ^ 32)))
-    (leads_extend (site c) u d d reg reg)
-    (λ w g two. record {
-      value = two.value ∙ (ap (λ n. sign_extended (n % 2 ^ 32)) one.value ∙ ap sign_extended (word_again v));
-      others = λ n differs. two.others n differs ∙ one.others n differs;
-      bytes = two.bytes ∙ one.bytes;
-      output = two.output ∙ one.output;
-    }))
+    subst (λ x. Leads (site c) (word_into c.layout d a) s (Sets s d x)) (ap sign_extended (word_again v))
+    (leads_word_into c is s d a reg other pointer known)
 
 one_argument : (i : ℕ) (a b : Argument Location) → slice_get (a ∷ []) i ≡ Some b → (i ≡ 0) × (a ≡ b)
 one_argument zero a b e = (refl, same a b e)

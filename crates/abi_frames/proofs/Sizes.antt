@@ -1,6 +1,7 @@
 -- The code of a line is no longer than the line's cost, and so that of a function within its price.
-use Rattle.std.proofs.Common.{suc, zero, ◌/◌, ◌≡◌, ℕ, ◌+◌, ◌-◌, ◌*◌, ◌%◌, ◌^◌, ◌<◌, ◌≤◌, Bool, true, false, List, [], ◌∷◌, ◌++◌, refl, arith, lit≤}
-use Rattle.std.specs.Prelude.{◌&&◌, nat_le, nat_lt, if◌then◌else◌, length, Option, Some, None}
+use Rattle.std.proofs.Common.{suc, zero, ◌/◌, ◌≡◌, ℕ, ◌+◌, ◌-◌, ◌*◌, ◌%◌, ◌^◌, ◌<◌, ◌≤◌, Bool, true, false, List, [], ◌∷◌, ◌++◌, refl, ap, arith, lit≤}
+use Rattle.bits.specs.Words.{sign_extended}
+use Rattle.std.specs.Prelude.{◌&&◌, nat_eq, nat_le, nat_lt, if◌then◌else◌, length, Option, Some, None}
 use Rattle.std.specs.List.{list_all, sum_by}
 use Rattle.std.proofs.lemmas.Bool.{and_parts}
 use Rattle.std.proofs.lemmas.Bool.Decides.{nat_tests}
@@ -16,7 +17,7 @@ use Rattle.rv_isa.specs.declared.instruction.LoadOp.TheVariants.{Lwu, Lhu, Lbu}
 use Rattle.rv_isa.specs.declared.instruction.StoreOp.{StoreOp}
 use Rattle.rv_isa.specs.declared.instruction.StoreOp.TheVariants.{Sb, Sh, Sw}
 use Rattle.rv_isa.specs.declared.labelled.Item.{Item}
-use Rattle.rv_isa.specs.declared.instruction.Instr.TheVariants.{Lui}
+use Rattle.rv_isa.specs.declared.instruction.Instr.TheVariants.{Lui, Addiw}
 use Rattle.rv_isa.specs.declared.labelled.Item.TheVariants.{Plain, Label, Branch as BranchTo, Goto as GoTo}
 use Rattle.std.proofs.lemmas.List.Sums.{sum_by-cons}
 use Rattle.vcode.specs.declared.place.Location.{Location}
@@ -41,19 +42,33 @@ use Rattle.abi_frames.specs.Layout.{layout, saved_registers}
 use Rattle.abi_frames.proofs.Saving.{few_saved_registers}
 use Rattle.abi_frames.specs.Laws.{FramesAreSmall}
 use Rattle.abi_frames.specs.declared.layout.Layout.{Layout}
-use Rattle.abi_frames.specs.Emission.{reg, add_low, extend, long_constant, constant, load_8, store_8, far_load, far_store, sum_to, load_slot, store_slot, slot_offset, into, fetch, source, target, deliver, set_items, compare_items, operation_items, operate_items, load_to, load_items, store_at, store_op, store_items, line_items, lines_items, move_pointer, save_all, restore_all, go_back, prologue, epilogue, result_items, jump_items, block_items, blocks_items, pass_into, pass_items, pass_all, call_through, receive_items, call_items, copy_at, copy_eight, copy_eights, copy_rest, blit_items, address_at, alloc_items, high}
+use Rattle.abi_frames.specs.Fields.{reg, low, high, add_low, extend, sum_to, load_8, store_8, long_constant, word, is_word, word_constant, constant, is_zero, is_not_zero}
+use Rattle.abi_frames.specs.Immediates.{opposite, right_form, left_form, compare_number, form_items}
+use Rattle.abi_frames.specs.declared.immediate.Form.{Form}
+use Rattle.abi_frames.specs.declared.immediate.Form.TheVariants.{Immediate as ByImmediate, AddWord, Shift as ByShift, ShiftWord, Compare as ByComparison}
+use Rattle.abi_frames.proofs.FormNumbers.{word_low, word_is_small}
+use Rattle.abi_frames.specs.Emission.{far_load, far_store, load_slot, store_slot, slot_offset, into, fetch, source, word_into, target, deliver, set_items, compare_items, operation_items, operand_into, operand_source, on_registers, by_form, operate_by, operate_items, load_to, load_items, store_at, store_op, store_items, line_items, lines_items, move_pointer, save_all, restore_all, go_back, prologue, epilogue, result_items, jump_items, block_items, blocks_items, pass_into, pass_items, pass_all, call_through, receive_items, call_items, copy_at, copy_eight, copy_eights, copy_rest, blit_items, address_at, alloc_items}
 use Rattle.abi_frames.specs.Functions.{caller_pointer, from_register, from_stack, argument_items, arguments_items, pointer_items, entry_items, function_items}
 use Rattle.abi_frames.proofs.Leading.{longest-append}
 use Rattle.abi_frames.proofs.Outgoing.{slots_near}
 
 -- ---- lines
 
-constant_size : (d n : ℕ) → longest_size (constant d n) ≤ (if is_immediate n then 1 else 9)
-constant_size d n = by_test (is_immediate n)
+word_size : (d m : ℕ) → longest_size (word_constant d m) ≤ 2
+word_size d m = by_test (nat_eq (m % 4096) 0)
   where
-    by_test : (b : Bool) → longest_size (if b then add_low d 0 n ∷ [] else long_constant d (n % 2 ^ 64)) ≤ (if b then 1 else 9)
+    by_test : (b : Bool) → longest_size (Plain (Lui (reg d) (high m)) ∷ (if b then [] else Plain (Addiw (reg d) (reg d) (low m)) ∷ [])) ≤ 2
     by_test true = lit≤ tt
     by_test false = lit≤ tt
+
+constant_size : (d n : ℕ) → longest_size (constant d n) ≤ (if is_immediate n then 1 else 9)
+constant_size d n = by_test (is_immediate n) (is_word n)
+  where
+    by_test : (b t : Bool)
+        → longest_size (if b then add_low d 0 n ∷ [] else if t then word_constant d (n % 2 ^ 32) else long_constant d (n % 2 ^ 64)) ≤ (if b then 1 else 9)
+    by_test true t = lit≤ tt
+    by_test false true = let h = word_size d (n % 2 ^ 32) in omega (arith, h)
+    by_test false false = lit≤ tt
 
 load_size : (d o : ℕ) → longest_size (load_slot d o) ≤ 3
 load_size d o = by_test (nat_lt o 2048)
@@ -72,14 +87,70 @@ store_size v o = by_test (nat_lt o 2048)
 pub fetch_size : (y : Layout) (d : ℕ) (a : Operand Location) → longest_size (fetch y d a) ≤ operand_cost a
 fetch_size y d (At (InRegister r)) = lit≤ tt
 fetch_size y d (At (Slot i)) = load_size d (slot_offset y i)
-fetch_size y d (Number n) = constant_size d n
+fetch_size y d (Number n) = by_test (nat_eq n 0)
+  where
+    by_test : (b : Bool) → longest_size (if b then [] else constant d n) ≤ (if is_immediate n then 1 else 9)
+    by_test true = omega arith
+    by_test false = constant_size d n
 fetch_size y d (Name g) = lit≤ tt
 
 pub into_size : (y : Layout) (d : ℕ) (a : Operand Location) → longest_size (into y d a) ≤ operand_cost a
-into_size y d (At (InRegister r)) = lit≤ tt
+into_size y d (At (InRegister r)) = by_test (nat_eq d r)
+  where
+    by_test : (b : Bool) → longest_size (if b then [] else add_low d r 0 ∷ []) ≤ 3
+    by_test true = lit≤ tt
+    by_test false = lit≤ tt
 into_size y d (At (Slot i)) = load_size d (slot_offset y i)
 into_size y d (Number n) = constant_size d n
 into_size y d (Name g) = lit≤ tt
+
+extended_size : (y : Layout) (d : ℕ) (a : Operand Location) → longest_size (fetch y d a ++ (extend d (source d a) ∷ [])) ≤ operand_cost a + 1
+extended_size y d a =
+    let all = longest-append (fetch y d a) (extend d (source d a) ∷ []) in
+    let h = fetch_size y d a in
+    omega (arith, all, h)
+
+constant_at_most_9 : (d n : ℕ) → longest_size (constant d n) ≤ 9
+constant_at_most_9 d n = by_test (is_immediate n) (constant_size d n)
+  where
+    by_test : (b : Bool) → longest_size (constant d n) ≤ (if b then 1 else 9) → longest_size (constant d n) ≤ 9
+    by_test true h = omega (arith, h)
+    by_test false h = h
+
+some_cost : (n : ℕ) → 1 ≤ operand_cost {P = Location} (Number n)
+some_cost n = by_test (is_immediate n)
+  where
+    by_test : (b : Bool) → 1 ≤ (if b then 1 else 9)
+    by_test true = lit≤ tt
+    by_test false = lit≤ tt
+
+-- a number of 32 bits takes two at most
+constant_of_word_size : (d n : ℕ) → longest_size (constant d (word n)) ≤ 2
+constant_of_word_size d n = by_test (is_immediate (word n)) (is_word (word n)) refl
+  where
+    same : nat_eq (word (word n)) (word n % 2 ^ 64) ≡ true
+    same =
+        let e : word (word n) ≡ word n = ap sign_extended (word_low n) in
+        let d = word_is_small n in
+        grind (arith, nat_tests)
+
+    two_ways : (b : Bool) → b ≡ true → b ≡ false → ⊥
+    two_ways b e d = cc
+
+    by_test : (b t : Bool) → is_word (word n) ≡ t
+        → longest_size
+        (if b then add_low d 0 (word n) ∷ [] else if t then word_constant d (word n % 2 ^ 32) else long_constant d (word n % 2 ^ 64)) ≤ 2
+    by_test true t e = lit≤ tt
+    by_test false true e = word_size d (word n % 2 ^ 32)
+    by_test false false e = absurd (two_ways (is_word (word n)) same e)
+
+pub word_into_size : (y : Layout) (d : ℕ) (a : Operand Location) → longest_size (word_into y d a) ≤ operand_cost a + 1
+word_into_size y d (At p) = extended_size y d (At p)
+word_into_size y d (Number n) =
+    let h = constant_of_word_size d n in
+    let some = some_cost n in
+    omega (arith, h, some)
+word_into_size y d (Name g) = extended_size y d (Name g)
 
 set_size : (y : Layout) (to : Location) (a : Operand Location) → longest_size (set_items y to a) ≤ operand_cost a + 3
 set_size y (InRegister r) a = let h = into_size y r a in omega (arith, h)
@@ -101,28 +172,101 @@ compare_size UnsignedGreater d a b = lit≤ tt
 compare_size UnsignedLessEqual d a b = lit≤ tt
 compare_size UnsignedGreaterEqual d a b = lit≤ tt
 
-operation_size : (op : Operation) (d a b : ℕ) → longest_size (operation_items op d a b) ≤ operation_cost op
-operation_size (RegOperation op) d a b = lit≤ tt
-operation_size (RegWOperation op) d a b = lit≤ tt
-operation_size (Compare on L) d a b = let h = compare_size on d a b in omega (arith, h)
-operation_size (Compare on W) d a b = let h = compare_size on d 28 29 in omega (arith, h)
+compare_number_size : (on : Condition) (d a n : ℕ) → longest_size (compare_number on d a n) ≤ 2
+compare_number_size Equal d a n = by_test (nat_eq n 0)
+  where
+    by_test : (b : Bool) → longest_size (if b then is_zero d a ∷ [] else add_low d a (opposite n) ∷ is_zero d d ∷ []) ≤ 2
+    by_test true = lit≤ tt
+    by_test false = lit≤ tt
+compare_number_size NotEqual d a n = by_test (nat_eq n 0)
+  where
+    by_test : (b : Bool) → longest_size (if b then is_not_zero d a ∷ [] else add_low d a (opposite n) ∷ is_not_zero d d ∷ []) ≤ 2
+    by_test true = lit≤ tt
+    by_test false = lit≤ tt
+compare_number_size SignedLess d a n = lit≤ tt
+compare_number_size SignedLessEqual d a n = lit≤ tt
+compare_number_size SignedGreater d a n = lit≤ tt
+compare_number_size SignedGreaterEqual d a n = lit≤ tt
+compare_number_size UnsignedLess d a n = lit≤ tt
+compare_number_size UnsignedLessEqual d a n = lit≤ tt
+compare_number_size UnsignedGreater d a n = lit≤ tt
+compare_number_size UnsignedGreaterEqual d a n = lit≤ tt
+
+form_size : (form : Form) (d a : ℕ) → longest_size (form_items form d a) ≤ 2
+form_size (ByImmediate op n) d a = lit≤ tt
+form_size (AddWord n) d a = lit≤ tt
+form_size (ByShift op n) d a = lit≤ tt
+form_size (ShiftWord op n) d a = lit≤ tt
+form_size (ByComparison on n) d a = compare_number_size on d a n
 
 deliver_size : (y : Layout) (to : Location) → longest_size (deliver y to) ≤ 3
 deliver_size y (InRegister r) = lit≤ tt
 deliver_size y (Slot i) = store_size 28 (slot_offset y i)
 
-operate_size : (y : Layout) (to : Location) (op : Operation) (a b : Operand Location)
-    → longest_size (operate_items y to op a b) ≤ operand_cost a + operand_cost b + operation_cost op + 3
-operate_size y to op a b =
-    let made = operation_items op (target to) (source 28 a) (source 29 b) in
-    let one = longest-append (fetch y 28 a) (fetch y 29 b ++ (made ++ deliver y to)) in
-    let two = longest-append (fetch y 29 b) (made ++ deliver y to) in
+-- how much more an operand takes that is extended
+abbrev extending : Operation → ℕ
+extending (Compare on k) = 1
+extending (RegOperation op) = 0
+extending (RegWOperation op) = 0
+
+read_size : (y : Layout) (op : Operation) (d : ℕ) (a : Operand Location) → longest_size (operand_into y op d a) ≤ operand_cost a + extending op
+read_size y (RegOperation op) d a = let h = fetch_size y d a in omega (arith, h)
+read_size y (RegWOperation op) d a = let h = fetch_size y d a in omega (arith, h)
+read_size y (Compare on L) d a = let h = fetch_size y d a in omega (arith, h)
+read_size y (Compare on W) d a = word_into_size y d a
+
+some_operand_cost : (a : Operand Location) → 1 ≤ operand_cost a
+some_operand_cost (At p) = lit≤ tt
+some_operand_cost (Number n) = some_cost n
+some_operand_cost (Name g) = lit≤ tt
+
+-- an operation on registers, and one with a number in it
+enough_cost : (op : Operation) (d a b : ℕ) → longest_size (operation_items op d a b) + 2 * extending op ≤ operation_cost op
+enough_cost (RegOperation op) d a b = lit≤ tt
+enough_cost (RegWOperation op) d a b = lit≤ tt
+enough_cost (Compare on k) d a b = let h = compare_size on d a b in omega (arith, h)
+
+enough_for_form : (op : Operation) → 1 + extending op ≤ operation_cost op
+enough_for_form (RegOperation op) = lit≤ tt
+enough_for_form (RegWOperation op) = lit≤ tt
+enough_for_form (Compare on k) = lit≤ tt
+
+by_form_size : (y : Layout) (to : Location) (op : Operation) (a b : Operand Location) (form : Form)
+    → longest_size (by_form y to op a form) ≤ operand_cost a + operand_cost b + operation_cost op + 3
+by_form_size y to op a b form =
+    let x : ℕ = operand_source op 28 a in
+    let one = longest-append (operand_into y op 28 a) (form_items form (target to) x ++ deliver y to) in
+    let two = longest-append (form_items form (target to) x) (deliver y to) in
+    let h = read_size y op 28 a in
+    let k = form_size form (target to) x in
+    let n = deliver_size y to in
+    let some = some_operand_cost b in
+    let enough = enough_for_form op in
+    omega (arith, one, two, h, k, n, some, enough)
+
+on_registers_size : (y : Layout) (to : Location) (op : Operation) (a b : Operand Location)
+    → longest_size (on_registers y to op a b) ≤ operand_cost a + operand_cost b + operation_cost op + 3
+on_registers_size y to op a b =
+    let p : ℕ = operand_source op 28 a in
+    let q : ℕ = operand_source op 29 b in
+    let made = operation_items op (target to) p q in
+    let one = longest-append (operand_into y op 28 a) (operand_into y op 29 b ++ (made ++ deliver y to)) in
+    let two = longest-append (operand_into y op 29 b) (made ++ deliver y to) in
     let three = longest-append made (deliver y to) in
-    let h = fetch_size y 28 a in
-    let k = fetch_size y 29 b in
-    let m = operation_size op (target to) (source 28 a) (source 29 b) in
+    let h = read_size y op 28 a in
+    let k = read_size y op 29 b in
+    let m = enough_cost op (target to) p q in
     let n = deliver_size y to in
     omega (arith, one, two, three, h, k, m, n)
+
+operate_size : (y : Layout) (to : Location) (op : Operation) (a b : Operand Location)
+    → longest_size (operate_items y to op a b) ≤ operand_cost a + operand_cost b + operation_cost op + 3
+operate_size y to op a b = by_forms (right_form op b) (left_form op a)
+  where
+    by_forms : (right left : Option Form) → longest_size (operate_by y to op a b right left) ≤ operand_cost a + operand_cost b + operation_cost op + 3
+    by_forms (Some form) left = by_form_size y to op a b form
+    by_forms None (Some form) = let h = by_form_size y to op b a form in omega (arith, h)
+    by_forms None None = on_registers_size y to op a b
 
 load_line_size : (y : Layout) (to : Location) (op : LoadOp) (at : Operand Location) → longest_size (load_items y to op at) ≤ operand_cost at + 1 + 3
 load_line_size y to op at =
@@ -157,10 +301,9 @@ pass_into_size y d L a =
     let most = operand_at_most_9 a in
     omega (arith, h, most)
 pass_into_size y d W a =
-    let all = longest-append (into y d a) (extend d d ∷ []) in
-    let h = into_size y d a in
+    let h = word_into_size y d a in
     let most = operand_at_most_9 a in
-    omega (arith, all, h, most)
+    omega (arith, h, most)
 
 pass_size : (y : Layout) (k : ℕ) (a : Argument Location) → longest_size (pass_items y k a) ≤ 11
 pass_size y k a = by_test (nat_lt k 8)
@@ -283,18 +426,15 @@ line_size y used (Call to callee args) = call_size y to callee args
 
 result_size : (y : Layout) (k : Option Class) (a : Operand Location) → longest_size (result_items y k a) ≤ operand_cost a + 1
 result_size y None a = omega arith
-result_size y (Some W) a =
-    let all = longest-append (into y 10 a) (extend 10 10 ∷ []) in
-    let h = into_size y 10 a in
-    omega (arith, all, h)
+result_size y (Some W) a = word_into_size y 10 a
 result_size y (Some L) a = let h = into_size y 10 a in omega (arith, h)
 
 pub jump_size : (y : Layout) (j : Jump Location) → longest_size (jump_items y j) ≤ jump_cost j
 jump_size y (Goto k) = lit≤ tt
 jump_size y (Branch on nonzero otherwise) =
-    let rest : List Item = extend 28 (source 28 on) ∷ BranchTo Bne (reg 28) (reg 0) nonzero ∷ GoTo otherwise ∷ [] in
-    let all = longest-append (fetch y 28 on) rest in
-    let h = fetch_size y 28 on in
+    let rest : List Item = BranchTo Bne (reg 28) (reg 0) nonzero ∷ GoTo otherwise ∷ [] in
+    let all = longest-append (word_into y 28 on) rest in
+    let h = word_into_size y 28 on in
     omega (arith, all, h)
 jump_size y (Return None) = lit≤ tt
 jump_size y (Return (Some a)) =
@@ -376,12 +516,8 @@ move_size n = by_test (is_immediate n)
     by_test true = lit≤ tt
     by_test false =
         let all = longest-append (constant 28 n) (sum_to 2 2 28 ∷ []) in
-        let h = at_most_9 (is_immediate n) (constant_size 28 n) in
+        let h = constant_at_most_9 28 n in
         omega (arith, all, h)
-      where
-        at_most_9 : (b : Bool) → longest_size (constant 28 n) ≤ (if b then 1 else 9) → longest_size (constant 28 n) ≤ 9
-        at_most_9 true h = omega (arith, h)
-        at_most_9 false h = h
 
 saves_size : (o : ℕ) (rs : List ℕ) → longest_size (save_all o rs) ≡ length rs
 saves_size o [] = refl
@@ -443,13 +579,8 @@ pointer_size y params = by_test (nat_lt 8 params)
     by_test false = omega arith
     by_test true =
         let all = longest-append (constant 30 y.size) (sum_to 30 30 2 ∷ []) in
-        let h = constant_size 30 y.size in
-        let nine = at_most_9 (is_immediate y.size) h in
-        omega (arith, all, nine)
-      where
-        at_most_9 : (b : Bool) → longest_size (constant 30 y.size) ≤ (if b then 1 else 9) → longest_size (constant 30 y.size) ≤ 9
-        at_most_9 true h = omega (arith, h)
-        at_most_9 false h = h
+        let h = constant_at_most_9 30 y.size in
+        omega (arith, all, h)
 
 pub entry_size : (y : Layout) (params : List (Destination Location)) → y.slots < 1024 → length params ≤ 64 → are_near params ≡ true
     → longest_size (entry_items y params) ≤ 138

@@ -27,12 +27,13 @@ use Rattle.flat_code.specs.Flat.{FlatGiven, FlatOutcome}
 use Rattle.flat_code.specs.Step.{all_there, is_in, with_number, stored as stored_spots, FlatState, number_of, read, taken, changes, goes_on}
 use Rattle.abi_frames.specs.Calls.{HoldsSpots}
 use Rattle.abi_frames.specs.Performs.{AllPerform}
-use Rattle.abi_frames.specs.Emission.{low, fetch, source, store_at, store_op, store_items, line_items}
-use Rattle.abi_frames.proofs.Leading.{Leads, leads_then, leads_so}
+use Rattle.abi_frames.specs.Fields.{low}
+use Rattle.abi_frames.specs.Emission.{fetch, source, store_at, store_op, store_items, line_items}
+use Rattle.abi_frames.proofs.Leading.{Leads, leads_then, leads_so, in_register, same_in_register, in_register_small}
 use Rattle.abi_frames.proofs.Instructions.{UsableFrom, is_28, is_29, same_address}
 use Rattle.abi_frames.proofs.Activations.{Setting, IsSetting, site, bottom, operand_in, Framed, operand_known}
-use Rattle.abi_frames.proofs.LineCode.{Fetched, leads_fetch, fetched_scratched, scratched_then, operand_same, source_reg, source_not_29}
-use Rattle.abi_frames.proofs.Accesses.{Written, leads_store_any, stored_byte}
+use Rattle.abi_frames.proofs.LineCode.{Fetched, leads_fetch, fetched_scratched, scratched_then, operand_same, source_small, source_not_29}
+use Rattle.abi_frames.proofs.Accesses.{Written, leads_store_any_in, stored_byte}
 use Rattle.abi_frames.proofs.MemoryChanges.{Changed, changed, there_at, usable_from, inside_is, outside_is}
 use Rattle.abi_frames.proofs.Simulation.{CodeStands, At, Performed, Log, Follows, Then, undefined, reach, advance, nothing_taken}
 
@@ -69,15 +70,16 @@ leads_store_line c is s size a at pointer known_a known_at usable =
     (leads_fetch c is u 29 at is_29 (λ e. absurd (omega (arith, e))) (same.registers 2 (lit< tt) ∙ pointer) known_at)
     (λ w g two.
     let all = scratched_then s u w same (fetched_scratched c u 29 at w (omega arith) two) in
-    let value : w.registers x ≡ v = two.others x (source_not_29 c.slots a known_a) ∙ one.value in
-    let place : w.registers y ≡ p = two.value ∙ operand_same c s u at known_at same in
-    let word : p < 2 ^ 64 = subst (λ q. q < 2 ^ 64) place (g.words y) in
+    let value : in_register w x ≡ v =
+    same_in_register u w x (source_small c.slots 28 a (lit< tt) known_a) (two.others x (source_not_29 c.slots a known_a)) ∙ one.value in
+    let place : in_register w y ≡ p = two.value ∙ operand_same c s u at known_at same in
+    let word : p < 2 ^ 64 = subst (λ q. q < 2 ^ 64) place (in_register_small c.world.memory_map w y g) in
     let there = subst (λ q. UsableFrom c.world.memory_map p q) (sym (size_is size)) usable in
-    leads_so (site c) made w (Written w p (store_size (store_op size)) (w.registers x)) (Stored s p n v)
-    (leads_store_any (site c) w (store_op size) x y 0 p (source_reg c.slots 28 a is_28 known_a) (source_reg c.slots 29 at is_29 known_at) g
+    leads_so (site c) made w (Written w p (store_size (store_op size)) (in_register w x)) (Stored s p n v)
+    (leads_store_any_in (site c) w (store_op size) x y 0 p g
     (ap (λ q. moved q (low 0).value) place ∙ same_address p word) there)
     (λ t h three. record {
-      bytes = three.bytes ∙ (ap (λ q. stored w.bytes p q (w.registers x)) (size_is size) ∙ (ap (stored w.bytes p n) value ∙ ap (λ (m : ℕ → ℕ). stored m p n v) all.bytes));
+      bytes = three.bytes ∙ (ap (λ q. stored w.bytes p q (in_register w x)) (size_is size) ∙ (ap (stored w.bytes p n) value ∙ ap (λ (m : ℕ → ℕ). stored m p n v) all.bytes));
       registers = λ m lo. three.registers m ∙ all.registers m lo;
       output = three.output ∙ all.output;
     })))

@@ -1,26 +1,17 @@
 -- The machine code of each line and jump. x2 is the stack pointer; x28 to x30 hold operands and addresses for a moment.
-use Rattle.std.specs.Prelude.{ℕ, zero, suc, ◌+◌, ◌-◌, ◌*◌, ◌/◌, ◌%◌, ◌^◌, nat_lt, if◌then◌else◌, List, [], ◌∷◌, ◌++◌, Option, Some, None}
-use Rattle.std.proofs.Common.{lit<, mod-lt}
+use Rattle.std.specs.Prelude.{ℕ, zero, suc, ◌+◌, ◌-◌, ◌*◌, ◌/◌, ◌%◌, ◌^◌, nat_eq, nat_lt, if◌then◌else◌, List, [], ◌∷◌, ◌++◌, Option, Some, None}
 use Rattle.il_ast.specs.declared.operation.Class.{Class}
 use Rattle.il_ast.specs.declared.operation.Class.TheVariants.{W, L}
 use Rattle.il_ast.specs.declared.operation.Size.{Size}
 use Rattle.il_ast.specs.declared.operation.Size.TheVariants.{Byte, Half, Word, Long}
 use Rattle.il_ast.specs.declared.operation.Condition.{Condition}
 use Rattle.il_ast.specs.declared.operation.Condition.TheVariants.{Equal, NotEqual, SignedLessEqual, SignedLess, SignedGreaterEqual, SignedGreater, UnsignedLessEqual, UnsignedLess, UnsignedGreaterEqual, UnsignedGreater}
-use Rattle.rv_isa.specs.Formats.{signed}
-use Rattle.rv_isa.specs.Readings.{signed12_fits}
-use Rattle.rv_isa.specs.declared.ranges.Register.{Register}
-use Rattle.rv_isa.specs.declared.ranges.Immediate.{Immediate}
-use Rattle.rv_isa.specs.declared.ranges.UpperField.{UpperField}
-use Rattle.rv_isa.specs.declared.ranges.Amount.{Amount}
-use Rattle.rv_isa.specs.declared.instruction.Instr.TheVariants.{Lui, Jalr, Load, Store, Imm, Addiw, Shift, Reg, RegW, Ebreak}
+use Rattle.rv_isa.specs.declared.instruction.Instr.TheVariants.{Lui, Jalr, Load, Store, Reg, RegW, Ebreak}
 use Rattle.rv_isa.specs.declared.instruction.LoadOp.{LoadOp}
 use Rattle.rv_isa.specs.declared.instruction.LoadOp.TheVariants.{Ld, Lwu, Lhu, Lbu}
 use Rattle.rv_isa.specs.declared.instruction.StoreOp.{StoreOp}
 use Rattle.rv_isa.specs.declared.instruction.StoreOp.TheVariants.{Sb, Sh, Sw, Sd}
-use Rattle.rv_isa.specs.declared.instruction.ImmOp.TheVariants.{Addi, Xori, Sltiu}
-use Rattle.rv_isa.specs.declared.instruction.ShiftOp.TheVariants.{Slli, Srli}
-use Rattle.rv_isa.specs.declared.instruction.RegOp.TheVariants.{Add, Sub, Slt, Sltu}
+use Rattle.rv_isa.specs.declared.instruction.RegOp.TheVariants.{Sub, Slt, Sltu}
 use Rattle.rv_isa.specs.declared.instruction.BranchOp.TheVariants.{Bne}
 use Rattle.rv_isa.specs.declared.labelled.Item.{Item}
 use Rattle.rv_isa.specs.declared.labelled.Item.TheVariants.{Plain, Label, Branch as BranchTo, Goto as GoTo, Address}
@@ -40,68 +31,11 @@ use Rattle.vcode.specs.declared.code.Block.{Block}
 use Rattle.vcode.specs.Cost.{is_immediate}
 use Rattle.vcode.specs.Regular.{alloc_bytes}
 use Rattle.abi_frames.specs.declared.layout.Layout.{Layout}
-
--- ---- fields
-
-abbrev pub reg : ℕ → Register
-reg n = record { number = n % 32; in_range = mod-lt n (lit< tt) }
-
--- the low 12 bits, read with a sign
-abbrev pub low : ℕ → Immediate
-low n = record { value = signed 12 (n % 4096); in_range = signed12_fits (n % 4096) (mod-lt n (lit< tt)) }
-
-abbrev pub field : ℕ → UpperField
-field n = record { value = n % 2 ^ 20; in_range = mod-lt n (lit< tt) }
-
-abbrev pub by_1 : Amount
-by_1 = record { value = 1; in_range = lit< tt }
-
-abbrev pub by_11 : Amount
-by_11 = record { value = 11; in_range = lit< tt }
-
--- ---- instructions, by numbers of registers
-
-abbrev pub add_low : (d a n : ℕ) → Item
-add_low d a n = Plain (Imm Addi (reg d) (reg a) (low n))
-
-abbrev pub extend : (d a : ℕ) → Item
-extend d a = Plain (Addiw (reg d) (reg a) (low 0))
-
-abbrev pub sum_to : (d a b : ℕ) → Item
-sum_to d a b = Plain (Reg Add (reg d) (reg a) (reg b))
-
-abbrev pub load_8 : (d base offset : ℕ) → Item
-load_8 d base offset = Plain (Load Ld (reg d) (reg base) (low offset))
-
-abbrev pub store_8 : (v base offset : ℕ) → Item
-store_8 v base offset = Plain (Store Sd (reg base) (reg v) (low offset))
-
-abbrev pub shift_11 : ℕ → Item
-shift_11 d = Plain (Shift Slli (reg d) (reg d) by_11)
-
--- ---- numbers, as 20 bits and four times 11, none of which is read with a sign
-
--- the top 31 bits
-abbrev pub top_part : (d m : ℕ) → List Item
-top_part d m =
-    Plain (Lui (reg d) (field (m / 2 ^ 44))) ∷ Plain (Shift Srli (reg d) (reg d) by_1) ∷ add_low d d (m / 2 ^ 33 % 2 ^ 11) ∷ []
-
--- 11 bits more
-abbrev pub next_part : (d bits : ℕ) → List Item
-next_part d bits = shift_11 d ∷ add_low d d bits ∷ []
-
-abbrev pub long_constant : (d m : ℕ) → List Item
-long_constant d m =
-    top_part d m ++ (next_part d (m / 2 ^ 22 % 2 ^ 11) ++ (next_part d (m / 2 ^ 11 % 2 ^ 11) ++ next_part d (m % 2 ^ 11)))
-
-abbrev pub constant : (d n : ℕ) → List Item
-constant d n = if is_immediate n then add_low d 0 n ∷ [] else long_constant d (n % 2 ^ 64)
+use Rattle.abi_frames.specs.declared.immediate.Form.{Form}
+use Rattle.abi_frames.specs.Fields.{reg, low, add_low, extend, sum_to, load_8, store_8, constant, high, word, negate, is_zero, is_not_zero}
+use Rattle.abi_frames.specs.Immediates.{right_form, left_form, form_items}
 
 -- ---- the frame: eight bytes at an offset from the stack pointer
-
--- the upper part of an offset whose low 12 bits are read with a sign
-abbrev pub high : ℕ → UpperField
-high offset = field ((offset + 2048) / 4096)
 
 abbrev pub far_load : (d offset : ℕ) → List Item
 far_load d offset = Plain (Lui (reg d) (high offset)) ∷ sum_to d d 2 ∷ load_8 d d offset ∷ []
@@ -122,21 +56,28 @@ slot_offset y i = y.slots + 8 * i
 
 -- the operand into the register d
 abbrev pub into : Layout → ℕ → Operand Location → List Item
-into y d (At (InRegister r)) = add_low d r 0 ∷ []
+into y d (At (InRegister r)) = if nat_eq d r then [] else add_low d r 0 ∷ []
 into y d (At (Slot i)) = load_slot d (slot_offset y i)
 into y d (Number n) = constant d n
 into y d (Name g) = Address (reg d) g ∷ []
 
--- the operand into a register: its own, or the given one
+-- the operand into a register: its own, or the given one; the number 0 is in x0
 abbrev pub fetch : Layout → ℕ → Operand Location → List Item
 fetch y d (At (InRegister r)) = []
 fetch y d (At (Slot i)) = load_slot d (slot_offset y i)
-fetch y d (Number n) = constant d n
+fetch y d (Number n) = if nat_eq n 0 then [] else constant d n
 fetch y d (Name g) = Address (reg d) g ∷ []
 
 abbrev pub source : ℕ → Operand Location → ℕ
 source d (At (InRegister r)) = r
-source d a = d
+source d (At (Slot i)) = d
+source d (Number n) = if nat_eq n 0 then 0 else d
+source d (Name g) = d
+
+-- its low 32 bits, sign-extended, into the register d
+abbrev pub word_into : Layout → ℕ → Operand Location → List Item
+word_into y d (Number n) = constant d (word n)
+word_into y d a = fetch y d a ++ (extend d (source d a) ∷ [])
 
 -- the register in which a value for this place is made, and what brings it there from x28
 abbrev pub target : Location → ℕ
@@ -153,17 +94,10 @@ abbrev pub set_items : Layout → Location → Operand Location → List Item
 set_items y (InRegister r) a = into y r a
 set_items y (Slot i) a = fetch y 28 a ++ store_slot (source 28 a) (slot_offset y i)
 
--- a truth value in a register is made false or true, and true or false; and is a register 0
-abbrev pub negate : ℕ → Item
-negate d = Plain (Imm Xori (reg d) (reg d) (low 1))
-
-abbrev pub is_zero : ℕ → Item
-is_zero d = Plain (Imm Sltiu (reg d) (reg d) (low 1))
-
 -- a comparison of two registers by all 64 bits
 abbrev pub compare_items : Condition → (d a b : ℕ) → List Item
-compare_items Equal d a b = Plain (Reg Sub (reg d) (reg a) (reg b)) ∷ is_zero d ∷ []
-compare_items NotEqual d a b = Plain (Reg Sub (reg d) (reg a) (reg b)) ∷ Plain (Reg Sltu (reg d) (reg 0) (reg d)) ∷ []
+compare_items Equal d a b = Plain (Reg Sub (reg d) (reg a) (reg b)) ∷ is_zero d d ∷ []
+compare_items NotEqual d a b = Plain (Reg Sub (reg d) (reg a) (reg b)) ∷ is_not_zero d d ∷ []
 compare_items SignedLess d a b = Plain (Reg Slt (reg d) (reg a) (reg b)) ∷ []
 compare_items SignedGreater d a b = Plain (Reg Slt (reg d) (reg b) (reg a)) ∷ []
 compare_items SignedLessEqual d a b = Plain (Reg Slt (reg d) (reg b) (reg a)) ∷ negate d ∷ []
@@ -173,16 +107,43 @@ compare_items UnsignedGreater d a b = Plain (Reg Sltu (reg d) (reg b) (reg a)) �
 compare_items UnsignedLessEqual d a b = Plain (Reg Sltu (reg d) (reg b) (reg a)) ∷ negate d ∷ []
 compare_items UnsignedGreaterEqual d a b = Plain (Reg Sltu (reg d) (reg a) (reg b)) ∷ negate d ∷ []
 
--- the operation on two registers; words are extended in x28 and x29 before they are compared
+-- the operation on two registers
 abbrev pub operation_items : Operation → (d a b : ℕ) → List Item
 operation_items (RegOperation op) d a b = Plain (Reg op (reg d) (reg a) (reg b)) ∷ []
 operation_items (RegWOperation op) d a b = Plain (RegW op (reg d) (reg a) (reg b)) ∷ []
-operation_items (Compare on L) d a b = compare_items on d a b
-operation_items (Compare on W) d a b = extend 28 a ∷ (extend 29 b ∷ compare_items on d 28 29)
+operation_items (Compare on k) d a b = compare_items on d a b
+
+-- an operand of the operation, in a register: a word is extended before it is compared
+abbrev pub operand_into : Layout → Operation → ℕ → Operand Location → List Item
+operand_into y (Compare on W) d a = word_into y d a
+operand_into y (Compare on L) d a = fetch y d a
+operand_into y (RegOperation op) d a = fetch y d a
+operand_into y (RegWOperation op) d a = fetch y d a
+
+abbrev pub operand_source : Operation → ℕ → Operand Location → ℕ
+operand_source (Compare on W) d a = d
+operand_source (Compare on L) d a = source d a
+operand_source (RegOperation op) d a = source d a
+operand_source (RegWOperation op) d a = source d a
+
+abbrev pub on_registers : Layout → Location → Operation → (a b : Operand Location) → List Item
+on_registers y to op a b =
+    operand_into y op 28 a
+    ++ (operand_into y op 29 b
+    ++ (operation_items op (target to) (operand_source op 28 a) (operand_source op 29 b) ++ deliver y to))
+
+-- with the other operand's number in the instruction
+abbrev pub by_form : Layout → Location → Operation → Operand Location → Form → List Item
+by_form y to op a form = operand_into y op 28 a ++ (form_items form (target to) (operand_source op 28 a) ++ deliver y to)
+
+-- where the right operand gives a form, where the left one does, and else
+abbrev pub operate_by : Layout → Location → Operation → (a b : Operand Location) → (right left : Option Form) → List Item
+operate_by y to op a b (Some form) left = by_form y to op a form
+operate_by y to op a b None (Some form) = by_form y to op b form
+operate_by y to op a b None None = on_registers y to op a b
 
 abbrev pub operate_items : Layout → Location → Operation → (a b : Operand Location) → List Item
-operate_items y to op a b =
-    fetch y 28 a ++ (fetch y 29 b ++ (operation_items op (target to) (source 28 a) (source 29 b) ++ deliver y to))
+operate_items y to op a b = operate_by y to op a b (right_form op b) (left_form op a)
 
 abbrev pub load_to : LoadOp → (d base : ℕ) → Item
 load_to op d base = Plain (Load op (reg d) (reg base) (low 0))
@@ -208,7 +169,7 @@ load_items y to op at = fetch y 28 at ++ ((load_to op (target to) (source 28 at)
 -- the argument into the register d, a word sign-extended
 abbrev pub pass_into : Layout → (d : ℕ) → Class → Operand Location → List Item
 pass_into y d L a = into y d a
-pass_into y d W a = into y d a ++ (extend d d ∷ [])
+pass_into y d W a = word_into y d a
 
 -- the k-th argument: the first eight go into x10 to x17, the others to the stack, eight bytes each from the stack pointer upward
 abbrev pub pass_items : Layout → (k : ℕ) → Argument Location → List Item
@@ -309,7 +270,7 @@ epilogue y rs = restore_all y.saves rs ++ (move_pointer y.size ++ (go_back ∷ [
 abbrev pub result_items : Layout → Option Class → Operand Location → List Item
 result_items y None a = []
 result_items y (Some L) a = into y 10 a
-result_items y (Some W) a = into y 10 a ++ (extend 10 10 ∷ [])
+result_items y (Some W) a = word_into y 10 a
 
 abbrev pub return_items : Layout → Option (Operand Location) → List Item
 return_items y None = GoTo y.leave ∷ []
@@ -318,7 +279,7 @@ return_items y (Some a) = result_items y y.result a ++ (GoTo y.leave ∷ [])
 abbrev pub jump_items : Layout → Jump Location → List Item
 jump_items y (Goto k) = GoTo k ∷ []
 jump_items y (Branch on nonzero otherwise) =
-    fetch y 28 on ++ (extend 28 (source 28 on) ∷ BranchTo Bne (reg 28) (reg 0) nonzero ∷ GoTo otherwise ∷ [])
+    word_into y 28 on ++ (BranchTo Bne (reg 28) (reg 0) nonzero ∷ GoTo otherwise ∷ [])
 jump_items y (Return a) = return_items y a
 jump_items y Halt = Plain Ebreak ∷ []
 

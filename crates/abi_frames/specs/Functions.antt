@@ -9,7 +9,8 @@ use Rattle.vcode.specs.declared.code.Block.{Block}
 use Rattle.vcode.specs.declared.code.Code.{Code}
 use Rattle.abi_frames.specs.Layout.{layout, saved_registers}
 use Rattle.abi_frames.specs.declared.layout.Layout.{Layout}
-use Rattle.abi_frames.specs.Emission.{add_low, sum_to, load_8, constant, store_slot, slot_offset, prologue, epilogue, blocks_items}
+use Rattle.abi_frames.specs.Fields.{add_low, sum_to, load_8, constant}
+use Rattle.abi_frames.specs.Emission.{store_slot, slot_offset, prologue, epilogue, blocks_items}
 
 -- the caller's stack pointer into x30
 abbrev pub caller_pointer : Layout → List Item

@@ -2,6 +2,8 @@ pub mod Calls
 pub mod Performs
 pub mod Promise
 pub mod Layout
+pub mod Fields
+pub mod Immediates
 pub mod Emission
 pub mod Functions
 pub mod Covered

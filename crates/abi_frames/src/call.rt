@@ -1,11 +1,12 @@
 //! The machine code of calls.
 ghost use Rattle.std.specs.Prelude.{◌≡◌, ◌-◌, ◌*◌, ◌^◌, ◌<◌, ◌≤◌, [], ◌∷◌, ◌++◌, length, OnOk};
-ghost use Rattle.abi_frames.specs.Emission.{store_8, fetch, source, pass_into, pass_items, pass_all, call_through, receive_items, call_items};
+ghost use Rattle.abi_frames.specs.Fields.{store_8};
+ghost use Rattle.abi_frames.specs.Emission.{fetch, source, pass_into, pass_items, pass_all, call_through, receive_items, call_items};
 
-use crate::fields::{extend_word, low_part, register, store};
+use crate::fields::{low_part, register, store};
 use crate::layout::Layout;
 use crate::line::push_set;
-use crate::operand::{push_fetch, push_operand, source_of};
+use crate::operand::{push_fetch, push_operand, push_word, source_of};
 use il_ast::operation::Class;
 use rv_isa::instruction::Instr;
 use rv_isa::labelled::Item;
@@ -22,12 +23,10 @@ fn push_argument(
     requires { layout.now.slots < 2 ^ 16 }
     ensures { OnOk result (items.new.items ≡ items.old.items ++ pass_into layout.now to argument.now.class argument.now.value) }
 {
-    push_operand(items, layout, to, &argument.value)?;
     match argument.class {
-        Class::W => items.push(extend_word(to, to))?,
-        Class::L => {}
+        Class::W => push_word(items, layout, to, &argument.value),
+        Class::L => push_operand(items, layout, to, &argument.value),
     }
-    Ok(())
 }
 
 // puts an argument on the stack, at an offset from the stack pointer

@@ -1,13 +1,12 @@
 //! The machine code of comparisons.
 ghost use Rattle.std.specs.Prelude.{◌≡◌, [], ◌∷◌, ◌++◌, OnOk};
-ghost use Rattle.il_ast.specs.declared.operation.Class.TheVariants.{W};
 ghost use Rattle.il_ast.specs.declared.operation.Condition.TheVariants.{Equal, NotEqual};
 ghost use Rattle.rv_isa.specs.declared.labelled.Item.TheVariants.{Plain};
 ghost use Rattle.rv_isa.specs.declared.instruction.Instr.TheVariants.{Reg};
-ghost use Rattle.vcode.specs.declared.line.Operation.TheVariants.{Compare};
-ghost use Rattle.abi_frames.specs.Emission.{reg, negate, is_zero, compare_items, operation_items};
+ghost use Rattle.abi_frames.specs.Fields.{reg, negate, is_zero, is_not_zero};
+ghost use Rattle.abi_frames.specs.Emission.{compare_items};
 
-use crate::fields::{extend_word, low_part, register};
+use crate::fields::{low_part, register};
 use il_ast::operation::Condition;
 use rv_isa::instruction::{ImmOp, Instr, RegOp};
 use rv_isa::labelled::Item;
@@ -24,7 +23,8 @@ fn on_registers(op: RegOp, to: u8, left: u8, right: u8) -> Item
     })
 }
 
-fn negation(of: u8) -> Item
+/// A truth value in a register is made false or true, and true or false.
+pub(crate) fn negation(of: u8) -> Item
     ensures { result ≡ negate of }
 {
     Item::Plain(Instr::Imm {
@@ -35,15 +35,23 @@ fn negation(of: u8) -> Item
     })
 }
 
-fn test_of_zero(of: u8) -> Item
-    ensures { result ≡ is_zero of }
+/// Whether a register is 0.
+pub(crate) fn test_of_zero(to: u8, of: u8) -> Item
+    ensures { result ≡ is_zero to of }
 {
     Item::Plain(Instr::Imm {
         op: ImmOp::Sltiu,
-        rd: register(of),
+        rd: register(to),
         rs1: register(of),
         immediate: low_part(1),
     })
+}
+
+/// Whether it is not 0.
+pub(crate) fn test_of_nonzero(to: u8, of: u8) -> Item
+    ensures { result ≡ is_not_zero to of }
+{
+    on_registers(RegOp::Sltu, to, 0, of)
 }
 
 fn push_negated(
@@ -64,7 +72,7 @@ fn push_equal(items: &mut Vec<Item>, to: u8, left: u8, right: u8) -> Result<(), 
     ensures { OnOk result (items.new.items ≡ items.old.items ++ compare_items Equal to left right) }
 {
     items.push(on_registers(RegOp::Sub, to, left, right))?;
-    items.push(test_of_zero(to))?;
+    items.push(test_of_zero(to, to))?;
     Ok(())
 }
 
@@ -72,7 +80,7 @@ fn push_not_equal(items: &mut Vec<Item>, to: u8, left: u8, right: u8) -> Result<
     ensures { OnOk result (items.new.items ≡ items.old.items ++ compare_items NotEqual to left right) }
 {
     items.push(on_registers(RegOp::Sub, to, left, right))?;
-    items.push(on_registers(RegOp::Sltu, to, 0, to))?;
+    items.push(test_of_nonzero(to, to))?;
     Ok(())
 }
 
@@ -98,21 +106,5 @@ pub(crate) fn push_compare(
         Condition::UnsignedLessEqual => push_negated(items, RegOp::Sltu, to, right, left)?,
         Condition::UnsignedGreaterEqual => push_negated(items, RegOp::Sltu, to, left, right)?,
     }
-    Ok(())
-}
-
-/// The same of the low 32 bits of each.
-pub(crate) fn push_compare_words(
-    items: &mut Vec<Item>,
-    condition: Condition,
-    to: u8,
-    left: u8,
-    right: u8,
-) -> Result<(), AllocError>
-    ensures { OnOk result (items.new.items ≡ items.old.items ++ operation_items (Compare condition W) to left right) }
-{
-    items.push(extend_word(28, left))?;
-    items.push(extend_word(29, right))?;
-    push_compare(items, condition, to, 28, 29)?;
     Ok(())
 }

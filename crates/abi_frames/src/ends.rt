@@ -1,6 +1,7 @@
 //! The begin and the end of a frame.
 ghost use Rattle.std.specs.Prelude.{◌≡◌, ◌+◌, ◌-◌, ◌*◌, ◌^◌, ◌<◌, ◌≤◌, [], ◌∷◌, ◌++◌, length, OnOk};
-ghost use Rattle.abi_frames.specs.Emission.{constant, sum_to, move_pointer, save_all, restore_all, prologue, epilogue, go_back};
+ghost use Rattle.abi_frames.specs.Fields.{constant, sum_to};
+ghost use Rattle.abi_frames.specs.Emission.{move_pointer, save_all, restore_all, prologue, epilogue, go_back};
 
 use crate::fields::{add, add_immediate, load, low_part, register, store};
 use crate::layout::Layout;

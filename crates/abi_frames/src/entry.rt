@@ -1,7 +1,7 @@
 //! On entry: arguments come to the places of their parameters.
 ghost use Rattle.std.specs.Prelude.{◌≡◌, ◌+◌, ◌-◌, ◌*◌, ◌^◌, ◌<◌, ◌≤◌, [], ◌∷◌, ◌++◌, length, OnOk};
 ghost use Rattle.vcode.specs.declared.place.Location.TheVariants.{Slot};
-ghost use Rattle.abi_frames.specs.Emission.{constant, sum_to};
+ghost use Rattle.abi_frames.specs.Fields.{constant, sum_to};
 ghost use Rattle.abi_frames.specs.Functions.{caller_pointer, from_register, from_stack, argument_items, arguments_items, pointer_items, entry_items};
 
 use crate::fields::{add, add_immediate, load};

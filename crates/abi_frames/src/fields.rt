@@ -2,13 +2,14 @@
 ghost use Rattle.std.specs.Prelude.{◌≡◌, ◌<◌};
 ghost use Rattle.rv_isa.specs.Formats.{signed};
 ghost use Rattle.rv_isa.specs.declared.labelled.Item.TheVariants.{Plain};
-ghost use Rattle.rv_isa.specs.declared.instruction.Instr.TheVariants.{Lui, Load, Shift};
+ghost use Rattle.rv_isa.specs.declared.instruction.Instr.TheVariants.{Lui, Load, Shift, Addiw};
 ghost use Rattle.rv_isa.specs.declared.instruction.ShiftOp.TheVariants.{Srli};
-ghost use Rattle.abi_frames.specs.Emission.{reg, low, field, high, by_1, by_11, add_low, extend, sum_to, load_8, store_8, store_at, shift_11};
+ghost use Rattle.abi_frames.specs.Fields.{reg, low, field, high, amount, word_amount, add_low, extend, sum_to, load_8, store_8, shift_11};
+ghost use Rattle.abi_frames.specs.Emission.{store_at};
 
 use rv_isa::instruction::{ImmOp, Instr, LoadOp, RegOp, ShiftOp, StoreOp};
 use rv_isa::labelled::Item;
-use rv_isa::ranges::{Amount, Immediate, Register, UpperField};
+use rv_isa::ranges::{Amount, Immediate, Register, UpperField, WordAmount};
 
 /// The register of that number, modulo 32.
 pub(crate) fn register(number: u8) -> Register
@@ -138,18 +139,24 @@ pub(crate) fn load_upper(to: u8, field: UpperField) -> Item
     })
 }
 
+/// By how many bits a shift by that number goes: modulo 64.
 #[tactic(auto, using(rv_isa::proofs::Same::same_amount))]
-fn eleven() -> Amount
-    ensures { result ≡ by_11 }
+pub(crate) fn amount(number: u64) -> Amount
+    ensures { result ≡ amount number }
 {
-    Amount { value: 11 }
+    Amount {
+        value: (number % 64) as u8,
+    }
 }
 
-#[tactic(auto, using(rv_isa::proofs::Same::same_amount))]
-fn one() -> Amount
-    ensures { result ≡ by_1 }
+/// The same of a shift of 32 bits: modulo 32.
+#[tactic(auto, using(rv_isa::proofs::Same::same_word_amount))]
+pub(crate) fn word_amount(number: u64) -> WordAmount
+    ensures { result ≡ word_amount number }
 {
-    Amount { value: 1 }
+    WordAmount {
+        value: (number % 32) as u8,
+    }
 }
 
 /// `slli` by 11.
@@ -160,18 +167,29 @@ pub(crate) fn shift_by_11(to: u8) -> Item
         op: ShiftOp::Slli,
         rd: register(to),
         rs1: register(to),
-        amount: eleven(),
+        amount: amount(11),
     })
 }
 
 /// `srli` by 1.
 pub(crate) fn halve(to: u8) -> Item
-    ensures { result ≡ Plain (Shift Srli (reg to) (reg to) by_1) }
+    ensures { result ≡ Plain (Shift Srli (reg to) (reg to) (amount 1)) }
 {
     Item::Plain(Instr::Shift {
         op: ShiftOp::Srli,
         rd: register(to),
         rs1: register(to),
-        amount: one(),
+        amount: amount(1),
+    })
+}
+
+/// `addiw`, with the low part of a number.
+pub(crate) fn add_word(to: u8, from: u8, number: u64) -> Item
+    ensures { result ≡ Plain (Addiw (reg to) (reg from) (low number)) }
+{
+    Item::Plain(Instr::Addiw {
+        rd: register(to),
+        rs1: register(from),
+        immediate: low_part(number),
     })
 }

@@ -1,14 +1,14 @@
 //! The machine code of jumps.
-ghost use Rattle.std.specs.Prelude.{◌≡◌, ◌^◌, ◌<◌, [], ◌∷◌, ◌++◌, OnOk, Some};
-ghost use Rattle.il_ast.specs.declared.operation.Class.TheVariants.{W};
+ghost use Rattle.std.specs.Prelude.{◌≡◌, ◌^◌, ◌<◌, [], ◌∷◌, ◌++◌, OnOk};
 ghost use Rattle.vcode.specs.declared.line.Jump.TheVariants.{Branch as BranchOn};
 ghost use Rattle.rv_isa.specs.declared.instruction.BranchOp.TheVariants.{Bne};
 ghost use Rattle.rv_isa.specs.declared.labelled.Item.TheVariants.{Branch, Goto};
-ghost use Rattle.abi_frames.specs.Emission.{reg, extend, source, result_items, return_items, jump_items};
+ghost use Rattle.abi_frames.specs.Fields.{reg};
+ghost use Rattle.abi_frames.specs.Emission.{result_items, return_items, jump_items};
 
-use crate::fields::{extend_word, register};
+use crate::fields::register;
 use crate::layout::Layout;
-use crate::operand::{push_fetch, push_operand, source_of};
+use crate::operand::{push_operand, push_word};
 use il_ast::operation::Class;
 use rv_isa::instruction::{BranchOp, Instr};
 use rv_isa::labelled::Item;
@@ -16,16 +16,10 @@ use std::alloc::AllocError;
 use vcode::line::Jump;
 use vcode::place::{Location, Operand};
 
-// a test of the word in a register, with two ways on
-fn push_two_ways(
-    items: &mut Vec<Item>,
-    on: u8,
-    nonzero: usize,
-    otherwise: usize,
-) -> Result<(), AllocError>
-    ensures { OnOk result (items.new.items ≡ items.old.items ++ (extend 28 on ∷ Branch Bne (reg 28) (reg 0) nonzero ∷ Goto otherwise ∷ [])) }
+// a test of x28, with two ways on
+fn push_two_ways(items: &mut Vec<Item>, nonzero: usize, otherwise: usize) -> Result<(), AllocError>
+    ensures { OnOk result (items.new.items ≡ items.old.items ++ (Branch Bne (reg 28) (reg 0) nonzero ∷ Goto otherwise ∷ [])) }
 {
-    items.push(extend_word(28, on))?;
     items.push(Item::Branch {
         op: BranchOp::Bne,
         rs1: register(28),
@@ -46,21 +40,8 @@ fn push_branch(
     requires { layout.now.slots < 2 ^ 16 }
     ensures { OnOk result (items.new.items ≡ items.old.items ++ jump_items layout.now (BranchOn on.now nonzero otherwise)) }
 {
-    push_fetch(items, layout, 28, on)?;
-    push_two_ways(items, source_of(28, on), nonzero, otherwise)
-}
-
-fn push_word_result(
-    items: &mut Vec<Item>,
-    layout: &Layout,
-    value: &Operand<Location>,
-) -> Result<(), AllocError>
-    requires { layout.now.slots < 2 ^ 16 }
-    ensures { OnOk result (items.new.items ≡ items.old.items ++ result_items layout.now (Some W) value.now) }
-{
-    push_operand(items, layout, 10, value)?;
-    items.push(extend_word(10, 10))?;
-    Ok(())
+    push_word(items, layout, 28, on)?;
+    push_two_ways(items, nonzero, otherwise)
 }
 
 fn push_result(
@@ -74,7 +55,7 @@ fn push_result(
     match layout.result {
         None => {}
         Some(Class::L) => push_operand(items, layout, 10, value)?,
-        Some(Class::W) => push_word_result(items, layout, value)?,
+        Some(Class::W) => push_word(items, layout, 10, value)?,
     }
     Ok(())
 }

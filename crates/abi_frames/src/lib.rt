@@ -28,6 +28,9 @@ mod ends;
 mod entry;
 mod fields;
 pub mod frame;
+pub mod immediate;
+#[cfg(test)]
+mod immediate_tests;
 mod jump;
 pub mod laws;
 pub mod layout;

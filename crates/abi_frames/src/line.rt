@@ -3,15 +3,17 @@ ghost use Rattle.std.specs.Prelude.{◌≡◌, ◌^◌, ◌<◌, ◌≤◌, IsTr
 ghost use Rattle.std.specs.List.{list_all, sum_by};
 ghost use Rattle.vcode.specs.Regular.{alloc_bytes, passes_few};
 ghost use Rattle.vcode.specs.declared.place.Location.TheVariants.{Slot};
-ghost use Rattle.abi_frames.specs.Emission.{operation_items, set_items, operate_items, load_to, load_items, store_op, store_items, alloc_items, line_items, lines_items};
+ghost use Rattle.abi_frames.specs.Emission.{operation_items, operand_into, operand_source, on_registers, by_form, set_items, operate_items, load_to, load_items, store_op, store_items, alloc_items, line_items, lines_items};
 
 use crate::call::push_call;
-use crate::compare::{push_compare, push_compare_words};
+use crate::compare::push_compare;
 use crate::copy::push_blit;
 use crate::fields::{low_part, register, store_at};
+use crate::immediate::{Form, left_form, push_form, right_form};
 use crate::layout::Layout;
 use crate::operand::{
-    push_address_at, push_deliver, push_fetch, push_into_slot, push_operand, source_of, target_of,
+    push_address_at, push_deliver, push_fetch, push_into_slot, push_operand, push_word, source_of,
+    target_of,
 };
 use crate::room::alloc_bytes;
 use il_ast::operation::{Class, Size};
@@ -72,13 +74,85 @@ fn push_operation(
             rs1: register(left),
             rs2: register(right),
         }))?,
-        Operation::Compare(condition, Class::L) => {
-            push_compare(items, *condition, to, left, right)?;
-        }
-        Operation::Compare(condition, Class::W) => {
-            push_compare_words(items, *condition, to, left, right)?;
+        Operation::Compare(condition, _) => push_compare(items, *condition, to, left, right)?,
+    }
+    Ok(())
+}
+
+// has an operand of the operation in a register: a word is extended before it is compared
+fn push_operand_for(
+    items: &mut Vec<Item>,
+    layout: &Layout,
+    operation: &Operation,
+    to: u8,
+    operand: &Operand<Location>,
+) -> Result<(), AllocError>
+    requires { layout.now.slots < 2 ^ 16 }
+    ensures { OnOk result (items.new.items ≡ items.old.items ++ operand_into layout.now operation.now to operand.now) }
+{
+    match operation {
+        Operation::Compare(_, Class::W) => push_word(items, layout, to, operand),
+        Operation::Compare(_, Class::L) | Operation::Reg(_) | Operation::RegW(_) => {
+            push_fetch(items, layout, to, operand)
         }
     }
+}
+
+fn operand_source(operation: &Operation, to: u8, operand: &Operand<Location>) -> u8
+    ensures { result ≡ operand_source operation.now to operand.now }
+{
+    match operation {
+        Operation::Compare(_, Class::W) => to,
+        Operation::Compare(_, Class::L) | Operation::Reg(_) | Operation::RegW(_) => {
+            source_of(to, operand)
+        }
+    }
+}
+
+fn push_on_registers(
+    items: &mut Vec<Item>,
+    layout: &Layout,
+    to: &Location,
+    operation: &Operation,
+    left: &Operand<Location>,
+    right: &Operand<Location>,
+) -> Result<(), AllocError>
+    requires { layout.now.slots < 2 ^ 16 }
+    ensures { OnOk result (items.new.items ≡ items.old.items ++ on_registers layout.now to.now operation.now left.now right.now) }
+{
+    push_operand_for(items, layout, operation, 28, left)?;
+    push_operand_for(items, layout, operation, 29, right)?;
+    push_operation(
+        items,
+        operation,
+        target_of(to),
+        operand_source(operation, 28, left),
+        operand_source(operation, 29, right),
+    )?;
+    push_deliver(items, layout, to)?;
+    Ok(())
+}
+
+// the other operand's number is in the form
+fn push_by_form(
+    items: &mut Vec<Item>,
+    layout: &Layout,
+    to: &Location,
+    operation: &Operation,
+    operand: &Operand<Location>,
+    form: Form,
+) -> Result<(), AllocError>
+    requires { layout.now.slots < 2 ^ 16 }
+    ensures { OnOk result (items.new.items ≡ items.old.items ++ by_form layout.now to.now operation.now operand.now form) }
+{
+    push_operand_for(items, layout, operation, 28, operand)?;
+    push_form(
+        items,
+        form,
+        target_of(to),
+        operand_source(operation, 28, operand),
+    )?;
+    push_deliver(items, layout, to)?;
     Ok(())
 }
 
@@ -93,17 +167,11 @@ fn push_operate(
     requires { layout.now.slots < 2 ^ 16 }
     ensures { OnOk result (items.new.items ≡ items.old.items ++ operate_items layout.now to.now operation.now left.now right.now) }
 {
-    push_fetch(items, layout, 28, left)?;
-    push_fetch(items, layout, 29, right)?;
-    push_operation(
-        items,
-        operation,
-        target_of(to),
-        source_of(28, left),
-        source_of(29, right),
-    )?;
-    push_deliver(items, layout, to)?;
-    Ok(())
+    match (right_form(operation, right), left_form(operation, left)) {
+        (Some(form), _) => push_by_form(items, layout, to, operation, left, form),
+        (None, Some(form)) => push_by_form(items, layout, to, operation, right, form),
+        (None, None) => push_on_registers(items, layout, to, operation, left, right),
+    }
 }
 
 fn load_from(op: LoadOp, to: u8, base: u8) -> Item

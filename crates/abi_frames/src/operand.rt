@@ -1,11 +1,13 @@
 //! Operands of lines: numbers, eight bytes of the frame, addresses.
-ghost use Rattle.std.specs.Prelude.{◌≡◌, ◌+◌, ◌-◌, ◌*◌, ◌^◌, ◌<◌, [], ◌∷◌, ◌++◌, OnOk};
+ghost use Rattle.std.specs.Prelude.{◌≡◌, ◌+◌, ◌-◌, ◌*◌, ◌%◌, ◌^◌, ◌<◌, nat_eq, if◌then◌else◌, [], ◌∷◌, ◌++◌, OnOk};
 ghost use Rattle.vcode.specs.Cost.{is_immediate};
 ghost use Rattle.rv_isa.specs.declared.labelled.Item.TheVariants.{Address};
-ghost use Rattle.abi_frames.specs.Emission.{top_part, next_part, long_constant, constant, high, far_load, load_slot, far_store, store_slot, address_at, slot_offset, into, fetch, source, target, deliver, reg};
+ghost use Rattle.abi_frames.specs.Fields.{top_part, next_part, long_constant, constant, high, reg, add_low, extend, word, is_word, word_constant};
+ghost use Rattle.abi_frames.specs.Emission.{far_load, load_slot, far_store, store_slot, address_at, slot_offset, into, fetch, source, word_into, target, deliver};
 
 use crate::fields::{
-    add, add_immediate, halve, load, load_upper, register, shift_by_11, store, upper_field,
+    add, add_immediate, add_word, extend_word, halve, load, load_upper, register, shift_by_11,
+    store, upper_field,
 };
 use crate::layout::Layout;
 use rv_isa::labelled::Item;
@@ -42,6 +44,50 @@ fn push_long_constant(items: &mut Vec<Item>, to: u8, number: u64) -> Result<(), 
     Ok(())
 }
 
+// the upper 20 bits of 32, and the low 12 where they aren't 0
+fn push_word_constant(items: &mut Vec<Item>, to: u8, bits: u64) -> Result<(), AllocError>
+    requires { bits < 2 ^ 32 }
+    ensures { OnOk result (items.new.items ≡ items.old.items ++ word_constant to bits) }
+{
+    items.push(load_upper(to, upper_part(bits)))?;
+    if bits % 4096 != 0 {
+        items.push(add_word(to, to, bits))?;
+    }
+    Ok(())
+}
+
+/// The low 32 bits of a number, sign-extended.
+#[tactic(auto, using(crate::proofs::ConstantNumbers::word_by_bits))]
+pub(crate) fn word(number: u64) -> u64
+    ensures { result ≡ word number }
+{
+    let bits = number % 0x1_0000_0000;
+    if bits < 0x8000_0000 {
+        bits
+    } else {
+        bits + 0xffff_ffff_0000_0000
+    }
+}
+
+// is the number its own low 32 bits, sign-extended?
+fn is_word(number: u64) -> bool
+    ensures { result ≡ is_word number }
+{
+    word(number) == number
+}
+
+// a number that has no 12 bits
+fn push_wide_constant(items: &mut Vec<Item>, to: u8, number: u64) -> Result<(), AllocError>
+    ensures { OnOk result (items.new.items ≡ items.old.items ++ (if is_word number then word_constant to (number % 2 ^ 32) else long_constant to (number % 2 ^ 64))) }
+{
+    if is_word(number) {
+        push_word_constant(items, to, number % 0x1_0000_0000)?;
+    } else {
+        push_long_constant(items, to, number)?;
+    }
+    Ok(())
+}
+
 /// Is the number one that an immediate of 12 bits gives, read with a sign?
 pub(crate) fn has_12_bits(number: u64) -> bool
     ensures { result ≡ is_immediate number }
@@ -56,7 +102,7 @@ pub(crate) fn push_constant(items: &mut Vec<Item>, to: u8, number: u64) -> Resul
     if has_12_bits(number) {
         items.push(add_immediate(to, 0, number))?;
     } else {
-        push_long_constant(items, to, number)?;
+        push_wide_constant(items, to, number)?;
     }
     Ok(())
 }
@@ -155,6 +201,26 @@ fn push_address(items: &mut Vec<Item>, to: u8, global: usize) -> Result<(), Allo
     Ok(())
 }
 
+// copies a register, unless it is the same
+fn push_move(items: &mut Vec<Item>, to: u8, from: u8) -> Result<(), AllocError>
+    ensures { OnOk result (items.new.items ≡ items.old.items ++ (if nat_eq to from then [] else add_low to from 0 ∷ [])) }
+{
+    if to != from {
+        items.push(add_immediate(to, from, 0))?;
+    }
+    Ok(())
+}
+
+// has a number in a register: 0 in x0
+fn push_number(items: &mut Vec<Item>, to: u8, number: u64) -> Result<(), AllocError>
+    ensures { OnOk result (items.new.items ≡ items.old.items ++ (if nat_eq number 0 then [] else constant to number)) }
+{
+    if number != 0 {
+        push_constant(items, to, number)?;
+    }
+    Ok(())
+}
+
 /// Puts an operand into the register `to`.
 pub(crate) fn push_operand(
     items: &mut Vec<Item>,
@@ -166,7 +232,7 @@ pub(crate) fn push_operand(
     ensures { OnOk result (items.new.items ≡ items.old.items ++ into layout.now to operand.now) }
 {
     match operand {
-        Operand::At(Location::Register(number)) => items.push(add_immediate(to, *number, 0))?,
+        Operand::At(Location::Register(number)) => push_move(items, to, *number)?,
         Operand::At(Location::Slot(slot)) => push_slot(items, layout, to, *slot)?,
         Operand::Number(number) => push_constant(items, to, *number)?,
         Operand::Name(global) => push_address(items, to, global.number())?,
@@ -174,7 +240,7 @@ pub(crate) fn push_operand(
     Ok(())
 }
 
-/// Has an operand in a register: in its own, or in `to`.
+/// Has an operand in a register: in its own, or in `to`, or the number 0 in x0.
 pub(crate) fn push_fetch(
     items: &mut Vec<Item>,
     layout: &Layout,
@@ -187,7 +253,7 @@ pub(crate) fn push_fetch(
     match operand {
         Operand::At(Location::Register(_)) => {}
         Operand::At(Location::Slot(slot)) => push_slot(items, layout, to, *slot)?,
-        Operand::Number(number) => push_constant(items, to, *number)?,
+        Operand::Number(number) => push_number(items, to, *number)?,
         Operand::Name(global) => push_address(items, to, global.number())?,
     }
     Ok(())
@@ -199,7 +265,39 @@ pub(crate) fn source_of(to: u8, operand: &Operand<Location>) -> u8
 {
     match operand {
         Operand::At(Location::Register(number)) => *number,
+        Operand::Number(0) => 0,
         Operand::At(Location::Slot(_)) | Operand::Number(_) | Operand::Name(_) => to,
+    }
+}
+
+// an operand that is no number: its low 32 bits, sign-extended
+fn push_extended(
+    items: &mut Vec<Item>,
+    layout: &Layout,
+    to: u8,
+    operand: &Operand<Location>,
+) -> Result<(), AllocError>
+    requires { layout.now.slots < 2 ^ 16 }
+    ensures { OnOk result (items.new.items ≡ items.old.items ++ (fetch layout.now to operand.now ++ (extend to (source to operand.now) ∷ []))) }
+{
+    push_fetch(items, layout, to, operand)?;
+    items.push(extend_word(to, source_of(to, operand)))?;
+    Ok(())
+}
+
+/// Puts the low 32 bits of an operand, sign-extended, into the register `to`.
+pub(crate) fn push_word(
+    items: &mut Vec<Item>,
+    layout: &Layout,
+    to: u8,
+    operand: &Operand<Location>,
+) -> Result<(), AllocError>
+    requires { layout.now.slots < 2 ^ 16 }
+    ensures { OnOk result (items.new.items ≡ items.old.items ++ word_into layout.now to operand.now) }
+{
+    match operand {
+        Operand::Number(number) => push_constant(items, to, word(*number)),
+        Operand::At(_) | Operand::Name(_) => push_extended(items, layout, to, operand),
     }
 }
 

@@ -1,0 +1,296 @@
+//! Numbers in instructions, at the edges of what fits.
+ghost use Rattle.std.specs.Prelude.{IsTrue};
+ghost use Rattle.vcode.specs.Regular.{passes_few};
+
+use crate::layout::Layout;
+use crate::line::push_line;
+use il_ast::operation::{Class, Condition, Size};
+use rv_isa::instruction::{ImmOp, Instr, RegOp, RegWOp, ShiftOp, ShiftWOp};
+use rv_isa::labelled::Item;
+use std::alloc::{AllocError, Global};
+use std::test::Fail;
+use vcode::line::{Line, Operation};
+use vcode::place::{Location, Operand};
+
+const FRAME: Layout = Layout {
+    saves: 0,
+    slots: 104,
+    area: 128,
+    size: 128,
+    result: None,
+    leave: 1,
+};
+
+// the code of one line
+fn code_of(alloc: Global, line: &Line<Location>) -> Result<Vec<Item>, AllocError>
+    requires { IsTrue (passes_few line.now) }
+{
+    let mut items = Vec::new(alloc);
+    push_line(&mut items, &FRAME, 0, line)?;
+    Ok(items)
+}
+
+// the code of an operation into x7
+fn operate(
+    alloc: Global,
+    operation: Operation,
+    left: Operand<Location>,
+    right: Operand<Location>,
+) -> Result<Vec<Item>, AllocError> {
+    let line = Line::Operate {
+        to: Location::Register(7),
+        operation,
+        left,
+        right,
+    };
+    code_of(alloc, &line)
+}
+
+fn x5() -> Operand<Location> {
+    Operand::At(Location::Register(5))
+}
+
+fn minus(number: u64) -> Operand<Location> {
+    Operand::Number(0_u64.wrapping_sub(number))
+}
+
+// a sole instruction with an immediate
+fn sole_immediate(items: &[Item]) -> Option<(ImmOp, u8, u8, i16)> {
+    match items.get(0) {
+        Some(
+            Item::Plain(
+                Instr::Imm {
+                    op,
+                    rd,
+                    rs1,
+                    immediate,
+                },
+            ),
+        ) if items.len() == 1 => Some((*op, rd.number, rs1.number, immediate.value)),
+        _ => None,
+    }
+}
+
+#[test]
+fn sums_take_numbers_of_12_bits(rt: HostRuntime) -> Result<(), Fail> {
+    let add = Operation::Reg(RegOp::Add);
+    let most = operate(rt.alloc(), add, x5(), Operand::Number(2047))?;
+    assert!(rt; sole_immediate(most.as_slice()) == Some((ImmOp::Addi, 7, 5, 2047)));
+    let least = operate(rt.alloc(), add, minus(2048), x5())?;
+    assert!(rt; sole_immediate(least.as_slice()) == Some((ImmOp::Addi, 7, 5, -2048)));
+    // an upper part, a lower one and the sum
+    assert_eq!(rt;
+        operate(rt.alloc(), add, x5(), Operand::Number(2048))?.len(),
+        3
+    );
+    assert_eq!(rt; operate(rt.alloc(), add, x5(), minus(2049))?.len(), 3);
+    Ok(())
+}
+
+#[test]
+fn differences_are_sums_with_the_opposite(rt: HostRuntime) -> Result<(), Fail> {
+    let sub = Operation::Reg(RegOp::Sub);
+    let least = operate(rt.alloc(), sub, x5(), Operand::Number(2048))?;
+    assert!(rt; sole_immediate(least.as_slice()) == Some((ImmOp::Addi, 7, 5, -2048)));
+    let most = operate(rt.alloc(), sub, x5(), minus(2047))?;
+    assert!(rt; sole_immediate(most.as_slice()) == Some((ImmOp::Addi, 7, 5, 2047)));
+    assert_eq!(rt;
+        operate(rt.alloc(), sub, x5(), Operand::Number(2049))?.len(),
+        3
+    );
+    // -2048 takes one instruction of its own, and its opposite is 2048
+    assert_eq!(rt; operate(rt.alloc(), sub, x5(), minus(2048))?.len(), 2);
+    // no form has the number on the left of a difference; the number 0 is in x0
+    assert_eq!(rt;
+        operate(rt.alloc(), sub, Operand::Number(7), x5())?.len(),
+        2
+    );
+    let negation = operate(rt.alloc(), sub, Operand::Number(0), x5())?;
+    assert_eq!(rt; negation.len(), 1);
+    match negation.get(0) {
+        Some(Item::Plain(Instr::Reg { rd, rs1, rs2, .. })) => {
+            assert!(rt; rd.number == 7 && rs1.number == 0 && rs2.number == 5);
+        }
+        _ => assert!(rt; false),
+    }
+    Ok(())
+}
+
+#[test]
+fn words_take_numbers_by_their_low_32_bits(rt: HostRuntime) -> Result<(), Fail> {
+    let addw = Operation::RegW(RegWOp::Addw);
+    let items = operate(rt.alloc(), addw, x5(), Operand::Number(0xffff_ffff))?;
+    assert_eq!(rt; items.len(), 1);
+    match items.get(0) {
+        Some(Item::Plain(Instr::Addiw { rd, rs1, immediate })) => {
+            assert!(rt; rd.number == 7 && rs1.number == 5 && immediate.value == -1);
+        }
+        _ => assert!(rt; false),
+    }
+    assert_eq!(rt; operate(rt.alloc(), addw, x5(), minus(2049))?.len(), 3);
+    Ok(())
+}
+
+#[test]
+fn shifts_take_their_number(rt: HostRuntime) -> Result<(), Fail> {
+    let long = operate(
+        rt.alloc(),
+        Operation::Reg(RegOp::Sra),
+        x5(),
+        Operand::Number(63),
+    )?;
+    match long.get(0) {
+        Some(Item::Plain(Instr::Shift { op, amount, .. })) => {
+            assert!(rt; *op == ShiftOp::Srai && amount.value == 63 && long.len() == 1);
+        }
+        _ => assert!(rt; false),
+    }
+    let word = operate(
+        rt.alloc(),
+        Operation::RegW(RegWOp::Sllw),
+        x5(),
+        Operand::Number(33),
+    )?;
+    match word.get(0) {
+        Some(Item::Plain(Instr::ShiftW { op, amount, .. })) => {
+            assert!(rt; *op == ShiftWOp::Slliw && amount.value == 1 && word.len() == 1);
+        }
+        _ => assert!(rt; false),
+    }
+    Ok(())
+}
+
+// how many instructions a comparison of longs takes, x5 on the left
+fn comparing(alloc: Global, condition: Condition, number: u64) -> Result<usize, AllocError> {
+    let operation = Operation::Compare(condition, Class::L);
+    Ok(operate(alloc, operation, x5(), Operand::Number(number))?.len())
+}
+
+#[test]
+fn comparisons_take_their_number(rt: HostRuntime) -> Result<(), Fail> {
+    assert_eq!(rt; comparing(rt.alloc(), Condition::Equal, 0)?, 1);
+    assert_eq!(rt; comparing(rt.alloc(), Condition::NotEqual, 0)?, 1);
+    assert_eq!(rt; comparing(rt.alloc(), Condition::Equal, 2048)?, 2);
+    assert_eq!(rt; comparing(rt.alloc(), Condition::Equal, 2049)?, 2 + 2);
+    assert_eq!(rt; comparing(rt.alloc(), Condition::SignedLess, 2047)?, 1);
+    assert_eq!(rt;
+        comparing(rt.alloc(), Condition::SignedGreaterEqual, 2047)?,
+        2
+    );
+    assert_eq!(rt; comparing(rt.alloc(), Condition::SignedLessEqual, 2046)?, 1);
+    assert_eq!(rt;
+        comparing(rt.alloc(), Condition::SignedLessEqual, 2047)?,
+        1 + 2
+    );
+    assert_eq!(rt;
+        comparing(rt.alloc(), Condition::SignedGreater, u64::MAX)?,
+        2
+    );
+    // no number without a sign is greater than this one, and its successor is 0
+    assert_eq!(rt;
+        comparing(rt.alloc(), Condition::UnsignedLessEqual, u64::MAX)?,
+        1 + 2
+    );
+    assert_eq!(rt; comparing(rt.alloc(), Condition::UnsignedGreater, 0)?, 2);
+    Ok(())
+}
+
+#[test]
+fn a_comparison_is_turned_where_its_number_is_on_the_left(rt: HostRuntime) -> Result<(), Fail> {
+    // 5 > x5, as words: x5 is extended, and less than 5
+    let operation = Operation::Compare(Condition::SignedGreater, Class::W);
+    let items = operate(rt.alloc(), operation, Operand::Number(5), x5())?;
+    assert_eq!(rt; items.len(), 2);
+    match items.get(1) {
+        Some(
+            Item::Plain(
+                Instr::Imm {
+                    op,
+                    rd,
+                    rs1,
+                    immediate,
+                },
+            ),
+        ) => {
+            assert!(rt; *op == ImmOp::Slti && rd.number == 7 && rs1.number == 28);
+            assert_eq!(rt; immediate.value, 5);
+        }
+        _ => assert!(rt; false),
+    }
+    Ok(())
+}
+
+// how many instructions a number takes
+fn setting(alloc: Global, value: Operand<Location>) -> Result<usize, AllocError> {
+    let line = Line::Set {
+        to: Location::Register(7),
+        value,
+    };
+    Ok(code_of(alloc, &line)?.len())
+}
+
+#[test]
+fn numbers_take_as_few_as_their_bits_ask(rt: HostRuntime) -> Result<(), Fail> {
+    assert_eq!(rt; setting(rt.alloc(), Operand::Number(2047))?, 1);
+    assert_eq!(rt; setting(rt.alloc(), minus(2048))?, 1);
+    assert_eq!(rt; setting(rt.alloc(), Operand::Number(2048))?, 2);
+    assert_eq!(rt; setting(rt.alloc(), minus(2049))?, 2);
+    assert_eq!(rt; setting(rt.alloc(), Operand::Number(0x1000))?, 1);
+    assert_eq!(rt; setting(rt.alloc(), Operand::Number(0x7fff_ffff))?, 2);
+    assert_eq!(rt; setting(rt.alloc(), minus(0x8000_0000))?, 1);
+    assert_eq!(rt; setting(rt.alloc(), Operand::Number(0x8000_0000))?, 9);
+    assert_eq!(rt; setting(rt.alloc(), minus(0x8000_0001))?, 9);
+    assert_eq!(rt;
+        setting(rt.alloc(), Operand::Number(0x8000_0000_0000_0000))?,
+        9
+    );
+    Ok(())
+}
+
+#[test]
+fn the_parts_of_a_number_of_32_bits(rt: HostRuntime) -> Result<(), Fail> {
+    // 2^31 - 1 is -2^31 and -1, as a sum of 32 bits
+    let line = Line::Set {
+        to: Location::Register(7),
+        value: Operand::Number(0x7fff_ffff),
+    };
+    let items = code_of(rt.alloc(), &line)?;
+    match items.get(0) {
+        Some(Item::Plain(Instr::Lui { rd, field })) => {
+            assert!(rt; rd.number == 7 && field.value == 0x8_0000);
+        }
+        _ => assert!(rt; false),
+    }
+    match items.get(1) {
+        Some(Item::Plain(Instr::Addiw { rd, rs1, immediate })) => {
+            assert!(rt; rd.number == 7 && rs1.number == 7 && immediate.value == -1);
+        }
+        _ => assert!(rt; false),
+    }
+    Ok(())
+}
+
+#[test]
+fn nothing_is_done_for_a_copy_to_itself(rt: HostRuntime) -> Result<(), Fail> {
+    assert_eq!(rt; setting(rt.alloc(), Operand::At(Location::Register(7)))?, 0);
+    assert_eq!(rt; setting(rt.alloc(), x5())?, 1);
+    Ok(())
+}
+
+#[test]
+fn zero_is_stored_from_x0(rt: HostRuntime) -> Result<(), Fail> {
+    let line = Line::Store {
+        size: Size::Word,
+        value: Operand::Number(0),
+        at: x5(),
+    };
+    let items = code_of(rt.alloc(), &line)?;
+    assert_eq!(rt; items.len(), 1);
+    match items.get(0) {
+        Some(Item::Plain(Instr::Store { rs1, rs2, .. })) => {
+            assert!(rt; rs1.number == 5 && rs2.number == 0);
+        }
+        _ => assert!(rt; false),
+    }
+    Ok(())
+}
