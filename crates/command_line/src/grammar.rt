@@ -15,6 +15,31 @@ pub(crate) const TEXT: &str = "FILE";
 
 pub(crate) const WORDS: &str = "WORDS";
 
+/// What stands below the help of the program and of its commands.
+const STATUSES: &str =
+    "Exit status: the program's own of run and interp, 0 of build and dis; 134 where the program halts, 124 at the limit, 125 where it faults, is undefined or runs out of stack, 126 where qbec refuses or can't go on. Each but the program's own comes with a line on standard error that says why.
+
+Example: qbec build -o hello examples/hello.ssa && qbec run hello";
+
+const BUILD: &str =
+    "Exit status: 0, and OUT can be executed; 126 where the texts are refused or a file can't be read or written, and a line on standard error says why.
+
+Example: qbec build -o hello examples/hello.ssa";
+
+const RUN: &str =
+    "Exit status: the program's own; 134 where it halts, 124 at the limit, 125 where it faults, 126 where EXE or the words are refused.
+
+Example: qbec run --limit 100000 echo -- -n word";
+
+const INTERPRET: &str =
+    "Exit status: the program's own; 134 where it halts, 124 at the limit, 125 where it is undefined or runs out of stack, 126 where FILE or the words are refused.
+
+Example: qbec interp --limit 100000 examples/hello.ssa";
+
+const DISASSEMBLE: &str = "Exit status: 0, or 126 where EXE is refused.
+
+Example: qbec dis hello";
+
 /// What the program takes.
 pub(crate) fn grammar<'a>(alloc: Global) -> Result<Command<'a>, AllocError> {
     let build = build(alloc)?;
@@ -25,6 +50,8 @@ pub(crate) fn grammar<'a>(alloc: Global) -> Result<Command<'a>, AllocError> {
         .about(
             "Compiles programs in the QBE intermediate language (its integer part) to static RV64IM executables",
         )
+        .version("1.0")
+        .after_help(STATUSES)
         .no_binary_name(true)
         .subcommand_required(true)
         .disable_help_subcommand(true)
@@ -47,6 +74,7 @@ fn build<'a>(alloc: Global) -> Result<Command<'a>, AllocError> {
         .help("The texts of the program, in order");
     Command::new(alloc, "build")
         .about("Compiles texts to an executable file")
+        .after_help(BUILD)
         .arg(out)?
         .arg(files)
 }
@@ -57,6 +85,7 @@ fn run<'a>(alloc: Global) -> Result<Command<'a>, AllocError> {
         .help("The executable file");
     Command::new(alloc, "run")
         .about("Runs an executable file")
+        .after_help(RUN)
         .arg(limit(alloc, "How many instructions to run at most"))?
         .arg(file)?
         .arg(words(alloc))
@@ -68,6 +97,7 @@ fn interp<'a>(alloc: Global) -> Result<Command<'a>, AllocError> {
         .help("The text of the program");
     Command::new(alloc, "interp")
         .about("Interprets one text")
+        .after_help(INTERPRET)
         .arg(limit(alloc, "How many turns to take at most"))?
         .arg(file)?
         .arg(words(alloc))
@@ -79,6 +109,7 @@ fn dis<'a>(alloc: Global) -> Result<Command<'a>, AllocError> {
         .help("The executable file");
     Command::new(alloc, "dis")
         .about("Shows the instructions of an executable file")
+        .after_help(DISASSEMBLE)
         .arg(file)
 }
 

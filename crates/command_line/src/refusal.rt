@@ -7,7 +7,7 @@ use std::fmt;
 /// Why words ask for no command. Shown, it is the text for the user, with its line ends.
 #[derive(Debug, Drop, thiserror::Error)]
 pub enum Refusal {
-    /// Help was asked for.
+    /// Help, or the version, was asked for.
     #[error("{0}")]
     Help(Text),
     /// The words are not of the command line's grammar.
@@ -35,7 +35,7 @@ impl From<Error> for Refusal {
     fn from(error: Error) -> Refusal {
         match error.kind() {
             ErrorKind::OutOfMemory => Refusal::Memory,
-            ErrorKind::DisplayHelp => Refusal::Help(Text { error }),
+            ErrorKind::DisplayHelp | ErrorKind::DisplayVersion => Refusal::Help(Text { error }),
             _ => Refusal::Mistake(Text { error }),
         }
     }
