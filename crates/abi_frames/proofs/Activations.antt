@@ -68,7 +68,6 @@ pub record IsSetting (c : Setting) : Type 0 where
   pub saves_near : c.layout.saves < 1024
   pub slots_near : c.layout.slots < 1024
   pub savable : list_all can_save c.saved ≡ true
-  pub return_saved : is_among 1 c.saved ≡ true
   pub small : c.layout.size < 2 ^ 21
 
 -- ---- places
@@ -124,6 +123,10 @@ slot_in_frame c is i h = let fits = is.fits in in_frame c is (slot_offset c.layo
 
 -- ---- what holds in a state
 
+-- the registers that hold the same at a function's end as at its begin: those that a callee keeps, and the return address
+abbrev pub is_held : ℕ → Bool
+is_held n = is_kept n || nat_eq n 1
+
 pub record Framed (c : Setting) (numbers : Numbers) (memory : Spots) (u : State) : Type 0 where
   pub pointer : u.registers 2 ≡ bottom c
   pub places : (p : Location) (v : ℕ) → is_place c.slots p ≡ true → numbers p ≡ Some v → value_at c u p ≡ v
@@ -131,7 +134,7 @@ pub record Framed (c : Setting) (numbers : Numbers) (memory : Spots) (u : State)
   pub clear : (x : ℕ) → bottom c ≤ x → x < c.sp - c.area → memory x ≡ Away
   pub reach : (x : ℕ) → c.sp ≤ x → c.before x ≡ Away → memory x ≡ Away
   pub saved : (k r : ℕ) → slice_get c.saved k ≡ Some r → number_at u.bytes (save_at c k) 8 ≡ c.start.registers r
-  pub thread : (n : ℕ) → is_kept n ≡ true → n ≢ 2 → is_among n c.saved ≡ false → u.registers n ≡ c.start.registers n
+  pub thread : (n : ℕ) → is_held n ≡ true → n ≢ 2 → is_among n c.saved ≡ false → u.registers n ≡ c.start.registers n
   pub others : (x : ℕ) → c.sp ≤ x → c.before x ≡ Away → u.bytes x ≡ c.start.bytes x
 
 some_is : (a b : ℕ) → Some a ≡ Some b → a ≡ b
@@ -173,11 +176,14 @@ ne_is a b h e = absurd (let no : ⊥ = grind (arith, nat_tests) in no)
 
 -- ---- the registers that a callee keeps
 
-pub kept_below : (n : ℕ) → is_kept n ≡ true → n < 28
-kept_below n h = grind (arith, nat_tests)
+pub held_below : (n : ℕ) → is_held n ≡ true → n < 28
+held_below n h = grind (arith, nat_tests)
 
-pub kept_not_10 : (n : ℕ) → is_kept n ≡ true → n ≢ 10
-kept_not_10 n h e = absurd (let no : ⊥ = grind (arith, nat_tests) in no)
+pub held_not_10 : (n : ℕ) → is_held n ≡ true → n ≢ 10
+held_not_10 n h e = absurd (let no : ⊥ = grind (arith, nat_tests) in no)
+
+held_kept : (n : ℕ) → 5 ≤ n → is_held n ≡ true → is_kept n ≡ true
+held_kept n h k = grind (arith, nat_tests)
 
 -- a place that may be written where these registers are saved
 abbrev pub MayWrite : List ℕ → Location → Type 0
@@ -187,9 +193,9 @@ MayWrite rs (Slot i) = Unit {0}
 two_ways : (b : Bool) → b ≡ true → b ≡ false → ⊥
 two_ways b e d = cc
 
-not_written : (rs : List ℕ) (n r : ℕ) → is_kept n ≡ true → is_among n rs ≡ false → MayWrite rs (InRegister r) → n ≢ r
-not_written rs n r kept out may e =
-    two_ways (is_among n rs) (ap (λ m. is_among m rs) e ∙ may (ap is_kept (sym e) ∙ kept)) out
+not_written : (rs : List ℕ) (n r : ℕ) → 5 ≤ r → is_held n ≡ true → is_among n rs ≡ false → MayWrite rs (InRegister r) → n ≢ r
+not_written rs n r from kept out may e =
+    two_ways (is_among n rs) (ap (λ m. is_among m rs) e ∙ may (held_kept r from (ap is_held (sym e) ∙ kept))) out
 
 -- a register is written
 register_place : (c : Setting) (numbers : Numbers) (memory : Spots) (s u : State) (r v : ℕ) (o : Option ℕ) → Framed c numbers memory s
@@ -219,7 +225,7 @@ register_assigned c numbers memory s u r v o framed is may h value =
       clear = framed.clear;
       reach = framed.reach;
       saved = λ k q e. ap (λ (m : ℕ → ℕ). number_at m (save_at c k) 8) h.bytes ∙ framed.saved k q e;
-      thread = λ n kept other out. h.others n (kept_below n kept) (not_written c.saved n r kept out may) ∙ framed.thread n kept other out;
+      thread = λ n kept other out. h.others n (held_below n kept) (not_written c.saved n r lo kept out may) ∙ framed.thread n kept other out;
       others = λ x above away. ap (λ (m : ℕ → ℕ). m x) h.bytes ∙ framed.others x above away;
     }
 
@@ -286,7 +292,7 @@ slot_assigned c is numbers memory s u i v o small few framed h value =
           let few_saves : k < length c.saved = slice_get_within c.saved k q e in
           ap (λ (m : ℕ → ℕ). number_at m (save_at c k) 8) h.bytes
           ∙ (read_below s.bytes (slot_at c i) 8 v (save_at c k) 8 (omega (arith, few_saves, saves)) ∙ framed.saved k q e);
-      thread = λ n kept other out. h.registers n (kept_below n kept) ∙ framed.thread n kept other out;
+      thread = λ n kept other out. h.registers n (held_below n kept) ∙ framed.thread n kept other out;
       others = λ x high away.
           ap (λ (m : ℕ → ℕ). m x) h.bytes
           ∙ (stored_above s.bytes (slot_at c i) 8 v x (omega (arith, high, fits, above, few)) ∙ framed.others x high away);

@@ -38,7 +38,10 @@ use Rattle.abi_frames.specs.Layout.{most_in_lines}
 use Rattle.abi_frames.specs.Covered.{is_off_arguments, covers_line}
 use Rattle.abi_frames.specs.Emission.{fetch, source, pass_all, call_through, receive_items, lines_items, jump_items}
 use Rattle.abi_frames.proofs.Leading.{StandAt, Reaches, Leads, leads_nowhere, leads_so}
-use Rattle.abi_frames.proofs.Activations.{Setting, IsSetting, site, bottom, operand_in, Framed, operand_known, Assigned, MayWrite, assigned, assigned_output}
+use Rattle.abi_frames.proofs.Activations.{Setting, IsSetting, site, bottom, operand_in, Framed, operand_known, Assigned, MayWrite, assigned, assigned_output, is_among}
+use Rattle.abi_frames.proofs.Saving.{call_saves}
+use Rattle.abi_frames.proofs.Pacing.{few_standing}
+use Rattle.rv_isa.specs.declared.labelled.Item.TheVariants.{Label}
 use Rattle.abi_frames.proofs.LineCode.{leads_set_line}
 use Rattle.abi_frames.proofs.Sizes.{call_parts, le_is}
 use Rattle.abi_frames.proofs.Passing.{can_pass}
@@ -116,10 +119,10 @@ departs : (c : Setting) (f : Code Location) → CodeStands c f → (b : Block Lo
     → (a : At c f b (Call to callee args ∷ lines) fs k u) → (at : ℕ) (xs : List ℕ) (turns room : ℕ) → number_of c.addresses fs.numbers callee ≡ Some at
     → read_all c.addresses fs.numbers args ≡ Some xs → at % 4 ≡ 0
     → Departs c to callee args at (record { turns = turns; room = room; args = xs; memory = fs.memory })
-    ((lines_items c.layout (a.used + 0) lines ++ jump_items c.layout b.jump) ++ a.rest) u
+    ((lines_items c.layout (a.used + 0) lines ++ jump_items c.layout (fs.block + 1) b.jump) ++ (Label (fs.block + 1) ∷ a.rest)) u
 departs c f is b to callee args lines fs k u a at xs turns room is_at is_xs even =
     let line = call_line c f b to callee args lines fs k u a in
-    let tail : List Item = (lines_items c.layout (a.used + 0) lines ++ jump_items c.layout b.jump) ++ a.rest in
+    let tail : List Item = (lines_items c.layout (a.used + 0) lines ++ jump_items c.layout (fs.block + 1) b.jump) ++ (Label (fs.block + 1) ∷ a.rest) in
     let first : List Item = pass_all c.layout 0 args ++ fetch c.layout 28 callee in
     let jump : List Item = call_through (source 28 callee) ∷ [] in
     let m = (leads_prepared c is.setting u callee args a.framed.pointer line.known line.off line.good line.fits).from (jump ++ (receive_items c.layout to ++ tail))
@@ -148,10 +151,10 @@ departs c f is b to callee args lines fs k u a at xs turns room is_at is_xs even
 resumed : (c : Setting) (f : Code Location) (b : Block Location) (to : Option (Destination Location)) (callee : Operand Location)
     (args : List (Argument Location)) (lines : List (Line Location)) (fs : FlatState) (k : ℕ) (u : State)
     → (a : At c f b (Call to callee args ∷ lines) fs k u) → (at : ℕ) (given : FlatGiven)
-    → (d : Departs c to callee args at given ((lines_items c.layout (a.used + 0) lines ++ jump_items c.layout b.jump) ++ a.rest) u)
+    → (d : Departs c to callee args at given ((lines_items c.layout (a.used + 0) lines ++ jump_items c.layout (fs.block + 1) b.jump) ++ (Label (fs.block + 1) ∷ a.rest)) u)
     → (wants : Option Class) (before : Spots) (t : Spent) (x : Option ℕ) (now : Spots) → (back : Returns c.world (bottom c) wants before d.v t x now)
     → (numbers : Numbers)
-    → (m : Reaches (site c) (longest_size (receive_items c.layout to)) ((lines_items c.layout (a.used + 0) lines ++ jump_items c.layout b.jump) ++ a.rest)
+    → (m : Reaches (site c) (longest_size (receive_items c.layout to)) ((lines_items c.layout (a.used + 0) lines ++ jump_items c.layout (fs.block + 1) b.jump) ++ (Label (fs.block + 1) ∷ a.rest))
     back.after (λ w. Framed c numbers now w × (w.output ≡ back.after.output)))
     → At c f b lines (record fs { next = fs.next + 1; numbers = numbers; memory = now; spent = both fs.spent t })
     (k + (d.steps + (back.steps + m.steps))) m.after
@@ -219,17 +222,24 @@ received c is numbers now w d n framed good may result =
       assigned_output c w d.place v z made,
     ))
 
+-- the return address is saved
+address_saved : (c : Setting) (f : Code Location) → CodeStands c f → (b : Block Location) (to : Option (Destination Location)) (callee : Operand Location)
+    (args : List (Argument Location)) (lines : List (Line Location)) (fs : FlatState) (k : ℕ) (u : State) → At c f b (Call to callee args ∷ lines) fs k u
+    → is_among 1 c.saved ≡ true
+address_saved c f is b to callee args lines fs k u a =
+    subst (λ rs. is_among 1 rs ≡ true) (sym is.saved) (call_saves f fs.block (fs.next + 0) b (Call to callee args) a.block (a.ahead 0) refl)
+
 returned : (c : Setting) (f : Code Location) → CodeStands c f → (j : FlatGiven) (r : FlatOutcome) (n : ℕ) → Follows c f j r n
     → (b : Block Location) (to : Option (Destination Location)) (callee : Operand Location) (args : List (Argument Location)) (lines : List (Line Location))
     (fs : FlatState) (k : ℕ) (u : State) → (a : At c f b (Call to callee args ∷ lines) fs k u) → (at : ℕ) (given : FlatGiven)
-    → (d : Departs c to callee args at given ((lines_items c.layout (a.used + 0) lines ++ jump_items c.layout b.jump) ++ a.rest) u)
+    → (d : Departs c to callee args at given ((lines_items c.layout (a.used + 0) lines ++ jump_items c.layout (fs.block + 1) b.jump) ++ (Label (fs.block + 1) ∷ a.rest)) u)
     → (t : Spent) (x : Option ℕ) (now : Spots) → Returns c.world (bottom c) (option_map (λ (q : Destination Location). q.class) to) fs.memory d.v t x now
     → SameReach fs.memory now → (log : Log)
     → LoggedNext (λ s rest. Logged (step_of c f j) n s rest r) r (resumes fs to (FlatReturned t x now)) log → AllPerform c.world (bottom c) log
     → Performed c f r
 returned c f is j r n go b None callee args lines fs k u a at given d t x now back stays log goes all =
-    let framed = framed_back c is.setting fs.numbers fs.memory now u d.v back.after a.framed d.same back.back stays in
-    let tail : List Item = (lines_items c.layout (a.used + 0) lines ++ jump_items c.layout b.jump) ++ a.rest in
+    let framed = framed_back c is.setting fs.numbers fs.memory now u d.v back.after a.framed d.same back.back stays (address_saved c f is b None callee args lines fs k u a) in
+    let tail : List Item = (lines_items c.layout (a.used + 0) lines ++ jump_items c.layout (fs.block + 1) b.jump) ++ (Label (fs.block + 1) ∷ a.rest) in
     let m = (leads_nowhere (site c) back.after (λ w. Framed c (kept fs.numbers) now w × (w.output ≡ back.after.output)) (framed, refl)).from tail
     (subst (λ q. StandAt (site c) tail q) (sym back.back.place) d.stands) back.back.fixed in
     go b lines (record fs { next = fs.next + 1; numbers = kept fs.numbers; memory = now; spent = both fs.spent t })
@@ -238,8 +248,8 @@ returned c f is j r n go b None callee args lines fs k u a at given d t x now ba
 returned c f is j r n go b (Some q) callee args lines fs k u a at given d t None now back stays log goes all =
     undefined c f (both fs.spent t) r goes.0
 returned c f is j r n go b (Some q) callee args lines fs k u a at given d t (Some v) now back stays log goes all =
-    let framed = framed_back c is.setting fs.numbers fs.memory now u d.v back.after a.framed d.same back.back stays in
-    let tail : List Item = (lines_items c.layout (a.used + 0) lines ++ jump_items c.layout b.jump) ++ a.rest in
+    let framed = framed_back c is.setting fs.numbers fs.memory now u d.v back.after a.framed d.same back.back stays (address_saved c f is b (Some q) callee args lines fs k u a) in
+    let tail : List Item = (lines_items c.layout (a.used + 0) lines ++ jump_items c.layout (fs.block + 1) b.jump) ++ (Label (fs.block + 1) ∷ a.rest) in
     let numbers : Numbers = put q.place (Some (held q.class v)) (kept fs.numbers) in
     let line = call_line c f b (Some q) callee args lines fs k u a in
     let may = may_write c f is b (Call (Some q) callee args) lines fs k u a q.place line.wanted (λ n. refl) in
@@ -283,6 +293,7 @@ kept_on c f b to callee args lines fs k u a at given tail d t there =
     let some = d.some in
     let price = a.price in
     let price_there = there.price in
+    let bound = few_standing f fs.block in
     let pace = a.pace in
     let pace_there = there.pace in
     record {
@@ -290,7 +301,7 @@ kept_on c f b to callee args lines fs k u a at given tail d t there =
       after = there.after;
       comes = comes_then (comes_then a.comes d.comes) there.comes;
       price = omega (arith, enough, size, few, price, price_there);
-      pace = omega (arith, some, pace, pace_there);
+      pace = omega (arith, some, bound, pace, pace_there);
       output = there.output ∙ (ap (λ o. o ++ t.output) (d.output ∙ a.output) ∙ append_assoc c.start.output fs.spent.output t.output);
     }
 
@@ -299,24 +310,24 @@ kept_on c f b to callee args lines fs k u a at given tail d t there =
 went : (c : Setting) (f : Code Location) → CodeStands c f → (j : FlatGiven) (r : FlatOutcome) (n : ℕ) → Follows c f j r n
     → (b : Block Location) (to : Option (Destination Location)) (callee : Operand Location) (args : List (Argument Location)) (lines : List (Line Location))
     (fs : FlatState) (k : ℕ) (u : State) → (a : At c f b (Call to callee args ∷ lines) fs k u) → (at : ℕ) (given : FlatGiven)
-    → (d : Departs c to callee args at given ((lines_items c.layout (a.used + 0) lines ++ jump_items c.layout b.jump) ++ a.rest) u)
+    → (d : Departs c to callee args at given ((lines_items c.layout (a.used + 0) lines ++ jump_items c.layout (fs.block + 1) b.jump) ++ (Label (fs.block + 1) ∷ a.rest)) u)
     → (o : FlatOutcome) → Performs c.world (bottom c) (option_map (λ (q : Destination Location). q.class) to) fs.memory d.v o → ReachStays fs.memory o
     → (log : Log) → LoggedNext (λ s rest. Logged (step_of c f j) n s rest r) r (resumes fs to o) log → AllPerform c.world (bottom c) log
     → Performed c f r
 went c f is j r n go b to callee args lines fs k u a at given d (FlatReturned t x now) there stays log goes all =
     returned c f is j r n go b to callee args lines fs k u a at given d t x now there stays log goes all
 went c f is j r n go b to callee args lines fs k u a at given d (FlatEnded t (Exit m)) there stays log goes all =
-    let tail : List Item = (lines_items c.layout (a.used + 0) lines ++ jump_items c.layout b.jump) ++ a.rest in
+    let tail : List Item = (lines_items c.layout (a.used + 0) lines ++ jump_items c.layout (fs.block + 1) b.jump) ++ (Label (fs.block + 1) ∷ a.rest) in
     subst (λ o. Performed c f o) goes.0 (stopped c f b to callee args lines fs k u a at given tail d t (Exited m) there)
 went c f is j r n go b to callee args lines fs k u a at given d (FlatEnded t Halted) there stays log goes all =
-    let tail : List Item = (lines_items c.layout (a.used + 0) lines ++ jump_items c.layout b.jump) ++ a.rest in
+    let tail : List Item = (lines_items c.layout (a.used + 0) lines ++ jump_items c.layout (fs.block + 1) b.jump) ++ (Label (fs.block + 1) ∷ a.rest) in
     subst (λ o. Performed c f o) goes.0 (stopped c f b to callee args lines fs k u a at given tail d t Broken there)
 went c f is j r n go b to callee args lines fs k u a at given d (FlatEnded t Undefined) there stays log goes all =
     subst (λ o. Performed c f o) goes.0 tt
 went c f is j r n go b to callee args lines fs k u a at given d (FlatEnded t Stack) there stays log goes all =
     subst (λ o. Performed c f o) goes.0 tt
 went c f is j r n go b to callee args lines fs k u a at given d (FlatEnded t Turns) there stays log goes all =
-    let tail : List Item = (lines_items c.layout (a.used + 0) lines ++ jump_items c.layout b.jump) ++ a.rest in
+    let tail : List Item = (lines_items c.layout (a.used + 0) lines ++ jump_items c.layout (fs.block + 1) b.jump) ++ (Label (fs.block + 1) ∷ a.rest) in
     subst (λ o. Performed c f o) goes.0 (kept_on c f b to callee args lines fs k u a at given tail d t there)
 
 -- ---- a call

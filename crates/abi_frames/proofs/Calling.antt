@@ -32,7 +32,7 @@ use Rattle.abi_frames.specs.Emission.{fetch, source, pass_all, call_through}
 use Rattle.abi_frames.proofs.ConstantNumbers.{near_moves}
 use Rattle.abi_frames.proofs.Leading.{Site, StandAt, Leads, leads_then, leads_so, stepped, in_register, in_register_small}
 use Rattle.abi_frames.proofs.Instructions.{is_28}
-use Rattle.abi_frames.proofs.Activations.{Setting, IsSetting, site, bottom, slot_at, save_at, value_at, operand_in, place_is, slot_is, Framed, operand_known}
+use Rattle.abi_frames.proofs.Activations.{Setting, IsSetting, site, bottom, slot_at, save_at, value_at, operand_in, place_is, slot_is, is_among, is_held, Framed, operand_known}
 use Rattle.abi_frames.proofs.LineCode.{Fetched, leads_fetch}
 use Rattle.abi_frames.proofs.Passing.{Unmoved, unmoved, operand_unmoved, sent, Passed, can_pass, leads_arguments}
 
@@ -309,10 +309,13 @@ saved_back c is numbers memory now s v w framed same back k r few e =
     (framed.clear y (omega (arith, lo)) (omega (arith, hi, few, saves, frame, above))))
     ∙ framed.saved k r e
 
+one_is : (n : ℕ) → is_held n ≡ true → is_kept n ≡ false → n ≡ 1
+one_is n held e = grind (arith, nat_tests)
+
 -- after a return, before its result is in its place
 pub framed_back : (c : Setting) → IsSetting c → (numbers : Numbers) (memory now : Spots) (s v w : State) → Framed c numbers memory s → SameFrame c s v
-    → Back c.world (bottom c) memory v now w → SameReach memory now → Framed c (kept numbers) now w
-framed_back c is numbers memory now s v w framed same back stays =
+    → Back c.world (bottom c) memory v now w → SameReach memory now → is_among 1 c.saved ≡ true → Framed c (kept numbers) now w
+framed_back c is numbers memory now s v w framed same back stays address =
     let saves = is.saves_fit in
     let frame = is.fits in
     let above = is.above in
@@ -325,7 +328,20 @@ framed_back c is numbers memory now s v w framed same back stays =
       saved = λ k r e.
           let few : k < length c.saved = slice_get_within c.saved k r e in
           saved_back c is numbers memory now s v w framed same back k r few e;
-      thread = λ n k other out. back.kept n k ∙ (same.registers n k ∙ framed.thread n k other out);
+      thread = λ n held other out.
+          let k : is_kept n ≡ true = still_kept n held out in
+          back.kept n k ∙ (same.registers n k ∙ framed.thread n held other out);
       others = λ x hi away.
           byte_back c memory now s v w same back x (omega (arith, hi, saves, frame, above)) (framed.reach x hi away) ∙ framed.others x hi away;
     }
+  where
+    two_ways : (b : Bool) → b ≡ true → b ≡ false → ⊥
+    two_ways b e d = cc
+
+    -- only the return address is not, and that is saved
+    by_test : (n : ℕ) → is_held n ≡ true → is_among n c.saved ≡ false → (b : Bool) → is_kept n ≡ b → is_kept n ≡ true
+    by_test n held out true e = e
+    by_test n held out false e = absurd (two_ways (is_among 1 c.saved) address (ap (λ m. is_among m c.saved) (sym (one_is n held e)) ∙ out))
+
+    still_kept : (n : ℕ) → is_held n ≡ true → is_among n c.saved ≡ false → is_kept n ≡ true
+    still_kept n held out = by_test n held out (is_kept n) refl

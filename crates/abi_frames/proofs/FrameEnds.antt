@@ -1,5 +1,5 @@
 -- What the begin and the end of a frame do.
-use Rattle.std.proofs.Common.{◌≡◌, ◌≢◌, ℕ, zero, suc, ◌+◌, ◌*◌, ◌%◌, ◌^◌, ◌<◌, ◌≤◌, Bool, true, false, List, [], ◌∷◌, ◌++◌, refl, sym, ◌∙◌, ap, subst, arith, lit<}
+use Rattle.std.proofs.Common.{◌≡◌, ◌≢◌, ℕ, zero, suc, ◌+◌, ◌-◌, ◌*◌, ◌%◌, ◌^◌, ◌<◌, ◌≤◌, Bool, true, false, List, [], ◌∷◌, ◌++◌, refl, sym, ◌∙◌, ap, subst, arith, lit<}
 use Rattle.std.specs.Prelude.{◌||◌, ◌&&◌, not, nat_eq, nat_lt, if◌then◌else◌, slice_get, length, Some, Ok}
 use Rattle.std.specs.List.{list_all}
 use Rattle.std.proofs.lemmas.Bool.{and_parts}
@@ -18,11 +18,11 @@ use Rattle.rv_isa.proofs.RunLemmas.{comes_by_step, comes_then}
 use Rattle.vcode.specs.Cost.{is_immediate}
 use Rattle.abi_frames.specs.Calls.{is_kept}
 use Rattle.abi_frames.specs.Fields.{reg, low, add_low, sum_to, constant, load_8, store_8}
-use Rattle.abi_frames.specs.Emission.{move_pointer, save_all, restore_all, go_back, epilogue}
+use Rattle.abi_frames.specs.Emission.{move_pointer, lower_pointer, raise_pointer, save_all, restore_all, go_back, epilogue}
 use Rattle.abi_frames.proofs.ConstantNumbers.{immediate_adds, near_moves}
 use Rattle.abi_frames.proofs.Leading.{Site, StandAt, Leads, leads_nowhere, leads_then, leads_so, leads_fixed, longest-append, stepped, Sets, IsReg, register_reg}
 use Rattle.abi_frames.proofs.Instructions.{Writes, leads_add_low, leads_sum, leads_constant, leads_load, leads_store, near_address, is_2, is_28}
-use Rattle.abi_frames.proofs.Activations.{Setting, IsSetting, site, bottom, save_at, in_frame, can_save, is_among, kept_below}
+use Rattle.abi_frames.proofs.Activations.{Setting, IsSetting, site, bottom, save_at, in_frame, can_save, is_among, is_held, held_below}
 use Rattle.std.proofs.Common.{append_assoc}
 
 -- ---- the stack pointer
@@ -58,6 +58,37 @@ leads_move_pointer c s n = by_test (is_immediate n) refl
           bytes = two.bytes ∙ one.bytes;
           output = two.output ∙ one.output;
         }))
+
+same_pointer : (c : Site) (s : State) (v : ℕ) → s.registers 2 ≡ v → Leads c [] s (PointerMoved s v)
+same_pointer c s v e = leads_nowhere c s (PointerMoved s v) (record { value = e; others = λ m lo other. refl; bytes = refl; output = refl })
+
+eq_zero : (n : ℕ) → nat_eq n 0 ≡ true → n ≡ 0
+eq_zero n h = grind (arith, nat_tests)
+
+pub leads_lower : (c : Site) (s : State) (size : ℕ) → Leads c (lower_pointer size) s (PointerMoved s ((s.registers 2 + (2 ^ 64 - size)) % 2 ^ 64))
+leads_lower c s size = by_test (nat_eq size 0) refl
+  where
+    none : (x n : ℕ) → x < 2 ^ 64 → n ≡ 0 → x ≡ (x + (2 ^ 64 - n)) % 2 ^ 64
+    none x n h e = omega (arith, h, e)
+
+    by_test : (b : Bool) → nat_eq size 0 ≡ b
+        → Leads c (if b then [] else move_pointer (2 ^ 64 - size)) s (PointerMoved s ((s.registers 2 + (2 ^ 64 - size)) % 2 ^ 64))
+    by_test true e =
+        leads_fixed c [] s (PointerMoved s ((s.registers 2 + (2 ^ 64 - size)) % 2 ^ 64))
+        (λ fixed. same_pointer c s ((s.registers 2 + (2 ^ 64 - size)) % 2 ^ 64) (none (s.registers 2) size (fixed.words 2) (eq_zero size e)))
+    by_test false e = leads_move_pointer c s (2 ^ 64 - size)
+
+leads_raise : (c : Site) (s : State) (size : ℕ) → Leads c (raise_pointer size) s (PointerMoved s ((s.registers 2 + size) % 2 ^ 64))
+leads_raise c s size = by_test (nat_eq size 0) refl
+  where
+    none : (x n : ℕ) → x < 2 ^ 64 → n ≡ 0 → x ≡ (x + n) % 2 ^ 64
+    none x n h e = omega (arith, h, e)
+
+    by_test : (b : Bool) → nat_eq size 0 ≡ b → Leads c (if b then [] else move_pointer size) s (PointerMoved s ((s.registers 2 + size) % 2 ^ 64))
+    by_test true e =
+        leads_fixed c [] s (PointerMoved s ((s.registers 2 + size) % 2 ^ 64))
+        (λ fixed. same_pointer c s ((s.registers 2 + size) % 2 ^ 64) (none (s.registers 2) size (fixed.words 2) (eq_zero size e)))
+    by_test false e = leads_move_pointer c s size
 
 -- ---- saved registers
 
@@ -312,7 +343,7 @@ sum_back b n h = omega (arith, h)
 -- the end of a frame: the registers are as at its begin, and the machine is back at its caller
 pub ends_frame : (c : Setting) → IsSetting c → (s : State) → s.registers 2 ≡ bottom c → c.start.registers 2 ≡ c.sp → c.start.registers 1 % 4 ≡ 0
     → ((k r : ℕ) → slice_get c.saved k ≡ Some r → number_at s.bytes (save_at c k) 8 ≡ c.start.registers r)
-    → ((n : ℕ) → is_kept n ≡ true → n ≢ 2 → is_among n c.saved ≡ false → s.registers n ≡ c.start.registers n)
+    → ((n : ℕ) → is_held n ≡ true → n ≢ 2 → is_among n c.saved ≡ false → s.registers n ≡ c.start.registers n)
     → Ends (site c) (epilogue c.layout c.saved) s (Left c s)
 ends_frame c is s pointer start aligned held thread =
     let saves = is.saves_fit in
@@ -320,14 +351,14 @@ ends_frame c is s pointer start aligned held thread =
     let below = is.below in
     let top = is.world.small in
     let size : ℕ = c.layout.size in
-    ends_then (site c) (restore_all c.layout.saves c.saved) (move_pointer size ++ (go_back ∷ [])) s (AllRestored c c.saved s) (Left c s)
+    ends_then (site c) (restore_all c.layout.saves c.saved) (raise_pointer size ++ (go_back ∷ [])) s (AllRestored c c.saved s) (Left c s)
     (leads_restore_all c is s c.layout.saves c.saved pointer is.savable saves held)
     (λ u f one.
     let at_u : u.registers 2 ≡ bottom c = one.others 2 (not_among 2 c.saved refl is.savable) ∙ pointer in
-    ends_then (site c) (move_pointer size) (go_back ∷ []) u (PointerMoved u ((u.registers 2 + size) % 2 ^ 64)) (Left c s)
-    (leads_move_pointer (site c) u size)
+    ends_then (site c) (raise_pointer size) (go_back ∷ []) u (PointerMoved u ((u.registers 2 + size) % 2 ^ 64)) (Left c s)
+    (leads_raise (site c) u size)
     (λ w g two.
-    let address : w.registers 1 ≡ c.start.registers 1 = two.others 1 (lit< tt) (λ e. absurd (omega (arith, e))) ∙ one.gains 1 is.return_saved in
+    let address : w.registers 1 ≡ c.start.registers 1 = two.others 1 (lit< tt) (λ e. absurd (omega (arith, e))) ∙ address_by u one (is_among 1 c.saved) refl in
     let back : (u.registers 2 + size) % 2 ^ 64 ≡ c.sp = omega (arith, at_u, above, below, top) in
     ends_so (go_back ∷ []) w (Jumped w (c.start.registers 1)) (Left c s) (ends_go_back (site c) w (c.start.registers 1) address aligned)
     (λ t three.
@@ -347,10 +378,18 @@ ends_frame c is s pointer start aligned held thread =
           record { steps = one.steps; after = one.after; comes = one.comes; some = one.some; few = one.few; fixed = one.fixed; holds = so one.after one.holds };
     }
 
+    -- the return address was saved, or stayed where it is
+    address_by : (u : State) → AllRestored c c.saved s u → (b : Bool) → is_among 1 c.saved ≡ b → u.registers 1 ≡ c.start.registers 1
+    address_by u one true e = one.gains 1 e
+    address_by u one false e = one.others 1 e ∙ thread 1 refl (λ d. absurd (omega (arith, d))) e
+
+    kept_held : (n : ℕ) → is_kept n ≡ true → is_held n ≡ true
+    kept_held n k = grind (arith, nat_tests)
+
     -- a kept register is the stack pointer, or saved, or as it was all the time
     kept_by : (u t : State) → AllRestored c c.saved s u → ((n : ℕ) → n < 28 → n ≢ 2 → t.registers n ≡ u.registers n)
         → t.registers 2 ≡ c.start.registers 2 → (n : ℕ) → is_kept n ≡ true → (a : Bool) → nat_eq n 2 ≡ a → (b : Bool) → is_among n c.saved ≡ b
         → t.registers n ≡ c.start.registers n
     kept_by u t one same at_2 n k true e b d = let is_2 = eq_is n 2 e in ap t.registers is_2 ∙ (at_2 ∙ ap c.start.registers (sym is_2))
-    kept_by u t one same at_2 n k false e true d = same n (kept_below n k) (ne_is n 2 e) ∙ one.gains n d
-    kept_by u t one same at_2 n k false e false d = same n (kept_below n k) (ne_is n 2 e) ∙ (one.others n d ∙ thread n k (ne_is n 2 e) d)
+    kept_by u t one same at_2 n k false e true d = same n (held_below n (kept_held n k)) (ne_is n 2 e) ∙ one.gains n d
+    kept_by u t one same at_2 n k false e false d = same n (held_below n (kept_held n k)) (ne_is n 2 e) ∙ (one.others n d ∙ thread n (kept_held n k) (ne_is n 2 e) d)

@@ -1,133 +1,249 @@
 -- What the code of jumps does.
-use Rattle.std.proofs.Common.{◌≡◌, ℕ, ◌+◌, ◌%◌, ◌^◌, ◌<◌, Bool, true, false, List, [], ◌∷◌, ◌++◌, refl, ◌∙◌, ap, subst, arith, lit<, mod-lt}
-use Rattle.std.specs.Prelude.{◌==◌, not, nat_eq, if◌then◌else◌, Some}
+use Rattle.std.proofs.Common.{◌≡◌, ℕ, ◌+◌, ◌%◌, ◌^◌, ◌<◌, ◌≤◌, Bool, true, false, List, [], ◌∷◌, ◌++◌, refl, sym, ◌∙◌, ap, subst, arith, lit<, mod-lt, append_assoc}
+use Rattle.std.specs.Prelude.{◌==◌, ◌&&◌, not, nat_eq, if◌then◌else◌, Some}
 use Rattle.std.proofs.lemmas.Int.{ints}
 use Rattle.std.proofs.lemmas.Bool.Decides.{nat_tests}
 use Rattle.il_ast.specs.declared.operation.Class.{Class}
 use Rattle.il_ast.specs.declared.operation.Class.TheVariants.{W, L}
 use Rattle.bits.specs.Words.{sign_extended}
 use Rattle.rv_isa.specs.State.{State}
-use Rattle.rv_isa.specs.Labelled.{Stand, Stands, Moves}
-use Rattle.rv_isa.specs.declared.instruction.BranchOp.TheVariants.{Bne}
+use Rattle.rv_isa.specs.Labelled.{Ground, Fixed, Stand, Stands, Moves}
+use Rattle.rv_isa.specs.declared.instruction.BranchOp.TheVariants.{Beq, Bne}
 use Rattle.rv_isa.specs.declared.labelled.Item.{Item}
-use Rattle.rv_isa.specs.declared.labelled.Item.TheVariants.{Branch as BranchTo, Goto as GoTo}
-use Rattle.rv_isa.proofs.RunLemmas.{comes_then}
+use Rattle.rv_isa.specs.declared.labelled.Item.TheVariants.{Label, Branch as BranchTo, Goto as GoTo}
+use Rattle.rv_isa.proofs.RunLemmas.{comes_here, comes_then}
+use Rattle.rv_isa.specs.Runs.{Comes}
+use Rattle.rv_isa.specs.Labels.{longest_size}
+use Rattle.std.proofs.lemmas.Bool.{and_parts}
 use Rattle.vcode.specs.declared.place.Location.{Location}
 use Rattle.vcode.specs.declared.place.Operand.{Operand}
 use Rattle.vcode.specs.Named.{is_place, operand_keeps}
 use Rattle.flat_code.specs.Step.{taken as taken_as}
 use Rattle.abi_frames.specs.Calls.{passed}
 use Rattle.abi_frames.specs.Fields.{reg, word}
-use Rattle.abi_frames.specs.Emission.{word_into, result_items}
-use Rattle.abi_frames.proofs.Leading.{Site, StandAt, Leads, Sets}
+use Rattle.abi_frames.specs.Emission.{word_into, goto_items, ways_items, result_items}
+use Rattle.abi_frames.specs.declared.layout.Layout.{Layout}
+use Rattle.abi_frames.proofs.Leading.{Site, StandAt, Leads, longest-append, Sets}
 use Rattle.abi_frames.proofs.Instructions.{is_10, is_28}
 use Rattle.abi_frames.proofs.Activations.{Setting, IsSetting, site, bottom, operand_in}
 use Rattle.abi_frames.proofs.LineCode.{Scratched, leads_into, leads_word_into}
-use Rattle.abi_frames.proofs.FrameEnds.{Lands, Ends, ends_then, Jumped}
 
 -- ---- jumps to labels
 
-pub ends_goto : (c : Site) (s : State) (l : ℕ) → Ends c (GoTo l ∷ []) s (Jumped s (c.label l))
-unfolding Stand Stands
-ends_goto c s l = record {
+-- in at most so many instructions the machine comes from s to a label, and P holds there: in none only if the label is the one that stands next, and code may
+-- fall through
+pub record Arrives (c : Site) (falls : Bool) (next most : ℕ) (s : State) (l : ℕ) (P : State → Type 0) : Type 0 where
+  pub steps : ℕ
+  pub after : State
+  pub comes : Comes s steps after
+  pub few : steps ≤ most
+  pub fell : steps ≡ 0 → (falls ≡ true) × (l ≡ next)
+  pub fixed : Fixed c.ground after
+  pub place : after.pc ≡ c.label l
+  pub holds : P after
+
+-- before the label `next`
+pub record Jumps (c : Site) (falls : Bool) (next : ℕ) (is : List Item) (s : State) (l : ℕ) (P : State → Type 0) : Type 0 where
+  pub from : (rest : List Item) → StandAt c (is ++ (Label next ∷ rest)) s.pc → Fixed c.ground s → Arrives c falls next (longest_size is) s l P
+
+pub jumps_then : (c : Site) (falls : Bool) (next : ℕ) (is js : List Item) (s : State) (l : ℕ) (P Q : State → Type 0) → Leads c is s P
+    → ((u : State) → Fixed c.ground u → P u → Jumps c falls next js u l Q) → Jumps c falls next (is ++ js) s l Q
+jumps_then c falls next is js s l P Q first second = record {
   from = λ rest stands fixed.
-      let m = stands.1 s fixed refl in
-      let few = m.at_most in
+      let one = first.from (js ++ (Label next ∷ rest)) (subst (λ x. StandAt c x s.pc) (append_assoc is js (Label next ∷ rest)) stands) fixed in
+      let two = (second one.after one.fixed one.holds).from rest one.stands one.fixed in
+      let size = longest-append is js in
+      let few_one = one.few in
+      let few_two = two.few in
       record {
-        steps = m.count;
-        after = m.after;
-        comes = m.comes;
-        some = m.at_least_one;
-        few = omega (arith, few);
-        fixed = m.fixed;
-        holds = record {
-          place = m.place;
-          registers = λ n lo. m.registers n (λ e. absurd (omega (arith, e, lo)));
-          bytes = m.bytes;
-          output = m.output;
-        };
+        steps = one.steps + two.steps;
+        after = two.after;
+        comes = comes_then one.comes two.comes;
+        few = omega (arith, size, few_one, few_two);
+        fell = λ e. two.fell (omega (arith, e));
+        fixed = two.fixed;
+        place = two.place;
+        holds = two.holds;
       };
 }
 
--- a branch on x28, and else a jump
-ends_two_ways : (c : Site) (s : State) (nonzero otherwise : ℕ)
-    → Ends c (BranchTo Bne (reg 28) (reg 0) nonzero ∷ GoTo otherwise ∷ []) s (Jumped s (if s.registers 28 == 0 then c.label otherwise else c.label nonzero))
+pub jumps_so : (c : Site) (falls : Bool) (next : ℕ) (is : List Item) (s : State) (l m : ℕ) (P Q : State → Type 0) → l ≡ m → ((u : State) → P u → Q u)
+    → Jumps c falls next is s l P → Jumps c falls next is s m Q
+jumps_so c falls next is s l m P Q same so first = record {
+  from = λ rest stands fixed.
+      let one = first.from rest stands fixed in
+      record {
+        steps = one.steps;
+        after = one.after;
+        comes = one.comes;
+        few = one.few;
+        fell = λ e. let both = one.fell e in (both.0, sym same ∙ both.1);
+        fixed = one.fixed;
+        place = one.place ∙ ap c.label same;
+        holds = so one.after one.holds;
+      };
+}
+
+moved_scratched : (g : Ground) (most to : ℕ) (s : State) → (m : Moves g most to s) → Scratched s m.after
+moved_scratched g most to s m = record { registers = λ n lo. m.registers n (λ e. absurd (omega (arith, e, lo))); bytes = m.bytes; output = m.output }
+
+eq_is : (a b : ℕ) → nat_eq a b ≡ true → a ≡ b
+eq_is a b h = grind (arith, nat_tests)
+
+-- to a label, where it stands next and where not
+pub jumps_goto : (c : Site) (y : Layout) (s : State) (next l : ℕ) → Jumps c y.falls next (goto_items y next l) s l (Scratched s)
 unfolding Stand Stands
-ends_two_ways c s nonzero otherwise = record {
-  from = λ rest stands fixed. by_test rest stands.0 stands.2.0 stands.2.1 stands.2.2 (s.registers 28 == 0) refl (stands.1 s fixed refl);
+jumps_goto c y s next l = by_test y.falls refl (nat_eq l next) refl
+  where
+    by_jump : (t : Bool) → Jumps c t next (GoTo l ∷ []) s l (Scratched s)
+    by_jump t = record {
+      from = λ rest stands fixed.
+          let m = stands.1 s fixed refl in
+          let few = m.at_most in
+          let some = m.at_least_one in
+          record {
+            steps = m.count;
+            after = m.after;
+            comes = m.comes;
+            few = omega (arith, few);
+            fell = λ e. absurd (omega (arith, e, some));
+            fixed = m.fixed;
+            place = m.place;
+            holds = moved_scratched c.ground 2 (c.label l) s m;
+          };
+    }
+
+    by_test : (t : Bool) → y.falls ≡ t → (b : Bool) → nat_eq l next ≡ b → Jumps c t next (if t && b then [] else GoTo l ∷ []) s l (Scratched s)
+    by_test true e true d = record {
+      from = λ rest stands fixed. record {
+        steps = 0;
+        after = s;
+        comes = comes_here s;
+        few = omega arith;
+        fell = λ z. (refl, eq_is l next d);
+        fixed = fixed;
+        place = sym stands.1.0 ∙ ap c.label (sym (eq_is l next d));
+        holds = record { registers = λ n lo. refl; bytes = refl; output = refl };
+      };
+    }
+    by_test true e false d = by_jump true
+    by_test false e b d = by_jump false
+
+-- the label of a test of x28
+abbrev pub way_by : (x nonzero otherwise : ℕ) → ℕ
+way_by x nonzero otherwise = if x == 0 then otherwise else nonzero
+
+-- the branch is turned round
+jumps_round : (c : Site) (t : Bool) (s : State) (next nonzero otherwise : ℕ) → nonzero ≡ next
+    → Jumps c t next (BranchTo Beq (reg 28) (reg 0) otherwise ∷ []) s (way_by (s.registers 28) nonzero otherwise) (Scratched s)
+unfolding Stand Stands
+jumps_round c t s next nonzero otherwise e = record {
+  from = λ rest stands fixed. by_test stands.0 stands.2.1.0 (s.registers 28 == 0) (stands.1 s fixed refl);
 }
   where
-    by_test : (rest : List Item) (b d : ℕ) → Stands c.ground c.label c.global (GoTo otherwise) b d → StandAt c rest d → (t : Bool) → (s.registers 28 == 0) ≡ t
-        → Moves c.ground 3 (if not (s.registers 28 == 0) then c.label nonzero else b) s
-        → Lands c 5 s (Jumped s (if t then c.label otherwise else c.label nonzero))
-    by_test rest b d goes stands false e first =
-        let m : Moves c.ground 3 (c.label nonzero) s = subst (λ (t : Bool). Moves c.ground 3 (if not t then c.label nonzero else b) s) e first in
+    by_test : (b : ℕ) → c.label next ≡ b → (z : Bool) → (m : Moves c.ground 3 (if z then c.label otherwise else b) s)
+        → Arrives c t next 3 s (if z then otherwise else nonzero) (Scratched s)
+    by_test b place true m =
+        let some = m.at_least_one in
+        record {
+          steps = m.count;
+          after = m.after;
+          comes = m.comes;
+          few = m.at_most;
+          fell = λ d. absurd (omega (arith, d, some));
+          fixed = m.fixed;
+          place = m.place;
+          holds = moved_scratched c.ground 3 (c.label otherwise) s m;
+        }
+    by_test b place false m =
+        let some = m.at_least_one in
+        record {
+          steps = m.count;
+          after = m.after;
+          comes = m.comes;
+          few = m.at_most;
+          fell = λ d. absurd (omega (arith, d, some));
+          fixed = m.fixed;
+          place = m.place ∙ (sym place ∙ ap c.label (sym e));
+          holds = moved_scratched c.ground 3 b s m;
+        }
+
+scratched_same : (s u w : State) → Scratched s u → Scratched u w → Scratched s w
+scratched_same s u w one two = record {
+  registers = λ n lo. two.registers n lo ∙ one.registers n lo;
+  bytes = two.bytes ∙ one.bytes;
+  output = two.output ∙ one.output;
+}
+
+-- a branch, and else a jump
+jumps_forth : (c : Site) (y : Layout) (s : State) (next nonzero otherwise : ℕ)
+    → Jumps c y.falls next (BranchTo Bne (reg 28) (reg 0) nonzero ∷ goto_items y next otherwise) s (way_by (s.registers 28) nonzero otherwise) (Scratched s)
+unfolding Stand Stands
+jumps_forth c y s next nonzero otherwise = record {
+  from = λ rest stands fixed. by_test rest stands.0 stands.2 (s.registers 28 == 0) (stands.1 s fixed refl);
+}
+  where
+    by_test : (rest : List Item) (b : ℕ) → StandAt c (goto_items y next otherwise ++ (Label next ∷ rest)) b → (z : Bool)
+        → (m : Moves c.ground 3 (if not z then c.label nonzero else b) s)
+        → Arrives c y.falls next (3 + longest_size (goto_items y next otherwise)) s (if z then otherwise else nonzero) (Scratched s)
+    by_test rest b stands false m =
+        let some = m.at_least_one in
         let few = m.at_most in
         record {
           steps = m.count;
           after = m.after;
           comes = m.comes;
-          some = m.at_least_one;
           few = omega (arith, few);
+          fell = λ d. absurd (omega (arith, d, some));
           fixed = m.fixed;
-          holds = record {
-            place = m.place;
-            registers = λ n lo. m.registers n (λ e. absurd (omega (arith, e, lo)));
-            bytes = m.bytes;
-            output = m.output;
-          };
+          place = m.place;
+          holds = moved_scratched c.ground 3 (c.label nonzero) s m;
         }
-    by_test rest b d goes stands true e first =
-        let m : Moves c.ground 3 b s = subst (λ (t : Bool). Moves c.ground 3 (if not t then c.label nonzero else b) s) e first in
-        let k = goes m.after m.fixed m.place in
-        let few = m.at_most in
-        let few_more = k.at_most in
+    by_test rest b stands true m =
         let some = m.at_least_one in
+        let few = m.at_most in
+        let k = (jumps_goto c y m.after next otherwise).from rest
+        (subst (λ x. StandAt c (goto_items y next otherwise ++ (Label next ∷ rest)) x) (sym m.place) stands) m.fixed in
+        let few_more = k.few in
         record {
-          steps = m.count + k.count;
+          steps = m.count + k.steps;
           after = k.after;
           comes = comes_then m.comes k.comes;
-          some = omega (arith, some);
           few = omega (arith, few, few_more);
+          fell = λ d. absurd (omega (arith, d, some));
           fixed = k.fixed;
-          holds = record {
-            place = k.place;
-            registers = λ n lo. k.registers n (λ e. absurd (omega (arith, e, lo))) ∙ m.registers n (λ e. absurd (omega (arith, e, lo)));
-            bytes = k.bytes ∙ m.bytes;
-            output = k.output ∙ m.output;
-          };
+          place = k.place;
+          holds = scratched_same s m.after k.after (moved_scratched c.ground 3 b s m) k.holds;
         }
+
+jumps_ways : (c : Site) (y : Layout) (s : State) (next nonzero otherwise : ℕ)
+    → Jumps c y.falls next (ways_items y next nonzero otherwise) s (way_by (s.registers 28) nonzero otherwise) (Scratched s)
+jumps_ways c y s next nonzero otherwise = by_test (y.falls && nat_eq nonzero next) refl
+  where
+    next_is : (y.falls && nat_eq nonzero next) ≡ true → nonzero ≡ next
+    next_is e = eq_is nonzero next (and_parts y.falls (nat_eq nonzero next) e).1
+
+    by_test : (t : Bool) → (y.falls && nat_eq nonzero next) ≡ t
+        → Jumps c y.falls next
+        (if t then BranchTo Beq (reg 28) (reg 0) otherwise ∷ [] else BranchTo Bne (reg 28) (reg 0) nonzero ∷ goto_items y next otherwise) s
+        (way_by (s.registers 28) nonzero otherwise) (Scratched s)
+    by_test true e = jumps_round c y.falls s next nonzero otherwise (next_is e)
+    by_test false e = jumps_forth c y s next nonzero otherwise
 
 zero_test : (m : ℕ) → m < 2 ^ 32 → (sign_extended m == 0) ≡ nat_eq m 0
 zero_test m h = grind (arith, ints, nat_tests)
 
-jumped_from : (s u : State) (to to' : ℕ) (t : State) → Scratched s u → to ≡ to' → Jumped u to t → Jumped s to' t
-jumped_from s u to to' t h e j = record {
-  place = j.place ∙ e;
-  registers = λ n lo. j.registers n lo ∙ h.registers n lo;
-  bytes = j.bytes ∙ h.bytes;
-  output = j.output ∙ h.output;
-}
+abbrev pub way : (v nonzero otherwise : ℕ) → ℕ
+way v nonzero otherwise = if nat_eq (v % 2 ^ 32) 0 then otherwise else nonzero
 
-pub ends_so : (c : Site) (is : List Item) (s : State) (P Q : State → Type 0) → Ends c is s P → ((u : State) → P u → Q u) → Ends c is s Q
-ends_so c is s P Q first so = record {
-  from = λ rest stands fixed.
-      let one = first.from rest stands fixed in
-      record { steps = one.steps; after = one.after; comes = one.comes; some = one.some; few = one.few; fixed = one.fixed; holds = so one.after one.holds };
-}
-
-abbrev pub way : Setting → (v nonzero otherwise : ℕ) → ℕ
-way c v nonzero otherwise = if nat_eq (v % 2 ^ 32) 0 then c.label otherwise else c.label nonzero
-
-pub ends_branch : (c : Setting) → IsSetting c → (s : State) (on : Operand Location) (nonzero otherwise : ℕ) → s.registers 2 ≡ bottom c
+pub jumps_branch : (c : Setting) → IsSetting c → (s : State) (next : ℕ) (on : Operand Location) (nonzero otherwise : ℕ) → s.registers 2 ≡ bottom c
     → operand_keeps (is_place c.slots) on ≡ true
-    → Ends (site c) (word_into c.layout 28 on ++ (BranchTo Bne (reg 28) (reg 0) nonzero ∷ GoTo otherwise ∷ [])) s
-    (Jumped s (way c (operand_in c s on) nonzero otherwise))
-ends_branch c is s on nonzero otherwise pointer known =
+    → Jumps (site c) c.layout.falls next (word_into c.layout 28 on ++ ways_items c.layout next nonzero otherwise) s (way (operand_in c s on) nonzero otherwise)
+    (Scratched s)
+jumps_branch c is s next on nonzero otherwise pointer known =
     let v : ℕ = operand_in c s on in
-    let two_ways : List Item = BranchTo Bne (reg 28) (reg 0) nonzero ∷ GoTo otherwise ∷ [] in
-    ends_then (site c) (word_into c.layout 28 on) two_ways s (Sets s 28 (word v)) (Jumped s (way c v nonzero otherwise))
-    (leads_word_into c is s 28 on is_28 (λ e. absurd (omega (arith, e))) pointer known)
+    jumps_then (site c) c.layout.falls next (word_into c.layout 28 on) (ways_items c.layout next nonzero otherwise) s (way v nonzero otherwise) (Sets s 28 (word v))
+    (Scratched s) (leads_word_into c is s 28 on is_28 (λ e. absurd (omega (arith, e))) pointer known)
     (λ w g two.
     let test : (w.registers 28 == 0) ≡ nat_eq (v % 2 ^ 32) 0 = ap (λ n. n == 0) two.value ∙ zero_test (v % 2 ^ 32) (mod-lt v (lit< tt)) in
     let more : Scratched s w = record {
@@ -135,11 +251,9 @@ ends_branch c is s on nonzero otherwise pointer known =
       bytes = two.bytes;
       output = two.output;
     } in
-    ends_so (site c) two_ways w (Jumped w (if w.registers 28 == 0 then c.label otherwise else c.label nonzero)) (Jumped s (way c v nonzero otherwise))
-    (ends_two_ways (site c) w nonzero otherwise)
-    (λ t three.
-    jumped_from s w (if w.registers 28 == 0 then c.label otherwise else c.label nonzero) (way c v nonzero otherwise) t more
-    (ap (λ (b : Bool). if b then c.label otherwise else c.label nonzero) test) three))
+    jumps_so (site c) c.layout.falls next (ways_items c.layout next nonzero otherwise) w (way_by (w.registers 28) nonzero otherwise) (way v nonzero otherwise)
+    (Scratched w) (Scratched s) (ap (λ (b : Bool). if b then otherwise else nonzero) test) (λ t three. scratched_same s w t more three)
+    (jumps_ways (site c) c.layout w next nonzero otherwise))
 
 -- ---- results
 

@@ -15,7 +15,8 @@ use Rattle.rv_isa.specs.Labels.{IsLabelled, times_labelled, has_label_below, has
 use Rattle.rv_isa.specs.declared.instruction.Instr.TheVariants.{Lui, Imm, Addiw, Shift, ShiftW, Reg, RegW}
 use Rattle.rv_isa.specs.declared.instruction.ImmOp.{ImmOp}
 use Rattle.rv_isa.specs.declared.instruction.ImmOp.TheVariants.{Addi, Slti, Sltiu}
-use Rattle.rv_isa.specs.declared.instruction.BranchOp.TheVariants.{Bne}
+use Rattle.rv_isa.specs.declared.instruction.BranchOp.{BranchOp}
+use Rattle.rv_isa.specs.declared.instruction.BranchOp.TheVariants.{Beq, Bne}
 use Rattle.rv_isa.specs.declared.instruction.LoadOp.{LoadOp}
 use Rattle.rv_isa.specs.declared.instruction.LoadOp.TheVariants.{Lwu, Lhu, Lbu}
 use Rattle.rv_isa.specs.declared.instruction.StoreOp.{StoreOp}
@@ -44,7 +45,7 @@ use Rattle.abi_frames.specs.Fields.{reg, low, high, amount, word_amount, add_low
 use Rattle.abi_frames.specs.Immediates.{opposite, next, right_form, left_form, compare_number, form_items}
 use Rattle.abi_frames.specs.declared.immediate.Form.{Form}
 use Rattle.abi_frames.specs.declared.immediate.Form.TheVariants.{Immediate as ByImmediate, AddWord, Shift as ByShift, ShiftWord, Compare as ByComparison}
-use Rattle.abi_frames.specs.Emission.{copy_at, copy_eight, copy_eights, copy_rest, far_load, load_slot, far_store, store_slot, slot_offset, into, fetch, source, word_into, target, deliver, set_items, compare_items, operation_items, operand_into, operand_source, on_registers, by_form, operate_by, operate_items, load_to, store_at, store_op, line_items, lines_items, move_pointer, save_all, restore_all, go_back, prologue, epilogue, result_items, jump_items, blocks_items, pass_into, pass_items, pass_all, call_through, receive_items, call_items, address_at}
+use Rattle.abi_frames.specs.Emission.{copy_at, copy_eight, copy_eights, copy_rest, far_load, load_slot, far_store, store_slot, slot_offset, into, fetch, source, word_into, target, deliver, set_items, compare_items, operation_items, operand_into, operand_source, on_registers, by_form, operate_by, operate_items, load_to, store_at, store_op, line_items, lines_items, move_pointer, lower_pointer, raise_pointer, save_all, restore_all, go_back, prologue, epilogue, result_items, goto_items, ways_items, jump_items, blocks_items, pass_into, pass_items, pass_all, call_through, receive_items, call_items, address_at}
 use Rattle.abi_frames.specs.Functions.{caller_pointer, from_register, from_stack, argument_items, arguments_items, pointer_items, entry_items}
 use Rattle.abi_frames.specs.Laws.{FramesAreLabelled}
 use Rattle.abi_frames.proofs.Leading.{longest-append}
@@ -485,25 +486,39 @@ result_plainly n y slots None a known = plainly_nothing n
 result_plainly n y slots (Some L) a known = into_plainly n y slots 10 a (lit< tt) (lit< tt) known
 result_plainly n y slots (Some W) a known = word_into_plainly n y slots 10 a (lit< tt) (lit< tt) known
 
-jump_plainly : (n : ℕ) (y : Layout) (slots blocks : ℕ) (j : Jump Location) → y.leave < n → blocks < n → jump_keeps (is_place slots) j ≡ true
-    → leads_inside blocks j ≡ true → Plainly n (jump_items y j)
-jump_plainly n y slots blocks (Goto k) leave more known inside = goto_plainly n k (target_below blocks n k more inside)
-jump_plainly n y slots blocks (Branch on nonzero otherwise) leave more known inside =
+goto_items_plainly : (n : ℕ) (y : Layout) (next k : ℕ) → nat_lt k n ≡ true → Plainly n (goto_items y next k)
+goto_items_plainly n y next k h = by_test (y.falls && nat_eq k next)
+  where
+    by_test : (b : Bool) → Plainly n (if b then [] else GoTo k ∷ [])
+    by_test true = plainly_nothing n
+    by_test false = goto_plainly n k h
+
+branch_plainly : (n : ℕ) (op : BranchOp) (k : ℕ) → nat_lt k n ≡ true → Plainly n (BranchTo op (reg 28) (reg 0) k ∷ [])
+branch_plainly n op k h = record { labels = and_from (nat_lt k n) true h refl; none = λ l. refl; registers = refl }
+
+ways_plainly : (n : ℕ) (y : Layout) (next nonzero otherwise : ℕ) → nat_lt nonzero n ≡ true → nat_lt otherwise n ≡ true
+    → Plainly n (ways_items y next nonzero otherwise)
+ways_plainly n y next nonzero otherwise first second = by_test (y.falls && nat_eq nonzero next)
+  where
+    by_test : (b : Bool)
+        → Plainly n (if b then BranchTo Beq (reg 28) (reg 0) otherwise ∷ [] else BranchTo Bne (reg 28) (reg 0) nonzero ∷ goto_items y next otherwise)
+    by_test true = branch_plainly n Beq otherwise second
+    by_test false =
+        plainly_then n (BranchTo Bne (reg 28) (reg 0) nonzero ∷ []) (goto_items y next otherwise) (branch_plainly n Bne nonzero first)
+        (goto_items_plainly n y next otherwise second)
+
+jump_plainly : (n : ℕ) (y : Layout) (next slots blocks : ℕ) (j : Jump Location) → y.leave < n → blocks < n → jump_keeps (is_place slots) j ≡ true
+    → leads_inside blocks j ≡ true → Plainly n (jump_items y next j)
+jump_plainly n y next slots blocks (Goto k) leave more known inside = goto_items_plainly n y next k (target_below blocks n k more inside)
+jump_plainly n y next slots blocks (Branch on nonzero otherwise) leave more known inside =
     let parts = and_parts (is_target blocks nonzero) (is_target blocks otherwise) inside in
-    let first = target_below blocks n nonzero more parts.0 in
-    let second = target_below blocks n otherwise more parts.1 in
-    let two : List Item = BranchTo Bne (reg 28) (reg 0) nonzero ∷ GoTo otherwise ∷ [] in
-    plainly_then n (word_into y 28 on) two (word_into_plainly n y slots 28 on (lit< tt) (lit< tt) known)
-    (record {
-      labels = and_from (nat_lt nonzero n) (nat_lt otherwise n && true) first (and_from (nat_lt otherwise n) true second refl);
-      none = λ l. refl;
-      registers = refl;
-    })
-jump_plainly n y slots blocks (Return None) leave more known inside = goto_plainly n y.leave (lt_from y.leave n leave)
-jump_plainly n y slots blocks (Return (Some a)) leave more known inside =
-    plainly_then n (result_items y y.result a) (GoTo y.leave ∷ []) (result_plainly n y slots y.result a known)
-    (goto_plainly n y.leave (lt_from y.leave n leave))
-jump_plainly n y slots blocks Halt leave more known inside = record { labels = refl; none = λ l. refl; registers = refl }
+    plainly_then n (word_into y 28 on) (ways_items y next nonzero otherwise) (word_into_plainly n y slots 28 on (lit< tt) (lit< tt) known)
+    (ways_plainly n y next nonzero otherwise (target_below blocks n nonzero more parts.0) (target_below blocks n otherwise more parts.1))
+jump_plainly n y next slots blocks (Return None) leave more known inside = goto_items_plainly n y next y.leave (lt_from y.leave n leave)
+jump_plainly n y next slots blocks (Return (Some a)) leave more known inside =
+    plainly_then n (result_items y y.result a) (goto_items y next y.leave) (result_plainly n y slots y.result a known)
+    (goto_items_plainly n y next y.leave (lt_from y.leave n leave))
+jump_plainly n y next slots blocks Halt leave more known inside = record { labels = refl; none = λ l. refl; registers = refl }
 
 -- ---- the frame's begin and end
 
@@ -515,6 +530,20 @@ move_plainly n m = by_test (is_immediate m)
     by_test false =
         plainly_then n (constant 28 m) (sum_to 2 2 28 ∷ []) (constant_plainly n 28 m (nameable 28 (lit< tt)))
         (record { labels = refl; none = λ l. refl; registers = refl })
+
+lower_plainly : (n size : ℕ) → Plainly n (lower_pointer size)
+lower_plainly n size = by_test (nat_eq size 0)
+  where
+    by_test : (b : Bool) → Plainly n (if b then [] else move_pointer (2 ^ 64 - size))
+    by_test true = plainly_nothing n
+    by_test false = move_plainly n (2 ^ 64 - size)
+
+raise_plainly : (n size : ℕ) → Plainly n (raise_pointer size)
+raise_plainly n size = by_test (nat_eq size 0)
+  where
+    by_test : (b : Bool) → Plainly n (if b then [] else move_pointer size)
+    by_test true = plainly_nothing n
+    by_test false = move_plainly n size
 
 save_nameable : (r : ℕ) → can_save r ≡ true → Nameable r
 save_nameable r h = let below = (savable r h).below in nameable r (omega (arith, below))
@@ -535,12 +564,12 @@ restores_plainly n o (r ∷ rs) good =
 
 prologue_plainly : (n : ℕ) (y : Layout) (rs : List ℕ) → list_all can_save rs ≡ true → Plainly n (prologue y rs)
 prologue_plainly n y rs good =
-    plainly_then n (move_pointer (2 ^ 64 - y.size)) (save_all y.saves rs) (move_plainly n (2 ^ 64 - y.size)) (saves_plainly n y.saves rs good)
+    plainly_then n (lower_pointer y.size) (save_all y.saves rs) (lower_plainly n y.size) (saves_plainly n y.saves rs good)
 
 epilogue_plainly : (n : ℕ) (y : Layout) (rs : List ℕ) → list_all can_save rs ≡ true → Plainly n (epilogue y rs)
 epilogue_plainly n y rs good =
-    plainly_then n (restore_all y.saves rs) (move_pointer y.size ++ (go_back ∷ [])) (restores_plainly n y.saves rs good)
-    (plainly_then n (move_pointer y.size) (go_back ∷ []) (move_plainly n y.size) (record { labels = refl; none = λ l. refl; registers = refl }))
+    plainly_then n (restore_all y.saves rs) (raise_pointer y.size ++ (go_back ∷ [])) (restores_plainly n y.saves rs good)
+    (plainly_then n (raise_pointer y.size) (go_back ∷ []) (raise_plainly n y.size) (record { labels = refl; none = λ l. refl; registers = refl }))
 
 -- ---- blocks
 
@@ -570,9 +599,9 @@ blocks_labelled n y slots all k (b ∷ blocks) leave more few known inside =
     let known_parts = and_parts (block_keeps (is_place slots) b) (list_all (block_keeps (is_place slots)) blocks) known in
     let inside_parts = and_parts (leads_inside all b.jump) (list_all (λ (d : Block Location). leads_inside all d.jump) blocks) inside in
     let here = and_parts (list_all (line_keeps (is_place slots)) b.lines) (jump_keeps (is_place slots) b.jump) known_parts.0 in
-    let body : List Item = lines_items y 0 b.lines ++ jump_items y b.jump in
-    let plain = plainly_then n (lines_items y 0 b.lines) (jump_items y b.jump) (lines_plainly n y 0 slots b.lines here.0)
-    (jump_plainly n y slots all b.jump leave more here.1 inside_parts.0) in
+    let body : List Item = lines_items y 0 b.lines ++ jump_items y (k + 1) b.jump in
+    let plain = plainly_then n (lines_items y 0 b.lines) (jump_items y (k + 1) b.jump) (lines_plainly n y 0 slots b.lines here.0)
+    (jump_plainly n y (k + 1) slots all b.jump leave more here.1 inside_parts.0) in
     let count = length-more b blocks in
     let rest = blocks_labelled n y slots all (k + 1) blocks leave more (omega (arith, few, count)) known_parts.1 inside_parts.1 in
     let others : List Item = blocks_items y (k + 1) blocks in
@@ -642,8 +671,8 @@ all_numbered n l h = grind (arith, nat_tests)
 
 some_size : (y : Layout) (rs : List ℕ) → 0 < longest_size (epilogue y rs)
 some_size y rs =
-    let all = longest-append (restore_all y.saves rs) (move_pointer y.size ++ (go_back ∷ [])) in
-    let more = longest-append (move_pointer y.size) (go_back ∷ []) in
+    let all = longest-append (restore_all y.saves rs) (raise_pointer y.size ++ (go_back ∷ [])) in
+    let more = longest-append (raise_pointer y.size) (go_back ∷ []) in
     omega (arith, all, more)
 
 pub frames_are_labelled : FramesAreLabelled

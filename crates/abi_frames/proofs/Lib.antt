@@ -9,6 +9,7 @@ pub mod Sizes
 pub mod JumpCode
 pub mod Passing
 pub mod Calling
+pub mod Pacing
 pub mod Simulation
 pub mod CallCase
 pub mod Simulating

@@ -14,7 +14,7 @@ use Rattle.vcode.specs.Named.{is_place}
 use Rattle.flat_code.specs.Spots.{Spot, Away, Known, Spots}
 use Rattle.flat_code.specs.Step.{Numbers, is_there, all_there, is_in}
 use Rattle.abi_frames.specs.Calls.{HoldsSpots}
-use Rattle.abi_frames.proofs.Activations.{Setting, IsSetting, bottom, value_at, place_is, slot_is, Framed, kept_below}
+use Rattle.abi_frames.proofs.Activations.{Setting, IsSetting, bottom, value_at, place_is, slot_is, Framed, held_below}
 use Rattle.abi_frames.proofs.Instructions.{UsableFrom}
 
 -- from s to u, scratch registers and bytes that may be accessed have changed, so that the bytes `now` are known
@@ -56,7 +56,7 @@ changed c is numbers memory now s u framed h =
       saved = λ k r e.
           let few : k < length c.saved = slice_get_within c.saved k r e in
           frame_bytes c is numbers memory now s u framed h (c.layout.saves + 8 * k) (omega (arith, few, saves)) ∙ framed.saved k r e;
-      thread = λ n kept other out. h.registers n (kept_below n kept) ∙ framed.thread n kept other out;
+      thread = λ n kept other out. h.registers n (held_below n kept) ∙ framed.thread n kept other out;
       others = λ x hi away. h.spared x (framed.reach x hi away) ∙ framed.others x hi away;
     }
 

@@ -1,5 +1,5 @@
 -- The registers that a function saves: those of a callee that its code writes.
-use Rattle.std.proofs.Common.{◌≡◌, ℕ, zero, suc, ◌<◌, ◌≤◌, Bool, true, false, List, [], ◌∷◌, refl, sym, ◌∙◌, ap, arith}
+use Rattle.std.proofs.Common.{◌≡◌, ℕ, zero, suc, ◌≤◌, Bool, true, false, List, [], ◌∷◌, ◌++◌, refl, sym, ◌∙◌, ap, arith}
 use Rattle.std.specs.Prelude.{◌||◌, nat_eq, if◌then◌else◌, length, slice_get, Some}
 use Rattle.std.specs.List.{list_all, list_any}
 use Rattle.std.proofs.lemmas.Bool.{and_parts, and_from}
@@ -12,7 +12,7 @@ use Rattle.vcode.specs.declared.code.Block.{Block}
 use Rattle.vcode.specs.declared.code.Code.{Code}
 use Rattle.vcode.specs.Named.{is_place}
 use Rattle.abi_frames.specs.Calls.{is_kept}
-use Rattle.abi_frames.specs.Layout.{is_register, writes, block_writes, is_written, written_of, callee_saved, saved_registers}
+use Rattle.abi_frames.specs.Layout.{is_register, writes, block_writes, is_written, written_of, callee_saved, is_call, block_calls, makes_call, saved_registers}
 use Rattle.abi_frames.proofs.Activations.{can_save, is_among, place_is, MayWrite}
 
 -- ---- those of a list that the code writes
@@ -65,25 +65,24 @@ written_among f n (r ∷ rs) is h = by_test (λ k. written_among f n rs is k) (n
 
 pub can_save_all : (f : Code Location) → list_all can_save (saved_registers f) ≡ true
 unfolding saved_registers
-can_save_all f = written_all can_save f callee_saved refl
+can_save_all f = by_test (makes_call f) (written_all can_save f callee_saved refl)
+  where
+    by_test : (b : Bool) → list_all can_save (written_of f callee_saved) ≡ true
+        → list_all can_save ((if b then 1 ∷ [] else []) ++ written_of f callee_saved) ≡ true
+    by_test true e = e
+    by_test false e = e
 
 pub few_saved_registers : (f : Code Location) → length (saved_registers f) ≤ 13
 unfolding saved_registers
-few_saved_registers f = let few = few_written f callee_saved in more (length (written_of f callee_saved)) few
+few_saved_registers f = by_test (makes_call f) (few_written f callee_saved)
   where
-    more : (n : ℕ) → n ≤ 12 → suc n ≤ 13
-    more n h = omega (arith, h)
+    by_test : (b : Bool) → length (written_of f callee_saved) ≤ 12 → length ((if b then 1 ∷ [] else []) ++ written_of f callee_saved) ≤ 13
+    by_test true h = omega (arith, h)
+    by_test false h = omega (arith, h)
 
-pub some_saved_register : (f : Code Location) → 0 < length (saved_registers f)
+return_is_saved : (f : Code Location) → makes_call f ≡ true → is_among 1 (saved_registers f) ≡ true
 unfolding saved_registers
-some_saved_register f = more (length (written_of f callee_saved))
-  where
-    more : (n : ℕ) → 0 < suc n
-    more n = omega arith
-
-pub return_is_saved : (f : Code Location) → is_among 1 (saved_registers f) ≡ true
-unfolding saved_registers
-return_is_saved f = refl
+return_is_saved f e = ap (λ (b : Bool). is_among 1 ((if b then 1 ∷ [] else []) ++ written_of f callee_saved)) e
 
 among_callee_saved : (r : ℕ) → 5 ≤ r → is_kept r ≡ true → is_among r callee_saved ≡ true
 among_callee_saved r from kept = grind (arith, nat_tests)
@@ -91,11 +90,15 @@ among_callee_saved r from kept = grind (arith, nat_tests)
 -- a written register that a callee keeps is saved
 written_saved : (f : Code Location) (r : ℕ) → 5 ≤ r → is_written f r ≡ true → is_kept r ≡ true → is_among r (saved_registers f) ≡ true
 unfolding saved_registers
-written_saved f r from is kept = later (nat_eq r 1) (written_among f r callee_saved is (among_callee_saved r from kept))
+written_saved f r from is kept = by_test (makes_call f) (written_among f r callee_saved is (among_callee_saved r from kept))
   where
     later : (t : Bool) → is_among r (written_of f callee_saved) ≡ true → (t || is_among r (written_of f callee_saved)) ≡ true
     later true e = refl
     later false e = e
+
+    by_test : (b : Bool) → is_among r (written_of f callee_saved) ≡ true → is_among r ((if b then 1 ∷ [] else []) ++ written_of f callee_saved) ≡ true
+    by_test true e = later (nat_eq r 1) e
+    by_test false e = e
 
 -- ---- destinations
 
@@ -132,6 +135,11 @@ equal_self r = by_test (nat_eq r r) refl
 
 abbrev is_place_of : ℕ → Destination Location → Bool
 is_place_of n d = is_register n d.place
+
+-- the return address is saved where a line is a call
+pub call_saves : (f : Code Location) (i j : ℕ) (b : Block Location) (l : Line Location) → slice_get f.blocks i ≡ Some b → slice_get b.lines j ≡ Some l
+    → is_call l ≡ true → is_among 1 (saved_registers f) ≡ true
+call_saves f i j b l in_code in_block calls = return_is_saved f (any_one block_calls f.blocks i b in_code (any_one is_call b.lines j l in_block calls))
 
 -- the destination of a line may be written
 pub line_may : (f : Code Location) (slots i j : ℕ) (b : Block Location) (l : Line Location) → slice_get f.blocks i ≡ Some b → slice_get b.lines j ≡ Some l

@@ -18,7 +18,7 @@ use Rattle.rv_isa.specs.Memory.{number_at}
 use Rattle.rv_isa.specs.Labels.{longest_size}
 use Rattle.rv_isa.specs.Labelled.{Stand, Stands}
 use Rattle.rv_isa.specs.declared.instruction.Instr.TheVariants.{Ebreak}
-use Rattle.rv_isa.specs.declared.labelled.Item.TheVariants.{Goto as GoTo}
+use Rattle.rv_isa.specs.declared.labelled.Item.TheVariants.{Label}
 use Rattle.rv_isa.proofs.RunLemmas.{comes_then}
 use Rattle.rv_isa.proofs.StepLemmas.{step_at}
 use Rattle.vcode.specs.declared.place.Location.{Location}
@@ -44,12 +44,15 @@ use Rattle.flat_code.specs.Step.{known_number, FlatState, Numbers, put, number_o
 use Rattle.abi_frames.specs.Calls.{ResultIn, passed}
 use Rattle.abi_frames.specs.Performs.{AllPerform}
 use Rattle.abi_frames.specs.Layout.{most_in_lines}
-use Rattle.abi_frames.specs.Emission.{line_items, lines_items, jump_items, result_items, epilogue}
+use Rattle.abi_frames.specs.Emission.{line_items, lines_items, jump_items, goto_items, result_items, epilogue}
 use Rattle.abi_frames.proofs.Leading.{Site, StandAt, Leads, leads_so, Sets}
-use Rattle.abi_frames.proofs.Activations.{Setting, site, bottom, save_at, operand_in, Framed, operand_known, Assigned, assigned, assigned_output, kept_below, kept_not_10}
+use Rattle.abi_frames.proofs.Activations.{Setting, site, bottom, save_at, operand_in, Framed, operand_known, Assigned, assigned, assigned_output, held_below, held_not_10}
 use Rattle.abi_frames.proofs.LineCode.{leads_set_line, leads_operate_line, leads_load_line}
-use Rattle.abi_frames.proofs.FrameEnds.{Lands, Ends, ends_then, Jumped, ends_frame}
-use Rattle.abi_frames.proofs.JumpCode.{ends_so, ends_goto, ends_branch, leads_result, way}
+use Rattle.abi_frames.proofs.FrameEnds.{ends_frame}
+use Rattle.abi_frames.proofs.LineCode.{Scratched}
+use Rattle.abi_frames.proofs.Pacing.{landing, standing, few_standing, lands_on, falls_on}
+use Rattle.abi_frames.specs.declared.layout.Layout.{Layout}
+use Rattle.abi_frames.proofs.JumpCode.{Arrives, Jumps, jumps_then, jumps_so, jumps_goto, jumps_branch, leads_result, way}
 use Rattle.abi_frames.proofs.Sizes.{jump_size, epilogue_size, le_is}
 use Rattle.abi_frames.proofs.Saving.{few_saved_registers}
 use Rattle.abi_frames.proofs.Storing.{store_case}
@@ -100,13 +103,14 @@ out_of_turns : (c : Setting) (f : Code Location) (b : Block Location) (lines : L
     → At c f b lines fs k u → FlatEnded fs.spent Turns ≡ r → Performed c f r
 out_of_turns c f b lines fs k u r a e =
     let price = a.price in
+    let bound = few_standing f fs.block in
     let pace = a.pace in
     let stop : Performed c f (FlatEnded fs.spent Turns) = record {
       steps = k;
       after = u;
       comes = a.comes;
       price = omega (arith, price);
-      pace = omega (arith, pace);
+      pace = omega (arith, bound, pace);
       output = a.output;
     } in
     subst (λ o. Performed c f o) e stop
@@ -263,26 +267,45 @@ line_case c f is j r n go b (Call to callee args) lines fs k u a log goes all = 
 -- ---- jumps
 
 -- after the code of a jump
-landed : (c : Setting) (j : Jump Location) (fs : FlatState) (k : ℕ) (u : State) (to : ℕ) (a : AtJump c j fs k u)
-    → (m : Lands (site c) (longest_size (jump_items c.layout j)) u (Jumped u to)) → Landed c to fs (k + m.steps) m.after
-landed c j fs k u to a m =
+landed : (c : Setting) (f : Code Location) (j : Jump Location) (fs : FlatState) (k : ℕ) (u : State) (l extra : ℕ) (a : AtJump c f j fs k u)
+    → (m : Arrives (site c) c.layout.falls (fs.block + 1) (longest_size (jump_items c.layout (fs.block + 1) j)) u l (Scratched u))
+    → fs.spent.turns ≤ 40000 * (k + m.steps) + extra → Landed c (c.label l) extra fs (k + m.steps) m.after
+landed c f j fs k u l extra a m pace =
     let few = m.few in
-    let some = m.some in
-    let size = jump_size c.layout j in
+    let size = jump_size c.layout (fs.block + 1) j in
     let paid = a.paid in
     let price = a.price in
-    let pace = a.pace in
-    let jumped = m.holds in
     record {
-      place = jumped.place;
+      place = m.place;
       fixed = m.fixed;
-      framed = framed_same c fs.numbers fs.memory u m.after a.framed
-          (record { registers = jumped.registers; bytes = jumped.bytes; output = jumped.output });
+      framed = framed_same c fs.numbers fs.memory u m.after a.framed m.holds;
       comes = comes_then a.comes m.comes;
-      output = jumped.output ∙ a.output;
+      output = m.holds.output ∙ a.output;
       price = omega (arith, few, size, paid, price);
-      pace = omega (arith, some, pace);
+      pace = pace;
     }
+
+-- a jump is an instruction, which pays for all that stands before its target; where there is none, the code goes on with the next block
+keeps_pace : (c : Setting) (f : Code Location) → CodeStands c f → (i l turns k steps : ℕ) → turns ≤ 40000 * k + standing f i
+    → (steps ≡ 0 → (c.layout.falls ≡ true) × (l ≡ i + 1)) → turns ≤ 40000 * (k + steps) + landing f l
+keeps_pace c f is i l turns k steps pace fell = by_test (nat_eq steps 0) refl
+  where
+    by_test : (b : Bool) → nat_eq steps 0 ≡ b → turns ≤ 40000 * (k + steps) + landing f l
+    by_test true e =
+        let none : steps ≡ 0 = grind (arith, nat_tests) in
+        let both = fell none in
+        let same = falls_on f i l (sym is.falls ∙ both.0) both.1 in
+        omega (arith, pace, none, same)
+    by_test false e =
+        let some : 0 < steps = grind (arith, nat_tests) in
+        let bound = few_standing f i in
+        omega (arith, pace, some, bound)
+
+-- at the label of a block
+lands : (c : Setting) (f : Code Location) → CodeStands c f → (j : Jump Location) (fs : FlatState) (k : ℕ) (u : State) (l : ℕ) (a : AtJump c f j fs k u)
+    → (m : Arrives (site c) c.layout.falls (fs.block + 1) (longest_size (jump_items c.layout (fs.block + 1) j)) u l (Scratched u))
+    → Landed c (c.label l) (landing f l) fs (k + m.steps) m.after
+lands c f is j fs k u l a m = landed c f j fs k u l (landing f l) a m (keeps_pace c f is fs.block l fs.spent.turns k m.steps a.pace m.fell)
 
 -- what comes of an event that is over
 no_block : (c : Setting) (f : Code Location) (j : FlatGiven) (t : FlatState) → slice_get f.blocks t.block ≡ None → step_of c f j t ≡ fails t
@@ -315,7 +338,7 @@ not_first blocks i n h e =
     absurd (let no : ⊥ = grind (arith, nat_tests) in no)
 
 pub enter : (c : Setting) (f : Code Location) → CodeStands c f → (j : FlatGiven) (r : FlatOutcome) (n : ℕ) → Follows c f j r n
-    → (i : ℕ) (fs : FlatState) (k : ℕ) (u : State) → Landed c (c.label i) fs k u → (i ≡ 0 → fs.used ≡ 0) → (log : Log)
+    → (i : ℕ) (fs : FlatState) (k : ℕ) (u : State) → Landed c (c.label i) (landing f i) fs k u → (i ≡ 0 → fs.used ≡ 0) → (log : Log)
     → Logged (step_of c f j) n (record fs { block = i; next = 0 }) log r → AllPerform c.world (bottom c) log → Performed c f r
 enter c f is j r n go i fs k u a new log goes all = by_block (slice_get f.blocks i) refl
   where
@@ -323,7 +346,7 @@ enter c f is j r n go i fs k u a new log goes all = by_block (slice_get f.blocks
     by_block None e = undefined_next c f j r n (record fs { block = i; next = 0 }) log (no_block c f j (record fs { block = i; next = 0 }) e) goes
     by_block (Some b) e =
         let stands = is.blocks i b e in
-        let paced = stands.paced in
+        let paced = lands_on f i b e stands.paced in
         let pace = a.pace in
         let price = a.price in
         let room = stands.room in
@@ -333,7 +356,7 @@ enter c f is j r n go i fs k u a new log goes all = by_block (slice_get f.blocks
           ahead = λ q. ap (λ i. slice_get b.lines i) (zero-add q);
           rest = stands.rest;
           used = 0;
-          stands = subst (λ x. StandAt (site c) ((lines_items c.layout 0 b.lines ++ jump_items c.layout b.jump) ++ stands.rest) x) (sym a.place) stands.stands;
+          stands = subst (λ x. StandAt (site c) ((lines_items c.layout 0 b.lines ++ jump_items c.layout (i + 1) b.jump) ++ (Label (i + 1) ∷ stands.rest)) x) (sym a.place) stands.stands;
           fixed = a.fixed;
           framed = a.framed;
           comes = a.comes;
@@ -369,7 +392,7 @@ closed_there f at n x h e = h (by_test (is_in at n x))
     by_test false = e
 
 -- from the label of the frame's end
-leave_case : (c : Setting) (f : Code Location) → CodeStands c f → (fs : FlatState) (k : ℕ) (w : State) (x : Option ℕ) → Landed c (c.label c.layout.leave) fs k w
+leave_case : (c : Setting) (f : Code Location) → CodeStands c f → (fs : FlatState) (k : ℕ) (w : State) (x : Option ℕ) → Landed c (c.label c.layout.leave) 40000 fs k w
     → ((t : State) → t.registers 10 ≡ w.registers 10 → ResultIn f.result x t)
     → Performed c f (FlatReturned fs.spent x (closed fs.memory (c.sp - c.area) (area f)))
 leave_case c f is fs k w x a held =
@@ -378,6 +401,7 @@ leave_case c f is fs k w x a held =
     let m = (ends_frame c is.setting w a.framed.pointer is.pointer is.aligned a.framed.saved a.framed.thread).from is.rest stands a.fixed in
     let left = m.holds in
     let few = m.few in
+    let some = m.some in
     let few_saved : length c.saved ≤ 13 = subst (λ rs. length rs ≤ 13) (sym is.saved) (few_saved_registers f) in
     let size = epilogue_size c.layout c.saved few_saved in
     let price = a.price in
@@ -388,7 +412,7 @@ leave_case c f is fs k w x a held =
       after = m.after;
       comes = comes_then a.comes m.comes;
       price = omega (arith, few, size, price);
-      pace = omega (arith, pace);
+      pace = omega (arith, some, pace);
       output = left.output ∙ a.output;
       result = held m.after left.result;
       back = record {
@@ -408,24 +432,22 @@ no_result : (k : Option Class) (t : State) → ResultIn k None t
 no_result None t = tt
 no_result (Some k) t = tt
 
--- the result is in x10, and the machine at the frame's end
-record WithResult (u : State) (to n : ℕ) (w : State) : Type 0 where
-  pub place : w.pc ≡ to
+-- the result is in x10
+record WithResult (u : State) (n : ℕ) (w : State) : Type 0 where
   pub value : w.registers 10 ≡ n
   pub others : (m : ℕ) → m < 28 → m ≢ 10 → w.registers m ≡ u.registers m
   pub bytes : w.bytes ≡ u.bytes
   pub output : w.output ≡ u.output
 
-result_and_jump : (c : Site) (u w : State) (l n : ℕ) → Sets u 10 n w → Ends c (GoTo l ∷ []) w (WithResult u (c.label l) n)
-result_and_jump c u w l n one =
-    ends_so c (GoTo l ∷ []) w (Jumped w (c.label l)) (WithResult u (c.label l) n) (ends_goto c w l)
+result_and_jump : (c : Site) (y : Layout) (u w : State) (next l n : ℕ) → Sets u 10 n w → Jumps c y.falls next (goto_items y next l) w l (WithResult u n)
+result_and_jump c y u w next l n one =
+    jumps_so c y.falls next (goto_items y next l) w l l (Scratched w) (WithResult u n) refl
     (λ t two. record {
-      place = two.place;
       value = two.registers 10 (lit< tt) ∙ one.value;
       others = λ m lo other. two.registers m lo ∙ one.others m other;
       bytes = two.bytes ∙ one.bytes;
       output = two.output ∙ one.output;
-    })
+    }) (jumps_goto c y w next l)
 
 no_numbers : Numbers
 no_numbers p = None
@@ -434,64 +456,66 @@ nothing_known : (v : ℕ) (o : Option ℕ) → o ≡ None → o ≡ Some v → �
 nothing_known v o e f = let no : ⊥ = cc in no
 
 -- what the frame's end needs, where places no longer count
-result_framed : (c : Setting) (numbers : Numbers) (memory : Spots) (u w : State) (to n : ℕ) → Framed c numbers memory u → WithResult u to n w
+result_framed : (c : Setting) (numbers : Numbers) (memory : Spots) (u w : State) (n : ℕ) → Framed c numbers memory u → WithResult u n w
     → Framed c no_numbers memory w
 unfolding no_numbers
-result_framed c numbers memory u w to n framed h = record {
+result_framed c numbers memory u w n framed h = record {
   pointer = h.others 2 (lit< tt) (λ e. absurd (omega (arith, e))) ∙ framed.pointer;
   places = λ p v good known. absurd (nothing_known v None refl known);
   spots = record { known = λ x k e. ap (λ (m : ℕ → ℕ). m x) h.bytes ∙ framed.spots.known x k e; usable = framed.spots.usable };
   clear = framed.clear;
   reach = framed.reach;
   saved = λ k r e. ap (λ (m : ℕ → ℕ). number_at m (save_at c k) 8) h.bytes ∙ framed.saved k r e;
-  thread = λ m kept other out. h.others m (kept_below m kept) (kept_not_10 m kept) ∙ framed.thread m kept other out;
+  thread = λ m kept other out. h.others m (held_below m kept) (held_not_10 m kept) ∙ framed.thread m kept other out;
   others = λ x hi away. ap (λ (m : ℕ → ℕ). m x) h.bytes ∙ framed.others x hi away;
 }
 
 return_value : (c : Setting) (f : Code Location) → CodeStands c f → (r : FlatOutcome) (y : Operand Location) (fs : FlatState) (k : ℕ) (u : State)
-    → AtJump c (Return (Some y)) fs k u → (q : Class) → c.layout.result ≡ Some q → f.result ≡ Some q → (v : ℕ) → number_of c.addresses fs.numbers y ≡ Some v
+    → AtJump c f (Return (Some y)) fs k u → (q : Class) → c.layout.result ≡ Some q → f.result ≡ Some q → (v : ℕ) → number_of c.addresses fs.numbers y ≡ Some v
     → FlatReturned fs.spent (Some (taken q v)) (closed fs.memory (c.sp - c.area) (area f)) ≡ r → Performed c f r
 return_value c f is r y fs k u a q is_q wants v known e =
-    let to : ℕ = c.label c.layout.leave in
+    let l : ℕ = c.layout.leave in
+    let next : ℕ = fs.block + 1 in
     let n : ℕ = passed q (taken q (operand_in c u y)) in
     let value : operand_in c u y ≡ v = operand_known c fs.numbers fs.memory u y v is.setting a.framed a.known known in
     let leads : Leads (site c) (result_items c.layout c.layout.result y) u (Sets u 10 n) =
     subst (λ o. Leads (site c) (result_items c.layout o y) u (Sets u 10 n)) (sym is_q) (leads_result c is.setting u q y a.framed.pointer a.known) in
-    let ends : Ends (site c) (jump_items c.layout (Return (Some y))) u (WithResult u to n) =
-    ends_then (site c) (result_items c.layout c.layout.result y) (GoTo c.layout.leave ∷ []) u (Sets u 10 n) (WithResult u to n) leads
-    (λ w fixed one. result_and_jump (site c) u w c.layout.leave n one) in
-    let m = ends.from a.rest a.stands a.fixed in
+    let jumps : Jumps (site c) c.layout.falls next (jump_items c.layout next (Return (Some y))) u l (WithResult u n) =
+    jumps_then (site c) c.layout.falls next (result_items c.layout c.layout.result y) (goto_items c.layout next l) u l (Sets u 10 n) (WithResult u n) leads
+    (λ w fixed one. result_and_jump (site c) c.layout u w next l n one) in
+    let m = jumps.from a.rest a.stands a.fixed in
     let few = m.few in
-    let some = m.some in
-    let size = jump_size c.layout (Return (Some y)) in
+    let size = jump_size c.layout next (Return (Some y)) in
     let paid = a.paid in
     let price = a.price in
+    let bound = few_standing f fs.block in
     let pace = a.pace in
     subst (λ o. Performed c f o) e
     (leave_case c f is (record fs { numbers = no_numbers }) (k + m.steps) m.after (Some (taken q v))
     (record {
-      place = m.holds.place;
+      place = m.place;
       fixed = m.fixed;
-      framed = result_framed c fs.numbers fs.memory u m.after to n a.framed m.holds;
+      framed = result_framed c fs.numbers fs.memory u m.after n a.framed m.holds;
       comes = comes_then a.comes m.comes;
       output = m.holds.output ∙ a.output;
       price = omega (arith, few, size, paid, price);
-      pace = omega (arith, some, pace);
+      pace = omega (arith, bound, pace);
     })
     (λ t same. subst (λ o. ResultIn o (Some (taken q v)) t) (sym wants)
     (same ∙ (m.holds.value ∙ ap (λ x. passed q (taken q x)) value))))
 
 return_nothing : (c : Setting) (f : Code Location) → CodeStands c f → (r : FlatOutcome) (fs : FlatState) (k : ℕ) (u : State)
-    → AtJump c (Return None) fs k u → FlatReturned fs.spent None (closed fs.memory (c.sp - c.area) (area f)) ≡ r → Performed c f r
+    → AtJump c f (Return None) fs k u → FlatReturned fs.spent None (closed fs.memory (c.sp - c.area) (area f)) ≡ r → Performed c f r
 return_nothing c f is r fs k u a e =
+    let m = (jumps_goto (site c) c.layout u (fs.block + 1) c.layout.leave).from a.rest a.stands a.fixed in
+    let bound = few_standing f fs.block in
+    let pace = a.pace in
     subst (λ o. Performed c f o) e
-    (leave_case c f is fs (k + m.steps) m.after None (landed c (Return None) fs k u (c.label c.layout.leave) a m) (λ t same. no_result f.result t))
-  where
-    m : Lands (site c) (longest_size (jump_items c.layout (Return None))) u (Jumped u (c.label c.layout.leave))
-    m = (ends_goto (site c) u c.layout.leave).from a.rest a.stands a.fixed
+    (leave_case c f is fs (k + m.steps) m.after None (landed c f (Return None) fs k u c.layout.leave 40000 a m (omega (arith, bound, pace)))
+    (λ t same. no_result f.result t))
 
 return_case : (c : Setting) (f : Code Location) → CodeStands c f → (j : FlatGiven) (r : FlatOutcome) (n : ℕ) (y : Operand Location) (fs : FlatState) (k : ℕ) (u : State)
-    → AtJump c (Return (Some y)) fs k u → (log : Log) → Then c f j r n log (returns_as f c.addresses (c.sp - c.area) fs f.result y) → Performed c f r
+    → AtJump c f (Return (Some y)) fs k u → (log : Log) → Then c f j r n log (returns_as f c.addresses (c.sp - c.area) fs f.result y) → Performed c f r
 return_case c f is j r n y fs k u a log goes = by_class f.result refl goes
   where
     by_value : (q : Class) → f.result ≡ Some q → (o : Option ℕ) → number_of c.addresses fs.numbers y ≡ o
@@ -505,7 +529,7 @@ return_case c f is j r n y fs k u a log goes = by_class f.result refl goes
 
 -- ---- the other jumps
 
-halt_case : (c : Setting) (f : Code Location) (r : FlatOutcome) (fs : FlatState) (k : ℕ) (u : State) → AtJump c Halt fs k u
+halt_case : (c : Setting) (f : Code Location) (r : FlatOutcome) (fs : FlatState) (k : ℕ) (u : State) → AtJump c f Halt fs k u
     → FlatEnded fs.spent Halted ≡ r → Performed c f r
 unfolding Stand Stands runs
 halt_case c f r fs k u a e =
@@ -522,12 +546,18 @@ halt_case c f r fs k u a e =
     subst (λ o. Performed c f o) e last
 
 branch_case : (c : Setting) (f : Code Location) → CodeStands c f → (j : FlatGiven) (r : FlatOutcome) (n : ℕ) → Follows c f j r n
-    → (on : Operand Location) (nonzero otherwise : ℕ) (fs : FlatState) (k : ℕ) (u : State) → AtJump c (Branch on nonzero otherwise) fs k u → (log : Log)
+    → (on : Operand Location) (nonzero otherwise : ℕ) (fs : FlatState) (k : ℕ) (u : State) → AtJump c f (Branch on nonzero otherwise) fs k u → (log : Log)
     → Then c f j r n log (branches fs nonzero otherwise (read c.addresses fs.numbers W on)) → AllPerform c.world (bottom c) log → Performed c f r
 branch_case c f is j r n go on nonzero otherwise fs k u a log goes all = by_value (number_of c.addresses fs.numbers on) refl goes
   where
-    m : Lands (site c) (longest_size (jump_items c.layout (Branch on nonzero otherwise))) u (Jumped u (way c (operand_in c u on) nonzero otherwise))
-    m = (ends_branch c is.setting u on nonzero otherwise a.framed.pointer a.known).from a.rest a.stands a.fixed
+    m : Arrives (site c) c.layout.falls (fs.block + 1) (longest_size (jump_items c.layout (fs.block + 1) (Branch on nonzero otherwise))) u
+        (way (operand_in c u on) nonzero otherwise) (Scratched u)
+    m = (jumps_branch c is.setting u (fs.block + 1) on nonzero otherwise a.framed.pointer a.known).from a.rest a.stands a.fixed
+
+    at_way : (l : ℕ) → way (operand_in c u on) nonzero otherwise ≡ l → Landed c (c.label l) (landing f l) fs (k + m.steps) m.after
+    at_way l e =
+        subst (λ x. Landed c (c.label x) (landing f x) fs (k + m.steps) m.after) e
+        (lands c f is (Branch on nonzero otherwise) fs k u (way (operand_in c u on) nonzero otherwise) a m)
 
     targets : (is_target a.blocks nonzero ≡ true) × (is_target a.blocks otherwise ≡ true)
     targets = and_parts (is_target a.blocks nonzero) (is_target a.blocks otherwise) a.inside
@@ -535,17 +565,13 @@ branch_case c f is j r n go on nonzero otherwise fs k u a log goes all = by_valu
     by_test : (v : ℕ) → operand_in c u on ≡ v → (t : Bool) → nat_eq (v % 2 ^ 32) 0 ≡ t
         → Then c f j r n log (enters fs (if t then otherwise else nonzero)) → Performed c f r
     by_test v e true z e_goes =
-        let to : way c (operand_in c u on) nonzero otherwise ≡ c.label otherwise =
-        ap (λ x. way c x nonzero otherwise) e ∙ ap (λ (b : Bool). if b then c.label otherwise else c.label nonzero) z in
-        enter c f is j r n go otherwise fs (k + m.steps) m.after
-        (subst (λ x. Landed c x fs (k + m.steps) m.after) to (landed c (Branch on nonzero otherwise) fs k u (way c (operand_in c u on) nonzero otherwise) a m))
-        (not_first a.blocks otherwise fs.used targets.1) log e_goes all
+        let to : way (operand_in c u on) nonzero otherwise ≡ otherwise =
+        ap (λ x. way x nonzero otherwise) e ∙ ap (λ (b : Bool). if b then otherwise else nonzero) z in
+        enter c f is j r n go otherwise fs (k + m.steps) m.after (at_way otherwise to) (not_first a.blocks otherwise fs.used targets.1) log e_goes all
     by_test v e false z e_goes =
-        let to : way c (operand_in c u on) nonzero otherwise ≡ c.label nonzero =
-        ap (λ x. way c x nonzero otherwise) e ∙ ap (λ (b : Bool). if b then c.label otherwise else c.label nonzero) z in
-        enter c f is j r n go nonzero fs (k + m.steps) m.after
-        (subst (λ x. Landed c x fs (k + m.steps) m.after) to (landed c (Branch on nonzero otherwise) fs k u (way c (operand_in c u on) nonzero otherwise) a m))
-        (not_first a.blocks nonzero fs.used targets.0) log e_goes all
+        let to : way (operand_in c u on) nonzero otherwise ≡ nonzero =
+        ap (λ x. way x nonzero otherwise) e ∙ ap (λ (b : Bool). if b then otherwise else nonzero) z in
+        enter c f is j r n go nonzero fs (k + m.steps) m.after (at_way nonzero to) (not_first a.blocks nonzero fs.used targets.0) log e_goes all
 
     by_value : (o : Option ℕ) → number_of c.addresses fs.numbers on ≡ o → Then c f j r n log (branches fs nonzero otherwise (option_map (taken W) o))
         → Performed c f r
@@ -554,14 +580,14 @@ branch_case c f is j r n go on nonzero otherwise fs k u a log goes all = by_valu
         by_test v (operand_known c fs.numbers fs.memory u on v is.setting a.framed a.known e) (nat_eq (v % 2 ^ 32) 0) refl e_goes
 
 goto_case : (c : Setting) (f : Code Location) → CodeStands c f → (j : FlatGiven) (r : FlatOutcome) (n : ℕ) → Follows c f j r n
-    → (i : ℕ) (fs : FlatState) (k : ℕ) (u : State) → AtJump c (Goto i) fs k u → (log : Log)
+    → (i : ℕ) (fs : FlatState) (k : ℕ) (u : State) → AtJump c f (Goto i) fs k u → (log : Log)
     → Then c f j r n log (enters fs i) → AllPerform c.world (bottom c) log → Performed c f r
 goto_case c f is j r n go i fs k u a log goes all =
-    let m = (ends_goto (site c) u i).from a.rest a.stands a.fixed in
-    enter c f is j r n go i fs (k + m.steps) m.after (landed c (Goto i) fs k u (c.label i) a m) (not_first a.blocks i fs.used a.inside) log goes all
+    let m = (jumps_goto (site c) c.layout u (fs.block + 1) i).from a.rest a.stands a.fixed in
+    enter c f is j r n go i fs (k + m.steps) m.after (lands c f is (Goto i) fs k u i a m) (not_first a.blocks i fs.used a.inside) log goes all
 
 jump_case : (c : Setting) (f : Code Location) → CodeStands c f → (j : FlatGiven) (r : FlatOutcome) (n : ℕ) → Follows c f j r n
-    → (x : Jump Location) (fs : FlatState) (k : ℕ) (u : State) → AtJump c x fs k u → (log : Log)
+    → (x : Jump Location) (fs : FlatState) (k : ℕ) (u : State) → AtJump c f x fs k u → (log : Log)
     → Then c f j r n log (flat_jump f c.addresses (c.sp - c.area) fs x) → AllPerform c.world (bottom c) log → Performed c f r
 unfolding flat_jump
 jump_case c f is j r n go (Goto i) fs k u a log goes all = goto_case c f is j r n go i fs k u a log goes all
@@ -586,7 +612,7 @@ jump_step c f j b fs k u a =
     let here : fs.next ≡ fs.next + 0 = omega arith in
     ap (step_in f c.addresses (c.sp - c.area) j fs) a.block ∙ ap (block_step f c.addresses (c.sp - c.area) j fs b) (ap (λ i. slice_get b.lines i) here ∙ a.ahead 0)
 
-at_jump : (c : Setting) (f : Code Location) (b : Block Location) (fs : FlatState) (k : ℕ) (u : State) → At c f b [] fs k u → AtJump c b.jump fs k u
+at_jump : (c : Setting) (f : Code Location) (b : Block Location) (fs : FlatState) (k : ℕ) (u : State) → At c f b [] fs k u → AtJump c f b.jump fs k u
 at_jump c f b fs k u a =
     let price = a.price in
     let pace = a.pace in

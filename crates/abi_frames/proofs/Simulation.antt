@@ -28,10 +28,12 @@ use Rattle.flat_code.specs.Flat.{FlatGiven, FlatAsked, FlatOutcome, FlatEnded, f
 use Rattle.flat_code.specs.Step.{FlatState, FlatEvent, Numbers, flat_step}
 use Rattle.abi_frames.specs.Performs.{Performs, AllPerform}
 use Rattle.abi_frames.specs.Covered.{covers_line}
-use Rattle.abi_frames.specs.Layout.{args_on_stack, most_in_lines, is_register, writes, saved_registers}
+use Rattle.abi_frames.specs.Layout.{args_on_stack, most_in_lines, is_register, writes, saved_registers, falls_through}
 use Rattle.abi_frames.specs.Emission.{line_items, lines_items, jump_items, epilogue}
+use Rattle.rv_isa.specs.declared.labelled.Item.TheVariants.{Label}
+use Rattle.abi_frames.proofs.Pacing.{standing}
 use Rattle.abi_frames.proofs.Leading.{StandAt, Reaches, Leads}
-use Rattle.abi_frames.proofs.Activations.{Setting, IsSetting, site, bottom, slot_at, save_at, value_at, place_is, Framed, kept_below, MayWrite}
+use Rattle.abi_frames.proofs.Activations.{Setting, IsSetting, site, bottom, slot_at, save_at, value_at, place_is, Framed, held_below, MayWrite}
 use Rattle.abi_frames.proofs.Saving.{line_may}
 use Rattle.abi_frames.proofs.LineCode.{Scratched}
 use Rattle.abi_frames.proofs.Sizes.{line_size, le_is}
@@ -40,7 +42,7 @@ use Rattle.abi_frames.proofs.Sizes.{line_size, le_is}
 
 pub record BlockStands (c : Setting) (b : Block Location) (i : ℕ) : Type 0 where
   pub rest : List Item
-  pub stands : StandAt (site c) ((lines_items c.layout 0 b.lines ++ jump_items c.layout b.jump) ++ rest) (c.label i)
+  pub stands : StandAt (site c) ((lines_items c.layout 0 b.lines ++ jump_items c.layout (i + 1) b.jump) ++ (Label (i + 1) ∷ rest)) (c.label i)
   pub known : list_all (line_keeps (is_place c.slots)) b.lines ≡ true
   pub jump_known : jump_keeps (is_place c.slots) b.jump ≡ true
   pub covered : list_all covers_line b.lines ≡ true
@@ -56,6 +58,7 @@ pub record CodeStands (c : Setting) (f : Code Location) : Type 0 where
   pub setting : IsSetting c
   pub blocks : (i : ℕ) (b : Block Location) → slice_get f.blocks i ≡ Some b → BlockStands c b i
   pub result : c.layout.result ≡ f.result
+  pub falls : c.layout.falls ≡ falls_through f
   pub rest : List Item
   pub leave : StandAt (site c) (epilogue c.layout c.saved ++ rest) (c.label c.layout.leave)
   pub saved : c.saved ≡ saved_registers f
@@ -74,7 +77,7 @@ pub record At (c : Setting) (f : Code Location) (b : Block Location) (lines : Li
   pub ahead : (i : ℕ) → slice_get b.lines (fs.next + i) ≡ slice_get lines i
   pub rest : List Item
   pub used : ℕ
-  pub stands : StandAt (site c) ((lines_items c.layout used lines ++ jump_items c.layout b.jump) ++ rest) u.pc
+  pub stands : StandAt (site c) ((lines_items c.layout used lines ++ jump_items c.layout (fs.block + 1) b.jump) ++ (Label (fs.block + 1) ∷ rest)) u.pc
   pub fixed : Fixed c.world.memory_map u
   pub framed : Framed c fs.numbers fs.memory u
   pub comes : Comes c.start k u
@@ -85,16 +88,16 @@ pub record At (c : Setting) (f : Code Location) (b : Block Location) (lines : Li
   pub credit : ℕ
   pub paid : affords credit b.jump lines ≡ true
   pub price : k + credit + 64 ≤ allowed fs
-  pub pace : fs.spent.turns + sum_by turns_of lines ≤ 40000 * (k + 1)
+  pub pace : fs.spent.turns + sum_by turns_of lines ≤ 40000 * k + standing f fs.block
   pub blocks : ℕ
   pub inside : leads_inside blocks b.jump ≡ true
   pub room : used + sum_by alloc_bytes lines ≤ c.area
   pub used_is : list_any is_alloc lines ≡ true → fs.used ≡ used
   pub passes : 8 * most_in_lines lines ≤ c.layout.saves
 
-pub record AtJump (c : Setting) (j : Jump Location) (fs : FlatState) (k : ℕ) (u : State) : Type 0 where
+pub record AtJump (c : Setting) (f : Code Location) (j : Jump Location) (fs : FlatState) (k : ℕ) (u : State) : Type 0 where
   pub rest : List Item
-  pub stands : StandAt (site c) (jump_items c.layout j ++ rest) u.pc
+  pub stands : StandAt (site c) (jump_items c.layout (fs.block + 1) j ++ (Label (fs.block + 1) ∷ rest)) u.pc
   pub fixed : Fixed c.world.memory_map u
   pub framed : Framed c fs.numbers fs.memory u
   pub comes : Comes c.start k u
@@ -105,17 +108,17 @@ pub record AtJump (c : Setting) (j : Jump Location) (fs : FlatState) (k : ℕ) (
   pub blocks : ℕ
   pub inside : leads_inside blocks j ≡ true
   pub price : k + credit + 64 ≤ allowed fs
-  pub pace : fs.spent.turns ≤ 40000 * (k + 1)
+  pub pace : fs.spent.turns ≤ 40000 * k + standing f fs.block
 
--- the machine is where it goes on after a jump
-pub record Landed (c : Setting) (to : ℕ) (fs : FlatState) (k : ℕ) (u : State) : Type 0 where
+-- the machine is where it goes on after a jump; so many turns may have begun beside those that instructions pay for
+pub record Landed (c : Setting) (to extra : ℕ) (fs : FlatState) (k : ℕ) (u : State) : Type 0 where
   pub place : u.pc ≡ to
   pub fixed : Fixed c.world.memory_map u
   pub framed : Framed c fs.numbers fs.memory u
   pub comes : Comes c.start k u
   pub output : u.output ≡ c.start.output ++ fs.spent.output
   pub price : k + 64 ≤ allowed fs
-  pub pace : fs.spent.turns ≤ 40000 * k
+  pub pace : fs.spent.turns ≤ 40000 * k + extra
 
 -- ---- what is to be shown
 
@@ -167,7 +170,7 @@ framed_same c numbers memory s u framed h = record {
   clear = framed.clear;
   reach = framed.reach;
   saved = λ k r e. ap (λ (m : ℕ → ℕ). number_at m (save_at c k) 8) h.bytes ∙ framed.saved k r e;
-  thread = λ n kept other out. h.registers n (kept_below n kept) ∙ framed.thread n kept other out;
+  thread = λ n kept other out. h.registers n (held_below n kept) ∙ framed.thread n kept other out;
   others = λ x hi away. ap (λ (m : ℕ → ℕ). m x) h.bytes ∙ framed.others x hi away;
 }
 
@@ -180,17 +183,17 @@ assoc a b d e = ap (λ l. l ++ e) (append_assoc a b d) ∙ append_assoc a (b ++ 
 pub stands_here : (c : Setting) (f : Code Location) (b : Block Location) (l : Line Location) (lines : List (Line Location)) (fs : FlatState) (k : ℕ) (u : State)
     → (a : At c f b (l ∷ lines) fs k u)
     → StandAt (site c)
-    (line_items c.layout a.used l ++ ((lines_items c.layout (a.used + alloc_bytes l) lines ++ jump_items c.layout b.jump) ++ a.rest)) u.pc
+    (line_items c.layout a.used l ++ ((lines_items c.layout (a.used + alloc_bytes l) lines ++ jump_items c.layout (fs.block + 1) b.jump) ++ (Label (fs.block + 1) ∷ a.rest))) u.pc
 stands_here c f b l lines fs k u a =
     subst (λ is. StandAt (site c) is u.pc)
-    (assoc (line_items c.layout a.used l) (lines_items c.layout (a.used + alloc_bytes l) lines) (jump_items c.layout b.jump) a.rest) a.stands
+    (assoc (line_items c.layout a.used l) (lines_items c.layout (a.used + alloc_bytes l) lines) (jump_items c.layout (fs.block + 1) b.jump) (Label (fs.block + 1) ∷ a.rest)) a.stands
 
 pub reach : (c : Setting) (f : Code Location) (b : Block Location) (l : Line Location) (lines : List (Line Location)) (fs : FlatState) (k : ℕ) (u : State)
     (P : State → Type 0) → (a : At c f b (l ∷ lines) fs k u) → Leads (site c) (line_items c.layout a.used l) u P
     → Reaches (site c) (longest_size (line_items c.layout a.used l))
-    ((lines_items c.layout (a.used + alloc_bytes l) lines ++ jump_items c.layout b.jump) ++ a.rest) u P
+    ((lines_items c.layout (a.used + alloc_bytes l) lines ++ jump_items c.layout (fs.block + 1) b.jump) ++ (Label (fs.block + 1) ∷ a.rest)) u P
 reach c f b l lines fs k u P a leads =
-    leads.from ((lines_items c.layout (a.used + alloc_bytes l) lines ++ jump_items c.layout b.jump) ++ a.rest) (stands_here c f b l lines fs k u a) a.fixed
+    leads.from ((lines_items c.layout (a.used + alloc_bytes l) lines ++ jump_items c.layout (fs.block + 1) b.jump) ++ (Label (fs.block + 1) ∷ a.rest)) (stands_here c f b l lines fs k u a) a.fixed
 
 -- a block of memory is still to be made
 later_alloc : (l : Line Location) (lines : List (Line Location)) → list_any is_alloc lines ≡ true → list_any is_alloc (l ∷ lines) ≡ true
@@ -215,7 +218,7 @@ pub advance : (c : Setting) (f : Code Location) (b : Block Location) (l : Line L
     (numbers : Numbers) (memory : Spots) (used : ℕ) → (a : At c f b (l ∷ lines) fs k u) → turns_of l ≡ 0 → used ≡ fs.used + alloc_bytes l
     → (nat_le (line_cost l) a.credit && affords (a.credit - line_cost l) b.jump lines) ≡ true
     → (m : Reaches (site c) (longest_size (line_items c.layout a.used l))
-    ((lines_items c.layout (a.used + alloc_bytes l) lines ++ jump_items c.layout b.jump) ++ a.rest) u
+    ((lines_items c.layout (a.used + alloc_bytes l) lines ++ jump_items c.layout (fs.block + 1) b.jump) ++ (Label (fs.block + 1) ∷ a.rest)) u
     (λ w. Framed c numbers memory w × (w.output ≡ u.output)))
     → At c f b lines (record fs { next = fs.next + 1; numbers = numbers; memory = memory; used = used }) (k + m.steps) m.after
 advance c f b l lines fs k u numbers memory used a calm takes pays m =

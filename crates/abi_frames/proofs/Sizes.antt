@@ -11,7 +11,7 @@ use Rattle.il_ast.specs.declared.operation.Class.{Class}
 use Rattle.il_ast.specs.declared.operation.Class.TheVariants.{W, L}
 use Rattle.il_ast.specs.declared.operation.Size.{Size}
 use Rattle.rv_isa.specs.Labels.{longest_size}
-use Rattle.rv_isa.specs.declared.instruction.BranchOp.TheVariants.{Bne}
+use Rattle.rv_isa.specs.declared.instruction.BranchOp.TheVariants.{Beq, Bne}
 use Rattle.rv_isa.specs.declared.instruction.LoadOp.{LoadOp}
 use Rattle.rv_isa.specs.declared.instruction.LoadOp.TheVariants.{Lwu, Lhu, Lbu}
 use Rattle.rv_isa.specs.declared.instruction.StoreOp.{StoreOp}
@@ -47,7 +47,7 @@ use Rattle.abi_frames.specs.Immediates.{opposite, right_form, left_form, compare
 use Rattle.abi_frames.specs.declared.immediate.Form.{Form}
 use Rattle.abi_frames.specs.declared.immediate.Form.TheVariants.{Immediate as ByImmediate, AddWord, Shift as ByShift, ShiftWord, Compare as ByComparison}
 use Rattle.abi_frames.proofs.FormNumbers.{word_low, word_is_small}
-use Rattle.abi_frames.specs.Emission.{far_load, far_store, load_slot, store_slot, slot_offset, into, fetch, source, word_into, target, deliver, set_items, compare_items, operation_items, operand_into, operand_source, on_registers, by_form, operate_by, operate_items, load_to, load_items, store_at, store_op, store_items, line_items, lines_items, move_pointer, save_all, restore_all, go_back, prologue, epilogue, result_items, jump_items, block_items, blocks_items, pass_into, pass_items, pass_all, call_through, receive_items, call_items, copy_at, copy_eight, copy_eights, copy_rest, blit_items, address_at, alloc_items}
+use Rattle.abi_frames.specs.Emission.{far_load, far_store, load_slot, store_slot, slot_offset, into, fetch, source, word_into, target, deliver, set_items, compare_items, operation_items, operand_into, operand_source, on_registers, by_form, operate_by, operate_items, load_to, load_items, store_at, store_op, store_items, line_items, lines_items, move_pointer, lower_pointer, raise_pointer, save_all, restore_all, go_back, prologue, epilogue, result_items, goto_items, ways_items, jump_items, block_items, blocks_items, pass_into, pass_items, pass_all, call_through, receive_items, call_items, copy_at, copy_eight, copy_eights, copy_rest, blit_items, address_at, alloc_items}
 use Rattle.abi_frames.specs.Functions.{caller_pointer, from_register, from_stack, argument_items, arguments_items, pointer_items, entry_items, function_items}
 use Rattle.abi_frames.proofs.Leading.{longest-append}
 use Rattle.abi_frames.proofs.Outgoing.{slots_near}
@@ -429,19 +429,36 @@ result_size y None a = omega arith
 result_size y (Some W) a = word_into_size y 10 a
 result_size y (Some L) a = let h = into_size y 10 a in omega (arith, h)
 
-pub jump_size : (y : Layout) (j : Jump Location) → longest_size (jump_items y j) ≤ jump_cost j
-jump_size y (Goto k) = lit≤ tt
-jump_size y (Branch on nonzero otherwise) =
-    let rest : List Item = BranchTo Bne (reg 28) (reg 0) nonzero ∷ GoTo otherwise ∷ [] in
-    let all = longest-append (word_into y 28 on) rest in
+goto_size : (y : Layout) (next l : ℕ) → longest_size (goto_items y next l) ≤ 2
+goto_size y next l = by_test (y.falls && nat_eq l next)
+  where
+    by_test : (b : Bool) → longest_size (if b then [] else GoTo l ∷ []) ≤ 2
+    by_test true = lit≤ tt
+    by_test false = lit≤ tt
+
+ways_size : (y : Layout) (next nonzero otherwise : ℕ) → longest_size (ways_items y next nonzero otherwise) ≤ 5
+ways_size y next nonzero otherwise = by_test (y.falls && nat_eq nonzero next)
+  where
+    by_test : (b : Bool)
+        → longest_size
+        (if b then BranchTo Beq (reg 28) (reg 0) otherwise ∷ [] else BranchTo Bne (reg 28) (reg 0) nonzero ∷ goto_items y next otherwise) ≤ 5
+    by_test true = lit≤ tt
+    by_test false = let h = goto_size y next otherwise in omega (arith, h)
+
+pub jump_size : (y : Layout) (next : ℕ) (j : Jump Location) → longest_size (jump_items y next j) ≤ jump_cost j
+jump_size y next (Goto k) = goto_size y next k
+jump_size y next (Branch on nonzero otherwise) =
+    let all = longest-append (word_into y 28 on) (ways_items y next nonzero otherwise) in
     let h = word_into_size y 28 on in
-    omega (arith, all, h)
-jump_size y (Return None) = lit≤ tt
-jump_size y (Return (Some a)) =
-    let all = longest-append (result_items y y.result a) (GoTo y.leave ∷ []) in
+    let more = ways_size y next nonzero otherwise in
+    omega (arith, all, h, more)
+jump_size y next (Return None) = goto_size y next y.leave
+jump_size y next (Return (Some a)) =
+    let all = longest-append (result_items y y.result a) (goto_items y next y.leave) in
     let h = result_size y y.result a in
-    omega (arith, all, h)
-jump_size y Halt = lit≤ tt
+    let more = goto_size y next y.leave in
+    omega (arith, all, h, more)
+jump_size y next Halt = lit≤ tt
 
 -- ---- blocks
 
@@ -449,15 +466,15 @@ pub le_is : (a b : ℕ) → nat_le a b ≡ true → a ≤ b
 le_is a b h = grind (arith, nat_tests)
 
 -- the code of the lines and of the jump
-abbrev pub LinesFit : Layout → (used credit : ℕ) → Jump Location → List (Line Location) → Type 0
-LinesFit y used credit j lines = longest_size (lines_items y used lines) + longest_size (jump_items y j) ≤ credit + 32 * sum_by weight_of lines
+abbrev pub LinesFit : Layout → (next used credit : ℕ) → Jump Location → List (Line Location) → Type 0
+LinesFit y next used credit j lines = longest_size (lines_items y used lines) + longest_size (jump_items y next j) ≤ credit + 32 * sum_by weight_of lines
 
 -- after a line that is no tick
-fits_more : (y : Layout) (used credit : ℕ) (j : Jump Location) (l : Line Location) (lines : List (Line Location)) → weight_of l ≡ 0
+fits_more : (y : Layout) (next used credit : ℕ) (j : Jump Location) (l : Line Location) (lines : List (Line Location)) → weight_of l ≡ 0
     → (nat_le (line_cost l) credit && affords (credit - line_cost l) j lines) ≡ true
-    → (affords (credit - line_cost l) j lines ≡ true → LinesFit y (used + alloc_bytes l) (credit - line_cost l) j lines)
-    → LinesFit y used credit j (l ∷ lines)
-fits_more y used credit j l lines light paid rest =
+    → (affords (credit - line_cost l) j lines ≡ true → LinesFit y next (used + alloc_bytes l) (credit - line_cost l) j lines)
+    → LinesFit y next used credit j (l ∷ lines)
+fits_more y next used credit j l lines light paid rest =
     let parts = and_parts (nat_le (line_cost l) credit) (affords (credit - line_cost l) j lines) paid in
     let enough = le_is (line_cost l) credit parts.0 in
     let others = rest parts.1 in
@@ -466,30 +483,30 @@ fits_more y used credit j l lines light paid rest =
     let size = line_size y used l in
     omega (arith, enough, others, sum, all, size, light)
 
-pub lines_size : (y : Layout) (used credit : ℕ) (j : Jump Location) (lines : List (Line Location)) → affords credit j lines ≡ true
-    → LinesFit y used credit j lines
-lines_size y used credit j [] paid =
+pub lines_size : (y : Layout) (next used credit : ℕ) (j : Jump Location) (lines : List (Line Location)) → affords credit j lines ≡ true
+    → LinesFit y next used credit j lines
+lines_size y next used credit j [] paid =
     let enough = le_is (jump_cost j) credit paid in
-    let size = jump_size y j in
+    let size = jump_size y next j in
     omega (arith, enough, size)
-lines_size y used credit j (Tick turn w ∷ lines) paid =
-    let others = lines_size y (used + 0) (credit + 32 * w) j lines paid in
+lines_size y next used credit j (Tick turn w ∷ lines) paid =
+    let others = lines_size y next (used + 0) (credit + 32 * w) j lines paid in
     let sum = sum_by-cons weight_of (Tick turn w) lines in
     omega (arith, others, sum)
-lines_size y used credit j (Set to a ∷ lines) paid =
-    fits_more y used credit j (Set to a) lines refl paid (λ h. lines_size y (used + 0) (credit - line_cost (Set to a)) j lines h)
-lines_size y used credit j (Operate to op a b ∷ lines) paid =
-    fits_more y used credit j (Operate to op a b) lines refl paid (λ h. lines_size y (used + 0) (credit - line_cost (Operate to op a b)) j lines h)
-lines_size y used credit j (Load to op at ∷ lines) paid =
-    fits_more y used credit j (Load to op at) lines refl paid (λ h. lines_size y (used + 0) (credit - line_cost (Load to op at)) j lines h)
-lines_size y used credit j (Store size a at ∷ lines) paid =
-    fits_more y used credit j (Store size a at) lines refl paid (λ h. lines_size y (used + 0) (credit - line_cost (Store size a at)) j lines h)
-lines_size y used credit j (Alloc to size ∷ lines) paid =
-    fits_more y used credit j (Alloc to size) lines refl paid (λ h. lines_size y (used + round_16 size) (credit - line_cost (Alloc to size)) j lines h)
-lines_size y used credit j (Blit from to count ∷ lines) paid =
-    fits_more y used credit j (Blit from to count) lines refl paid (λ h. lines_size y (used + 0) (credit - line_cost (Blit from to count)) j lines h)
-lines_size y used credit j (Call to callee args ∷ lines) paid =
-    fits_more y used credit j (Call to callee args) lines refl paid (λ h. lines_size y (used + 0) (credit - line_cost (Call to callee args)) j lines h)
+lines_size y next used credit j (Set to a ∷ lines) paid =
+    fits_more y next used credit j (Set to a) lines refl paid (λ h. lines_size y next (used + 0) (credit - line_cost (Set to a)) j lines h)
+lines_size y next used credit j (Operate to op a b ∷ lines) paid =
+    fits_more y next used credit j (Operate to op a b) lines refl paid (λ h. lines_size y next (used + 0) (credit - line_cost (Operate to op a b)) j lines h)
+lines_size y next used credit j (Load to op at ∷ lines) paid =
+    fits_more y next used credit j (Load to op at) lines refl paid (λ h. lines_size y next (used + 0) (credit - line_cost (Load to op at)) j lines h)
+lines_size y next used credit j (Store size a at ∷ lines) paid =
+    fits_more y next used credit j (Store size a at) lines refl paid (λ h. lines_size y next (used + 0) (credit - line_cost (Store size a at)) j lines h)
+lines_size y next used credit j (Alloc to size ∷ lines) paid =
+    fits_more y next used credit j (Alloc to size) lines refl paid (λ h. lines_size y next (used + round_16 size) (credit - line_cost (Alloc to size)) j lines h)
+lines_size y next used credit j (Blit from to count ∷ lines) paid =
+    fits_more y next used credit j (Blit from to count) lines refl paid (λ h. lines_size y next (used + 0) (credit - line_cost (Blit from to count)) j lines h)
+lines_size y next used credit j (Call to callee args ∷ lines) paid =
+    fits_more y next used credit j (Call to callee args) lines refl paid (λ h. lines_size y next (used + 0) (credit - line_cost (Call to callee args)) j lines h)
 
 abbrev pub block_weight : Block Location → ℕ
 block_weight b = sum_by weight_of b.lines
@@ -500,8 +517,8 @@ blocks_size y k [] good = omega arith
 blocks_size y k (b ∷ blocks) good =
     let parts = and_parts (is_paid b) (list_all is_paid blocks) good in
     let pays = parts.0 in
-    let one = lines_size y 0 0 b.jump b.lines pays in
-    let two = longest-append (lines_items y 0 b.lines) (jump_items y b.jump) in
+    let one = lines_size y (k + 1) 0 0 b.jump b.lines pays in
+    let two = longest-append (lines_items y 0 b.lines) (jump_items y (k + 1) b.jump) in
     let all = longest-append (block_items y k b) (blocks_items y (k + 1) blocks) in
     let others = blocks_size y (k + 1) blocks parts.1 in
     let sum = sum_by-cons block_weight b blocks in
@@ -519,6 +536,20 @@ move_size n = by_test (is_immediate n)
         let h = constant_at_most_9 28 n in
         omega (arith, all, h)
 
+lower_size : (size : ℕ) → longest_size (lower_pointer size) ≤ 10
+lower_size size = by_test (nat_eq size 0)
+  where
+    by_test : (b : Bool) → longest_size (if b then [] else move_pointer (2 ^ 64 - size)) ≤ 10
+    by_test true = lit≤ tt
+    by_test false = move_size (2 ^ 64 - size)
+
+raise_size : (size : ℕ) → longest_size (raise_pointer size) ≤ 10
+raise_size size = by_test (nat_eq size 0)
+  where
+    by_test : (b : Bool) → longest_size (if b then [] else move_pointer size) ≤ 10
+    by_test true = lit≤ tt
+    by_test false = move_size size
+
 saves_size : (o : ℕ) (rs : List ℕ) → longest_size (save_all o rs) ≡ length rs
 saves_size o [] = refl
 saves_size o (r ∷ rs) = let rest = saves_size (o + 8) rs in omega (arith, rest)
@@ -529,17 +560,16 @@ restores_size o (r ∷ rs) = let rest = restores_size (o + 8) rs in omega (arith
 
 pub prologue_size : (y : Layout) (rs : List ℕ) → length rs ≤ 13 → longest_size (prologue y rs) ≤ 23
 prologue_size y rs few =
-    let n : ℕ = 2 ^ 64 - y.size in
-    let all = longest-append (move_pointer n) (save_all y.saves rs) in
-    let one = move_size n in
+    let all = longest-append (lower_pointer y.size) (save_all y.saves rs) in
+    let one = lower_size y.size in
     let two = saves_size y.saves rs in
     omega (arith, all, one, two, few)
 
 pub epilogue_size : (y : Layout) (rs : List ℕ) → length rs ≤ 13 → longest_size (epilogue y rs) ≤ 24
 epilogue_size y rs few =
-    let all = longest-append (restore_all y.saves rs) (move_pointer y.size ++ (go_back ∷ [])) in
-    let more = longest-append (move_pointer y.size) (go_back ∷ []) in
-    let one = move_size y.size in
+    let all = longest-append (restore_all y.saves rs) (raise_pointer y.size ++ (go_back ∷ [])) in
+    let more = longest-append (raise_pointer y.size) (go_back ∷ []) in
+    let one = raise_size y.size in
     let two = restores_size y.saves rs in
     omega (arith, all, more, one, two, few)
 

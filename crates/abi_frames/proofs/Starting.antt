@@ -26,15 +26,15 @@ use Rattle.flat_code.specs.Step.{Numbers, bound, held, flat_begin, flat_step}
 use Rattle.abi_frames.specs.Calls.{World, IsWorld, GoodStack, Ready, HoldsSpots, passed}
 use Rattle.abi_frames.specs.Performs.{KeepsFrame}
 use Rattle.abi_frames.specs.Layout.{layout, outgoing, saved_registers, frame_size, frame_bound}
-use Rattle.abi_frames.proofs.Saving.{can_save_all, few_saved_registers, return_is_saved, AllMayWrite, all_params_may}
+use Rattle.abi_frames.proofs.Saving.{can_save_all, few_saved_registers, AllMayWrite, all_params_may}
 use Rattle.abi_frames.specs.declared.layout.Layout.{Layout}
-use Rattle.abi_frames.specs.Emission.{lines_items, jump_items, blocks_items, prologue, epilogue, move_pointer, save_all}
+use Rattle.abi_frames.specs.Emission.{lines_items, jump_items, blocks_items, prologue, epilogue, lower_pointer, save_all}
 use Rattle.abi_frames.specs.Functions.{entry_items, frame_items}
 use Rattle.abi_frames.specs.Covered.{covers_block, covers_params}
 use Rattle.abi_frames.specs.Laws.{IsCode, FramesPerform}
 use Rattle.abi_frames.proofs.Leading.{Site, StandAt, Leads, leads_then, leads_so, longest-append}
-use Rattle.abi_frames.proofs.Activations.{Setting, IsSetting, site, bottom, can_save, kept_below}
-use Rattle.abi_frames.proofs.FrameEnds.{savable, PointerMoved, leads_move_pointer, AllSaved, leads_save_all}
+use Rattle.abi_frames.proofs.Activations.{Setting, IsSetting, site, bottom, can_save, held_below}
+use Rattle.abi_frames.proofs.FrameEnds.{savable, PointerMoved, leads_lower, AllSaved, leads_save_all}
 use Rattle.abi_frames.proofs.Outgoing.{few_outgoing, block_passes}
 use Rattle.abi_frames.proofs.Sizes.{prologue_size, entry_size, le_is}
 use Rattle.abi_frames.proofs.Entering.{Entering, argument_in, ArePassed, CanTake, leads_entry}
@@ -55,34 +55,57 @@ stand_after c (i ∷ is) js a stands = stand_after c is js stands.0 stands.2
 -- the code of a block, at its label
 pub record BlockCode (c : Site) (y : Layout) (b : Block Location) (l : ℕ) : Type 0 where
   pub rest : List Item
-  pub stands : StandAt c ((lines_items y 0 b.lines ++ jump_items y b.jump) ++ rest) (c.label l)
+  pub stands : StandAt c ((lines_items y 0 b.lines ++ jump_items y (l + 1) b.jump) ++ (Label (l + 1) ∷ rest)) (c.label l)
 
 some_block : (a b : Block Location) → Some a ≡ Some b → a ≡ b
 some_block a b e = cc
 
-blocks_stand : (c : Site) (y : Layout) (k : ℕ) (blocks : List (Block Location)) (tail : List Item) (a : ℕ) → StandAt c (blocks_items y k blocks ++ tail) a
+-- code that begins with a label
+record Begins (l : ℕ) (is : List Item) : Type 0 where
+  rest : List Item
+  same : is ≡ Label l ∷ rest
+
+-- blocks from the k-th on, and the frame's end
+begins_next : (y : Layout) (k : ℕ) (blocks : List (Block Location)) (tail : List Item) → y.leave ≡ k + length blocks
+    → Begins k (blocks_items y k blocks ++ (Label y.leave ∷ tail))
+begins_next y k [] tail e = record { rest = tail; same = ap (λ l. Label l ∷ tail) (let last : y.leave ≡ k = omega (arith, e) in last) }
+begins_next y k (b ∷ blocks) tail e = record {
+  rest = ((lines_items y 0 b.lines ++ jump_items y (k + 1) b.jump) ++ blocks_items y (k + 1) blocks) ++ (Label y.leave ∷ tail);
+  same = refl;
+}
+
+blocks_stand : (c : Site) (y : Layout) (k : ℕ) (blocks : List (Block Location)) (tail : List Item) (a : ℕ) → y.leave ≡ k + length blocks
+    → StandAt c (blocks_items y k blocks ++ (Label y.leave ∷ tail)) a
     → (i : ℕ) (b : Block Location) → slice_get blocks i ≡ Some b → BlockCode c y b (k + i)
 unfolding Stand Stands
-blocks_stand c y k [] tail a stands i b e = absurd (let no : ⊥ = cc in no)
-blocks_stand c y k (d ∷ blocks) tail a stands zero b e =
-    let here : List Item = lines_items y 0 d.lines ++ jump_items y d.jump in
+blocks_stand c y k [] tail a leave stands i b e = absurd (let no : ⊥ = cc in no)
+blocks_stand c y k (d ∷ blocks) tail a leave stands zero b e =
+    let here : List Item = lines_items y 0 d.lines ++ jump_items y (k + 1) d.jump in
     let more : List Item = blocks_items y (k + 1) blocks in
-    let at : c.label k ≡ stands.0 = stands.1.0 ∙ sym stands.1.1 in
-    let place : stands.0 ≡ c.label (k + zero) = sym at ∙ ap c.label (no_more k) in
-    let code : BlockCode c y d (k + zero) = record {
-      rest = more ++ tail;
-      stands = subst (λ x. StandAt c (here ++ (more ++ tail)) x) place (subst (λ l. StandAt c l stands.0) (append_assoc here more tail) stands.2);
+    let next = begins_next y (k + 1) blocks tail (later leave) in
+    let at : stands.0 ≡ c.label k = stands.1.1 ∙ sym stands.1.0 in
+    let code : BlockCode c y d k = record {
+      rest = next.rest;
+      stands = subst (λ x. StandAt c (here ++ x) (c.label k)) next.same
+          (subst (λ x. StandAt c (here ++ (more ++ (Label y.leave ∷ tail))) x) at
+          (subst (λ l. StandAt c l stands.0) (append_assoc here more (Label y.leave ∷ tail)) stands.2));
     } in
-    subst (λ x. BlockCode c y x (k + zero)) (some_block d b e) code
+    subst (λ x. BlockCode c y x (k + zero)) (some_block d b e) (subst (λ n. BlockCode c y d n) (no_more k) code)
   where
     no_more : (n : ℕ) → n ≡ n + zero
     no_more n = omega arith
-blocks_stand c y k (d ∷ blocks) tail a stands (suc i) b e =
-    let here : List Item = lines_items y 0 d.lines ++ jump_items y d.jump in
+
+    later : y.leave ≡ k + suc (length blocks) → y.leave ≡ k + 1 + length blocks
+    later h = omega (arith, h)
+blocks_stand c y k (d ∷ blocks) tail a leave stands (suc i) b e =
+    let here : List Item = lines_items y 0 d.lines ++ jump_items y (k + 1) d.jump in
     let more : List Item = blocks_items y (k + 1) blocks in
-    let next = stand_after c here (more ++ tail) stands.0 (subst (λ l. StandAt c l stands.0) (append_assoc here more tail) stands.2) in
+    let next = stand_after c here (more ++ (Label y.leave ∷ tail)) stands.0 (subst (λ l. StandAt c l stands.0) (append_assoc here more (Label y.leave ∷ tail)) stands.2) in
     let place : k + 1 + i ≡ k + suc i = omega arith in
-    subst (λ n. BlockCode c y b n) place (blocks_stand c y (k + 1) blocks tail next.place next.stands i b e)
+    subst (λ n. BlockCode c y b n) place (blocks_stand c y (k + 1) blocks tail next.place (later leave) next.stands i b e)
+  where
+    later : y.leave ≡ k + suc (length blocks) → y.leave ≡ k + 1 + length blocks
+    later h = omega (arith, h)
 
 -- the first label, also where there is no block
 first_label : (c : Site) (y : Layout) (blocks : List (Block Location)) (rest : List Item) (a : ℕ) → y.leave ≡ length blocks
@@ -140,8 +163,8 @@ begun c is pointer clear holds =
     let top = is.world.small in
     let fits = is.fits in
     let saves = is.saves_fit in
-    leads_then (site c) (move_pointer n) (save_all c.layout.saves c.saved) s (PointerMoved s ((s.registers 2 + n) % 2 ^ 64))
-    (Entering c 0 (λ p. None)) (leads_move_pointer (site c) s n)
+    leads_then (site c) (lower_pointer c.layout.size) (save_all c.layout.saves c.saved) s (PointerMoved s ((s.registers 2 + n) % 2 ^ 64))
+    (Entering c 0 (λ p. None)) (leads_lower (site c) s c.layout.size)
     (λ u fixed one.
     let value = one.value in
     let at_u : u.registers 2 ≡ bottom c = value ∙ moved_down (s.registers 2) c.sp c.layout.size pointer (omega (arith, above)) (omega (arith, below, top)) in
@@ -160,7 +183,7 @@ begun c is pointer clear holds =
         saved = λ k r e.
             let good = savable r (each can_save c.saved k r is.savable e) in
             two.saved k r e ∙ one.others r good.below good.not_pointer;
-        thread = λ m kept other out. two.registers m (kept_below m kept) ∙ one.others m (kept_below m kept) other;
+        thread = λ m kept other out. two.registers m (held_below m kept) ∙ one.others m (held_below m kept) other;
         others = λ x hi away. stays x hi;
       };
       output = two.output ∙ one.output;
@@ -263,7 +286,6 @@ is_setting w label global addresses f slots sp room before s is world globals st
       saves_near = omega (arith, few);
       slots_near = omega (arith, few, saved);
       savable = can_save_all f;
-      return_saved = return_is_saved f;
       small = omega (arith, few, small, slots_few, saved);
     }
 
@@ -375,8 +397,9 @@ performs w at label global addresses f slots is world globals stands sp j stack 
       setting = good;
       blocks = λ i b e.
           block_stands c f slots refl refl refl is b i e
-          (subst (λ k. BlockCode (site c) y b k) (zero-add i) (blocks_stand (site c) y 0 f.blocks (Label y.leave ∷ last) blocks.place blocks.stands i b e));
+          (subst (λ k. BlockCode (site c) y b k) (zero-add i) (blocks_stand (site c) y 0 f.blocks last blocks.place (sym (zero-add (length f.blocks))) blocks.stands i b e));
       result = refl;
+      falls = refl;
       rest = [];
       leave = leave_stands (site c) y.leave last leave.place leave.stands;
       saved = refl;

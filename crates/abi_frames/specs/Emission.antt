@@ -1,5 +1,5 @@
 -- The machine code of each line and jump. x2 is the stack pointer; x28 to x30 hold operands and addresses for a moment.
-use Rattle.std.specs.Prelude.{ℕ, zero, suc, ◌+◌, ◌-◌, ◌*◌, ◌/◌, ◌%◌, ◌^◌, nat_eq, nat_lt, if◌then◌else◌, List, [], ◌∷◌, ◌++◌, Option, Some, None}
+use Rattle.std.specs.Prelude.{ℕ, zero, suc, ◌+◌, ◌-◌, ◌*◌, ◌/◌, ◌%◌, ◌^◌, ◌&&◌, nat_eq, nat_lt, if◌then◌else◌, List, [], ◌∷◌, ◌++◌, Option, Some, None}
 use Rattle.il_ast.specs.declared.operation.Class.{Class}
 use Rattle.il_ast.specs.declared.operation.Class.TheVariants.{W, L}
 use Rattle.il_ast.specs.declared.operation.Size.{Size}
@@ -12,7 +12,7 @@ use Rattle.rv_isa.specs.declared.instruction.LoadOp.TheVariants.{Ld, Lwu, Lhu, L
 use Rattle.rv_isa.specs.declared.instruction.StoreOp.{StoreOp}
 use Rattle.rv_isa.specs.declared.instruction.StoreOp.TheVariants.{Sb, Sh, Sw, Sd}
 use Rattle.rv_isa.specs.declared.instruction.RegOp.TheVariants.{Sub, Slt, Sltu}
-use Rattle.rv_isa.specs.declared.instruction.BranchOp.TheVariants.{Bne}
+use Rattle.rv_isa.specs.declared.instruction.BranchOp.TheVariants.{Beq, Bne}
 use Rattle.rv_isa.specs.declared.labelled.Item.{Item}
 use Rattle.rv_isa.specs.declared.labelled.Item.TheVariants.{Plain, Label, Branch as BranchTo, Goto as GoTo, Address}
 use Rattle.vcode.specs.declared.place.Location.{Location}
@@ -248,6 +248,13 @@ lines_items y used (l ∷ lines) = line_items y used l ++ lines_items y (used + 
 abbrev pub move_pointer : ℕ → List Item
 move_pointer n = if is_immediate n then add_low 2 2 n ∷ [] else constant 28 n ++ (sum_to 2 2 28 ∷ [])
 
+-- by the size of the frame; for an empty one it stays where it is
+abbrev pub lower_pointer : ℕ → List Item
+lower_pointer size = if nat_eq size 0 then [] else move_pointer (2 ^ 64 - size)
+
+abbrev pub raise_pointer : ℕ → List Item
+raise_pointer size = if nat_eq size 0 then [] else move_pointer size
+
 abbrev pub save_all : (offset : ℕ) → List ℕ → List Item
 save_all offset [] = []
 save_all offset (r ∷ rs) = store_8 r 2 offset ∷ save_all (offset + 8) rs
@@ -257,13 +264,13 @@ restore_all offset [] = []
 restore_all offset (r ∷ rs) = load_8 r 2 offset ∷ restore_all (offset + 8) rs
 
 abbrev pub prologue : Layout → (saved : List ℕ) → List Item
-prologue y rs = move_pointer (2 ^ 64 - y.size) ++ save_all y.saves rs
+prologue y rs = lower_pointer y.size ++ save_all y.saves rs
 
 abbrev pub go_back : Item
 go_back = Plain (Jalr (reg 0) (reg 1) (low 0))
 
 abbrev pub epilogue : Layout → (saved : List ℕ) → List Item
-epilogue y rs = restore_all y.saves rs ++ (move_pointer y.size ++ (go_back ∷ []))
+epilogue y rs = restore_all y.saves rs ++ (raise_pointer y.size ++ (go_back ∷ []))
 
 -- ---- jumps
 
@@ -272,21 +279,32 @@ result_items y None a = []
 result_items y (Some L) a = into y 10 a
 result_items y (Some W) a = word_into y 10 a
 
-abbrev pub return_items : Layout → Option (Operand Location) → List Item
-return_items y None = GoTo y.leave ∷ []
-return_items y (Some a) = result_items y y.result a ++ (GoTo y.leave ∷ [])
+-- to the label l; nothing where it is the one that stands next, and code may fall through
+abbrev pub goto_items : Layout → (next l : ℕ) → List Item
+goto_items y next l = if y.falls && nat_eq l next then [] else GoTo l ∷ []
 
-abbrev pub jump_items : Layout → Jump Location → List Item
-jump_items y (Goto k) = GoTo k ∷ []
-jump_items y (Branch on nonzero otherwise) =
-    word_into y 28 on ++ (BranchTo Bne (reg 28) (reg 0) nonzero ∷ GoTo otherwise ∷ [])
-jump_items y (Return a) = return_items y a
-jump_items y Halt = Plain Ebreak ∷ []
+-- where x28 is not 0, and else; turned round where the first of them stands next
+abbrev pub ways_items : Layout → (next nonzero otherwise : ℕ) → List Item
+ways_items y next nonzero otherwise =
+    if y.falls && nat_eq nonzero next
+    then BranchTo Beq (reg 28) (reg 0) otherwise ∷ []
+    else BranchTo Bne (reg 28) (reg 0) nonzero ∷ goto_items y next otherwise
+
+abbrev pub return_items : Layout → (next : ℕ) → Option (Operand Location) → List Item
+return_items y next None = goto_items y next y.leave
+return_items y next (Some a) = result_items y y.result a ++ goto_items y next y.leave
+
+abbrev pub jump_items : Layout → (next : ℕ) → Jump Location → List Item
+jump_items y next (Goto k) = goto_items y next k
+jump_items y next (Branch on nonzero otherwise) = word_into y 28 on ++ ways_items y next nonzero otherwise
+jump_items y next (Return a) = return_items y next a
+jump_items y next Halt = Plain Ebreak ∷ []
 
 -- ---- blocks
 
+-- behind the k-th block stands the label k + 1: that of the next block, or of the frame's end
 abbrev pub block_items : Layout → ℕ → Block Location → List Item
-block_items y k b = Label k ∷ (lines_items y 0 b.lines ++ jump_items y b.jump)
+block_items y k b = Label k ∷ (lines_items y 0 b.lines ++ jump_items y (k + 1) b.jump)
 
 abbrev pub blocks_items : Layout → ℕ → List (Block Location) → List Item
 blocks_items y k [] = []

@@ -85,4 +85,4 @@ pub record Examples : Type 0 where
   pub takes_nine : IsCode ninth 9
   pub makes_a_call : IsCode caller 1
   pub copies_bytes : IsCode copier 1
-  pub size : longest_size (frame_items counter 1) ≡ 24
+  pub size : longest_size (frame_items counter 1) ≡ 16

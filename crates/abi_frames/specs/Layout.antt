@@ -1,7 +1,7 @@
 -- Where things stand in a function's frame. Upward from the stack pointer: arguments of calls past the eighth, saved registers, slots, and the area for blocks
 -- of memory, up to the stack pointer of the caller.
-use Rattle.std.specs.Prelude.{ℕ, ◌+◌, ◌-◌, ◌*◌, Bool, false, ◌||◌, nat_eq, if◌then◌else◌, max, List, [], ◌∷◌, length, Option, Some, None}
-use Rattle.std.specs.List.{list_any}
+use Rattle.std.specs.Prelude.{ℕ, ◌+◌, ◌-◌, ◌*◌, Bool, true, false, ◌||◌, nat_eq, nat_le, if◌then◌else◌, max, List, [], ◌∷◌, ◌++◌, length, Option, Some, None}
+use Rattle.std.specs.List.{list_any, sum_by}
 use Rattle.il_ast.specs.Cost.{round_16}
 use Rattle.vcode.specs.declared.place.Location.{Location}
 use Rattle.vcode.specs.declared.place.Location.TheVariants.{Register, Slot}
@@ -11,7 +11,7 @@ use Rattle.vcode.specs.declared.line.Line.TheVariants.{Set, Operate, Load, Alloc
 use Rattle.vcode.specs.declared.code.Block.{Block}
 use Rattle.vcode.specs.declared.code.Code.{Code}
 pub use Rattle.vcode.specs.Outgoing.{args_on_stack, most_in_lines, most_in_blocks, outgoing}
-use Rattle.vcode.specs.Regular.{area}
+use Rattle.vcode.specs.Regular.{area, turns_of}
 use Rattle.abi_frames.specs.declared.layout.Layout.{Layout}
 
 -- a place that is the register of this number
@@ -49,9 +49,23 @@ written_of f (r ∷ rs) = if is_written f r then r ∷ written_of f rs else writ
 abbrev pub callee_saved : List ℕ
 callee_saved = 8 ∷ 9 ∷ 18 ∷ 19 ∷ 20 ∷ 21 ∷ 22 ∷ 23 ∷ 24 ∷ 25 ∷ 26 ∷ 27 ∷ []
 
--- the return address, and those of them that the code writes
+abbrev pub is_call : Line Location → Bool
+is_call (Call to callee args) = true
+is_call l = false
+
+abbrev pub block_calls : Block Location → Bool
+block_calls b = list_any is_call b.lines
+
+abbrev pub makes_call : Code Location → Bool
+makes_call f = list_any block_calls f.blocks
+
+-- the return address, which a call writes
+abbrev pub return_address : Code Location → List ℕ
+return_address f = if makes_call f then 1 ∷ [] else []
+
+-- where the code makes a call the return address, and those of them that it writes
 unfoldable pub saved_registers : Code Location → List ℕ
-saved_registers f = 1 ∷ written_of f callee_saved
+saved_registers f = return_address f ++ written_of f callee_saved
 
 -- the offset of the first saved register, and that of the first slot, in bytes from the stack pointer
 abbrev pub saves_offset : Code Location → ℕ
@@ -68,6 +82,15 @@ frame_size f slots = round_16 (area f + 8 * (slots + outgoing f + length (saved_
 abbrev pub frame_bound : Code Location → (slots : ℕ) → ℕ
 frame_bound f slots = round_16 (area f + 8 * (slots + outgoing f + 16))
 
+-- the turns of the source that begin in the code
+abbrev pub turns_in : Code Location → ℕ
+turns_in f = sum_by (λ b. sum_by turns_of b.lines) f.blocks
+
+-- Whether a block may fall into the one behind it. No instruction need then stand between two ticks: so all turns that begin in the code may begin between two
+-- instructions, and these are at most as many as may.
+abbrev pub falls_through : Code Location → Bool
+falls_through f = nat_le (turns_in f) 40000
+
 abbrev pub layout : Code Location → (slots : ℕ) → Layout
 layout f slots =
     record {
@@ -77,4 +100,5 @@ layout f slots =
       size = frame_size f slots;
       result = f.result;
       leave = length f.blocks;
+      falls = falls_through f;
     }

@@ -17,6 +17,7 @@ const OUTGOING: Layout = Layout {
     size: 144,
     result: None,
     leave: 3,
+    falls: true,
 };
 
 fn argument(class: Class, place: Location) -> Argument<Location> {

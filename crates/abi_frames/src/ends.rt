@@ -1,7 +1,7 @@
 //! The begin and the end of a frame.
 ghost use Rattle.std.specs.Prelude.{◌≡◌, ◌+◌, ◌-◌, ◌*◌, ◌^◌, ◌<◌, ◌≤◌, [], ◌∷◌, ◌++◌, length, OnOk};
 ghost use Rattle.abi_frames.specs.Fields.{constant, sum_to};
-ghost use Rattle.abi_frames.specs.Emission.{move_pointer, save_all, restore_all, prologue, epilogue, go_back};
+ghost use Rattle.abi_frames.specs.Emission.{move_pointer, lower_pointer, raise_pointer, save_all, restore_all, prologue, epilogue, go_back};
 
 use crate::fields::{add, add_immediate, load, low_part, register, store};
 use crate::layout::Layout;
@@ -26,6 +26,24 @@ fn push_move_pointer(items: &mut Vec<Item>, number: u64) -> Result<(), AllocErro
         items.push(add_immediate(2, 2, number))?;
     } else {
         push_far_move(items, number)?;
+    }
+    Ok(())
+}
+
+fn push_lowering(items: &mut Vec<Item>, size: u64) -> Result<(), AllocError>
+    ensures { OnOk result (items.new.items ≡ items.old.items ++ lower_pointer size) }
+{
+    if size != 0 {
+        push_move_pointer(items, negative(size))?;
+    }
+    Ok(())
+}
+
+fn push_raising(items: &mut Vec<Item>, size: u64) -> Result<(), AllocError>
+    ensures { OnOk result (items.new.items ≡ items.old.items ++ raise_pointer size) }
+{
+    if size != 0 {
+        push_move_pointer(items, size)?;
     }
     Ok(())
 }
@@ -62,25 +80,24 @@ fn negative(number: u64) -> u64
     u64::MAX - number + 1
 }
 
-/// Puts the begin of a frame at the end: the stack pointer goes down, and registers are saved.
+/// Puts the begin of a frame at the end: the stack pointer goes down, and registers are saved. An empty frame needs nothing.
 pub(crate) fn push_prologue(
     items: &mut Vec<Item>,
     layout: &Layout,
     saved: &[u8],
 ) -> Result<(), AllocError>
     requires saves { layout.now.saves < 2 ^ 16 }
-    requires size { 0 < layout.now.size }
     requires few { length saved.now ≤ 13 }
     ensures { OnOk result (items.new.items ≡ items.old.items ++ prologue layout.now saved.now) }
 {
-    push_move_pointer(items, negative(layout.size))?;
+    push_lowering(items, layout.size)?;
     push_saves(items, layout.saves, saved)
 }
 
 fn push_way_back(items: &mut Vec<Item>, size: u64) -> Result<(), AllocError>
-    ensures { OnOk result (items.new.items ≡ items.old.items ++ (move_pointer size ++ (go_back ∷ []))) }
+    ensures { OnOk result (items.new.items ≡ items.old.items ++ (raise_pointer size ++ (go_back ∷ []))) }
 {
-    push_move_pointer(items, size)?;
+    push_raising(items, size)?;
     items.push(Item::Plain(Instr::Jalr {
         rd: register(0),
         rs1: register(1),

@@ -18,6 +18,7 @@ use crate::layout::Layout;
 use crate::line::push_lines;
 use crate::room::{area_of, outgoing_of};
 use crate::saved::saved_registers;
+use crate::turns::falls_through;
 use flat_code::function::FlatFunc;
 use rv_isa::labelled::{Item, LabelledCode};
 use std::alloc::{AllocError, Global};
@@ -27,16 +28,17 @@ use vcode::place::{Destination, Location};
 fn push_body(
     items: &mut Vec<Item>,
     layout: &Layout,
+    next: usize,
     block: &Block<Location>,
 ) -> Result<(), AllocError>
     requires slots { layout.now.slots < 2 ^ 16 }
     requires near { layout.now.area < 2 ^ 32 }
     requires room { sum_by alloc_bytes block.now.lines ≤ 1048576 }
     requires few { IsTrue (list_all passes_few block.now.lines) }
-    ensures { OnOk result (items.new.items ≡ items.old.items ++ (lines_items layout.now 0 block.now.lines ++ jump_items layout.now block.now.jump)) }
+    ensures { OnOk result (items.new.items ≡ items.old.items ++ (lines_items layout.now 0 block.now.lines ++ jump_items layout.now next block.now.jump)) }
 {
     push_lines(items, layout, block.lines.as_slice())?;
-    push_jump(items, layout, &block.jump)
+    push_jump(items, layout, next, &block.jump)
 }
 
 fn push_block(
@@ -49,10 +51,11 @@ fn push_block(
     requires near { layout.now.area < 2 ^ 32 }
     requires room { sum_by alloc_bytes block.now.lines ≤ 1048576 }
     requires few { IsTrue (list_all passes_few block.now.lines) }
+    requires not_last { label + 1 < 2 ^ 64 }
     ensures { OnOk result (items.new.items ≡ items.old.items ++ block_items layout.now label block.now) }
 {
     items.push(Item::Label(label))?;
-    push_body(items, layout, block)
+    push_body(items, layout, label + 1, block)
 }
 
 fn push_blocks(
@@ -91,7 +94,6 @@ fn push_function(
 ) -> Result<(), AllocError>
     requires saves { layout.now.saves < 2 ^ 16 }
     requires slots { layout.now.slots < 2 ^ 16 }
-    requires size { 0 < layout.now.size }
     requires near { layout.now.area < 2 ^ 32 }
     requires room { sum_by (λ b. sum_by alloc_bytes b.lines) blocks.now ≤ 1048576 }
     requires calls { IsTrue (list_all (λ b. list_all passes_few b.lines) blocks.now) }
@@ -106,11 +108,11 @@ fn push_function(
     Ok(())
 }
 
-#[tactic(auto, using(crate::proofs::Outgoing::few_outgoing, crate::proofs::Saving::few_saved_registers, crate::proofs::Saving::some_saved_register))]
+#[tactic(auto, using(crate::proofs::Outgoing::few_outgoing, crate::proofs::Saving::few_saved_registers))]
 fn layout_of(function: &FlatFunc, saved: &[u8]) -> Layout
     requires { saved.now ≡ saved_registers function.now.located.code }
     ensures value { result ≡ layout function.now.located.code function.now.located.slots }
-    ensures near { (result.saves < 2 ^ 16) × (result.slots < 2 ^ 16) × (0 < result.size) × (result.area < 2 ^ 32) }
+    ensures near { (result.saves < 2 ^ 16) × (result.slots < 2 ^ 16) × (result.area < 2 ^ 32) }
 {
     let code = &function.located.code;
     let area = area_of(code);
@@ -125,6 +127,7 @@ fn layout_of(function: &FlatFunc, saved: &[u8]) -> Layout
         size,
         result: function.located.code.result,
         leave: function.located.code.blocks.len(),
+        falls: falls_through(code),
     }
 }
 

@@ -19,6 +19,7 @@ const FRAME: Layout = Layout {
     size: 128,
     result: None,
     leave: 1,
+    falls: true,
 };
 
 // the code of one line

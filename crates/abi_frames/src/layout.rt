@@ -16,4 +16,6 @@ pub struct Layout {
     pub result: Option<Class>,
     /// the label of the frame's end
     pub leave: usize,
+    /// whether a block may fall into the one behind it
+    pub falls: bool,
 }

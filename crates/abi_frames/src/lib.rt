@@ -1,10 +1,16 @@
 //! # Frames: machine code for code on flat bytes
 //!
 //! `frame::frame` makes the machine code of a function in location code, with labels in place of addresses. A function's frame has, upward from the stack pointer
-//! x2, the arguments past the eighth of the calls that it makes, the registers that it saves (x1, and those of a callee that its code writes), its slots, and the
-//! area for blocks of memory. Each line becomes instructions of its own: operands that are not in registers come into x28 and x29, and a value for a slot goes
-//! through x28. Each block of memory stands behind those of the lines before it. Bytes are copied through x30, eight at a time and the rest as four, two and one.
-//! A return goes to the one end of the frame, behind the last block.
+//! x2, the arguments past the eighth of the calls that it makes, the registers that it saves (x1 if it makes a call, and those of a callee that its code writes),
+//! its slots, and the area for blocks of memory. A function whose frame is empty moves no stack pointer.
+//!
+//! Each line becomes instructions of its own: operands that are not in registers come into x28 and x29, and a value for a slot goes through x28. A number stands
+//! in the instruction where that has a form for it (`immediate`, `specs/Immediates.antt`), and 0 is read from x0. Each block of memory stands behind those of the
+//! lines before it. Bytes are copied through x30, eight at a time and the rest as four, two and one.
+//!
+//! No jump goes to the block that stands next, and a branch is turned round where its first target does (`jump`). Ticks have no instructions, so where code falls
+//! from block to block all of its turns may begin between two instructions: it does only if these are at most 40,000 (`turns`). A return goes to the one end of
+//! the frame, behind the last block, which may fall into it.
 //!
 //! What the code owes is `FramePromise` (`specs/Promise.antt`): in every world and wherever it stands, from every state that is ready for the call
 //! (`specs/Calls.antt`, by the integer calling convention of the RISC-V ELF psABI), the machine performs what the code on bytes runs (`specs/Performs.antt`), in
@@ -32,6 +38,8 @@ pub mod immediate;
 #[cfg(test)]
 mod immediate_tests;
 mod jump;
+#[cfg(test)]
+mod jump_tests;
 pub mod laws;
 pub mod layout;
 mod line;
@@ -44,3 +52,4 @@ mod saved;
 mod saved_tests;
 #[cfg(test)]
 mod tests;
+mod turns;

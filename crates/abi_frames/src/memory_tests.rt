@@ -15,6 +15,7 @@ const SMALL: Layout = Layout {
     size: 192,
     result: Some(Class::W),
     leave: 5,
+    falls: true,
 };
 
 #[test]

@@ -1,7 +1,7 @@
 //! Which registers a function saves.
 ghost use Rattle.std.specs.Prelude.{◌≡◌, ◌++◌, ◌<◌, ◌≤◌, length, OnOk, IfOk};
 ghost use Rattle.std.specs.List.{list_any};
-ghost use Rattle.abi_frames.specs.Layout.{is_register, receives, writes, block_writes, is_written, written_of, saved_registers};
+ghost use Rattle.abi_frames.specs.Layout.{is_register, receives, writes, block_writes, is_written, written_of, is_call, block_calls, return_address, saved_registers};
 
 use std::alloc::{AllocError, Global};
 use vcode::code::{Block, Code};
@@ -36,6 +36,21 @@ fn writes(line: &Line<Location>, number: u8) -> bool
         | Line::Alloc { to, .. } => is_register(to, number),
         Line::Call { to, .. } => receives(to, number),
         Line::Tick { .. } | Line::Store { .. } | Line::Blit { .. } => false,
+    }
+}
+
+fn is_call(line: &Line<Location>) -> bool
+    ensures { result ≡ is_call line.now }
+{
+    match line {
+        Line::Call { .. } => true,
+        Line::Tick { .. }
+        | Line::Set { .. }
+        | Line::Operate { .. }
+        | Line::Load { .. }
+        | Line::Store { .. }
+        | Line::Alloc { .. }
+        | Line::Blit { .. } => false,
     }
 }
 
@@ -99,12 +114,49 @@ fn push_written(
     Ok(())
 }
 
-/// The registers that a function saves: x1, and those of x8, x9 and x18 to x27 that its code writes.
+fn lines_call(lines: &[Line<Location>]) -> bool
+    ensures { result ≡ list_any is_call lines.now }
+{
+    for line in lines {
+        if is_call(line) {
+            return true;
+        }
+    }
+    false
+}
+
+fn block_calls(block: &Block<Location>) -> bool
+    ensures { result ≡ block_calls block.now }
+{
+    lines_call(block.lines.as_slice())
+}
+
+fn blocks_call(blocks: &[Block<Location>]) -> bool
+    ensures { result ≡ list_any block_calls blocks.now }
+{
+    for block in blocks {
+        if block_calls(block) {
+            return true;
+        }
+    }
+    false
+}
+
+fn push_return_address(saved: &mut Vec<u8>, code: &Code<Location>) -> Result<(), AllocError>
+    ensures { OnOk result (saved.new.items ≡ saved.old.items ++ return_address code.now) }
+{
+    if blocks_call(code.blocks.as_slice()) {
+        saved.push(1)?;
+    }
+    Ok(())
+}
+
+/// The registers that a function saves: x1 if its code makes a call, and those of x8, x9 and x18 to x27 that its code writes.
 pub(crate) fn saved_registers(alloc: Global, code: &Code<Location>) -> Result<Vec<u8>, AllocError>
     ensures { IfOk result (λ v. v.items ≡ saved_registers code.now) }
 {
     let mut saved = Vec::new(alloc);
-    saved.push(1)?;
+    push_return_address(&mut saved, code)?;
     push_written(
         &mut saved,
         code,

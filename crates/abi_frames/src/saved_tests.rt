@@ -79,6 +79,36 @@ fn only_written_registers_of_the_caller_are_saved(rt: HostRuntime) -> Result<(),
 }
 
 #[test]
+fn the_return_address_is_saved_for_calls_alone(rt: HostRuntime) -> Result<(), Fail> {
+    let mut code = writer(rt.alloc())?;
+    code.blocks = Seq::new(rt.alloc());
+    let saved = saved_registers(rt.alloc(), &code)?;
+    assert_eq!(rt; saved.len(), 1);
+    assert!(rt; saved.get(0) == Some(&9));
+    Ok(())
+}
+
+#[test]
+fn an_empty_frame_moves_no_pointer(rt: HostRuntime) -> Result<(), Fail> {
+    let layout = Layout {
+        saves: 0,
+        slots: 0,
+        area: 0,
+        size: 0,
+        result: None,
+        leave: 1,
+        falls: true,
+    };
+    let none: [u8; 0] = [];
+    let mut items = Vec::new(rt.alloc());
+    push_prologue(&mut items, &layout, none.as_slice())?;
+    assert_eq!(rt; items.len(), 0);
+    push_epilogue(&mut items, &layout, none.as_slice())?;
+    assert_eq!(rt; items.len(), 1);
+    Ok(())
+}
+
+#[test]
 fn a_frame_begins_with_what_is_saved(rt: HostRuntime) -> Result<(), Fail> {
     let layout = Layout {
         saves: 8,
@@ -87,6 +117,7 @@ fn a_frame_begins_with_what_is_saved(rt: HostRuntime) -> Result<(), Fail> {
         size: 32,
         result: None,
         leave: 1,
+        falls: true,
     };
     let mut items = Vec::new(rt.alloc());
     push_prologue(&mut items, &layout, [1, 18].as_slice())?;

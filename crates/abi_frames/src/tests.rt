@@ -23,6 +23,7 @@ const SMALL: Layout = Layout {
     size: 128,
     result: Some(Class::W),
     leave: 5,
+    falls: true,
 };
 
 #[test]
@@ -38,8 +39,8 @@ fn an_empty_function_has_a_frame(rt: HostRuntime) -> Result<(), Fail> {
     assert!(rt; covers(&function));
     let code = frame(rt.alloc(), &function)?;
     assert_eq!(rt; code.labels(), 1);
-    // the stack pointer moves, the return address is saved, the label, and all of it back
-    assert_eq!(rt; code.items().len(), 1 + 1 + 1 + 1 + 1 + 1);
+    // the stack pointer moves, the label, the stack pointer and the way back: no call is made, and x1 stays where it is
+    assert_eq!(rt; code.items().len(), 1 + 1 + 1 + 1);
     Ok(())
 }
 
@@ -88,6 +89,7 @@ fn a_word_is_returned(rt: HostRuntime) -> Result<(), Fail> {
     push_jump(
         &mut items,
         &SMALL,
+        2,
         &Jump::Return(Some(Operand::At(Location::Register(6)))),
     )?;
     assert_eq!(rt; items.len(), 2);

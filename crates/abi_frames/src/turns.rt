@@ -1,0 +1,59 @@
+//! How many turns of the source begin in a function's code.
+ghost use Rattle.std.specs.Prelude.{◌≡◌, ◌≤◌, IsTrue, nat_le};
+ghost use Rattle.std.specs.List.{list_all, sum_by};
+ghost use Rattle.vcode.specs.Regular.{turns_of};
+ghost use Rattle.abi_frames.specs.Layout.{falls_through};
+
+use vcode::code::{Block, Code};
+use vcode::line::Line;
+use vcode::place::Location;
+
+fn turns_of(line: &Line<Location>) -> u64
+    ensures { result ≡ turns_of line.now }
+{
+    match line {
+        Line::Tick { turn: true, .. } => 1,
+        Line::Tick { turn: false, .. }
+        | Line::Set { .. }
+        | Line::Operate { .. }
+        | Line::Load { .. }
+        | Line::Store { .. }
+        | Line::Alloc { .. }
+        | Line::Blit { .. }
+        | Line::Call { .. } => 0,
+    }
+}
+
+fn lines_turns(lines: &[Line<Location>]) -> u64
+    requires { sum_by turns_of lines.now ≤ 40000 }
+    ensures { result ≡ sum_by turns_of lines.now }
+{
+    let mut total = 0;
+    for line in lines {
+        total += turns_of(line);
+    }
+    total
+}
+
+fn are_few(blocks: &[Block<Location>]) -> bool
+    requires { IsTrue (list_all (λ b. nat_le (sum_by turns_of b.lines) 40000) blocks.now) }
+    ensures { result ≡ nat_le (sum_by (λ b. sum_by turns_of b.lines) blocks.now) 40000 }
+{
+    let mut left = 40000;
+    for block in blocks {
+        let turns = lines_turns(block.lines.as_slice());
+        if left < turns {
+            return false;
+        }
+        left -= turns;
+    }
+    true
+}
+
+/// May a block fall into the one behind it? Where no more than 40,000 turns begin in the code.
+pub(crate) fn falls_through(code: &Code<Location>) -> bool
+    requires { IsTrue (list_all (λ b. nat_le (sum_by turns_of b.lines) 40000) code.now.blocks) }
+    ensures { result ≡ falls_through code.now }
+{
+    are_few(code.blocks.as_slice())
+}
