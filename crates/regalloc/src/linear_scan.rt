@@ -1,20 +1,30 @@
-//! Linear scan: registers of the machine for the virtual registers whose intervals have room in them (Poletto and Sarkar, 1999).
+//! Linear scan: registers of the machine for the virtual registers that are used most often for their length, and shared slots for the others (after Poletto
+//! and Sarkar, 1999, and Chow and Hennessy, 1990).
 ghost use Rattle.std.specs.Prelude.{◌≡◌, ◌<◌, true, length, IfOk, IfSome};
-ghost use Rattle.regalloc.specs.Scanned.{is_for_values, may_stand, all_stand, IsScanned};
+ghost use Rattle.std.specs.List.{list_all};
+ghost use Rattle.vcode.specs.Named.{is_place};
+ghost use Rattle.regalloc.specs.Scanned.{IsScanned};
 
-use crate::intervals::{Interval, Position, intervals};
+use crate::candidates::{Candidate, Facts, candidates, singles, wishes};
+use crate::demands::demands_of;
+use crate::groups::{Group, groups_of};
+use crate::lifetimes::lifetimes;
+use crate::loops::depths;
+use crate::rooms::{Room, room_for, rooms};
+use crate::slots::{Wish, shared_slots};
+use crate::width::is_wide;
 use certificates::certificate::Certificate;
 use certificates::list::certificate_of;
 use certificates::spill_all::slots;
 use certificates::strategy::Strategy;
+use cfg_live::points::graph;
 use cfg_live::sets::Live;
 use std::alloc::{AllocError, Global};
-use vcode::code::Block;
 use vcode::function::VFunc;
 use vcode::place::Location;
 
-/// Answers one place for each register: one of x5 to x9 and x18 to x27, or its own slot; none where memory is refused, or where blocks and registers are so many for the
-/// lines that a list of registers for each block might be far longer than the function.
+/// Answers one place for each register: one of x5 to x27, or a slot; none where memory is refused, or where so many registers are live in so many blocks that the
+/// certificate might be far longer than the function.
 #[derive(Drop)]
 pub struct LinearScan {
     alloc: Global,
@@ -27,75 +37,26 @@ impl LinearScan {
     }
 }
 
-// What a register of the machine holds or held last, and how long.
-#[derive(Clone, Copy)]
-struct Held {
-    register: u32,
-    end: Position,
-}
+// How many registers of the machine there are: x5 to x27. Those come first that callees need not keep, and of these x10 to x17.
+const MACHINE: usize = 23;
 
-// How many registers of the machine there are: x5 to x9 and x18 to x27, in this order.
-const MACHINE: usize = 15;
-
-fn machine_register(k: u8) -> u8
-    requires { k < 15 }
-    ensures { is_for_values result ≡ true }
+fn machine_register(registers: u32, k: u8) -> Location
+    requires { k < 23 }
+    ensures { is_place registers result ≡ true }
 {
-    if k < 5 { 5 + k } else { 13 + k }
+    Location::Register(if k < 8 {
+        10 + k
+    } else if k < 13 {
+        k - 3
+    } else {
+        k + 5
+    })
 }
 
-// What lasts over a call stands in a register that callees keep: x8 or above.
-fn may_hold(k: usize, interval: &Interval) -> bool {
-    !interval.over_call || 3 <= k
-}
-
-fn is_free(held: Option<Held>, start: Position) -> bool {
-    match held {
-        Some(held) => held.end < start,
-        None => true,
-    }
-}
-
-// The first that is free for the interval.
-fn free_for(machine: &[Option<Held>], interval: &Interval) -> Option<usize> {
-    for (k, held) in machine.iter().enumerate() {
-        if may_hold(k, interval) && is_free(*held, interval.start) {
-            return Some(k);
-        }
-    }
-    None
-}
-
-// The one whose own ends later: what was found, or k.
-fn later(found: Option<(usize, Held)>, k: usize, held: Option<Held>) -> Option<(usize, Held)> {
-    match (found, held) {
-        (found, None) => found,
-        (None, Some(held)) => Some((k, held)),
-        (Some((other, before)), Some(held)) => {
-            if before.end < held.end {
-                Some((k, held))
-            } else {
-                Some((other, before))
-            }
-        }
-    }
-}
-
-// Of those that may hold the interval, the one whose own ends last.
-fn latest_for(machine: &[Option<Held>], interval: &Interval) -> Option<(usize, Held)> {
-    let mut found = None;
-    for (k, held) in machine.iter().enumerate() {
-        if may_hold(k, interval) {
-            found = later(found, k, *held);
-        }
-    }
-    found
-}
-
-fn set(list: &mut [Location], register: u32, place: Location)
-    requires stands { may_stand register place ≡ true }
-    requires stand { all_stand 0 list.old ≡ true }
-    ensures stand { all_stand 0 list.new ≡ true }
+fn set(list: &mut [Location], registers: u32, register: u32, place: Location)
+    requires place { is_place registers place ≡ true }
+    requires places { list_all (is_place registers) list.old ≡ true }
+    ensures places { list_all (is_place registers) list.new ≡ true }
     ensures long { length list.new ≡ length list.old }
 {
     if (register as usize) < list.len() {
@@ -103,121 +64,209 @@ fn set(list: &mut [Location], register: u32, place: Location)
     }
 }
 
-fn hold(machine: &mut [Option<Held>], k: usize, held: Held) {
-    match machine.get_mut(k) {
-        Some(at) => *at = Some(held),
+fn set_all(list: &mut [Location], registers: u32, members: &[u32], place: Location)
+    requires place { is_place registers place ≡ true }
+    requires places { list_all (is_place registers) list.old ≡ true }
+    ensures places { list_all (is_place registers) list.new ≡ true }
+    ensures long { length list.new ≡ length list.old }
+{
+    for register in members {
+        set(list, registers, *register, place);
+    }
+}
+
+// The k-th room for the registers of the group.
+fn take(list: &mut [Location], registers: u32, rooms: &mut [Room], k: usize, group: &Group)
+    requires { list_all (is_place registers) list.old ≡ true }
+    ensures places { list_all (is_place registers) list.new ≡ true }
+    ensures long { length list.new ≡ length list.old }
+{
+    if k < MACHINE {
+        take_room(rooms, k, group);
+        let place = machine_register(registers, k as u8);
+        set_all(list, registers, group.members.as_slice(), place);
+    }
+}
+
+fn take_room(rooms: &mut [Room], k: usize, group: &Group) {
+    match rooms.get_mut(k) {
+        Some(room) => room.take(group.ranges.as_slice()),
         None => {}
     }
 }
 
-fn take(list: &mut [Location], machine: &mut [Option<Held>], k: usize, interval: &Interval)
-    requires { all_stand 0 list.old ≡ true }
-    ensures stand { all_stand 0 list.new ≡ true }
+fn place(
+    list: &mut [Location],
+    registers: u32,
+    rooms: &mut [Room],
+    groups: &[Group],
+    candidate: &Candidate,
+)
+    requires { list_all (is_place registers) list.old ≡ true }
+    ensures places { list_all (is_place registers) list.new ≡ true }
     ensures long { length list.new ≡ length list.old }
 {
-    if k < MACHINE {
-        hold(
-            machine,
-            k,
-            Held {
-                register: interval.register,
-                end: interval.end,
-            },
-        );
-        set(
-            list,
-            interval.register,
-            Location::Register(machine_register(k as u8)),
-        );
+    match groups.get(candidate.group) {
+        Some(group) => match room_for(rooms, candidate, group.ranges.as_slice()) {
+            Some(k) => take(list, registers, rooms, k, group),
+            None => {}
+        },
+        None => {}
     }
 }
 
-// Where none is free, what ends last has its slot.
-fn take_from(list: &mut [Location], machine: &mut [Option<Held>], interval: &Interval)
-    requires { all_stand 0 list.old ≡ true }
-    ensures stand { all_stand 0 list.new ≡ true }
+fn place_all(
+    list: &mut [Location],
+    registers: u32,
+    rooms: &mut [Room],
+    groups: &[Group],
+    candidates: &[Candidate],
+)
+    requires { list_all (is_place registers) list.old ≡ true }
+    ensures places { list_all (is_place registers) list.new ≡ true }
     ensures long { length list.new ≡ length list.old }
 {
-    match latest_for(machine, interval) {
-        Some((k, held)) => {
-            if interval.end < held.end {
-                set(list, held.register, Location::Slot(held.register));
-                take(list, machine, k, interval);
+    for candidate in candidates {
+        place(list, registers, rooms, groups, candidate);
+    }
+}
+
+// Those that have no register of the machine yet stand in the slot.
+fn stand(list: &mut [Location], registers: u32, members: &[u32], slot: u32)
+    requires low { slot < registers }
+    requires places { list_all (is_place registers) list.old ≡ true }
+    ensures places { list_all (is_place registers) list.new ≡ true }
+    ensures long { length list.new ≡ length list.old }
+{
+    for register in members {
+        if is_unplaced(list, *register) {
+            set(list, registers, *register, Location::Slot(slot));
+        }
+    }
+}
+
+/// Whether the list has a slot for the register.
+pub(crate) fn is_unplaced(list: &[Location], register: u32) -> bool {
+    match list.get(register as usize) {
+        Some(Location::Slot(_)) => true,
+        _ => false,
+    }
+}
+
+fn give_slot(list: &mut [Location], registers: u32, groups: &[Group], wish: &Wish, slot: usize)
+    requires { list_all (is_place registers) list.old ≡ true }
+    ensures places { list_all (is_place registers) list.new ≡ true }
+    ensures long { length list.new ≡ length list.old }
+{
+    match groups.get(wish.group) {
+        Some(group) => {
+            if slot < registers as usize {
+                stand(list, registers, group.members.as_slice(), slot as u32);
             }
         }
         None => {}
     }
 }
 
-fn place_next(list: &mut [Location], machine: &mut [Option<Held>], interval: &Interval)
-    requires { all_stand 0 list.old ≡ true }
-    ensures stand { all_stand 0 list.new ≡ true }
+fn give_slots(
+    list: &mut [Location],
+    registers: u32,
+    groups: &[Group],
+    wishes: &[Wish],
+    slots: &[usize],
+)
+    requires { list_all (is_place registers) list.old ≡ true }
+    ensures places { list_all (is_place registers) list.new ≡ true }
     ensures long { length list.new ≡ length list.old }
 {
-    match free_for(machine, interval) {
-        Some(k) => take(list, machine, k, interval),
-        None => take_from(list, machine, interval),
+    for (k, wish) in wishes.iter().enumerate() {
+        match slots.get(k) {
+            Some(slot) => give_slot(list, registers, groups, wish, *slot),
+            None => {}
+        }
     }
 }
 
-fn place_all(list: &mut [Location], machine: &mut [Option<Held>], intervals: &[Interval])
-    requires { all_stand 0 list.old ≡ true }
-    ensures stand { all_stand 0 list.new ≡ true }
+// Registers of the machine for groups, then for single registers of those that got none, and slots for what is left.
+fn place_in(
+    alloc: Global,
+    list: &mut [Location],
+    registers: u32,
+    groups: &[Group],
+    facts: &Facts,
+) -> Result<(), AllocError>
+    requires { list_all (is_place registers) list.old ≡ true }
+    ensures places { list_all (is_place registers) list.new ≡ true }
     ensures long { length list.new ≡ length list.old }
 {
-    for interval in intervals {
-        place_next(list, machine, interval);
-    }
+    let mut rooms = rooms(alloc, MACHINE, facts.points)?;
+    let first = candidates(alloc, groups, facts)?;
+    place_all(
+        list,
+        registers,
+        rooms.as_mut_slice(),
+        groups,
+        first.as_slice(),
+    );
+    let singles = singles(alloc, groups, list, facts)?;
+    let second = candidates(alloc, singles.as_slice(), facts)?;
+    place_all(
+        list,
+        registers,
+        rooms.as_mut_slice(),
+        singles.as_slice(),
+        second.as_slice(),
+    );
+    let wishes = wishes(alloc, groups, list, facts)?;
+    let slots = shared_slots(alloc, groups, wishes.as_slice())?;
+    give_slots(list, registers, groups, wishes.as_slice(), slots.as_slice());
+    Ok(())
+}
+
+// What is to be known of the function.
+fn facts(alloc: Global, function: &VFunc, live: &Live) -> Result<Facts, AllocError> {
+    let graph = graph(alloc, function)?;
+    let points = graph.uses.as_slice();
+    let lifetimes = lifetimes(alloc, function, live, points)?;
+    let depths = depths(alloc, function.code.blocks.as_slice())?;
+    let demands = demands_of(alloc, &function.code, function.registers, depths.as_slice())?;
+    Ok(Facts {
+        points: points.len(),
+        lifetimes,
+        demands,
+    })
 }
 
 // Each register in its slot.
 #[tactic(auto, using(crate::proofs::Standing::slots_stand, crate::proofs::Standing::slots_count))]
 fn all_in_slots(alloc: Global, registers: u32) -> Result<Vec<Location>, AllocError>
-    ensures stand { IfOk result (λ v. all_stand 0 v.items ≡ true) }
+    ensures places { IfOk result (λ v. list_all (is_place registers) v.items ≡ true) }
     ensures long { IfOk result (λ v. length v.items ≡ registers) }
 {
     let list = slots(alloc, registers)?;
     Ok(list)
 }
 
-fn place_in(list: &mut [Location], intervals: &[Interval])
-    requires { all_stand 0 list.old ≡ true }
-    ensures stand { all_stand 0 list.new ≡ true }
-    ensures long { length list.new ≡ length list.old }
-{
-    let mut machine = [None; MACHINE];
-    place_all(list, machine.as_mut_slice(), intervals);
-}
-
-// How many lines there are, and a jump for each block.
-fn line_count(blocks: &[Block<u32>]) -> usize {
-    let mut count = 0usize;
-    for block in blocks {
-        count = count.saturating_add(block.lines.len()).saturating_add(1);
-    }
-    count
-}
-
-// The registers that blocks are looked through for, for each line of the code, at most.
-const REGISTERS_A_LINE: usize = 256;
-
-// A certificate names the live registers of each block, which may be nearly all there are. Where that is more than so many for each line, making and checking it
-// would take far longer than all else.
-fn is_wide(function: &VFunc) -> bool {
-    let blocks = function.code.blocks.as_slice();
-    let most = line_count(blocks).saturating_mul(REGISTERS_A_LINE);
-    most < blocks.len().saturating_mul(function.registers as usize)
-}
-
 // A place for each register.
 fn places(alloc: Global, function: &VFunc, live: &Live) -> Result<Vec<Location>, AllocError>
-    ensures stand { IfOk result (λ v. all_stand 0 v.items ≡ true) }
+    ensures places { IfOk result (λ v. list_all (is_place function.now.registers) v.items ≡ true) }
     ensures long { IfOk result (λ v. length v.items ≡ function.now.registers) }
 {
+    let mut facts = facts(alloc, function, live)?;
+    let groups = groups_of(
+        alloc,
+        function.registers,
+        facts.lifetimes.as_slice(),
+        &mut facts.demands,
+    )?;
     let mut list = all_in_slots(alloc, function.registers)?;
-    let mut intervals = intervals(alloc, function, live)?;
-    intervals.sort()?;
-    place_in(list.as_mut_slice(), &intervals);
+    place_in(
+        alloc,
+        list.as_mut_slice(),
+        function.registers,
+        groups.groups.as_slice(),
+        &facts,
+    )?;
     Ok(list)
 }
 
@@ -237,7 +286,7 @@ impl Strategy for LinearScan {
     fn choose(&mut self, function: &VFunc, live: &Live) -> Option<Certificate>
         ensures { IfSome result (λ c. IsScanned function.now.code function.now.registers live.now c) }
     {
-        if is_wide(function) {
+        if is_wide(function, live) {
             return None;
         }
         scanned(self.alloc, function, live).ok()

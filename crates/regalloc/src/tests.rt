@@ -78,11 +78,15 @@ fn one_register_after_another(rt: HostRuntime) -> Result<(), Fail> {
     Ok(())
 }
 
-/// Passes its argument, register 0, to a call, compares the result, register 1, with it, and returns the truth, register 2.
+/// Passes its first argument, register 0, to a call, compares it with itself and with the truth, register 2, and returns its second argument, register 1.
 fn calling(alloc: Global) -> Result<VFunc, AllocError> {
     let mut params = Seq::new(alloc);
     params.push(Destination {
         place: 0,
+        class: Class::L,
+    })?;
+    params.push(Destination {
+        place: 1,
         class: Class::L,
     })?;
     let mut args = Seq::new(alloc);
@@ -97,7 +101,7 @@ fn calling(alloc: Global) -> Result<VFunc, AllocError> {
     })?;
     lines.push(Line::Call {
         to: Some(Destination {
-            place: 1,
+            place: 2,
             class: Class::L,
         }),
         callee: Operand::Number(1),
@@ -107,12 +111,18 @@ fn calling(alloc: Global) -> Result<VFunc, AllocError> {
         to: 2,
         operation: Operation::Compare(Condition::Equal, Class::L),
         left: Operand::At(0),
-        right: Operand::At(1),
+        right: Operand::At(0),
+    })?;
+    lines.push(Line::Operate {
+        to: 2,
+        operation: Operation::Compare(Condition::Equal, Class::L),
+        left: Operand::At(0),
+        right: Operand::At(2),
     })?;
     let mut blocks = Seq::new(alloc);
     blocks.push(Block {
         lines,
-        jump: Jump::Return(Some(Operand::At(2))),
+        jump: Jump::Return(Some(Operand::At(1))),
     })?;
     Ok(VFunc {
         code: Code {
@@ -124,18 +134,20 @@ fn calling(alloc: Global) -> Result<VFunc, AllocError> {
     })
 }
 
+/// What is read often stands in a register that callees keep; for what is only returned, saving and restoring one would not pay.
 #[test]
-fn a_value_over_a_call_stands_where_callees_keep_it(rt: HostRuntime) -> Result<(), Fail> {
+fn values_over_a_call_stand_where_callees_keep_them(rt: HostRuntime) -> Result<(), Fail> {
     let alloc = rt.alloc();
     let function = calling(alloc)?;
     let live = live(alloc, &function)?;
     let certificate = scanned(alloc, &function, &live)?;
-    let [x5, x8] = [Location::Register(5), Location::Register(8)];
-    assert_eq!(rt; certificate.params.as_slice(), [x8].as_slice());
-    assert_eq!(rt; certificate.places.len(), 3);
+    let [x8, x10] = [Location::Register(8), Location::Register(10)];
+    let params = [x8, Location::Slot(0)];
+    assert_eq!(rt; certificate.params.as_slice(), params.as_slice());
+    assert_eq!(rt; certificate.places.len(), 4);
     assert_eq!(rt;
-        certificate.places.as_slice()[1].as_slice(),
-        [at(0, x8), at(1, x5), at(2, x5)].as_slice()
+        certificate.places.as_slice()[2].as_slice(),
+        [at(0, x8), at(2, x10)].as_slice()
     );
     Ok(())
 }
@@ -144,7 +156,7 @@ fn a_value_over_a_call_stands_where_callees_keep_it(rt: HostRuntime) -> Result<(
 #[test]
 fn too_many_registers_are_not_scanned(rt: HostRuntime) -> Result<(), Fail> {
     let alloc = rt.alloc();
-    for (registers, scanned) in [(700u32, true), (800, false)] {
+    for (registers, scanned) in [(3000u32, true), (3100, false)] {
         let function = copying_among(alloc, registers)?;
         let live = live(alloc, &function)?;
         let choice = LinearScan::new(alloc).choose(&function, &live);

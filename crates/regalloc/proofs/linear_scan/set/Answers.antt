@@ -1,5 +1,6 @@
-use Rattle.regalloc.proofs.Standing.{stand_at}
+use Rattle.vcode.specs.Named.{is_place}
+use Rattle.regalloc.proofs.Standing.{all_with}
 use Rattle.regalloc.proofs.linear_scan.set.Goals as goal
 
-pub returns-then-register-list-clause-stand : goal.returns-then-register-list-clause-stand
-returns-then-register-list-clause-stand c = stand_at c.args.list.now c.args.register c.args.place c.requires.stands c.requires.stand
+pub returns-then-register-list-clause-places : goal.returns-then-register-list-clause-places
+returns-then-register-list-clause-places c = all_with (is_place c.args.registers) c.args.list.now c.args.register c.args.place c.requires.place c.requires.places

@@ -1,0 +1,215 @@
+//! What stands for registers of the machine, and in which order.
+use crate::demands::{Demand, Demands};
+use crate::groups::Group;
+use crate::lifetimes::Lifetime;
+use crate::linear_scan::is_unplaced;
+use crate::positions::Range;
+use crate::slots::Wish;
+use std::alloc::{AllocError, Global};
+use vcode::place::Location;
+
+/// What is known of a function.
+#[derive(Drop)]
+pub(crate) struct Facts {
+    /// how many points it has
+    pub(crate) points: usize,
+
+    /// the lifetime of each register
+    pub(crate) lifetimes: Vec<Lifetime>,
+    pub(crate) demands: Demands,
+}
+
+/// A group that may stand in a register of the machine. In the order of candidates the one that is used most often for its length is the last.
+#[derive(Clone, Copy, Debug, PartialEq, Eq, PartialOrd, Ord)]
+pub(crate) struct Candidate {
+    priority: u64,
+    pub(crate) weight: u64,
+    pub(crate) group: usize,
+
+    /// whether it has a value over a call
+    pub(crate) over_call: bool,
+
+    /// whether a register of it is a parameter or passed to a call
+    pub(crate) is_passed: bool,
+}
+
+fn joined(left: Demand, right: Demand) -> Demand {
+    Demand {
+        weight: left.weight.saturating_add(right.weight),
+        is_passed: left.is_passed || right.is_passed,
+        is_param: left.is_param || right.is_param,
+    }
+}
+
+// What all of these registers are used for.
+fn demand_of(demands: &[Demand], members: &[u32]) -> Demand {
+    let mut all = Demand {
+        weight: 0,
+        is_passed: false,
+        is_param: false,
+    };
+    for register in members {
+        match demands.get(*register as usize) {
+            Some(demand) => all = joined(all, *demand),
+            None => {}
+        }
+    }
+    all
+}
+
+fn length(ranges: &[Range]) -> usize {
+    let mut length = 1usize;
+    for range in ranges {
+        length = length.saturating_add(range.end.saturating_sub(range.start));
+    }
+    length
+}
+
+fn calls_before(calls: &[usize], point: usize) -> usize {
+    calls.get(point).copied().unwrap_or(0)
+}
+
+// Whether the positions right before and right after some call are both in the range.
+fn is_over_call(calls: &[usize], range: Range) -> bool {
+    let first = range.start.saturating_add(1) / 2;
+    let end = range.end.saturating_add(1) / 2;
+    calls_before(calls, first) < calls_before(calls, end)
+}
+
+fn candidate_of(group: &Group, number: usize, demands: &Demands) -> Candidate {
+    let demand = demand_of(demands.registers.as_slice(), group.members.as_slice());
+    let ranges = group.ranges.as_slice();
+    let calls = demands.calls.as_slice();
+    let length = length(ranges) as u64;
+    Candidate {
+        priority: demand.weight.saturating_mul(1024) / length.max(1),
+        weight: demand.weight,
+        group: number,
+        over_call: ranges.iter().any(|range| is_over_call(calls, *range)),
+        is_passed: demand.is_passed,
+    }
+}
+
+/// The groups that have values somewhere, the most urgent first.
+///
+/// # Errors
+///
+/// Only where memory was refused.
+pub(crate) fn candidates(
+    alloc: Global,
+    groups: &[Group],
+    facts: &Facts,
+) -> Result<Vec<Candidate>, AllocError> {
+    let mut candidates = Vec::new(alloc);
+    for (number, group) in groups.iter().enumerate() {
+        if group.ranges.len() > 0 {
+            candidates.push(candidate_of(group, number, &facts.demands))?;
+        }
+    }
+    candidates.sort()?;
+    candidates.reverse();
+    Ok(candidates)
+}
+
+fn push_single(
+    alloc: Global,
+    singles: &mut Vec<Group>,
+    lifetimes: &[Lifetime],
+    register: u32,
+) -> Result<(), AllocError> {
+    let mut members = Vec::new(alloc);
+    members.push(register)?;
+    let mut ranges = Vec::new(alloc);
+    match lifetimes.get(register as usize) {
+        Some(lifetime) => ranges.extend_from_slice(lifetime.ranges.as_slice())?,
+        None => {}
+    }
+    singles.push(Group { members, ranges })?;
+    Ok(())
+}
+
+fn push_singles(
+    alloc: Global,
+    singles: &mut Vec<Group>,
+    list: &[Location],
+    lifetimes: &[Lifetime],
+    members: &[u32],
+) -> Result<(), AllocError> {
+    for register in members {
+        if is_unplaced(list, *register) {
+            push_single(alloc, singles, lifetimes, *register)?;
+        }
+    }
+    Ok(())
+}
+
+/// A group for each register that has no register of the machine yet.
+///
+/// # Errors
+///
+/// Only where memory was refused.
+pub(crate) fn singles(
+    alloc: Global,
+    groups: &[Group],
+    list: &[Location],
+    facts: &Facts,
+) -> Result<Vec<Group>, AllocError> {
+    let mut singles = Vec::new(alloc);
+    for group in groups {
+        let members = group.members.as_slice();
+        push_singles(
+            alloc,
+            &mut singles,
+            list,
+            facts.lifetimes.as_slice(),
+            members,
+        )?;
+    }
+    Ok(singles)
+}
+
+// What the registers that have no register of the machine yet are used for; none where all have one.
+fn left_over(list: &[Location], demands: &[Demand], members: &[u32]) -> Option<Demand> {
+    let mut all = None;
+    for register in members {
+        if is_unplaced(list, *register) {
+            let demand = demand_of(demands, [*register].as_slice());
+            all = match all {
+                Some(other) => Some(joined(other, demand)),
+                None => Some(demand),
+            };
+        }
+    }
+    all
+}
+
+fn push_wish(wishes: &mut Vec<Wish>, group: usize, demand: Demand) -> Result<(), AllocError> {
+    wishes.push(Wish {
+        group,
+        weight: demand.weight,
+        is_param: demand.is_param,
+    })?;
+    Ok(())
+}
+
+/// The groups of which some register has no register of the machine.
+///
+/// # Errors
+///
+/// Only where memory was refused.
+pub(crate) fn wishes(
+    alloc: Global,
+    groups: &[Group],
+    list: &[Location],
+    facts: &Facts,
+) -> Result<Vec<Wish>, AllocError> {
+    let demands = facts.demands.registers.as_slice();
+    let mut wishes = Vec::new(alloc);
+    for (number, group) in groups.iter().enumerate() {
+        match left_over(list, demands, group.members.as_slice()) {
+            Some(demand) => push_wish(&mut wishes, number, demand)?,
+            None => {}
+        }
+    }
+    Ok(wishes)
+}

@@ -1,0 +1,235 @@
+//! In how many loops each block lies.
+use std::alloc::{AllocError, Global};
+use vcode::code::Block;
+use vcode::line::Jump;
+
+// From a block to another.
+#[derive(Clone, Copy, Debug, PartialEq, Eq, PartialOrd, Ord)]
+struct Edge {
+    to: usize,
+    from: usize,
+}
+
+// How far the search for ways back has come with a block.
+#[derive(Clone, Copy, PartialEq, Eq)]
+enum Visit {
+    New,
+    Open,
+    Done,
+}
+
+// A block on the way that is searched, and how many of its ways on have been tried.
+#[derive(Clone, Copy)]
+struct Step {
+    block: usize,
+    tried: usize,
+}
+
+#[derive(Drop)]
+struct Search {
+    visits: Vec<Visit>,
+    way: Vec<Step>,
+
+    /// the edges to blocks that lie on the way to their own beginning
+    back: Vec<Edge>,
+}
+
+// The k-th block that the jump may lead to.
+fn target(jump: &Jump<u32>, k: usize) -> Option<usize> {
+    match (jump, k) {
+        (Jump::Goto(block), 0) => Some(*block),
+        (Jump::Branch { nonzero, .. }, 0) => Some(*nonzero),
+        (Jump::Branch { otherwise, .. }, 1) => Some(*otherwise),
+        _ => None,
+    }
+}
+
+fn target_of(blocks: &[Block<u32>], step: Step) -> Option<usize> {
+    match blocks.get(step.block) {
+        Some(block) => target(&block.jump, step.tried),
+        None => None,
+    }
+}
+
+fn mark(visits: &mut [Visit], block: usize, visit: Visit) {
+    match visits.get_mut(block) {
+        Some(at) => *at = visit,
+        None => {}
+    }
+}
+
+fn enter(search: &mut Search, block: usize) -> Result<(), AllocError> {
+    mark(search.visits.as_mut_slice(), block, Visit::Open);
+    search.way.push(Step { block, tried: 0 })?;
+    Ok(())
+}
+
+fn follow(search: &mut Search, from: usize, to: usize) -> Result<(), AllocError> {
+    match search.visits.get(to).copied() {
+        Some(Visit::New) => enter(search, to),
+        Some(Visit::Open) => {
+            search.back.push(Edge { to, from })?;
+            Ok(())
+        }
+        _ => Ok(()),
+    }
+}
+
+// One more way on is tried, or the last block is left.
+fn search_on(search: &mut Search, blocks: &[Block<u32>]) -> Result<(), AllocError> {
+    let step = match search.way.pop() {
+        Some(step) => step,
+        None => return Ok(()),
+    };
+    match target_of(blocks, step) {
+        Some(to) => {
+            search.way.push(Step {
+                block: step.block,
+                tried: step.tried.saturating_add(1),
+            })?;
+            follow(search, step.block, to)
+        }
+        None => {
+            mark(search.visits.as_mut_slice(), step.block, Visit::Done);
+            Ok(())
+        }
+    }
+}
+
+// Each block is entered and left once, and has at most two ways on.
+fn back_edges(alloc: Global, blocks: &[Block<u32>]) -> Result<Vec<Edge>, AllocError> {
+    let mut visits = Vec::new(alloc);
+    visits.resize(blocks.len(), Visit::New)?;
+    let mut search = Search {
+        visits,
+        way: Vec::new(alloc),
+        back: Vec::new(alloc),
+    };
+    enter(&mut search, 0)?;
+    for _ in 0..blocks.len().saturating_mul(3) {
+        search_on(&mut search, blocks)?;
+    }
+    search.back.sort()?;
+    Ok(search.back)
+}
+
+fn push_target(edges: &mut [Vec<usize>], from: usize, to: Option<usize>) -> Result<(), AllocError> {
+    match to {
+        Some(to) => match edges.get_mut(to) {
+            Some(sources) => {
+                sources.push(from)?;
+                Ok(())
+            }
+            None => Ok(()),
+        },
+        None => Ok(()),
+    }
+}
+
+fn push_targets(edges: &mut [Vec<usize>], blocks: &[Block<u32>]) -> Result<(), AllocError> {
+    for (from, block) in blocks.iter().enumerate() {
+        push_target(edges, from, target(&block.jump, 0))?;
+        push_target(edges, from, target(&block.jump, 1))?;
+    }
+    Ok(())
+}
+
+// The blocks that lead to each block.
+fn sources(alloc: Global, blocks: &[Block<u32>]) -> Result<Vec<Vec<usize>>, AllocError> {
+    let mut edges = Vec::new(alloc);
+    for _ in 0..blocks.len() {
+        edges.push(Vec::new(alloc))?;
+    }
+    push_targets(edges.as_mut_slice(), blocks)?;
+    Ok(edges)
+}
+
+// A block: in how many loops it was found to be, and the last one's head.
+#[derive(Clone, Copy)]
+struct Nest {
+    depth: u32,
+    head: Option<usize>,
+}
+
+// Counts the loop with this head for the block, unless that was done.
+fn count(nests: &mut [Nest], block: usize, head: usize) -> bool {
+    match nests.get_mut(block) {
+        Some(nest) => {
+            if nest.head == Some(head) {
+                return false;
+            }
+            *nest = Nest {
+                depth: nest.depth.saturating_add(1),
+                head: Some(head),
+            };
+            true
+        }
+        None => false,
+    }
+}
+
+fn push_new(
+    nests: &mut [Nest],
+    found: &mut Vec<usize>,
+    sources: &[usize],
+    head: usize,
+) -> Result<(), AllocError> {
+    for block in sources {
+        if count(nests, *block, head) {
+            found.push(*block)?;
+        }
+    }
+    Ok(())
+}
+
+// The blocks from which the jump back is reached without passing the head. Answers how many steps of those that may be taken are left.
+fn count_loop(
+    alloc: Global,
+    nests: &mut [Nest],
+    edges: &[Vec<usize>],
+    edge: Edge,
+    steps: usize,
+) -> Result<usize, AllocError> {
+    let mut found = Vec::new(alloc);
+    count(nests, edge.to, edge.to);
+    push_new(nests, &mut found, [edge.from].as_slice(), edge.to)?;
+    for taken in 0..steps {
+        match found.pop() {
+            Some(block) => match edges.get(block) {
+                Some(sources) => push_new(nests, &mut found, sources.as_slice(), edge.to)?,
+                None => {}
+            },
+            None => return Ok(steps - taken),
+        }
+    }
+    Ok(0)
+}
+
+// Where loops are so many and so large that finding their blocks would take far longer than the text, the rest is left uncounted.
+const STEPS_A_BLOCK: usize = 64;
+
+/// In how many loops each block lies.
+///
+/// # Errors
+///
+/// Only where memory was refused.
+pub(crate) fn depths(alloc: Global, blocks: &[Block<u32>]) -> Result<Vec<u32>, AllocError> {
+    let mut nests = Vec::new(alloc);
+    nests.resize(
+        blocks.len(),
+        Nest {
+            depth: 0,
+            head: None,
+        },
+    )?;
+    let edges = sources(alloc, blocks)?;
+    let mut steps = blocks.len().saturating_mul(STEPS_A_BLOCK);
+    for edge in back_edges(alloc, blocks)?.iter() {
+        steps = count_loop(alloc, nests.as_mut_slice(), edges.as_slice(), *edge, steps)?;
+    }
+    let mut depths = Vec::new(alloc);
+    for nest in nests.iter() {
+        depths.push(nest.depth)?;
+    }
+    Ok(depths)
+}

@@ -1,0 +1,125 @@
+//! Which positions each register of the machine is free at.
+use crate::candidates::Candidate;
+use crate::positions::Range;
+use std::alloc::{AllocError, Global};
+
+/// The positions at which a register of the machine is taken, one bit each.
+#[derive(Drop)]
+pub(crate) struct Room {
+    words: Vec<u64>,
+
+    /// whether some value stands in it
+    pub(crate) is_used: bool,
+}
+
+// The bits of the k-th word that belong to positions of the range.
+fn mask(range: Range, k: usize) -> u64 {
+    let low = if range.start / 64 == k {
+        u64::MAX << (range.start % 64)
+    } else {
+        u64::MAX
+    };
+    let high = if range.end / 64 == k {
+        u64::MAX >> (63 - range.end % 64)
+    } else {
+        u64::MAX
+    };
+    low & high
+}
+
+fn is_free(words: &[u64], range: Range) -> bool {
+    for k in range.start / 64..range.end / 64 + 1 {
+        match words.get(k) {
+            Some(word) => {
+                if *word & mask(range, k) != 0 {
+                    return false;
+                }
+            }
+            None => return false,
+        }
+    }
+    true
+}
+
+fn take(words: &mut [u64], range: Range) {
+    for k in range.start / 64..range.end / 64 + 1 {
+        match words.get_mut(k) {
+            Some(word) => *word |= mask(range, k),
+            None => {}
+        }
+    }
+}
+
+impl Room {
+    /// A register that is free at so many positions.
+    ///
+    /// # Errors
+    ///
+    /// Only where memory was refused.
+    pub(crate) fn new(alloc: Global, positions: usize) -> Result<Room, AllocError> {
+        let mut words = Vec::new(alloc);
+        words.resize((positions / 64).saturating_add(1), 0u64)?;
+        Ok(Room {
+            words,
+            is_used: false,
+        })
+    }
+
+    /// Whether it is free at all positions of the ranges.
+    pub(crate) fn is_free(&self, ranges: &[Range]) -> bool {
+        ranges
+            .iter()
+            .all(|range| is_free(self.words.as_slice(), *range))
+    }
+
+    /// Takes it at all positions of the ranges.
+    pub(crate) fn take(&mut self, ranges: &[Range]) {
+        self.is_used = true;
+        for range in ranges {
+            take(self.words.as_mut_slice(), *range);
+        }
+    }
+}
+
+/// So many registers that are free at all positions of that many points.
+///
+/// # Errors
+///
+/// Only where memory was refused.
+pub(crate) fn rooms(alloc: Global, count: usize, points: usize) -> Result<Vec<Room>, AllocError> {
+    let mut rooms = Vec::new(alloc);
+    for _ in 0..count {
+        let room = Room::new(alloc, points.saturating_mul(2))?;
+        rooms.push(room)?;
+    }
+    Ok(rooms)
+}
+
+// The first eight are for arguments, and the first eleven are not kept by callees.
+fn may_hold(k: usize, candidate: &Candidate) -> bool {
+    if 11 <= k {
+        return true;
+    }
+    !candidate.over_call && (8 <= k || !candidate.is_passed)
+}
+
+// A register that callees keep is saved and restored, once it is used: that takes two instructions.
+fn pays(candidate: &Candidate) -> bool {
+    4 < candidate.weight
+}
+
+/// The first register that is free for the ranges of the candidate, one that needs no saving if there is one; else none, or one that pays for that.
+pub(crate) fn room_for(rooms: &[Room], candidate: &Candidate, ranges: &[Range]) -> Option<usize> {
+    let mut unused = None;
+    for (k, room) in rooms.iter().enumerate() {
+        if may_hold(k, candidate) && room.is_free(ranges) {
+            if k < 11 || room.is_used {
+                return Some(k);
+            }
+            if unused.is_none() {
+                unused = Some(k);
+            }
+        }
+    }
+    if pays(candidate) { unused } else { None }
+}
