@@ -1,6 +1,6 @@
 use Rattle.std.proofs.Common.{◌≡◌, ℕ, ◌<◌, length, get_or, All}
 use Rattle.phi_copies.specs.declared.moves.Move.{Move}
-use Rattle.live_bench.proofs.moves.cycle.Given as goal
+use Rattle.bench.proofs.moves.cycle.Given as goal
 
 abbrev pub invariant-loop-to : goal.invariant-loop-to
 invariant-loop-to l =

@@ -1,12 +1,4 @@
-//! How fast the machine runs. For example, for a thousand million instructions:
-//!
-//!     time out/machine_bench alu flat 1000000000
-//!     time out/machine_bench memory paged 1000000000
-//!
-//! `alu` is a loop of operations and a branch, `memory` one with a load and a store; `flat` and `paged` are the kinds of memory. Without words it runs
-//! a thousand instructions of `alu` over flat memory.
-#![tactic(auto)]
-
+//! How fast the machine runs.
 use elf_file::{read_image, write_image};
 use obj_link::Image;
 use rv_machine::flat_ram::FlatRam;
@@ -14,8 +6,7 @@ use rv_machine::machine::Machine;
 use rv_machine::page_ram::PageRam;
 use rv_machine::ram::Ram;
 use rv_machine::stop::Stop;
-use std::alloc::Global;
-use std::{env, io};
+use std::alloc::{AllocError, Global};
 
 /// addi a0, a0, 1; xor a1, a1, a0; slli a2, a0, 3; add a3, a3, a2; addi t0, t0, -1; bne t0, x0, back to the first
 const ALU: [u32; 6] = [
@@ -52,30 +43,25 @@ fn stop_of<R: Ram>(alloc: Global, code: &[u32], limit: u64) -> Option<Stop> {
     Some(stop)
 }
 
-fn main(rt: HostRuntime) -> io::Result<()> {
-    let mut memory = false;
-    let mut paged = false;
-    let mut limit = 1000u64;
-    for word in env::args(&rt)? {
-        match word.as_str() {
-            "memory" => memory = true,
-            "paged" => paged = true,
-            other => limit = other.parse::<u64>().unwrap_or(limit),
-        }
-    }
-    let code = if memory {
+/// How the machine ends after so many instructions of a loop of operations and a branch, or with a load and a store, over flat memory or pages.
+pub fn run_machine(
+    alloc: Global,
+    stores: bool,
+    paged: bool,
+    limit: u64,
+) -> Result<String, AllocError> {
+    let code = if stores {
         MEMORY.as_slice()
     } else {
         ALU.as_slice()
     };
     let stop = if paged {
-        stop_of::<PageRam>(rt.alloc(), code, limit)
+        stop_of::<PageRam>(alloc, code, limit)
     } else {
-        stop_of::<FlatRam>(rt.alloc(), code, limit)
+        stop_of::<FlatRam>(alloc, code, limit)
     };
     match stop {
-        Some(Stop::Limit) => println!(rt; "{limit} instructions"),
-        Some(other) => println!(rt; "{other:?}"),
-        None => println!(rt; "no memory"),
+        Some(stop) => format!(in alloc; "{stop:?} after at most {limit} instructions"),
+        None => String::from_str(alloc, "no memory"),
     }
 }

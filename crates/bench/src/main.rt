@@ -1,0 +1,171 @@
+//! How fast the parts of qbec are.
+//!
+//! `bench` alone does a little of each, and says what came of it. `bench table` prints the table of the README with the time of each row. Else the words are a measure,
+//! a kind and a size, and the time is printed behind what came of it:
+//!
+//! | Measure | Kinds | Size |
+//! |---|---|---|
+//! | `machine` | `alu` (operations and a branch), `memory` (with a load and a store), `alu-paged`, `memory-paged` (over pages) | instructions |
+//! | `interpreter` | `alu`, `memory`, `calls` (a recursion 50,000 deep), `phis` (a block of 195 phis) | turns |
+//! | `front`, `compile` | `functions` (of six lines with a loop), `lines` (one function over 4,000 temporaries), `phi`, `bytes` (a datum) | functions, lines, blocks, bytes |
+//! | `text` | the same | the text itself is printed |
+//! | `liveness` | `live` (blocks in reverse), `ladder`, `nest` (loops in one another) | blocks of 40 points, over 4,000 registers |
+//! | `sets` | | a thousand joins of sets of numbers below it |
+//! | `moves` | | moves in one cycle |
+#![tactic(auto)]
+
+mod front;
+mod graphs;
+mod interpreter;
+mod liveness;
+mod machine;
+mod moves;
+mod phis;
+mod texts;
+
+use crate::front::{compile_text, link_text};
+use crate::interpreter::{Turns, interpret_turns};
+use crate::liveness::{joins, live_at_first};
+use crate::machine::run_machine;
+use crate::texts::{Shape, text_of};
+use std::alloc::{AllocError, Global};
+use std::time::Instant;
+use std::{env, io};
+
+/// A measure, a kind and a size, for each part.
+const LITTLE: [(&str, &str, u64); 8] = [
+    ("machine", "alu", 1000),
+    ("machine", "memory-paged", 1000),
+    ("interpreter", "alu", 1000),
+    ("interpreter", "phis", 1000),
+    ("front", "functions", 10),
+    ("compile", "bytes", 10),
+    ("liveness", "live", 10),
+    ("moves", "", 10),
+];
+
+/// The rows of the table.
+const TABLE: [(&str, &str, u64); 8] = [
+    ("front", "lines", 36_000),
+    ("front", "bytes", 4_000_000),
+    ("compile", "functions", 10_000),
+    ("compile", "lines", 36_000),
+    ("interpreter", "alu", 20_000_000),
+    ("machine", "alu", 1_000_000_000),
+    ("machine", "memory-paged", 1_000_000_000),
+    ("liveness", "nest", 1_000),
+];
+
+fn shape_of(kind: &str) -> Shape {
+    match kind {
+        "lines" => Shape::Lines,
+        "phi" => Shape::Phi,
+        "bytes" => Shape::Bytes,
+        _ => Shape::Functions,
+    }
+}
+
+fn graph_shape_of(kind: &str) -> graphs::Shape {
+    match kind {
+        "ladder" => graphs::Shape::Ladder,
+        "nest" => graphs::Shape::Nest,
+        _ => graphs::Shape::Reversed,
+    }
+}
+
+fn turns_of(kind: &str) -> Turns {
+    match kind {
+        "memory" => Turns::Memory,
+        "calls" => Turns::Calls,
+        "phis" => Turns::Phis,
+        _ => Turns::Alu,
+    }
+}
+
+/// What comes of a measure.
+fn done(
+    alloc: Global,
+    measure: &str,
+    kind: &str,
+    size: u64,
+    text: &[u8],
+) -> Result<String, AllocError> {
+    let small = size.min(100_000_000) as u32;
+    match measure {
+        "machine" => {
+            let stores = kind.starts_with("memory");
+            run_machine(alloc, stores, kind.ends_with("paged"), size)
+        }
+        "interpreter" => interpret_turns(alloc, turns_of(kind), size),
+        "front" => link_text(alloc, text),
+        "compile" => compile_text(alloc, text),
+        "liveness" => {
+            let live = live_at_first(alloc, graph_shape_of(kind), small)?;
+            format!(in alloc; "{live} registers are live")
+        }
+        "sets" => {
+            let grew = joins(alloc, small as usize)?;
+            format!(in alloc; "{grew} joins let a set grow")
+        }
+        "moves" => {
+            let moves = moves::moves_in_sequence(alloc, small as usize)?;
+            format!(in alloc; "{moves} moves in order")
+        }
+        _ => String::from_str(alloc, "no measure"),
+    }
+}
+
+/// The text that a measure needs.
+fn text_for(alloc: Global, measure: &str, kind: &str, size: u64) -> Result<String, AllocError> {
+    match measure {
+        "front" | "compile" | "text" => {
+            text_of(alloc, shape_of(kind), size.min(100_000_000) as u32)
+        }
+        _ => Ok(String::new(alloc)),
+    }
+}
+
+/// Prints what comes of a measure, with its time where that is asked for.
+fn print_row(
+    rt: &HostRuntime,
+    measure: &str,
+    kind: &str,
+    size: u64,
+    timed: bool,
+) -> io::Result<()> {
+    let text = text_for(rt.alloc(), measure, kind, size)?;
+    let start = Instant::now(rt)?;
+    let said = done(rt.alloc(), measure, kind, size, text.as_bytes())?;
+    let time = start.elapsed(rt)?.as_millis();
+    if timed {
+        println!(rt; "{measure} {kind} {size}: {time} ms, {said}")
+    } else {
+        println!(rt; "{measure} {kind} {size}: {said}")
+    }
+}
+
+fn print_rows(rt: &HostRuntime, rows: &[(&str, &str, u64)], timed: bool) -> io::Result<()> {
+    for (measure, kind, size) in rows {
+        print_row(rt, *measure, *kind, *size, timed)?;
+    }
+    Ok(())
+}
+
+fn main(rt: HostRuntime) -> io::Result<()> {
+    let words: Vec<String> = env::args(&rt)?.skip(1).collect(rt.alloc())?;
+    let word = |k: usize| match words.as_slice().get(k) {
+        Some(word) => word.as_str(),
+        None => "",
+    };
+    let size = words.as_slice().last().map_or("", |w| w.as_str());
+    let size = size.parse::<u64>().unwrap_or(10);
+    match word(0) {
+        "" => print_rows(&rt, &LITTLE, false),
+        "table" => print_rows(&rt, &TABLE, true),
+        "text" => {
+            let text = text_for(rt.alloc(), "text", word(1), size)?;
+            print!(rt; "{text}")
+        }
+        measure => print_row(&rt, measure, word(1), size, true),
+    }
+}

@@ -1,0 +1,69 @@
+//! Texts of any size.
+use std::alloc::{AllocError, Global};
+
+/// What a text is made of.
+#[derive(Clone, Copy)]
+pub enum Shape {
+    /// so many functions with a loop of six lines each
+    Functions,
+    /// one function of so many additions over 4,000 temporaries
+    Lines,
+    /// so many blocks before a phi that names them all
+    Phi,
+    /// a datum of so many bytes, of four characters each
+    Bytes,
+}
+
+/// The text of this shape and size.
+pub fn text_of(alloc: Global, shape: Shape, size: u32) -> Result<String, AllocError> {
+    let mut text = String::new(alloc);
+    match shape {
+        Shape::Functions => functions(&mut text, size)?,
+        Shape::Lines => lines(&mut text, size)?,
+        Shape::Phi => phi(&mut text, size)?,
+        Shape::Bytes => bytes(&mut text, size)?,
+    }
+    Ok(text)
+}
+
+fn functions(text: &mut String, count: u32) -> Result<(), AllocError> {
+    for number in 1..count {
+        writeln!(text, "function w $function{number}(w %limit) {{")?;
+        text.push_str("@start\n@loop\n\t%i =w phi @start 0, @loop %next\n")?;
+        text.push_str("\t%sum =w phi @start 0, @loop %more\n\t%more =w add %sum, %i\n")?;
+        text.push_str("\t%next =w add %i, 1\n\t%less =w csltw %next, %limit\n")?;
+        text.push_str("\tjnz %less, @loop, @end\n@end\n\tret %more\n}\n\n")?;
+    }
+    text.push_str("export function w $main() {\n@start\n\tret 0\n}\n")
+}
+
+fn lines(text: &mut String, count: u32) -> Result<(), AllocError> {
+    text.push_str("export function w $main() {\n@start\n\t%t0 =w copy 0\n")?;
+    for number in 0..count {
+        let to = number % 3_999 + 1;
+        let from = number % 4_000;
+        writeln!(text, "\t%t{to} =w add %t{from}, {number}")?;
+    }
+    text.push_str("\tret %t0\n}\n")
+}
+
+fn phi(text: &mut String, count: u32) -> Result<(), AllocError> {
+    text.push_str("export function w $main() {\n@start\n")?;
+    for number in 0..count {
+        writeln!(text, "@from{number}\n\tjmp @to")?;
+    }
+    text.push_str("@to\n\t%x =w phi ")?;
+    for number in 0..count {
+        write!(text, "@from{number} {number}, ")?;
+    }
+    text.push_str("\n\tret %x\n}\n")
+}
+
+fn bytes(text: &mut String, count: u32) -> Result<(), AllocError> {
+    text.push_str("export function w $main() {\n@start\n\tret 0\n}\ndata $d = { b ")?;
+    for number in 0..count {
+        let byte = number % 100 + 100;
+        write!(text, "{byte} ")?;
+    }
+    text.push_str("}\n")
+}
