@@ -1,7 +1,7 @@
 -- The numbers of operations that are done by forms.
-use Rattle.std.proofs.Common.{◌≡◌, ◌≢◌, ℕ, ◌+◌, ◌-◌, ◌%◌, ◌^◌, ◌<◌, Bool, true, false, refl, ◌∙◌, ap, arith, mod-lt, lit<}
+use Rattle.std.proofs.Common.{◌≡◌, ◌≢◌, ℕ, ◌+◌, ◌-◌, ◌*◌, ◌%◌, ◌^◌, ◌<◌, ◌≤◌, Bool, true, false, refl, ◌∙◌, sym, ap, arith, mod-lt, lit<}
 use Rattle.std.specs.Prelude.{◌&&◌, not, nat_eq, nat_lt, nat_le, int_lt, int_le}
-use Rattle.std.specs.Int.{cast_signed, cast_unsigned, w64}
+use Rattle.std.specs.Int.{cast_signed, cast_unsigned, w64, trailing_zeros}
 use Rattle.std.proofs.lemmas.Int.{ints}
 use Rattle.std.proofs.lemmas.Bool.{and_parts}
 use Rattle.std.proofs.lemmas.Bool.Decides.{nat_tests}
@@ -9,7 +9,8 @@ use Rattle.bits.specs.Words.{sign_extended}
 use Rattle.rv_isa.specs.Formats.{signed}
 use Rattle.vcode.specs.Cost.{is_immediate}
 use Rattle.abi_frames.specs.Fields.{word}
-use Rattle.abi_frames.specs.Immediates.{opposite, next}
+use Rattle.std.proofs.lemmas.Nat.{one_shl}
+use Rattle.abi_frames.specs.Immediates.{opposite, next, is_power}
 use Rattle.abi_frames.proofs.ConstantNumbers.{word_by_bits}
 
 -- an immediate is its number
@@ -84,3 +85,29 @@ zero_is x n h = grind (arith, nat_tests)
 
 pub not_zero_is : (x n : ℕ) → nat_eq n 0 ≡ true → nat_lt 0 x ≡ not (nat_eq x (n % 2 ^ 64))
 not_zero_is x n h = grind (arith, nat_tests)
+
+-- ---- powers of two
+
+-- n is 2 to the power of its zeros, of which it has fewer than so many
+pub record IsPower (bits n : ℕ) : Type 0 where
+  pub few : trailing_zeros w64 n < bits
+  pub power : 2 ^ trailing_zeros w64 n ≡ n
+
+pub power_is : (bits n : ℕ) → bits ≤ 64 → is_power bits n ≡ true → IsPower bits n
+power_is bits n most h =
+    let k : ℕ = trailing_zeros w64 n in
+    let parts = and_parts (nat_lt k bits) (nat_eq n ((1 * 2 ^ k) % 2 ^ 64)) h in
+    let lo = parts.0 in
+    let same = parts.1 in
+    let few : k < bits = grind (arith, nat_tests) in
+    let is : n ≡ (1 * 2 ^ k) % 2 ^ 64 = grind (arith, nat_tests) in
+    record { few = few; power = sym (one_shl k 64 (omega (arith, few, most))) ∙ sym is }
+
+pub small_64 : (k : ℕ) → k < 64 → k % 64 % 64 ≡ k
+small_64 k h = omega (arith, h)
+
+pub small_32 : (k : ℕ) → k < 32 → k % 32 % 2 ^ 32 % 32 ≡ k
+small_32 k h = omega (arith, h)
+
+pub low_word : (n : ℕ) → n % 2 ^ 32 ≡ n % 2 ^ 64 % 2 ^ 32
+low_word n = omega arith

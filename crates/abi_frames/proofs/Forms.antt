@@ -1,7 +1,8 @@
 -- What the code of a form does, and that it is what the operation does with the number.
 use Rattle.std.proofs.Common.{◌≡◌, ℕ, ◌+◌, ◌*◌, ◌/◌, ◌%◌, ◌^◌, ◌<◌, Bool, true, false, [], ◌∷◌, refl, sym, ◌∙◌, ap, subst, arith, lit<, mod-lt}
 use Rattle.std.specs.Prelude.{◌&&◌, not, nat_eq, nat_lt, if◌then◌else◌, int_lt, Some, None}
-use Rattle.std.specs.Int.{cast_signed, cast_unsigned, w32, w64, int_shr}
+use Rattle.std.specs.Int.{cast_signed, cast_unsigned, w32, w64, int_shr, trailing_zeros}
+use Rattle.std.proofs.Math.Nat.{mul_comm}
 use Rattle.std.proofs.lemmas.Nat.{and_comm, or_comm, xor_comm}
 use Rattle.std.proofs.lemmas.Bool.Decides.{nat_tests}
 use Rattle.bits.specs.Words.{sign_extended}
@@ -27,11 +28,11 @@ use Rattle.vcode.specs.declared.line.Operation.TheVariants.{Reg as RegOperation,
 use Rattle.vcode.specs.Cost.{is_immediate}
 use Rattle.flat_code.specs.Step.{computed}
 use Rattle.abi_frames.specs.Fields.{reg, low, word, add_low, is_zero, is_not_zero}
-use Rattle.abi_frames.specs.Immediates.{opposite, next, form_if, immediate_form, sum_form, reg_form, regw_form, compares_with, comparison_form, number_form, turned, left_form, compare_number, form_items}
+use Rattle.abi_frames.specs.Immediates.{opposite, next, form_if, immediate_form, sum_form, reg_form, regw_form, compares_with, comparison_form, number_form, turned, left_form, compare_number, form_items, is_power}
 use Rattle.abi_frames.specs.declared.immediate.Form.{Form}
 use Rattle.abi_frames.specs.declared.immediate.Form.TheVariants.{Immediate as ByImmediate, AddWord, Shift as ByShift, ShiftWord, Compare as ByComparison}
 use Rattle.abi_frames.proofs.ConstantNumbers.{immediate_adds}
-use Rattle.abi_frames.proofs.FormNumbers.{immediate_wide, same_word, word_is_small, less_opposite, opposite_small, opposite_word, sum_word, signed_next, unsigned_next, shift_of_64, shift_of_32, zero_is, not_zero_is}
+use Rattle.abi_frames.proofs.FormNumbers.{immediate_wide, same_word, word_is_small, less_opposite, opposite_small, opposite_word, sum_word, signed_next, unsigned_next, shift_of_64, shift_of_32, zero_is, not_zero_is, power_is, small_64, small_32, low_word}
 use Rattle.abi_frames.proofs.Leading.{Site, Leads, leads_fixed, leads_again, leads_set, Sets, IsReg, register_reg, in_register, in_register_small}
 use Rattle.abi_frames.proofs.Instructions.{leads_imm, leads_add_low, leads_add_word, leads_shift, leads_shift_word}
 use Rattle.abi_frames.proofs.Comparing.{bit_is, zero_difference, some_difference, le_is_not_lt, int_le_is, then_negate, sets_as, holds_extended}
@@ -255,7 +256,13 @@ reg_form_is Srl n f e =
 reg_form_is Sra n f e =
     subst (IsFormOf (λ x. reg_value Sra x (n % 2 ^ 64))) (same_form (ByShift Srai n) f e)
     (record { fits = tt; value = λ x. ap (λ k. cast_unsigned w64 (int_shr (cast_signed w64 x) k)) (shift_of_64 n) })
-reg_form_is Mul n f e = nothing_given f e
+reg_form_is Mul n f e =
+    let m : ℕ = n % 2 ^ 64 in
+    let k : ℕ = trailing_zeros w64 m in
+    let is = given (is_power 64 m) (ByShift Slli k) f e in
+    let power = power_is 64 m (omega arith) is.holds in
+    subst (IsFormOf (λ x. reg_value Mul x m)) is.same
+    (record { fits = tt; value = λ x. ap (λ q. (x * 2 ^ q) % 2 ^ 64) (small_64 k power.few) ∙ ap (λ q. (x * q) % 2 ^ 64) power.power })
 reg_form_is Mulh n f e = nothing_given f e
 reg_form_is Mulhsu n f e = nothing_given f e
 reg_form_is Mulhu n f e = nothing_given f e
@@ -279,7 +286,18 @@ regw_form_is Srlw n f e =
 regw_form_is Sraw n f e =
     subst (IsFormOf (λ x. regw_value Sraw x (n % 2 ^ 64))) (same_form (ShiftWord Sraiw n) f e)
     (record { fits = tt; value = λ x. ap (λ k. sign_extended (cast_unsigned w32 (int_shr (cast_signed w32 (x % 2 ^ 32)) k))) (shift_of_32 n) })
-regw_form_is Mulw n f e = nothing_given f e
+regw_form_is Mulw n f e =
+    let m : ℕ = n % 2 ^ 32 in
+    let k : ℕ = trailing_zeros w64 m in
+    let is = given (is_power 32 m) (ShiftWord Slliw k) f e in
+    let power = power_is 32 m (omega arith) is.holds in
+    subst (IsFormOf (λ x. regw_value Mulw x (n % 2 ^ 64))) is.same
+    (record {
+      fits = tt;
+      value = λ x.
+          ap (λ q. sign_extended ((x % 2 ^ 32 * 2 ^ q) % 2 ^ 32)) (small_32 k power.few)
+          ∙ ap (λ q. sign_extended ((x % 2 ^ 32 * q) % 2 ^ 32)) (power.power ∙ low_word n);
+    })
 regw_form_is Divw n f e = nothing_given f e
 regw_form_is Divuw n f e = nothing_given f e
 regw_form_is Remw n f e = nothing_given f e
@@ -342,7 +360,8 @@ reg_left Slt n f e = nothing_given f e
 reg_left Sltu n f e = nothing_given f e
 reg_left Srl n f e = nothing_given f e
 reg_left Sra n f e = nothing_given f e
-reg_left Mul n f e = nothing_given f e
+reg_left Mul n f e =
+    does_too (λ x. reg_value Mul x (n % 2 ^ 64)) (λ x. reg_value Mul (n % 2 ^ 64) x) f (λ x. ap (λ m. m % 2 ^ 64) (mul_comm x (n % 2 ^ 64))) (reg_form_is Mul n f e)
 reg_left Mulh n f e = nothing_given f e
 reg_left Mulhsu n f e = nothing_given f e
 reg_left Mulhu n f e = nothing_given f e
@@ -359,7 +378,9 @@ regw_left Subw n f e = nothing_given f e
 regw_left Sllw n f e = nothing_given f e
 regw_left Srlw n f e = nothing_given f e
 regw_left Sraw n f e = nothing_given f e
-regw_left Mulw n f e = nothing_given f e
+regw_left Mulw n f e =
+    does_too (λ x. regw_value Mulw x (n % 2 ^ 64)) (λ x. regw_value Mulw (n % 2 ^ 64) x) f
+    (λ x. ap (λ m. sign_extended (m % 2 ^ 32)) (mul_comm (x % 2 ^ 32) (n % 2 ^ 64 % 2 ^ 32))) (regw_form_is Mulw n f e)
 regw_left Divw n f e = nothing_given f e
 regw_left Divuw n f e = nothing_given f e
 regw_left Remw n f e = nothing_given f e

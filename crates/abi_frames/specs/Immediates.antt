@@ -1,5 +1,6 @@
 -- Which operations with a number as their right operand are done by instructions that have the number in them.
-use Rattle.std.specs.Prelude.{ℕ, ◌+◌, ◌-◌, ◌%◌, ◌^◌, Bool, not, ◌&&◌, nat_eq, if◌then◌else◌, List, [], ◌∷◌, Option, Some, None}
+use Rattle.std.specs.Prelude.{ℕ, ◌+◌, ◌-◌, ◌*◌, ◌%◌, ◌^◌, Bool, not, ◌&&◌, nat_eq, nat_lt, if◌then◌else◌, List, [], ◌∷◌, Option, Some, None}
+use Rattle.std.specs.Int.{trailing_zeros, w64}
 use Rattle.std.specs.Option.{option_and_then}
 use Rattle.il_ast.specs.declared.operation.Class.TheVariants.{W, L}
 use Rattle.il_ast.specs.declared.operation.Condition.{Condition}
@@ -10,9 +11,9 @@ use Rattle.rv_isa.specs.declared.instruction.ImmOp.TheVariants.{Addi, Slti, Slti
 use Rattle.rv_isa.specs.declared.instruction.ShiftOp.TheVariants.{Slli, Srli, Srai}
 use Rattle.rv_isa.specs.declared.instruction.ShiftWOp.TheVariants.{Slliw, Srliw, Sraiw}
 use Rattle.rv_isa.specs.declared.instruction.RegOp.{RegOp}
-use Rattle.rv_isa.specs.declared.instruction.RegOp.TheVariants.{Add, Sub, Sll, Slt, Sltu, Xor, Srl, Sra, Or, And}
+use Rattle.rv_isa.specs.declared.instruction.RegOp.TheVariants.{Add, Sub, Sll, Slt, Sltu, Xor, Srl, Sra, Or, And, Mul}
 use Rattle.rv_isa.specs.declared.instruction.RegWOp.{RegWOp}
-use Rattle.rv_isa.specs.declared.instruction.RegWOp.TheVariants.{Addw, Subw, Sllw, Srlw, Sraw}
+use Rattle.rv_isa.specs.declared.instruction.RegWOp.TheVariants.{Addw, Subw, Sllw, Srlw, Sraw, Mulw}
 use Rattle.rv_isa.specs.declared.labelled.Item.{Item}
 use Rattle.rv_isa.specs.declared.labelled.Item.TheVariants.{Plain}
 use Rattle.vcode.specs.declared.place.Location.{Location}
@@ -45,6 +46,17 @@ immediate_form op n = form_if (is_immediate n) (ByImmediate op n)
 abbrev pub sum_form : ℕ → Option Form
 sum_form n = form_if (is_immediate n) (AddWord n)
 
+-- whether n is a power of two that has fewer than so many zeros
+abbrev pub is_power : (bits n : ℕ) → Bool
+is_power bits n = nat_lt (trailing_zeros w64 n) bits && nat_eq n ((1 * 2 ^ trailing_zeros w64 n) % 2 ^ 64)
+
+-- a product with a power of two is a shift by its zeros
+abbrev pub product_form : ℕ → Option Form
+product_form n = form_if (is_power 64 n) (ByShift Slli (trailing_zeros w64 n))
+
+abbrev pub word_product_form : ℕ → Option Form
+word_product_form n = form_if (is_power 32 n) (ShiftWord Slliw (trailing_zeros w64 n))
+
 abbrev pub reg_form : RegOp → ℕ → Option Form
 reg_form Add n = immediate_form Addi n
 reg_form Sub n = immediate_form Addi (opposite n)
@@ -53,6 +65,7 @@ reg_form Sltu n = immediate_form Sltiu n
 reg_form Xor n = immediate_form Xori n
 reg_form Or n = immediate_form Ori n
 reg_form And n = immediate_form Andi n
+reg_form Mul n = product_form (n % 2 ^ 64)
 reg_form Sll n = Some (ByShift Slli n)
 reg_form Srl n = Some (ByShift Srli n)
 reg_form Sra n = Some (ByShift Srai n)
@@ -61,6 +74,7 @@ reg_form op n = None
 abbrev pub regw_form : RegWOp → ℕ → Option Form
 regw_form Addw n = sum_form (word n)
 regw_form Subw n = sum_form (word (opposite n))
+regw_form Mulw n = word_product_form (n % 2 ^ 32)
 regw_form Sllw n = Some (ShiftWord Slliw n)
 regw_form Srlw n = Some (ShiftWord Srliw n)
 regw_form Sraw n = Some (ShiftWord Sraiw n)
@@ -107,12 +121,17 @@ swapped_reg Add = Some (RegOperation Add)
 swapped_reg Xor = Some (RegOperation Xor)
 swapped_reg Or = Some (RegOperation Or)
 swapped_reg And = Some (RegOperation And)
+swapped_reg Mul = Some (RegOperation Mul)
 swapped_reg op = None
+
+abbrev pub swapped_regw : RegWOp → Option Operation
+swapped_regw Addw = Some (RegWOperation Addw)
+swapped_regw Mulw = Some (RegWOperation Mulw)
+swapped_regw op = None
 
 abbrev pub swapped : Operation → Option Operation
 swapped (RegOperation op) = swapped_reg op
-swapped (RegWOperation Addw) = Some (RegWOperation Addw)
-swapped (RegWOperation op) = None
+swapped (RegWOperation op) = swapped_regw op
 swapped (Compare on k) = Some (Compare (turned on) k)
 
 -- the form that an operand on the right gives, and one on the left

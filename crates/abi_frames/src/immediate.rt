@@ -1,10 +1,10 @@
 //! Operations with a number as an operand, done by instructions that have the number in them.
-ghost use Rattle.std.specs.Prelude.{◌≡◌, [], ◌∷◌, ◌++◌, OnOk};
+ghost use Rattle.std.specs.Prelude.{◌≡◌, ◌≤◌, [], ◌∷◌, ◌++◌, OnOk};
 ghost use Rattle.rv_isa.specs.declared.labelled.Item.TheVariants.{Plain};
 ghost use Rattle.rv_isa.specs.declared.instruction.Instr.TheVariants.{Imm};
 ghost use Rattle.il_ast.specs.declared.operation.Condition.TheVariants.{Equal, NotEqual};
 ghost use Rattle.abi_frames.specs.Fields.{reg, low, negate};
-ghost use Rattle.abi_frames.specs.Immediates.{opposite, next, form_if, immediate_form, sum_form, reg_form, regw_form, compares_with, comparison_form, number_form, turned, swapped_reg, swapped, right_form, left_form, compare_number, form_items};
+ghost use Rattle.abi_frames.specs.Immediates.{opposite, next, form_if, immediate_form, sum_form, is_power, product_form, word_product_form, reg_form, regw_form, compares_with, comparison_form, number_form, turned, swapped_reg, swapped_regw, swapped, right_form, left_form, compare_number, form_items};
 
 use crate::compare::{negation, test_of_nonzero, test_of_zero};
 use crate::fields::{add_immediate, amount, low_part, register, word_amount};
@@ -67,6 +67,33 @@ fn sum_form(number: u64) -> Option<Form>
     form_if(has_12_bits(number), Form::AddWord(number))
 }
 
+// is the number a power of two that has fewer than so many zeros?
+fn is_power(bits: u32, number: u64) -> bool
+    requires { bits ≤ 64 }
+    ensures { result ≡ is_power bits number }
+{
+    let zeros = number.trailing_zeros();
+    zeros < bits && number == 1_u64 << zeros
+}
+
+// a product with a power of two is a shift by its zeros
+fn product_form(number: u64) -> Option<Form>
+    ensures { result ≡ product_form number }
+{
+    let zeros = u64::from(number.trailing_zeros());
+    form_if(is_power(64, number), Form::Shift(ShiftOp::Slli, zeros))
+}
+
+fn word_product_form(number: u64) -> Option<Form>
+    ensures { result ≡ word_product_form number }
+{
+    let zeros = u64::from(number.trailing_zeros());
+    form_if(
+        is_power(32, number),
+        Form::ShiftWord(ShiftWOp::Slliw, zeros),
+    )
+}
+
 fn reg_form(op: RegOp, number: u64) -> Option<Form>
     ensures { result ≡ reg_form op number }
 {
@@ -81,8 +108,8 @@ fn reg_form(op: RegOp, number: u64) -> Option<Form>
         RegOp::Sll => Some(Form::Shift(ShiftOp::Slli, number)),
         RegOp::Srl => Some(Form::Shift(ShiftOp::Srli, number)),
         RegOp::Sra => Some(Form::Shift(ShiftOp::Srai, number)),
-        RegOp::Mul
-        | RegOp::Mulh
+        RegOp::Mul => product_form(number),
+        RegOp::Mulh
         | RegOp::Mulhsu
         | RegOp::Mulhu
         | RegOp::Div
@@ -101,7 +128,8 @@ fn regw_form(op: RegWOp, number: u64) -> Option<Form>
         RegWOp::Sllw => Some(Form::ShiftWord(ShiftWOp::Slliw, number)),
         RegWOp::Srlw => Some(Form::ShiftWord(ShiftWOp::Srliw, number)),
         RegWOp::Sraw => Some(Form::ShiftWord(ShiftWOp::Sraiw, number)),
-        RegWOp::Mulw | RegWOp::Divw | RegWOp::Divuw | RegWOp::Remw | RegWOp::Remuw => None,
+        RegWOp::Mulw => word_product_form(number % 0x1_0000_0000),
+        RegWOp::Divw | RegWOp::Divuw | RegWOp::Remw | RegWOp::Remuw => None,
     }
 }
 
@@ -174,14 +202,13 @@ fn swapped_reg(op: RegOp) -> Option<Operation>
     ensures { result ≡ swapped_reg op }
 {
     match op {
-        RegOp::Add | RegOp::Xor | RegOp::Or | RegOp::And => Some(Operation::Reg(op)),
+        RegOp::Add | RegOp::Xor | RegOp::Or | RegOp::And | RegOp::Mul => Some(Operation::Reg(op)),
         RegOp::Sub
         | RegOp::Sll
         | RegOp::Slt
         | RegOp::Sltu
         | RegOp::Srl
         | RegOp::Sra
-        | RegOp::Mul
         | RegOp::Mulh
         | RegOp::Mulhsu
         | RegOp::Mulhu
@@ -192,24 +219,29 @@ fn swapped_reg(op: RegOp) -> Option<Operation>
     }
 }
 
+fn swapped_regw(op: RegWOp) -> Option<Operation>
+    ensures { result ≡ swapped_regw op }
+{
+    match op {
+        RegWOp::Addw | RegWOp::Mulw => Some(Operation::RegW(op)),
+        RegWOp::Subw
+        | RegWOp::Sllw
+        | RegWOp::Srlw
+        | RegWOp::Sraw
+        | RegWOp::Divw
+        | RegWOp::Divuw
+        | RegWOp::Remw
+        | RegWOp::Remuw => None,
+    }
+}
+
 // the operation that gives the same with its operands exchanged
 fn swapped(operation: &Operation) -> Option<Operation>
     ensures { result ≡ swapped operation.now }
 {
     match operation {
         Operation::Reg(op) => swapped_reg(*op),
-        Operation::RegW(RegWOp::Addw) => Some(Operation::RegW(RegWOp::Addw)),
-        Operation::RegW(
-            RegWOp::Subw
-            | RegWOp::Sllw
-            | RegWOp::Srlw
-            | RegWOp::Sraw
-            | RegWOp::Mulw
-            | RegWOp::Divw
-            | RegWOp::Divuw
-            | RegWOp::Remw
-            | RegWOp::Remuw,
-        ) => None,
+        Operation::RegW(op) => swapped_regw(*op),
         Operation::Compare(condition, class) => {
             Some(Operation::Compare(turned(*condition), *class))
         }

@@ -161,6 +161,42 @@ fn shifts_take_their_number(rt: HostRuntime) -> Result<(), Fail> {
     Ok(())
 }
 
+#[test]
+fn products_with_powers_of_two_are_shifts(rt: HostRuntime) -> Result<(), Fail> {
+    let mul = Operation::Reg(RegOp::Mul);
+    let long = operate(
+        rt.alloc(),
+        mul,
+        Operand::Number(0x8000_0000_0000_0000),
+        x5(),
+    )?;
+    match long.get(0) {
+        Some(Item::Plain(Instr::Shift { op, amount, .. })) => {
+            assert!(rt; *op == ShiftOp::Slli && amount.value == 63 && long.len() == 1);
+        }
+        _ => assert!(rt; false),
+    }
+    let mulw = Operation::RegW(RegWOp::Mulw);
+    let word = operate(rt.alloc(), mulw, x5(), minus(0x8000_0000))?;
+    match word.get(0) {
+        Some(Item::Plain(Instr::ShiftW { op, amount, .. })) => {
+            assert!(rt; *op == ShiftWOp::Slliw && amount.value == 31 && word.len() == 1);
+        }
+        _ => assert!(rt; false),
+    }
+    // a number and the product
+    assert_eq!(rt;
+        operate(rt.alloc(), mul, x5(), Operand::Number(12))?.len(),
+        2
+    );
+    // 0 is no power of two
+    assert_eq!(rt;
+        operate(rt.alloc(), mulw, x5(), Operand::Number(0x1_0000_0000))?.len(),
+        10
+    );
+    Ok(())
+}
+
 // how many instructions a comparison of longs takes, x5 on the left
 fn comparing(alloc: Global, condition: Condition, number: u64) -> Result<usize, AllocError> {
     let operation = Operation::Compare(condition, Class::L);
