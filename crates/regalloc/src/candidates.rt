@@ -31,6 +31,9 @@ pub(crate) struct Candidate {
 
     /// whether a register of it is a parameter or passed to a call
     pub(crate) is_passed: bool,
+
+    /// whether a register of it is the result of a call, or returned
+    pub(crate) is_result: bool,
 }
 
 fn joined(left: Demand, right: Demand) -> Demand {
@@ -38,6 +41,7 @@ fn joined(left: Demand, right: Demand) -> Demand {
         weight: left.weight.saturating_add(right.weight),
         is_passed: left.is_passed || right.is_passed,
         is_param: left.is_param || right.is_param,
+        is_result: left.is_result || right.is_result,
     }
 }
 
@@ -47,6 +51,7 @@ fn demand_of(demands: &[Demand], members: &[u32]) -> Demand {
         weight: 0,
         is_passed: false,
         is_param: false,
+        is_result: false,
     };
     for register in members {
         match demands.get(*register as usize) {
@@ -87,6 +92,7 @@ fn candidate_of(group: &Group, number: usize, demands: &Demands) -> Candidate {
         group: number,
         over_call: ranges.iter().any(|range| is_over_call(calls, *range)),
         is_passed: demand.is_passed,
+        is_result: demand.is_result,
     }
 }
 

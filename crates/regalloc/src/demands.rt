@@ -13,6 +13,9 @@ pub(crate) struct Demand {
     /// whether it is a parameter, or passed to a call
     pub(crate) is_passed: bool,
     pub(crate) is_param: bool,
+
+    /// whether it is the result of a call, or returned
+    pub(crate) is_result: bool,
 }
 
 /// A copy of a register to another. In the order of copies the one that is done most often is the last.
@@ -93,6 +96,28 @@ fn pass_params(demands: &mut Demands, params: &[Destination<u32>]) {
     }
 }
 
+fn result(demands: &mut Demands, register: u32) {
+    match demands.registers.get_mut(register as usize) {
+        Some(demand) => demand.is_result = true,
+        None => {}
+    }
+}
+
+fn receive(demands: &mut Demands, to: &Option<Destination<u32>>) {
+    match to {
+        Some(destination) => result(demands, destination.place),
+        None => {}
+    }
+}
+
+fn jump(demands: &mut Demands, jump: &Jump<u32>, weight: u64) {
+    match jump {
+        Jump::Branch { on, .. } => read(demands, on, weight),
+        Jump::Return(Some(Operand::At(register))) => result(demands, *register),
+        _ => {}
+    }
+}
+
 // A copy takes one instruction where either is in a register of the machine, and none where both are in the same.
 fn copy(
     demands: &mut Demands,
@@ -144,10 +169,11 @@ fn line(demands: &mut Demands, line: &Line<u32>, often: u64) -> Result<(), Alloc
         }
         Line::Alloc { to, .. } => add(demands, *to, weight),
         Line::Blit { .. } => {}
-        Line::Call { callee, args, .. } => {
+        Line::Call { to, callee, args } => {
             read(demands, callee, weight);
             pass_operand(demands, callee);
             pass_args(demands, args.as_slice());
+            receive(demands, to);
         }
     }
     Ok(())
@@ -187,10 +213,7 @@ fn lines(demands: &mut Demands, lines: &[Line<u32>], often: u64) -> Result<(), A
 fn block(demands: &mut Demands, block: &Block<u32>, depth: u32) -> Result<(), AllocError> {
     let often = frequency(depth);
     lines(demands, block.lines.as_slice(), often)?;
-    match &block.jump {
-        Jump::Branch { on, .. } => read(demands, on, often.saturating_mul(2)),
-        _ => {}
-    }
+    jump(demands, &block.jump, often.saturating_mul(2));
     push_point(&mut demands.calls, false)
 }
 
@@ -222,6 +245,7 @@ pub(crate) fn demands_of(
             weight: 0,
             is_passed: false,
             is_param: false,
+            is_result: false,
         },
     )?;
     let mut calls = Vec::new(alloc);

@@ -37,7 +37,7 @@ impl LinearScan {
     }
 }
 
-// How many registers of the machine there are: x5 to x27. Those come first that callees need not keep, and of these x10 to x17.
+// How many registers of the machine there are: x5 to x27. Those come first that callees need not keep, and of these x17 to x10.
 const MACHINE: usize = 23;
 
 fn machine_register(registers: u32, k: u8) -> Location
@@ -45,7 +45,7 @@ fn machine_register(registers: u32, k: u8) -> Location
     ensures { is_place registers result ≡ true }
 {
     Location::Register(if k < 8 {
-        10 + k
+        17 - k
     } else if k < 13 {
         k - 3
     } else {

@@ -108,8 +108,26 @@ fn pays(candidate: &Candidate) -> bool {
     4 < candidate.weight
 }
 
-/// The first register that is free for the ranges of the candidate, one that needs no saving if there is one; else none, or one that pays for that.
+// The number of the room of x10, in which results are.
+const RESULTS: usize = 7;
+
+// Whether the candidate has to do with results, and may stand where they are.
+fn stands_in_results(rooms: &[Room], candidate: &Candidate, ranges: &[Range]) -> bool {
+    if !candidate.is_result || !may_hold(RESULTS, candidate) {
+        return false;
+    }
+    match rooms.get(RESULTS) {
+        Some(room) => room.is_free(ranges),
+        None => false,
+    }
+}
+
+/// The first register that is free for the ranges of the candidate, one that needs no saving if there is one; else none, or one that pays for that. What is a result
+/// stands with results if it may.
 pub(crate) fn room_for(rooms: &[Room], candidate: &Candidate, ranges: &[Range]) -> Option<usize> {
+    if stands_in_results(rooms, candidate, ranges) {
+        return Some(RESULTS);
+    }
     let mut unused = None;
     for (k, room) in rooms.iter().enumerate() {
         if may_hold(k, candidate) && room.is_free(ranges) {
