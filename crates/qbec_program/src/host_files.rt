@@ -2,9 +2,10 @@
 use crate::stream::Stream;
 use shell::disk::{Disk, FileFault};
 use shell::write_exe::write_exe;
-use std::fs;
 use std::io::{Error, ErrorKind};
+use std::os::unix::fs::PermissionsExt;
 use std::rt::Files;
+use std::{fs, io};
 
 /// The files of the system.
 #[derive(Drop)]
@@ -25,6 +26,18 @@ fn fault_of(error: &Error) -> FileFault {
     }
 }
 
+/// Lets those who may read a file execute it, as other compilers do. What is no plain file, as a device, stays as it is.
+fn make_executable<R: Files>(rt: &R, path: &str) -> io::Result<()> {
+    let metadata = fs::metadata(rt, path)?;
+    if metadata.is_file() {
+        let mut permissions = metadata.permissions();
+        let mode = permissions.mode();
+        permissions.set_mode(mode | (mode & 0o444) >> 2);
+        fs::set_permissions(rt, path, permissions)?;
+    }
+    Ok(())
+}
+
 impl<R: Files + AllocGlobal> Disk for HostFiles<'_, R> {
     fn read(&mut self, path: &str) -> Result<Vec<u8>, FileFault> {
         match fs::read(self.rt, path) {
@@ -38,7 +51,11 @@ impl<R: Files + AllocGlobal> Disk for HostFiles<'_, R> {
             Ok(file) => {
                 let mut stream = Stream::new(file);
                 match write_exe(bytes, &mut stream) {
-                    Ok(()) => Ok(()),
+                    Ok(()) => {
+                        // The file is whole; on a file system that has no such permissions it can be executed or not as it is.
+                        let _ = make_executable(self.rt, path);
+                        Ok(())
+                    }
                     Err(_) => Err(FileFault::Device),
                 }
             }

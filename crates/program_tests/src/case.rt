@@ -1,0 +1,94 @@
+//! One program of the table, with what is known of it.
+use crate::told::Told;
+use std::alloc::{AllocError, Global};
+
+/// A program, and what is known of it.
+#[derive(Drop)]
+pub struct Case {
+    pub group: String,
+    pub name: String,
+    pub texts: Vec<Vec<u8>>,
+    pub words: Vec<String>,
+    /// its output and its end, or the refusal in place of the end
+    pub wanted: Told,
+    /// how many turns it is given, where not plenty
+    pub limit: Option<u64>,
+    pub turns: Option<u64>,
+    pub price: Option<u64>,
+    /// what its functions need and weigh, in order; empty where that isn't told
+    pub needs: String,
+    pub weights: String,
+    /// strategies of every kind are tried on it
+    pub is_tried: bool,
+    /// its bytes by the two strategies of the compiler differ
+    pub differs: bool,
+    /// it is large: it is compiled once
+    pub is_large: bool,
+}
+
+impl Case {
+    pub fn new(alloc: Global, group: &str, name: &str) -> Result<Case, AllocError> {
+        Ok(Case {
+            group: String::from_str(alloc, group)?,
+            name: String::from_str(alloc, name)?,
+            texts: Vec::new(alloc),
+            words: Vec::new(alloc),
+            wanted: Told::unrun(alloc, "")?,
+            limit: None,
+            turns: None,
+            price: None,
+            needs: String::new(alloc),
+            weights: String::new(alloc),
+            is_tried: false,
+            differs: false,
+            is_large: false,
+        })
+    }
+
+    /// Whether the texts are refused.
+    pub fn is_refused(&self) -> bool {
+        self.wanted.end.as_str().starts_with("E") && self.wanted.end.as_str() != "E8"
+    }
+
+    /// How many turns the interpreter is given.
+    pub fn turns_given(&self) -> u64 {
+        match (self.limit, self.turns) {
+            (Some(limit), _) => limit,
+            (None, Some(turns)) => turns,
+            (None, None) => 1_000_000_000,
+        }
+    }
+
+    /// How many instructions the machine is given: the price where it is known.
+    pub fn instructions_given(&self) -> u64 {
+        match (self.price, self.limit) {
+            (Some(price), _) => price,
+            (None, Some(limit)) => limit,
+            (None, None) => {
+                if self.wanted.is_lost() {
+                    1_000_000
+                } else {
+                    1_000_000_000
+                }
+            }
+        }
+    }
+}
+
+/// The texts, as slices.
+pub fn slices(alloc: Global, texts: &[Vec<u8>]) -> Result<Vec<&[u8]>, AllocError> {
+    let mut slices = Vec::new(alloc);
+    for text in texts {
+        slices.push(text.as_slice())?;
+    }
+    Ok(slices)
+}
+
+/// The words, as bytes.
+pub fn words_as_bytes(alloc: Global, words: &[String]) -> Result<Vec<&[u8]>, AllocError> {
+    let mut bytes = Vec::new(alloc);
+    for word in words {
+        bytes.push(word.as_bytes())?;
+    }
+    Ok(bytes)
+}

@@ -1,0 +1,58 @@
+//! The commands, over files and streams in memory.
+use crate::memory_disk::MemoryDisk;
+use crate::memory_sink::MemorySink;
+use commands::command::command;
+use regalloc::linear_scan::LinearScan;
+use std::alloc::{AllocError, Global};
+
+/// What a command answered and wrote.
+#[derive(Drop)]
+pub struct Done {
+    pub status: u8,
+    pub output: Vec<u8>,
+    pub message: String,
+}
+
+impl Done {
+    /// The status and the line.
+    pub fn line(&self, alloc: Global) -> Result<String, AllocError> {
+        let status = self.status;
+        let message = self.message.as_str().trim_end();
+        format!(in alloc; "{status} {message}")
+    }
+}
+
+/// Does what the words ask for, with these streams.
+pub fn perform_with(
+    alloc: Global,
+    disk: &mut MemoryDisk,
+    words: &[&str],
+    mut out: MemorySink,
+    mut err: MemorySink,
+) -> Result<Done, AllocError> {
+    let mut how = LinearScan::new(alloc);
+    let status = command(alloc, words, &mut how, disk, &mut out, &mut err);
+    let message = String::from_str(alloc, err.text())?;
+    Ok(Done {
+        status,
+        output: out.bytes,
+        message,
+    })
+}
+
+/// Does what the words ask for, with streams that take everything.
+pub fn perform(alloc: Global, disk: &mut MemoryDisk, words: &[&str]) -> Result<Done, AllocError> {
+    let out = MemorySink::new(alloc, 1 << 30, 0);
+    let err = MemorySink::new(alloc, 1, 0);
+    perform_with(alloc, disk, words, out, err)
+}
+
+/// The same for words between spaces.
+pub fn perform_words(
+    alloc: Global,
+    disk: &mut MemoryDisk,
+    words: &str,
+) -> Result<Done, AllocError> {
+    let words: Vec<&str> = words.split(' ').collect(alloc)?;
+    perform(alloc, disk, words.as_slice())
+}

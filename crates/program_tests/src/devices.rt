@@ -1,0 +1,188 @@
+//! Disks and streams that fail, and lines for want of memory.
+use crate::commanded::{perform_with, perform_words};
+use crate::memory_disk::MemoryDisk;
+use crate::memory_sink::MemorySink;
+use crate::report::Report;
+use commands::failure::Failure;
+use commands::refusal::Refusal;
+use elf_file::LoadError;
+use shell::disk::FileFault;
+use std::alloc::{AllocError, Global};
+
+/// Puts out `Hi` and a line end, and halts.
+const HALTS: &str =
+    "data $m = { b \"Hi\\n\" }\nexport function w $main() {\n@s\n%r =l call $write(w 1, l $m, l 3)\nhlt\n}\n";
+
+const SEVEN: &str = "export function w $main() {\n@s\nret 7\n}\n";
+
+/// Words, and the status and line that they give where a file or a device fails.
+const ON_A_DEVICE: [(&str, &str); 7] = [
+    ("build -o out seven broken", "126 qbec: cannot read broken"),
+    ("build -o out absent broken", "126 qbec: cannot read absent"),
+    ("build -o broken seven", "126 qbec: cannot write broken"),
+    ("run broken", "126 qbec: cannot read broken"),
+    ("run absent", "126 qbec: cannot read absent"),
+    ("interp broken", "126 qbec: cannot read broken"),
+    ("dis broken", "126 qbec: cannot read broken"),
+];
+
+/// The same where memory is refused for the file.
+const ON_MEMORY: [(&str, &str); 5] = [
+    ("build -o out seven broken", "126 qbec: memory"),
+    ("build -o broken seven", "126 qbec: memory"),
+    ("run broken", "126 qbec: memory"),
+    ("interp broken", "126 qbec: memory"),
+    ("dis broken", "126 qbec: memory"),
+];
+
+/// The files `halts` and `seven`, and `made`, an executable of the first.
+pub fn disk_of(alloc: Global) -> Result<MemoryDisk, AllocError> {
+    let mut disk = MemoryDisk::new(alloc);
+    disk.store("halts", HALTS.as_bytes())?;
+    disk.store("seven", SEVEN.as_bytes())?;
+    let _ = perform_words(alloc, &mut disk, "build -o made halts")?;
+    Ok(disk)
+}
+
+fn check_disks(
+    rows: &[(&str, &str)],
+    fault: FileFault,
+    report: &mut Report,
+) -> Result<(), AllocError> {
+    let alloc = report.alloc;
+    for (words, wanted) in rows {
+        let title = format!(in alloc; "{words} where the fault is {fault}")?;
+        report.begin(title.as_str())?;
+        let mut disk = disk_of(alloc)?;
+        disk.fault = fault;
+        let said = perform_words(alloc, &mut disk, *words)?;
+        let line = said.line(alloc)?;
+        report.compare("line", *wanted, line.as_str())?;
+        report.holds("no file is written", disk.find("out").is_none())?;
+    }
+    Ok(())
+}
+
+// The output and the line with an output that takes so many bytes a call, and fails at that call.
+fn check_output(
+    words: &str,
+    most: usize,
+    fails_at: u64,
+    report: &mut Report,
+) -> Result<(), AllocError> {
+    let alloc = report.alloc;
+    let mut disk = disk_of(alloc)?;
+    let whole = perform_words(alloc, &mut disk, words)?;
+    let list: Vec<&str> = words.split(' ').collect(alloc)?;
+    let out = MemorySink::new(alloc, most, fails_at);
+    let err = MemorySink::new(alloc, 1, 0);
+    let said = perform_with(alloc, &mut disk, list.as_slice(), out, err)?;
+    let line = said.line(alloc)?;
+    let all = whole.output.as_slice();
+    report.holds("a beginning", all.starts_with(said.output.as_slice()))?;
+    if said.output.len() == all.len() {
+        let wanted = whole.line(alloc)?;
+        return report.compare("line", wanted.as_str(), line.as_str());
+    }
+    report.compare(
+        "line",
+        "126 qbec: cannot write standard output",
+        line.as_str(),
+    )?;
+    let before = fails_at.saturating_sub(1);
+    report.holds(
+        "as many bytes as calls",
+        most > 1 || said.output.len() as u64 == before,
+    )
+}
+
+fn check_outputs(words: &str, report: &mut Report) -> Result<(), AllocError> {
+    for (most, last) in [(1, 40), (3, 12), (100_000, 5)] {
+        let title = format!(in report.alloc; "{words} to an output of {most} bytes a call")?;
+        report.begin(title.as_str())?;
+        for fails_at in 0..last + 1 {
+            check_output(words, most, fails_at, report)?;
+        }
+    }
+    Ok(())
+}
+
+// An output that takes no byte.
+fn check_closed(words: &str, report: &mut Report) -> Result<(), AllocError> {
+    let alloc = report.alloc;
+    let title = format!(in alloc; "{words} to an output that takes nothing")?;
+    report.begin(title.as_str())?;
+    let mut disk = disk_of(alloc)?;
+    let list: Vec<&str> = words.split(' ').collect(alloc)?;
+    let out = MemorySink::new(alloc, 0, 0);
+    let err = MemorySink::new(alloc, 1, 0);
+    let said = perform_with(alloc, &mut disk, list.as_slice(), out, err)?;
+    let line = said.line(alloc)?;
+    report.compare(
+        "line",
+        "126 qbec: cannot write standard output",
+        line.as_str(),
+    )?;
+    report.holds("nothing goes out", said.output.is_empty())
+}
+
+// A standard error that fails changes neither status nor output.
+fn check_message(words: &str, report: &mut Report) -> Result<(), AllocError> {
+    let alloc = report.alloc;
+    let title = format!(in alloc; "{words} where standard error fails")?;
+    report.begin(title.as_str())?;
+    let mut disk = disk_of(alloc)?;
+    let whole = perform_words(alloc, &mut disk, words)?;
+    let list: Vec<&str> = words.split(' ').collect(alloc)?;
+    for fails_at in 1..9 {
+        let out = MemorySink::new(alloc, 1, 0);
+        let err = MemorySink::new(alloc, 2, fails_at);
+        let said = perform_with(alloc, &mut disk, list.as_slice(), out, err)?;
+        report.holds("status", said.status == whole.status)?;
+        report.holds("output", said.output.as_slice() == whole.output.as_slice())?;
+        let message = said.message.as_str();
+        report.holds("message", whole.message.as_str().starts_with(message))?;
+    }
+    Ok(())
+}
+
+fn check_failure(
+    failure: Failure<'_>,
+    wanted: &str,
+    report: &mut Report,
+) -> Result<(), AllocError> {
+    report.begin(wanted)?;
+    let status = failure.status();
+    let said = format!(in report.alloc; "{status} {failure}")?;
+    report.compare("line", wanted, said.as_str())
+}
+
+/// Checks what becomes of commands where files, streams and memory fail.
+pub fn check(report: &mut Report) -> Result<(), AllocError> {
+    check_disks(&ON_A_DEVICE, FileFault::Device, report)?;
+    check_disks(&ON_MEMORY, FileFault::Memory, report)?;
+    for words in [
+        "interp halts",
+        "run made",
+        "dis made",
+        "--help",
+        "build --help",
+    ] {
+        check_outputs(words, report)?;
+        check_closed(words, report)?;
+    }
+    for words in [
+        "interp halts",
+        "run made",
+        "run absent",
+        "interp seven",
+        "go",
+        "run",
+    ] {
+        check_message(words, report)?;
+    }
+    check_failure(Failure::Refused(Refusal::Memory), "126 refused E7", report)?;
+    let file = Failure::Refused(Refusal::File(LoadError::Memory));
+    check_failure(file, "126 refused L6", report)?;
+    check_failure(Failure::Memory, "126 memory", report)
+}

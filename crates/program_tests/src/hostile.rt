@@ -1,0 +1,107 @@
+//! Programs compiled with strategies of every kind: each executable does the same.
+use crate::case::{Case, slices, words_as_bytes};
+use crate::compiled::{Compiled, compile_with, ran};
+use crate::report::Report;
+use crate::strategies::{Answer, Cut, Fixed, List};
+use rv_machine::page_ram::PageRam;
+use std::alloc::AllocError;
+use vcode::place::Location;
+
+/// What the strategies answer.
+const ANSWERS: [Answer; 36] = [
+    Answer::Nothing,
+    Answer::Blank,
+    Answer::Everywhere(Location::Register(0)),
+    Answer::Everywhere(Location::Register(2)),
+    Answer::Everywhere(Location::Register(5)),
+    Answer::Everywhere(Location::Register(10)),
+    Answer::Everywhere(Location::Register(18)),
+    Answer::Everywhere(Location::Register(31)),
+    Answer::Everywhere(Location::Register(255)),
+    Answer::Everywhere(Location::Slot(0)),
+    Answer::Everywhere(Location::Slot(4294967295)),
+    Answer::Slots { more: false },
+    Answer::Slots { more: true },
+    Answer::OneList(List::Params, Cut::Shorter),
+    Answer::OneList(List::Params, Cut::Longer),
+    Answer::OneList(List::Params, Cut::Empty),
+    Answer::OneList(List::Starts, Cut::Shorter),
+    Answer::OneList(List::Starts, Cut::Longer),
+    Answer::OneList(List::Starts, Cut::Empty),
+    Answer::OneList(List::Moves, Cut::Shorter),
+    Answer::OneList(List::Moves, Cut::Longer),
+    Answer::OneList(List::Moves, Cut::Empty),
+    Answer::OneList(List::Places, Cut::Shorter),
+    Answer::OneList(List::Places, Cut::Longer),
+    Answer::OneList(List::Places, Cut::Empty),
+    Answer::OtherSlots,
+    Answer::EverySecondTime,
+    Answer::OneInX5(0),
+    Answer::OneInX5(1),
+    Answer::OneInX5(2),
+    Answer::InTurn,
+    Answer::Moves {
+        from: Location::Register(5),
+        to: Location::Slot(0),
+        count: 1,
+    },
+    Answer::Moves {
+        from: Location::Register(5),
+        to: Location::Register(6),
+        count: 1,
+    },
+    Answer::Moves {
+        from: Location::Slot(0),
+        to: Location::Register(5),
+        count: 1000,
+    },
+    Answer::Moves {
+        from: Location::Slot(0),
+        to: Location::Register(2),
+        count: 1,
+    },
+    Answer::Moves {
+        from: Location::Slot(4294967295),
+        to: Location::Slot(0),
+        count: 1,
+    },
+];
+
+// The program's executable by this strategy ends as is wanted, twice, since a strategy may change its answer.
+fn check_answer(case: &Case, answer: Answer, report: &mut Report) -> Result<(), AllocError> {
+    let alloc = report.alloc;
+    let texts = slices(alloc, &case.texts)?;
+    let words = words_as_bytes(alloc, &case.words)?;
+    let mut how = Fixed::new(alloc, answer);
+    for what in ["first time", "second time"] {
+        match compile_with(alloc, texts.as_slice(), &mut how)? {
+            Compiled::File(file) => {
+                let limit = case.instructions_given();
+                let said = ran::<PageRam>(alloc, file.as_slice(), words.as_slice(), limit)?;
+                report.compare_runs(what, &case.wanted, &said)?;
+            }
+            Compiled::Refused(why) => report.fail(what, "a file", why.as_str())?,
+        }
+    }
+    Ok(())
+}
+
+fn check_case(case: &Case, report: &mut Report) -> Result<(), AllocError> {
+    for answer in ANSWERS {
+        let name = case.name.as_str();
+        let title = format!(in report.alloc; "{name} by {answer:?}")?;
+        report.begin(title.as_str())?;
+        check_answer(case, answer, report)?;
+    }
+    Ok(())
+}
+
+/// Checks the programs that the strategies are tried on.
+pub fn check(cases: &[Case], report: &mut Report) -> Result<(), AllocError> {
+    for case in cases {
+        if case.is_tried {
+            check_case(case, report)?;
+        }
+    }
+    Ok(())
+}

@@ -1,0 +1,259 @@
+//! Strategies that answer what they shouldn't.
+use cfg_live::sets::Live;
+use il_ast::list::Seq;
+use regalloc::certificate::{Certificate, Transfer};
+use regalloc::list::certificate_of;
+use regalloc::strategy::Strategy;
+use std::alloc::{AllocError, Global};
+use vcode::function::VFunc;
+use vcode::place::Location;
+
+/// One of the lists of a certificate.
+#[derive(Clone, Copy, Debug, PartialEq, Eq)]
+pub enum List {
+    Params,
+    Starts,
+    Moves,
+    Places,
+}
+
+/// What is done to a list.
+#[derive(Clone, Copy, Debug, PartialEq, Eq)]
+pub enum Cut {
+    Shorter,
+    Longer,
+    Empty,
+}
+
+/// What a strategy answers for each function.
+#[derive(Clone, Copy, Debug, PartialEq, Eq)]
+pub enum Answer {
+    /// nothing
+    Nothing,
+    /// lists without an element
+    Blank,
+    /// this place for each register
+    Everywhere(Location),
+    /// the right slots, but for one register too few, or too many
+    Slots {
+        more: bool,
+    },
+    /// the right slots, with one of the certificate's lists cut
+    OneList(List, Cut),
+    /// a slot for each register, but where it is read another than where it was written
+    OtherSlots,
+    /// the right slots, every second time; else nothing
+    EverySecondTime,
+    /// x5 for this register, over calls too, and slots for the others
+    OneInX5(u32),
+    /// x5 to x27, in turn by the register's number
+    InTurn,
+    /// the right slots, with so many moves from place to place before each point
+    Moves {
+        from: Location,
+        to: Location,
+        count: u32,
+    },
+}
+
+/// Answers that.
+#[derive(Drop)]
+pub struct Fixed {
+    alloc: Global,
+    answer: Answer,
+    asked: u64,
+}
+
+impl Fixed {
+    pub fn new(alloc: Global, answer: Answer) -> Fixed {
+        Fixed {
+            alloc,
+            answer,
+            asked: 0,
+        }
+    }
+}
+
+// The place that a list has for a register.
+fn place(answer: Answer, register: u32) -> Location {
+    match answer {
+        Answer::Everywhere(place) => place,
+        Answer::OneInX5(one) => {
+            if register == one {
+                Location::Register(5)
+            } else {
+                Location::Slot(register)
+            }
+        }
+        Answer::InTurn => Location::Register((register % 23) as u8 + 5),
+        _ => Location::Slot(register),
+    }
+}
+
+fn list_of(alloc: Global, answer: Answer, length: u32) -> Result<Vec<Location>, AllocError> {
+    let mut list = Vec::new(alloc);
+    for register in 0..length {
+        list.push(place(answer, register))?;
+    }
+    Ok(list)
+}
+
+// Slots from 1 on, round to 0.
+fn other_slots(alloc: Global, registers: u32) -> Result<Vec<Location>, AllocError> {
+    let mut list = Vec::new(alloc);
+    for register in 0..registers {
+        list.push(Location::Slot(register.wrapping_add(1) % registers))?;
+    }
+    Ok(list)
+}
+
+fn blank(alloc: Global) -> Certificate {
+    Certificate {
+        params: Seq::new(alloc),
+        starts: Seq::new(alloc),
+        moves: Seq::new(alloc),
+        places: Seq::new(alloc),
+    }
+}
+
+// How many items are left of so many.
+fn left(cut: Cut, length: usize) -> usize {
+    match cut {
+        Cut::Shorter => length.saturating_sub(1),
+        Cut::Longer => length,
+        Cut::Empty => 0,
+    }
+}
+
+// The first of these lists, and one more without an item where that is asked for.
+fn cut_lists<T: Copy + Drop>(
+    alloc: Global,
+    lists: &[Seq<T>],
+    cut: Cut,
+) -> Result<Seq<Seq<T>>, AllocError> {
+    let mut all = Seq::new(alloc);
+    for list in lists.iter().take(left(cut, lists.len())) {
+        all.push(Seq::from_vec(list.as_slice().to_vec(alloc)?))?;
+    }
+    if cut == Cut::Longer {
+        all.push(Seq::new(alloc))?;
+    }
+    Ok(all)
+}
+
+fn cut_places(alloc: Global, places: &[Location], cut: Cut) -> Result<Seq<Location>, AllocError> {
+    let mut all = Seq::new(alloc);
+    for place in places.iter().take(left(cut, places.len())) {
+        all.push(*place)?;
+    }
+    if cut == Cut::Longer {
+        all.push(Location::Slot(0))?;
+    }
+    Ok(all)
+}
+
+fn cut_of(
+    alloc: Global,
+    right: Certificate,
+    list: List,
+    cut: Cut,
+) -> Result<Certificate, AllocError> {
+    let mut certificate = right;
+    match list {
+        List::Params => {
+            certificate.params = cut_places(alloc, certificate.params.as_slice(), cut)?
+        }
+        List::Starts => {
+            certificate.starts = cut_lists(alloc, certificate.starts.as_slice(), cut)?
+        }
+        List::Moves => certificate.moves = cut_lists(alloc, certificate.moves.as_slice(), cut)?,
+        List::Places => {
+            certificate.places = cut_lists(alloc, certificate.places.as_slice(), cut)?
+        }
+    }
+    Ok(certificate)
+}
+
+fn one_move(
+    alloc: Global,
+    from: Location,
+    to: Location,
+    count: u32,
+) -> Result<Seq<Transfer>, AllocError> {
+    let mut moves = Seq::new(alloc);
+    for _ in 0..count {
+        moves.push(Transfer { from, to })?;
+    }
+    Ok(moves)
+}
+
+fn with_moves(
+    alloc: Global,
+    right: Certificate,
+    from: Location,
+    to: Location,
+    count: u32,
+) -> Result<Certificate, AllocError> {
+    let mut certificate = right;
+    let mut moves = Seq::new(alloc);
+    for _ in 0..certificate.moves.len() {
+        moves.push(one_move(alloc, from, to, count)?)?;
+    }
+    certificate.moves = moves;
+    Ok(certificate)
+}
+
+// What one certificate says of points, and the other of the rest.
+fn mixed(alloc: Global, function: &VFunc, live: &Live) -> Result<Certificate, AllocError> {
+    let at_points = other_slots(alloc, function.registers)?;
+    let elsewhere = list_of(alloc, Answer::Nothing, function.registers)?;
+    let points = certificate_of(alloc, function, live, &at_points)?;
+    let rest = certificate_of(alloc, function, live, &elsewhere)?;
+    Ok(Certificate {
+        params: rest.params,
+        starts: rest.starts,
+        moves: points.moves,
+        places: points.places,
+    })
+}
+
+// How long the list of places is.
+fn length(answer: Answer, registers: u32) -> u32 {
+    match answer {
+        Answer::Slots { more: true } => registers.saturating_add(1),
+        Answer::Slots { more: false } => registers.saturating_sub(1),
+        _ => registers,
+    }
+}
+
+fn certificate(
+    alloc: Global,
+    answer: Answer,
+    function: &VFunc,
+    live: &Live,
+) -> Result<Certificate, AllocError> {
+    let list = list_of(alloc, answer, length(answer, function.registers))?;
+    let listed = certificate_of(alloc, function, live, &list)?;
+    match answer {
+        Answer::Blank => Ok(blank(alloc)),
+        Answer::OneList(list, cut) => cut_of(alloc, listed, list, cut),
+        Answer::OtherSlots => mixed(alloc, function, live),
+        Answer::Moves { from, to, count } => with_moves(alloc, listed, from, to, count),
+        _ => Ok(listed),
+    }
+}
+
+impl Strategy for Fixed {
+    fn choose(&mut self, function: &VFunc, live: &Live) -> Option<Certificate> {
+        self.asked = self.asked.wrapping_add(1);
+        let is_nothing = match self.answer {
+            Answer::Nothing => true,
+            Answer::EverySecondTime => self.asked % 2 == 0,
+            _ => false,
+        };
+        if is_nothing {
+            return None;
+        }
+        certificate(self.alloc, self.answer, function, live).ok()
+    }
+}

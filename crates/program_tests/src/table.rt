@@ -1,0 +1,221 @@
+//! The table of programs, read line by line.
+//!
+//! A line begins with a key; lines that begin with `//`, and empty ones, say nothing.
+//!
+//! | Line | Meaning |
+//! |---|---|
+//! | `group NAME` | the cases from here on belong to this group |
+//! | `case NAME` | a case begins |
+//! | `file PATH` | a text of it: the bytes of this file |
+//! | `text`, `main` | a text: the lines up to one that is a dot; of `main` the lines of the function `main` after its first label |
+//! | `made WORD N` | texts made by a rule |
+//! | `words W W ..`, `many N W`, `long N`, `zero` | argument words: these; N times W; one of N letters; one with a byte 0 |
+//! | `end END` | the end: `exit N`, `halt`, `limit`, `undefined`, `stack`, or a refusal as its line has it |
+//! | `output HEX`, `prints`, `zeros N` | the output: in hexadecimal; the lines up to one that is a dot; N bytes 0 |
+//! | `limit N`, `turns N`, `price N`, `needs N N ..`, `weighs N N ..` | turns and instructions given; turns and price of the run; measures of the functions |
+//! | `tried`, `differs`, `large` | strategies of every kind are tried; the bytes by both strategies differ; it is compiled once |
+use crate::case::Case;
+use crate::made::push_made;
+use std::alloc::{AllocError, Global};
+use std::rt::Files;
+use std::{fs, io};
+
+/// What the next lines are.
+#[derive(Clone, Copy, PartialEq, Eq)]
+enum Lines {
+    Keys,
+    Main,
+    Text,
+    Printed,
+}
+
+/// The cases so far, and the block of lines that is read.
+#[derive(Drop)]
+pub struct Table {
+    alloc: Global,
+    pub cases: Vec<Case>,
+    group: String,
+    lines: Lines,
+    block: String,
+}
+
+impl Table {
+    pub fn new(alloc: Global) -> Table {
+        Table {
+            alloc,
+            cases: Vec::new(alloc),
+            group: String::new(alloc),
+            lines: Lines::Keys,
+            block: String::new(alloc),
+        }
+    }
+
+    /// Takes the next line.
+    pub fn take<R: Files + AllocGlobal>(&mut self, rt: &R, line: &str) -> io::Result<()> {
+        if self.lines != Lines::Keys {
+            self.take_block_line(line)?;
+            return Ok(());
+        }
+        let (key, rest) = line.split_once(' ').unwrap_or((line, ""));
+        match key {
+            "" | "//" => {}
+            "group" => self.group = String::from_str(self.alloc, rest)?,
+            "case" => {
+                let case = Case::new(self.alloc, self.group.as_str(), rest)?;
+                self.cases.push(case)?
+            }
+            "file" => {
+                let bytes = fs::read(rt, rest)?;
+                self.push_text(bytes)?
+            }
+            "text" => self.begin(Lines::Text, "")?,
+            "main" => self.begin(Lines::Main, "export function w $main() {\n@s\n")?,
+            "prints" => self.begin(Lines::Printed, "")?,
+            _ => self.take_key(key, rest)?,
+        }
+        Ok(())
+    }
+
+    fn push_text(&mut self, text: Vec<u8>) -> Result<(), AllocError> {
+        if let Some(case) = self.cases.last_mut() {
+            case.texts.push(text)?;
+        }
+        Ok(())
+    }
+
+    fn begin(&mut self, lines: Lines, first: &str) -> Result<(), AllocError> {
+        self.lines = lines;
+        self.block = String::from_str(self.alloc, first)?;
+        Ok(())
+    }
+
+    fn take_block_line(&mut self, line: &str) -> Result<(), AllocError> {
+        if line == "." {
+            return self.end_block();
+        }
+        self.block.push_str(line)?;
+        self.block.push('\n')
+    }
+
+    fn end_block(&mut self) -> Result<(), AllocError> {
+        let lines = self.lines;
+        self.lines = Lines::Keys;
+        if lines == Lines::Main {
+            self.block.push_str("}\n")?;
+        }
+        let bytes = self.block.as_bytes().to_vec(self.alloc)?;
+        if lines == Lines::Printed {
+            self.set_output(bytes);
+            return Ok(());
+        }
+        self.push_text(bytes)
+    }
+
+    fn set_output(&mut self, bytes: Vec<u8>) {
+        if let Some(case) = self.cases.last_mut() {
+            case.wanted.output = bytes;
+        }
+    }
+
+    fn take_key(&mut self, key: &str, rest: &str) -> Result<(), AllocError> {
+        let alloc = self.alloc;
+        if let Some(case) = self.cases.last_mut() {
+            take_of(alloc, case, key, rest)?;
+        }
+        Ok(())
+    }
+}
+
+// The number that a line has.
+fn number(text: &str) -> u64 {
+    text.parse::<u64>().unwrap_or(0)
+}
+
+fn take_of(alloc: Global, case: &mut Case, key: &str, rest: &str) -> Result<(), AllocError> {
+    match key {
+        "made" => {
+            let (word, count) = rest.split_once(' ').unwrap_or((rest, "0"));
+            push_made(alloc, &mut case.texts, word, number(count))?;
+        }
+        "end" => case.wanted.end = String::from_str(alloc, rest)?,
+        "output" => case.wanted.output = bytes_of(alloc, rest)?,
+        "zeros" => case.wanted.output.resize(number(rest) as usize, 0)?,
+        "limit" => case.limit = Some(number(rest)),
+        "turns" => case.turns = Some(number(rest)),
+        "price" => case.price = Some(number(rest)),
+        "needs" => case.needs = String::from_str(alloc, rest)?,
+        "weighs" => case.weights = String::from_str(alloc, rest)?,
+        "tried" => case.is_tried = true,
+        "differs" => case.differs = true,
+        "large" => case.is_large = true,
+        _ => take_words(alloc, case, key, rest)?,
+    }
+    Ok(())
+}
+
+fn take_words(alloc: Global, case: &mut Case, key: &str, rest: &str) -> Result<(), AllocError> {
+    match key {
+        "words" => push_words(alloc, &mut case.words, rest),
+        "many" => {
+            let (count, word) = rest.split_once(' ').unwrap_or(("0", rest));
+            push_many(alloc, &mut case.words, number(count), word)
+        }
+        "long" => push_long(alloc, &mut case.words, number(rest)),
+        "zero" => {
+            case.words.push(String::from_str(alloc, "a\0b")?)?;
+            Ok(())
+        }
+        _ => {
+            // A key that there isn't must not go unseen.
+            case.wanted.end = format!(in alloc; "no key {key}")?;
+            Ok(())
+        }
+    }
+}
+
+fn push_words(alloc: Global, words: &mut Vec<String>, text: &str) -> Result<(), AllocError> {
+    for word in text.split(' ') {
+        words.push(String::from_str(alloc, word)?)?;
+    }
+    Ok(())
+}
+
+fn push_many(
+    alloc: Global,
+    words: &mut Vec<String>,
+    count: u64,
+    word: &str,
+) -> Result<(), AllocError> {
+    for _ in 0..count {
+        words.push(String::from_str(alloc, word)?)?;
+    }
+    Ok(())
+}
+
+fn push_long(alloc: Global, words: &mut Vec<String>, length: u64) -> Result<(), AllocError> {
+    let mut word = String::new(alloc);
+    for _ in 0..length {
+        word.push('p')?;
+    }
+    words.push(word)?;
+    Ok(())
+}
+
+fn digit(byte: u8) -> u8 {
+    match byte {
+        b'0'..=b'9' => byte - b'0',
+        b'a'..=b'f' => byte - b'a' + 10,
+        _ => 0,
+    }
+}
+
+// The bytes that hexadecimal digits stand for.
+pub fn bytes_of(alloc: Global, digits: &str) -> Result<Vec<u8>, AllocError> {
+    let mut bytes = Vec::new(alloc);
+    let mut rest = digits.as_bytes();
+    while let [high, low, after @ ..] = rest {
+        bytes.push(digit(*high).wrapping_mul(16).wrapping_add(digit(*low)))?;
+        rest = after;
+    }
+    Ok(bytes)
+}
