@@ -212,10 +212,14 @@ fn digit(byte: u8) -> u8 {
 // The bytes that hexadecimal digits stand for.
 pub fn bytes_of(alloc: Global, digits: &str) -> Result<Vec<u8>, AllocError> {
     let mut bytes = Vec::new(alloc);
-    let mut rest = digits.as_bytes();
-    while let [high, low, after @ ..] = rest {
-        bytes.push(digit(*high).wrapping_mul(16).wrapping_add(digit(*low)))?;
-        rest = after;
+    let text = digits.as_bytes();
+    for (number, high) in text.iter().enumerate() {
+        if number % 2 == 0 {
+            match text.get(number.saturating_add(1)) {
+                Some(low) => bytes.push(digit(*high).wrapping_mul(16).wrapping_add(digit(*low)))?,
+                None => return Ok(bytes),
+            }
+        }
     }
     Ok(bytes)
 }
