@@ -35,7 +35,8 @@ use Rattle.abi_frames.proofs.ConstantNumbers.{immediate_adds}
 use Rattle.abi_frames.proofs.FormNumbers.{immediate_wide, same_word, word_is_small, less_opposite, opposite_small, opposite_word, sum_word, signed_next, unsigned_next, shift_of_64, shift_of_32, zero_is, not_zero_is, power_is, small_64, small_32, low_word}
 use Rattle.abi_frames.proofs.Leading.{Site, Leads, leads_fixed, leads_again, leads_set, Sets, IsReg, register_reg, in_register, in_register_small}
 use Rattle.abi_frames.proofs.Instructions.{leads_imm, leads_add_low, leads_add_word, leads_shift, leads_shift_word}
-use Rattle.abi_frames.proofs.Comparing.{bit_is, zero_difference, some_difference, le_is_not_lt, int_le_is, then_negate, sets_as, holds_extended}
+use Rattle.abi_frames.proofs.Comparing.{bit_is, zero_difference, some_difference, le_is_not_lt, int_le_is, then_negate, sets_as}
+use Rattle.vcode.proofs.Comparing.{holds_extended}
 
 -- ---- comparisons with a number
 

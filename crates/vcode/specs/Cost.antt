@@ -1,5 +1,7 @@
 -- At most how many instructions of the machine a line becomes, wherever its places are; and that the weight of ticks pays for them, 32 for each unit.
 use Rattle.std.specs.Prelude.{ℕ, ◌+◌, ◌-◌, ◌*◌, ◌/◌, ◌%◌, ◌^◌, Bool, ◌&&◌, ◌||◌, nat_lt, nat_le, if◌then◌else◌, List, [], ◌∷◌, length, Option, Some, None}
+use Rattle.il_ast.specs.declared.operation.Class.{Class}
+use Rattle.il_ast.specs.declared.operation.Class.TheVariants.{W, L}
 use Rattle.vcode.specs.declared.place.Operand.{Operand}
 use Rattle.vcode.specs.declared.place.Operand.TheVariants.{At, Number, Name}
 use Rattle.vcode.specs.declared.line.Operation.{Operation}
@@ -43,10 +45,15 @@ abbrev pub return_cost : {P : Type 0} → Option (Operand P) → ℕ
 return_cost None = 2
 return_cost (Some a) = operand_cost a + 3
 
+-- a word is extended before it is compared
+abbrev pub branch_cost : Class → ℕ
+branch_cost W = 6
+branch_cost L = 4
+
 -- a return goes to the end of the frame, which the call pays for
 abbrev pub jump_cost : {P : Type 0} → Jump P → ℕ
 jump_cost (Goto k) = 2
-jump_cost (Branch on nonzero otherwise) = operand_cost on + 6
+jump_cost (Branch on met otherwise) = operand_cost on.left + operand_cost on.right + branch_cost on.class
 jump_cost (Return a) = return_cost a
 jump_cost Halt = 1
 

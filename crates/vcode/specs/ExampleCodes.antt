@@ -3,7 +3,7 @@ use Rattle.std.specs.Prelude.{ℕ, ◌-◌, ◌^◌, true, false, List, [], ◌�
 use Rattle.il_ast.specs.declared.operation.Class.{Class}
 use Rattle.il_ast.specs.declared.operation.Class.TheVariants.{W, L}
 use Rattle.il_ast.specs.declared.operation.Size.TheVariants.{Word, Long}
-use Rattle.il_ast.specs.declared.operation.Condition.TheVariants.{SignedLess, UnsignedLess}
+use Rattle.il_ast.specs.declared.operation.Condition.TheVariants.{NotEqual, SignedLess, UnsignedLess}
 use Rattle.rv_isa.specs.declared.instruction.RegOp.TheVariants.{Add, Sub}
 use Rattle.rv_isa.specs.declared.instruction.RegWOp.TheVariants.{Addw}
 use Rattle.rv_isa.specs.declared.instruction.LoadOp.TheVariants.{Lw, Ld, Lbu}
@@ -15,6 +15,7 @@ use Rattle.vcode.specs.declared.place.Location.TheVariants.{Register, Slot}
 use Rattle.vcode.specs.declared.line.Operation.TheVariants.{Reg, RegW, Compare}
 use Rattle.vcode.specs.declared.line.Line.{Line}
 use Rattle.vcode.specs.declared.line.Line.TheVariants.{Tick, Set, Operate, Load, Store, Alloc, Blit, Call}
+use Rattle.vcode.specs.declared.line.Comparison.{Comparison}
 use Rattle.vcode.specs.declared.line.Jump.{Jump}
 use Rattle.vcode.specs.declared.line.Jump.TheVariants.{Goto, Branch, Return, Halt}
 use Rattle.vcode.specs.declared.code.Block.{Block}
@@ -29,6 +30,10 @@ destination p c = record { place = p; class = c }
 abbrev pub code : {P : Type 0} → Option Class → List (Destination P) → List (Block P) → Code P
 code result params blocks = record { result = result; params = params; blocks = blocks }
 
+-- the word is not 0
+abbrev pub not_zero : {P : Type 0} → Operand P → Comparison P
+not_zero a = record { condition = NotEqual; class = W; left = a; right = Number 0 }
+
 -- the sum of the numbers from the argument down to 1
 abbrev pub sum : Code ℕ
 sum =
@@ -41,7 +46,7 @@ sum =
     ∷ Operate 0 (RegW Addw) (At 0) (Number (2 ^ 64 - 1))
     ∷ Tick true 1
     ∷ [])
-    (Branch (At 0) 1 2)
+    (Branch (not_zero (At 0)) 1 2)
     ∷ block (Tick true 1 ∷ []) (Return (Some (At 1)))
     ∷ [])
 
@@ -61,7 +66,7 @@ long_as_word = straight W (destination 0 L ∷ []) [] (At 0)
 abbrev pub is_nonzero : Code ℕ
 is_nonzero =
     code (Some W) (destination 0 L ∷ [])
-    (block [] (Branch (At 0) 1 2) ∷ block [] (Return (Some (Number 1))) ∷ block [] (Return (Some (Number 0))) ∷ [])
+    (block [] (Branch (not_zero (At 0)) 1 2) ∷ block [] (Return (Some (Number 1))) ∷ block [] (Return (Some (Number 0))) ∷ [])
 
 -- a call of the function that name 0 means, with 5 from a slot and 7 from x6; then a sum of its result, wanted in x10, and an operand
 abbrev pub caller : Operand Location → Code Location

@@ -21,7 +21,7 @@ use Rattle.vcode.specs.Regular.{leads_inside, allocs_first, IsRegular, area}
 use Rattle.vcode.specs.Named.{keeps_places, is_below, is_place, are_near, are_distinct}
 use Rattle.vcode.specs.Cost.{is_paid}
 use Rattle.vcode.specs.Step.{begin, step}
-use Rattle.vcode.specs.ExampleCodes.{block, destination, sum, word_as, long_as_word, is_nonzero, caller, keeping, keeping_virtual, loads_word, loads_byte, keeps_pointer, compares_pointers, compares_words, heavy, halts, leads_nowhere, straight}
+use Rattle.vcode.specs.ExampleCodes.{block, destination, not_zero, sum, word_as, long_as_word, is_nonzero, caller, keeping, keeping_virtual, loads_word, loads_byte, keeps_pointer, compares_pointers, compares_words, heavy, halts, leads_nowhere, straight}
 
 abbrev pub given : (turns : ℕ) → List Value → Given
 given t args = record { turns = t; room = 4096; args = args; memory = [] }
@@ -123,7 +123,7 @@ pub record Examples : Type 0 where
   pub callees : list_any (λ (r : ℕ). is_callers (Register r)) (0 ∷ 2 ∷ 3 ∷ 4 ∷ 8 ∷ 9 ∷ 18 ∷ 19 ∷ 20 ∷ 21 ∷ 22 ∷ 23 ∷ 24 ∷ 25 ∷ 26 ∷ 27 ∷ []) ≡ false
   pub to_the_first : are_inside (Goto 0) ≡ false
   pub to_the_second : are_inside (Goto 1) ≡ true
-  pub past_the_last : are_inside (Branch (Number 0) 1 3) ≡ false
+  pub past_the_last : are_inside (Branch (not_zero (Number 0)) 1 3) ≡ false
   pub blocks_of_memory : allocs_first {P = ℕ} (block [] (Goto 1) ∷ block (Alloc 0 8 ∷ []) HaltJump ∷ []) ≡ false
   pub too_dear : is_paid {P = ℕ} (block (Tick true 1 ∷ Set 0 (Number 4096) ∷ Set 1 (Number 4096) ∷ Set 2 (Number 4096) ∷ []) HaltJump) ≡ false
   pub paid : is_paid {P = ℕ} (block (Tick true 1 ∷ Set 0 (Number 4096) ∷ Set 1 (Number 4096) ∷ Set 2 (Name 0) ∷ []) HaltJump) ≡ true

@@ -35,7 +35,7 @@ line_keeps test (Call to callee args) = wanted_keeps test to && (operand_keeps t
 
 abbrev pub jump_keeps : {P : Type 0} → (P → Bool) → Jump P → Bool
 jump_keeps test (Goto k) = true
-jump_keeps test (Branch on nonzero otherwise) = operand_keeps test on
+jump_keeps test (Branch on met otherwise) = operand_keeps test on.left && operand_keeps test on.right
 jump_keeps test (Return None) = true
 jump_keeps test (Return (Some a)) = operand_keeps test a
 jump_keeps test Halt = true

@@ -16,7 +16,7 @@ is_target blocks k = nat_lt 0 k && nat_lt k blocks
 
 abbrev pub leads_inside : {P : Type 0} → (blocks : ℕ) → Jump P → Bool
 leads_inside blocks (Goto k) = is_target blocks k
-leads_inside blocks (Branch on nonzero otherwise) = is_target blocks nonzero && is_target blocks otherwise
+leads_inside blocks (Branch on met otherwise) = is_target blocks met && is_target blocks otherwise
 leads_inside blocks j = true
 
 abbrev pub is_alloc : {P : Type 0} → Line P → Bool

@@ -4,7 +4,6 @@
 use Rattle.std.specs.Prelude.{ℕ, ◌+◌, ◌-◌, ◌%◌, ◌^◌, Bool, true, false, nat_eq, nat_lt, if◌then◌else◌, List, [], ◌∷◌, ◌++◌, map, length, slice_get, Option, Some, None}
 use Rattle.std.specs.Option.{option_map, option_and_then}
 use Rattle.il_ast.specs.declared.operation.Class.{Class}
-use Rattle.il_ast.specs.declared.operation.Class.TheVariants.{W}
 use Rattle.il_ast.specs.declared.value.Value.{Value}
 use Rattle.il_ast.specs.declared.value.Value.TheVariants.{Integer, Pointer, Function}
 use Rattle.il_ast.specs.declared.value.End.TheVariants.{Halt as Halted, Undefined, Turns}
@@ -20,6 +19,8 @@ use Rattle.vcode.specs.declared.place.Destination.{Destination}
 use Rattle.vcode.specs.declared.place.Argument.{Argument}
 use Rattle.vcode.specs.declared.line.Line.{Line}
 use Rattle.vcode.specs.declared.line.Line.TheVariants.{Tick, Set, Operate, Load, Store, Alloc, Blit, Call}
+use Rattle.vcode.specs.declared.line.Operation.TheVariants.{Compare}
+use Rattle.vcode.specs.declared.line.Comparison.{Comparison}
 use Rattle.vcode.specs.declared.line.Jump.{Jump}
 use Rattle.vcode.specs.declared.line.Jump.TheVariants.{Goto, Branch, Return, Halt}
 use Rattle.vcode.specs.declared.code.Block.{Block}
@@ -155,9 +156,15 @@ line_step c globals i s (Call to callee args) =
 abbrev pub enters : {P : Type 0} → State P → ℕ → Event (State P) Asked Outcome
 enters s k = Does (On (record s { block = k; next = 0 }))
 
-abbrev pub branches : {P : Type 0} → State P → (nonzero otherwise : ℕ) → Option Value → Event (State P) Asked Outcome
-branches s nonzero otherwise (Some (Integer n)) = enters s (if nat_eq n 0 then otherwise else nonzero)
-branches s nonzero otherwise v = fails s
+-- what a comparison gives, 1 where it holds
+abbrev pub compared : {P : Type 0} → List Value → State P → Comparison P → Option Value
+compared globals s c =
+    option_and_then (λ u. option_and_then (λ v. operate s.memory (Compare c.condition c.class) u v) (value_of globals s.values c.right))
+    (value_of globals s.values c.left)
+
+abbrev pub branches : {P : Type 0} → State P → (met otherwise : ℕ) → Option Value → Event (State P) Asked Outcome
+branches s met otherwise (Some (Integer n)) = enters s (if nat_eq n 0 then otherwise else met)
+branches s met otherwise v = fails s
 
 abbrev pub returns : {P : Type 0} → State P → Option Value → Event (State P) Asked Outcome
 returns s None = fails s
@@ -165,7 +172,7 @@ returns s (Some v) = Does (Over (Returned s.spent (Some v) (free_all s.memory s.
 
 unfoldable pub jump_step : {P : Type 0} → List Value → Option Class → State P → Jump P → Event (State P) Asked Outcome
 jump_step globals result s (Goto k) = enters s k
-jump_step globals result s (Branch on nonzero otherwise) = branches s nonzero otherwise (read globals s.values W on)
+jump_step globals result s (Branch on met otherwise) = branches s met otherwise (compared globals s on)
 jump_step globals result s (Return None) = Does (Over (Returned s.spent None (free_all s.memory s.owned)))
 jump_step globals None s (Return (Some a)) = fails s
 jump_step globals (Some k) s (Return (Some a)) = returns s (read globals s.values k a)

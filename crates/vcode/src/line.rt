@@ -63,14 +63,23 @@ pub enum Line<P> {
     },
 }
 
+/// A comparison of two values of a class, as the source makes it.
+#[derive(Clone, Copy, Debug, PartialEq, Eq)]
+pub struct Comparison<P> {
+    pub condition: Condition,
+    pub class: Class,
+    pub left: Operand<P>,
+    pub right: Operand<P>,
+}
+
 /// What ends a block. Blocks are named by their place in the function.
 #[derive(Clone, Copy, Debug, PartialEq, Eq)]
 pub enum Jump<P> {
     Goto(usize),
-    /// to `nonzero` where the word is not 0, else to `otherwise`
+    /// to `met` where the comparison holds, else to `otherwise`
     Branch {
-        on: Operand<P>,
-        nonzero: usize,
+        on: Comparison<P>,
+        met: usize,
         otherwise: usize,
     },
     /// from the function, with a value of its result's class or with none
