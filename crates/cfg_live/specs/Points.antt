@@ -54,8 +54,8 @@ with_start next (Some p) = next ++ p ∷ []
 
 abbrev pub jump_next : List ℕ → Jump ℕ → List ℕ
 jump_next firsts (Goto k) = with_start [] (slice_get firsts k)
-jump_next firsts (Branch on nonzero otherwise) =
-    with_start (with_start [] (slice_get firsts nonzero)) (slice_get firsts otherwise)
+jump_next firsts (Branch on met otherwise) =
+    with_start (with_start [] (slice_get firsts met)) (slice_get firsts otherwise)
 jump_next firsts (Return a) = []
 jump_next firsts Halt = []
 

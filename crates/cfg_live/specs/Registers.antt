@@ -44,7 +44,7 @@ line_writes (Call to callee args) = place_of to
 
 abbrev pub jump_reads : Jump ℕ → List ℕ
 jump_reads (Goto k) = []
-jump_reads (Branch on nonzero otherwise) = with_operand [] on
+jump_reads (Branch on met otherwise) = with_operand (with_operand [] on.left) on.right
 jump_reads (Return None) = []
 jump_reads (Return (Some a)) = with_operand [] a
 jump_reads Halt = []

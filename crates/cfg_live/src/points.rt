@@ -91,11 +91,11 @@ fn next_of_jump(alloc: Global, firsts: &[usize], jump: &Jump<u32>) -> Result<Seq
     match jump {
         Jump::Goto(block) => push_start(&mut next, firsts.get(*block).copied())?,
         Jump::Branch {
-            nonzero,
+            met,
             otherwise,
             ..
         } => {
-            push_start(&mut next, firsts.get(*nonzero).copied())?;
+            push_start(&mut next, firsts.get(*met).copied())?;
             push_start(&mut next, firsts.get(*otherwise).copied())?;
         }
         Jump::Return(_) => {}

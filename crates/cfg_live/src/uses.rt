@@ -89,7 +89,10 @@ pub(crate) fn jump_reads(alloc: Global, jump: &Jump<u32>) -> Result<Seq<u32>, Al
     let mut reads = Seq::new(alloc);
     match jump {
         Jump::Goto(_) => {}
-        Jump::Branch { on, .. } => push_operand(&mut reads, on)?,
+        Jump::Branch { on, .. } => {
+            push_operand(&mut reads, &on.left)?;
+            push_operand(&mut reads, &on.right)?;
+        }
         Jump::Return(None) => {}
         Jump::Return(Some(value)) => push_operand(&mut reads, value)?,
         Jump::Halt => {}
