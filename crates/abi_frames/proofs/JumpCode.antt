@@ -4,29 +4,35 @@ use Rattle.std.specs.Prelude.{◌==◌, ◌&&◌, not, nat_eq, if◌then◌else�
 use Rattle.std.proofs.lemmas.Int.{ints}
 use Rattle.std.proofs.lemmas.Bool.Decides.{nat_tests}
 use Rattle.il_ast.specs.declared.operation.Class.{Class}
+use Rattle.il_ast.specs.declared.operation.Condition.{Condition}
+use Rattle.il_ast.specs.Operations.{holds}
 use Rattle.il_ast.specs.declared.operation.Class.TheVariants.{W, L}
 use Rattle.bits.specs.Words.{sign_extended}
 use Rattle.rv_isa.specs.State.{State}
 use Rattle.rv_isa.specs.Labelled.{Ground, Fixed, Stand, Stands, Moves}
-use Rattle.rv_isa.specs.declared.instruction.BranchOp.TheVariants.{Beq, Bne}
 use Rattle.rv_isa.specs.declared.labelled.Item.{Item}
-use Rattle.rv_isa.specs.declared.labelled.Item.TheVariants.{Label, Branch as BranchTo, Goto as GoTo}
+use Rattle.rv_isa.specs.declared.labelled.Item.TheVariants.{Label, Goto as GoTo}
 use Rattle.rv_isa.proofs.RunLemmas.{comes_here, comes_then}
 use Rattle.rv_isa.specs.Runs.{Comes}
 use Rattle.rv_isa.specs.Labels.{longest_size}
 use Rattle.std.proofs.lemmas.Bool.{and_parts}
 use Rattle.vcode.specs.declared.place.Location.{Location}
 use Rattle.vcode.specs.declared.place.Operand.{Operand}
+use Rattle.vcode.specs.declared.line.Operation.{Operation}
+use Rattle.vcode.specs.declared.line.Operation.TheVariants.{Compare}
+use Rattle.vcode.specs.declared.line.Comparison.{Comparison}
 use Rattle.vcode.specs.Named.{is_place, operand_keeps}
 use Rattle.flat_code.specs.Step.{taken as taken_as}
 use Rattle.abi_frames.specs.Calls.{passed}
 use Rattle.abi_frames.specs.Fields.{reg, word}
-use Rattle.abi_frames.specs.Emission.{word_into, goto_items, ways_items, result_items}
+use Rattle.abi_frames.specs.Emission.{word_into, operand_into, operand_source, goto_items, branch_when, inverted, ways_items, branch_items, result_items}
 use Rattle.abi_frames.specs.declared.layout.Layout.{Layout}
-use Rattle.abi_frames.proofs.Leading.{Site, StandAt, Leads, longest-append, Sets}
-use Rattle.abi_frames.proofs.Instructions.{is_10, is_28}
+use Rattle.abi_frames.proofs.Leading.{Site, StandAt, Leads, longest-append, Sets, in_register, same_in_register}
+use Rattle.abi_frames.proofs.Instructions.{is_10, is_28, is_29}
+use Rattle.abi_frames.proofs.Forms.{as_read}
+use Rattle.abi_frames.proofs.Branching.{inverted_holds, when_taken, branch_size, read_holds}
 use Rattle.abi_frames.proofs.Activations.{Setting, IsSetting, site, bottom, operand_in}
-use Rattle.abi_frames.proofs.LineCode.{Scratched, leads_into, leads_word_into}
+use Rattle.abi_frames.proofs.LineCode.{Scratched, scratched_then, operand_same, leads_into, leads_word_into, ReadFor, leads_read, read_scratched, read_small, read_not_29}
 
 -- ---- jumps to labels
 
@@ -129,21 +135,29 @@ jumps_goto c y s next l = by_test y.falls refl (nat_eq l next) refl
     by_test true e false d = by_jump true
     by_test false e b d = by_jump false
 
--- the label of a test of x28
-abbrev pub way_by : (x nonzero otherwise : ℕ) → ℕ
-way_by x nonzero otherwise = if x == 0 then otherwise else nonzero
+-- the label that a test leads to
+abbrev pub way_by : (t : Bool) → (met otherwise : ℕ) → ℕ
+way_by t met otherwise = if t then met else otherwise
+
+label_place : (c : Site) (next : ℕ) (rest : List Item) (b : ℕ) → StandAt c (Label next ∷ rest) b → c.label next ≡ b
+unfolding Stand Stands
+label_place c next rest b stands = stands.1.0
 
 -- the branch is turned round
-jumps_round : (c : Site) (t : Bool) (s : State) (next nonzero otherwise : ℕ) → nonzero ≡ next
-    → Jumps c t next (BranchTo Beq (reg 28) (reg 0) otherwise ∷ []) s (way_by (s.registers 28) nonzero otherwise) (Scratched s)
-unfolding Stand Stands
-jumps_round c t s next nonzero otherwise e = record {
-  from = λ rest stands fixed. by_test stands.0 stands.2.1.0 (s.registers 28 == 0) (stands.1 s fixed refl);
+jumps_round : (c : Site) (t : Bool) (s : State) (next : ℕ) (on : Condition) (x y met otherwise : ℕ) → met ≡ next
+    → Jumps c t next (branch_when (inverted on) x y otherwise ∷ []) s (way_by (holds on L (in_register s x) (in_register s y)) met otherwise) (Scratched s)
+unfolding Stand
+jumps_round c t s next on x y met otherwise e = record {
+  from = λ rest stands fixed.
+      subst (λ n. Arrives c t next n s (way_by (holds on L (in_register s x) (in_register s y)) met otherwise) (Scratched s)) (sym (branch_size (inverted on) x y otherwise []))
+      (by_test stands.0 (label_place c next rest stands.0 stands.2) (holds on L (in_register s x) (in_register s y))
+      (subst (λ z. Moves c.ground 3 (if z then c.label otherwise else stands.0) s) (inverted_holds on (in_register s x) (in_register s y))
+      (when_taken c s (inverted on) x y otherwise s.pc stands.0 fixed refl stands.1)));
 }
   where
-    by_test : (b : ℕ) → c.label next ≡ b → (z : Bool) → (m : Moves c.ground 3 (if z then c.label otherwise else b) s)
-        → Arrives c t next 3 s (if z then otherwise else nonzero) (Scratched s)
-    by_test b place true m =
+    by_test : (b : ℕ) → c.label next ≡ b → (z : Bool) → (m : Moves c.ground 3 (if not z then c.label otherwise else b) s)
+        → Arrives c t next 3 s (if z then met else otherwise) (Scratched s)
+    by_test b place false m =
         let some = m.at_least_one in
         record {
           steps = m.count;
@@ -155,7 +169,7 @@ jumps_round c t s next nonzero otherwise e = record {
           place = m.place;
           holds = moved_scratched c.ground 3 (c.label otherwise) s m;
         }
-    by_test b place false m =
+    by_test b place true m =
         let some = m.at_least_one in
         record {
           steps = m.count;
@@ -176,17 +190,20 @@ scratched_same s u w one two = record {
 }
 
 -- a branch, and else a jump
-jumps_forth : (c : Site) (y : Layout) (s : State) (next nonzero otherwise : ℕ)
-    → Jumps c y.falls next (BranchTo Bne (reg 28) (reg 0) nonzero ∷ goto_items y next otherwise) s (way_by (s.registers 28) nonzero otherwise) (Scratched s)
-unfolding Stand Stands
-jumps_forth c y s next nonzero otherwise = record {
-  from = λ rest stands fixed. by_test rest stands.0 stands.2 (s.registers 28 == 0) (stands.1 s fixed refl);
+jumps_forth : (c : Site) (y : Layout) (s : State) (next : ℕ) (on : Condition) (v w met otherwise : ℕ)
+    → Jumps c y.falls next (branch_when on v w met ∷ goto_items y next otherwise) s (way_by (holds on L (in_register s v) (in_register s w)) met otherwise) (Scratched s)
+unfolding Stand
+jumps_forth c y s next on v w met otherwise = record {
+  from = λ rest stands fixed.
+      subst (λ n. Arrives c y.falls next n s (way_by (holds on L (in_register s v) (in_register s w)) met otherwise) (Scratched s))
+      (sym (branch_size on v w met (goto_items y next otherwise)))
+      (by_test rest stands.0 stands.2 (holds on L (in_register s v) (in_register s w)) (when_taken c s on v w met s.pc stands.0 fixed refl stands.1));
 }
   where
     by_test : (rest : List Item) (b : ℕ) → StandAt c (goto_items y next otherwise ++ (Label next ∷ rest)) b → (z : Bool)
-        → (m : Moves c.ground 3 (if not z then c.label nonzero else b) s)
-        → Arrives c y.falls next (3 + longest_size (goto_items y next otherwise)) s (if z then otherwise else nonzero) (Scratched s)
-    by_test rest b stands false m =
+        → (m : Moves c.ground 3 (if z then c.label met else b) s)
+        → Arrives c y.falls next (3 + longest_size (goto_items y next otherwise)) s (if z then met else otherwise) (Scratched s)
+    by_test rest b stands true m =
         let some = m.at_least_one in
         let few = m.at_most in
         record {
@@ -197,9 +214,9 @@ jumps_forth c y s next nonzero otherwise = record {
           fell = λ d. absurd (omega (arith, d, some));
           fixed = m.fixed;
           place = m.place;
-          holds = moved_scratched c.ground 3 (c.label nonzero) s m;
+          holds = moved_scratched c.ground 3 (c.label met) s m;
         }
-    by_test rest b stands true m =
+    by_test rest b stands false m =
         let some = m.at_least_one in
         let few = m.at_most in
         let k = (jumps_goto c y m.after next otherwise).from rest
@@ -216,44 +233,54 @@ jumps_forth c y s next nonzero otherwise = record {
           holds = scratched_same s m.after k.after (moved_scratched c.ground 3 b s m) k.holds;
         }
 
-jumps_ways : (c : Site) (y : Layout) (s : State) (next nonzero otherwise : ℕ)
-    → Jumps c y.falls next (ways_items y next nonzero otherwise) s (way_by (s.registers 28) nonzero otherwise) (Scratched s)
-jumps_ways c y s next nonzero otherwise = by_test (y.falls && nat_eq nonzero next) refl
+jumps_ways : (c : Site) (y : Layout) (s : State) (next : ℕ) (on : Condition) (v w met otherwise : ℕ)
+    → Jumps c y.falls next (ways_items y next on v w met otherwise) s (way_by (holds on L (in_register s v) (in_register s w)) met otherwise) (Scratched s)
+jumps_ways c y s next on v w met otherwise = by_test (y.falls && nat_eq met next) refl
   where
-    next_is : (y.falls && nat_eq nonzero next) ≡ true → nonzero ≡ next
-    next_is e = eq_is nonzero next (and_parts y.falls (nat_eq nonzero next) e).1
+    next_is : (y.falls && nat_eq met next) ≡ true → met ≡ next
+    next_is e = eq_is met next (and_parts y.falls (nat_eq met next) e).1
 
-    by_test : (t : Bool) → (y.falls && nat_eq nonzero next) ≡ t
+    by_test : (t : Bool) → (y.falls && nat_eq met next) ≡ t
         → Jumps c y.falls next
-        (if t then BranchTo Beq (reg 28) (reg 0) otherwise ∷ [] else BranchTo Bne (reg 28) (reg 0) nonzero ∷ goto_items y next otherwise) s
-        (way_by (s.registers 28) nonzero otherwise) (Scratched s)
-    by_test true e = jumps_round c y.falls s next nonzero otherwise (next_is e)
-    by_test false e = jumps_forth c y s next nonzero otherwise
+        (if t then branch_when (inverted on) v w otherwise ∷ [] else branch_when on v w met ∷ goto_items y next otherwise) s
+        (way_by (holds on L (in_register s v) (in_register s w)) met otherwise) (Scratched s)
+    by_test true e = jumps_round c y.falls s next on v w met otherwise (next_is e)
+    by_test false e = jumps_forth c y s next on v w met otherwise
 
-zero_test : (m : ℕ) → m < 2 ^ 32 → (sign_extended m == 0) ≡ nat_eq m 0
-zero_test m h = grind (arith, ints, nat_tests)
+-- whether the comparison holds of what the machine has
+abbrev pub meets : Setting → State → Comparison Location → Bool
+meets c s on = holds on.condition on.class (taken_as on.class (operand_in c s on.left)) (taken_as on.class (operand_in c s on.right))
 
-abbrev pub way : (v nonzero otherwise : ℕ) → ℕ
-way v nonzero otherwise = if nat_eq (v % 2 ^ 32) 0 then otherwise else nonzero
-
-pub jumps_branch : (c : Setting) → IsSetting c → (s : State) (next : ℕ) (on : Operand Location) (nonzero otherwise : ℕ) → s.registers 2 ≡ bottom c
-    → operand_keeps (is_place c.slots) on ≡ true
-    → Jumps (site c) c.layout.falls next (word_into c.layout 28 on ++ ways_items c.layout next nonzero otherwise) s (way (operand_in c s on) nonzero otherwise)
-    (Scratched s)
-jumps_branch c is s next on nonzero otherwise pointer known =
-    let v : ℕ = operand_in c s on in
-    jumps_then (site c) c.layout.falls next (word_into c.layout 28 on) (ways_items c.layout next nonzero otherwise) s (way v nonzero otherwise) (Sets s 28 (word v))
-    (Scratched s) (leads_word_into c is s 28 on is_28 (λ e. absurd (omega (arith, e))) pointer known)
+pub jumps_branch : (c : Setting) → IsSetting c → (s : State) (next : ℕ) (on : Comparison Location) (met otherwise : ℕ) → s.registers 2 ≡ bottom c
+    → operand_keeps (is_place c.slots) on.left ≡ true → operand_keeps (is_place c.slots) on.right ≡ true
+    → Jumps (site c) c.layout.falls next (branch_items c.layout next on met otherwise) s (way_by (meets c s on) met otherwise) (Scratched s)
+jumps_branch c is s next on met otherwise pointer known_a known_b =
+    let a = on.left in
+    let b = on.right in
+    let op : Operation = Compare on.condition on.class in
+    let x = operand_source op 28 a in
+    let y = operand_source op 29 b in
+    let ways = ways_items c.layout next on.condition x y met otherwise in
+    let l : ℕ = way_by (meets c s on) met otherwise in
+    jumps_then (site c) c.layout.falls next (operand_into c.layout op 28 a) (operand_into c.layout op 29 b ++ ways) s l (ReadFor c s op 28 a) (Scratched s)
+    (leads_read c is s op 28 a is_28 (λ e. absurd (omega (arith, e))) pointer known_a)
+    (λ u f one.
+    let same = read_scratched c s op 28 a u (omega arith) one in
+    let pointer_u = same.registers 2 (lit< tt) ∙ pointer in
+    jumps_then (site c) c.layout.falls next (operand_into c.layout op 29 b) ways u l (ReadFor c u op 29 b) (Scratched s)
+    (leads_read c is u op 29 b is_29 (λ e. absurd (omega (arith, e))) pointer_u known_b)
     (λ w g two.
-    let test : (w.registers 28 == 0) ≡ nat_eq (v % 2 ^ 32) 0 = ap (λ n. n == 0) two.value ∙ zero_test (v % 2 ^ 32) (mod-lt v (lit< tt)) in
-    let more : Scratched s w = record {
-      registers = λ n lo. two.others n (λ e. absurd (omega (arith, e, lo)));
-      bytes = two.bytes;
-      output = two.output;
-    } in
-    jumps_so (site c) c.layout.falls next (ways_items c.layout next nonzero otherwise) w (way_by (w.registers 28) nonzero otherwise) (way v nonzero otherwise)
-    (Scratched w) (Scratched s) (ap (λ (b : Bool). if b then otherwise else nonzero) test) (λ t three. scratched_same s w t more three)
-    (jumps_ways (site c) c.layout w next nonzero otherwise))
+    let same_w = read_scratched c u op 29 b w (omega arith) two in
+    let all = scratched_then s u w same same_w in
+    let left : in_register w x ≡ as_read op (operand_in c s a) =
+    same_in_register u w x (read_small c.slots op 28 a (lit< tt) known_a) (two.others x (read_not_29 c.slots op a known_a)) ∙ one.value in
+    let right : in_register w y ≡ as_read op (operand_in c s b) = two.value ∙ ap (as_read op) (operand_same c s u b known_b same) in
+    let test : holds on.condition L (in_register w x) (in_register w y) ≡ meets c s on =
+    ap (λ m. holds on.condition L m (in_register w y)) left
+    ∙ (ap (holds on.condition L (as_read op (operand_in c s a))) right ∙ read_holds on.condition on.class (operand_in c s a) (operand_in c s b)) in
+    jumps_so (site c) c.layout.falls next ways w (way_by (holds on.condition L (in_register w x) (in_register w y)) met otherwise) l (Scratched w) (Scratched s)
+    (ap (λ (t : Bool). way_by t met otherwise) test) (λ t three. scratched_same s w t all three)
+    (jumps_ways (site c) c.layout w next on.condition x y met otherwise)))
 
 -- ---- results
 

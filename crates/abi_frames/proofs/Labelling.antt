@@ -16,7 +16,7 @@ use Rattle.rv_isa.specs.declared.instruction.Instr.TheVariants.{Lui, Imm, Addiw,
 use Rattle.rv_isa.specs.declared.instruction.ImmOp.{ImmOp}
 use Rattle.rv_isa.specs.declared.instruction.ImmOp.TheVariants.{Addi, Slti, Sltiu}
 use Rattle.rv_isa.specs.declared.instruction.BranchOp.{BranchOp}
-use Rattle.rv_isa.specs.declared.instruction.BranchOp.TheVariants.{Beq, Bne}
+use Rattle.rv_isa.specs.declared.instruction.BranchOp.TheVariants.{Beq, Bne, Blt, Bge, Bltu, Bgeu}
 use Rattle.rv_isa.specs.declared.instruction.LoadOp.{LoadOp}
 use Rattle.rv_isa.specs.declared.instruction.LoadOp.TheVariants.{Lwu, Lhu, Lbu}
 use Rattle.rv_isa.specs.declared.instruction.StoreOp.{StoreOp}
@@ -45,7 +45,7 @@ use Rattle.abi_frames.specs.Fields.{reg, low, high, amount, word_amount, add_low
 use Rattle.abi_frames.specs.Immediates.{opposite, next, right_form, left_form, compare_number, form_items}
 use Rattle.abi_frames.specs.declared.immediate.Form.{Form}
 use Rattle.abi_frames.specs.declared.immediate.Form.TheVariants.{Immediate as ByImmediate, AddWord, Shift as ByShift, ShiftWord, Compare as ByComparison}
-use Rattle.abi_frames.specs.Emission.{copy_at, copy_eight, copy_eights, copy_rest, far_load, load_slot, far_store, store_slot, slot_offset, into, fetch, source, word_into, target, deliver, set_items, compare_items, operation_items, operand_into, operand_source, on_registers, by_form, operate_by, operate_items, load_to, store_at, store_op, line_items, lines_items, move_pointer, lower_pointer, raise_pointer, save_all, restore_all, go_back, prologue, epilogue, result_items, goto_items, ways_items, jump_items, blocks_items, pass_into, pass_items, pass_all, call_through, receive_items, call_items, address_at}
+use Rattle.abi_frames.specs.Emission.{copy_at, copy_eight, copy_eights, copy_rest, far_load, load_slot, far_store, store_slot, slot_offset, into, fetch, source, word_into, target, deliver, set_items, compare_items, operation_items, operand_into, operand_source, on_registers, by_form, operate_by, operate_items, load_to, store_at, store_op, line_items, lines_items, move_pointer, lower_pointer, raise_pointer, save_all, restore_all, go_back, prologue, epilogue, result_items, goto_items, branch_when, inverted, ways_items, compared_into, compared_source, jump_items, blocks_items, pass_into, pass_items, pass_all, call_through, receive_items, call_items, address_at}
 use Rattle.abi_frames.specs.Functions.{caller_pointer, from_register, from_stack, argument_items, arguments_items, pointer_items, entry_items}
 use Rattle.abi_frames.specs.Laws.{FramesAreLabelled}
 use Rattle.abi_frames.proofs.Leading.{longest-append}
@@ -493,27 +493,49 @@ goto_items_plainly n y next k h = by_test (y.falls && nat_eq k next)
     by_test true = plainly_nothing n
     by_test false = goto_plainly n k h
 
-branch_plainly : (n : ℕ) (op : BranchOp) (k : ℕ) → nat_lt k n ≡ true → Plainly n (BranchTo op (reg 28) (reg 0) k ∷ [])
-branch_plainly n op k h = record { labels = and_from (nat_lt k n) true h refl; none = λ l. refl; registers = refl }
+branch_plainly : (n : ℕ) (op : BranchOp) (v w k : ℕ) → Nameable v → Nameable w → nat_lt k n ≡ true → Plainly n (BranchTo op (reg v) (reg w) k ∷ [])
+branch_plainly n op v w k some more h = record {
+  labels = and_from (nat_lt k n) true h refl;
+  none = λ l. refl;
+  registers = ap (λ t. (t && not (nat_eq (w % 32) 31)) && true) some.is ∙ ap (λ t. (true && t) && true) more.is;
+}
 
-ways_plainly : (n : ℕ) (y : Layout) (next nonzero otherwise : ℕ) → nat_lt nonzero n ≡ true → nat_lt otherwise n ≡ true
-    → Plainly n (ways_items y next nonzero otherwise)
-ways_plainly n y next nonzero otherwise first second = by_test (y.falls && nat_eq nonzero next)
+when_plainly : (n : ℕ) (on : Condition) (v w k : ℕ) → Nameable v → Nameable w → nat_lt k n ≡ true → Plainly n (branch_when on v w k ∷ [])
+when_plainly n Equal v w k some more h = branch_plainly n Beq v w k some more h
+when_plainly n NotEqual v w k some more h = branch_plainly n Bne v w k some more h
+when_plainly n SignedLess v w k some more h = branch_plainly n Blt v w k some more h
+when_plainly n SignedGreater v w k some more h = branch_plainly n Blt w v k more some h
+when_plainly n SignedLessEqual v w k some more h = branch_plainly n Bge w v k more some h
+when_plainly n SignedGreaterEqual v w k some more h = branch_plainly n Bge v w k some more h
+when_plainly n UnsignedLess v w k some more h = branch_plainly n Bltu v w k some more h
+when_plainly n UnsignedGreater v w k some more h = branch_plainly n Bltu w v k more some h
+when_plainly n UnsignedLessEqual v w k some more h = branch_plainly n Bgeu w v k more some h
+when_plainly n UnsignedGreaterEqual v w k some more h = branch_plainly n Bgeu v w k some more h
+
+ways_plainly : (n : ℕ) (y : Layout) (next : ℕ) (on : Condition) (v w met otherwise : ℕ) → Nameable v → Nameable w → nat_lt met n ≡ true → nat_lt otherwise n ≡ true
+    → Plainly n (ways_items y next on v w met otherwise)
+ways_plainly n y next on v w met otherwise some more first second = by_test (y.falls && nat_eq met next)
   where
     by_test : (b : Bool)
-        → Plainly n (if b then BranchTo Beq (reg 28) (reg 0) otherwise ∷ [] else BranchTo Bne (reg 28) (reg 0) nonzero ∷ goto_items y next otherwise)
-    by_test true = branch_plainly n Beq otherwise second
+        → Plainly n (if b then branch_when (inverted on) v w otherwise ∷ [] else branch_when on v w met ∷ goto_items y next otherwise)
+    by_test true = when_plainly n (inverted on) v w otherwise some more second
     by_test false =
-        plainly_then n (BranchTo Bne (reg 28) (reg 0) nonzero ∷ []) (goto_items y next otherwise) (branch_plainly n Bne nonzero first)
+        plainly_then n (branch_when on v w met ∷ []) (goto_items y next otherwise) (when_plainly n on v w met some more first)
         (goto_items_plainly n y next otherwise second)
 
 jump_plainly : (n : ℕ) (y : Layout) (next slots blocks : ℕ) (j : Jump Location) → y.leave < n → blocks < n → jump_keeps (is_place slots) j ≡ true
     → leads_inside blocks j ≡ true → Plainly n (jump_items y next j)
 jump_plainly n y next slots blocks (Goto k) leave more known inside = goto_items_plainly n y next k (target_below blocks n k more inside)
-jump_plainly n y next slots blocks (Branch on nonzero otherwise) leave more known inside =
-    let parts = and_parts (is_target blocks nonzero) (is_target blocks otherwise) inside in
-    plainly_then n (word_into y 28 on) (ways_items y next nonzero otherwise) (word_into_plainly n y slots 28 on (lit< tt) (lit< tt) known)
-    (ways_plainly n y next nonzero otherwise (target_below blocks n nonzero more parts.0) (target_below blocks n otherwise more parts.1))
+jump_plainly n y next slots blocks (Branch c met otherwise) leave more known inside =
+    let parts = and_parts (is_target blocks met) (is_target blocks otherwise) inside in
+    let both = and_parts (operand_keeps (is_place slots) c.left) (operand_keeps (is_place slots) c.right) known in
+    let op : Operation = Compare c.condition c.class in
+    let ways = ways_items y next c.condition (compared_source c 28 c.left) (compared_source c 29 c.right) met otherwise in
+    plainly_then n (compared_into y c 28 c.left) (compared_into y c 29 c.right ++ ways) (read_plainly n y slots op 28 c.left (lit< tt) (lit< tt) both.0)
+    (plainly_then n (compared_into y c 29 c.right) ways (read_plainly n y slots op 29 c.right (lit< tt) (lit< tt) both.1)
+    (ways_plainly n y next c.condition (compared_source c 28 c.left) (compared_source c 29 c.right) met otherwise
+    (read_nameable slots op 28 c.left (lit< tt) both.0) (read_nameable slots op 29 c.right (lit< tt) both.1)
+    (target_below blocks n met more parts.0) (target_below blocks n otherwise more parts.1)))
 jump_plainly n y next slots blocks (Return None) leave more known inside = goto_items_plainly n y next y.leave (lt_from y.leave n leave)
 jump_plainly n y next slots blocks (Return (Some a)) leave more known inside =
     plainly_then n (result_items y y.result a) (goto_items y next y.leave) (result_plainly n y slots y.result a known)

@@ -6,6 +6,7 @@ pub mod LineCode
 pub mod Saving
 pub mod FrameEnds
 pub mod Sizes
+pub mod Branching
 pub mod JumpCode
 pub mod Passing
 pub mod Calling

@@ -261,18 +261,18 @@ leads_made c is s is_made v (Slot i) pointer good made =
     (λ w g two. assigned_value c s (Slot i) (u.registers 28) v w one.value (assigned_from c s u (Slot i) (u.registers 28) w same two)))
 
 -- an operand of the operation is read; of the registers only d has changed
-record ReadFor (c : Setting) (s : State) (op : Operation) (d : ℕ) (a : Operand Location) (u : State) : Type 0 where
-  value : in_register u (operand_source op d a) ≡ as_read op (operand_in c s a)
-  others : (n : ℕ) → n ≢ d → u.registers n ≡ s.registers n
-  bytes : u.bytes ≡ s.bytes
-  output : u.output ≡ s.output
+pub record ReadFor (c : Setting) (s : State) (op : Operation) (d : ℕ) (a : Operand Location) (u : State) : Type 0 where
+  pub value : in_register u (operand_source op d a) ≡ as_read op (operand_in c s a)
+  pub others : (n : ℕ) → n ≢ d → u.registers n ≡ s.registers n
+  pub bytes : u.bytes ≡ s.bytes
+  pub output : u.output ≡ s.output
 
 fetched_for : (c : Setting) (s : State) (op : Operation) (d : ℕ) (a : Operand Location) (u : State) → operand_source op d a ≡ source d a
     → operand_in c s a ≡ as_read op (operand_in c s a) → Fetched c s d a u → ReadFor c s op d a u
 fetched_for c s op d a u here same h =
     record { value = ap (in_register u) here ∙ (h.value ∙ same); others = h.others; bytes = h.bytes; output = h.output }
 
-leads_read : (c : Setting) → IsSetting c → (s : State) (op : Operation) (d : ℕ) (a : Operand Location) → IsReg d → d ≢ 2 → s.registers 2 ≡ bottom c
+pub leads_read : (c : Setting) → IsSetting c → (s : State) (op : Operation) (d : ℕ) (a : Operand Location) → IsReg d → d ≢ 2 → s.registers 2 ≡ bottom c
     → operand_keeps (is_place c.slots) a ≡ true → Leads (site c) (operand_into c.layout op d a) s (ReadFor c s op d a)
 leads_read c is s (RegOperation op) d a reg other pointer known =
     leads_so (site c) (fetch c.layout d a) s (Fetched c s d a) (ReadFor c s (RegOperation op) d a) (leads_fetch c is s d a reg other pointer known)
@@ -288,16 +288,16 @@ leads_read c is s (Compare on W) d a reg other pointer known =
     (leads_word_into c is s d a reg other pointer known)
     (λ u f h. record { value = register_reg u d reg ∙ h.value; others = h.others; bytes = h.bytes; output = h.output })
 
-read_scratched : (c : Setting) (s : State) (op : Operation) (d : ℕ) (a : Operand Location) (u : State) → 28 ≤ d → ReadFor c s op d a u → Scratched s u
+pub read_scratched : (c : Setting) (s : State) (op : Operation) (d : ℕ) (a : Operand Location) (u : State) → 28 ≤ d → ReadFor c s op d a u → Scratched s u
 read_scratched c s op d a u h f = record { registers = λ n lo. f.others n (not_scratch d n h lo); bytes = f.bytes; output = f.output }
 
-read_small : (slots : ℕ) (op : Operation) (d : ℕ) (a : Operand Location) → d < 32 → operand_keeps (is_place slots) a ≡ true → operand_source op d a < 32
+pub read_small : (slots : ℕ) (op : Operation) (d : ℕ) (a : Operand Location) → d < 32 → operand_keeps (is_place slots) a ≡ true → operand_source op d a < 32
 read_small slots (RegOperation op) d a h good = source_small slots d a h good
 read_small slots (RegWOperation op) d a h good = source_small slots d a h good
 read_small slots (Compare on L) d a h good = source_small slots d a h good
 read_small slots (Compare on W) d a h good = h
 
-read_not_29 : (slots : ℕ) (op : Operation) (a : Operand Location) → operand_keeps (is_place slots) a ≡ true → operand_source op 28 a ≢ 29
+pub read_not_29 : (slots : ℕ) (op : Operation) (a : Operand Location) → operand_keeps (is_place slots) a ≡ true → operand_source op 28 a ≢ 29
 read_not_29 slots (RegOperation op) a good = source_not_29 slots a good
 read_not_29 slots (RegWOperation op) a good = source_not_29 slots a good
 read_not_29 slots (Compare on L) a good = source_not_29 slots a good

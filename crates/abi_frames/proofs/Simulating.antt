@@ -7,7 +7,7 @@ use Rattle.std.proofs.lemmas.Bool.{and_parts}
 use Rattle.std.proofs.lemmas.Bool.Decides.{nat_tests}
 use Rattle.std.proofs.lemmas.List.Sums.{sum_by-cons}
 use Rattle.il_ast.specs.declared.operation.Class.{Class}
-use Rattle.il_ast.specs.declared.operation.Class.TheVariants.{W}
+use Rattle.il_ast.specs.Operations.{holds, truth}
 use Rattle.il_ast.specs.declared.value.End.TheVariants.{Halt as Halted, Turns}
 use Rattle.il_ast.specs.Run.{Spent, one_turn, both}
 use Rattle.il_ast.specs.Logged.{Over, Does, Logged}
@@ -26,6 +26,8 @@ use Rattle.vcode.specs.declared.place.Operand.{Operand}
 use Rattle.vcode.specs.declared.line.Operation.{Operation}
 use Rattle.vcode.specs.declared.line.Line.{Line}
 use Rattle.vcode.specs.declared.line.Line.TheVariants.{Tick, Set, Operate, Load, Store, Alloc, Blit, Call}
+use Rattle.vcode.specs.declared.line.Operation.TheVariants.{Compare}
+use Rattle.vcode.specs.declared.line.Comparison.{Comparison}
 use Rattle.vcode.specs.declared.line.Jump.{Jump}
 use Rattle.vcode.specs.declared.line.Jump.TheVariants.{Goto, Branch, Return, Halt}
 use Rattle.vcode.specs.declared.code.Block.{Block}
@@ -40,7 +42,7 @@ use Rattle.rv_isa.specs.Step.{load_size, load_value}
 use Rattle.rv_isa.specs.declared.instruction.LoadOp.{LoadOp}
 use Rattle.abi_frames.proofs.Instructions.{UsableFrom}
 use Rattle.abi_frames.proofs.Reading.{read_is}
-use Rattle.flat_code.specs.Step.{known_number, FlatState, Numbers, put, number_of, read, taken, computed, closed, is_in, sets, ticks, fails, goes_on, enters, branches, returns, returns_as, flat_line, flat_jump, block_step, step_in, flat_step}
+use Rattle.flat_code.specs.Step.{known_number, FlatState, Numbers, put, number_of, read, taken, computed, closed, is_in, sets, ticks, fails, goes_on, enters, compared, branches, returns, returns_as, flat_line, flat_jump, block_step, step_in, flat_step}
 use Rattle.abi_frames.specs.Calls.{ResultIn, passed}
 use Rattle.abi_frames.specs.Performs.{AllPerform}
 use Rattle.abi_frames.specs.Layout.{most_in_lines}
@@ -52,7 +54,7 @@ use Rattle.abi_frames.proofs.FrameEnds.{ends_frame}
 use Rattle.abi_frames.proofs.LineCode.{Scratched}
 use Rattle.abi_frames.proofs.Pacing.{landing, standing, few_standing, lands_on, falls_on}
 use Rattle.abi_frames.specs.declared.layout.Layout.{Layout}
-use Rattle.abi_frames.proofs.JumpCode.{Arrives, Jumps, jumps_then, jumps_so, jumps_goto, jumps_branch, leads_result, way}
+use Rattle.abi_frames.proofs.JumpCode.{Arrives, Jumps, jumps_then, jumps_so, jumps_goto, meets, jumps_branch, leads_result, way_by}
 use Rattle.abi_frames.proofs.Sizes.{jump_size, epilogue_size, le_is}
 use Rattle.abi_frames.proofs.Saving.{few_saved_registers}
 use Rattle.abi_frames.proofs.Storing.{store_case}
@@ -546,38 +548,42 @@ halt_case c f r fs k u a e =
     subst (λ o. Performed c f o) e last
 
 branch_case : (c : Setting) (f : Code Location) → CodeStands c f → (j : FlatGiven) (r : FlatOutcome) (n : ℕ) → Follows c f j r n
-    → (on : Operand Location) (nonzero otherwise : ℕ) (fs : FlatState) (k : ℕ) (u : State) → AtJump c f (Branch on nonzero otherwise) fs k u → (log : Log)
-    → Then c f j r n log (branches fs nonzero otherwise (read c.addresses fs.numbers W on)) → AllPerform c.world (bottom c) log → Performed c f r
-branch_case c f is j r n go on nonzero otherwise fs k u a log goes all = by_value (number_of c.addresses fs.numbers on) refl goes
+    → (on : Comparison Location) (met otherwise : ℕ) (fs : FlatState) (k : ℕ) (u : State) → AtJump c f (Branch on met otherwise) fs k u → (log : Log)
+    → Then c f j r n log (branches fs met otherwise (compared c.addresses fs on)) → AllPerform c.world (bottom c) log → Performed c f r
+unfolding computed
+branch_case c f is j r n go on met otherwise fs k u a log goes all =
+    by_values (number_of c.addresses fs.numbers on.left) refl (number_of c.addresses fs.numbers on.right) refl goes
   where
-    m : Arrives (site c) c.layout.falls (fs.block + 1) (longest_size (jump_items c.layout (fs.block + 1) (Branch on nonzero otherwise))) u
-        (way (operand_in c u on) nonzero otherwise) (Scratched u)
-    m = (jumps_branch c is.setting u (fs.block + 1) on nonzero otherwise a.framed.pointer a.known).from a.rest a.stands a.fixed
+    known : (operand_keeps (is_place c.slots) on.left ≡ true) × (operand_keeps (is_place c.slots) on.right ≡ true)
+    known = and_parts (operand_keeps (is_place c.slots) on.left) (operand_keeps (is_place c.slots) on.right) a.known
 
-    at_way : (l : ℕ) → way (operand_in c u on) nonzero otherwise ≡ l → Landed c (c.label l) (landing f l) fs (k + m.steps) m.after
-    at_way l e =
-        subst (λ x. Landed c (c.label x) (landing f x) fs (k + m.steps) m.after) e
-        (lands c f is (Branch on nonzero otherwise) fs k u (way (operand_in c u on) nonzero otherwise) a m)
+    m : Arrives (site c) c.layout.falls (fs.block + 1) (longest_size (jump_items c.layout (fs.block + 1) (Branch on met otherwise))) u
+        (way_by (meets c u on) met otherwise) (Scratched u)
+    m = (jumps_branch c is.setting u (fs.block + 1) on met otherwise a.framed.pointer known.0 known.1).from a.rest a.stands a.fixed
 
-    targets : (is_target a.blocks nonzero ≡ true) × (is_target a.blocks otherwise ≡ true)
-    targets = and_parts (is_target a.blocks nonzero) (is_target a.blocks otherwise) a.inside
+    at_way : (t : Bool) → meets c u on ≡ t → Landed c (c.label (way_by t met otherwise)) (landing f (way_by t met otherwise)) fs (k + m.steps) m.after
+    at_way t e =
+        subst (λ z. Landed c (c.label (way_by z met otherwise)) (landing f (way_by z met otherwise)) fs (k + m.steps) m.after) e
+        (lands c f is (Branch on met otherwise) fs k u (way_by (meets c u on) met otherwise) a m)
 
-    by_test : (v : ℕ) → operand_in c u on ≡ v → (t : Bool) → nat_eq (v % 2 ^ 32) 0 ≡ t
-        → Then c f j r n log (enters fs (if t then otherwise else nonzero)) → Performed c f r
-    by_test v e true z e_goes =
-        let to : way (operand_in c u on) nonzero otherwise ≡ otherwise =
-        ap (λ x. way x nonzero otherwise) e ∙ ap (λ (b : Bool). if b then otherwise else nonzero) z in
-        enter c f is j r n go otherwise fs (k + m.steps) m.after (at_way otherwise to) (not_first a.blocks otherwise fs.used targets.1) log e_goes all
-    by_test v e false z e_goes =
-        let to : way (operand_in c u on) nonzero otherwise ≡ nonzero =
-        ap (λ x. way x nonzero otherwise) e ∙ ap (λ (b : Bool). if b then otherwise else nonzero) z in
-        enter c f is j r n go nonzero fs (k + m.steps) m.after (at_way nonzero to) (not_first a.blocks nonzero fs.used targets.0) log e_goes all
+    targets : (is_target a.blocks met ≡ true) × (is_target a.blocks otherwise ≡ true)
+    targets = and_parts (is_target a.blocks met) (is_target a.blocks otherwise) a.inside
 
-    by_value : (o : Option ℕ) → number_of c.addresses fs.numbers on ≡ o → Then c f j r n log (branches fs nonzero otherwise (option_map (taken W) o))
-        → Performed c f r
-    by_value None e e_goes = undefined c f fs.spent r e_goes.0
-    by_value (Some v) e e_goes =
-        by_test v (operand_known c fs.numbers fs.memory u on v is.setting a.framed a.known e) (nat_eq (v % 2 ^ 32) 0) refl e_goes
+    by_test : (t : Bool) → meets c u on ≡ t → Then c f j r n log (enters fs (if nat_eq (truth t) 0 then otherwise else met)) → Performed c f r
+    by_test false e e_goes = enter c f is j r n go otherwise fs (k + m.steps) m.after (at_way false e) (not_first a.blocks otherwise fs.used targets.1) log e_goes all
+    by_test true e e_goes = enter c f is j r n go met fs (k + m.steps) m.after (at_way true e) (not_first a.blocks met fs.used targets.0) log e_goes all
+
+    by_values : (o : Option ℕ) → number_of c.addresses fs.numbers on.left ≡ o → (p : Option ℕ) → number_of c.addresses fs.numbers on.right ≡ p
+        → Then c f j r n log (branches fs met otherwise (option_and_then (λ x. option_map (λ y. computed (Compare on.condition on.class) x y) p) o)) → Performed c f r
+    by_values None e p d e_goes = undefined c f fs.spent r e_goes.0
+    by_values (Some v) e None d e_goes = undefined c f fs.spent r e_goes.0
+    by_values (Some v) e (Some w) d e_goes =
+        let left : operand_in c u on.left ≡ v = operand_known c fs.numbers fs.memory u on.left v is.setting a.framed known.0 e in
+        let right : operand_in c u on.right ≡ w = operand_known c fs.numbers fs.memory u on.right w is.setting a.framed known.1 d in
+        by_test (holds on.condition on.class (taken on.class v) (taken on.class w))
+        (ap (λ x. holds on.condition on.class (taken on.class x) (taken on.class (operand_in c u on.right))) left
+        ∙ ap (λ y. holds on.condition on.class (taken on.class v) (taken on.class y)) right)
+        e_goes
 
 goto_case : (c : Setting) (f : Code Location) → CodeStands c f → (j : FlatGiven) (r : FlatOutcome) (n : ℕ) → Follows c f j r n
     → (i : ℕ) (fs : FlatState) (k : ℕ) (u : State) → AtJump c f (Goto i) fs k u → (log : Log)
@@ -591,7 +597,7 @@ jump_case : (c : Setting) (f : Code Location) → CodeStands c f → (j : FlatGi
     → Then c f j r n log (flat_jump f c.addresses (c.sp - c.area) fs x) → AllPerform c.world (bottom c) log → Performed c f r
 unfolding flat_jump
 jump_case c f is j r n go (Goto i) fs k u a log goes all = goto_case c f is j r n go i fs k u a log goes all
-jump_case c f is j r n go (Branch on nonzero otherwise) fs k u a log goes all = branch_case c f is j r n go on nonzero otherwise fs k u a log goes all
+jump_case c f is j r n go (Branch on met otherwise) fs k u a log goes all = branch_case c f is j r n go on met otherwise fs k u a log goes all
 jump_case c f is j r n go (Return None) fs k u a log goes all = return_nothing c f is r fs k u a goes.0
 jump_case c f is j r n go (Return (Some y)) fs k u a log goes all = return_case c f is j r n y fs k u a log goes
 jump_case c f is j r n go Halt fs k u a log goes all = halt_case c f r fs k u a goes.0

@@ -35,7 +35,7 @@ use Rattle.vcode.specs.declared.line.Jump.{Jump}
 use Rattle.vcode.specs.declared.line.Jump.TheVariants.{Goto, Branch, Return, Halt}
 use Rattle.vcode.specs.declared.code.Block.{Block}
 use Rattle.il_ast.specs.Cost.{round_16}
-use Rattle.vcode.specs.Cost.{is_immediate, operand_cost, operation_cost, line_cost, jump_cost, affords, is_paid}
+use Rattle.vcode.specs.Cost.{branch_cost, is_immediate, operand_cost, operation_cost, line_cost, jump_cost, affords, is_paid}
 use Rattle.vcode.specs.Regular.{weight_of, alloc_bytes}
 use Rattle.vcode.specs.Named.{is_near, are_near}
 use Rattle.abi_frames.specs.Layout.{layout, saved_registers}
@@ -47,7 +47,8 @@ use Rattle.abi_frames.specs.Immediates.{opposite, right_form, left_form, compare
 use Rattle.abi_frames.specs.declared.immediate.Form.{Form}
 use Rattle.abi_frames.specs.declared.immediate.Form.TheVariants.{Immediate as ByImmediate, AddWord, Shift as ByShift, ShiftWord, Compare as ByComparison}
 use Rattle.abi_frames.proofs.FormNumbers.{word_low, word_is_small}
-use Rattle.abi_frames.specs.Emission.{far_load, far_store, load_slot, store_slot, slot_offset, into, fetch, source, word_into, target, deliver, set_items, compare_items, operation_items, operand_into, operand_source, on_registers, by_form, operate_by, operate_items, load_to, load_items, store_at, store_op, store_items, line_items, lines_items, move_pointer, lower_pointer, raise_pointer, save_all, restore_all, go_back, prologue, epilogue, result_items, goto_items, ways_items, jump_items, block_items, blocks_items, pass_into, pass_items, pass_all, call_through, receive_items, call_items, copy_at, copy_eight, copy_eights, copy_rest, blit_items, address_at, alloc_items}
+use Rattle.abi_frames.proofs.Branching.{branch_size}
+use Rattle.abi_frames.specs.Emission.{far_load, far_store, load_slot, store_slot, slot_offset, into, fetch, source, word_into, target, deliver, set_items, compare_items, operation_items, operand_into, operand_source, on_registers, by_form, operate_by, operate_items, load_to, load_items, store_at, store_op, store_items, line_items, lines_items, move_pointer, lower_pointer, raise_pointer, save_all, restore_all, go_back, prologue, epilogue, result_items, goto_items, branch_when, inverted, ways_items, compared_into, compared_source, jump_items, block_items, blocks_items, pass_into, pass_items, pass_all, call_through, receive_items, call_items, copy_at, copy_eight, copy_eights, copy_rest, blit_items, address_at, alloc_items}
 use Rattle.abi_frames.specs.Functions.{caller_pointer, from_register, from_stack, argument_items, arguments_items, pointer_items, entry_items, function_items}
 use Rattle.abi_frames.proofs.Leading.{longest-append}
 use Rattle.abi_frames.proofs.Outgoing.{slots_near}
@@ -436,22 +437,40 @@ goto_size y next l = by_test (y.falls && nat_eq l next)
     by_test true = lit≤ tt
     by_test false = lit≤ tt
 
-ways_size : (y : Layout) (next nonzero otherwise : ℕ) → longest_size (ways_items y next nonzero otherwise) ≤ 5
-ways_size y next nonzero otherwise = by_test (y.falls && nat_eq nonzero next)
+ways_size : (y : Layout) (next : ℕ) (on : Condition) (v w met otherwise : ℕ) → longest_size (ways_items y next on v w met otherwise) ≤ 5
+ways_size y next on v w met otherwise = by_test (y.falls && nat_eq met next)
   where
     by_test : (b : Bool)
-        → longest_size
-        (if b then BranchTo Beq (reg 28) (reg 0) otherwise ∷ [] else BranchTo Bne (reg 28) (reg 0) nonzero ∷ goto_items y next otherwise) ≤ 5
-    by_test true = lit≤ tt
-    by_test false = let h = goto_size y next otherwise in omega (arith, h)
+        → longest_size (if b then branch_when (inverted on) v w otherwise ∷ [] else branch_when on v w met ∷ goto_items y next otherwise) ≤ 5
+    by_test true = let e = branch_size (inverted on) v w otherwise [] in omega (arith, e)
+    by_test false = let h = goto_size y next otherwise in let e = branch_size on v w met (goto_items y next otherwise) in omega (arith, h, e)
+
+-- an operand that is compared takes one more where it is a word
+abbrev word_more : Class → ℕ
+word_more W = 1
+word_more L = 0
+
+compared_size : (y : Layout) (on : Condition) (k : Class) (d : ℕ) (a : Operand Location) → longest_size (operand_into y (Compare on k) d a) ≤ operand_cost a + word_more k
+compared_size y on L d a = let h = fetch_size y d a in omega (arith, h)
+compared_size y on W d a = word_into_size y d a
+
+branch_pays : (k : Class) → 2 * word_more k + 5 ≤ branch_cost k
+branch_pays W = lit≤ tt
+branch_pays L = lit≤ tt
 
 pub jump_size : (y : Layout) (next : ℕ) (j : Jump Location) → longest_size (jump_items y next j) ≤ jump_cost j
 jump_size y next (Goto k) = goto_size y next k
-jump_size y next (Branch on nonzero otherwise) =
-    let all = longest-append (word_into y 28 on) (ways_items y next nonzero otherwise) in
-    let h = word_into_size y 28 on in
-    let more = ways_size y next nonzero otherwise in
-    omega (arith, all, h, more)
+jump_size y next (Branch c met otherwise) =
+    let v = compared_source c 28 c.left in
+    let w = compared_source c 29 c.right in
+    let ways = ways_items y next c.condition v w met otherwise in
+    let all = longest-append (compared_into y c 28 c.left) (compared_into y c 29 c.right ++ ways) in
+    let rest = longest-append (compared_into y c 29 c.right) ways in
+    let h = compared_size y c.condition c.class 28 c.left in
+    let k = compared_size y c.condition c.class 29 c.right in
+    let more = ways_size y next c.condition v w met otherwise in
+    let pays = branch_pays c.class in
+    omega (arith, all, rest, h, k, more, pays)
 jump_size y next (Return None) = goto_size y next y.leave
 jump_size y next (Return (Some a)) =
     let all = longest-append (result_items y y.result a) (goto_items y next y.leave) in

@@ -12,7 +12,7 @@ use Rattle.rv_isa.specs.declared.instruction.LoadOp.TheVariants.{Ld, Lwu, Lhu, L
 use Rattle.rv_isa.specs.declared.instruction.StoreOp.{StoreOp}
 use Rattle.rv_isa.specs.declared.instruction.StoreOp.TheVariants.{Sb, Sh, Sw, Sd}
 use Rattle.rv_isa.specs.declared.instruction.RegOp.TheVariants.{Sub, Slt, Sltu}
-use Rattle.rv_isa.specs.declared.instruction.BranchOp.TheVariants.{Beq, Bne}
+use Rattle.rv_isa.specs.declared.instruction.BranchOp.TheVariants.{Beq, Bne, Blt, Bge, Bltu, Bgeu}
 use Rattle.rv_isa.specs.declared.labelled.Item.{Item}
 use Rattle.rv_isa.specs.declared.labelled.Item.TheVariants.{Plain, Label, Branch as BranchTo, Goto as GoTo, Address}
 use Rattle.vcode.specs.declared.place.Location.{Location}
@@ -25,6 +25,7 @@ use Rattle.vcode.specs.declared.line.Operation.{Operation}
 use Rattle.vcode.specs.declared.line.Operation.TheVariants.{Reg as RegOperation, RegW as RegWOperation, Compare}
 use Rattle.vcode.specs.declared.line.Line.{Line}
 use Rattle.vcode.specs.declared.line.Line.TheVariants.{Tick, Set, Operate, Load as LoadLine, Store as StoreLine, Call, Alloc, Blit}
+use Rattle.vcode.specs.declared.line.Comparison.{Comparison}
 use Rattle.vcode.specs.declared.line.Jump.{Jump}
 use Rattle.vcode.specs.declared.line.Jump.TheVariants.{Goto, Branch, Return, Halt}
 use Rattle.vcode.specs.declared.code.Block.{Block}
@@ -283,12 +284,51 @@ result_items y (Some W) a = word_into y 10 a
 abbrev pub goto_items : Layout → (next l : ℕ) → List Item
 goto_items y next l = if y.falls && nat_eq l next then [] else GoTo l ∷ []
 
--- where x28 is not 0, and else; turned round where the first of them stands next
-abbrev pub ways_items : Layout → (next nonzero otherwise : ℕ) → List Item
-ways_items y next nonzero otherwise =
-    if y.falls && nat_eq nonzero next
-    then BranchTo Beq (reg 28) (reg 0) otherwise ∷ []
-    else BranchTo Bne (reg 28) (reg 0) nonzero ∷ goto_items y next otherwise
+-- to the label l where two registers compare so, by all 64 bits
+abbrev pub branch_when : Condition → (a b l : ℕ) → Item
+branch_when Equal a b l = BranchTo Beq (reg a) (reg b) l
+branch_when NotEqual a b l = BranchTo Bne (reg a) (reg b) l
+branch_when SignedLess a b l = BranchTo Blt (reg a) (reg b) l
+branch_when SignedGreater a b l = BranchTo Blt (reg b) (reg a) l
+branch_when SignedLessEqual a b l = BranchTo Bge (reg b) (reg a) l
+branch_when SignedGreaterEqual a b l = BranchTo Bge (reg a) (reg b) l
+branch_when UnsignedLess a b l = BranchTo Bltu (reg a) (reg b) l
+branch_when UnsignedGreater a b l = BranchTo Bltu (reg b) (reg a) l
+branch_when UnsignedLessEqual a b l = BranchTo Bgeu (reg b) (reg a) l
+branch_when UnsignedGreaterEqual a b l = BranchTo Bgeu (reg a) (reg b) l
+
+-- what holds where it doesn't
+abbrev pub inverted : Condition → Condition
+inverted Equal = NotEqual
+inverted NotEqual = Equal
+inverted SignedLess = SignedGreaterEqual
+inverted SignedGreater = SignedLessEqual
+inverted SignedLessEqual = SignedGreater
+inverted SignedGreaterEqual = SignedLess
+inverted UnsignedLess = UnsignedGreaterEqual
+inverted UnsignedGreater = UnsignedLessEqual
+inverted UnsignedLessEqual = UnsignedGreater
+inverted UnsignedGreaterEqual = UnsignedLess
+
+-- where two registers compare so, and else; turned round where the first of the labels stands next
+abbrev pub ways_items : Layout → (next : ℕ) → Condition → (a b met otherwise : ℕ) → List Item
+ways_items y next on a b met otherwise =
+    if y.falls && nat_eq met next
+    then branch_when (inverted on) a b otherwise ∷ []
+    else branch_when on a b met ∷ goto_items y next otherwise
+
+-- an operand that is compared, in a register
+abbrev pub compared_into : Layout → Comparison Location → ℕ → Operand Location → List Item
+compared_into y c d a = operand_into y (Compare c.condition c.class) d a
+
+abbrev pub compared_source : Comparison Location → ℕ → Operand Location → ℕ
+compared_source c d a = operand_source (Compare c.condition c.class) d a
+
+abbrev pub branch_items : Layout → (next : ℕ) → Comparison Location → (met otherwise : ℕ) → List Item
+branch_items y next c met otherwise =
+    compared_into y c 28 c.left
+    ++ (compared_into y c 29 c.right
+    ++ ways_items y next c.condition (compared_source c 28 c.left) (compared_source c 29 c.right) met otherwise)
 
 abbrev pub return_items : Layout → (next : ℕ) → Option (Operand Location) → List Item
 return_items y next None = goto_items y next y.leave
@@ -296,7 +336,7 @@ return_items y next (Some a) = result_items y y.result a ++ goto_items y next y.
 
 abbrev pub jump_items : Layout → (next : ℕ) → Jump Location → List Item
 jump_items y next (Goto k) = goto_items y next k
-jump_items y next (Branch on nonzero otherwise) = word_into y 28 on ++ ways_items y next nonzero otherwise
+jump_items y next (Branch on met otherwise) = branch_items y next on met otherwise
 jump_items y next (Return a) = return_items y next a
 jump_items y next Halt = Plain Ebreak ∷ []
 

@@ -2,7 +2,7 @@
 use Rattle.std.specs.Prelude.{◌≡◌, [], ◌∷◌, Some, true}
 use Rattle.il_ast.specs.declared.operation.Class.{Class}
 use Rattle.il_ast.specs.declared.operation.Class.TheVariants.{W, L}
-use Rattle.il_ast.specs.declared.operation.Condition.TheVariants.{SignedLess}
+use Rattle.il_ast.specs.declared.operation.Condition.TheVariants.{NotEqual, SignedLess}
 use Rattle.il_ast.specs.declared.operation.Size.TheVariants.{Long}
 use Rattle.rv_isa.specs.declared.instruction.LoadOp.TheVariants.{Ld}
 use Rattle.rv_isa.specs.declared.instruction.RegOp.TheVariants.{Add}
@@ -33,7 +33,7 @@ counter =
     ∷ Operate (Slot 0) (Reg Add) (At (Slot 0)) (Number 1)
     ∷ Operate (Register 8) (Compare SignedLess L) (At (Slot 0)) (Number 10)
     ∷ [])
-    (Branch (At (Register 8)) 1 2)
+    (Branch (record { condition = NotEqual; class = L; left = At (Register 8); right = Number 0 }) 1 2)
     ∷ block (Tick true 1 ∷ []) (Return (Some (At (Slot 0))))
     ∷ [])
 
@@ -85,4 +85,4 @@ pub record Examples : Type 0 where
   pub takes_nine : IsCode ninth 9
   pub makes_a_call : IsCode caller 1
   pub copies_bytes : IsCode copier 1
-  pub size : longest_size (frame_items counter 1) ≡ 16
+  pub size : longest_size (frame_items counter 1) ≡ 15

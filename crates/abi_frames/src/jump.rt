@@ -1,18 +1,18 @@
 //! The machine code of jumps.
 ghost use Rattle.std.specs.Prelude.{◌≡◌, ◌^◌, ◌<◌, ◌&&◌, nat_eq, ◌++◌, OnOk};
-ghost use Rattle.vcode.specs.declared.line.Jump.TheVariants.{Branch as BranchOn};
 ghost use Rattle.rv_isa.specs.declared.labelled.Item.TheVariants.{Branch};
 ghost use Rattle.abi_frames.specs.Fields.{reg};
-ghost use Rattle.abi_frames.specs.Emission.{result_items, goto_items, ways_items, return_items, jump_items};
+ghost use Rattle.abi_frames.specs.Emission.{result_items, goto_items, branch_when, inverted, ways_items, branch_items, return_items, jump_items};
 
 use crate::fields::register;
 use crate::layout::Layout;
 use crate::operand::{push_operand, push_word};
-use il_ast::operation::Class;
+use crate::line::{push_operand_for, operand_source};
+use il_ast::operation::{Class, Condition};
 use rv_isa::instruction::{BranchOp, Instr};
 use rv_isa::labelled::Item;
 use std::alloc::AllocError;
-use vcode::line::Jump;
+use vcode::line::{Comparison, Jump, Operation};
 use vcode::place::{Location, Operand};
 
 // does the label stand next, so that code may fall through to it?
@@ -36,31 +36,74 @@ fn push_goto(
     Ok(())
 }
 
-// a test of x28 against 0
-fn branch(op: BranchOp, label: usize) -> Item
-    ensures { result ≡ Branch op (reg 28) (reg 0) label }
+// to the label where the two registers compare so
+fn branch_when(condition: Condition, left: u8, right: u8, label: usize) -> Item
+    ensures { result ≡ branch_when condition left right label }
+{
+    match condition {
+        Condition::Equal => branch(BranchOp::Beq, left, right, label),
+        Condition::NotEqual => branch(BranchOp::Bne, left, right, label),
+        Condition::SignedLess => branch(BranchOp::Blt, left, right, label),
+        Condition::SignedGreater => branch(BranchOp::Blt, right, left, label),
+        Condition::SignedLessEqual => branch(BranchOp::Bge, right, left, label),
+        Condition::SignedGreaterEqual => branch(BranchOp::Bge, left, right, label),
+        Condition::UnsignedLess => branch(BranchOp::Bltu, left, right, label),
+        Condition::UnsignedGreater => branch(BranchOp::Bltu, right, left, label),
+        Condition::UnsignedLessEqual => branch(BranchOp::Bgeu, right, left, label),
+        Condition::UnsignedGreaterEqual => branch(BranchOp::Bgeu, left, right, label),
+    }
+}
+
+fn branch(op: BranchOp, left: u8, right: u8, label: usize) -> Item
+    ensures { result ≡ Branch op (reg left) (reg right) label }
 {
     Item::Branch {
         op,
-        rs1: register(28),
-        rs2: register(0),
+        rs1: register(left),
+        rs2: register(right),
         label,
     }
+}
+
+fn inverted(condition: Condition) -> Condition
+    ensures { result ≡ inverted condition }
+{
+    match condition {
+        Condition::Equal => Condition::NotEqual,
+        Condition::NotEqual => Condition::Equal,
+        Condition::SignedLess => Condition::SignedGreaterEqual,
+        Condition::SignedGreater => Condition::SignedLessEqual,
+        Condition::SignedLessEqual => Condition::SignedGreater,
+        Condition::SignedGreaterEqual => Condition::SignedLess,
+        Condition::UnsignedLess => Condition::UnsignedGreaterEqual,
+        Condition::UnsignedGreater => Condition::UnsignedLessEqual,
+        Condition::UnsignedLessEqual => Condition::UnsignedGreater,
+        Condition::UnsignedGreaterEqual => Condition::UnsignedLess,
+    }
+}
+
+// a comparison of two registers
+#[derive(Clone, Copy)]
+struct Test {
+    condition: Condition,
+    left: u8,
+    right: u8,
 }
 
 fn push_ways(
     items: &mut Vec<Item>,
     layout: &Layout,
     next: usize,
-    nonzero: usize,
+    test: Test,
+    met: usize,
     otherwise: usize,
 ) -> Result<(), AllocError>
-    ensures { OnOk result (items.new.items ≡ items.old.items ++ ways_items layout.now next nonzero otherwise) }
+    ensures { OnOk result (items.new.items ≡ items.old.items ++ ways_items layout.now next test.condition test.left test.right met otherwise) }
 {
-    if is_next(layout, next, nonzero) {
-        items.push(branch(BranchOp::Beq, otherwise))?;
+    if is_next(layout, next, met) {
+        items.push(branch_when(inverted(test.condition), test.left, test.right, otherwise))?;
     } else {
-        items.push(branch(BranchOp::Bne, nonzero))?;
+        items.push(branch_when(test.condition, test.left, test.right, met))?;
         push_goto(items, layout, next, otherwise)?;
     }
     Ok(())
@@ -70,15 +113,22 @@ fn push_branch(
     items: &mut Vec<Item>,
     layout: &Layout,
     next: usize,
-    on: &Operand<Location>,
-    nonzero: usize,
+    on: &Comparison<Location>,
+    met: usize,
     otherwise: usize,
 ) -> Result<(), AllocError>
     requires { layout.now.slots < 2 ^ 16 }
-    ensures { OnOk result (items.new.items ≡ items.old.items ++ jump_items layout.now next (BranchOn on.now nonzero otherwise)) }
+    ensures { OnOk result (items.new.items ≡ items.old.items ++ branch_items layout.now next on.now met otherwise) }
 {
-    push_word(items, layout, 28, on)?;
-    push_ways(items, layout, next, nonzero, otherwise)
+    let operation = Operation::Compare(on.condition, on.class);
+    push_operand_for(items, layout, &operation, 28, &on.left)?;
+    push_operand_for(items, layout, &operation, 29, &on.right)?;
+    let test = Test {
+        condition: on.condition,
+        left: operand_source(&operation, 28, &on.left),
+        right: operand_source(&operation, 29, &on.right),
+    };
+    push_ways(items, layout, next, test, met, otherwise)
 }
 
 fn push_result(
@@ -125,11 +175,9 @@ pub(crate) fn push_jump(
 {
     match jump {
         Jump::Goto(block) => push_goto(items, layout, next, *block)?,
-        Jump::Branch {
-            on,
-            nonzero,
-            otherwise,
-        } => push_branch(items, layout, next, on, *nonzero, *otherwise)?,
+        Jump::Branch { on, met, otherwise } => {
+            push_branch(items, layout, next, on, *met, *otherwise)?
+        }
         Jump::Return(value) => push_return(items, layout, next, value)?,
         Jump::Halt => items.push(Item::Plain(Instr::Ebreak))?,
     }

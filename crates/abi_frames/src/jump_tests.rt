@@ -3,12 +3,12 @@ ghost use Rattle.std.specs.Prelude.{◌^◌, ◌<◌};
 
 use crate::jump::push_jump;
 use crate::layout::Layout;
-use il_ast::operation::Class;
+use il_ast::operation::{Class, Condition};
 use rv_isa::instruction::BranchOp;
 use rv_isa::labelled::Item;
 use std::alloc::{AllocError, Global};
 use std::test::Fail;
-use vcode::line::Jump;
+use vcode::line::{Comparison, Jump};
 use vcode::place::{Location, Operand};
 
 const FALLING: Layout = Layout {
@@ -62,9 +62,9 @@ fn a_return_falls_into_the_end_of_the_frame(rt: HostRuntime) -> Result<(), Fail>
     Ok(())
 }
 
-// the operation and the label of the second item, which is a branch
+// the operation and the label of the first item, which is a branch
 fn branch_of(items: &[Item]) -> Option<(BranchOp, usize)> {
-    match items.get(1) {
+    match items.first() {
         Some(
             Item::Branch {
                 op,
@@ -72,7 +72,7 @@ fn branch_of(items: &[Item]) -> Option<(BranchOp, usize)> {
                 rs2,
                 label,
             },
-        ) if rs1.number == 28 && rs2.number == 0 => { Some((*op, *label)) }
+        ) if rs1.number == 6 && rs2.number == 0 => { Some((*op, *label)) }
         _ => None,
     }
 }
@@ -80,20 +80,25 @@ fn branch_of(items: &[Item]) -> Option<(BranchOp, usize)> {
 #[test]
 fn a_branch_is_turned_round_before_its_target(rt: HostRuntime) -> Result<(), Fail> {
     let jump = Jump::Branch {
-        on: Operand::At(Location::Register(6)),
-        nonzero: 1,
+        on: Comparison {
+            condition: Condition::NotEqual,
+            class: Class::L,
+            left: Operand::At(Location::Register(6)),
+            right: Operand::Number(0),
+        },
+        met: 1,
         otherwise: 2,
     };
     let round = code_of(rt.alloc(), &FALLING, 1, &jump)?;
-    assert_eq!(rt; round.len(), 2);
+    assert_eq!(rt; round.len(), 1);
     assert!(rt; branch_of(round.as_slice()) == Some((BranchOp::Beq, 2)));
     let forth = code_of(rt.alloc(), &FALLING, 2, &jump)?;
-    assert_eq!(rt; forth.len(), 2);
+    assert_eq!(rt; forth.len(), 1);
     assert!(rt; branch_of(forth.as_slice()) == Some((BranchOp::Bne, 1)));
     let both = code_of(rt.alloc(), &FALLING, 3, &jump)?;
-    assert_eq!(rt; both.len(), 3);
+    assert_eq!(rt; both.len(), 2);
     assert!(rt; branch_of(both.as_slice()) == Some((BranchOp::Bne, 1)));
-    assert!(rt; both.get(2) == Some(&Item::Goto(2)));
-    assert_eq!(rt; code_of(rt.alloc(), &JUMPING, 2, &jump)?.len(), 3);
+    assert!(rt; both.get(1) == Some(&Item::Goto(2)));
+    assert_eq!(rt; code_of(rt.alloc(), &JUMPING, 2, &jump)?.len(), 2);
     Ok(())
 }

@@ -80,7 +80,7 @@ fn push_operation(
 }
 
 // has an operand of the operation in a register: a word is extended before it is compared
-fn push_operand_for(
+pub(crate) fn push_operand_for(
     items: &mut Vec<Item>,
     layout: &Layout,
     operation: &Operation,
@@ -98,7 +98,7 @@ fn push_operand_for(
     }
 }
 
-fn operand_source(operation: &Operation, to: u8, operand: &Operand<Location>) -> u8
+pub(crate) fn operand_source(operation: &Operation, to: u8, operand: &Operand<Location>) -> u8
     ensures { result ≡ operand_source operation.now to operand.now }
 {
     match operation {

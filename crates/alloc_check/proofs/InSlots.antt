@@ -22,13 +22,14 @@ use Rattle.vcode.specs.declared.place.Destination.{Destination}
 use Rattle.vcode.specs.declared.place.Argument.{Argument}
 use Rattle.vcode.specs.declared.line.Line.{Line}
 use Rattle.vcode.specs.declared.line.Line.TheVariants.{Tick, Set, Operate, Load, Store, Alloc, Blit, Call}
+use Rattle.vcode.specs.declared.line.Operation.TheVariants.{Compare}
 use Rattle.vcode.specs.declared.line.Jump.{Jump}
 use Rattle.vcode.specs.declared.line.Jump.TheVariants.{Goto, Branch, Return, Halt}
 use Rattle.vcode.specs.declared.code.Block.{Block}
 use Rattle.vcode.specs.declared.code.Code.{Code}
 use Rattle.vcode.specs.Operations.{held, operate, loaded}
 use Rattle.vcode.specs.Places.{Values, unknown, put, assign, kept, virtual, located}
-use Rattle.vcode.specs.Step.{State, bound, begin, value_of, read, read_all, goes_on, sets, takes, changes, weighs, ticks, receives, resumes, calls, line_step, branches, returns, jump_step, block_step, step_in, step}
+use Rattle.vcode.specs.Step.{State, bound, begin, value_of, read, read_all, goes_on, sets, takes, changes, weighs, ticks, receives, resumes, calls, line_step, compared, branches, returns, jump_step, block_step, step_in, step}
 use Rattle.alloc_check.specs.Placed.{placed_operand, placed_argument, placed_destination, placed_line, placed_jump, placed_block, in_slots}
 use Rattle.alloc_check.specs.Kept.{RunsAlike}
 
@@ -228,12 +229,12 @@ line_goes globals i s el (Call to callee args) m =
 
 -- ---- what a jump does
 
-branch_goes : (s : State ℕ) (el : Values Location) (nonzero otherwise : ℕ) (o : Option Value) → Mirror s.values el → Goes (branches s nonzero otherwise o) (branches (carry s el) nonzero otherwise o)
-branch_goes s el nonzero otherwise (Some (Integer n)) m =
-    (carry (record s { block = if nat_eq n 0 then otherwise else nonzero; next = 0 }) el, refl, (el, refl, m))
-branch_goes s el nonzero otherwise (Some (Pointer b o)) m = λ f. absurd f
-branch_goes s el nonzero otherwise (Some (Function g)) m = λ f. absurd f
-branch_goes s el nonzero otherwise None m = λ f. absurd f
+branch_goes : (s : State ℕ) (el : Values Location) (met otherwise : ℕ) (o : Option Value) → Mirror s.values el → Goes (branches s met otherwise o) (branches (carry s el) met otherwise o)
+branch_goes s el met otherwise (Some (Integer n)) m =
+    (carry (record s { block = if nat_eq n 0 then otherwise else met; next = 0 }) el, refl, (el, refl, m))
+branch_goes s el met otherwise (Some (Pointer b o)) m = λ f. absurd f
+branch_goes s el met otherwise (Some (Function g)) m = λ f. absurd f
+branch_goes s el met otherwise None m = λ f. absurd f
 
 returns_goes : (s : State ℕ) (el : Values Location) (o : Option Value) → Mirror s.values el → Goes (returns s o) (returns (carry s el) o)
 returns_goes s el None m = λ f. absurd f
@@ -243,10 +244,10 @@ jump_goes : (globals : List Value) (result : Option Class) (s : State ℕ) (el :
     → Goes (jump_step globals result s j) (jump_step globals result (carry s el) (placed_jump Slot j))
 unfolding jump_step
 jump_goes globals result s el (Goto k) m = (carry (record s { block = k; next = 0 }) el, refl, (el, refl, m))
-jump_goes globals result s el (Branch on nonzero otherwise) m =
-    subst (λ (o : Option Value). Goes (branches s nonzero otherwise (read globals s.values W on)) (branches (carry s el) nonzero otherwise o))
-    (sym (same_read globals s.values el W on m))
-    (branch_goes s el nonzero otherwise (read globals s.values W on) m)
+jump_goes globals result s el (Branch on met otherwise) m =
+    subst (λ (o : Option Value). Goes (branches s met otherwise (compared globals s on)) (branches (carry s el) met otherwise o))
+    (sym (same_two globals s.values el on.left on.right (operate s.memory (Compare on.condition on.class)) m))
+    (branch_goes s el met otherwise (compared globals s on) m)
 jump_goes globals result s el (Return None) m = λ f. refl
 jump_goes globals None s el (Return (Some a)) m = λ f. absurd f
 jump_goes globals (Some k) s el (Return (Some a)) m =

@@ -61,7 +61,7 @@ line_costs f (Call to callee args) = ap (λ n. 20 + 24 * n) (map_length (placed_
 
 jump_costs : (f : Layout) (j : Jump ℕ) → jump_cost (placed_jump f j) ≡ jump_cost j
 jump_costs f (Goto k) = refl
-jump_costs f (Branch on nonzero otherwise) = simp operand_costs
+jump_costs f (Branch on met otherwise) = simp operand_costs
 jump_costs f (Return None) = refl
 jump_costs f (Return (Some a)) = simp operand_costs
 jump_costs f Halt = refl
@@ -90,7 +90,7 @@ same_affords f j credit (Call to callee args ∷ lines) = dear f j credit (Call 
 
 pub leads_same : (f : Layout) (n : ℕ) (j : Jump ℕ) → leads_inside n (placed_jump f j) ≡ leads_inside n j
 leads_same f n (Goto k) = refl
-leads_same f n (Branch on nonzero otherwise) = refl
+leads_same f n (Branch on met otherwise) = refl
 leads_same f n (Return a) = refl
 leads_same f n Halt = refl
 
@@ -203,7 +203,7 @@ slot_line n (Call to callee args) =
 
 slot_jump : (n : ℕ) (j : Jump ℕ) → jump_keeps (is_place n) (placed_jump Slot j) ≡ jump_keeps (is_below n) j
 slot_jump n (Goto k) = refl
-slot_jump n (Branch on nonzero otherwise) = slot_operand n on
+slot_jump n (Branch on met otherwise) = simp slot_operand
 slot_jump n (Return None) = refl
 slot_jump n (Return (Some a)) = slot_operand n a
 slot_jump n Halt = refl

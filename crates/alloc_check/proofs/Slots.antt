@@ -85,7 +85,10 @@ line_slot c p (Call to callee args) h =
 
 jump_slot : (c : Certificate) (p : ℕ) (j : Jump ℕ) → jump_keeps (own_at c p) j ≡ true → placed_jump (layout_at c p) j ≡ placed_jump Slot j
 jump_slot c p (Goto k) h = refl
-jump_slot c p (Branch on nonzero otherwise) h = ap (λ x. Branch x nonzero otherwise) (operand_slot c p on h)
+jump_slot c p (Branch on met otherwise) h =
+    let t = both_true (operand_keeps (own_at c p) on.left) (operand_keeps (own_at c p) on.right) h in
+    ap (λ x. Branch (record { condition = on.condition; class = on.class; left = x; right = placed_operand (layout_at c p) on.right }) met otherwise) (operand_slot c p on.left t.0)
+    ∙ ap (λ x. Branch (record { condition = on.condition; class = on.class; left = placed_operand Slot on.left; right = x }) met otherwise) (operand_slot c p on.right t.1)
 jump_slot c p (Return None) h = refl
 jump_slot c p (Return (Some a)) h = ap (λ x. Return (Some x)) (operand_slot c p a h)
 jump_slot c p Halt h = refl
@@ -332,11 +335,13 @@ all_held wanted p n own (e ∷ es) full at h =
 jump_goes : (wanted : Wanted) (n : ℕ) (c : Certificate) (p : ℕ) (own : Owners) (j : Jump ℕ) → list_all (λ (es : List Equality). list_all (is_own n) es) c.starts ≡ true
     → jump_keeps (own_at c p) j ≡ true → Full wanted p own → list_all (wanted p) (jump_reads j) ≡ true → targets_wanted wanted c p j ≡ true → jump_right c own (layout_at c p) j ≡ true
 jump_goes wanted n c p own (Goto k) starts at full reads targets = all_held wanted p n own (starts_at c k) full (start_own n c.starts k starts) targets
-jump_goes wanted n c p own (Branch on nonzero otherwise) starts at full reads targets =
-    let t = both_true (start_wanted wanted c p nonzero) (start_wanted wanted c p otherwise) targets in
-    ap (λ b. b && (all_hold own (starts_at c nonzero) && all_hold own (starts_at c otherwise)))
-    (operand_found wanted c p own on full at (sym (operand_in (wanted p) [] on) ∙ reads))
-    ∙ ap (λ b. b && all_hold own (starts_at c otherwise)) (all_held wanted p n own (starts_at c nonzero) full (start_own n c.starts nonzero starts) t.0)
+jump_goes wanted n c p own (Branch on met otherwise) starts at full reads targets =
+    let t = both_true (start_wanted wanted c p met) (start_wanted wanted c p otherwise) targets in
+    let s = both_true (operand_keeps (own_at c p) on.left) (operand_keeps (own_at c p) on.right) at in
+    let h = both_true (operand_keeps (wanted p) on.left) (operand_keeps (wanted p) on.right) (sym (two_in (wanted p) on.left on.right) ∙ reads) in
+    ap (λ b. (b && operand_held own (layout_at c p) on.right) && (all_hold own (starts_at c met) && all_hold own (starts_at c otherwise))) (operand_found wanted c p own on.left full s.0 h.0)
+    ∙ ap (λ b. b && (all_hold own (starts_at c met) && all_hold own (starts_at c otherwise))) (operand_found wanted c p own on.right full s.1 h.1)
+    ∙ ap (λ b. b && all_hold own (starts_at c otherwise)) (all_held wanted p n own (starts_at c met) full (start_own n c.starts met starts) t.0)
     ∙ all_held wanted p n own (starts_at c otherwise) full (start_own n c.starts otherwise starts) t.1
 jump_goes wanted n c p own (Return None) starts at full reads targets = refl
 jump_goes wanted n c p own (Return (Some a)) starts at full reads targets = operand_found wanted c p own a full at (sym (operand_in (wanted p) [] a) ∙ reads)

@@ -22,17 +22,18 @@ use Rattle.vcode.specs.declared.place.Destination.{Destination}
 use Rattle.vcode.specs.declared.place.Argument.{Argument}
 use Rattle.vcode.specs.declared.line.Line.{Line}
 use Rattle.vcode.specs.declared.line.Line.TheVariants.{Tick, Set, Operate, Load, Store, Alloc, Blit, Call}
+use Rattle.vcode.specs.declared.line.Operation.TheVariants.{Compare}
 use Rattle.vcode.specs.declared.line.Jump.{Jump}
 use Rattle.vcode.specs.declared.line.Jump.TheVariants.{Goto, Branch, Return, Halt}
 use Rattle.vcode.specs.declared.code.Block.{Block}
 use Rattle.vcode.specs.declared.code.Code.{Code}
 use Rattle.vcode.specs.Operations.{held, operate, loaded}
 use Rattle.vcode.specs.Places.{Places, Values, unknown, put, assign, kept, virtual, located}
-use Rattle.vcode.specs.Step.{State, bound, begin, value_of, read, read_all, fails, goes_on, sets, changes, weighs, ticks, receives, resumes, calls, line_step, enters, branches, returns, jump_step, block_step, step_in, step}
+use Rattle.vcode.specs.Step.{State, bound, begin, value_of, read, read_all, fails, goes_on, sets, changes, weighs, ticks, receives, resumes, calls, line_step, enters, compared, branches, returns, jump_step, block_step, step_in, step}
 use Rattle.certificates.specs.declared.certificate.Equality.{Equality}
 use Rattle.certificates.specs.declared.certificate.Transfer.{Transfer}
 use Rattle.certificates.specs.declared.certificate.Certificate.{Certificate}
-use Rattle.alloc_check.specs.Placed.{Layout, placed_operand, placed_argument, placed_destination, placed_line, placed_jump}
+use Rattle.alloc_check.specs.Placed.{Layout, placed_operand, placed_argument, placed_destination, placed_line, placed_comparison, placed_jump}
 use Rattle.alloc_check.specs.Kept.{RunsAlike}
 use Rattle.alloc_check.specs.Owners.{Owners, nobody, Agrees, own_put, own_move, own_kept, moved, known, owns, operand_held, args_held, all_hold, where_held, received, after_line}
 use Rattle.alloc_check.specs.Certified.{moves_at, starts_at, layout_at, transfers, certified_lines, jump_point, certified_block, certified_blocks, certified_params, placed_by, jump_right, lines_right, blocks_right, own_params, is_param, entry_right, params_placed, is_sound}
@@ -265,21 +266,21 @@ abbrev Entering : Relation → Certificate → State ℕ → Owners → Values L
 Entering related c s own el =
     (k : ℕ) → all_hold own (starts_at c k) ≡ true → related (record s { block = k; next = 0 }) (carry (record s { block = k; next = 0 }) 0 el)
 
-branch_to : (related : Relation) (c : Certificate) (s : State ℕ) (n : ℕ) (own : Owners) (el : Values Location) (nonzero otherwise : ℕ) (b : Bool)
-    → all_hold own (starts_at c nonzero) ≡ true → all_hold own (starts_at c otherwise) ≡ true → Entering related c s own el
-    → Beside related (enters s (if b then otherwise else nonzero)) (enters (carry s n el) (if b then otherwise else nonzero))
-branch_to related c s n own el nonzero otherwise true x y enter = (carry (record s { block = otherwise; next = 0 }) 0 el, refl, enter otherwise y)
-branch_to related c s n own el nonzero otherwise false x y enter = (carry (record s { block = nonzero; next = 0 }) 0 el, refl, enter nonzero x)
+branch_to : (related : Relation) (c : Certificate) (s : State ℕ) (n : ℕ) (own : Owners) (el : Values Location) (met otherwise : ℕ) (b : Bool)
+    → all_hold own (starts_at c met) ≡ true → all_hold own (starts_at c otherwise) ≡ true → Entering related c s own el
+    → Beside related (enters s (if b then otherwise else met)) (enters (carry s n el) (if b then otherwise else met))
+branch_to related c s n own el met otherwise true x y enter = (carry (record s { block = otherwise; next = 0 }) 0 el, refl, enter otherwise y)
+branch_to related c s n own el met otherwise false x y enter = (carry (record s { block = met; next = 0 }) 0 el, refl, enter met x)
 
-branch_beside : (related : Relation) (c : Certificate) (s : State ℕ) (n : ℕ) (own : Owners) (el : Values Location) (nonzero otherwise : ℕ) (o p : Option Value) → Follows p o
-    → all_hold own (starts_at c nonzero) ≡ true → all_hold own (starts_at c otherwise) ≡ true → Entering related c s own el
-    → Beside related (branches s nonzero otherwise o) (branches (carry s n el) nonzero otherwise p)
-branch_beside related c s n own el nonzero otherwise None p follows x y enter = λ f. absurd f
-branch_beside related c s n own el nonzero otherwise (Some (Pointer b k)) p follows x y enter = λ f. absurd f
-branch_beside related c s n own el nonzero otherwise (Some (Function g)) p follows x y enter = λ f. absurd f
-branch_beside related c s n own el nonzero otherwise (Some (Integer k)) p follows x y enter =
-    subst (λ (q : Option Value). Beside related (branches s nonzero otherwise (Some (Integer k))) (branches (carry s n el) nonzero otherwise q)) (sym (follows (Integer k) refl))
-    (branch_to related c s n own el nonzero otherwise (nat_eq k 0) x y enter)
+branch_beside : (related : Relation) (c : Certificate) (s : State ℕ) (n : ℕ) (own : Owners) (el : Values Location) (met otherwise : ℕ) (o p : Option Value) → Follows p o
+    → all_hold own (starts_at c met) ≡ true → all_hold own (starts_at c otherwise) ≡ true → Entering related c s own el
+    → Beside related (branches s met otherwise o) (branches (carry s n el) met otherwise p)
+branch_beside related c s n own el met otherwise None p follows x y enter = λ f. absurd f
+branch_beside related c s n own el met otherwise (Some (Pointer b k)) p follows x y enter = λ f. absurd f
+branch_beside related c s n own el met otherwise (Some (Function g)) p follows x y enter = λ f. absurd f
+branch_beside related c s n own el met otherwise (Some (Integer k)) p follows x y enter =
+    subst (λ (q : Option Value). Beside related (branches s met otherwise (Some (Integer k))) (branches (carry s n el) met otherwise q)) (sym (follows (Integer k) refl))
+    (branch_to related c s n own el met otherwise (nat_eq k 0) x y enter)
 
 returns_beside : (related : Relation) (s : State ℕ) (n : ℕ) (el : Values Location) (o p : Option Value) → Follows p o → Beside related (returns s o) (returns (carry s n el) p)
 returns_beside related s n el None p follows = λ f. absurd f
@@ -291,11 +292,11 @@ jump_beside : (related : Relation) (c : Certificate) (globals : List Value) (res
     → Beside related (jump_step globals result s j) (jump_step globals result (carry s n el) (placed_jump f j))
 unfolding jump_step
 jump_beside related c globals result s n el own f (Goto k) h agrees enter = (carry (record s { block = k; next = 0 }) 0 el, refl, enter k h)
-jump_beside related c globals result s n el own f (Branch on nonzero otherwise) h agrees enter =
-    let first = both_true (operand_held own f on) (all_hold own (starts_at c nonzero) && all_hold own (starts_at c otherwise)) h in
-    let targets = both_true (all_hold own (starts_at c nonzero)) (all_hold own (starts_at c otherwise)) first.1 in
-    branch_beside related c s n own el nonzero otherwise (read globals s.values W on) (read globals el W (placed_operand f on))
-    (read_follows globals own s.values el f W on first.0 agrees) targets.0 targets.1 enter
+jump_beside related c globals result s n el own f (Branch on met otherwise) h agrees enter =
+    let first = both_true (operand_held own f on.left && operand_held own f on.right) (all_hold own (starts_at c met) && all_hold own (starts_at c otherwise)) h in
+    let targets = both_true (all_hold own (starts_at c met)) (all_hold own (starts_at c otherwise)) first.1 in
+    branch_beside related c s n own el met otherwise (compared globals s on) (compared globals (carry s n el) (placed_comparison f on))
+    (two_follow globals own s.values el f on.left on.right (operate s.memory (Compare on.condition on.class)) first.0 agrees) targets.0 targets.1 enter
 jump_beside related c globals result s n el own f (Return None) h agrees enter = λ fine. refl
 jump_beside related c globals None s n el own f (Return (Some a)) h agrees enter = λ fine. absurd fine
 jump_beside related c globals (Some k) s n el own f (Return (Some a)) h agrees enter =

@@ -246,7 +246,7 @@ names_all test (Call (Some d) callee args) h e =
 
 pub jump_below : (test : ℕ → Bool) (j : Jump ℕ) → jump_keeps test j ≡ list_all test (jump_reads j)
 jump_below test (Goto k) = refl
-jump_below test (Branch on nonzero otherwise) = sym (operand_in test [] on)
+jump_below test (Branch on met otherwise) = sym (two_in test on.left on.right)
 jump_below test (Return None) = refl
 jump_below test (Return (Some a)) = sym (operand_in test [] a)
 jump_below test Halt = refl
@@ -425,13 +425,13 @@ targets_so : (v : Code ℕ) (n : ℕ) (rows : List Bits) → AreLive (graph_of v
     → targets_wanted (holds rows) (slotted v n rows) p j ≡ true
 targets_so v n rows live p (Goto k) at =
     target_so v n rows p k (λ q r e h. flow_at (graph_of v) n rows live p q r (jump_uses (Goto k)) (jump_next (firsts_from 0 v.blocks) (Goto k)) at (start_in [] (slice_get (firsts_from 0 v.blocks) k) q e) refl h)
-targets_so v n rows live p (Branch on nonzero otherwise) at =
+targets_so v n rows live p (Branch on met otherwise) at =
     let firsts = firsts_from 0 v.blocks in
     ap (λ b. b && start_wanted (holds rows) (slotted v n rows) p otherwise)
-    (target_so v n rows p nonzero (λ q r e h. flow_at (graph_of v) n rows live p q r (jump_uses (Branch on nonzero otherwise)) (jump_next firsts (Branch on nonzero otherwise)) at
-    (start_kept (with_start [] (slice_get firsts nonzero)) (slice_get firsts otherwise) q (start_in [] (slice_get firsts nonzero) q e)) refl h))
-    ∙ target_so v n rows p otherwise (λ q r e h. flow_at (graph_of v) n rows live p q r (jump_uses (Branch on nonzero otherwise)) (jump_next firsts (Branch on nonzero otherwise)) at
-    (start_in (with_start [] (slice_get firsts nonzero)) (slice_get firsts otherwise) q e) refl h)
+    (target_so v n rows p met (λ q r e h. flow_at (graph_of v) n rows live p q r (jump_uses (Branch on met otherwise)) (jump_next firsts (Branch on met otherwise)) at
+    (start_kept (with_start [] (slice_get firsts met)) (slice_get firsts otherwise) q (start_in [] (slice_get firsts met) q e)) refl h))
+    ∙ target_so v n rows p otherwise (λ q r e h. flow_at (graph_of v) n rows live p q r (jump_uses (Branch on met otherwise)) (jump_next firsts (Branch on met otherwise)) at
+    (start_in (with_start [] (slice_get firsts met)) (slice_get firsts otherwise) q e) refl h)
 targets_so v n rows live p (Return a) at = refl
 targets_so v n rows live p Halt at = refl
 

@@ -72,7 +72,8 @@ placed_by v c =
 -- a jump finds what it reads, and what its targets ask for
 abbrev pub jump_right : Certificate → Owners → Layout → Jump ℕ → Bool
 jump_right c own f (Goto k) = all_hold own (starts_at c k)
-jump_right c own f (Branch on nonzero otherwise) = operand_held own f on && (all_hold own (starts_at c nonzero) && all_hold own (starts_at c otherwise))
+jump_right c own f (Branch on met otherwise) =
+    (operand_held own f on.left && operand_held own f on.right) && (all_hold own (starts_at c met) && all_hold own (starts_at c otherwise))
 jump_right c own f (Return None) = true
 jump_right c own f (Return (Some a)) = operand_held own f a
 jump_right c own f Halt = true

@@ -9,6 +9,7 @@ use Rattle.vcode.specs.declared.place.Destination.{Destination}
 use Rattle.vcode.specs.declared.place.Argument.{Argument}
 use Rattle.vcode.specs.declared.line.Line.{Line}
 use Rattle.vcode.specs.declared.line.Line.TheVariants.{Tick, Set, Operate, Load, Store, Alloc, Blit, Call}
+use Rattle.vcode.specs.declared.line.Comparison.{Comparison}
 use Rattle.vcode.specs.declared.line.Jump.{Jump}
 use Rattle.vcode.specs.declared.line.Jump.TheVariants.{Goto, Branch, Return, Halt}
 use Rattle.vcode.specs.declared.code.Block.{Block}
@@ -39,9 +40,12 @@ placed_line f (Alloc to size) = Alloc (f to) size
 placed_line f (Blit from to count) = Blit (placed_operand f from) (placed_operand f to) count
 placed_line f (Call to callee args) = Call (option_map (placed_destination f) to) (placed_operand f callee) (map (placed_argument f) args)
 
+abbrev pub placed_comparison : Layout → Comparison ℕ → Comparison Location
+placed_comparison f c = record { condition = c.condition; class = c.class; left = placed_operand f c.left; right = placed_operand f c.right }
+
 abbrev pub placed_jump : Layout → Jump ℕ → Jump Location
 placed_jump f (Goto k) = Goto k
-placed_jump f (Branch on nonzero otherwise) = Branch (placed_operand f on) nonzero otherwise
+placed_jump f (Branch on met otherwise) = Branch (placed_comparison f on) met otherwise
 placed_jump f (Return a) = Return (option_map (placed_operand f) a)
 placed_jump f Halt = Halt
 

@@ -49,7 +49,7 @@ start_wanted wanted c p k = list_all (λ (e : Equality). wanted p e.register) (s
 
 abbrev pub targets_wanted : Wanted → Certificate → ℕ → Jump ℕ → Bool
 targets_wanted wanted c p (Goto k) = start_wanted wanted c p k
-targets_wanted wanted c p (Branch on nonzero otherwise) = start_wanted wanted c p nonzero && start_wanted wanted c p otherwise
+targets_wanted wanted c p (Branch on met otherwise) = start_wanted wanted c p met && start_wanted wanted c p otherwise
 targets_wanted wanted c p (Return a) = true
 targets_wanted wanted c p Halt = true
 

@@ -201,11 +201,12 @@ fn targets(table: &Table, certificate: &Certificate, places: &[Equality], jump: 
         Jump::Goto(block) => all_hold(table, starts_at(certificate, *block)),
         Jump::Branch {
             on,
-            nonzero,
+            met,
             otherwise,
         } => {
-            held(table, places, on)
-                && all_hold(table, starts_at(certificate, *nonzero))
+            held(table, places, &on.left)
+                && held(table, places, &on.right)
+                && all_hold(table, starts_at(certificate, *met))
                 && all_hold(table, starts_at(certificate, *otherwise))
         }
         Jump::Return(None) => true,

@@ -1,7 +1,7 @@
 //! Whether location code may be a function's: which places it names, and whether its ticks pay for it.
 ghost use Rattle.std.specs.Prelude.{◌≡◌, ◌≤◌, ◌+◌, ◌^◌, IfSome, ◌<◌};
 ghost use Rattle.std.specs.List.{list_all, list_any};
-ghost use Rattle.vcode.specs.Cost.{is_immediate, operand_cost, operation_cost, line_cost, return_cost, jump_cost, is_paid};
+ghost use Rattle.vcode.specs.Cost.{is_immediate, operand_cost, operation_cost, line_cost, return_cost, branch_cost, jump_cost, is_paid};
 ghost use Rattle.vcode.specs.Named.{operand_keeps, wanted_keeps, line_keeps, jump_keeps, block_keeps, keeps_places, is_place, is_near, are_near, are_distinct};
 ghost use Rattle.vcode.specs.Places.{located, same_location};
 ghost use Rattle.alloc_check.specs.Accepted.{is_placed, exists_in, starts_exist};
@@ -9,6 +9,7 @@ ghost use Rattle.alloc_check.specs.Walk.{spent};
 
 use certificates::certificate::Equality;
 use il_ast::list::Seq;
+use il_ast::operation::Class;
 use vcode::code::{Block, Code};
 use vcode::line::{Jump, Line, Operation};
 use vcode::place::{Argument, Destination, Location, Operand};
@@ -76,7 +77,7 @@ fn jump(slots: u32, jump: &Jump<Location>) -> bool
 {
     match jump {
         Jump::Goto(_) => true,
-        Jump::Branch { on, .. } => operand(slots, on),
+        Jump::Branch { on, .. } => operand(slots, &on.left) && operand(slots, &on.right),
         Jump::Return(None) => true,
         Jump::Return(Some(value)) => operand(slots, value),
         Jump::Halt => true,
@@ -205,12 +206,23 @@ fn line_cost(line: &Line<Location>) -> u128
     }
 }
 
+fn branch_cost(class: Class) -> u128
+    ensures { result ≡ branch_cost class }
+{
+    match class {
+        Class::W => 7,
+        Class::L => 5,
+    }
+}
+
 fn jump_cost(jump: &Jump<Location>) -> u128
     ensures { result ≡ jump_cost jump.now }
 {
     match jump {
         Jump::Goto(_) => 2,
-        Jump::Branch { on, .. } => operand_cost(on) + 6,
+        Jump::Branch { on, .. } => {
+            operand_cost(&on.left) + operand_cost(&on.right) + branch_cost(on.class)
+        }
         Jump::Return(None) => 2,
         Jump::Return(Some(value)) => operand_cost(value) + 3,
         Jump::Halt => 1,

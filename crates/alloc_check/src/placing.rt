@@ -1,11 +1,11 @@
 //! Code with a place for each register.
 ghost use Rattle.std.specs.Prelude.{◌≡◌, ◌++◌, map, drop, OnOk, IfOk};
 ghost use Rattle.std.specs.Option.{option_map};
-ghost use Rattle.alloc_check.specs.Placed.{placed_operand, placed_argument, placed_destination, placed_line, placed_jump};
+ghost use Rattle.alloc_check.specs.Placed.{placed_operand, placed_argument, placed_destination, placed_line, placed_comparison, placed_jump};
 
 use il_ast::list::Seq;
 use std::alloc::{AllocError, Global};
-use vcode::line::{Jump, Line};
+use vcode::line::{Comparison, Jump, Line};
 use vcode::place::{Argument, Destination, Location, Operand};
 
 /// Says where each virtual register is.
@@ -152,19 +152,26 @@ pub(crate) fn line<P: Placing>(
     })
 }
 
+fn comparison<P: Placing>(places: &P, from: &Comparison<u32>) -> Comparison<Location>
+    ensures { result ≡ placed_comparison (P.layout places.now) from.now }
+{
+    Comparison {
+        condition: from.condition,
+        class: from.class,
+        left: operand(places, &from.left),
+        right: operand(places, &from.right),
+    }
+}
+
 /// A jump with each register at its place.
 pub(crate) fn jump<P: Placing>(places: &P, from: &Jump<u32>) -> Jump<Location>
     ensures { result ≡ placed_jump (P.layout places.now) from.now }
 {
     match from {
         Jump::Goto(block) => Jump::Goto(*block),
-        Jump::Branch {
-            on,
-            nonzero,
-            otherwise,
-        } => Jump::Branch {
-            on: operand(places, on),
-            nonzero: *nonzero,
+        Jump::Branch { on, met, otherwise } => Jump::Branch {
+            on: comparison(places, on),
+            met: *met,
             otherwise: *otherwise,
         },
         Jump::Return(None) => Jump::Return(None),

@@ -21,12 +21,12 @@ use Rattle.vcode.specs.Step.{State, value_of, read as value_read, read_all as va
 use Rattle.flat_code.specs.Spots.{Bases, Shows}
 use Rattle.flat_code.specs.Step.{FlatState, put, number_of, read, read_all, computed, known_number, stored, copied, opened, flat_line}
 use Rattle.flat_code.proofs.Shown.{some_is, Follows, some_follows, follows_map, follows_then, put_follows, follow_grown, operand_follows, read_follows, all_follow}
-use Rattle.flat_code.proofs.Operating.{operated}
 use Rattle.flat_code.proofs.Loading.{loaded_follows}
 use Rattle.flat_code.proofs.Storing.{stored_follows}
 use Rattle.flat_code.proofs.Copying.{copied_follows}
 use Rattle.flat_code.proofs.Making.{IsMade, makes}
 use Rattle.flat_code.proofs.Going.{Setting, ground, IsSetting, HasRoom, Related, Together, names_shown, sets_together, takes_together, changes_together, ticks_together, memory_then}
+use Rattle.flat_code.proofs.Operands.{operand_shown, operation_shown}
 use Rattle.flat_code.proofs.Calling.{calls_together}
 
 -- ---- where the line stands
@@ -145,9 +145,6 @@ made_together c is p s t to size r n =
 
 -- ---- each line
 
-operand_shown : (c : Setting) → IsSetting c → (p : Bases) (s : State Location) (t : FlatState) → Related c p s t → (a : Operand Location) → Follows c.names.entries p (value_of c.names.globals s.values a) (number_of c.names.addresses t.numbers a)
-operand_shown c is p s t r a = operand_follows c.names.entries p c.names.globals c.names.addresses s.values t.numbers (names_shown c is p s t r) r.follow a
-
 pub line_together : (c : Setting) → IsSetting c → (p : Bases) (s : State Location) (t : FlatState) (l : Line Location) → Related c p s t → IsNext c s l
     → Together c p (line_step located c.names.globals c.given s l) (flat_line c.names.addresses c.base c.shown t l)
 unfolding line_step flat_line
@@ -161,11 +158,7 @@ line_together c is p s t (Operate to op a b) r n =
     (option_and_then (λ u. option_and_then (λ v. operate s.memory op u v) (value_of c.names.globals s.values b)) (value_of c.names.globals s.values a))
     (option_and_then (λ x. option_map (λ y. computed op x y) (number_of c.names.addresses t.numbers b)) (number_of c.names.addresses t.numbers a)) r
     (room_later c s (Operate to op a b) t.used t.used n r.room (nothing_more t.used))
-    (follows_then c.names.entries p (value_of c.names.globals s.values a) (number_of c.names.addresses t.numbers a)
-    (λ u. option_and_then (λ v. operate s.memory op u v) (value_of c.names.globals s.values b))
-    (λ x. option_map (λ y. computed op x y) (number_of c.names.addresses t.numbers b)) (operand_shown c is p s t r a)
-    (λ u x h. follows_map c.names.entries p (value_of c.names.globals s.values b) (number_of c.names.addresses t.numbers b) (λ v. operate s.memory op u v) (λ y. computed op x y) (operand_shown c is p s t r b)
-    (λ v w y k e. operated c.names.entries p s.memory t.memory is.grounded.known r.held.memory op u v w x y h k e)))
+    (operation_shown c is p s t r op a b)
 line_together c is p s t (Load to op at) r n =
     sets_together c p s t to (option_and_then (loaded s.memory op) (value_of c.names.globals s.values at))
     (option_and_then (λ x. option_map (load_value op) (known_number t.memory x (load_size op))) (number_of c.names.addresses t.numbers at)) r

@@ -2,7 +2,6 @@
 use Rattle.std.proofs.Common.{◌≡◌, ℕ, zero, suc, Bool, true, false, ◌&&◌, if◌then◌else◌, length, Option, Some, None, refl, sym, ◌∙◌, ap, subst, arith}
 use Rattle.std.specs.Prelude.{nat_eq, nat_lt}
 use Rattle.il_ast.specs.declared.operation.Class.{Class}
-use Rattle.il_ast.specs.declared.operation.Class.TheVariants.{W}
 use Rattle.il_ast.specs.declared.value.Value.{Value}
 use Rattle.il_ast.specs.declared.value.Value.TheVariants.{Integer, Pointer, Function}
 use Rattle.il_ast.specs.declared.value.End.TheVariants.{Halt as Halted}
@@ -12,15 +11,17 @@ use Rattle.il_ast.specs.Logged.{Does, Over}
 use Rattle.il_ast.specs.Keeps.{Passes, Suits}
 use Rattle.vcode.specs.declared.place.Location.{Location}
 use Rattle.vcode.specs.declared.place.Operand.{Operand}
+use Rattle.vcode.specs.declared.line.Operation.TheVariants.{Compare}
 use Rattle.vcode.specs.declared.line.Jump.{Jump}
 use Rattle.vcode.specs.declared.line.Jump.TheVariants.{Goto, Branch, Return, Halt}
 use Rattle.vcode.specs.Regular.{is_target, leads_inside, area}
-use Rattle.vcode.specs.Step.{State, value_of, read as value_read, enters, branches, returns, jump_step}
+use Rattle.vcode.specs.Step.{State, value_of, read as value_read, enters, compared as values_compared, branches, returns, jump_step}
 use Rattle.flat_code.specs.Spots.{Bases, ShowsResult}
 use Rattle.flat_code.specs.Flat.{FlatReturned, FlatEnded}
-use Rattle.flat_code.specs.Step.{FlatState, read, closed, enters as flat_enters, branches as flat_branches, leaves, returns as flat_returns, returns_as, flat_jump}
+use Rattle.flat_code.specs.Step.{FlatState, read, closed, enters as flat_enters, compared, branches as flat_branches, leaves, returns as flat_returns, returns_as, flat_jump}
 use Rattle.flat_code.proofs.Shown.{Follows, read_follows, read_passes}
 use Rattle.flat_code.proofs.Freeing.{IsLeft, left_by}
+use Rattle.flat_code.proofs.Operands.{operation_shown}
 use Rattle.flat_code.proofs.Going.{Setting, ground, IsSetting, Related, Together, same_bases, names_shown}
 
 -- ---- entering a block
@@ -51,20 +52,20 @@ enters_together c p s t k r target = (
     later zero h e = cc
     later (suc n) h e = absurd (omega arith)
 
-chooses_together : (c : Setting) (p : Bases) (s : State Location) (t : FlatState) (nonzero otherwise : ℕ) (b : Bool) → Related c p s t → is_target (length c.code.blocks) nonzero ≡ true → is_target (length c.code.blocks) otherwise ≡ true
-    → Together c p (enters s (if b then otherwise else nonzero)) (flat_enters t (if b then otherwise else nonzero))
-chooses_together c p s t nonzero otherwise true r h k = enters_together c p s t otherwise r k
-chooses_together c p s t nonzero otherwise false r h k = enters_together c p s t nonzero r h
+chooses_together : (c : Setting) (p : Bases) (s : State Location) (t : FlatState) (met otherwise : ℕ) (b : Bool) → Related c p s t → is_target (length c.code.blocks) met ≡ true → is_target (length c.code.blocks) otherwise ≡ true
+    → Together c p (enters s (if b then otherwise else met)) (flat_enters t (if b then otherwise else met))
+chooses_together c p s t met otherwise true r h k = enters_together c p s t otherwise r k
+chooses_together c p s t met otherwise false r h k = enters_together c p s t met r h
 
-branches_together : (c : Setting) (p : Bases) (s : State Location) (t : FlatState) (nonzero otherwise : ℕ) (o : Option Value) (n : Option ℕ) → Related c p s t → Follows c.names.entries p o n
-    → is_target (length c.code.blocks) nonzero ≡ true → is_target (length c.code.blocks) otherwise ≡ true → Together c p (branches s nonzero otherwise o) (flat_branches t nonzero otherwise n)
-branches_together c p s t nonzero otherwise None n r follows h k = λ fine. absurd fine
-branches_together c p s t nonzero otherwise (Some (Pointer b i)) n r follows h k = λ fine. absurd fine
-branches_together c p s t nonzero otherwise (Some (Function g)) n r follows h k = λ fine. absurd fine
-branches_together c p s t nonzero otherwise (Some (Integer i)) n r follows h k =
+branches_together : (c : Setting) (p : Bases) (s : State Location) (t : FlatState) (met otherwise : ℕ) (o : Option Value) (n : Option ℕ) → Related c p s t → Follows c.names.entries p o n
+    → is_target (length c.code.blocks) met ≡ true → is_target (length c.code.blocks) otherwise ≡ true → Together c p (branches s met otherwise o) (flat_branches t met otherwise n)
+branches_together c p s t met otherwise None n r follows h k = λ fine. absurd fine
+branches_together c p s t met otherwise (Some (Pointer b i)) n r follows h k = λ fine. absurd fine
+branches_together c p s t met otherwise (Some (Function g)) n r follows h k = λ fine. absurd fine
+branches_together c p s t met otherwise (Some (Integer i)) n r follows h k =
     let a = follows (Integer i) refl in
-    subst (λ (m : Option ℕ). Together c p (branches s nonzero otherwise (Some (Integer i))) (flat_branches t nonzero otherwise m)) (sym (a.1 ∙ ap (λ (x : ℕ). Some x) a.2))
-    (chooses_together c p s t nonzero otherwise (nat_eq i 0) r h k)
+    subst (λ (m : Option ℕ). Together c p (branches s met otherwise (Some (Integer i))) (flat_branches t met otherwise m)) (sym (a.1 ∙ ap (λ (x : ℕ). Some x) a.2))
+    (chooses_together c p s t met otherwise (nat_eq i 0) r h k)
 
 -- ---- returning
 
@@ -108,10 +109,10 @@ pub jump_together : (c : Setting) → IsSetting c → (p : Bases) (s : State Loc
     → Together c p (jump_step c.names.globals c.code.result s j) (flat_jump c.code c.names.addresses c.base t j)
 unfolding jump_step flat_jump
 jump_together c is p s t (Goto k) r inside = enters_together c p s t k r inside
-jump_together c is p s t (Branch on nonzero otherwise) r inside =
-    let targets = both_true (is_target (length c.code.blocks) nonzero) (is_target (length c.code.blocks) otherwise) inside in
-    branches_together c p s t nonzero otherwise (value_read c.names.globals s.values W on) (read c.names.addresses t.numbers W on) r
-    (read_follows c.names.entries p c.names.globals c.names.addresses s.values t.numbers (names_shown c is p s t r) r.follow W on) targets.0 targets.1
+jump_together c is p s t (Branch on met otherwise) r inside =
+    let targets = both_true (is_target (length c.code.blocks) met) (is_target (length c.code.blocks) otherwise) inside in
+    branches_together c p s t met otherwise (values_compared c.names.globals s on) (compared c.names.addresses t on) r
+    (operation_shown c is p s t r (Compare on.condition on.class) on.left on.right) targets.0 targets.1
 jump_together c is p s t (Return None) r inside = leaves_together c is p s t None None r (no_result_suits c.code.result) tt
 jump_together c is p s t (Return (Some a)) r inside = returns_value c is p s t a r c.code.result refl
 jump_together c is p s t Halt r inside = λ fine. (FlatEnded t.spent Halted, refl, (p, same_bases p, (r.spent, refl)))

@@ -11,6 +11,7 @@ pub mod Owning
 pub mod Making
 pub mod Freeing
 pub mod Going
+pub mod Operands
 pub mod Calling
 pub mod EachLine
 pub mod Jumping

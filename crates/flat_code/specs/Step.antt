@@ -25,6 +25,7 @@ use Rattle.vcode.specs.declared.line.Operation.{Operation}
 use Rattle.vcode.specs.declared.line.Operation.TheVariants.{Reg, RegW, Compare}
 use Rattle.vcode.specs.declared.line.Line.{Line}
 use Rattle.vcode.specs.declared.line.Line.TheVariants.{Tick, Set, Operate, Load, Store, Alloc, Blit, Call}
+use Rattle.vcode.specs.declared.line.Comparison.{Comparison}
 use Rattle.vcode.specs.declared.line.Jump.{Jump}
 use Rattle.vcode.specs.declared.line.Jump.TheVariants.{Goto, Branch, Return, Halt}
 use Rattle.vcode.specs.declared.code.Block.{Block}
@@ -237,9 +238,15 @@ flat_line addresses base j s (Call to callee args) =
 abbrev pub enters : FlatState → ℕ → FlatEvent
 enters s k = Does (On (record s { block = k; next = 0 }))
 
-abbrev pub branches : FlatState → (nonzero otherwise : ℕ) → Option ℕ → FlatEvent
-branches s nonzero otherwise None = fails s
-branches s nonzero otherwise (Some n) = enters s (if nat_eq n 0 then otherwise else nonzero)
+-- what a comparison gives, 1 where it holds
+abbrev pub compared : List ℕ → FlatState → Comparison Location → Option ℕ
+compared addresses s c =
+    option_and_then (λ x. option_map (λ y. computed (Compare c.condition c.class) x y) (number_of addresses s.numbers c.right))
+    (number_of addresses s.numbers c.left)
+
+abbrev pub branches : FlatState → (met otherwise : ℕ) → Option ℕ → FlatEvent
+branches s met otherwise None = fails s
+branches s met otherwise (Some n) = enters s (if nat_eq n 0 then otherwise else met)
 
 -- the area for blocks may not be accessed any more
 abbrev pub leaves : Code Location → (base : ℕ) → FlatState → Option ℕ → FlatEvent
@@ -255,7 +262,7 @@ returns_as f addresses base s (Some k) a = returns f base s (read addresses s.nu
 
 unfoldable pub flat_jump : Code Location → List ℕ → (base : ℕ) → FlatState → Jump Location → FlatEvent
 flat_jump f addresses base s (Goto k) = enters s k
-flat_jump f addresses base s (Branch on nonzero otherwise) = branches s nonzero otherwise (read addresses s.numbers W on)
+flat_jump f addresses base s (Branch on met otherwise) = branches s met otherwise (compared addresses s on)
 flat_jump f addresses base s (Return None) = leaves f base s None
 flat_jump f addresses base s (Return (Some a)) = returns_as f addresses base s f.result a
 flat_jump f addresses base s Halt = Does (Over (FlatEnded s.spent Halted))

@@ -1,3 +1,3 @@
-mod Comparing
+pub mod Comparing
 mod Computed
 mod Words

@@ -47,8 +47,8 @@ return_cost (Some a) = operand_cost a + 3
 
 -- a word is extended before it is compared
 abbrev pub branch_cost : Class → ℕ
-branch_cost W = 6
-branch_cost L = 4
+branch_cost W = 7
+branch_cost L = 5
 
 -- a return goes to the end of the frame, which the call pays for
 abbrev pub jump_cost : {P : Type 0} → Jump P → ℕ
