@@ -35,7 +35,7 @@ use Rattle.flat_code.specs.Step.{FlatState, Numbers, put, kept, held, number_of,
 use Rattle.abi_frames.specs.Calls.{Ready, passed}
 use Rattle.abi_frames.specs.Performs.{Returns, Stops, KeepsOn, Performs, PerformsAt, ReachStays, AllPerform}
 use Rattle.abi_frames.specs.Layout.{most_in_lines}
-use Rattle.abi_frames.specs.Covered.{is_off_arguments, covers_line}
+use Rattle.abi_frames.specs.Covered.{is_off_arguments, is_behind, covers_args, covers_line}
 use Rattle.abi_frames.specs.Emission.{fetch, source, pass_all, call_through, receive_items, lines_items, jump_items}
 use Rattle.abi_frames.proofs.Leading.{StandAt, Reaches, Leads, leads_nowhere, leads_so}
 use Rattle.abi_frames.proofs.Activations.{Setting, IsSetting, site, bottom, operand_in, Framed, operand_known, Assigned, MayWrite, assigned, assigned_output, is_among}
@@ -44,7 +44,7 @@ use Rattle.abi_frames.proofs.Pacing.{few_standing}
 use Rattle.rv_isa.specs.declared.labelled.Item.TheVariants.{Label}
 use Rattle.abi_frames.proofs.LineCode.{leads_set_line}
 use Rattle.abi_frames.proofs.Sizes.{call_parts, le_is}
-use Rattle.abi_frames.proofs.Passing.{can_pass}
+use Rattle.abi_frames.proofs.Passing.{can_pass, all_can_pass}
 use Rattle.abi_frames.proofs.Calling.{leads_prepared, gone_to, goes_through, ready, SameFrame, same_frame, framed_back}
 use Rattle.abi_frames.proofs.Simulation.{CodeStands, At, Performed, step_of, Log, Follows, Then, undefined, stands_here, nothing_taken, later_fits, next_index, may_write}
 
@@ -54,17 +54,17 @@ pub record CallLine (c : Setting) (to : Option (Destination Location)) (callee :
   pub wanted : wanted_keeps (is_place c.slots) to ≡ true
   pub known : operand_keeps (is_place c.slots) callee ≡ true
   pub off : operand_keeps is_off_arguments callee ≡ true
-  pub good : list_all (can_pass c.slots) args ≡ true
+  pub good : all_can_pass c.slots 0 args ≡ true
   pub fits : 8 * (length args - 8) ≤ c.layout.saves
 
-all_can_pass : (slots : ℕ) (args : List (Argument Location)) → list_all (λ (a : Argument Location). operand_keeps (is_place slots) a.value) args ≡ true
-    → list_all (λ (a : Argument Location). operand_keeps is_off_arguments a.value) args ≡ true → list_all (can_pass slots) args ≡ true
-all_can_pass slots [] h k = refl
-all_can_pass slots (a ∷ args) h k =
+can_pass_all : (slots k : ℕ) (args : List (Argument Location)) → list_all (λ (a : Argument Location). operand_keeps (is_place slots) a.value) args ≡ true
+    → covers_args k args ≡ true → all_can_pass slots k args ≡ true
+can_pass_all slots k [] h covered = refl
+can_pass_all slots k (a ∷ args) h covered =
     let places = and_parts (operand_keeps (is_place slots) a.value) (list_all (λ (b : Argument Location). operand_keeps (is_place slots) b.value) args) h in
-    let off = and_parts (operand_keeps is_off_arguments a.value) (list_all (λ (b : Argument Location). operand_keeps is_off_arguments b.value) args) k in
-    and_from (can_pass slots a) (list_all (can_pass slots) args)
-    (and_from (operand_keeps (is_place slots) a.value) (operand_keeps is_off_arguments a.value) places.0 off.0) (all_can_pass slots args places.1 off.1)
+    let behind = and_parts (operand_keeps (is_behind k) a.value) (covers_args (k + 1) args) covered in
+    and_from (can_pass slots k a) (all_can_pass slots (k + 1) args)
+    (and_from (operand_keeps (is_place slots) a.value) (operand_keeps (is_behind k) a.value) places.0 behind.0) (can_pass_all slots (k + 1) args places.1 behind.1)
 
 first_fits : (a m s : ℕ) → 8 * max a m ≤ s → 8 * a ≤ s
 first_fits a m s h = omega (arith, h)
@@ -79,12 +79,12 @@ call_line c f b to callee args lines fs k u a =
     let operands = and_parts (operand_keeps (is_place c.slots) callee)
     (list_all (λ (x : Argument Location). operand_keeps (is_place c.slots) x.value) args) parts.1 in
     let covered = (and_parts (covers_line (Call to callee args)) (list_all covers_line lines) a.covered).0 in
-    let off = and_parts (operand_keeps is_off_arguments callee) (list_all (λ (x : Argument Location). operand_keeps is_off_arguments x.value) args) covered in
+    let off = and_parts (operand_keeps is_off_arguments callee) (covers_args 0 args) covered in
     record {
       wanted = parts.0;
       known = operands.0;
       off = off.0;
-      good = all_can_pass c.slots args operands.1 off.1;
+      good = can_pass_all c.slots 0 args operands.1 off.1;
       fits = first_fits (length args - 8) (most_in_lines lines) c.layout.saves a.passes;
     }
 

@@ -26,7 +26,7 @@ use Rattle.vcode.specs.Named.{is_place, operand_keeps}
 use Rattle.flat_code.specs.Spots.{Spot, Away, Known, Spots, SameReach}
 use Rattle.flat_code.specs.Step.{Numbers, kept, number_of, read_all, taken}
 use Rattle.abi_frames.specs.Calls.{Ready, Back, is_kept, passed}
-use Rattle.abi_frames.specs.Covered.{is_off_arguments}
+use Rattle.abi_frames.specs.Covered.{is_off_arguments, is_behind}
 use Rattle.abi_frames.specs.Fields.{reg, low}
 use Rattle.abi_frames.specs.Emission.{fetch, source, pass_all, call_through}
 use Rattle.abi_frames.proofs.ConstantNumbers.{near_moves}
@@ -34,7 +34,7 @@ use Rattle.abi_frames.proofs.Leading.{Site, StandAt, Leads, leads_then, leads_so
 use Rattle.abi_frames.proofs.Instructions.{is_28}
 use Rattle.abi_frames.proofs.Activations.{Setting, IsSetting, site, bottom, slot_at, save_at, value_at, operand_in, place_is, slot_is, is_among, is_held, Framed, operand_known}
 use Rattle.abi_frames.proofs.LineCode.{Fetched, leads_fetch}
-use Rattle.abi_frames.proofs.Passing.{Unmoved, unmoved, operand_unmoved, sent, Passed, can_pass, leads_arguments}
+use Rattle.abi_frames.proofs.Passing.{Unmoved, unmoved, operand_unmoved, sent, Passed, can_pass, all_can_pass, leads_arguments}
 
 -- ---- the arguments, and the callee's address
 
@@ -48,6 +48,7 @@ passed_still c s u w args h others bytes output = record {
   in_registers = λ i a few e. others (10 + (0 + i)) (λ x. absurd (omega (arith, x, few))) ∙ h.in_registers i a few e;
   on_stack = λ i a many e. ap (λ (m : ℕ → ℕ). number_at m (bottom c + 8 * (0 + i - 8)) 8) bytes ∙ h.on_stack i a many e;
   before = λ n lo below. others n (λ x. absurd (omega (arith, x, below))) ∙ h.before n lo below;
+  behind = λ n hi below. others n (λ x. absurd (omega (arith, x, below))) ∙ h.behind n hi below;
   high = λ n hi below. others n (λ x. absurd (omega (arith, x, below))) ∙ h.high n hi below;
   below = λ x lo. ap (λ (m : ℕ → ℕ). m x) bytes ∙ h.below x lo;
   above = λ x hi. ap (λ (m : ℕ → ℕ). m x) bytes ∙ h.above x hi;
@@ -55,7 +56,7 @@ passed_still c s u w args h others bytes output = record {
 }
 
 pub leads_prepared : (c : Setting) → IsSetting c → (s : State) (callee : Operand Location) (args : List (Argument Location)) → s.registers 2 ≡ bottom c
-    → operand_keeps (is_place c.slots) callee ≡ true → operand_keeps is_off_arguments callee ≡ true → list_all (can_pass c.slots) args ≡ true
+    → operand_keeps (is_place c.slots) callee ≡ true → operand_keeps is_off_arguments callee ≡ true → all_can_pass c.slots 0 args ≡ true
     → 8 * (length args - 8) ≤ c.layout.saves
     → Leads (site c) (pass_all c.layout 0 args ++ fetch c.layout 28 callee) s (Prepared c s callee args)
 leads_prepared c is s callee args pointer known off good fits =
@@ -165,13 +166,13 @@ same_class a b e = cc
 no_class : (k : Class) (o : Option Class) → o ≡ None → o ≡ Some k → ⊥
 no_class k o e f = let no : ⊥ = cc in no
 
-pub sends : (c : Setting) → IsSetting c → (numbers : Numbers) (memory : Spots) (s : State) → Framed c numbers memory s → (args : List (Argument Location))
-    → list_all (can_pass c.slots) args ≡ true → (xs : List ℕ) → read_all c.addresses numbers args ≡ Some xs
+pub sends : (c : Setting) → IsSetting c → (numbers : Numbers) (memory : Spots) (s : State) → Framed c numbers memory s → (from : ℕ) (args : List (Argument Location))
+    → all_can_pass c.slots from args ≡ true → (xs : List ℕ) → read_all c.addresses numbers args ≡ Some xs
     → (i : ℕ) (k : Class) (n : ℕ) → slice_get (map (λ a. a.class) args) i ≡ Some k → slice_get xs i ≡ Some n → Sends c s args i k n
-sends c is numbers memory s framed [] good xs known i k n e d = absurd (no_class k None refl e)
-sends c is numbers memory s framed (a ∷ args) good xs known zero k n e d =
-    let parts = and_parts (can_pass c.slots a) (list_all (can_pass c.slots) args) good in
-    let places = and_parts (operand_keeps (is_place c.slots) a.value) (operand_keeps is_off_arguments a.value) parts.0 in
+sends c is numbers memory s framed from [] good xs known i k n e d = absurd (no_class k None refl e)
+sends c is numbers memory s framed from (a ∷ args) good xs known zero k n e d =
+    let parts = and_parts (can_pass c.slots from a) (all_can_pass c.slots (from + 1) args) good in
+    let places = and_parts (operand_keeps (is_place c.slots) a.value) (operand_keeps (is_behind from) a.value) parts.0 in
     let more = read_more c numbers a args xs known in
     let first : taken a.class more.first ≡ n =
     same_number (taken a.class more.first) n (ap (λ (ys : List ℕ). slice_get ys zero) (sym more.all) ∙ d) in
@@ -181,10 +182,10 @@ sends c is numbers memory s framed (a ∷ args) good xs known zero k n e d =
       is = refl;
       value = ap (λ x. passed a.class (taken a.class x)) value ∙ (ap (passed a.class) first ∙ ap (λ q. passed q n) (same_class a.class k e));
     }
-sends c is numbers memory s framed (a ∷ args) good xs known (suc i) k n e d =
-    let parts = and_parts (can_pass c.slots a) (list_all (can_pass c.slots) args) good in
+sends c is numbers memory s framed from (a ∷ args) good xs known (suc i) k n e d =
+    let parts = and_parts (can_pass c.slots from a) (all_can_pass c.slots (from + 1) args) good in
     let more = read_more c numbers a args xs known in
-    let next = sends c is numbers memory s framed args parts.1 more.others more.is_others i k n e
+    let next = sends c is numbers memory s framed (from + 1) args parts.1 more.others more.is_others i k n e
     (ap (λ (ys : List ℕ). slice_get ys (suc i)) (sym more.all) ∙ d) in
     record { argument = next.argument; is = next.is; value = next.value }
 
@@ -213,7 +214,7 @@ spots_then c is numbers memory s u v args framed h fits same x n known =
 
 pub ready : (c : Setting) → IsSetting c → (numbers : Numbers) (memory : Spots) (s u v : State) (rest : List Item) (at turns room : ℕ)
     (args : List (Argument Location)) (xs : List ℕ) → Framed c numbers memory s → Passed c s 0 args u → Gone (site c) rest at u v
-    → list_all (can_pass c.slots) args ≡ true → 8 * (length args - 8) ≤ c.layout.saves → read_all c.addresses numbers args ≡ Some xs
+    → all_can_pass c.slots 0 args ≡ true → 8 * (length args - 8) ≤ c.layout.saves → read_all c.addresses numbers args ≡ Some xs
     → length (map (λ (a : Argument Location). a.class) args) ≡ length args
     → Ready c.world at (bottom c) (map (λ a. a.class) args) (record { turns = turns; room = room; args = xs; memory = memory }) v
 ready c is numbers memory s u v rest at turns room args xs framed h gone good fits known many =
@@ -227,12 +228,12 @@ ready c is numbers memory s u v rest at turns room args xs framed h gone good fi
       stack_pointer = gone.others 2 (λ e. absurd (omega (arith, e))) ∙ (h.before 2 (lit< tt) (lit< tt) ∙ framed.pointer);
       return_address = gone.aligned;
       in_registers = λ i n k few e d.
-          let one = sends c is numbers memory s framed args good xs known i k n e d in
+          let one = sends c is numbers memory s framed 0 args good xs known i k n e d in
           let here : 10 + i ≡ 10 + (0 + i) = omega arith in
           gone.others (10 + i) (λ x. absurd (omega (arith, x)))
           ∙ (ap u.registers here ∙ (h.in_registers i one.argument (omega (arith, few)) one.is ∙ one.value));
       on_stack = λ i n k hi e d.
-          let one = sends c is numbers memory s framed args good xs known i k n e d in
+          let one = sends c is numbers memory s framed 0 args good xs known i k n e d in
           let here : bottom c + 8 * (i - 8) ≡ bottom c + 8 * (0 + i - 8) = omega arith in
           ap (λ (m : ℕ → ℕ). number_at m (bottom c + 8 * (i - 8)) 8) gone.bytes
           ∙ (ap (λ x. number_at u.bytes x 8) here ∙ (h.on_stack i one.argument (omega (arith, hi)) one.is ∙ one.value));

@@ -1,6 +1,6 @@
 -- Arguments come to the places of their parameters: from registers, and from the stack of the caller.
 use Rattle.std.proofs.Common.{◌≡◌, ◌≢◌, ℕ, ◌+◌, ◌-◌, ◌*◌, ◌%◌, ◌^◌, ◌<◌, ◌≤◌, Bool, true, false, List, [], ◌∷◌, refl, sym, ◌∙◌, ap, subst, arith, lit<}
-use Rattle.std.specs.Prelude.{◌||◌, not, nat_eq, nat_lt, if◌then◌else◌, length, Option, Some, None}
+use Rattle.std.specs.Prelude.{◌||◌, not, nat_eq, nat_lt, nat_le, if◌then◌else◌, length, Option, Some, None}
 use Rattle.std.specs.List.{list_all, list_any}
 use Rattle.std.proofs.lemmas.Bool.{and_parts}
 use Rattle.std.proofs.lemmas.Bool.Decides.{nat_tests}
@@ -13,7 +13,7 @@ use Rattle.vcode.specs.declared.place.Destination.{Destination}
 use Rattle.vcode.specs.Places.{same_location, located}
 use Rattle.vcode.specs.Named.{is_place, are_distinct}
 use Rattle.flat_code.specs.Step.{Numbers, put, bound, held}
-use Rattle.abi_frames.specs.Covered.{is_off_arguments, covers_params}
+use Rattle.abi_frames.specs.Covered.{is_ahead, covers_params}
 use Rattle.abi_frames.specs.Fields.{add_low, sum_to, load_8, constant}
 use Rattle.abi_frames.specs.Emission.{store_slot, slot_offset}
 use Rattle.abi_frames.specs.Functions.{caller_pointer, from_register, from_stack, argument_items, arguments_items, pointer_items, entry_items}
@@ -26,11 +26,11 @@ use Rattle.abi_frames.proofs.Simulation.{framed_same}
 
 -- ---- what holds before an argument is taken
 
--- numbers are what the places of the parameters so far hold
-pub record Entering (c : Setting) (params : ℕ) (numbers : Numbers) (u : State) : Type 0 where
+-- numbers are what the places of the first k parameters hold; the later arguments are still where they were passed
+pub record Entering (c : Setting) (params k : ℕ) (numbers : Numbers) (u : State) : Type 0 where
   pub framed : Framed c numbers c.before u
   pub output : u.output ≡ c.start.output
-  pub registers : (k : ℕ) → k < 8 → u.registers (10 + k) ≡ c.start.registers (10 + k)
+  pub registers : (i : ℕ) → k ≤ i → i < 8 → u.registers (10 + i) ≡ c.start.registers (10 + i)
   pub stack : (x : ℕ) → c.sp ≤ x → u.bytes x ≡ c.start.bytes x
   pub caller : 8 < params → u.registers 30 ≡ c.sp
 
@@ -44,6 +44,9 @@ pub record Took (c : Setting) (s : State) (p : Location) (v : ℕ) (u : State) :
   pub caller : u.registers 30 ≡ s.registers 30
 
 -- ---- one argument
+
+eq_is : (a b : ℕ) → nat_eq a b ≡ true → a ≡ b
+eq_is a b h = grind (arith, nat_tests)
 
 is_30 : IsReg 30
 is_30 = record { some = lit< tt; small = lit< tt }
@@ -90,10 +93,24 @@ leads_into_slot c is s x i reg other pointer good =
 leads_from_register : (c : Setting) → IsSetting c → (s : State) (k : ℕ) (p : Location) → k < 8 → s.registers 2 ≡ bottom c → is_place c.slots p ≡ true
     → Leads (site c) (from_register c.layout k p) s (Took c s p (s.registers (10 + k)))
 leads_from_register c is s k (InRegister r) few pointer good =
-    let reg : IsReg (10 + k) = record { some = omega arith; small = omega (arith, few) } in
-    leads_so (site c) (add_low r (10 + k) 0 ∷ []) s (Sets s r (s.registers (10 + k))) (Took c s (InRegister r) (s.registers (10 + k)))
-    (leads_copy (site c) s r (10 + k) (place_reg r (place_is c.slots r good)) reg)
-    (λ u f h. took_register c s r (s.registers (10 + k)) u good h)
+    by_test (nat_eq r (10 + k)) refl
+  where
+    reg : IsReg (10 + k)
+    reg = record { some = omega arith; small = omega (arith, few) }
+
+    stays : r ≡ 10 + k → Took c s (InRegister r) (s.registers (10 + k)) s
+    stays e = record {
+      assigned = record { value = ap s.registers e; others = λ m lo other. refl; bytes = refl; output = refl };
+      caller = refl;
+    }
+
+    by_test : (t : Bool) → nat_eq r (10 + k) ≡ t
+        → Leads (site c) (if t then [] else add_low r (10 + k) 0 ∷ []) s (Took c s (InRegister r) (s.registers (10 + k)))
+    by_test true e = leads_nowhere (site c) s (Took c s (InRegister r) (s.registers (10 + k))) (stays (eq_is r (10 + k) e))
+    by_test false e =
+        leads_so (site c) (add_low r (10 + k) 0 ∷ []) s (Sets s r (s.registers (10 + k))) (Took c s (InRegister r) (s.registers (10 + k)))
+        (leads_copy (site c) s r (10 + k) (place_reg r (place_is c.slots r good)) reg)
+        (λ u f h. took_register c s r (s.registers (10 + k)) u good h)
 leads_from_register c is s k (Slot i) few pointer good =
     let reg : IsReg (10 + k) = record { some = omega arith; small = omega (arith, few) } in
     leads_into_slot c is s (10 + k) i reg (λ e. absurd (omega (arith, e, few))) pointer good
@@ -153,7 +170,7 @@ leads_from_stack c is s k (Slot i) there caller pointer good =
 
 -- an argument from where it is passed, into its place
 leads_argument : (c : Setting) → IsSetting c → (params k : ℕ) (p : Location) (numbers : Numbers) (s : State) → k < params → params ≤ 64
-    → c.sp + 8 * (params - 8) ≤ c.world.top → Entering c params numbers s → is_place c.slots p ≡ true
+    → c.sp + 8 * (params - 8) ≤ c.world.top → Entering c params k numbers s → is_place c.slots p ≡ true
     → Leads (site c) (argument_items c.layout k p) s (Took c s p (argument_in c s k))
 leads_argument c is params k p numbers s below few fits entering good = by_test (nat_lt k 8) refl
   where
@@ -167,25 +184,30 @@ leads_argument c is params k p numbers s below few fits entering good = by_test 
         entering.framed.pointer good
 
 -- it is the one that the caller passed
-argument_same : (c : Setting) (params k : ℕ) (numbers : Numbers) (s : State) → Entering c params numbers s → argument_in c s k ≡ argument_in c c.start k
+argument_same : (c : Setting) (params k : ℕ) (numbers : Numbers) (s : State) → Entering c params k numbers s → argument_in c s k ≡ argument_in c c.start k
 argument_same c params k numbers s entering = by_test (nat_lt k 8) refl
   where
     by_test : (t : Bool) → nat_lt k 8 ≡ t
         → (if t then s.registers (10 + k) else number_at s.bytes (c.sp + 8 * (k - 8)) 8)
         ≡ (if t then c.start.registers (10 + k) else number_at c.start.bytes (c.sp + 8 * (k - 8)) 8)
-    by_test true e = entering.registers k (grind (arith, nat_tests))
+    by_test true e = entering.registers k (omega arith) (grind (arith, nat_tests))
     by_test false e = number_same s.bytes c.start.bytes (c.sp + 8 * (k - 8)) 8 (λ x lo hi. entering.stack x (omega (arith, lo)))
 
 -- ---- after it
 
--- an argument's register is no place of a parameter
-off_arguments : (r k : ℕ) → is_off_arguments (InRegister r) ≡ true → k < 8 → 10 + k ≢ r
-off_arguments r k off few e = absurd (let no : ⊥ = grind (arith, nat_tests) in no)
+-- a later argument's register is no place of this parameter
+ahead_of : (r k i : ℕ) → is_ahead k (InRegister r) ≡ true → k < i → i < 8 → 10 + i ≢ r
+ahead_of r k i ahead later few e = absurd (by_test (nat_le r (10 + k)) refl (nat_lt 17 r) refl ahead)
+  where
+    by_test : (a : Bool) → nat_le r (10 + k) ≡ a → (b : Bool) → nat_lt 17 r ≡ b → (a || b) ≡ true → ⊥
+    by_test true x b y h = let low : r ≤ 10 + k = grind (arith, nat_tests) in omega (arith, low, later, e)
+    by_test false x true y h = let high : 17 < r = grind (arith, nat_tests) in omega (arith, high, few, e)
+    by_test false x false y h = let no : ⊥ = cc in no
 
-took_keeps_registers : (c : Setting) (s : State) (p : Location) (v : ℕ) (u : State) → is_off_arguments p ≡ true → Assigned c s p v u
-    → (k : ℕ) → k < 8 → u.registers (10 + k) ≡ s.registers (10 + k)
-took_keeps_registers c s (InRegister r) v u off h k few = h.others (10 + k) (omega (arith, few)) (off_arguments r k off few)
-took_keeps_registers c s (Slot i) v u off h k few = h.registers (10 + k) (omega (arith, few))
+took_keeps_registers : (c : Setting) (s : State) (k : ℕ) (p : Location) (v : ℕ) (u : State) → is_ahead k p ≡ true → Assigned c s p v u
+    → (i : ℕ) → k < i → i < 8 → u.registers (10 + i) ≡ s.registers (10 + i)
+took_keeps_registers c s k (InRegister r) v u ahead h i later few = h.others (10 + i) (omega (arith, few)) (ahead_of r k i ahead later few)
+took_keeps_registers c s k (Slot j) v u ahead h i later few = h.registers (10 + i) (omega (arith, few))
 
 took_keeps_stack : (c : Setting) → IsSetting c → (s : State) (p : Location) (v : ℕ) (u : State) → is_place c.slots p ≡ true → Assigned c s p v u
     → (x : ℕ) → c.sp ≤ x → u.bytes x ≡ s.bytes x
@@ -196,21 +218,21 @@ took_keeps_stack c is s (Slot i) v u good h x above =
     let bottom_fits = is.above in
     ap (λ (m : ℕ → ℕ). m x) h.bytes ∙ stored_above s.bytes (slot_at c i) 8 v x (omega (arith, few, fits, bottom_fits, above))
 
-entering_more : (c : Setting) → IsSetting c → (params : ℕ) (numbers : Numbers) (s : State) (p : Location) (v : ℕ) (o : Option ℕ) (u : State)
-    → is_place c.slots p ≡ true → MayWrite c.saved p → is_off_arguments p ≡ true → ((x : ℕ) → o ≡ Some x → v ≡ x) → Entering c params numbers s → Took c s p v u
-    → Entering c params (put p o numbers) u
-entering_more c is params numbers s p v o u good may off value entering took = record {
+entering_more : (c : Setting) → IsSetting c → (params k : ℕ) (numbers : Numbers) (s : State) (p : Location) (v : ℕ) (o : Option ℕ) (u : State)
+    → is_place c.slots p ≡ true → MayWrite c.saved p → is_ahead k p ≡ true → ((x : ℕ) → o ≡ Some x → v ≡ x) → Entering c params k numbers s → Took c s p v u
+    → Entering c params (k + 1) (put p o numbers) u
+entering_more c is params k numbers s p v o u good may ahead value entering took = record {
   framed = assigned c is numbers c.before s u p v o good may entering.framed took.assigned value;
   output = assigned_output c s p v u took.assigned ∙ entering.output;
-  registers = λ k few. took_keeps_registers c s p v u off took.assigned k few ∙ entering.registers k few;
+  registers = λ i from few. took_keeps_registers c s k p v u ahead took.assigned i (omega (arith, from)) few ∙ entering.registers i (omega (arith, from)) few;
   stack = λ x above. took_keeps_stack c is s p v u good took.assigned x above ∙ entering.stack x above;
   caller = λ some. took.caller ∙ entering.caller some;
 }
 
 -- of fewer numbers
-entering_less : (c : Setting) (params : ℕ) (m n : Numbers) (u : State) → ((p : Location) (v : ℕ) → n p ≡ Some v → m p ≡ Some v) → Entering c params m u
-    → Entering c params n u
-entering_less c params m n u less entering =
+entering_less : (c : Setting) (params k : ℕ) (m n : Numbers) (u : State) → ((p : Location) (v : ℕ) → n p ≡ Some v → m p ≡ Some v) → Entering c params k m u
+    → Entering c params k n u
+entering_less c params k m n u less entering =
     let framed = entering.framed in
     record {
       framed = record {
@@ -238,9 +260,6 @@ AllUnknown numbers (d ∷ ds) = (numbers d.place ≡ None) × AllUnknown numbers
 pub none_is_known : (ds : List (Destination Location)) → AllUnknown (λ p. None) ds
 none_is_known [] = tt
 none_is_known (d ∷ ds) = (refl, none_is_known ds)
-
-eq_is : (a b : ℕ) → nat_eq a b ≡ true → a ≡ b
-eq_is a b h = grind (arith, nat_tests)
 
 same_is : (p q : Location) → same_location p q ≡ true → p ≡ q
 same_is (InRegister a) (InRegister b) h = ap InRegister (eq_is a b h)
@@ -302,7 +321,7 @@ pub record CanTake (c : Setting) (params k : ℕ) (ds : List (Destination Locati
   pub few : params ≤ 64
   pub fits : c.sp + 8 * (params - 8) ≤ c.world.top
   pub places : list_all (λ (d : Destination Location). is_place c.slots d.place) ds ≡ true
-  pub off : covers_params ds ≡ true
+  pub ahead : covers_params k ds ≡ true
   pub may : AllMayWrite c.saved ds
 
 can_take_more : (c : Setting) (params k : ℕ) (d : Destination Location) (ds : List (Destination Location)) → CanTake c params k (d ∷ ds) → CanTake c params (k + 1) ds
@@ -313,22 +332,32 @@ can_take_more c params k d ds can =
       few = can.few;
       fits = can.fits;
       places = (and_parts (is_place c.slots d.place) (list_all (λ (e : Destination Location). is_place c.slots e.place) ds) can.places).1;
-      off = (and_parts (is_off_arguments d.place) (covers_params ds) can.off).1;
+      ahead = (and_parts (is_ahead k d.place) (covers_params (k + 1) ds) can.ahead).1;
       may = can.may.1;
     }
 
 -- one more of them
 leads_next : (c : Setting) → IsSetting c → (params k : ℕ) (d : Destination Location) (ds : List (Destination Location)) (numbers : Numbers) (o : Option ℕ) (s : State)
-    → CanTake c params k (d ∷ ds) → ((x : ℕ) → o ≡ Some x → argument_in c c.start k ≡ x) → Entering c params numbers s
-    → Leads (site c) (argument_items c.layout k d.place) s (Entering c params (put d.place o numbers))
+    → CanTake c params k (d ∷ ds) → ((x : ℕ) → o ≡ Some x → argument_in c c.start k ≡ x) → Entering c params k numbers s
+    → Leads (site c) (argument_items c.layout k d.place) s (Entering c params (k + 1) (put d.place o numbers))
 leads_next c is params k d ds numbers o s can value entering =
     let count = can.count in
     let good = (and_parts (is_place c.slots d.place) (list_all (λ (e : Destination Location). is_place c.slots e.place) ds) can.places).0 in
-    let off = (and_parts (is_off_arguments d.place) (covers_params ds) can.off).0 in
-    leads_so (site c) (argument_items c.layout k d.place) s (Took c s d.place (argument_in c s k)) (Entering c params (put d.place o numbers))
+    let ahead = (and_parts (is_ahead k d.place) (covers_params (k + 1) ds) can.ahead).0 in
+    leads_so (site c) (argument_items c.layout k d.place) s (Took c s d.place (argument_in c s k)) (Entering c params (k + 1) (put d.place o numbers))
     (leads_argument c is params k d.place numbers s (omega (arith, count)) can.few can.fits entering good)
     (λ u f took.
-    entering_more c is params numbers s d.place (argument_in c s k) o u good can.may.0 off (λ x e. argument_same c params k numbers s entering ∙ value x e) entering took)
+    entering_more c is params k numbers s d.place (argument_in c s k) o u good can.may.0 ahead (λ x e. argument_same c params k numbers s entering ∙ value x e) entering took)
+
+-- when all are taken
+entered : (c : Setting) (params k : ℕ) (numbers : Numbers) (u : State) → Entering c params k numbers u → Entering c params 8 numbers u
+entered c params k numbers u entering = record {
+  framed = entering.framed;
+  output = entering.output;
+  registers = λ i from few. absurd (let no : ⊥ = omega (arith, from, few) in no);
+  stack = entering.stack;
+  caller = entering.caller;
+}
 
 no_value : (a x : ℕ) → None ≡ Some x → a ≡ x
 no_value a x e = absurd (let no : ⊥ = cc in no)
@@ -338,26 +367,26 @@ some_is a b e = cc
 
 -- parameters without arguments take anything
 leads_missing : (c : Setting) → IsSetting c → (params k : ℕ) (ds : List (Destination Location)) (numbers : Numbers) (s : State) → CanTake c params k ds
-    → AllUnknown numbers ds → Entering c params numbers s → Leads (site c) (arguments_items c.layout k ds) s (Entering c params numbers)
-leads_missing c is params k [] numbers s can unknown entering = leads_nowhere (site c) s (Entering c params numbers) entering
+    → AllUnknown numbers ds → Entering c params k numbers s → Leads (site c) (arguments_items c.layout k ds) s (Entering c params 8 numbers)
+leads_missing c is params k [] numbers s can unknown entering = leads_nowhere (site c) s (Entering c params 8 numbers) (entered c params k numbers s entering)
 leads_missing c is params k (d ∷ ds) numbers s can unknown entering =
-    leads_then (site c) (argument_items c.layout k d.place) (arguments_items c.layout (k + 1) ds) s (Entering c params (put d.place None numbers))
-    (Entering c params numbers)
+    leads_then (site c) (argument_items c.layout k d.place) (arguments_items c.layout (k + 1) ds) s (Entering c params (k + 1) (put d.place None numbers))
+    (Entering c params 8 numbers)
     (leads_next c is params k d ds numbers None s can (λ x e. no_value (argument_in c c.start k) x e) entering)
     (λ u f more.
     leads_missing c is params (k + 1) ds numbers u (can_take_more c params k d ds can) unknown.1
-    (entering_less c params (put d.place None numbers) numbers u (λ q v known. known_apart d.place numbers unknown.0 q v known) more))
+    (entering_less c params (k + 1) (put d.place None numbers) numbers u (λ q v known. known_apart d.place numbers unknown.0 q v known) more))
 
 leads_arguments : (c : Setting) → IsSetting c → (params k : ℕ) (ds : List (Destination Location)) (xs : List ℕ) (numbers : Numbers) (s : State)
-    → CanTake c params k ds → are_distinct located ds ≡ true → AllUnknown numbers ds → ArePassed c k ds xs → Entering c params numbers s
-    → Leads (site c) (arguments_items c.layout k ds) s (Entering c params (bound numbers ds xs))
-leads_arguments c is params k [] xs numbers s can apart unknown passed entering = leads_nowhere (site c) s (Entering c params numbers) entering
+    → CanTake c params k ds → are_distinct located ds ≡ true → AllUnknown numbers ds → ArePassed c k ds xs → Entering c params k numbers s
+    → Leads (site c) (arguments_items c.layout k ds) s (Entering c params 8 (bound numbers ds xs))
+leads_arguments c is params k [] xs numbers s can apart unknown passed entering = leads_nowhere (site c) s (Entering c params 8 numbers) (entered c params k numbers s entering)
 leads_arguments c is params k (d ∷ ds) [] numbers s can apart unknown passed entering =
     leads_missing c is params k (d ∷ ds) numbers s can unknown entering
 leads_arguments c is params k (d ∷ ds) (x ∷ xs) numbers s can apart unknown passed entering =
     let more : Numbers = put d.place (Some (held d.class x)) numbers in
     let parts = and_parts (not (list_any (has_place d) ds)) (are_distinct located ds) apart in
-    leads_then (site c) (argument_items c.layout k d.place) (arguments_items c.layout (k + 1) ds) s (Entering c params more) (Entering c params (bound more ds xs))
+    leads_then (site c) (argument_items c.layout k d.place) (arguments_items c.layout (k + 1) ds) s (Entering c params (k + 1) more) (Entering c params 8 (bound more ds xs))
     (leads_next c is params k d ds numbers (Some (held d.class x)) s can (λ y e. passed.0 ∙ some_is (held d.class x) y e) entering)
     (λ u f now.
     leads_arguments c is params (k + 1) ds xs more u (can_take_more c params k d ds can) parts.1
@@ -380,17 +409,17 @@ leads_caller_pointer c is s pointer =
     (leads_sum (site c) u 30 30 2 is_30 is_30 is_2)
     (λ t g two. record { value = two.value ∙ sum; others = two.others; bytes = two.bytes; output = two.output }))
 
-has_pointer : (c : Setting) (params : ℕ) (numbers : Numbers) (s u : State) → Entering c 0 numbers s → Sets s 30 c.sp u → Entering c params numbers u
+has_pointer : (c : Setting) (params : ℕ) (numbers : Numbers) (s u : State) → Entering c 0 0 numbers s → Sets s 30 c.sp u → Entering c params 0 numbers u
 has_pointer c params numbers s u entering h = record {
   framed = framed_same c numbers c.before s u entering.framed
       (record { registers = λ n lo. h.others n (λ e. absurd (omega (arith, e, lo))); bytes = h.bytes; output = h.output });
   output = h.output ∙ entering.output;
-  registers = λ k few. h.others (10 + k) (λ e. absurd (omega (arith, e, few))) ∙ entering.registers k few;
+  registers = λ i from few. h.others (10 + i) (λ e. absurd (omega (arith, e, few))) ∙ entering.registers i from few;
   stack = λ x above. ap (λ (m : ℕ → ℕ). m x) h.bytes ∙ entering.stack x above;
   caller = λ some. h.value;
 }
 
-needs_none : (c : Setting) (params : ℕ) (numbers : Numbers) (s : State) → params ≤ 8 → Entering c 0 numbers s → Entering c params numbers s
+needs_none : (c : Setting) (params : ℕ) (numbers : Numbers) (s : State) → params ≤ 8 → Entering c 0 0 numbers s → Entering c params 0 numbers s
 needs_none c params numbers s few entering = record {
   framed = entering.framed;
   output = entering.output;
@@ -399,24 +428,24 @@ needs_none c params numbers s few entering = record {
   caller = λ some. absurd (let no : ⊥ = omega (arith, some, few) in no);
 }
 
-leads_pointer : (c : Setting) → IsSetting c → (params : ℕ) (numbers : Numbers) (s : State) → Entering c 0 numbers s
-    → Leads (site c) (pointer_items c.layout params) s (Entering c params numbers)
+leads_pointer : (c : Setting) → IsSetting c → (params : ℕ) (numbers : Numbers) (s : State) → Entering c 0 0 numbers s
+    → Leads (site c) (pointer_items c.layout params) s (Entering c params 0 numbers)
 leads_pointer c is params numbers s entering = by_test (nat_lt 8 params) refl
   where
-    by_test : (t : Bool) → nat_lt 8 params ≡ t → Leads (site c) (if t then caller_pointer c.layout else []) s (Entering c params numbers)
+    by_test : (t : Bool) → nat_lt 8 params ≡ t → Leads (site c) (if t then caller_pointer c.layout else []) s (Entering c params 0 numbers)
     by_test true e =
-        leads_so (site c) (caller_pointer c.layout) s (Sets s 30 c.sp) (Entering c params numbers)
+        leads_so (site c) (caller_pointer c.layout) s (Sets s 30 c.sp) (Entering c params 0 numbers)
         (leads_caller_pointer c is s entering.framed.pointer)
         (λ u f h. has_pointer c params numbers s u entering h)
-    by_test false e = leads_nowhere (site c) s (Entering c params numbers) (needs_none c params numbers s (grind (arith, nat_tests)) entering)
+    by_test false e = leads_nowhere (site c) s (Entering c params 0 numbers) (needs_none c params numbers s (grind (arith, nat_tests)) entering)
 
 -- ---- the entry
 
 pub leads_entry : (c : Setting) → IsSetting c → (params : List (Destination Location)) (xs : List ℕ) (s : State) → CanTake c (length params) 0 params
-    → are_distinct located params ≡ true → ArePassed c 0 params xs → Entering c 0 (λ p. None) s
-    → Leads (site c) (entry_items c.layout params) s (Entering c (length params) (bound (λ p. None) params xs))
+    → are_distinct located params ≡ true → ArePassed c 0 params xs → Entering c 0 0 (λ p. None) s
+    → Leads (site c) (entry_items c.layout params) s (Entering c (length params) 8 (bound (λ p. None) params xs))
 leads_entry c is params xs s can apart passed entering =
-    leads_then (site c) (pointer_items c.layout (length params)) (arguments_items c.layout 0 params) s (Entering c (length params) (λ p. None))
-    (Entering c (length params) (bound (λ p. None) params xs))
+    leads_then (site c) (pointer_items c.layout (length params)) (arguments_items c.layout 0 params) s (Entering c (length params) 0 (λ p. None))
+    (Entering c (length params) 8 (bound (λ p. None) params xs))
     (leads_pointer c is (length params) (λ p. None) s entering)
     (λ u f now. leads_arguments c is (length params) 0 params xs (λ p. None) u can apart (none_is_known params) passed now)

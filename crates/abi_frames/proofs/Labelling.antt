@@ -650,7 +650,11 @@ argument_plainly : (n : ℕ) (y : Layout) (slots k : ℕ) (p : Location) → is_
 argument_plainly n y slots k (InRegister r) good = by_test (nat_lt k 8) refl
   where
     by_test : (b : Bool) → nat_lt k 8 ≡ b → Plainly n (if b then from_register y k (InRegister r) else from_stack y k (InRegister r))
-    by_test true e = add_plainly n r (10 + k) 0 (place_nameable slots r good) (nameable (10 + k) (grind (arith, nat_tests)))
+    by_test true e = moved (nat_eq r (10 + k))
+      where
+        moved : (b : Bool) → Plainly n (if b then [] else add_low r (10 + k) 0 ∷ [])
+        moved true = plainly_nothing n
+        moved false = add_plainly n r (10 + k) 0 (place_nameable slots r good) (nameable (10 + k) (grind (arith, nat_tests)))
     by_test false e = load_plainly n r 30 (8 * (k - 8)) (place_nameable slots r good) (nameable 30 (lit< tt))
 argument_plainly n y slots k (Slot i) good = by_test (nat_lt k 8) refl
   where

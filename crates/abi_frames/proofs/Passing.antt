@@ -1,5 +1,5 @@
 -- What the code of a call's arguments does: each comes to where the calling convention has it, and all that stands elsewhere stays.
-use Rattle.std.proofs.Common.{◌≡◌, ◌≢◌, ℕ, zero, suc, ◌+◌, ◌-◌, ◌*◌, ◌%◌, ◌^◌, ◌<◌, ◌≤◌, Bool, true, false, List, [], ◌∷◌, ◌++◌, refl, ◌∙◌, ap, subst, arith, lit<}
+use Rattle.std.proofs.Common.{nat_le, ◌≡◌, ◌≢◌, ℕ, zero, suc, ◌+◌, ◌-◌, ◌*◌, ◌%◌, ◌^◌, ◌<◌, ◌≤◌, Bool, true, false, List, [], ◌∷◌, ◌++◌, refl, ◌∙◌, ap, subst, arith, lit<}
 use Rattle.std.specs.Prelude.{◌&&◌, ◌||◌, nat_lt, if◌then◌else◌, length, slice_get, Some}
 use Rattle.std.specs.List.{list_all}
 use Rattle.std.proofs.lemmas.Bool.{and_parts}
@@ -18,7 +18,7 @@ use Rattle.vcode.specs.declared.place.Argument.{Argument}
 use Rattle.vcode.specs.Named.{is_place, operand_keeps}
 use Rattle.flat_code.specs.Step.{taken}
 use Rattle.abi_frames.specs.Calls.{passed}
-use Rattle.abi_frames.specs.Covered.{is_off_arguments}
+use Rattle.abi_frames.specs.Covered.{is_off_arguments, is_behind}
 use Rattle.abi_frames.specs.Fields.{store_8}
 use Rattle.abi_frames.specs.Emission.{word_into, pass_into, pass_items, pass_all}
 use Rattle.abi_frames.proofs.Leading.{Leads, leads_nowhere, leads_then, leads_so, Sets, IsReg}
@@ -65,6 +65,7 @@ pub record Passed (c : Setting) (s : State) (k : ℕ) (args : List (Argument Loc
   pub on_stack : (i : ℕ) (a : Argument Location) → 8 ≤ k + i → slice_get args i ≡ Some a
       → number_at u.bytes (bottom c + 8 * (k + i - 8)) 8 ≡ sent c s a
   pub before : (n : ℕ) → n < 10 + k → n < 28 → u.registers n ≡ s.registers n
+  pub behind : (n : ℕ) → 10 + k + length args ≤ n → n < 28 → u.registers n ≡ s.registers n
   pub high : (n : ℕ) → 17 < n → n < 28 → u.registers n ≡ s.registers n
   pub below : (x : ℕ) → x < bottom c + 8 * (k - 8) → u.bytes x ≡ s.bytes x
   pub above : (x : ℕ) → bottom c + 8 * (k + length args - 8) ≤ x → u.bytes x ≡ s.bytes x
@@ -79,6 +80,9 @@ unmoved c s k args u fits h = record {
 }
 
 -- ---- one argument
+
+length-more : (a : Argument Location) (args : List (Argument Location)) → length (a ∷ args) ≡ length args + 1
+length-more a args = omega arith
 
 word_again : (v : ℕ) → v % 2 ^ 32 ≡ v % 2 ^ 32 % 2 ^ 32
 word_again v = omega arith
@@ -110,6 +114,7 @@ in_register c s k a u few h = record {
       let first = (one_argument i a b e).0 in
       absurd (omega (arith, first, hi, few));
   before = λ n lo below. h.others n (λ e. absurd (omega (arith, e, lo)));
+  behind = λ n hi below. let one = length-more a [] in h.others n (λ e. absurd (omega (arith, e, hi, one)));
   high = λ n hi below. h.others n (λ e. absurd (omega (arith, e, hi, few)));
   below = λ x lo. ap (λ (m : ℕ → ℕ). m x) h.bytes;
   above = λ x hi. ap (λ (m : ℕ → ℕ). m x) h.bytes;
@@ -132,6 +137,7 @@ to_stack c s k a u w many small one two =
           ap (λ x. number_at w.bytes x 8) here
           ∙ (ap (λ (m : ℕ → ℕ). number_at m at 8) bytes ∙ (read_back s.bytes at 8 v small ∙ ap (sent c s) the.1));
       before = λ n lo below. two.registers n (λ e. absurd (omega (arith, e, below))) ∙ one.others n (λ e. absurd (omega (arith, e, below)));
+      behind = λ n hi below. two.registers n (λ e. absurd (omega (arith, e, below))) ∙ one.others n (λ e. absurd (omega (arith, e, below)));
       high = λ n hi below. two.registers n (λ e. absurd (omega (arith, e, below))) ∙ one.others n (λ e. absurd (omega (arith, e, below)));
       below = λ x lo. ap (λ (m : ℕ → ℕ). m x) bytes ∙ stored_below s.bytes at 8 v x lo;
       above = λ x hi. ap (λ (m : ℕ → ℕ). m x) bytes ∙ stored_above s.bytes at 8 v x (omega (arith, hi, many));
@@ -174,54 +180,82 @@ leads_pass c is s k a pointer known fits = by_test (nat_lt k 8) refl
 
 -- ---- all of them
 
--- an argument whose operand comes neither from a register of arguments nor from elsewhere than a place
-abbrev pub can_pass : (slots : ℕ) → Argument Location → Bool
-can_pass slots a = operand_keeps (is_place slots) a.value && operand_keeps is_off_arguments a.value
+-- the k-th argument can be passed behind those before it: its operand is in a place, and in no register that one of them is passed in
+abbrev pub can_pass : (slots k : ℕ) → Argument Location → Bool
+can_pass slots k a = operand_keeps (is_place slots) a.value && operand_keeps (is_behind k) a.value
 
-length-more : (a : Argument Location) (args : List (Argument Location)) → length (a ∷ args) ≡ length args + 1
-length-more a args = omega arith
+abbrev pub all_can_pass : (slots k : ℕ) → List (Argument Location) → Bool
+all_can_pass slots k [] = true
+all_can_pass slots k (a ∷ args) = can_pass slots k a && all_can_pass slots (k + 1) args
 
-sent_same : (c : Setting) → IsSetting c → (s u : State) (a : Argument Location) → Unmoved c s u → can_pass c.slots a ≡ true → sent c u a ≡ sent c s a
-sent_same c is s u a h good =
-    let parts = and_parts (operand_keeps (is_place c.slots) a.value) (operand_keeps is_off_arguments a.value) good in
-    ap (λ v. passed a.class (taken a.class v)) (operand_unmoved c is s u a.value h parts.0 parts.1)
+register_left : (c : Setting) (s : State) (k j : ℕ) (x : Argument Location) (u : State) (r : ℕ) → k < j → Passed c s k (x ∷ []) u → r ≤ 27
+    → is_behind j (InRegister r) ≡ true → u.registers r ≡ s.registers r
+register_left c s k j x u r later h hi behind = by_test (nat_lt r 10) refl (nat_le (10 + j) r) refl (nat_lt 17 r) refl behind
+  where
+    by_test : (a : Bool) → nat_lt r 10 ≡ a → (b : Bool) → nat_le (10 + j) r ≡ b → (d : Bool) → nat_lt 17 r ≡ d → (a || (b || d)) ≡ true
+        → u.registers r ≡ s.registers r
+    by_test true e b f d g z = let few : r < 10 = grind (arith, nat_tests) in h.before r (omega (arith, few)) (omega (arith, few))
+    by_test false e true f d g z =
+        let from : 10 + j ≤ r = grind (arith, nat_tests) in
+        let one = length-more x [] in
+        h.behind r (omega (arith, from, later, one)) (omega (arith, hi))
+    by_test false e false f true g z = h.high r (grind (arith, nat_tests)) (omega (arith, hi))
+    by_test false e false f false g z = absurd (let no : ⊥ = cc in no)
 
-each : (test : Argument Location → Bool) (xs : List (Argument Location)) (i : ℕ) (x : Argument Location) → list_all test xs ≡ true → slice_get xs i ≡ Some x
-    → test x ≡ true
-each test [] i x h e = absurd (let no : ⊥ = cc in no)
-each test (y ∷ xs) zero x h e = ap test (same x y e) ∙ (and_parts (test y) (list_all test xs) h).0
+operand_left : (c : Setting) → IsSetting c → (s : State) (k j : ℕ) (x : Argument Location) (u : State) (a : Operand Location) → k < j → Passed c s k (x ∷ []) u
+    → Unmoved c s u → operand_keeps (is_place c.slots) a ≡ true → operand_keeps (is_behind j) a ≡ true → operand_in c u a ≡ operand_in c s a
+operand_left c is s k j x u (At (InRegister r)) later h same good behind = register_left c s k j x u r later h (place_is c.slots r good).to_27 behind
+operand_left c is s k j x u (At (Slot i)) later h same good behind = slot_unmoved c is s u i same
+operand_left c is s k j x u (Number n) later h same good behind = refl
+operand_left c is s k j x u (Name g) later h same good behind = refl
+
+sent_same : (c : Setting) → IsSetting c → (s : State) (k j : ℕ) (x : Argument Location) (u : State) (a : Argument Location) → k < j → Passed c s k (x ∷ []) u
+    → Unmoved c s u → can_pass c.slots j a ≡ true → sent c u a ≡ sent c s a
+sent_same c is s k j x u a later h same good =
+    let parts = and_parts (operand_keeps (is_place c.slots) a.value) (operand_keeps (is_behind j) a.value) good in
+    ap (λ v. passed a.class (taken a.class v)) (operand_left c is s k j x u a.value later h same parts.0 parts.1)
+
+each : (slots k : ℕ) (xs : List (Argument Location)) (i : ℕ) (x : Argument Location) → all_can_pass slots k xs ≡ true → slice_get xs i ≡ Some x
+    → can_pass slots (k + i) x ≡ true
+each slots k [] i x h e = absurd (let no : ⊥ = cc in no)
+each slots k (y ∷ xs) zero x h e =
+    let here : k + zero ≡ k = omega arith in
+    ap (λ n. can_pass slots n x) here ∙ (ap (can_pass slots k) (same x y e) ∙ (and_parts (can_pass slots k y) (all_can_pass slots (k + 1) xs) h).0)
   where
     same : (a b : Argument Location) → Some b ≡ Some a → a ≡ b
     same a b e = cc
-each test (y ∷ xs) (suc i) x h e = each test xs i x (and_parts (test y) (list_all test xs) h).1 e
+each slots k (y ∷ xs) (suc i) x h e =
+    let here : k + suc i ≡ k + 1 + i = omega arith in
+    ap (λ n. can_pass slots n x) here ∙ each slots (k + 1) xs i x (and_parts (can_pass slots k y) (all_can_pass slots (k + 1) xs) h).1 e
 
 registers_more : (c : Setting) → IsSetting c → (s u w : State) (k : ℕ) (a : Argument Location) (args : List (Argument Location)) → Unmoved c s u
-    → list_all (can_pass c.slots) args ≡ true → Passed c s k (a ∷ []) u → Passed c u (k + 1) args w
+    → all_can_pass c.slots (k + 1) args ≡ true → Passed c s k (a ∷ []) u → Passed c u (k + 1) args w
     → (i : ℕ) (b : Argument Location) → k + i < 8 → slice_get (a ∷ args) i ≡ Some b → w.registers (10 + (k + i)) ≡ sent c s b
 registers_more c is s u w k a args same good one two zero b few e =
     two.before (10 + (k + zero)) (omega arith) (omega (arith, few)) ∙ one.in_registers zero b few e
 registers_more c is s u w k a args same good one two (suc i) b few e =
     let here : 10 + (k + suc i) ≡ 10 + (k + 1 + i) = omega arith in
-    ap w.registers here ∙ (two.in_registers i b (omega (arith, few)) e ∙ sent_same c is s u b same (each (can_pass c.slots) args i b good e))
+    ap w.registers here ∙ (two.in_registers i b (omega (arith, few)) e ∙ sent_same c is s k (k + 1 + i) a u b (omega arith) one same (each c.slots (k + 1) args i b good e))
 
 stack_more : (c : Setting) → IsSetting c → (s u w : State) (k : ℕ) (a : Argument Location) (args : List (Argument Location)) → Unmoved c s u
-    → list_all (can_pass c.slots) args ≡ true → Passed c s k (a ∷ []) u → Passed c u (k + 1) args w
+    → all_can_pass c.slots (k + 1) args ≡ true → Passed c s k (a ∷ []) u → Passed c u (k + 1) args w
     → (i : ℕ) (b : Argument Location) → 8 ≤ k + i → slice_get (a ∷ args) i ≡ Some b → number_at w.bytes (bottom c + 8 * (k + i - 8)) 8 ≡ sent c s b
 stack_more c is s u w k a args same good one two zero b many e =
     number_same w.bytes u.bytes (bottom c + 8 * (k + zero - 8)) 8 (λ x lo hi. two.below x (omega (arith, hi, many))) ∙ one.on_stack zero b many e
 stack_more c is s u w k a args same good one two (suc i) b many e =
     let here : bottom c + 8 * (k + suc i - 8) ≡ bottom c + 8 * (k + 1 + i - 8) = omega arith in
     ap (λ x. number_at w.bytes x 8) here
-    ∙ (two.on_stack i b (omega (arith, many)) e ∙ sent_same c is s u b same (each (can_pass c.slots) args i b good e))
+    ∙ (two.on_stack i b (omega (arith, many)) e ∙ sent_same c is s k (k + 1 + i) a u b (omega arith) one same (each c.slots (k + 1) args i b good e))
 
 passed_then : (c : Setting) → IsSetting c → (s u w : State) (k : ℕ) (a : Argument Location) (args : List (Argument Location)) → Unmoved c s u
-    → list_all (can_pass c.slots) args ≡ true → Passed c s k (a ∷ []) u → Passed c u (k + 1) args w → Passed c s k (a ∷ args) w
+    → all_can_pass c.slots (k + 1) args ≡ true → Passed c s k (a ∷ []) u → Passed c u (k + 1) args w → Passed c s k (a ∷ args) w
 passed_then c is s u w k a args same good one two =
     let more = length-more a args in
     record {
       in_registers = registers_more c is s u w k a args same good one two;
       on_stack = stack_more c is s u w k a args same good one two;
       before = λ n lo below. two.before n (omega (arith, lo)) below ∙ one.before n lo below;
+      behind = λ n hi below. let first = length-more a [] in two.behind n (omega (arith, hi, more)) below ∙ one.behind n (omega (arith, hi, more, first)) below;
       high = λ n hi below. two.high n hi below ∙ one.high n hi below;
       below = λ x lo. two.below x (omega (arith, lo)) ∙ one.below x lo;
       above = λ x hi. two.above x (omega (arith, hi, more)) ∙ one.above x (omega (arith, hi, more));
@@ -229,7 +263,7 @@ passed_then c is s u w k a args same good one two =
     }
 
 pub leads_arguments : (c : Setting) → IsSetting c → (s : State) (k : ℕ) (args : List (Argument Location)) → s.registers 2 ≡ bottom c
-    → list_all (can_pass c.slots) args ≡ true → 8 * (k + length args - 8) ≤ c.layout.saves
+    → all_can_pass c.slots k args ≡ true → 8 * (k + length args - 8) ≤ c.layout.saves
     → Leads (site c) (pass_all c.layout k args) s (Passed c s k args)
 leads_arguments c is s k [] pointer good fits =
     leads_nowhere (site c) s (Passed c s k [])
@@ -237,14 +271,15 @@ leads_arguments c is s k [] pointer good fits =
       in_registers = λ i a few e. absurd (let no : ⊥ = cc in no);
       on_stack = λ i a many e. absurd (let no : ⊥ = cc in no);
       before = λ n lo below. refl;
+      behind = λ n hi below. refl;
       high = λ n hi below. refl;
       below = λ x lo. refl;
       above = λ x hi. refl;
       output = refl;
     })
 leads_arguments c is s k (a ∷ args) pointer good fits =
-    let parts = and_parts (can_pass c.slots a) (list_all (can_pass c.slots) args) good in
-    let known = and_parts (operand_keeps (is_place c.slots) a.value) (operand_keeps is_off_arguments a.value) parts.0 in
+    let parts = and_parts (can_pass c.slots k a) (all_can_pass c.slots (k + 1) args) good in
+    let known = and_parts (operand_keeps (is_place c.slots) a.value) (operand_keeps (is_behind k) a.value) parts.0 in
     let more = length-more a args in
     let here : 8 * (k + 1 - 8) ≤ c.layout.saves = omega (arith, fits, more) in
     leads_then (site c) (pass_items c.layout k a) (pass_all c.layout (k + 1) args) s (Passed c s k (a ∷ [])) (Passed c s k (a ∷ args))

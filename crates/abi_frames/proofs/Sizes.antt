@@ -597,8 +597,12 @@ epilogue_size y rs few =
 argument_size : (y : Layout) (k : ℕ) (p : Location) → y.slots < 1024 → is_near p ≡ true → longest_size (argument_items y k p) ≤ 2
 argument_size y k (InRegister r) few near = by_test (nat_lt k 8)
   where
+    moved : (b : Bool) → longest_size (if b then [] else add_low r (10 + k) 0 ∷ []) ≤ 2
+    moved true = lit≤ tt
+    moved false = lit≤ tt
+
     by_test : (b : Bool) → longest_size (if b then from_register y k (InRegister r) else from_stack y k (InRegister r)) ≤ 2
-    by_test true = lit≤ tt
+    by_test true = moved (nat_eq r (10 + k))
     by_test false = lit≤ tt
 argument_size y k (Slot i) few near = by_test (nat_lt k 8)
   where

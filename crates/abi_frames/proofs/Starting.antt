@@ -154,7 +154,7 @@ begun_spots c is u w clear holds same saved x n known =
         absurd (known_not_away (c.before x) n known (clear x (omega (arith, from, above)) (omega (arith, to, fits, saves, above))))
 
 pub begun : (c : Setting) → IsSetting c → c.start.registers 2 ≡ c.sp → Clear c.world.bottom c.sp c.before
-    → HoldsSpots c.world.memory_map c.before c.start → Leads (site c) (prologue c.layout c.saved) c.start (Entering c 0 (λ p. None))
+    → HoldsSpots c.world.memory_map c.before c.start → Leads (site c) (prologue c.layout c.saved) c.start (Entering c 0 0 (λ p. None))
 begun c is pointer clear holds =
     let n : ℕ = 2 ^ 64 - c.layout.size in
     let s : State = c.start in
@@ -164,11 +164,11 @@ begun c is pointer clear holds =
     let fits = is.fits in
     let saves = is.saves_fit in
     leads_then (site c) (lower_pointer c.layout.size) (save_all c.layout.saves c.saved) s (PointerMoved s ((s.registers 2 + n) % 2 ^ 64))
-    (Entering c 0 (λ p. None)) (leads_lower (site c) s c.layout.size)
+    (Entering c 0 0 (λ p. None)) (leads_lower (site c) s c.layout.size)
     (λ u fixed one.
     let value = one.value in
     let at_u : u.registers 2 ≡ bottom c = value ∙ moved_down (s.registers 2) c.sp c.layout.size pointer (omega (arith, above)) (omega (arith, below, top)) in
-    leads_so (site c) (save_all c.layout.saves c.saved) u (AllSaved c c.layout.saves c.saved u) (Entering c 0 (λ p. None))
+    leads_so (site c) (save_all c.layout.saves c.saved) u (AllSaved c c.layout.saves c.saved u) (Entering c 0 0 (λ p. None))
     (leads_save_all c is u c.layout.saves c.saved at_u is.savable saves)
     (λ w g two.
     let stays : (x : ℕ) → c.sp ≤ x → w.bytes x ≡ s.bytes x =
@@ -187,7 +187,7 @@ begun c is pointer clear holds =
         others = λ x hi away. stays x hi;
       };
       output = two.output ∙ one.output;
-      registers = λ k few. two.registers (10 + k) (omega (arith, few)) ∙ one.others (10 + k) (omega (arith, few)) (λ e. absurd (omega (arith, e)));
+      registers = λ k from few. two.registers (10 + k) (omega (arith, few)) ∙ one.others (10 + k) (omega (arith, few)) (λ e. absurd (omega (arith, e)));
       stack = stays;
       caller = λ some. absurd (let no : ⊥ = omega (arith, some) in no);
     }))
@@ -322,7 +322,7 @@ block_stands c f slots same same_area same_saves is b i e code =
     let keeps : block_keeps (is_place slots) b ≡ true = each (block_keeps (is_place slots)) f.blocks i b known.1 e in
     let keeps_here : block_keeps (is_place c.slots) b ≡ true = subst (λ n. block_keeps (is_place n) b ≡ true) (sym same) keeps in
     let parts = and_parts (list_all (line_keeps (is_place c.slots)) b.lines) (jump_keeps (is_place c.slots) b.jump) keeps_here in
-    let covered = and_parts (covers_params f.params) (list_all covers_block f.blocks) is.covered in
+    let covered = and_parts (covers_params 0 f.params) (list_all covers_block f.blocks) is.covered in
     let here = each covers_block f.blocks i b covered.1 e in
     let pays = each is_paid f.blocks i b is.regular.paid e in
     let inside = each (λ (d : Block Location). leads_inside (length f.blocks) d.jump) f.blocks i b is.regular.inside e in
@@ -347,9 +347,9 @@ block_stands c f slots same same_area same_saves is b i e code =
 -- from the call to the first block
 begins : (c : Setting) (f : Code Location) (slots at : ℕ) (j : FlatGiven) → IsSetting c → c.slots ≡ slots → c.saved ≡ saved_registers f → IsCode f slots → Clear c.world.bottom c.sp c.before
     → Ready c.world at c.sp (classes f.params) (record j { memory = c.before }) c.start
-    → Leads (site c) (prologue c.layout c.saved ++ entry_items c.layout f.params) c.start (Entering c (length f.params) (bound (λ p. None) f.params j.args))
+    → Leads (site c) (prologue c.layout c.saved ++ entry_items c.layout f.params) c.start (Entering c (length f.params) 8 (bound (λ p. None) f.params j.args))
 begins c f slots at j good same same_saved is clear ready =
-    let covered = and_parts (covers_params f.params) (list_all covers_block f.blocks) is.covered in
+    let covered = and_parts (covers_params 0 f.params) (list_all covers_block f.blocks) is.covered in
     let known = and_parts (list_all (λ (d : Destination Location). is_place slots d.place) f.params) (list_all (block_keeps (is_place slots)) f.blocks) is.known in
     let below = ready.below_top in
     let count = length-classes f.params in
@@ -358,11 +358,11 @@ begins c f slots at j good same same_saved is clear ready =
       few = le_is (length f.params) 64 is.regular.few_params;
       fits = omega (arith, below, count);
       places = subst (λ n. list_all (λ (d : Destination Location). is_place n d.place) f.params ≡ true) (sym same) known.0;
-      off = covered.0;
+      ahead = covered.0;
       may = subst (λ rs. AllMayWrite rs f.params) (sym same_saved) (all_params_may f slots known.0);
     } in
-    leads_then (site c) (prologue c.layout c.saved) (entry_items c.layout f.params) c.start (Entering c 0 (λ p. None))
-    (Entering c (length f.params) (bound (λ p. None) f.params j.args)) (begun c good ready.stack_pointer clear ready.memory)
+    leads_then (site c) (prologue c.layout c.saved) (entry_items c.layout f.params) c.start (Entering c 0 0 (λ p. None))
+    (Entering c (length f.params) 8 (bound (λ p. None) f.params j.args)) (begun c good ready.stack_pointer clear ready.memory)
     (λ u fixed now.
     leads_entry c good f.params j.args u can is.apart
     (are_passed c 0 f.params j.args (λ i n a e k. ap (argument_in c c.start) (zero-add i) ∙ ready_passes c at (classes f.params) (record j { memory = c.before }) ready i n a e k)) now)

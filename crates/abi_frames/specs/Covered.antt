@@ -1,5 +1,5 @@
--- The code that frames are made for so far: no parameter, no argument and no callee in a register of arguments.
-use Rattle.std.specs.Prelude.{Bool, true, ◌&&◌, ◌||◌, nat_lt, List}
+-- The code that frames are made for so far: parameters and arguments can be moved one after another, in their order, and no callee is in a register of arguments.
+use Rattle.std.specs.Prelude.{ℕ, ◌+◌, Bool, true, ◌&&◌, ◌||◌, nat_lt, nat_le, List, [], ◌∷◌}
 use Rattle.std.specs.List.{list_all}
 use Rattle.vcode.specs.declared.place.Location.{Location}
 use Rattle.vcode.specs.declared.place.Location.TheVariants.{Register, Slot}
@@ -17,10 +17,18 @@ abbrev pub is_off_arguments : Location → Bool
 is_off_arguments (Register r) = nat_lt r 10 || nat_lt 17 r
 is_off_arguments (Slot i) = true
 
--- a call whose operands are in no register of arguments: so no move of an argument changes what a later one reads
+-- a place that the first k arguments of a call are not passed in
+abbrev pub is_behind : (k : ℕ) → Location → Bool
+is_behind k (Register r) = nat_lt r 10 || (nat_le (10 + k) r || nat_lt 17 r)
+is_behind k (Slot i) = true
+
+-- no move of an argument changes what a later one reads: arguments from the k-th on
+abbrev pub covers_args : (k : ℕ) → List (Argument Location) → Bool
+covers_args k [] = true
+covers_args k (a ∷ args) = operand_keeps (is_behind k) a.value && covers_args (k + 1) args
+
 abbrev pub covers_call : (callee : Operand Location) → List (Argument Location) → Bool
-covers_call callee args =
-    operand_keeps is_off_arguments callee && list_all (λ (a : Argument Location). operand_keeps is_off_arguments a.value) args
+covers_call callee args = operand_keeps is_off_arguments callee && covers_args 0 args
 
 abbrev pub covers_line : Line Location → Bool
 covers_line (Call to callee args) = covers_call callee args
@@ -29,8 +37,15 @@ covers_line l = true
 abbrev pub covers_block : Block Location → Bool
 covers_block b = list_all covers_line b.lines
 
-abbrev pub covers_params : List (Destination Location) → Bool
-covers_params params = list_all (λ (d : Destination Location). is_off_arguments d.place) params
+-- a place that no argument behind the k-th is passed in
+abbrev pub is_ahead : (k : ℕ) → Location → Bool
+is_ahead k (Register r) = nat_le r (10 + k) || nat_lt 17 r
+is_ahead k (Slot i) = true
+
+-- no argument that is taken by a parameter changes a later one: parameters from the k-th on
+abbrev pub covers_params : (k : ℕ) → List (Destination Location) → Bool
+covers_params k [] = true
+covers_params k (d ∷ ds) = is_ahead k d.place && covers_params (k + 1) ds
 
 abbrev pub is_covered : Code Location → Bool
-is_covered f = covers_params f.params && list_all covers_block f.blocks
+is_covered f = covers_params 0 f.params && list_all covers_block f.blocks

@@ -1,5 +1,5 @@
 -- The machine code of a whole function: the begin of its frame, what brings its arguments to the places of its parameters, its blocks, and the end of the frame.
-use Rattle.std.specs.Prelude.{ℕ, ◌+◌, ◌-◌, ◌*◌, nat_lt, if◌then◌else◌, List, [], ◌∷◌, ◌++◌, length}
+use Rattle.std.specs.Prelude.{ℕ, ◌+◌, ◌-◌, ◌*◌, nat_eq, nat_lt, if◌then◌else◌, List, [], ◌∷◌, ◌++◌, length}
 use Rattle.rv_isa.specs.declared.labelled.Item.{Item}
 use Rattle.rv_isa.specs.declared.labelled.Item.TheVariants.{Label}
 use Rattle.vcode.specs.declared.place.Location.{Location}
@@ -18,7 +18,7 @@ caller_pointer y = constant 30 y.size ++ (sum_to 30 30 2 ∷ [])
 
 -- an argument that is passed in a register, into the place of its parameter
 abbrev pub from_register : Layout → (argument : ℕ) → Location → List Item
-from_register y k (InRegister r) = add_low r (10 + k) 0 ∷ []
+from_register y k (InRegister r) = if nat_eq r (10 + k) then [] else add_low r (10 + k) 0 ∷ []
 from_register y k (Slot i) = store_slot (10 + k) (slot_offset y i)
 
 -- one that is passed on the stack, in eight bytes from the caller's stack pointer upward

@@ -169,12 +169,14 @@ fn a_call_through_a_register_takes_one_instruction(rt: HostRuntime) -> Result<()
 }
 
 #[test]
-fn operands_of_calls_are_off_the_registers_of_arguments(rt: HostRuntime) -> Result<(), Fail> {
+fn arguments_can_be_moved_in_their_order(rt: HostRuntime) -> Result<(), Fail> {
     let callee = Operand::Name(Symbol::at(0));
     let good = [long(Location::Register(9)), long(Location::Slot(3))];
-    let bad = [long(Location::Register(10))];
+    let own = [long(Location::Register(11)), long(Location::Register(11))];
+    let late = [long(Location::Register(11)), long(Location::Register(10))];
     assert!(rt; covers_call(&callee, good.as_slice()));
-    assert!(rt; !covers_call(&callee, bad.as_slice()));
+    assert!(rt; covers_call(&callee, own.as_slice()));
+    assert!(rt; !covers_call(&callee, late.as_slice()));
     assert!(rt; !covers_call(&Operand::At(Location::Register(17)), good.as_slice()));
     Ok(())
 }

@@ -1,8 +1,8 @@
 //! Which code frames can be made for so far.
-ghost use Rattle.std.specs.Prelude.{◌≡◌};
+ghost use Rattle.std.specs.Prelude.{◌≡◌, ◌+◌, ◌^◌, ◌<◌};
 ghost use Rattle.std.specs.List.{list_all};
 ghost use Rattle.vcode.specs.Named.{operand_keeps};
-ghost use Rattle.abi_frames.specs.Covered.{is_off_arguments, covers_call, covers_line, covers_block, covers_params, is_covered};
+ghost use Rattle.abi_frames.specs.Covered.{is_off_arguments, is_behind, covers_args, covers_call, covers_line, covers_block, is_ahead, covers_params, is_covered};
 
 use flat_code::function::FlatFunc;
 use vcode::code::Block;
@@ -27,22 +27,35 @@ fn is_off(operand: &Operand<Location>) -> bool
     }
 }
 
-fn are_off(arguments: &[Argument<Location>]) -> bool
-    ensures { result ≡ list_all (λ a. operand_keeps is_off_arguments a.value) arguments.now }
+// no place of the first `count` arguments
+fn is_behind(count: usize, operand: &Operand<Location>) -> bool
+    requires { count + 10 < 2 ^ 64 }
+    ensures { result ≡ operand_keeps (is_behind count) operand.now }
 {
-    for argument in arguments {
-        if !is_off(&argument.value) {
+    match operand {
+        Operand::At(Location::Register(number)) => {
+            *number < 10 || 10 + count <= usize::from(*number) || 17 < *number
+        }
+        Operand::At(Location::Slot(_)) | Operand::Number(_) | Operand::Name(_) => true,
+    }
+}
+
+fn covers_args(arguments: &[Argument<Location>]) -> bool
+    ensures { result ≡ covers_args 0 arguments.now }
+{
+    for (count, argument) in arguments.iter().enumerate() {
+        if !is_behind(count, &argument.value) {
             return false;
         }
     }
     true
 }
 
-/// Does no operand of a call stand in a register of arguments?
+/// Can the arguments of a call be moved one after another, so that no move changes what a later one reads, and the callee is in no register of arguments?
 pub(crate) fn covers_call(callee: &Operand<Location>, arguments: &[Argument<Location>]) -> bool
     ensures { result ≡ covers_call callee.now arguments.now }
 {
-    is_off(callee) && are_off(arguments)
+    is_off(callee) && covers_args(arguments)
 }
 
 fn covers_line(line: &Line<Location>) -> bool
@@ -88,12 +101,23 @@ fn covers_blocks(blocks: &[Block<Location>]) -> bool
     true
 }
 
-/// Does no parameter stand in a register of arguments?
-pub(crate) fn covers_params(params: &[Destination<Location>]) -> bool
-    ensures { result ≡ covers_params params.now }
+// no place of an argument behind the given one
+fn is_ahead(argument: usize, place: &Location) -> bool
+    requires { argument + 10 < 2 ^ 64 }
+    ensures { result ≡ is_ahead argument place.now }
 {
-    for parameter in params {
-        if !is_off_arguments(&parameter.place) {
+    match place {
+        Location::Register(number) => usize::from(*number) <= 10 + argument || 17 < *number,
+        Location::Slot(_) => true,
+    }
+}
+
+/// Can the parameters take their arguments one after another, so that none changes a later one?
+pub(crate) fn covers_params(params: &[Destination<Location>]) -> bool
+    ensures { result ≡ covers_params 0 params.now }
+{
+    for (argument, parameter) in params.iter().enumerate() {
+        if !is_ahead(argument, &parameter.place) {
             return false;
         }
     }

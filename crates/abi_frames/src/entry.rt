@@ -31,7 +31,11 @@ fn push_from_register(
     ensures { OnOk result (items.new.items ≡ items.old.items ++ from_register layout.now argument place.now) }
 {
     match place {
-        Location::Register(number) => items.push(add_immediate(*number, 10 + argument, 0))?,
+        Location::Register(number) => {
+            if *number != 10 + argument {
+                items.push(add_immediate(*number, 10 + argument, 0))?;
+            }
+        }
         Location::Slot(slot) => push_into_slot(items, layout, 10 + argument, *slot)?,
     }
     Ok(())

@@ -229,14 +229,15 @@ fn eight_arguments_need_no_pointer(rt: HostRuntime) -> Result<(), Fail> {
 }
 
 #[test]
-fn parameters_stand_off_the_registers_of_arguments(rt: HostRuntime) -> Result<(), Fail> {
+fn parameters_take_arguments_in_their_order(rt: HostRuntime) -> Result<(), Fail> {
     let around = [
         parameter(Location::Register(9)),
         parameter(Location::Slot(10)),
         parameter(Location::Register(18)),
     ];
     assert!(rt; covers_params(around.as_slice()));
-    assert!(rt; !covers_params([parameter(Location::Register(10))].as_slice()));
+    assert!(rt; covers_params([parameter(Location::Register(10))].as_slice()));
+    assert!(rt; !covers_params([parameter(Location::Register(11))].as_slice()));
     assert!(rt; !covers_params([parameter(Location::Register(17))].as_slice()));
     Ok(())
 }

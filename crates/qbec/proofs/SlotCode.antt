@@ -1,5 +1,5 @@
 -- Frames are made for code with every register in a slot of its own: none of its places is one that arguments are passed in.
-use Rattle.std.proofs.Common.{◌≡◌, ℕ, Bool, true, ◌&&◌, List, [], ◌∷◌, map, refl, ◌∙◌, ap}
+use Rattle.std.proofs.Common.{◌≡◌, ℕ, ◌+◌, Bool, true, ◌&&◌, List, [], ◌∷◌, map, refl, ◌∙◌, ap}
 use Rattle.std.specs.List.{list_all}
 use Rattle.vcode.specs.declared.place.Location.{Location}
 use Rattle.vcode.specs.declared.place.Location.TheVariants.{Slot}
@@ -13,7 +13,7 @@ use Rattle.vcode.specs.declared.code.Block.{Block}
 use Rattle.vcode.specs.declared.code.Code.{Code}
 use Rattle.vcode.specs.Named.{operand_keeps}
 use Rattle.alloc_check.specs.Placed.{placed_operand, placed_argument, placed_destination, placed_line, placed_block, in_slots}
-use Rattle.abi_frames.specs.Covered.{is_off_arguments, covers_line, covers_block, covers_params, is_covered}
+use Rattle.abi_frames.specs.Covered.{is_off_arguments, is_behind, covers_args, covers_line, covers_block, covers_params, is_covered}
 
 both : (a b : Bool) → a ≡ true → b ≡ true → (a && b) ≡ true
 both a b h k = ap (λ x. x && b) h ∙ k
@@ -23,11 +23,16 @@ operand_covered (At r) = refl
 operand_covered (Number n) = refl
 operand_covered (Name g) = refl
 
-args_covered : (args : List (Argument ℕ)) → list_all (λ (a : Argument Location). operand_keeps is_off_arguments a.value) (map (placed_argument Slot) args) ≡ true
-args_covered [] = refl
-args_covered (a ∷ args) =
-    both (operand_keeps is_off_arguments (placed_operand Slot a.value))
-    (list_all (λ (x : Argument Location). operand_keeps is_off_arguments x.value) (map (placed_argument Slot) args)) (operand_covered a.value) (args_covered args)
+operand_behind : (k : ℕ) (a : Operand ℕ) → operand_keeps (is_behind k) (placed_operand Slot a) ≡ true
+operand_behind k (At r) = refl
+operand_behind k (Number n) = refl
+operand_behind k (Name g) = refl
+
+args_covered : (k : ℕ) (args : List (Argument ℕ)) → covers_args k (map (placed_argument Slot) args) ≡ true
+args_covered k [] = refl
+args_covered k (a ∷ args) =
+    both (operand_keeps (is_behind k) (placed_operand Slot a.value)) (covers_args (k + 1) (map (placed_argument Slot) args)) (operand_behind k a.value)
+    (args_covered (k + 1) args)
 
 line_covered : (l : Line ℕ) → covers_line (placed_line Slot l) ≡ true
 line_covered (Tick turn w) = refl
@@ -39,7 +44,7 @@ line_covered (Alloc to size) = refl
 line_covered (Blit from to count) = refl
 line_covered (Call to callee args) =
     both (operand_keeps is_off_arguments (placed_operand Slot callee))
-    (list_all (λ (x : Argument Location). operand_keeps is_off_arguments x.value) (map (placed_argument Slot) args)) (operand_covered callee) (args_covered args)
+    (covers_args 0 (map (placed_argument Slot) args)) (operand_covered callee) (args_covered 0 args)
 
 lines_covered : (lines : List (Line ℕ)) → list_all covers_line (map (placed_line Slot) lines) ≡ true
 lines_covered [] = refl
@@ -50,9 +55,9 @@ blocks_covered [] = refl
 blocks_covered (b ∷ blocks) =
     both (covers_block (placed_block Slot b)) (list_all covers_block (map (placed_block Slot) blocks)) (lines_covered b.lines) (blocks_covered blocks)
 
-params_covered : (params : List (Destination ℕ)) → covers_params (map (placed_destination Slot) params) ≡ true
-params_covered [] = refl
-params_covered (d ∷ params) = params_covered params
+params_covered : (k : ℕ) (params : List (Destination ℕ)) → covers_params k (map (placed_destination Slot) params) ≡ true
+params_covered k [] = refl
+params_covered k (d ∷ params) = params_covered (k + 1) params
 
 pub slots_covered : (v : Code ℕ) → is_covered (in_slots v) ≡ true
-slots_covered v = both (covers_params (in_slots v).params) (list_all covers_block (in_slots v).blocks) (params_covered v.params) (blocks_covered v.blocks)
+slots_covered v = both (covers_params 0 (in_slots v).params) (list_all covers_block (in_slots v).blocks) (params_covered 0 v.params) (blocks_covered v.blocks)
