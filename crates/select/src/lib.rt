@@ -15,6 +15,8 @@
 //! `rv_isa` for its operations.
 #![tactic(auto)]
 
+mod classes;
+mod comparison;
 mod instruction;
 pub mod laws;
 mod leave;
