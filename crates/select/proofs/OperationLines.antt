@@ -33,7 +33,7 @@ use Rattle.vcode.specs.declared.line.Operation.TheVariants.{Reg, RegW, Compare a
 use Rattle.vcode.specs.declared.line.Comparison.{Comparison}
 use Rattle.vcode.specs.declared.line.Line.{Line}
 use Rattle.vcode.specs.declared.line.Line.TheVariants.{Set, Operate, Load}
-use Rattle.vcode.specs.Operations.{held, reg_on_places, compare, operate, loaded, extended as extended_load}
+use Rattle.vcode.specs.Operations.{held, reg_on_places, operate, loaded, extended as extended_load}
 use Rattle.vcode.specs.Step.{State, value_of}
 use Rattle.select.specs.Selected.{is_whole, are_whole, word, words_compared, comparison_of, word_line, word_of, bits_of_words, bit_lines, compare_line, as_word, shifted, extend_lines, load_of, copy_lines, negate_lines, unary_lines, binary_lines}
 use Rattle.select.specs.Typed.{Classes, HasResult}

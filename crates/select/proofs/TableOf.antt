@@ -1,14 +1,14 @@
 -- What the table of classes says of each temporary.
-use Rattle.std.proofs.Common.{◌≡◌, ℕ, zero, suc, ◌+◌, ◌-◌, ◌<◌, ◌≤◌, Bool, true, false, cond, nat_eq, nat_lt, ◌&&◌, ◌||◌, List, [], ◌∷◌, ◌++◌, length, map, refl, sym, ◌∙◌, ap, subst, arith}
+use Rattle.std.proofs.Common.{◌≡◌, ℕ, zero, suc, ◌+◌, ◌-◌, ◌<◌, ◌≤◌, Bool, true, false, cond, nat_eq, nat_lt, ◌&&◌, ◌||◌, List, [], ◌∷◌, ◌++◌, length, map, refl, sym, ◌∙◌, ap, arith}
 use Rattle.std.specs.Prelude.{slice_get, Some, None}
-use Rattle.std.specs.List.{list_any, flat_map, sum_by}
+use Rattle.std.specs.List.{flat_map, sum_by}
 use Rattle.std.proofs.lemmas.Bool.Decides.{nat_tests}
 use Rattle.std.proofs.lemmas.List.{length-append, length-map}
 use Rattle.std.proofs.lemmas.List.Folds.{list_any-append}
 use Rattle.std.proofs.lemmas.List.Sums.{sum_by-cons}
 use Rattle.std.proofs.Math.Path.{fun_ext}
 use Rattle.il_ast.specs.declared.operation.Class.{Class}
-use Rattle.il_ast.specs.declared.operation.Class.TheVariants.{W, L}
+use Rattle.il_ast.specs.declared.operation.Class.TheVariants.{W}
 use Rattle.il_ast.specs.declared.operand.Dest.{Dest}
 use Rattle.il_ast.specs.declared.instruction.Inst.{Inst}
 use Rattle.il_ast.specs.declared.instruction.Inst.TheVariants.{Unary, Binary, Alloc, Store, Blit, Call}
@@ -22,7 +22,8 @@ use Rattle.il_ast.specs.Cost.{phi_count}
 use Rattle.il_types.specs.declared.site.Definer.{Definer}
 use Rattle.il_types.specs.Marks.{is_given}
 use Rattle.il_types.specs.Sites.{param_definers, phi_definers, item_definers, inst_definers, block_definers, definers_of}
-use Rattle.select.specs.Classes.{class_given, or_long, all_phis, classes_in, listed, param_destination, phi_destination, item_destinations, inst_destinations, block_destinations, destinations_in, has_word, word_or_long, phi_classes}
+use Rattle.select.specs.Classes.{class_given, or_long, all_phis, classes_in}
+use Rattle.select.specs.Tables.{listed, param_destination, phi_destination, item_destinations, inst_destinations, block_destinations, destinations_in, has_word, word_or_long, phi_classes}
 
 -- ---- words that are assigned
 

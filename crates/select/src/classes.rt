@@ -3,7 +3,8 @@ ghost use Rattle.std.specs.Prelude.{◌≡◌, ◌<◌, ◌+◌, ◌++◌, ℕ, 
 ghost use Rattle.std.specs.List.{flat_map};
 ghost use Rattle.il_ast.specs.declared.block.Phi.{Phi as PhiOf};
 ghost use Rattle.il_ast.specs.Cost.{phi_count};
-ghost use Rattle.select.specs.Classes.{classes_in, listed, destinations_in, param_destination, phi_destination, item_destinations, inst_destinations, block_destinations, has_word, word_or_long, phi_classes};
+ghost use Rattle.select.specs.Classes.{classes_in};
+ghost use Rattle.select.specs.Tables.{listed, destinations_in, param_destination, phi_destination, item_destinations, inst_destinations, block_destinations, has_word, word_or_long, phi_classes};
 
 use il_ast::block::{Block, Phi};
 use il_ast::function::{Func, Param};

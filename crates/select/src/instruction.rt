@@ -1,7 +1,7 @@
 //! Lines of instructions.
 ghost use Rattle.std.specs.Prelude.{◌≡◌, ◌++◌, OnOk};
 ghost use Rattle.il_ast.specs.Cost.{inst_weight};
-ghost use Rattle.select.specs.Classes.{listed};
+ghost use Rattle.select.specs.Tables.{listed};
 ghost use Rattle.select.specs.Selected.{inst_lines};
 ghost use Rattle.select.specs.Narrow.{narrow, narrow_inst, narrow_turn, narrow_turns};
 
@@ -36,13 +36,13 @@ fn push_inst(
     match inst {
         Inst::Unary { to, op, value } => {
             push_unary(
-            classes,
-            lines,
-            register(to.temp),
-            *op,
-            to.class,
-            operand(*value),
-        )
+                classes,
+                lines,
+                register(to.temp),
+                *op,
+                to.class,
+                operand(*value),
+            )
         }
         Inst::Binary {
             to,

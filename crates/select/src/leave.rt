@@ -1,6 +1,6 @@
 //! Lines of the endings of blocks, and jumps.
 ghost use Rattle.std.specs.Prelude.{◌≡◌, ◌++◌, OnOk};
-ghost use Rattle.select.specs.Classes.{listed};
+ghost use Rattle.select.specs.Tables.{listed};
 ghost use Rattle.select.specs.Selected.{jump_of};
 ghost use Rattle.select.specs.Narrow.{narrow_copies, narrow_ending, narrow_leave};
 

@@ -2,7 +2,8 @@
 ghost use Rattle.std.specs.Prelude.{◌≡◌, ◌≤◌, ◌+◌, ◌++◌, length, map, IfOk, OnOk};
 ghost use Rattle.il_ast.specs.Cost.{phi_count};
 ghost use Rattle.phi_copies.specs.Lowered.{lowered};
-ghost use Rattle.select.specs.Classes.{classes_in, listed};
+ghost use Rattle.select.specs.Classes.{classes_in};
+ghost use Rattle.select.specs.Tables.{listed};
 ghost use Rattle.select.specs.Selected.{selected};
 ghost use Rattle.select.specs.Narrow.{narrow_block, narrow_edge, narrow_blocks, narrow_code};
 ghost use Rattle.il_ast.specs.Passes.{IsCodeOf};
@@ -85,11 +86,7 @@ fn push_edges(
 }
 
 #[tactic(auto, unfolding(crate::specs::Narrow::narrow_code))]
-fn code_of(
-    alloc: Global,
-    classes: &[Class],
-    source: &NoPhi<'_>,
-) -> Result<Code<u32>, AllocError>
+fn code_of(alloc: Global, classes: &[Class], source: &NoPhi<'_>) -> Result<Code<u32>, AllocError>
     ensures { IfOk result (λ code. code ≡ narrow_code (listed classes.now) source.now.func.now (record { endings = source.now.endings; edges = source.now.edges })) }
 {
     let params = parameters(alloc, source.func.params.as_slice())?;

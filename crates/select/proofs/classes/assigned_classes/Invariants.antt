@@ -1,5 +1,5 @@
 use Rattle.std.proofs.Common.{◌≡◌, ◌<◌, ℕ, length, take}
-use Rattle.select.specs.Classes.{listed, has_word, word_or_long}
+use Rattle.select.specs.Tables.{listed, has_word, word_or_long}
 use Rattle.select.proofs.classes.assigned_classes.Given as goal
 
 abbrev pub invariant-loop-to : goal.invariant-loop-to

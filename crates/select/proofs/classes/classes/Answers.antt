@@ -1,6 +1,6 @@
 use Rattle.std.proofs.Common.{◌<◌, ◌++◌, length, sym, ◌∙◌, ap, subst}
 use Rattle.std.specs.List.{flat_map}
-use Rattle.select.specs.Classes.{listed, phi_classes, has_word, word_or_long}
+use Rattle.select.specs.Tables.{listed, phi_classes, has_word, word_or_long}
 use Rattle.select.proofs.TableOf.{table_long, table_is}
 use Rattle.select.proofs.classes.classes.Goals as goal
 

@@ -1,6 +1,6 @@
 use Rattle.std.proofs.Common.{◌≡◌, ◌++◌, take}
 use Rattle.std.specs.List.{flat_map}
-use Rattle.select.specs.Classes.{block_destinations}
+use Rattle.select.specs.Tables.{block_destinations}
 use Rattle.select.proofs.classes.collect_blocks.Given as goal
 
 abbrev pub invariant-loop-block : goal.invariant-loop-block

@@ -1,6 +1,6 @@
 use Rattle.std.proofs.Common.{◌≡◌, ◌++◌, take}
 use Rattle.std.specs.List.{flat_map}
-use Rattle.select.specs.Classes.{inst_destinations}
+use Rattle.select.specs.Tables.{inst_destinations}
 use Rattle.select.proofs.classes.collect_insts.Given as goal
 
 abbrev pub invariant-loop-inst : goal.invariant-loop-inst

@@ -1,6 +1,6 @@
 use Rattle.std.proofs.Common.{◌≡◌, ◌++◌, take}
 use Rattle.std.specs.List.{flat_map}
-use Rattle.select.specs.Classes.{phi_classes}
+use Rattle.select.specs.Tables.{phi_classes}
 use Rattle.select.proofs.classes.push_phi_classes.Given as goal
 
 abbrev pub invariant-loop-block : goal.invariant-loop-block

@@ -1,5 +1,5 @@
 use Rattle.std.proofs.Common.{◌≡◌, ◌++◌, map, drop}
-use Rattle.select.specs.Classes.{listed}
+use Rattle.select.specs.Tables.{listed}
 use Rattle.select.specs.Narrow.{narrow_edge}
 use Rattle.select.proofs.select.push_edges.Given as goal
 

@@ -1,8 +1,5 @@
-use Rattle.std.proofs.Common.{◌≡◌, ℕ, ◌+◌, List, length, sym, ◌∙◌, ap, subst, arith}
-use Rattle.il_ast.specs.declared.operation.Class.{Class}
+use Rattle.std.proofs.Common.{ℕ, ◌+◌, length, sym, ◌∙◌, ap, subst, arith}
 use Rattle.il_ast.specs.Cost.{phi_count}
-use Rattle.phi_copies.specs.declared.ending.Ending.{Ending}
-use Rattle.phi_copies.specs.Good.{IsGoodFunction}
 use Rattle.phi_copies.proofs.Counting.{is_small}
 use Rattle.il_ast.specs.Passes.{IsCodeOf}
 use Rattle.vcode.specs.declared.code.Code.{Code}
@@ -11,7 +8,6 @@ use Rattle.vcode.specs.Places.{virtual}
 use Rattle.vcode.specs.Regular.{code_weight}
 use Rattle.select.specs.Classes.{classes_in}
 use Rattle.select.specs.Invariants.{IsVirtual}
-use Rattle.select.specs.Selected.{selected}
 use Rattle.select.proofs.Narrowing.{small, light, is_selected_by}
 use Rattle.select.proofs.Regular.{le_true}
 use Rattle.select.proofs.Weights.{weighs_no_more}
