@@ -23,21 +23,22 @@ use Rattle.phi_copies.specs.Good.{IsGoodFunction}
 use Rattle.phi_copies.specs.Lowered.{target, phis_at, entry_copies, edge_with, edge, jump_edges, end_edges, block_edges, all_edges, block_ending, all_endings, straight, straight_if}
 use Rattle.vcode.specs.declared.code.Block.{Block as VirtualBlock}
 use Rattle.select.specs.Selected.{block_of, edge_of, blocks_of}
+use Rattle.select.specs.Typed.{Classes}
 use Rattle.select.proofs.Typing.{Among, among_left, among_right, neither_first, not_broken, none_among, not_false}
 
 -- ---- blocks, and the edges behind them
 
 -- of each block and the number of its first edge
-abbrev pub EachBlock : Func → (VirtualBlock ℕ → Bool) → (total : ℕ) → List Block → Type 0
-EachBlock f test total bs =
-    (b : Block) (m : ℕ) → Among b bs → m + length (block_edges f b) ≤ total → test (block_of b (block_ending f m b)) ≡ true
+abbrev pub EachBlock : Classes → Func → (VirtualBlock ℕ → Bool) → (total : ℕ) → List Block → Type 0
+EachBlock classes f test total bs =
+    (b : Block) (m : ℕ) → Among b bs → m + length (block_edges f b) ≤ total → test (block_of classes b (block_ending f m b)) ≡ true
 
-pub blocks_all : (f : Func) (test : VirtualBlock ℕ → Bool) (total n : ℕ) (bs : List Block) (rest : List (VirtualBlock ℕ)) → n + length (all_edges f bs) ≡ total → EachBlock f test total bs → list_all test rest ≡ true → list_all test (blocks_of bs (all_endings f n bs) ++ rest) ≡ true
-blocks_all f test total n [] rest sum each h = h
-blocks_all f test total n (b ∷ bs) rest sum each h =
+pub blocks_all : (classes : Classes) (f : Func) (test : VirtualBlock ℕ → Bool) (total n : ℕ) (bs : List Block) (rest : List (VirtualBlock ℕ)) → n + length (all_edges f bs) ≡ total → EachBlock classes f test total bs → list_all test rest ≡ true → list_all test (blocks_of classes bs (all_endings f n bs) ++ rest) ≡ true
+blocks_all classes f test total n [] rest sum each h = h
+blocks_all classes f test total n (b ∷ bs) rest sum each h =
     let long = length-append (block_edges f b) (all_edges f bs) in
-    both (test (block_of b (block_ending f n b))) _ (each b n (inl refl) (omega (arith, sum, long)))
-    (blocks_all f test total (n + length (block_edges f b)) bs rest (omega (arith, sum, long)) (λ c m a. each c m (inr a)) h)
+    both (test (block_of classes b (block_ending f n b))) _ (each b n (inl refl) (omega (arith, sum, long)))
+    (blocks_all classes f test total (n + length (block_edges f b)) bs rest (omega (arith, sum, long)) (λ c m a. each c m (inr a)) h)
   where
     both : (x y : Bool) → x ≡ true → y ≡ true → (x && y) ≡ true
     both true y e g = g
@@ -56,9 +57,9 @@ pub record Branches (b : Block) (l : ℕ) : Type 0 where
 abbrev pub edge_for : Func → (from k : ℕ) → List Phi → Ending
 edge_for f from k phis = record { turn = false; weight = length phis; copies = entry_copies f from k; leave = GotoBlock k }
 
-abbrev pub EachEdge : Func → (VirtualBlock ℕ → Bool) → List Block → Type 0
-EachEdge f test bs =
-    (b : Block) (l : ℕ) (p : Phi) (ps : List Phi) → Among b bs → Branches b l → phis_at f.blocks (target f.blocks l) ≡ p ∷ ps → test (edge_of (edge_for f b.label (target f.blocks l) (p ∷ ps))) ≡ true
+abbrev pub EachEdge : Classes → Func → (VirtualBlock ℕ → Bool) → List Block → Type 0
+EachEdge classes f test bs =
+    (b : Block) (l : ℕ) (p : Phi) (ps : List Phi) → Among b bs → Branches b l → phis_at f.blocks (target f.blocks l) ≡ p ∷ ps → test (edge_of classes (edge_for f b.label (target f.blocks l) (p ∷ ps))) ≡ true
 
 pub all_both : {A : Type 0} (test : A → Bool) (xs ys : List A) → list_all test xs ≡ true → list_all test ys ≡ true → list_all test (xs ++ ys) ≡ true
 all_both test [] ys h k = k
@@ -72,31 +73,31 @@ map_both : {A B : Type 0} (g : A → B) (xs ys : List A) → map g (xs ++ ys) �
 map_both g [] ys = refl
 map_both g (x ∷ xs) ys = ap (λ zs. g x ∷ zs) (map_both g xs ys)
 
-pub edges_all : (f : Func) (test : VirtualBlock ℕ → Bool) (bs : List Block) → EachEdge f test bs → list_all test (map edge_of (all_edges f bs)) ≡ true
-edges_all f test [] each = refl
-edges_all f test (b ∷ bs) each =
-    ap (list_all test) (map_both edge_of (block_edges f b) (all_edges f bs))
-    ∙ all_both test (map edge_of (block_edges f b)) (map edge_of (all_edges f bs)) (by b.jump refl) (edges_all f test bs (λ c l p ps a. each c l p ps (inr a)))
+pub edges_all : (classes : Classes) (f : Func) (test : VirtualBlock ℕ → Bool) (bs : List Block) → EachEdge classes f test bs → list_all test (map (edge_of classes) (all_edges f bs)) ≡ true
+edges_all classes f test [] each = refl
+edges_all classes f test (b ∷ bs) each =
+    ap (list_all test) (map_both (edge_of classes) (block_edges f b) (all_edges f bs))
+    ∙ all_both test (map (edge_of classes) (block_edges f b)) (map (edge_of classes) (all_edges f bs)) (by b.jump refl) (edges_all classes f test bs (λ c l p ps a. each c l p ps (inr a)))
   where
-    side : (l : ℕ) (ps : List Phi) → Branches b l → phis_at f.blocks (target f.blocks l) ≡ ps → list_all test (map edge_of (edge_with f b.label (target f.blocks l) ps)) ≡ true
+    side : (l : ℕ) (ps : List Phi) → Branches b l → phis_at f.blocks (target f.blocks l) ≡ ps → list_all test (map (edge_of classes) (edge_with f b.label (target f.blocks l) ps)) ≡ true
     side l [] br e = refl
     side l (p ∷ ps) br e = ap (λ x. x && true) (each b l p ps (inl refl) br e)
 
-    by_ways : (j : Lined Jump) (on : Val) (nonzero otherwise : ℕ) (q : Bool) → b.jump ≡ Some j → j.item ≡ Branch on nonzero otherwise → list_all test (map edge_of (jump_edges f b.label (straight_if q on nonzero otherwise))) ≡ true
+    by_ways : (j : Lined Jump) (on : Val) (nonzero otherwise : ℕ) (q : Bool) → b.jump ≡ Some j → j.item ≡ Branch on nonzero otherwise → list_all test (map (edge_of classes) (jump_edges f b.label (straight_if q on nonzero otherwise))) ≡ true
     by_ways j on nonzero otherwise true e i = refl
     by_ways j on nonzero otherwise false e i =
-        ap (list_all test) (map_both edge_of (edge f b.label (target f.blocks nonzero)) (edge f b.label (target f.blocks otherwise)))
-        ∙ all_both test (map edge_of (edge f b.label (target f.blocks nonzero))) (map edge_of (edge f b.label (target f.blocks otherwise)))
+        ap (list_all test) (map_both (edge_of classes) (edge f b.label (target f.blocks nonzero)) (edge f b.label (target f.blocks otherwise)))
+        ∙ all_both test (map (edge_of classes) (edge f b.label (target f.blocks nonzero))) (map (edge_of classes) (edge f b.label (target f.blocks otherwise)))
         (side nonzero (phis_at f.blocks (target f.blocks nonzero)) (record { jump = j; ends = e; on = on; nonzero = nonzero; otherwise = otherwise; is = i; label = inl refl }) refl)
         (side otherwise (phis_at f.blocks (target f.blocks otherwise)) (record { jump = j; ends = e; on = on; nonzero = nonzero; otherwise = otherwise; is = i; label = inr refl }) refl)
 
-    by_jump : (j : Lined Jump) (x : Jump) → b.jump ≡ Some j → j.item ≡ x → list_all test (map edge_of (jump_edges f b.label (straight x))) ≡ true
+    by_jump : (j : Lined Jump) (x : Jump) → b.jump ≡ Some j → j.item ≡ x → list_all test (map (edge_of classes) (jump_edges f b.label (straight x))) ≡ true
     by_jump j (Goto l) e i = refl
     by_jump j (Branch on nonzero otherwise) e i = by_ways j on nonzero otherwise (nat_eq nonzero otherwise) e i
     by_jump j (Return a) e i = refl
     by_jump j Halt e i = refl
 
-    by : (j : Option (Lined Jump)) → b.jump ≡ j → list_all test (map edge_of (end_edges f b.label j)) ≡ true
+    by : (j : Option (Lined Jump)) → b.jump ≡ j → list_all test (map (edge_of classes) (end_edges f b.label j)) ≡ true
     by None e = refl
     by (Some j) e = by_jump j j.item e refl
 

@@ -3,7 +3,10 @@ use Rattle.std.proofs.Common.{◌≡◌, ℕ, ◌+◌, ◌<◌, ◌≤◌, Bool,
 use Rattle.std.specs.Prelude.{slice_get, Option, Some, None}
 use Rattle.std.specs.List.{list_all, flat_map, find}
 use Rattle.std.proofs.lemmas.Bool.Decides.{nat_tests}
+use Rattle.il_ast.specs.declared.operation.Class.{Class}
 use Rattle.il_ast.specs.declared.operation.Class.TheVariants.{W, L}
+use Rattle.il_ast.specs.declared.operation.Condition.{Condition}
+use Rattle.il_ast.specs.declared.operation.Condition.TheVariants.{NotEqual}
 use Rattle.il_ast.specs.declared.operand.Val.{Val}
 use Rattle.il_ast.specs.declared.operand.Val.TheVariants.{Int, Temp, Global}
 use Rattle.il_ast.specs.declared.operand.Arg.{Arg}
@@ -33,9 +36,12 @@ use Rattle.phi_copies.specs.Good.{IsGoodFunction}
 use Rattle.phi_copies.specs.Lowered.{value_or_zero, source, reads, writes, copies_of, phis_of, phis_before, entry_copies, target, all_edges, jump_ending, end_ending, block_ending, all_endings, lowered, straight, straight_if}
 use Rattle.phi_copies.proofs.EdgePlaces.{phis_counted}
 use Rattle.vcode.specs.declared.place.Operand.{Operand}
+use Rattle.vcode.specs.declared.place.Operand.TheVariants.{At, Number, Name}
 use Rattle.vcode.specs.declared.place.Argument.{Argument}
+use Rattle.vcode.specs.declared.line.Comparison.{Comparison}
 use Rattle.vcode.specs.Named.{operand_keeps, line_keeps, jump_keeps, block_keeps, keeps_places, is_below}
-use Rattle.select.specs.Selected.{operand_of, argument_of, inst_lines, turn_lines, all_lines, copy_lines, assignment_lines, ending_lines, jump_of, block_of, edge_of, blocks_of, parameter_of, selected, binary_lines}
+use Rattle.select.specs.Selected.{are_whole, word, words_compared, comparison_of, operand_of, argument_of, inst_lines, turn_lines, all_lines, copy_lines, assignment_lines, ending_lines, jump_of, block_of, edge_of, blocks_of, parameter_of, selected, binary_lines}
+use Rattle.select.specs.Typed.{Classes}
 use Rattle.select.proofs.Typing.{Among, among_left, among_right, neither_first, neither_second, not_broken, none_among, not_false, either_true, assigned_own}
 use Rattle.select.proofs.LoweredTyping.{there, own_temps, find_among, phi_argument_at, param_among}
 use Rattle.select.proofs.EachBlock.{blocks_all, edges_all, all_both}
@@ -92,25 +98,25 @@ args_keep f line [] each = refl
 args_keep f line (a ∷ args) each =
     and_both (operand_keeps (Below f) (operand_of a.value)) _ (each (operand_at line a.class a.value) (inl refl)) (args_keep f line args (λ o h. each o (inr h)))
 
-inst_keeps : (f : Func) (line : ℕ) (x : Inst) → Within f line x → list_all (line_keeps (Below f)) (inst_lines x) ≡ true
-inst_keeps f line (Unary to op a) w =
+inst_keeps : (classes : Classes) (f : Func) (line : ℕ) (x : Inst) → Within f line x → list_all (line_keeps (Below f)) (inst_lines classes x) ≡ true
+inst_keeps classes f line (Unary to op a) w =
     sets_keep (Below f) to.temp (operand_of a ∷ []) _ (own_below f to.temp (w.defines (definer line to) (inl refl)))
-    (only (Below f) (operand_of a) (w.reads_all (operand_at line (operand_class op to.class) a) (inl refl))) (unary_sets to.temp op to.class (operand_of a))
-inst_keeps f line (Binary to op a b) w =
-    sets_keep (Below f) to.temp (operand_of a ∷ operand_of b ∷ []) (binary_lines to.temp op to.class (operand_of a) (operand_of b)) (own_below f to.temp (w.defines (definer line to) (inl refl)))
+    (only (Below f) (operand_of a) (w.reads_all (operand_at line (operand_class op to.class) a) (inl refl))) (unary_sets classes to.temp op to.class (operand_of a))
+inst_keeps classes f line (Binary to op a b) w =
+    sets_keep (Below f) to.temp (operand_of a ∷ operand_of b ∷ []) (binary_lines classes to.temp op to.class (operand_of a) (operand_of b)) (own_below f to.temp (w.defines (definer line to) (inl refl)))
     (two (Below f) (operand_of a) (operand_of b) (w.reads_all (operand_at line (left_class op to.class) a) (inl refl)) (w.reads_all (operand_at line (right_class op to.class) b) (inr (inl refl))))
-    (binary_sets to.temp op to.class (operand_of a) (operand_of b))
-inst_keeps f line (AllocInst to alignment size) w = ap (λ b. b && true) (own_below f to.temp (w.defines (definer line to) (inl refl)))
-inst_keeps f line (StoreInst size a at) w =
+    (binary_sets classes to.temp op to.class (operand_of a) (operand_of b))
+inst_keeps classes f line (AllocInst to alignment size) w = ap (λ b. b && true) (own_below f to.temp (w.defines (definer line to) (inl refl)))
+inst_keeps classes f line (StoreInst size a at) w =
     and_both (operand_keeps (Below f) (operand_of a) && operand_keeps (Below f) (operand_of at)) true
     (and_both _ _ (w.reads_all (operand_at line (stored_class size) a) (inl refl)) (w.reads_all (operand_at line L at) (inr (inl refl)))) refl
-inst_keeps f line (BlitInst from to count) w =
+inst_keeps classes f line (BlitInst from to count) w =
     and_both (operand_keeps (Below f) (operand_of from) && operand_keeps (Below f) (operand_of to)) true
     (and_both _ _ (w.reads_all (operand_at line L from) (inl refl)) (w.reads_all (operand_at line L to) (inr (inl refl)))) refl
-inst_keeps f line (CallInst None callee args) w =
+inst_keeps classes f line (CallInst None callee args) w =
     and_both (operand_keeps (Below f) (operand_of callee) && list_all (λ (a : Argument ℕ). operand_keeps (Below f) a.value) (map argument_of args)) true
     (and_both _ _ (w.reads_all (operand_at line L callee) (inl refl)) (args_keep f line args (λ o h. w.reads_all o (inr h)))) refl
-inst_keeps f line (CallInst (Some to) callee args) w =
+inst_keeps classes f line (CallInst (Some to) callee args) w =
     and_both (Below f to.temp && (operand_keeps (Below f) (operand_of callee) && list_all (λ (a : Argument ℕ). operand_keeps (Below f) a.value) (map argument_of args))) true
     (and_both _ _ (own_below f to.temp (w.defines (definer line to) (inl refl)))
     (and_both _ _ (w.reads_all (operand_at line L callee) (inl refl)) (args_keep f line args (λ o h. w.reads_all o (inr h))))) refl
@@ -134,11 +140,11 @@ within f good b i here at =
           (among_left o (flat_map inst_operands b.insts) (end_operands b.jump) (flat_among inst_operands b.insts i o at a))));
     }
 
-insts_keep : (f : Func) → IsGoodFunction f → (b : Block) → Among b f.blocks → (insts : List (Lined Inst)) → ((i : Lined Inst) → Among i insts → Among i b.insts) → list_all (line_keeps (Below f)) (all_lines insts) ≡ true
-insts_keep f good b here [] sub = refl
-insts_keep f good b here (i ∷ insts) sub =
-    all_both (line_keeps (Below f)) (turn_lines i) (all_lines insts) (inst_keeps f i.line i.item (within f good b i here (sub i (inl refl))))
-    (insts_keep f good b here insts (λ j a. sub j (inr a)))
+insts_keep : (classes : Classes) (f : Func) → IsGoodFunction f → (b : Block) → Among b f.blocks → (insts : List (Lined Inst)) → ((i : Lined Inst) → Among i insts → Among i b.insts) → list_all (line_keeps (Below f)) (all_lines classes insts) ≡ true
+insts_keep classes f good b here [] sub = refl
+insts_keep classes f good b here (i ∷ insts) sub =
+    all_both (line_keeps (Below f)) (turn_lines classes i) (all_lines classes insts) (inst_keeps classes f i.line i.item (within f good b i here (sub i (inl refl))))
+    (insts_keep classes f good b here insts (λ j a. sub j (inr a)))
 
 -- ---- copies
 
@@ -150,12 +156,12 @@ abbrev pub AllCopies : Func → List Assignment → Type 0
 AllCopies f [] = Unit {0}
 AllCopies f (c ∷ cs) = CopyKeeps f c × AllCopies f cs
 
-assignments_keep : (f : Func) (cs : List Assignment) → AllCopies f cs → list_all (line_keeps (Below f)) (assignment_lines cs) ≡ true
-assignments_keep f [] h = refl
-assignments_keep f (c ∷ cs) h =
-    all_both (line_keeps (Below f)) (copy_lines c.to.temp c.to.class (operand_of c.value)) (assignment_lines cs)
-    (sets_keep (Below f) c.to.temp (operand_of c.value ∷ []) _ (below f c.to.temp h.0.to) (only (Below f) (operand_of c.value) h.0.value) (copy_sets c.to.temp c.to.class (operand_of c.value)))
-    (assignments_keep f cs h.1)
+assignments_keep : (classes : Classes) (f : Func) (cs : List Assignment) → AllCopies f cs → list_all (line_keeps (Below f)) (assignment_lines classes cs) ≡ true
+assignments_keep classes f [] h = refl
+assignments_keep classes f (c ∷ cs) h =
+    all_both (line_keeps (Below f)) (copy_lines classes c.to.temp c.to.class (operand_of c.value)) (assignment_lines classes cs)
+    (sets_keep (Below f) c.to.temp (operand_of c.value ∷ []) _ (below f c.to.temp h.0.to) (only (Below f) (operand_of c.value) h.0.value) (copy_sets classes c.to.temp c.to.class (operand_of c.value)))
+    (assignments_keep classes f cs h.1)
 
 copies_both : (f : Func) (cs ds : List Assignment) → AllCopies f cs → AllCopies f ds → AllCopies f (cs ++ ds)
 copies_both f [] ds h k = k
@@ -217,49 +223,68 @@ return_keeps f good b j x a jump item =
     (sym (ap (returned_breaks (λ v. not (is_defined (definers_of f) v))) jump ∙ ap (λ y. breaks_in (λ v. not (is_defined (definers_of f) v)) j.line (value_returned y)) item)
     ∙ none_among (λ (c : Block). returned_breaks (λ v. not (is_defined (definers_of f) v)) c.jump) f.blocks b all a)))
 
--- the copies and the jump of an ending
-pub record EndingKeeps (f : Func) (e : Ending) : Type 0 where
-  pub copies : AllCopies f e.copies
-  pub leaves : jump_keeps (Below f) (jump_of e.leave) ≡ true
+-- an operand's word is in no other register
+word_keeps : (test : ℕ → Bool) (a : Operand ℕ) → operand_keeps test a ≡ true → operand_keeps test (word a) ≡ true
+word_keeps test (At p) h = h
+word_keeps test (Number n) h = refl
+word_keeps test (Name g) h = refl
 
-jump_ending_keeps : (f : Func) → IsGoodFunction f → (b : Block) (j : Lined Jump) (x : Jump) (m : ℕ) → Among b f.blocks → b.jump ≡ Some j → j.item ≡ x → EndingKeeps f (jump_ending f b.label m (straight x))
-jump_ending_keeps f good b j (Goto l) m a e i = record { copies = entry_keeps f good b.label (target f.blocks l); leaves = refl }
-jump_ending_keeps f good b j (Branch on nonzero otherwise) m a e i = by_ways (nat_eq nonzero otherwise)
+abbrev BothKeep : (ℕ → Bool) → Comparison ℕ → Type 0
+BothKeep test c = (operand_keeps test c.left && operand_keeps test c.right) ≡ true
+
+comparison_keeps : (classes : Classes) (test : ℕ → Bool) (on : Condition) (k : Class) (a b : Operand ℕ) → operand_keeps test a ≡ true → operand_keeps test b ≡ true → BothKeep test (comparison_of classes on k a b)
+comparison_keeps classes test on L a b h j = and_both (operand_keeps test a) (operand_keeps test b) h j
+comparison_keeps classes test on W a b h j = by (are_whole classes a b)
   where
-    by_ways : (q : Bool) → EndingKeeps f (jump_ending f b.label m (straight_if q on nonzero otherwise))
+    by : (whole : Bool) → BothKeep test (words_compared on a b whole)
+    by true = and_both (operand_keeps test (word a)) (operand_keeps test (word b)) (word_keeps test a h) (word_keeps test b j)
+    by false = and_both (operand_keeps test a) (operand_keeps test b) h j
+
+-- the copies and the jump of an ending
+pub record EndingKeeps (classes : Classes) (f : Func) (e : Ending) : Type 0 where
+  pub copies : AllCopies f e.copies
+  pub leaves : jump_keeps (Below f) (jump_of classes e.leave) ≡ true
+
+jump_ending_keeps : (classes : Classes) (f : Func) → IsGoodFunction f → (b : Block) (j : Lined Jump) (x : Jump) (m : ℕ) → Among b f.blocks → b.jump ≡ Some j → j.item ≡ x → EndingKeeps classes f (jump_ending f b.label m (straight x))
+jump_ending_keeps classes f good b j (Goto l) m a e i = record { copies = entry_keeps f good b.label (target f.blocks l); leaves = refl }
+jump_ending_keeps classes f good b j (Branch on nonzero otherwise) m a e i = by_ways (nat_eq nonzero otherwise)
+  where
+    by_ways : (q : Bool) → EndingKeeps classes f (jump_ending f b.label m (straight_if q on nonzero otherwise))
     by_ways true = record { copies = entry_keeps f good b.label (target f.blocks nonzero); leaves = refl }
     by_ways false =
         record {
           copies = tt;
-          leaves = reading_keeps f good (operand_at j.line W on)
+          leaves = comparison_keeps classes (Below f) NotEqual W (operand_of on) (Number 0)
+              (reading_keeps f good (operand_at j.line W on)
               (flat_among block_operands f.blocks b _ a
               (among_right _ (flat_map phi_operands b.phis) (flat_map inst_operands b.insts ++ end_operands b.jump)
               (among_right _ (flat_map inst_operands b.insts) (end_operands b.jump)
-              (subst (λ o. Among (operand_at j.line W on) (end_operands o)) (sym e) (subst (λ y. Among (operand_at j.line W on) (jump_operands j.line y)) (sym i) (inl refl))))));
+              (subst (λ o. Among (operand_at j.line W on) (end_operands o)) (sym e) (subst (λ y. Among (operand_at j.line W on) (jump_operands j.line y)) (sym i) (inl refl)))))))
+              refl;
         }
-jump_ending_keeps f good b j (Return None) m a e i = record { copies = tt; leaves = refl }
-jump_ending_keeps f good b j (Return (Some x)) m a e i = record { copies = tt; leaves = return_keeps f good b j x a e i }
-jump_ending_keeps f good b j Halt m a e i = record { copies = tt; leaves = refl }
+jump_ending_keeps classes f good b j (Return None) m a e i = record { copies = tt; leaves = refl }
+jump_ending_keeps classes f good b j (Return (Some x)) m a e i = record { copies = tt; leaves = return_keeps f good b j x a e i }
+jump_ending_keeps classes f good b j Halt m a e i = record { copies = tt; leaves = refl }
 
-pub end_ending_keeps : (f : Func) → IsGoodFunction f → (b : Block) (j : Option (Lined Jump)) (m : ℕ) → Among b f.blocks → b.jump ≡ j → EndingKeeps f (end_ending f b.label m j)
-end_ending_keeps f good b None m a e = record { copies = tt; leaves = refl }
-end_ending_keeps f good b (Some j) m a e = jump_ending_keeps f good b j j.item m a e refl
+pub end_ending_keeps : (classes : Classes) (f : Func) → IsGoodFunction f → (b : Block) (j : Option (Lined Jump)) (m : ℕ) → Among b f.blocks → b.jump ≡ j → EndingKeeps classes f (end_ending f b.label m j)
+end_ending_keeps classes f good b None m a e = record { copies = tt; leaves = refl }
+end_ending_keeps classes f good b (Some j) m a e = jump_ending_keeps classes f good b j j.item m a e refl
 
 -- ---- blocks
 
-block_of_keeps : (f : Func) → IsGoodFunction f → (b : Block) (m : ℕ) → Among b f.blocks → block_keeps (Below f) (block_of b (block_ending f m b)) ≡ true
-block_of_keeps f good b m a =
-    let e = end_ending_keeps f good b b.jump m a refl in
-    and_both (list_all (line_keeps (Below f)) (all_lines b.insts ++ ending_lines (block_ending f m b))) _
-    (all_both (line_keeps (Below f)) (all_lines b.insts) (ending_lines (block_ending f m b)) (insts_keep f good b a b.insts (λ i h. h)) (assignments_keep f (block_ending f m b).copies e.copies))
+block_of_keeps : (classes : Classes) (f : Func) → IsGoodFunction f → (b : Block) (m : ℕ) → Among b f.blocks → block_keeps (Below f) (block_of classes b (block_ending f m b)) ≡ true
+block_of_keeps classes f good b m a =
+    let e = end_ending_keeps classes f good b b.jump m a refl in
+    and_both (list_all (line_keeps (Below f)) (all_lines classes b.insts ++ ending_lines classes (block_ending f m b))) _
+    (all_both (line_keeps (Below f)) (all_lines classes b.insts) (ending_lines classes (block_ending f m b)) (insts_keep classes f good b a b.insts (λ i h. h)) (assignments_keep classes f (block_ending f m b).copies e.copies))
     e.leaves
 
-blocks_keep : (f : Func) → IsGoodFunction f → list_all (block_keeps (Below f)) (blocks_of f.blocks (all_endings f 0 f.blocks) ++ map edge_of (all_edges f f.blocks)) ≡ true
-blocks_keep f good =
-    blocks_all f (block_keeps (Below f)) (0 + length (all_edges f f.blocks)) 0 f.blocks (map edge_of (all_edges f f.blocks)) refl
-    (λ b m a le. block_of_keeps f good b m a)
-    (edges_all f (block_keeps (Below f)) f.blocks
-    (λ b l p ps a br e. and_both (list_all (line_keeps (Below f)) (assignment_lines (entry_copies f b.label (target f.blocks l)))) true (assignments_keep f (entry_copies f b.label (target f.blocks l)) (entry_keeps f good b.label (target f.blocks l))) refl))
+blocks_keep : (classes : Classes) (f : Func) → IsGoodFunction f → list_all (block_keeps (Below f)) (blocks_of classes f.blocks (all_endings f 0 f.blocks) ++ map (edge_of classes) (all_edges f f.blocks)) ≡ true
+blocks_keep classes f good =
+    blocks_all classes f (block_keeps (Below f)) (0 + length (all_edges f f.blocks)) 0 f.blocks (map (edge_of classes) (all_edges f f.blocks)) refl
+    (λ b m a le. block_of_keeps classes f good b m a)
+    (edges_all classes f (block_keeps (Below f)) f.blocks
+    (λ b l p ps a br e. and_both (list_all (line_keeps (Below f)) (assignment_lines classes (entry_copies f b.label (target f.blocks l)))) true (assignments_keep classes f (entry_copies f b.label (target f.blocks l)) (entry_keeps f good b.label (target f.blocks l))) refl))
 
 params_keep : (f : Func) (ps : List Param) → ((p : Param) → Among p ps → Among p f.params) → list_all (λ d. Below f d.place) (map parameter_of ps) ≡ true
 params_keep f [] sub = refl
@@ -268,6 +293,6 @@ params_keep f (p ∷ ps) sub =
     (own_below f p.temp (own_temps f (record { line = p.line; temp = p.temp; class = p.class }) (among_left _ (flat_map param_definers f.params) (flat_map block_definers f.blocks) (param_among f.params p (sub p (inl refl))))))
     (params_keep f ps (λ q a. sub q (inr a)))
 
-pub known : (f : Func) → IsGoodFunction f → keeps_places (is_below (registers f)) (selected f (lowered f)) ≡ true
+pub known : (classes : Classes) (f : Func) → IsGoodFunction f → keeps_places (is_below (registers f)) (selected classes f (lowered f)) ≡ true
 unfolding selected lowered
-known f good = and_both (list_all (λ d. Below f d.place) (map parameter_of f.params)) _ (params_keep f f.params (λ p a. a)) (blocks_keep f good)
+known classes f good = and_both (list_all (λ d. Below f d.place) (map parameter_of f.params)) _ (params_keep f f.params (λ p a. a)) (blocks_keep classes f good)

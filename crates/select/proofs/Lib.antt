@@ -1,4 +1,5 @@
 pub mod BlockLines
+pub mod Comparing
 pub mod EachBlock
 pub mod Ending
 pub mod Going
@@ -13,6 +14,7 @@ pub mod Registers
 pub mod Regular
 pub mod Sums
 pub mod Stack
+pub mod TableOf
 pub mod Weights
 pub mod Selecting
 pub mod Typing
@@ -20,3 +22,4 @@ pub mod UsedPlaces
 pub mod Widening
 pub mod Yielding
 pub mod WholeKept
+pub mod WholeWords

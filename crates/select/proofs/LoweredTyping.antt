@@ -373,11 +373,10 @@ param_among [] p h = absurd h
 param_among (q ∷ ps) p (inl e) = inl (ap (λ (x : Param). record { line = x.line; temp = x.temp; class = x.class }) e)
 param_among (q ∷ ps) p (inr h) = inr (param_among ps p h)
 
-pub lowered_is_typed : (f : Func) → IsGoodFunction f → IsTyped f (lowered f)
+pub lowered_is_typed : (f : Func) → IsGoodFunction f → IsTyped (classes_in f) f (lowered f)
 unfolding lowered
 lowered_is_typed f good =
     record {
-      classes = classes_in f;
       params = params_fit f good f.params (λ p a. among_left _ (flat_map param_definers f.params) (flat_map block_definers f.blocks) (param_among f.params p a));
       insts = λ k j b i here at. item_fits f good b i.line i.item (inst_at f good k j b i here at);
       endings = endings_fit f good 0 f.blocks (λ b a. a);

@@ -5,7 +5,9 @@ use Rattle.std.specs.List.{sum_by, flat_map}
 use Rattle.std.proofs.Math.Nat.{mod-eq_of_lt}
 use Rattle.std.proofs.lemmas.Bool.Decides.{nat_tests}
 use Rattle.std.proofs.lemmas.List.Sums.{sum_by-cons}
+use Rattle.il_ast.specs.declared.operation.Class.{Class}
 use Rattle.il_ast.specs.declared.operation.Class.TheVariants.{L}
+use Rattle.il_ast.specs.declared.operation.Condition.TheVariants.{NotEqual}
 use Rattle.il_ast.specs.declared.operand.Val.{Val}
 use Rattle.il_ast.specs.declared.operand.Val.TheVariants.{Int, Temp, Global}
 use Rattle.il_ast.specs.declared.operand.Dest.{Dest}
@@ -32,16 +34,22 @@ use Rattle.phi_copies.specs.Good.{IsGoodFunction}
 use Rattle.phi_copies.specs.Lowered.{target, phis_of, phis_at, entry_copies, edge_with, edge, jump_edges, end_edges, block_edges, all_edges, jump_ending, end_ending, block_ending, all_endings, lowered, straight}
 use Rattle.phi_copies.proofs.Counting.{is_small}
 use Rattle.phi_copies.proofs.EdgePlaces.{phis_counted}
+use Rattle.vcode.specs.declared.place.Operand.TheVariants.{At, Number}
 use Rattle.vcode.specs.declared.place.Destination.{Destination}
+use Rattle.vcode.specs.declared.line.Comparison.{Comparison}
 use Rattle.vcode.specs.declared.line.Line.{Line}
 use Rattle.vcode.specs.declared.line.Line.TheVariants.{Tick}
 use Rattle.vcode.specs.declared.code.Block.{Block as VirtualBlock}
 use Rattle.vcode.specs.declared.code.Code.{Code}
 use Rattle.vcode.specs.Named.{operand_keeps, jump_keeps}
-use Rattle.select.specs.Selected.{operand_of, inst_lines, turn_lines, all_lines, copy_lines, assignment_lines, ending_lines, jump_of, block_of, edge_of, blocks_of, parameter_of, selected}
+use Rattle.select.specs.Selected.{are_whole, words_compared, not_zero, operand_of, inst_lines, turn_lines, all_lines, copy_lines, assignment_lines, ending_lines, jump_of, block_of, edge_of, blocks_of, parameter_of, selected}
+use Rattle.select.specs.Typed.{Classes}
+use Rattle.select.specs.Classes.{classes_in}
+use Rattle.select.specs.Tables.{listed}
 use Rattle.select.specs.Narrow.{narrow, narrow_val, narrow_dest, narrow_arg, narrow_parameter, narrow_inst, narrow_turns, narrow_copies, narrow_ending, narrow_leave, narrow_block, narrow_edge, narrow_blocks, narrow_code}
 use Rattle.select.proofs.Typing.{Among, among_left}
 use Rattle.select.proofs.LoweredTyping.{own_temps, param_among}
+use Rattle.select.proofs.TableOf.{same_classes}
 use Rattle.select.proofs.Known.{registers, Below, Within, within, AllCopies, entry_keeps, EndingKeeps, end_ending_keeps}
 
 -- ---- operands
@@ -120,40 +128,53 @@ weight_small f good b i here at =
     let of_inst = among_sum (λ (x : Lined Inst). inst_weight x.item) b.insts i at in
     small (inst_weight i.item) (omega (arith, le, of_block, of_inst))
 
-turns_small : (f : Func) → IsGoodFunction f → (b : Block) → Among b f.blocks → (insts : List (Lined Inst)) → ((i : Lined Inst) → Among i insts → Among i b.insts) → narrow_turns insts ≡ all_lines insts
-turns_small f good b here [] sub = refl
-turns_small f good b here (i ∷ insts) sub =
+turns_small : (classes : Classes) (f : Func) → IsGoodFunction f → (b : Block) → Among b f.blocks → (insts : List (Lined Inst)) → ((i : Lined Inst) → Among i insts → Among i b.insts) → narrow_turns classes insts ≡ all_lines classes insts
+turns_small classes f good b here [] sub = refl
+turns_small classes f good b here (i ∷ insts) sub =
     let at = sub i (inl refl) in
-    ap (λ n. (Tick true n ∷ inst_lines (narrow_inst i.item)) ++ narrow_turns insts) (weight_small f good b i here at)
-    ∙ ap (λ x. (Tick true (inst_weight i.item) ∷ inst_lines x) ++ narrow_turns insts) (inst_small f good i.line i.item (within f good b i here at))
-    ∙ ap (λ ls. turn_lines i ++ ls) (turns_small f good b here insts (λ j a. sub j (inr a)))
+    ap (λ n. (Tick true n ∷ inst_lines classes (narrow_inst i.item)) ++ narrow_turns classes insts) (weight_small f good b i here at)
+    ∙ ap (λ x. (Tick true (inst_weight i.item) ∷ inst_lines classes x) ++ narrow_turns classes insts) (inst_small f good i.line i.item (within f good b i here at))
+    ∙ ap (λ ls. turn_lines classes i ++ ls) (turns_small classes f good b here insts (λ j a. sub j (inr a)))
 
 -- ---- endings
 
-copies_small : (f : Func) → IsGoodFunction f → (cs : List Assignment) → AllCopies f cs → narrow_copies cs ≡ assignment_lines cs
-copies_small f good [] h = refl
-copies_small f good (c ∷ cs) h =
-    ap (λ n. copy_lines n c.to.class (operand_of (narrow_val c.value)) ++ narrow_copies cs) (register_small f good c.to.temp h.0.to)
-    ∙ ap (λ v. copy_lines c.to.temp c.to.class (operand_of v) ++ narrow_copies cs) (value_small f good c.value h.0.value)
-    ∙ ap (λ ls. copy_lines c.to.temp c.to.class (operand_of c.value) ++ ls) (copies_small f good cs h.1)
+copies_small : (classes : Classes) (f : Func) → IsGoodFunction f → (cs : List Assignment) → AllCopies f cs → narrow_copies classes cs ≡ assignment_lines classes cs
+copies_small classes f good [] h = refl
+copies_small classes f good (c ∷ cs) h =
+    ap (λ n. copy_lines classes n c.to.class (operand_of (narrow_val c.value)) ++ narrow_copies classes cs) (register_small f good c.to.temp h.0.to)
+    ∙ ap (λ v. copy_lines classes c.to.temp c.to.class (operand_of v) ++ narrow_copies classes cs) (value_small f good c.value h.0.value)
+    ∙ ap (λ ls. copy_lines classes c.to.temp c.to.class (operand_of c.value) ++ ls) (copies_small classes f good cs h.1)
 
-leave_small : (f : Func) → IsGoodFunction f → (l : Leave) → jump_keeps (Below f) (jump_of l) ≡ true → narrow_leave l ≡ l
-leave_small f good (GotoBlock k) h = refl
-leave_small f good (BranchTo on nonzero otherwise) h = ap (λ v. BranchTo v nonzero otherwise) (value_small f good on h)
-leave_small f good (ReturnWith None) h = refl
-leave_small f good (ReturnWith (Some a)) h = ap (λ v. ReturnWith (Some v)) (value_small f good a h)
-leave_small f good HaltRun h = refl
+-- the operand of a branch keeps what the comparison does
+tested_keeps : (classes : Classes) (test : ℕ → Bool) (a : Val) → (operand_keeps test (not_zero classes (operand_of a)).left && operand_keeps test (not_zero classes (operand_of a)).right) ≡ true → operand_keeps test (operand_of a) ≡ true
+tested_keeps classes test (Int n) h = refl
+tested_keeps classes test (Temp t) h = by (are_whole classes (At t) (Number 0)) h
+  where
+    compared : Bool → Comparison ℕ
+    compared whole = words_compared NotEqual (At t) (Number 0) whole
+
+    by : (whole : Bool) → (operand_keeps test (compared whole).left && operand_keeps test (compared whole).right) ≡ true → test t ≡ true
+    by true e = and_first (test t) true e
+    by false e = and_first (test t) true e
+tested_keeps classes test (Global g) h = refl
+
+leave_small : (classes : Classes) (f : Func) → IsGoodFunction f → (l : Leave) → jump_keeps (Below f) (jump_of classes l) ≡ true → narrow_leave l ≡ l
+leave_small classes f good (GotoBlock k) h = refl
+leave_small classes f good (BranchTo on nonzero otherwise) h = ap (λ v. BranchTo v nonzero otherwise) (value_small f good on (tested_keeps classes (Below f) on h))
+leave_small classes f good (ReturnWith None) h = refl
+leave_small classes f good (ReturnWith (Some a)) h = ap (λ v. ReturnWith (Some v)) (value_small f good a h)
+leave_small classes f good HaltRun h = refl
 
 -- an ending without anything long
-record IsSmallEnding (e : Ending) : Type 0 where
-  lines : narrow_ending e ≡ ending_lines e
+record IsSmallEnding (classes : Classes) (e : Ending) : Type 0 where
+  lines : narrow_ending classes e ≡ ending_lines classes e
   leave : narrow_leave e.leave ≡ e.leave
 
-ending_small : (f : Func) → IsGoodFunction f → (e : Ending) → EndingKeeps f e → e.weight ≤ 44001 → IsSmallEnding e
-ending_small f good e k le =
+ending_small : (classes : Classes) (f : Func) → IsGoodFunction f → (e : Ending) → EndingKeeps classes f e → e.weight ≤ 44001 → IsSmallEnding classes e
+ending_small classes f good e k le =
     record {
-      lines = ap (λ n. Tick e.turn n ∷ narrow_copies e.copies) (small e.weight (omega (arith, le))) ∙ ap (λ ls. Tick e.turn e.weight ∷ ls) (copies_small f good e.copies k.copies);
-      leave = leave_small f good e.leave k.leaves;
+      lines = ap (λ n. Tick e.turn n ∷ narrow_copies classes e.copies) (small e.weight (omega (arith, le))) ∙ ap (λ ls. Tick e.turn e.weight ∷ ls) (copies_small classes f good e.copies k.copies);
+      leave = leave_small classes f good e.leave k.leaves;
     }
 
 phis_few : (f : Func) → IsGoodFunction f → (k : ℕ) → length (phis_at f.blocks k) ≤ 44000
@@ -175,21 +196,21 @@ end_weight_few f good from number (Some j) = jump_weight f good from number (str
 
 -- ---- blocks
 
-block_small : (f : Func) → IsGoodFunction f → (b : Block) (n : ℕ) → Among b f.blocks → narrow_block b (block_ending f n b) ≡ block_of b (block_ending f n b)
-block_small f good b n a =
+block_small : (classes : Classes) (f : Func) → IsGoodFunction f → (b : Block) (n : ℕ) → Among b f.blocks → narrow_block classes b (block_ending f n b) ≡ block_of classes b (block_ending f n b)
+block_small classes f good b n a =
     let e = block_ending f n b in
-    let s = ending_small f good e (end_ending_keeps f good b b.jump n a refl) (end_weight_few f good b.label n b.jump) in
-    let with : List (Line ℕ) → Leave → VirtualBlock ℕ = λ ls l. record { lines = ls; jump = jump_of l } in
-    ap (λ ls. with (ls ++ narrow_ending e) (narrow_leave e.leave)) (turns_small f good b a b.insts (λ i h. h))
-    ∙ ap (λ ls. with (all_lines b.insts ++ ls) (narrow_leave e.leave)) s.lines
-    ∙ ap (with (all_lines b.insts ++ ending_lines e)) s.leave
+    let s = ending_small classes f good e (end_ending_keeps classes f good b b.jump n a refl) (end_weight_few f good b.label n b.jump) in
+    let with : List (Line ℕ) → Leave → VirtualBlock ℕ = λ ls l. record { lines = ls; jump = jump_of classes l } in
+    ap (λ ls. with (ls ++ narrow_ending classes e) (narrow_leave e.leave)) (turns_small classes f good b a b.insts (λ i h. h))
+    ∙ ap (λ ls. with (all_lines classes b.insts ++ ls) (narrow_leave e.leave)) s.lines
+    ∙ ap (with (all_lines classes b.insts ++ ending_lines classes e)) s.leave
 
-blocks_small : (f : Func) → IsGoodFunction f → (n : ℕ) (bs : List Block) → ((b : Block) → Among b bs → Among b f.blocks) → narrow_blocks bs (all_endings f n bs) ≡ blocks_of bs (all_endings f n bs)
-blocks_small f good n [] sub = refl
-blocks_small f good n (b ∷ bs) sub =
+blocks_small : (classes : Classes) (f : Func) → IsGoodFunction f → (n : ℕ) (bs : List Block) → ((b : Block) → Among b bs → Among b f.blocks) → narrow_blocks classes bs (all_endings f n bs) ≡ blocks_of classes bs (all_endings f n bs)
+blocks_small classes f good n [] sub = refl
+blocks_small classes f good n (b ∷ bs) sub =
     let rest = all_endings f (n + length (block_edges f b)) bs in
-    ap (λ x. x ∷ narrow_blocks bs rest) (block_small f good b n (sub b (inl refl)))
-    ∙ ap (λ xs. block_of b (block_ending f n b) ∷ xs) (blocks_small f good (n + length (block_edges f b)) bs (λ c a. sub c (inr a)))
+    ap (λ x. x ∷ narrow_blocks classes bs rest) (block_small classes f good b n (sub b (inl refl)))
+    ∙ ap (λ xs. block_of classes b (block_ending f n b) ∷ xs) (blocks_small classes f good (n + length (block_edges f b)) bs (λ c a. sub c (inr a)))
 
 -- ---- edges
 
@@ -197,40 +218,40 @@ map_both : {A B : Type 0} (g : A → B) (xs ys : List A) → map g (xs ++ ys) �
 map_both g [] ys = refl
 map_both g (x ∷ xs) ys = ap (λ zs. g x ∷ zs) (map_both g xs ys)
 
-abbrev SameEdges : List Ending → Type 0
-SameEdges es = map narrow_edge es ≡ map edge_of es
+abbrev SameEdges : Classes → List Ending → Type 0
+SameEdges classes es = map (narrow_edge classes) es ≡ map (edge_of classes) es
 
-same_both : (es ds : List Ending) → SameEdges es → SameEdges ds → SameEdges (es ++ ds)
-same_both es ds h k =
-    map_both narrow_edge es ds ∙ ap (λ xs. xs ++ map narrow_edge ds) h ∙ ap (λ xs. map edge_of es ++ xs) k ∙ sym (map_both edge_of es ds)
+same_both : (classes : Classes) (es ds : List Ending) → SameEdges classes es → SameEdges classes ds → SameEdges classes (es ++ ds)
+same_both classes es ds h k =
+    map_both (narrow_edge classes) es ds ∙ ap (λ xs. xs ++ map (narrow_edge classes) ds) h ∙ ap (λ xs. map (edge_of classes) es ++ xs) k ∙ sym (map_both (edge_of classes) es ds)
 
-edge_small : (f : Func) → IsGoodFunction f → (from k : ℕ) → SameEdges (edge f from k)
-edge_small f good from k = by (phis_at f.blocks k) refl
+edge_small : (classes : Classes) (f : Func) → IsGoodFunction f → (from k : ℕ) → SameEdges classes (edge f from k)
+edge_small classes f good from k = by (phis_at f.blocks k) refl
   where
-    by : (ps : List Phi) → phis_at f.blocks k ≡ ps → SameEdges (edge_with f from k ps)
+    by : (ps : List Phi) → phis_at f.blocks k ≡ ps → SameEdges classes (edge_with f from k ps)
     by [] e = refl
     by (p ∷ ps) e =
         let few = phis_few f good k in
         let long = ap length e in
         let this : Ending = record { turn = false; weight = length (p ∷ ps); copies = entry_copies f from k; leave = GotoBlock k } in
-        let s = ending_small f good this (record { copies = entry_keeps f good from k; leaves = refl }) (omega (arith, few, long)) in
-        let with : List (Line ℕ) → VirtualBlock ℕ = λ ls. record { lines = ls; jump = jump_of (GotoBlock k) } in
+        let s = ending_small classes f good this (record { copies = entry_keeps f good from k; leaves = refl }) (omega (arith, few, long)) in
+        let with : List (Line ℕ) → VirtualBlock ℕ = λ ls. record { lines = ls; jump = jump_of classes (GotoBlock k) } in
         ap (λ ls. with ls ∷ []) s.lines
 
-jump_edges_small : (f : Func) → IsGoodFunction f → (from : ℕ) (j : Jump) → SameEdges (jump_edges f from j)
-jump_edges_small f good from (Goto l) = refl
-jump_edges_small f good from (Branch on nonzero otherwise) =
-    same_both (edge f from (target f.blocks nonzero)) (edge f from (target f.blocks otherwise)) (edge_small f good from (target f.blocks nonzero)) (edge_small f good from (target f.blocks otherwise))
-jump_edges_small f good from (Return a) = refl
-jump_edges_small f good from Halt = refl
+jump_edges_small : (classes : Classes) (f : Func) → IsGoodFunction f → (from : ℕ) (j : Jump) → SameEdges classes (jump_edges f from j)
+jump_edges_small classes f good from (Goto l) = refl
+jump_edges_small classes f good from (Branch on nonzero otherwise) =
+    same_both classes (edge f from (target f.blocks nonzero)) (edge f from (target f.blocks otherwise)) (edge_small classes f good from (target f.blocks nonzero)) (edge_small classes f good from (target f.blocks otherwise))
+jump_edges_small classes f good from (Return a) = refl
+jump_edges_small classes f good from Halt = refl
 
-end_edges_small : (f : Func) → IsGoodFunction f → (from : ℕ) (j : Option (Lined Jump)) → SameEdges (end_edges f from j)
-end_edges_small f good from None = refl
-end_edges_small f good from (Some j) = jump_edges_small f good from (straight j.item)
+end_edges_small : (classes : Classes) (f : Func) → IsGoodFunction f → (from : ℕ) (j : Option (Lined Jump)) → SameEdges classes (end_edges f from j)
+end_edges_small classes f good from None = refl
+end_edges_small classes f good from (Some j) = jump_edges_small classes f good from (straight j.item)
 
-edges_small : (f : Func) → IsGoodFunction f → (bs : List Block) → SameEdges (all_edges f bs)
-edges_small f good [] = refl
-edges_small f good (b ∷ bs) = same_both (block_edges f b) (all_edges f bs) (end_edges_small f good b.label b.jump) (edges_small f good bs)
+edges_small : (classes : Classes) (f : Func) → IsGoodFunction f → (bs : List Block) → SameEdges classes (all_edges f bs)
+edges_small classes f good [] = refl
+edges_small classes f good (b ∷ bs) = same_both classes (block_edges f b) (all_edges f bs) (end_edges_small classes f good b.label b.jump) (edges_small classes f good bs)
 
 -- ---- all of it
 
@@ -241,19 +262,26 @@ params_small f good (p ∷ ps) sub =
     ap (λ n. record { place = n; class = p.class } ∷ map narrow_parameter ps) (register_small f good p.temp (own f p.temp low))
     ∙ ap (λ xs. parameter_of p ∷ xs) (params_small f good ps (λ q a. sub q (inr a)))
 
-pub nothing_long : (f : Func) → IsGoodFunction f → narrow_code f (lowered f) ≡ selected f (lowered f)
+pub nothing_long : (classes : Classes) (f : Func) → IsGoodFunction f → narrow_code classes f (lowered f) ≡ selected classes f (lowered f)
 unfolding narrow_code selected lowered
-nothing_long f good =
+nothing_long classes f good =
     let es = all_endings f 0 f.blocks in
     let ds = all_edges f f.blocks in
     let code : List (Destination ℕ) → List (VirtualBlock ℕ) → Code ℕ = λ ps bs. record { result = f.result; params = ps; blocks = bs } in
-    ap (λ ps. code ps (narrow_blocks f.blocks es ++ map narrow_edge ds)) (params_small f good f.params (λ p a. a))
-    ∙ ap (λ bs. code (map parameter_of f.params) (bs ++ map narrow_edge ds)) (blocks_small f good 0 f.blocks (λ b a. a))
-    ∙ ap (λ bs. code (map parameter_of f.params) (blocks_of f.blocks es ++ bs)) (edges_small f good f.blocks)
+    ap (λ ps. code ps (narrow_blocks classes f.blocks es ++ map (narrow_edge classes) ds)) (params_small f good f.params (λ p a. a))
+    ∙ ap (λ bs. code (map parameter_of f.params) (bs ++ map (narrow_edge classes) ds)) (blocks_small classes f good 0 f.blocks (λ b a. a))
+    ∙ ap (λ bs. code (map parameter_of f.params) (blocks_of classes f.blocks es ++ bs)) (edges_small classes f good f.blocks)
 
-pub is_selected : (f : Func) → IsGoodFunction f → (es ds : List Ending) → es ≡ all_endings f 0 f.blocks → ds ≡ all_edges f f.blocks → narrow_code f (record { endings = es; edges = ds }) ≡ selected f (lowered f)
+pub is_selected : (classes : Classes) (f : Func) → IsGoodFunction f → (es ds : List Ending) → es ≡ all_endings f 0 f.blocks → ds ≡ all_edges f f.blocks → narrow_code classes f (record { endings = es; edges = ds }) ≡ selected classes f (lowered f)
 unfolding lowered
-is_selected f good es ds e d =
-    ap (λ xs. narrow_code f (record { endings = xs; edges = ds })) e
-    ∙ ap (λ xs. narrow_code f (record { endings = all_endings f 0 f.blocks; edges = xs })) d
-    ∙ nothing_long f good
+is_selected classes f good es ds e d =
+    ap (λ xs. narrow_code classes f (record { endings = xs; edges = ds })) e
+    ∙ ap (λ xs. narrow_code classes f (record { endings = all_endings f 0 f.blocks; edges = xs })) d
+    ∙ nothing_long classes f good
+
+-- by a table of the classes
+pub is_selected_by : (f : Func) → IsGoodFunction f → (given table : List Class) → given ≡ table → ((t : ℕ) → listed table t ≡ classes_in f t) → (es ds : List Ending) → es ≡ all_endings f 0 f.blocks → ds ≡ all_edges f f.blocks → narrow_code (listed given) f (record { endings = es; edges = ds }) ≡ selected (classes_in f) f (lowered f)
+is_selected_by f good given table is each es ds e d =
+    ap (λ (cs : List Class). narrow_code (listed cs) f (record { endings = es; edges = ds })) is
+    ∙ ap (λ classes. narrow_code classes f (record { endings = es; edges = ds })) (same_classes f table each)
+    ∙ is_selected (classes_in f) f good es ds e d

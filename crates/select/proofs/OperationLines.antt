@@ -1,5 +1,5 @@
 -- The lines of an operation set its register to what the operation gives.
-use Rattle.std.proofs.Common.{◌≡◌, ℕ, ◌+◌, ◌-◌, ◌%◌, ◌^◌, ◌<◌, Bool, true, false, List, [], ◌∷◌, refl, sym, ◌∙◌, ap, subst, arith}
+use Rattle.std.proofs.Common.{◌≡◌, ℕ, ◌+◌, ◌-◌, ◌%◌, ◌^◌, ◌<◌, Bool, true, false, ◌&&◌, List, [], ◌∷◌, refl, sym, ◌∙◌, ap, subst, arith}
 use Rattle.std.specs.Prelude.{Option, Some, None, bit_and}
 use Rattle.std.specs.Int.{w8, w16, w64, cast_signed, cast_unsigned}
 use Rattle.std.specs.Option.{option_map, option_and_then}
@@ -30,15 +30,18 @@ use Rattle.rv_isa.proofs.RangeLemmas.{word_value_fits}
 use Rattle.vcode.specs.declared.place.Operand.{Operand}
 use Rattle.vcode.specs.declared.place.Operand.TheVariants.{At, Number}
 use Rattle.vcode.specs.declared.line.Operation.TheVariants.{Reg, RegW, Compare as CompareValues}
+use Rattle.vcode.specs.declared.line.Comparison.{Comparison}
 use Rattle.vcode.specs.declared.line.Line.{Line}
 use Rattle.vcode.specs.declared.line.Line.TheVariants.{Set, Operate, Load}
-use Rattle.vcode.specs.Operations.{held, reg_on_places, compare, operate, loaded, extended as extended_load}
-use Rattle.vcode.specs.Step.{State}
-use Rattle.select.specs.Selected.{as_word, shifted, extend_lines, load_of, copy_lines, negate_lines, unary_lines, binary_lines}
-use Rattle.select.specs.Typed.{HasResult}
+use Rattle.vcode.specs.Operations.{held, reg_on_places, operate, loaded, extended as extended_load}
+use Rattle.vcode.specs.Step.{State, value_of}
+use Rattle.select.specs.Selected.{is_whole, are_whole, word, words_compared, comparison_of, word_line, word_of, bits_of_words, bit_lines, compare_line, as_word, shifted, extend_lines, load_of, copy_lines, negate_lines, unary_lines, binary_lines}
+use Rattle.select.specs.Typed.{Classes, HasResult}
+use Rattle.select.proofs.Comparing.{holds_extended}
 use Rattle.select.proofs.Going.{Setting}
 use Rattle.select.proofs.Numbers.{WordRight, LongRight, ShiftRight, add_word, sub_word, mul_word, shl_word, shr_word, sar_word, div_word, rem_word, udiv_word, urem_word, add_long, sub_long, mul_long, and_long, or_long, xor_long, div_long, rem_long, udiv_long, urem_long, shl_long, shr_long, sar_long}
-use Rattle.select.proofs.Registers.{Reads, long_same}
+use Rattle.select.proofs.Registers.{Reads, long_same, Stands}
+use Rattle.select.proofs.WholeWords.{extended_low, BitsStay, and_stays, or_stays, xor_stays}
 use Rattle.select.proofs.Widening.{word_plus_zero, word_again, negated_word, negated_long, back_32, back_48, half_back, byte_back, half_in_word, byte_in_word, word_in_word, small_in_word, low_byte}
 use Rattle.select.proofs.Yielding.{Yields, yields_one, yields_two, set_line, operate_line, load_line}
 
@@ -76,6 +79,14 @@ as_word_yields c t p a u r =
     (yields_one c t (as_word p a) p (Integer (sign_extended ((n % 2 ^ 32 + 0 % 2 ^ 32) % 2 ^ 32)))
     (operate_line c t p (RegW Addw) a (Number 0) (Integer n) (Integer 0) _ (r.is ∙ ap Some w.is) refl refl))
 
+-- where the word stands sign-extended it is taken as it stands
+word_yields : (classes : Classes) (c : Setting) (t : State ℕ) (p : ℕ) (a : Operand ℕ) (u : Value) → Reads c.globals t.values a W u → Stands classes c.globals t.values W a u → Yields c t (word_of classes p a ∷ []) p (held W u)
+word_yields classes c t p a u r s = by (is_whole classes a) refl
+  where
+    by : (whole : Bool) → is_whole classes a ≡ whole → Yields c t (word_line p a whole ∷ []) p (held W u)
+    by true e = yields_one c t (Set p (word a)) p (held W u) (set_line c t p (word a) (held W u) (s e))
+    by false e = as_word_yields c t p a u r
+
 -- an operation of the machine, and one of which the low 32 bits count
 abbrev reg : ℕ → RegOp → Operand ℕ → Operand ℕ → List (Line ℕ)
 reg t op a b = Operate t (Reg op) a b ∷ []
@@ -87,8 +98,8 @@ abbrev low_reg : ℕ → RegOp → Operand ℕ → Operand ℕ → List (Line �
 low_reg t op a b = Operate t (Reg op) a b ∷ as_word t (At t) ∷ []
 
 -- an operation of the machine on words
-word_line : (m : Memory) (rop : RegWOp) (bop : BinaryOp) → WordRight rop bop → (a b : ℕ) (x : Value) → option_map Integer (on_integers bop W (a % 2 ^ 32) (b % 2 ^ 32)) ≡ Some x → Integer (regw_value rop a b) ≡ held W x
-word_line m rop bop right a b x h = by (on_integers bop W (a % 2 ^ 32) (b % 2 ^ 32)) refl h
+regw_line : (m : Memory) (rop : RegWOp) (bop : BinaryOp) → WordRight rop bop → (a b : ℕ) (x : Value) → option_map Integer (on_integers bop W (a % 2 ^ 32) (b % 2 ^ 32)) ≡ Some x → Integer (regw_value rop a b) ≡ held W x
+regw_line m rop bop right a b x h = by (on_integers bop W (a % 2 ^ 32) (b % 2 ^ 32)) refl h
   where
     by : (o : Option ℕ) → on_integers bop W (a % 2 ^ 32) (b % 2 ^ 32) ≡ o → option_map Integer o ≡ Some x → Integer (regw_value rop a b) ≡ held W x
     by None e f = absurd (none_value f)
@@ -108,7 +119,7 @@ regw_yields c t p rop bop right a b u v x r q h =
     let w = is_word r.value u r.read_as in
     let z = is_word q.value v q.read_as in
     yields_same c t (regw p rop a b) p (Integer (regw_value rop w.number z.number)) (held W x)
-    (word_line t.memory rop bop right w.number z.number x (two_words t.memory bop u v x (w.number % 2 ^ 32) (z.number % 2 ^ 32) w.read z.read h))
+    (regw_line t.memory rop bop right w.number z.number x (two_words t.memory bop u v x (w.number % 2 ^ 32) (z.number % 2 ^ 32) w.read z.read h))
     (yields_one c t (Operate p (RegW rop) a b) p (Integer (regw_value rop w.number z.number))
     (operate_line c t p (RegW rop) a b (Integer w.number) (Integer z.number) _ (r.is ∙ ap Some w.is) (q.is ∙ ap Some z.is) refl))
 
@@ -198,6 +209,51 @@ bits_yield c t p rop bop right a b u v x r q h =
     (operate_line c t p (Reg rop) a b (Integer w.number) (Integer z.number) (Integer y) (r.is ∙ ap Some w.is) (q.is ∙ ap Some z.is) refl)
     (λ s m e. operate_line c s p (RegW Addw) (At p) (Number 0) (Integer y) (Integer 0) _ e refl refl))
 
+-- of two words that stand sign-extended
+
+and_first : (a b : Bool) → (a && b) ≡ true → a ≡ true
+and_first true b h = refl
+and_first false b h = h
+
+and_second : (a b : Bool) → (a && b) ≡ true → b ≡ true
+and_second true b h = h
+and_second false b h = absurd (let no : ⊥ = cc in no)
+
+-- the word that the bits give stands sign-extended
+words_give : (rop : RegOp) (bop : BinaryOp) → BitsRight rop bop → BitsStay rop → (a b : ℕ) (x : Value) → option_map Integer (on_integers bop W (a % 2 ^ 32) (b % 2 ^ 32)) ≡ Some x → Integer (reg_value rop (sign_extended (a % 2 ^ 32 % 2 ^ 32)) (sign_extended (b % 2 ^ 32 % 2 ^ 32))) ≡ held W x
+words_give rop bop right stay a b x h = by (on_integers bop W (a % 2 ^ 32) (b % 2 ^ 32)) refl h
+  where
+    by : (o : Option ℕ) → on_integers bop W (a % 2 ^ 32) (b % 2 ^ 32) ≡ o → option_map Integer o ≡ Some x → Integer (reg_value rop (sign_extended (a % 2 ^ 32 % 2 ^ 32)) (sign_extended (b % 2 ^ 32 % 2 ^ 32))) ≡ held W x
+    by None e f = absurd (none_value f)
+    by (Some y) e f =
+        let first : sign_extended (a % 2 ^ 32 % 2 ^ 32) % 2 ^ 32 ≡ a % 2 ^ 32 = extended_low (a % 2 ^ 32 % 2 ^ 32) (omega arith) ∙ word_again a in
+        let second : sign_extended (b % 2 ^ 32 % 2 ^ 32) % 2 ^ 32 ≡ b % 2 ^ 32 = extended_low (b % 2 ^ 32 % 2 ^ 32) (omega arith) ∙ word_again b in
+        let low : reg_value rop (sign_extended (a % 2 ^ 32 % 2 ^ 32)) (sign_extended (b % 2 ^ 32 % 2 ^ 32)) % 2 ^ 32 ≡ y =
+        right (sign_extended (a % 2 ^ 32 % 2 ^ 32)) (sign_extended (b % 2 ^ 32 % 2 ^ 32)) y
+        (ap (λ k. on_integers bop W k (sign_extended (b % 2 ^ 32 % 2 ^ 32) % 2 ^ 32)) first ∙ ap (on_integers bop W (a % 2 ^ 32)) second ∙ e) in
+        ap Integer (sym (stay (a % 2 ^ 32 % 2 ^ 32) (b % 2 ^ 32 % 2 ^ 32) (omega arith) (omega arith)))
+        ∙ ap (λ k. Integer (sign_extended k)) (sym (word_again (reg_value rop (sign_extended (a % 2 ^ 32 % 2 ^ 32)) (sign_extended (b % 2 ^ 32 % 2 ^ 32)))))
+        ∙ ap (λ k. Integer (sign_extended (k % 2 ^ 32))) low
+        ∙ ap (held W) (some_value f)
+
+words_yield : (classes : Classes) (c : Setting) (t : State ℕ) (p : ℕ) (rop : RegOp) (bop : BinaryOp) → BitsRight rop bop → BitsStay rop → (a b : Operand ℕ) (u v x : Value) → Reads c.globals t.values a W u → Reads c.globals t.values b W v → Stands classes c.globals t.values W a u → Stands classes c.globals t.values W b v → operate_two t.memory bop W u v ≡ Some x → Yields c t (bit_lines classes p rop a b) p (held W x)
+unfolding operate
+words_yield classes c t p rop bop right stay a b u v x r q s z h = by (are_whole classes a b) refl
+  where
+    by : (whole : Bool) → are_whole classes a b ≡ whole → Yields c t (bits_of_words p rop a b whole) p (held W x)
+    by true e =
+        let w = is_word r.value u r.read_as in
+        let y = is_word q.value v q.read_as in
+        let i = sign_extended (w.number % 2 ^ 32 % 2 ^ 32) in
+        let j = sign_extended (y.number % 2 ^ 32 % 2 ^ 32) in
+        yields_same c t (reg p rop (word a) (word b)) p (Integer (reg_value rop i j)) (held W x)
+        (words_give rop bop right stay w.number y.number x (two_words t.memory bop u v x (w.number % 2 ^ 32) (y.number % 2 ^ 32) w.read y.read h))
+        (yields_one c t (Operate p (Reg rop) (word a) (word b)) p (Integer (reg_value rop i j))
+        (operate_line c t p (Reg rop) (word a) (word b) (Integer i) (Integer j) (Integer (reg_value rop i j))
+        (s (and_first (is_whole classes a) (is_whole classes b) e) ∙ ap (λ d. Some (held W d)) w.read)
+        (z (and_second (is_whole classes a) (is_whole classes b) e) ∙ ap (λ d. Some (held W d)) y.read) refl))
+    by false e = bits_yield c t p rop bop right a b u v x r q h
+
 -- ---- comparisons
 
 -- the class of the result makes no difference
@@ -238,17 +294,66 @@ truth_held W true = refl
 truth_held W false = refl
 truth_held L b = refl
 
-compare_yields : (c : Setting) (t : State ℕ) (p : ℕ) (on : Condition) (k j : Class) (a b : Operand ℕ) (u v x : Value) → Reads c.globals t.values a k u → Reads c.globals t.values b k v → operate_two t.memory (Compare on k) j u v ≡ Some x → Yields c t (Operate p (CompareValues on k) a b ∷ []) p (held j x)
+-- what the comparison compares, and what it gives
+pub record Gives (globals : List Value) (t : State ℕ) (c : Comparison ℕ) (x : Value) : Type 0 where
+  pub left : Value
+  pub right : Value
+  pub is_left : value_of globals t.values c.left ≡ Some left
+  pub is_right : value_of globals t.values c.right ≡ Some right
+  pub gives : operate t.memory (CompareValues c.condition c.class) left right ≡ Some x
+
+-- operands that are read in places of the class
+read_gives : (globals : List Value) (t : State ℕ) (on : Condition) (k j : Class) (a b : Operand ℕ) (u v x : Value) → Reads globals t.values a k u → Reads globals t.values b k v → operate_two t.memory (Compare on k) j u v ≡ Some x → Gives globals t (record { condition = on; class = k; left = a; right = b }) x
 unfolding operate
-compare_yields c t p on k j a b u v x r q h =
+read_gives globals t on k j a b u v x r q h =
+    record {
+      left = r.value;
+      right = q.value;
+      is_left = r.is;
+      is_right = q.is;
+      gives =
+          ap (option_and_then (λ y. option_and_then (λ z. operate_two t.memory (Compare on k) W y z) (in_place k q.value))) r.read_as
+          ∙ ap (option_and_then (λ z. operate_two t.memory (Compare on k) W u z)) q.read_as
+          ∙ any_class t.memory on k W j u v
+          ∙ h;
+    }
+
+-- words compare as their extensions do
+extended_gives : (m : Memory) (on : Condition) (j : Class) (a b : ℕ) (x : Value) → operate_two m (Compare on W) j (Integer (a % 2 ^ 32)) (Integer (b % 2 ^ 32)) ≡ Some x → operate m (CompareValues on L) (held W (Integer (a % 2 ^ 32))) (held W (Integer (b % 2 ^ 32))) ≡ Some x
+unfolding operate operate_two
+extended_gives m on j a b x h =
+    ap (λ q. Some (Integer (truth q)))
+    (holds_extended on (a % 2 ^ 32 % 2 ^ 32) (b % 2 ^ 32 % 2 ^ 32) (omega arith) (omega arith)
+    ∙ ap (λ k. holds on W k (b % 2 ^ 32 % 2 ^ 32)) (word_again a)
+    ∙ ap (holds on W (a % 2 ^ 32)) (word_again b))
+    ∙ h
+
+pub comparison_gives : (classes : Classes) (globals : List Value) (t : State ℕ) (on : Condition) (k j : Class) (a b : Operand ℕ) (u v x : Value) → Reads globals t.values a k u → Reads globals t.values b k v → Stands classes globals t.values k a u → Stands classes globals t.values k b v → operate_two t.memory (Compare on k) j u v ≡ Some x → Gives globals t (comparison_of classes on k a b) x
+comparison_gives classes globals t on L j a b u v x r q s z h = read_gives globals t on L j a b u v x r q h
+comparison_gives classes globals t on W j a b u v x r q s z h = by (are_whole classes a b) refl
+  where
+    by : (whole : Bool) → are_whole classes a b ≡ whole → Gives globals t (words_compared on a b whole) x
+    by true e =
+        let w = is_word r.value u r.read_as in
+        let y = is_word q.value v q.read_as in
+        record {
+          left = held W (Integer (w.number % 2 ^ 32));
+          right = held W (Integer (y.number % 2 ^ 32));
+          is_left = s (and_first (is_whole classes a) (is_whole classes b) e) ∙ ap (λ d. Some (held W d)) w.read;
+          is_right = z (and_second (is_whole classes a) (is_whole classes b) e) ∙ ap (λ d. Some (held W d)) y.read;
+          gives =
+              extended_gives t.memory on j w.number y.number x
+              (ap (λ d. operate_two t.memory (Compare on W) j d (Integer (y.number % 2 ^ 32))) (sym w.read) ∙ ap (operate_two t.memory (Compare on W) j u) (sym y.read) ∙ h);
+        }
+    by false e = read_gives globals t on W j a b u v x r q h
+
+compare_yields : (classes : Classes) (c : Setting) (t : State ℕ) (p : ℕ) (on : Condition) (k j : Class) (a b : Operand ℕ) (u v x : Value) → Reads c.globals t.values a k u → Reads c.globals t.values b k v → Stands classes c.globals t.values k a u → Stands classes c.globals t.values k b v → operate_two t.memory (Compare on k) j u v ≡ Some x → Yields c t (compare_line p (comparison_of classes on k a b) ∷ []) p (held j x)
+compare_yields classes c t p on k j a b u v x r q s z h =
     let w = is_truth t.memory on k j u v x h in
-    let compared : compare t.memory on k r.value q.value ≡ Some x =
-    ap (option_and_then (λ y. option_and_then (λ z. operate_two t.memory (Compare on k) W y z) (in_place k q.value))) r.read_as
-    ∙ ap (option_and_then (λ z. operate_two t.memory (Compare on k) W u z)) q.read_as
-    ∙ any_class t.memory on k W j u v
-    ∙ h in
-    yields_same c t (Operate p (CompareValues on k) a b ∷ []) p x (held j x) (w.is ∙ truth_held j w.test ∙ ap (held j) (sym w.is))
-    (yields_one c t (Operate p (CompareValues on k) a b) p x (operate_line c t p (CompareValues on k) a b r.value q.value x r.is q.is compared))
+    let d = comparison_of classes on k a b in
+    let g = comparison_gives classes c.globals t on k j a b u v x r q s z h in
+    yields_same c t (compare_line p d ∷ []) p x (held j x) (w.is ∙ truth_held j w.test ∙ ap (held j) (sym w.is))
+    (yields_one c t (compare_line p d) p x (operate_line c t p (CompareValues d.condition d.class) d.left d.right g.left g.right x g.is_left g.is_right g.gives))
 
 -- ---- one operand
 
@@ -281,28 +386,28 @@ small_held : (k : Class) (n : ℕ) → n < 2 ^ 31 → Integer n ≡ held k (Inte
 small_held W n h = ap Integer (sym (small_in_word n h))
 small_held L n h = refl
 
-pub extend_yields : (c : Setting) (t : State ℕ) (p : ℕ) (e : Extension) (k : Class) (a : Operand ℕ) (u x : Value) → HasResult (Extend e) k → Reads c.globals t.values a W u → widened e k u ≡ Some x → Yields c t (extend_lines p e a) p (held k x)
+pub extend_yields : (classes : Classes) (c : Setting) (t : State ℕ) (p : ℕ) (e : Extension) (k : Class) (a : Operand ℕ) (u x : Value) → HasResult (Extend e) k → Reads c.globals t.values a W u → Stands classes c.globals t.values W a u → widened e k u ≡ Some x → Yields c t (extend_lines classes p e a) p (held k x)
 unfolding operate
-extend_yields c t p SignedWord k a u x long r h =
+extend_yields classes c t p SignedWord k a u x long r s h =
     let w = is_word r.value u r.read_as in
     let is = extended_is SignedWord k u x (w.number % 2 ^ 32) h w.read in
-    yields_same c t (as_word p a ∷ []) p (held W u) (held k x)
+    yields_same c t (word_of classes p a ∷ []) p (held W u) (held k x)
     (ap (held W) w.read ∙ ap (λ j. held j (Integer (extended SignedWord j (w.number % 2 ^ 32)))) (sym long) ∙ ap (held k) (sym is))
-    (as_word_yields c t p a u r)
-extend_yields c t p UnsignedWord k a u x long r h =
+    (word_yields classes c t p a u r s)
+extend_yields classes c t p UnsignedWord k a u x long r s h =
     shifted_yields c t p SrlReg 32 refl a u (held k x) r
     (λ n is. ap Integer (back_32 n) ∙ ap (λ j. held j (Integer (extended UnsignedWord j (n % 2 ^ 32)))) (sym long)
     ∙ ap (held k) (sym (extended_is UnsignedWord k u x (n % 2 ^ 32) h is)))
-extend_yields c t p SignedHalf k a u x long r h =
+extend_yields classes c t p SignedHalf k a u x long r s h =
     shifted_yields c t p SraReg 48 refl a u (held k x) r
     (λ n is. ap Integer (half_back n) ∙ half_held k n ∙ ap (held k) (sym (extended_is SignedHalf k u x (n % 2 ^ 32) h is)))
-extend_yields c t p UnsignedHalf k a u x long r h =
+extend_yields classes c t p UnsignedHalf k a u x long r s h =
     shifted_yields c t p SrlReg 48 refl a u (held k x) r
     (λ n is. ap Integer (back_48 n) ∙ small_held k (n % 2 ^ 32 % 2 ^ 16) (omega arith) ∙ ap (held k) (sym (extended_is UnsignedHalf k u x (n % 2 ^ 32) h is)))
-extend_yields c t p SignedByte k a u x long r h =
+extend_yields classes c t p SignedByte k a u x long r s h =
     shifted_yields c t p SraReg 56 refl a u (held k x) r
     (λ n is. ap Integer (byte_back n) ∙ byte_held k n ∙ ap (held k) (sym (extended_is SignedByte k u x (n % 2 ^ 32) h is)))
-extend_yields c t p UnsignedByte k a u x long r h =
+extend_yields classes c t p UnsignedByte k a u x long r s h =
     let w = is_word r.value u r.read_as in
     let n = w.number in
     yields_same c t (Operate p (Reg AndReg) a (Number 255) ∷ []) p (Integer (bit_and n 255)) (held k x)
@@ -373,45 +478,45 @@ negate_yields c t p L a (Integer n) x r h =
 negate_yields c t p L a (Pointer b o) x r h = absurd (none_value h)
 negate_yields c t p L a (Function f) x r h = absurd (none_value h)
 
-pub copy_yields : (c : Setting) (t : State ℕ) (p : ℕ) (k : Class) (a : Operand ℕ) (u : Value) → Reads c.globals t.values a k u → Yields c t (copy_lines p k a) p (held k u)
-copy_yields c t p W a u r = as_word_yields c t p a u r
-copy_yields c t p L a u r = yields_one c t (Set p a) p u (set_line c t p a u (long_same c.globals t.values a u r))
+pub copy_yields : (classes : Classes) (c : Setting) (t : State ℕ) (p : ℕ) (k : Class) (a : Operand ℕ) (u : Value) → Reads c.globals t.values a k u → Stands classes c.globals t.values k a u → Yields c t (copy_lines classes p k a) p (held k u)
+copy_yields classes c t p W a u r s = word_yields classes c t p a u r s
+copy_yields classes c t p L a u r s = yields_one c t (Set p a) p u (set_line c t p a u (long_same c.globals t.values a u r))
 
-pub unary_yields : (c : Setting) (t : State ℕ) (p : ℕ) (op : UnaryOp) (k : Class) (a : Operand ℕ) (u x : Value) → HasResult op k → Reads c.globals t.values a (operand_class op k) u → operate_one t.memory op k u ≡ Some x → Yields c t (unary_lines p op k a) p (held k x)
+pub unary_yields : (classes : Classes) (c : Setting) (t : State ℕ) (p : ℕ) (op : UnaryOp) (k : Class) (a : Operand ℕ) (u x : Value) → HasResult op k → Reads c.globals t.values a (operand_class op k) u → Stands classes c.globals t.values (operand_class op k) a u → operate_one t.memory op k u ≡ Some x → Yields c t (unary_lines classes p op k a) p (held k x)
 unfolding operate_one
-unary_yields c t p Neg k a u x long r h = negate_yields c t p k a u x r h
-unary_yields c t p Copy k a u x long r h = subst (λ y. Yields c t (copy_lines p k a) p (held k y)) (some_value h) (copy_yields c t p k a u r)
-unary_yields c t p (Extend e) k a u x long r h = extend_yields c t p e k a u x long r h
-unary_yields c t p LoadLong k a u x long r h = subst (λ j. Yields c t (Load p Ld a ∷ []) p (held j x)) (sym long) (load_long_yields c t p a u x r h)
-unary_yields c t p (LoadNarrow e) k a u x long r h = load_yields c t p e k a u x r h
+unary_yields classes c t p Neg k a u x long r s h = negate_yields c t p k a u x r h
+unary_yields classes c t p Copy k a u x long r s h = subst (λ y. Yields c t (copy_lines classes p k a) p (held k y)) (some_value h) (copy_yields classes c t p k a u r s)
+unary_yields classes c t p (Extend e) k a u x long r s h = extend_yields classes c t p e k a u x long r s h
+unary_yields classes c t p LoadLong k a u x long r s h = subst (λ j. Yields c t (Load p Ld a ∷ []) p (held j x)) (sym long) (load_long_yields c t p a u x r h)
+unary_yields classes c t p (LoadNarrow e) k a u x long r s h = load_yields c t p e k a u x r h
 
 -- ---- two operands
 
-pub binary_yields : (c : Setting) (t : State ℕ) (p : ℕ) (op : BinaryOp) (k : Class) (a b : Operand ℕ) (u v x : Value) → Reads c.globals t.values a (left_class op k) u → Reads c.globals t.values b (right_class op k) v → operate_two t.memory op k u v ≡ Some x → Yields c t (binary_lines p op k a b) p (held k x)
-binary_yields c t p Add W a b u v x r q h = regw_yields c t p Addw Add add_word a b u v x r q h
-binary_yields c t p Add L a b u v x r q h = reg_yields c t p AddReg Add add_long (λ m y z w e. e) a b u v x r q h
-binary_yields c t p Sub W a b u v x r q h = regw_yields c t p Subw Sub sub_word a b u v x r q h
-binary_yields c t p Sub L a b u v x r q h = reg_yields c t p SubReg Sub sub_long (λ m y z w e. e) a b u v x r q h
-binary_yields c t p Mul W a b u v x r q h = regw_yields c t p Mulw Mul mul_word a b u v x r q h
-binary_yields c t p Mul L a b u v x r q h = reg_yields c t p MulReg Mul mul_long (λ m y z w e. absurd (none_value e)) a b u v x r q h
-binary_yields c t p And W a b u v x r q h = bits_yield c t p AndReg And and_bits a b u v x r q h
-binary_yields c t p And L a b u v x r q h = reg_yields c t p AndReg And and_long (λ m y z w e. absurd (none_value e)) a b u v x r q h
-binary_yields c t p Or W a b u v x r q h = bits_yield c t p OrReg Or or_bits a b u v x r q h
-binary_yields c t p Or L a b u v x r q h = reg_yields c t p OrReg Or or_long (λ m y z w e. absurd (none_value e)) a b u v x r q h
-binary_yields c t p Xor W a b u v x r q h = bits_yield c t p XorReg Xor xor_bits a b u v x r q h
-binary_yields c t p Xor L a b u v x r q h = reg_yields c t p XorReg Xor xor_long (λ m y z w e. absurd (none_value e)) a b u v x r q h
-binary_yields c t p Div W a b u v x r q h = regw_yields c t p Divw Div div_word a b u v x r q h
-binary_yields c t p Div L a b u v x r q h = reg_yields c t p DivReg Div div_long (λ m y z w e. absurd (none_value e)) a b u v x r q h
-binary_yields c t p Rem W a b u v x r q h = regw_yields c t p Remw Rem rem_word a b u v x r q h
-binary_yields c t p Rem L a b u v x r q h = reg_yields c t p RemReg Rem rem_long (λ m y z w e. absurd (none_value e)) a b u v x r q h
-binary_yields c t p Udiv W a b u v x r q h = regw_yields c t p Divuw Udiv udiv_word a b u v x r q h
-binary_yields c t p Udiv L a b u v x r q h = reg_yields c t p DivuReg Udiv udiv_long (λ m y z w e. absurd (none_value e)) a b u v x r q h
-binary_yields c t p Urem W a b u v x r q h = regw_yields c t p Remuw Urem urem_word a b u v x r q h
-binary_yields c t p Urem L a b u v x r q h = reg_yields c t p RemuReg Urem urem_long (λ m y z w e. absurd (none_value e)) a b u v x r q h
-binary_yields c t p Sar W a b u v x r q h = regw_yields c t p Sraw Sar sar_word a b u v x r q h
-binary_yields c t p Sar L a b u v x r q h = shift_yields c t p SraReg Sar sar_long (λ y z. refl) a b u v x r q h
-binary_yields c t p Shr W a b u v x r q h = regw_yields c t p Srlw Shr shr_word a b u v x r q h
-binary_yields c t p Shr L a b u v x r q h = shift_yields c t p SrlReg Shr shr_long (λ y z. refl) a b u v x r q h
-binary_yields c t p Shl W a b u v x r q h = regw_yields c t p Sllw Shl shl_word a b u v x r q h
-binary_yields c t p Shl L a b u v x r q h = shift_yields c t p SllReg Shl shl_long (λ y z. refl) a b u v x r q h
-binary_yields c t p (Compare on j) k a b u v x r q h = compare_yields c t p on j k a b u v x r q h
+pub binary_yields : (classes : Classes) (c : Setting) (t : State ℕ) (p : ℕ) (op : BinaryOp) (k : Class) (a b : Operand ℕ) (u v x : Value) → Reads c.globals t.values a (left_class op k) u → Reads c.globals t.values b (right_class op k) v → Stands classes c.globals t.values (left_class op k) a u → Stands classes c.globals t.values (right_class op k) b v → operate_two t.memory op k u v ≡ Some x → Yields c t (binary_lines classes p op k a b) p (held k x)
+binary_yields classes c t p Add W a b u v x r q s z h = regw_yields c t p Addw Add add_word a b u v x r q h
+binary_yields classes c t p Add L a b u v x r q s z h = reg_yields c t p AddReg Add add_long (λ m y z w e. e) a b u v x r q h
+binary_yields classes c t p Sub W a b u v x r q s z h = regw_yields c t p Subw Sub sub_word a b u v x r q h
+binary_yields classes c t p Sub L a b u v x r q s z h = reg_yields c t p SubReg Sub sub_long (λ m y z w e. e) a b u v x r q h
+binary_yields classes c t p Mul W a b u v x r q s z h = regw_yields c t p Mulw Mul mul_word a b u v x r q h
+binary_yields classes c t p Mul L a b u v x r q s z h = reg_yields c t p MulReg Mul mul_long (λ m y z w e. absurd (none_value e)) a b u v x r q h
+binary_yields classes c t p And W a b u v x r q s z h = words_yield classes c t p AndReg And and_bits and_stays a b u v x r q s z h
+binary_yields classes c t p And L a b u v x r q s z h = reg_yields c t p AndReg And and_long (λ m y z w e. absurd (none_value e)) a b u v x r q h
+binary_yields classes c t p Or W a b u v x r q s z h = words_yield classes c t p OrReg Or or_bits or_stays a b u v x r q s z h
+binary_yields classes c t p Or L a b u v x r q s z h = reg_yields c t p OrReg Or or_long (λ m y z w e. absurd (none_value e)) a b u v x r q h
+binary_yields classes c t p Xor W a b u v x r q s z h = words_yield classes c t p XorReg Xor xor_bits xor_stays a b u v x r q s z h
+binary_yields classes c t p Xor L a b u v x r q s z h = reg_yields c t p XorReg Xor xor_long (λ m y z w e. absurd (none_value e)) a b u v x r q h
+binary_yields classes c t p Div W a b u v x r q s z h = regw_yields c t p Divw Div div_word a b u v x r q h
+binary_yields classes c t p Div L a b u v x r q s z h = reg_yields c t p DivReg Div div_long (λ m y z w e. absurd (none_value e)) a b u v x r q h
+binary_yields classes c t p Rem W a b u v x r q s z h = regw_yields c t p Remw Rem rem_word a b u v x r q h
+binary_yields classes c t p Rem L a b u v x r q s z h = reg_yields c t p RemReg Rem rem_long (λ m y z w e. absurd (none_value e)) a b u v x r q h
+binary_yields classes c t p Udiv W a b u v x r q s z h = regw_yields c t p Divuw Udiv udiv_word a b u v x r q h
+binary_yields classes c t p Udiv L a b u v x r q s z h = reg_yields c t p DivuReg Udiv udiv_long (λ m y z w e. absurd (none_value e)) a b u v x r q h
+binary_yields classes c t p Urem W a b u v x r q s z h = regw_yields c t p Remuw Urem urem_word a b u v x r q h
+binary_yields classes c t p Urem L a b u v x r q s z h = reg_yields c t p RemuReg Urem urem_long (λ m y z w e. absurd (none_value e)) a b u v x r q h
+binary_yields classes c t p Sar W a b u v x r q s z h = regw_yields c t p Sraw Sar sar_word a b u v x r q h
+binary_yields classes c t p Sar L a b u v x r q s z h = shift_yields c t p SraReg Sar sar_long (λ y z. refl) a b u v x r q h
+binary_yields classes c t p Shr W a b u v x r q s z h = regw_yields c t p Srlw Shr shr_word a b u v x r q h
+binary_yields classes c t p Shr L a b u v x r q s z h = shift_yields c t p SrlReg Shr shr_long (λ y z. refl) a b u v x r q h
+binary_yields classes c t p Shl W a b u v x r q s z h = regw_yields c t p Sllw Shl shl_word a b u v x r q h
+binary_yields classes c t p Shl L a b u v x r q s z h = shift_yields c t p SllReg Shl shl_long (λ y z. refl) a b u v x r q h
+binary_yields classes c t p (Compare on j) k a b u v x r q s z h = compare_yields classes c t p on j k a b u v x r q s z h

@@ -18,6 +18,7 @@ use Rattle.vcode.specs.declared.place.Destination.{Destination}
 use Rattle.vcode.specs.Named.{are_low, are_distinct}
 use Rattle.vcode.specs.Places.{virtual}
 use Rattle.select.specs.Selected.{parameter_of, selected}
+use Rattle.select.specs.Classes.{classes_in}
 use Rattle.select.specs.Invariants.{IsVirtual}
 use Rattle.select.proofs.Typing.{Among, neither_first, not_broken, none_among}
 use Rattle.select.proofs.UsedPlaces.{and_both}
@@ -150,6 +151,6 @@ are_distinct_all f good =
 
 -- ---- all of it
 
-pub is_virtual : (f : Func) → IsGoodFunction f → IsVirtual (selected f (lowered f)) (length f.temps + phi_count f)
+pub is_virtual : (f : Func) → IsGoodFunction f → IsVirtual (selected (classes_in f) f (lowered f)) (length f.temps + phi_count f)
 unfolding selected
-is_virtual f good = record { regular = regular f good; known = known f good; low = are_low_all f good; distinct = are_distinct_all f good }
+is_virtual f good = record { regular = regular (classes_in f) f good; known = known (classes_in f) f good; low = are_low_all f good; distinct = are_distinct_all f good }

@@ -36,8 +36,9 @@ use Rattle.vcode.specs.declared.place.Operand.TheVariants.{At, Number, Name}
 use Rattle.vcode.specs.declared.line.Line.{Line}
 use Rattle.vcode.specs.declared.line.Line.TheVariants.{Tick, Set, Operate, Load, Store, Alloc, Blit, Call}
 use Rattle.vcode.specs.declared.line.Jump.{Jump}
-use Rattle.vcode.specs.Cost.{is_immediate, operand_cost, operation_cost, line_cost, jump_cost, affords}
-use Rattle.select.specs.Selected.{operand_of, argument_of, extend_lines, copy_lines, load_of, as_word, unary_lines, binary_lines, inst_lines, turn_lines, all_lines, assignment_lines, ending_lines, jump_of}
+use Rattle.vcode.specs.Cost.{is_immediate, operand_cost, operation_cost, line_cost, branch_cost, jump_cost, affords}
+use Rattle.select.specs.Selected.{is_whole, are_whole, word, comparison_of, not_zero, word_line, word_of, bits_of_words, bit_lines, operand_of, argument_of, extend_lines, copy_lines, load_of, as_word, unary_lines, binary_lines, inst_lines, turn_lines, all_lines, assignment_lines, ending_lines, jump_of}
+use Rattle.select.specs.Typed.{Classes}
 
 -- ---- lines that are no ticks
 
@@ -147,18 +148,25 @@ operand_few (Name g) = omega arith
 one : (l : Line ℕ) (n : ℕ) → IsQuiet l → line_cost l ≤ n → Costs (l ∷ []) n
 one l n q h = (q, h, tt)
 
-copy_costs : (t : ℕ) (k : Class) (a : Operand ℕ) → Costs (copy_lines t k a) 14
-copy_costs t W a = let few = operand_few a in (tt, omega (arith, few), tt)
-copy_costs t L a = let few = operand_few a in (tt, omega (arith, few), tt)
+word_costs : (classes : Classes) (t : ℕ) (a : Operand ℕ) → Costs (word_of classes t a ∷ []) 14
+word_costs classes t a = by (is_whole classes a)
+  where
+    by : (whole : Bool) → Costs (word_line t a whole ∷ []) 14
+    by true = let few = operand_few (word a) in (tt, omega (arith, few), tt)
+    by false = let few = operand_few a in (tt, omega (arith, few), tt)
+
+copy_costs : (classes : Classes) (t : ℕ) (k : Class) (a : Operand ℕ) → Costs (copy_lines classes t k a) 14
+copy_costs classes t W a = word_costs classes t a
+copy_costs classes t L a = let few = operand_few a in (tt, omega (arith, few), tt)
 
 -- ---- endings
 
-pub assignments_cost : (cs : List Assignment) → Costs (assignment_lines cs) (14 * length cs)
-assignments_cost [] = tt
-assignments_cost (c ∷ cs) =
+pub assignments_cost : (classes : Classes) (cs : List Assignment) → Costs (assignment_lines classes cs) (14 * length cs)
+assignments_cost classes [] = tt
+assignments_cost classes (c ∷ cs) =
     let sum : 14 + 14 * length cs ≡ 14 * length (c ∷ cs) = omega arith in
-    subst (Costs (assignment_lines (c ∷ cs))) sum
-    (costs_both (copy_lines c.to.temp c.to.class (operand_of c.value)) (assignment_lines cs) 14 (14 * length cs) (copy_costs c.to.temp c.to.class (operand_of c.value)) (assignments_cost cs))
+    subst (Costs (assignment_lines classes (c ∷ cs))) sum
+    (costs_both (copy_lines classes c.to.temp c.to.class (operand_of c.value)) (assignment_lines classes cs) 14 (14 * length cs) (copy_costs classes c.to.temp c.to.class (operand_of c.value)) (assignments_cost classes cs))
 
 operation_few : (op : Operation) → operation_cost op ≤ 6
 operation_few (Reg op) = omega arith
@@ -175,88 +183,96 @@ operate_costs t op a b =
 low_costs : (t : ℕ) (op : RegOp) (a b : Operand ℕ) → Costs (Operate t (Reg op) a b ∷ as_word t (At t) ∷ []) 32
 low_costs t op a b = let x = operand_few a in let y = operand_few b in (tt, omega (arith, x, y), (tt, omega (arith, x, y), tt))
 
-extend_costs : (t : ℕ) (e : Extension) (a : Operand ℕ) → Costs (extend_lines t e a) 32
-extend_costs t SignedWord a = operate_costs t (RegW Addw) a (Number 0)
-extend_costs t UnsignedWord a = let x = operand_few a in (tt, omega (arith, x), (tt, omega (arith, x), tt))
-extend_costs t SignedHalf a = let x = operand_few a in (tt, omega (arith, x), (tt, omega (arith, x), tt))
-extend_costs t UnsignedHalf a = let x = operand_few a in (tt, omega (arith, x), (tt, omega (arith, x), tt))
-extend_costs t SignedByte a = let x = operand_few a in (tt, omega (arith, x), (tt, omega (arith, x), tt))
-extend_costs t UnsignedByte a = operate_costs t (Reg AndReg) a (Number 255)
+bits_cost : (classes : Classes) (t : ℕ) (op : RegOp) (a b : Operand ℕ) → Costs (bit_lines classes t op a b) 32
+bits_cost classes t op a b = by (are_whole classes a b)
+  where
+    by : (whole : Bool) → Costs (bits_of_words t op a b whole) 32
+    by true = operate_costs t (Reg op) (word a) (word b)
+    by false = low_costs t op a b
+
+extend_costs : (classes : Classes) (t : ℕ) (e : Extension) (a : Operand ℕ) → Costs (extend_lines classes t e a) 32
+extend_costs classes t SignedWord a = costs_more (word_of classes t a ∷ []) 14 32 (omega arith) (word_costs classes t a)
+extend_costs classes t UnsignedWord a = let x = operand_few a in (tt, omega (arith, x), (tt, omega (arith, x), tt))
+extend_costs classes t SignedHalf a = let x = operand_few a in (tt, omega (arith, x), (tt, omega (arith, x), tt))
+extend_costs classes t UnsignedHalf a = let x = operand_few a in (tt, omega (arith, x), (tt, omega (arith, x), tt))
+extend_costs classes t SignedByte a = let x = operand_few a in (tt, omega (arith, x), (tt, omega (arith, x), tt))
+extend_costs classes t UnsignedByte a = operate_costs t (Reg AndReg) a (Number 255)
 
 load_costs : (t : ℕ) (op : LoadOp) (a : Operand ℕ) → Costs (Load t op a ∷ []) 32
 load_costs t op a = let x = operand_few a in (tt, omega (arith, x), tt)
 
-unary_costs : (t : ℕ) (op : UnaryOp) (k : Class) (a : Operand ℕ) → Costs (unary_lines t op k a) 32
-unary_costs t Neg W a = operate_costs t (RegW Subw) (Number 0) a
-unary_costs t Neg L a = operate_costs t (Reg SubReg) (Number 0) a
-unary_costs t Copy k a = costs_more (copy_lines t k a) 14 32 (omega arith) (copy_costs t k a)
-unary_costs t (Extend e) k a = extend_costs t e a
-unary_costs t LoadLong k a = load_costs t Ld a
-unary_costs t (LoadNarrow e) k a = load_costs t (load_of e k) a
+unary_costs : (classes : Classes) (t : ℕ) (op : UnaryOp) (k : Class) (a : Operand ℕ) → Costs (unary_lines classes t op k a) 32
+unary_costs classes t Neg W a = operate_costs t (RegW Subw) (Number 0) a
+unary_costs classes t Neg L a = operate_costs t (Reg SubReg) (Number 0) a
+unary_costs classes t Copy k a = costs_more (copy_lines classes t k a) 14 32 (omega arith) (copy_costs classes t k a)
+unary_costs classes t (Extend e) k a = extend_costs classes t e a
+unary_costs classes t LoadLong k a = load_costs t Ld a
+unary_costs classes t (LoadNarrow e) k a = load_costs t (load_of e k) a
 
-binary_costs : (t : ℕ) (op : BinaryOp) (k : Class) (a b : Operand ℕ) → Costs (binary_lines t op k a b) 32
-binary_costs t Add W a b = operate_costs t (RegW Addw) a b
-binary_costs t Add L a b = operate_costs t (Reg AddReg) a b
-binary_costs t Sub W a b = operate_costs t (RegW Subw) a b
-binary_costs t Sub L a b = operate_costs t (Reg SubReg) a b
-binary_costs t Mul W a b = operate_costs t (RegW Mulw) a b
-binary_costs t Mul L a b = operate_costs t (Reg MulReg) a b
-binary_costs t And W a b = low_costs t AndReg a b
-binary_costs t And L a b = operate_costs t (Reg AndReg) a b
-binary_costs t Or W a b = low_costs t OrReg a b
-binary_costs t Or L a b = operate_costs t (Reg OrReg) a b
-binary_costs t Xor W a b = low_costs t XorReg a b
-binary_costs t Xor L a b = operate_costs t (Reg XorReg) a b
-binary_costs t Div W a b = operate_costs t (RegW Divw) a b
-binary_costs t Div L a b = operate_costs t (Reg DivReg) a b
-binary_costs t Rem W a b = operate_costs t (RegW Remw) a b
-binary_costs t Rem L a b = operate_costs t (Reg RemReg) a b
-binary_costs t Udiv W a b = operate_costs t (RegW Divuw) a b
-binary_costs t Udiv L a b = operate_costs t (Reg DivuReg) a b
-binary_costs t Urem W a b = operate_costs t (RegW Remuw) a b
-binary_costs t Urem L a b = operate_costs t (Reg RemuReg) a b
-binary_costs t Sar W a b = operate_costs t (RegW Sraw) a b
-binary_costs t Sar L a b = operate_costs t (Reg SraReg) a b
-binary_costs t Shr W a b = operate_costs t (RegW Srlw) a b
-binary_costs t Shr L a b = operate_costs t (Reg SrlReg) a b
-binary_costs t Shl W a b = operate_costs t (RegW Sllw) a b
-binary_costs t Shl L a b = operate_costs t (Reg SllReg) a b
-binary_costs t (CompareOf on j) k a b = operate_costs t (Compare on j) a b
+binary_costs : (classes : Classes) (t : ℕ) (op : BinaryOp) (k : Class) (a b : Operand ℕ) → Costs (binary_lines classes t op k a b) 32
+binary_costs classes t Add W a b = operate_costs t (RegW Addw) a b
+binary_costs classes t Add L a b = operate_costs t (Reg AddReg) a b
+binary_costs classes t Sub W a b = operate_costs t (RegW Subw) a b
+binary_costs classes t Sub L a b = operate_costs t (Reg SubReg) a b
+binary_costs classes t Mul W a b = operate_costs t (RegW Mulw) a b
+binary_costs classes t Mul L a b = operate_costs t (Reg MulReg) a b
+binary_costs classes t And W a b = bits_cost classes t AndReg a b
+binary_costs classes t And L a b = operate_costs t (Reg AndReg) a b
+binary_costs classes t Or W a b = bits_cost classes t OrReg a b
+binary_costs classes t Or L a b = operate_costs t (Reg OrReg) a b
+binary_costs classes t Xor W a b = bits_cost classes t XorReg a b
+binary_costs classes t Xor L a b = operate_costs t (Reg XorReg) a b
+binary_costs classes t Div W a b = operate_costs t (RegW Divw) a b
+binary_costs classes t Div L a b = operate_costs t (Reg DivReg) a b
+binary_costs classes t Rem W a b = operate_costs t (RegW Remw) a b
+binary_costs classes t Rem L a b = operate_costs t (Reg RemReg) a b
+binary_costs classes t Udiv W a b = operate_costs t (RegW Divuw) a b
+binary_costs classes t Udiv L a b = operate_costs t (Reg DivuReg) a b
+binary_costs classes t Urem W a b = operate_costs t (RegW Remuw) a b
+binary_costs classes t Urem L a b = operate_costs t (Reg RemuReg) a b
+binary_costs classes t Sar W a b = operate_costs t (RegW Sraw) a b
+binary_costs classes t Sar L a b = operate_costs t (Reg SraReg) a b
+binary_costs classes t Shr W a b = operate_costs t (RegW Srlw) a b
+binary_costs classes t Shr L a b = operate_costs t (Reg SrlReg) a b
+binary_costs classes t Shl W a b = operate_costs t (RegW Sllw) a b
+binary_costs classes t Shl L a b = operate_costs t (Reg SllReg) a b
+binary_costs classes t (CompareOf on j) k a b =
+    let c = comparison_of classes on j a b in operate_costs t (Compare c.condition c.class) c.left c.right
 
-inst_costs : (x : Inst) → Costs (inst_lines x) (32 * inst_weight x)
-inst_costs (Unary to op a) = unary_costs to.temp op to.class (operand_of a)
-inst_costs (Binary to op a b) = binary_costs to.temp op to.class (operand_of a) (operand_of b)
-inst_costs (AllocInst to alignment size) = (tt, omega arith, tt)
-inst_costs (StoreInst size a at) =
+inst_costs : (classes : Classes) (x : Inst) → Costs (inst_lines classes x) (32 * inst_weight x)
+inst_costs classes (Unary to op a) = unary_costs classes to.temp op to.class (operand_of a)
+inst_costs classes (Binary to op a b) = binary_costs classes to.temp op to.class (operand_of a) (operand_of b)
+inst_costs classes (AllocInst to alignment size) = (tt, omega arith, tt)
+inst_costs classes (StoreInst size a at) =
     let x = operand_few (operand_of a) in let y = operand_few (operand_of at) in (tt, omega (arith, x, y), tt)
-inst_costs (BlitInst from to count) =
+inst_costs classes (BlitInst from to count) =
     let x = operand_few (operand_of from) in let y = operand_few (operand_of to) in (tt, omega (arith, x, y), tt)
-inst_costs (CallInst to callee args) =
+inst_costs classes (CallInst to callee args) =
     let long : length (map argument_of args) ≡ length args = length-map args argument_of in
     (tt, omega (arith, long), tt)
 
 -- ---- blocks
 
 -- an ending whose weight pays for its copies and its jump
-abbrev pub EndingPays : Ending → Type 0
-EndingPays e = 14 * length e.copies + jump_cost (jump_of e.leave) ≤ 32 * e.weight
+abbrev pub EndingPays : Classes → Ending → Type 0
+EndingPays classes e = 14 * length e.copies + jump_cost (jump_of classes e.leave) ≤ 32 * e.weight
 
-pub ending_pays : (e : Ending) → EndingPays e → affords 0 (jump_of e.leave) (ending_lines e) ≡ true
-ending_pays e h =
+pub ending_pays : (classes : Classes) (e : Ending) → EndingPays classes e → affords 0 (jump_of classes e.leave) (ending_lines classes e) ≡ true
+ending_pays classes e h =
     let n = 14 * length e.copies in
-    let enough : jump_cost (jump_of e.leave) ≤ 0 + 32 * e.weight - n = omega (arith, h) in
-    subst (λ ls. affords (0 + 32 * e.weight) (jump_of e.leave) ls ≡ true) (append-nil (assignment_lines e.copies))
-    (costs_paid (assignment_lines e.copies) [] n (0 + 32 * e.weight) (jump_of e.leave) (assignments_cost e.copies) (omega (arith, h))
-    (le_true (jump_cost (jump_of e.leave)) (0 + 32 * e.weight - n) enough))
+    let enough : jump_cost (jump_of classes e.leave) ≤ 0 + 32 * e.weight - n = omega (arith, h) in
+    subst (λ ls. affords (0 + 32 * e.weight) (jump_of classes e.leave) ls ≡ true) (append-nil (assignment_lines classes e.copies))
+    (costs_paid (assignment_lines classes e.copies) [] n (0 + 32 * e.weight) (jump_of classes e.leave) (assignments_cost classes e.copies) (omega (arith, h))
+    (le_true (jump_cost (jump_of classes e.leave)) (0 + 32 * e.weight - n) enough))
 
-pub insts_pay : (insts : List (Lined Inst)) (jump : Jump ℕ) (rest : List (Line ℕ)) → affords 0 jump rest ≡ true → affords 0 jump (all_lines insts ++ rest) ≡ true
-insts_pay [] jump rest h = h
-insts_pay (i ∷ insts) jump rest h =
+pub insts_pay : (classes : Classes) (insts : List (Lined Inst)) (jump : Jump ℕ) (rest : List (Line ℕ)) → affords 0 jump rest ≡ true → affords 0 jump (all_lines classes insts ++ rest) ≡ true
+insts_pay classes [] jump rest h = h
+insts_pay classes (i ∷ insts) jump rest h =
     let n = 32 * inst_weight i.item in
     let left : 0 ≡ 0 + n - n = omega arith in
-    ap (λ ls. affords 0 jump ls) (append_assoc (turn_lines i) (all_lines insts) rest)
-    ∙ costs_paid (inst_lines i.item) (all_lines insts ++ rest) n (0 + n) jump (inst_costs i.item) (omega arith)
-    (subst (λ m. affords m jump (all_lines insts ++ rest) ≡ true) left (insts_pay insts jump rest h))
+    ap (λ ls. affords 0 jump ls) (append_assoc (turn_lines classes i) (all_lines classes insts) rest)
+    ∙ costs_paid (inst_lines classes i.item) (all_lines classes insts ++ rest) n (0 + n) jump (inst_costs classes i.item) (omega arith)
+    (subst (λ m. affords m jump (all_lines classes insts ++ rest) ≡ true) left (insts_pay classes insts jump rest h))
 
 -- ---- the endings of a lowered function
 
@@ -277,22 +293,31 @@ length_copies f from k =
     let all = length-append (reads from n ps) (writes n ps) in
     omega (arith, r, w, all)
 
-return_few : (a : Option Val) → jump_cost (jump_of (ReturnWith a)) ≤ 32
-return_few None = omega arith
-return_few (Some a) = let x = operand_few (operand_of a) in omega (arith, x)
+return_few : (classes : Classes) (a : Option Val) → jump_cost (jump_of classes (ReturnWith a)) ≤ 32
+return_few classes None = omega arith
+return_few classes (Some a) = let x = operand_few (operand_of a) in omega (arith, x)
 
-jump_ending_pays : (f : Func) (from number : ℕ) (j : SourceJump) → EndingPays (jump_ending f from number j)
-jump_ending_pays f from number (GotoLabel l) = let c = length_copies f from (target f.blocks l) in omega (arith, c)
-jump_ending_pays f from number (BranchLabel on nonzero otherwise) = let x = operand_few (operand_of on) in omega (arith, x)
-jump_ending_pays f from number (ReturnVal a) = let x = return_few a in omega (arith, x)
-jump_ending_pays f from number HaltJump = omega arith
+branch_few : (k : Class) → branch_cost k ≤ 6
+branch_few W = omega arith
+branch_few L = omega arith
 
-pub end_ending_pays : (f : Func) (from number : ℕ) (j : Option (Lined SourceJump)) → EndingPays (end_ending f from number j)
-end_ending_pays f from number None = omega arith
-end_ending_pays f from number (Some j) = jump_ending_pays f from number (straight j.item)
+jump_ending_pays : (classes : Classes) (f : Func) (from number : ℕ) (j : SourceJump) → EndingPays classes (jump_ending f from number j)
+jump_ending_pays classes f from number (GotoLabel l) = let c = length_copies f from (target f.blocks l) in omega (arith, c)
+jump_ending_pays classes f from number (BranchLabel on nonzero otherwise) =
+    let c = not_zero classes (operand_of on) in
+    let x = operand_few c.left in
+    let y = operand_few c.right in
+    let z = branch_few c.class in
+    omega (arith, x, y, z)
+jump_ending_pays classes f from number (ReturnVal a) = let x = return_few classes a in omega (arith, x)
+jump_ending_pays classes f from number HaltJump = omega arith
 
-pub edge_pays : (f : Func) (from k : ℕ) (p : Phi) (ps : List Phi) → phis_at f.blocks k ≡ p ∷ ps → EndingPays (record { turn = false; weight = length (p ∷ ps); copies = entry_copies f from k; leave = GotoBlock k })
-edge_pays f from k p ps e =
+pub end_ending_pays : (classes : Classes) (f : Func) (from number : ℕ) (j : Option (Lined SourceJump)) → EndingPays classes (end_ending f from number j)
+end_ending_pays classes f from number None = omega arith
+end_ending_pays classes f from number (Some j) = jump_ending_pays classes f from number (straight j.item)
+
+pub edge_pays : (classes : Classes) (f : Func) (from k : ℕ) (p : Phi) (ps : List Phi) → phis_at f.blocks k ≡ p ∷ ps → EndingPays classes (record { turn = false; weight = length (p ∷ ps); copies = entry_copies f from k; leave = GotoBlock k })
+edge_pays classes f from k p ps e =
     let c = length_copies f from k in
     let n : length (phis_at f.blocks k) ≡ suc (length ps) = ap length e in
     omega (arith, c, n)

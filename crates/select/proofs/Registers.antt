@@ -11,14 +11,14 @@ use Rattle.il_ast.specs.declared.operand.Val.TheVariants.{Int, Temp, Global}
 use Rattle.il_ast.specs.declared.operand.Arg.{Arg}
 use Rattle.il_ast.specs.declared.value.Value.{Value}
 use Rattle.il_ast.specs.declared.value.Value.TheVariants.{Integer, Pointer, Function}
-use Rattle.il_ast.specs.Values.{in_place}
+use Rattle.il_ast.specs.Values.{in_place, same_class}
 use Rattle.il_ast.specs.Effect.{value_at, operand, all_operands}
 use Rattle.vcode.specs.declared.place.Operand.{Operand}
 use Rattle.bits.specs.Words.{sign_extended}
 use Rattle.vcode.specs.Operations.{held}
 use Rattle.vcode.specs.Places.{Values, virtual, put}
 use Rattle.vcode.specs.Step.{value_of, read, read_all}
-use Rattle.select.specs.Selected.{operand_of, argument_of}
+use Rattle.select.specs.Selected.{is_whole, word, operand_of, argument_of}
 use Rattle.select.specs.Typed.{Classes, Fits, ArgsFit}
 
 -- what a temporary holds, its register holds in the form of its class
@@ -123,3 +123,37 @@ all_read classes globals temps values holds (a ∷ args) vs fits h =
 
 pub arguments_read : (classes : Classes) (globals : List Value) (temps : List (Option Value)) (values : Values ℕ) → Holds classes temps values → (args : List Arg) (vs : List Value) → ArgsFit classes args → all_operands globals temps args ≡ Some vs → read_all globals values (map argument_of args) ≡ Some vs
 arguments_read = all_read
+
+-- ---- words that stand sign-extended
+
+-- an operand whose word stands sign-extended has the word u so
+abbrev pub Stands : Classes → List Value → Values ℕ → Class → Operand ℕ → Value → Type 0
+Stands classes globals values W a u = is_whole classes a ≡ true → value_of globals values (word a) ≡ Some (held W u)
+Stands classes globals values L a u = Unit {0}
+
+-- what a word's place reads stands there as what it reads
+read_held : (v u : Value) → in_place W v ≡ Some u → held W v ≡ held W u
+read_held (Integer n) u h =
+    let again : n % 2 ^ 32 ≡ n % 2 ^ 32 % 2 ^ 32 = omega arith in
+    ap (λ k. Integer (sign_extended k)) again ∙ ap (held W) (some_value h)
+read_held (Pointer b o) u h = absurd (let no : ⊥ = cc in no)
+read_held (Function f) u h = absurd (let no : ⊥ = cc in no)
+
+extended_fits : (n : ℕ) → sign_extended (n % 2 ^ 32) % 2 ^ 64 ≡ sign_extended (n % 2 ^ 64 % 2 ^ 32 % 2 ^ 32)
+extended_fits n = grind (arith, ints)
+
+stands_value : (classes : Classes) (globals : List Value) (temps : List (Option Value)) (values : Values ℕ) (a : Val) (u : Value) → Holds classes temps values → (o : Option Value) → value_at globals temps a ≡ o → option_and_then (in_place W) o ≡ Some u → Stands classes globals values W (operand_of a) u
+stands_value classes globals temps values a u holds None e h whole = absurd (let no : ⊥ = cc in no)
+stands_value classes globals temps values (Int n) u holds (Some v) e h whole =
+    ap (λ k. Some (Integer k)) (extended_fits n) ∙ ap (λ x. Some (held W x)) (some_value (ap (option_and_then (in_place W)) e ∙ h))
+stands_value classes globals temps values (Global g) u holds (Some v) e h whole = absurd (let no : ⊥ = cc in no)
+stands_value classes globals temps values (Temp t) u holds (Some v) e h whole =
+    holds t v e ∙ ap (λ k. Some (held k v)) (by (classes t) whole) ∙ ap Some (read_held v u h)
+  where
+    by : (k : Class) → same_class k W ≡ true → k ≡ W
+    by W same = refl
+    by L same = absurd (let no : ⊥ = cc in no)
+
+pub stands : (classes : Classes) (globals : List Value) (temps : List (Option Value)) (values : Values ℕ) (k : Class) (a : Val) (u : Value) → Holds classes temps values → operand globals temps k a ≡ Some u → Stands classes globals values k (operand_of a) u
+stands classes globals temps values W a u holds h = stands_value classes globals temps values a u holds (value_at globals temps a) refl h
+stands classes globals temps values L a u holds h = tt

@@ -30,6 +30,7 @@ use Rattle.vcode.specs.declared.code.Block.{Block as VirtualBlock}
 use Rattle.vcode.specs.Cost.{is_paid}
 use Rattle.vcode.specs.Regular.{is_target as is_target_in, leads_inside, is_alloc, allocs_first, alloc_bytes, turns_of, passes_few, IsRegular}
 use Rattle.select.specs.Selected.{operand_of, destination_of, argument_of, inst_lines, turn_lines, all_lines, copy_lines, assignment_lines, ending_lines, jump_of, block_of, edge_of, blocks_of, parameter_of, selected, binary_lines}
+use Rattle.select.specs.Typed.{Classes}
 use Rattle.select.proofs.Typing.{Among, neither_first, neither_second, not_broken, none_among}
 use Rattle.select.proofs.Paying.{ending_pays, insts_pay, end_ending_pays, edge_pays}
 use Rattle.select.proofs.EachBlock.{blocks_all, Branches, edge_for, edges_all, IsTarget, is_target}
@@ -64,27 +65,27 @@ neither p (x ∷ xs) ys h k = by (p x) h (neither p xs ys)
 
 -- ---- every block is paid for
 
-paid_blocks : (f : Func) → list_all is_paid (blocks_of f.blocks (all_endings f 0 f.blocks) ++ map edge_of (all_edges f f.blocks)) ≡ true
-paid_blocks f =
-    blocks_all f is_paid (0 + length (all_edges f f.blocks)) 0 f.blocks (map edge_of (all_edges f f.blocks)) refl
-    (λ b m a le. insts_pay b.insts (jump_of (block_ending f m b).leave) (ending_lines (block_ending f m b)) (ending_pays (block_ending f m b) (end_ending_pays f b.label m b.jump)))
-    (edges_all f is_paid f.blocks (λ b l p ps a br e. ending_pays (edge_for f b.label (target f.blocks l) (p ∷ ps)) (edge_pays f b.label (target f.blocks l) p ps e)))
+paid_blocks : (classes : Classes) (f : Func) → list_all is_paid (blocks_of classes f.blocks (all_endings f 0 f.blocks) ++ map (edge_of classes) (all_edges f f.blocks)) ≡ true
+paid_blocks classes f =
+    blocks_all classes f is_paid (0 + length (all_edges f f.blocks)) 0 f.blocks (map (edge_of classes) (all_edges f f.blocks)) refl
+    (λ b m a le. insts_pay classes b.insts (jump_of classes (block_ending f m b).leave) (ending_lines classes (block_ending f m b)) (ending_pays classes (block_ending f m b) (end_ending_pays classes f b.label m b.jump)))
+    (edges_all classes f is_paid f.blocks (λ b l p ps a br e. ending_pays classes (edge_for f b.label (target f.blocks l) (p ∷ ps)) (edge_pays classes f b.label (target f.blocks l) p ps e)))
 
 -- ---- jumps lead to blocks behind the first
 
-length_blocks : (f : Func) (n : ℕ) (bs : List Block) → length (blocks_of bs (all_endings f n bs)) ≡ length bs
-length_blocks f n [] = refl
-length_blocks f n (b ∷ bs) = ap suc (length_blocks f (n + length (block_edges f b)) bs)
+length_blocks : (classes : Classes) (f : Func) (n : ℕ) (bs : List Block) → length (blocks_of classes bs (all_endings f n bs)) ≡ length bs
+length_blocks classes f n [] = refl
+length_blocks classes f n (b ∷ bs) = ap suc (length_blocks classes f (n + length (block_edges f b)) bs)
 
 -- all blocks
 abbrev total : Func → ℕ
 total f = length f.blocks + length (all_edges f f.blocks)
 
-total_is : (f : Func) → length (blocks_of f.blocks (all_endings f 0 f.blocks) ++ map edge_of (all_edges f f.blocks)) ≡ total f
-total_is f =
-    length-append (blocks_of f.blocks (all_endings f 0 f.blocks)) (map edge_of (all_edges f f.blocks))
-    ∙ ap (λ n. n + length (map edge_of (all_edges f f.blocks))) (length_blocks f 0 f.blocks)
-    ∙ ap (λ n. length f.blocks + n) (length-map (all_edges f f.blocks) edge_of)
+total_is : (classes : Classes) (f : Func) → length (blocks_of classes f.blocks (all_endings f 0 f.blocks) ++ map (edge_of classes) (all_edges f f.blocks)) ≡ total f
+total_is classes f =
+    length-append (blocks_of classes f.blocks (all_endings f 0 f.blocks)) (map (edge_of classes) (all_edges f f.blocks))
+    ∙ ap (λ n. n + length (map (edge_of classes) (all_edges f f.blocks))) (length_blocks classes f 0 f.blocks)
+    ∙ ap (λ n. length f.blocks + n) (length-map (all_edges f f.blocks) (edge_of classes))
 
 inside_at : (n k : ℕ) → 0 < k → k < n → is_target_in n k ≡ true
 inside_at n k h j = and_both (nat_lt 0 k) (nat_lt k n) (lt_true 0 k h) (lt_true k n j)
@@ -107,10 +108,10 @@ edge_long : (f : Func) (from k : ℕ) (phis : List Phi) → 0 < length phis → 
 edge_long f from k [] h = absurd (omega (arith, h))
 edge_long f from k (p ∷ ps) h = refl
 
-jump_inside : (f : Func) → IsGoodFunction f → (b : Block) (j : Lined Jump) (x : Jump) (m : ℕ) → Among b f.blocks → b.jump ≡ Some j → j.item ≡ x → m + length (block_edges f b) ≤ length (all_edges f f.blocks) → leads_inside (total f) (jump_of (jump_ending f b.label m (straight x)).leave) ≡ true
-jump_inside f good b j (Goto l) m a e i le =
+jump_inside : (classes : Classes) (f : Func) → IsGoodFunction f → (b : Block) (j : Lined Jump) (x : Jump) (m : ℕ) → Among b f.blocks → b.jump ≡ Some j → j.item ≡ x → m + length (block_edges f b) ≤ length (all_edges f f.blocks) → leads_inside (total f) (jump_of classes (jump_ending f b.label m (straight x)).leave) ≡ true
+jump_inside classes f good b j (Goto l) m a e i le =
     label_inside f l (is_target f good b j l j.line a e (subst (λ y. Among (record { line = j.line; number = l }) (jump_sites j.line y)) (sym i) (inl refl)))
-jump_inside f good b j (Branch on nonzero otherwise) m a e i le = by_ways (nat_eq nonzero otherwise) refl
+jump_inside classes f good b j (Branch on nonzero otherwise) m a e i le = by_ways (nat_eq nonzero otherwise) refl
   where
     from : ℕ
     from = b.label
@@ -127,7 +128,7 @@ jump_inside f good b j (Branch on nonzero otherwise) m a e i le = by_ways (nat_e
     two : IsTarget f otherwise
     two = is_target f good b j otherwise j.line a e (subst (λ y. Among (record { line = j.line; number = otherwise }) (jump_sites j.line y)) (sym i) (inr (inl refl)))
 
-    by_ways : (q : Bool) → nat_eq nonzero otherwise ≡ q → leads_inside (total f) (jump_of (jump_ending f b.label m (straight_if q on nonzero otherwise)).leave) ≡ true
+    by_ways : (q : Bool) → nat_eq nonzero otherwise ≡ q → leads_inside (total f) (jump_of classes (jump_ending f b.label m (straight_if q on nonzero otherwise)).leave) ≡ true
     by_ways true differ = label_inside f nonzero one
     by_ways false differ =
         let edges : block_edges f b ≡ edge f from t1 ++ edge f from t2 = ap (end_edges f from) e ∙ (ap (λ y. jump_edges f from (straight y)) i ∙ ap (λ q. jump_edges f from (straight_if q on nonzero otherwise)) differ) in
@@ -135,12 +136,12 @@ jump_inside f good b j (Branch on nonzero otherwise) m a e i le = by_ways (nat_e
         and_both (is_target_in (total f) (branch_target f m t1)) (is_target_in (total f) (branch_target f (m + length (edge f from t1)) t2))
         (side_inside f nonzero m (phis_at f.blocks t1) one (λ h. let n = edge_long f from t1 (phis_at f.blocks t1) h in omega (arith, n, long, le)))
         (side_inside f otherwise (m + length (edge f from t1)) (phis_at f.blocks t2) two (λ h. let n = edge_long f from t2 (phis_at f.blocks t2) h in omega (arith, n, long, le)))
-jump_inside f good b j (Return v) m a e i le = refl
-jump_inside f good b j Halt m a e i le = refl
+jump_inside classes f good b j (Return v) m a e i le = refl
+jump_inside classes f good b j Halt m a e i le = refl
 
-end_inside : (f : Func) → IsGoodFunction f → (b : Block) (j : Option (Lined Jump)) (m : ℕ) → Among b f.blocks → b.jump ≡ j → m + length (block_edges f b) ≤ length (all_edges f f.blocks) → leads_inside (total f) (jump_of (end_ending f b.label m j).leave) ≡ true
-end_inside f good b None m a e le = refl
-end_inside f good b (Some j) m a e le = jump_inside f good b j j.item m a e refl le
+end_inside : (classes : Classes) (f : Func) → IsGoodFunction f → (b : Block) (j : Option (Lined Jump)) (m : ℕ) → Among b f.blocks → b.jump ≡ j → m + length (block_edges f b) ≤ length (all_edges f f.blocks) → leads_inside (total f) (jump_of classes (end_ending f b.label m j).leave) ≡ true
+end_inside classes f good b None m a e le = refl
+end_inside classes f good b (Some j) m a e le = jump_inside classes f good b j j.item m a e refl le
 
 edge_inside : (f : Func) → IsGoodFunction f → (b : Block) (l : ℕ) → Among b f.blocks → Branches b l → is_target_in (total f) (target f.blocks l) ≡ true
 edge_inside f good b l a br = label_inside f l (is_target f good b br.jump l br.jump.line a br.ends (subst (λ y. Among (record { line = br.jump.line; number = l }) (jump_sites br.jump.line y)) (sym br.is) (by br.label)))
@@ -149,166 +150,166 @@ edge_inside f good b l a br = label_inside f l (is_target f good b br.jump l br.
     by (inl e) = inl (ap (λ n. record { line = br.jump.line; number = n }) e)
     by (inr e) = inr (inl (ap (λ n. record { line = br.jump.line; number = n }) e))
 
-pub inside_blocks : (f : Func) → IsGoodFunction f → list_all (λ (b : VirtualBlock ℕ). leads_inside (total f) b.jump) (blocks_of f.blocks (all_endings f 0 f.blocks) ++ map edge_of (all_edges f f.blocks)) ≡ true
-inside_blocks f good =
+pub inside_blocks : (classes : Classes) (f : Func) → IsGoodFunction f → list_all (λ (b : VirtualBlock ℕ). leads_inside (total f) b.jump) (blocks_of classes f.blocks (all_endings f 0 f.blocks) ++ map (edge_of classes) (all_edges f f.blocks)) ≡ true
+inside_blocks classes f good =
     let none : 0 + length (all_edges f f.blocks) ≡ length (all_edges f f.blocks) = omega arith in
-    blocks_all f (λ (b : VirtualBlock ℕ). leads_inside (total f) b.jump) (length (all_edges f f.blocks)) 0 f.blocks (map edge_of (all_edges f f.blocks)) none
-    (λ b m a le. end_inside f good b b.jump m a refl le)
-    (edges_all f (λ (b : VirtualBlock ℕ). leads_inside (total f) b.jump) f.blocks (λ b l p ps a br e. edge_inside f good b l a br))
+    blocks_all classes f (λ (b : VirtualBlock ℕ). leads_inside (total f) b.jump) (length (all_edges f f.blocks)) 0 f.blocks (map (edge_of classes) (all_edges f f.blocks)) none
+    (λ b m a le. end_inside classes f good b b.jump m a refl le)
+    (edges_all classes f (λ (b : VirtualBlock ℕ). leads_inside (total f) b.jump) f.blocks (λ b l p ps a br e. edge_inside f good b l a br))
 
 -- ---- blocks of memory are made in the first block
 
-inst_no_alloc : (x : Inst) → is_alloc_inst x ≡ false → list_any is_alloc (inst_lines x) ≡ false
-inst_no_alloc (Unary to op a) h = no_alloc to.temp (operand_of a ∷ []) _ (unary_sets to.temp op to.class (operand_of a))
-inst_no_alloc (Binary to op a b) h = no_alloc to.temp (operand_of a ∷ operand_of b ∷ []) (binary_lines to.temp op to.class (operand_of a) (operand_of b)) (binary_sets to.temp op to.class (operand_of a) (operand_of b))
-inst_no_alloc (AllocInst to alignment size) h = absurd (let no : ⊥ = cc in no)
-inst_no_alloc (StoreInst size a at) h = refl
-inst_no_alloc (BlitInst from to count) h = refl
-inst_no_alloc (CallInst to callee args) h = refl
+inst_no_alloc : (classes : Classes) (x : Inst) → is_alloc_inst x ≡ false → list_any is_alloc (inst_lines classes x) ≡ false
+inst_no_alloc classes (Unary to op a) h = no_alloc to.temp (operand_of a ∷ []) _ (unary_sets classes to.temp op to.class (operand_of a))
+inst_no_alloc classes (Binary to op a b) h = no_alloc to.temp (operand_of a ∷ operand_of b ∷ []) (binary_lines classes to.temp op to.class (operand_of a) (operand_of b)) (binary_sets classes to.temp op to.class (operand_of a) (operand_of b))
+inst_no_alloc classes (AllocInst to alignment size) h = absurd (let no : ⊥ = cc in no)
+inst_no_alloc classes (StoreInst size a at) h = refl
+inst_no_alloc classes (BlitInst from to count) h = refl
+inst_no_alloc classes (CallInst to callee args) h = refl
 
-copies_no_alloc : (cs : List Assignment) → list_any is_alloc (assignment_lines cs) ≡ false
-copies_no_alloc [] = refl
-copies_no_alloc (c ∷ cs) =
-    neither is_alloc (copy_lines c.to.temp c.to.class (operand_of c.value)) (assignment_lines cs)
-    (no_alloc c.to.temp (operand_of c.value ∷ []) _ (copy_sets c.to.temp c.to.class (operand_of c.value))) (copies_no_alloc cs)
+copies_no_alloc : (classes : Classes) (cs : List Assignment) → list_any is_alloc (assignment_lines classes cs) ≡ false
+copies_no_alloc classes [] = refl
+copies_no_alloc classes (c ∷ cs) =
+    neither is_alloc (copy_lines classes c.to.temp c.to.class (operand_of c.value)) (assignment_lines classes cs)
+    (no_alloc c.to.temp (operand_of c.value ∷ []) _ (copy_sets classes c.to.temp c.to.class (operand_of c.value))) (copies_no_alloc classes cs)
 
-insts_no_alloc : (insts : List (Lined Inst)) (rest : List (Line ℕ)) → first (λ (i : Lined Inst). when (is_alloc_inst i.item) i.line) insts ≡ None → list_any is_alloc rest ≡ false → list_any is_alloc (all_lines insts ++ rest) ≡ false
-insts_no_alloc [] rest h k = k
-insts_no_alloc (i ∷ insts) rest h k =
+insts_no_alloc : (classes : Classes) (insts : List (Lined Inst)) (rest : List (Line ℕ)) → first (λ (i : Lined Inst). when (is_alloc_inst i.item) i.line) insts ≡ None → list_any is_alloc rest ≡ false → list_any is_alloc (all_lines classes insts ++ rest) ≡ false
+insts_no_alloc classes [] rest h k = k
+insts_no_alloc classes (i ∷ insts) rest h k =
     let here = not_broken (is_alloc_inst i.item) i.line (neither_first (when (is_alloc_inst i.item) i.line) _ h) in
-    ap (list_any is_alloc) (append_assoc (turn_lines i) (all_lines insts) rest)
-    ∙ neither is_alloc (inst_lines i.item) (all_lines insts ++ rest) (inst_no_alloc i.item here)
-    (insts_no_alloc insts rest (neither_second (when (is_alloc_inst i.item) i.line) _ h) k)
+    ap (list_any is_alloc) (append_assoc (turn_lines classes i) (all_lines classes insts) rest)
+    ∙ neither is_alloc (inst_lines classes i.item) (all_lines classes insts ++ rest) (inst_no_alloc classes i.item here)
+    (insts_no_alloc classes insts rest (neither_second (when (is_alloc_inst i.item) i.line) _ h) k)
 
 abbrev makes_none : VirtualBlock ℕ → Bool
 makes_none b = not (list_any is_alloc b.lines)
 
-none_made : (b : Block) (e : Ending) → first (λ (i : Lined Inst). when (is_alloc_inst i.item) i.line) b.insts ≡ None → makes_none (block_of b e) ≡ true
-none_made b e h = ap not (insts_no_alloc b.insts (ending_lines e) h (copies_no_alloc e.copies))
+none_made : (classes : Classes) (b : Block) (e : Ending) → first (λ (i : Lined Inst). when (is_alloc_inst i.item) i.line) b.insts ≡ None → makes_none (block_of classes b e) ≡ true
+none_made classes b e h = ap not (insts_no_alloc classes b.insts (ending_lines classes e) h (copies_no_alloc classes e.copies))
 
-first_alone : (f : Func) (blocks : List Block) → wrong_alloc_in blocks ≡ None → list_all makes_none (map edge_of (all_edges f f.blocks)) ≡ true → (n : ℕ) → allocs_first (blocks_of blocks (all_endings f n blocks) ++ map edge_of (all_edges f f.blocks)) ≡ true
-first_alone f [] h edges n = by (map edge_of (all_edges f f.blocks)) edges
+first_alone : (classes : Classes) (f : Func) (blocks : List Block) → wrong_alloc_in blocks ≡ None → list_all makes_none (map (edge_of classes) (all_edges f f.blocks)) ≡ true → (n : ℕ) → allocs_first (blocks_of classes blocks (all_endings f n blocks) ++ map (edge_of classes) (all_edges f f.blocks)) ≡ true
+first_alone classes f [] h edges n = by (map (edge_of classes) (all_edges f f.blocks)) edges
   where
     by : (bs : List (VirtualBlock ℕ)) → list_all makes_none bs ≡ true → allocs_first bs ≡ true
     by [] e = refl
     by (b ∷ bs) e = and_right (makes_none b) (list_all makes_none bs) e
-first_alone f (b ∷ blocks) h edges n =
+first_alone classes f (b ∷ blocks) h edges n =
     let rest = neither_second (in_insts has_wrong_size (b ∷ [])) (in_insts is_alloc_inst blocks) h in
-    blocks_all f makes_none (n + length (block_edges f b) + length (all_edges f blocks)) (n + length (block_edges f b)) blocks (map edge_of (all_edges f f.blocks)) refl
-    (λ c m a le. none_made c (block_ending f m c) (none_among (λ (x : Block). first (λ (i : Lined Inst). when (is_alloc_inst i.item) i.line) x.insts) blocks c rest a)) edges
+    blocks_all classes f makes_none (n + length (block_edges f b) + length (all_edges f blocks)) (n + length (block_edges f b)) blocks (map (edge_of classes) (all_edges f f.blocks)) refl
+    (λ c m a le. none_made classes c (block_ending f m c) (none_among (λ (x : Block). first (λ (i : Lined Inst). when (is_alloc_inst i.item) i.line) x.insts) blocks c rest a)) edges
 
-allocs_are_first : (f : Func) → IsGoodFunction f → allocs_first (blocks_of f.blocks (all_endings f 0 f.blocks) ++ map edge_of (all_edges f f.blocks)) ≡ true
-allocs_are_first f good =
-    first_alone f f.blocks (good.rules AllocInEntry)
-    (edges_all f makes_none f.blocks (λ b l p ps a br e. ap not (copies_no_alloc (entry_copies f b.label (target f.blocks l))))) 0
+allocs_are_first : (classes : Classes) (f : Func) → IsGoodFunction f → allocs_first (blocks_of classes f.blocks (all_endings f 0 f.blocks) ++ map (edge_of classes) (all_edges f f.blocks)) ≡ true
+allocs_are_first classes f good =
+    first_alone classes f f.blocks (good.rules AllocInEntry)
+    (edges_all classes f makes_none f.blocks (λ b l p ps a br e. ap not (copies_no_alloc classes (entry_copies f b.label (target f.blocks l))))) 0
 
 -- ---- the stack that they take
 
 one_of : (m : Line ℕ → ℕ) (l : Line ℕ) → sum_by m (l ∷ []) ≡ m l
 one_of m l = let all = sum_by-cons m l [] in omega (arith, all)
 
-inst_area : (x : Inst) → sum_by alloc_bytes (inst_lines x) ≡ inst_bytes x
-inst_area (Unary to op a) = no_area to.temp (operand_of a ∷ []) _ (unary_sets to.temp op to.class (operand_of a))
-inst_area (Binary to op a b) = no_area to.temp (operand_of a ∷ operand_of b ∷ []) (binary_lines to.temp op to.class (operand_of a) (operand_of b)) (binary_sets to.temp op to.class (operand_of a) (operand_of b))
-inst_area (AllocInst to alignment size) = one_of alloc_bytes (Alloc to.temp size)
-inst_area (StoreInst size a at) = one_of alloc_bytes (Store size (operand_of a) (operand_of at))
-inst_area (BlitInst from to count) = one_of alloc_bytes (Blit (operand_of from) (operand_of to) count)
-inst_area (CallInst to callee args) = one_of alloc_bytes (Call (option_map destination_of to) (operand_of callee) (map argument_of args))
+inst_area : (classes : Classes) (x : Inst) → sum_by alloc_bytes (inst_lines classes x) ≡ inst_bytes x
+inst_area classes (Unary to op a) = no_area to.temp (operand_of a ∷ []) _ (unary_sets classes to.temp op to.class (operand_of a))
+inst_area classes (Binary to op a b) = no_area to.temp (operand_of a ∷ operand_of b ∷ []) (binary_lines classes to.temp op to.class (operand_of a) (operand_of b)) (binary_sets classes to.temp op to.class (operand_of a) (operand_of b))
+inst_area classes (AllocInst to alignment size) = one_of alloc_bytes (Alloc to.temp size)
+inst_area classes (StoreInst size a at) = one_of alloc_bytes (Store size (operand_of a) (operand_of at))
+inst_area classes (BlitInst from to count) = one_of alloc_bytes (Blit (operand_of from) (operand_of to) count)
+inst_area classes (CallInst to callee args) = one_of alloc_bytes (Call (option_map destination_of to) (operand_of callee) (map argument_of args))
 
-copies_area : (cs : List Assignment) → sum_by alloc_bytes (assignment_lines cs) ≡ 0
-copies_area [] = refl
-copies_area (c ∷ cs) =
-    let all = sum_by-append alloc_bytes (copy_lines c.to.temp c.to.class (operand_of c.value)) (assignment_lines cs) in
-    let one = no_area c.to.temp (operand_of c.value ∷ []) _ (copy_sets c.to.temp c.to.class (operand_of c.value)) in
-    let rest = copies_area cs in
+copies_area : (classes : Classes) (cs : List Assignment) → sum_by alloc_bytes (assignment_lines classes cs) ≡ 0
+copies_area classes [] = refl
+copies_area classes (c ∷ cs) =
+    let all = sum_by-append alloc_bytes (copy_lines classes c.to.temp c.to.class (operand_of c.value)) (assignment_lines classes cs) in
+    let one = no_area c.to.temp (operand_of c.value ∷ []) _ (copy_sets classes c.to.temp c.to.class (operand_of c.value)) in
+    let rest = copies_area classes cs in
     omega (arith, all, one, rest)
 
-ending_area : (e : Ending) → sum_by alloc_bytes (ending_lines e) ≡ 0
-ending_area e =
-    let all = sum_by-cons alloc_bytes (Tick e.turn e.weight) (assignment_lines e.copies) in
-    let rest = copies_area e.copies in
+ending_area : (classes : Classes) (e : Ending) → sum_by alloc_bytes (ending_lines classes e) ≡ 0
+ending_area classes e =
+    let all = sum_by-cons alloc_bytes (Tick e.turn e.weight) (assignment_lines classes e.copies) in
+    let rest = copies_area classes e.copies in
     omega (arith, all, rest)
 
-insts_area : (insts : List (Lined Inst)) → sum_by alloc_bytes (all_lines insts) ≡ sum_by (λ (i : Lined Inst). inst_bytes i.item) insts
-insts_area [] = refl
-insts_area (i ∷ insts) =
-    let both = sum_by-append alloc_bytes (turn_lines i) (all_lines insts) in
-    let tick = sum_by-cons alloc_bytes (Tick true (inst_weight i.item)) (inst_lines i.item) in
-    let one = inst_area i.item in
-    let rest = insts_area insts in
+insts_area : (classes : Classes) (insts : List (Lined Inst)) → sum_by alloc_bytes (all_lines classes insts) ≡ sum_by (λ (i : Lined Inst). inst_bytes i.item) insts
+insts_area classes [] = refl
+insts_area classes (i ∷ insts) =
+    let both = sum_by-append alloc_bytes (turn_lines classes i) (all_lines classes insts) in
+    let tick = sum_by-cons alloc_bytes (Tick true (inst_weight i.item)) (inst_lines classes i.item) in
+    let one = inst_area classes i.item in
+    let rest = insts_area classes insts in
     let all = sum_by-cons (λ (x : Lined Inst). inst_bytes x.item) i insts in
     omega (arith, both, tick, one, rest, all)
 
 abbrev bytes_in : VirtualBlock ℕ → ℕ
 bytes_in b = sum_by alloc_bytes b.lines
 
-block_area : (b : Block) (e : Ending) → bytes_in (block_of b e) ≡ sum_by (λ (i : Lined Inst). inst_bytes i.item) b.insts
-block_area b e =
-    let both = sum_by-append alloc_bytes (all_lines b.insts) (ending_lines e) in
-    let one = insts_area b.insts in
-    let none = ending_area e in
+block_area : (classes : Classes) (b : Block) (e : Ending) → bytes_in (block_of classes b e) ≡ sum_by (λ (i : Lined Inst). inst_bytes i.item) b.insts
+block_area classes b e =
+    let both = sum_by-append alloc_bytes (all_lines classes b.insts) (ending_lines classes e) in
+    let one = insts_area classes b.insts in
+    let none = ending_area classes e in
     omega (arith, both, one, none)
 
-edges_area : (es : List Ending) → sum_by bytes_in (map edge_of es) ≡ 0
-edges_area [] = refl
-edges_area (e ∷ es) =
-    let all = sum_by-cons bytes_in (edge_of e) (map edge_of es) in
-    let one = ending_area e in
-    let rest = edges_area es in
+edges_area : (classes : Classes) (es : List Ending) → sum_by bytes_in (map (edge_of classes) es) ≡ 0
+edges_area classes [] = refl
+edges_area classes (e ∷ es) =
+    let all = sum_by-cons bytes_in (edge_of classes e) (map (edge_of classes) es) in
+    let one = ending_area classes e in
+    let rest = edges_area classes es in
     omega (arith, all, one, rest)
 
-blocks_area : (f : Func) (n : ℕ) (bs : List Block) → sum_by bytes_in (blocks_of bs (all_endings f n bs)) ≡ sum_by (λ (b : Block). sum_by (λ (i : Lined Inst). inst_bytes i.item) b.insts) bs
-blocks_area f n [] = refl
-blocks_area f n (b ∷ bs) =
-    let all = sum_by-cons bytes_in (block_of b (block_ending f n b)) (blocks_of bs (all_endings f (n + length (block_edges f b)) bs)) in
+blocks_area : (classes : Classes) (f : Func) (n : ℕ) (bs : List Block) → sum_by bytes_in (blocks_of classes bs (all_endings f n bs)) ≡ sum_by (λ (b : Block). sum_by (λ (i : Lined Inst). inst_bytes i.item) b.insts) bs
+blocks_area classes f n [] = refl
+blocks_area classes f n (b ∷ bs) =
+    let all = sum_by-cons bytes_in (block_of classes b (block_ending f n b)) (blocks_of classes bs (all_endings f (n + length (block_edges f b)) bs)) in
     let source = sum_by-cons (λ (c : Block). sum_by (λ (i : Lined Inst). inst_bytes i.item) c.insts) b bs in
-    let one = block_area b (block_ending f n b) in
-    let rest = blocks_area f (n + length (block_edges f b)) bs in
+    let one = block_area classes b (block_ending f n b) in
+    let rest = blocks_area classes f (n + length (block_edges f b)) bs in
     omega (arith, all, source, one, rest)
 
-pub area_is : (f : Func) → sum_by bytes_in (blocks_of f.blocks (all_endings f 0 f.blocks) ++ map edge_of (all_edges f f.blocks)) ≡ alloc_area f
-area_is f =
-    let both = sum_by-append bytes_in (blocks_of f.blocks (all_endings f 0 f.blocks)) (map edge_of (all_edges f f.blocks)) in
-    let one = blocks_area f 0 f.blocks in
-    let none = edges_area (all_edges f f.blocks) in
+pub area_is : (classes : Classes) (f : Func) → sum_by bytes_in (blocks_of classes f.blocks (all_endings f 0 f.blocks) ++ map (edge_of classes) (all_edges f f.blocks)) ≡ alloc_area f
+area_is classes f =
+    let both = sum_by-append bytes_in (blocks_of classes f.blocks (all_endings f 0 f.blocks)) (map (edge_of classes) (all_edges f f.blocks)) in
+    let one = blocks_area classes f 0 f.blocks in
+    let none = edges_area classes (all_edges f f.blocks) in
     omega (arith, both, one, none)
 
 -- ---- the turns of a block
 
-inst_turns : (x : Inst) → sum_by turns_of (inst_lines x) ≡ 0
-inst_turns (Unary to op a) = no_turn to.temp (operand_of a ∷ []) _ (unary_sets to.temp op to.class (operand_of a))
-inst_turns (Binary to op a b) = no_turn to.temp (operand_of a ∷ operand_of b ∷ []) (binary_lines to.temp op to.class (operand_of a) (operand_of b)) (binary_sets to.temp op to.class (operand_of a) (operand_of b))
-inst_turns (AllocInst to alignment size) = one_of turns_of (Alloc to.temp size)
-inst_turns (StoreInst size a at) = one_of turns_of (Store size (operand_of a) (operand_of at))
-inst_turns (BlitInst from to count) = one_of turns_of (Blit (operand_of from) (operand_of to) count)
-inst_turns (CallInst to callee args) = one_of turns_of (Call (option_map destination_of to) (operand_of callee) (map argument_of args))
+inst_turns : (classes : Classes) (x : Inst) → sum_by turns_of (inst_lines classes x) ≡ 0
+inst_turns classes (Unary to op a) = no_turn to.temp (operand_of a ∷ []) _ (unary_sets classes to.temp op to.class (operand_of a))
+inst_turns classes (Binary to op a b) = no_turn to.temp (operand_of a ∷ operand_of b ∷ []) (binary_lines classes to.temp op to.class (operand_of a) (operand_of b)) (binary_sets classes to.temp op to.class (operand_of a) (operand_of b))
+inst_turns classes (AllocInst to alignment size) = one_of turns_of (Alloc to.temp size)
+inst_turns classes (StoreInst size a at) = one_of turns_of (Store size (operand_of a) (operand_of at))
+inst_turns classes (BlitInst from to count) = one_of turns_of (Blit (operand_of from) (operand_of to) count)
+inst_turns classes (CallInst to callee args) = one_of turns_of (Call (option_map destination_of to) (operand_of callee) (map argument_of args))
 
-copies_turns : (cs : List Assignment) → sum_by turns_of (assignment_lines cs) ≡ 0
-copies_turns [] = refl
-copies_turns (c ∷ cs) =
-    let all = sum_by-append turns_of (copy_lines c.to.temp c.to.class (operand_of c.value)) (assignment_lines cs) in
-    let one = no_turn c.to.temp (operand_of c.value ∷ []) _ (copy_sets c.to.temp c.to.class (operand_of c.value)) in
-    let rest = copies_turns cs in
+copies_turns : (classes : Classes) (cs : List Assignment) → sum_by turns_of (assignment_lines classes cs) ≡ 0
+copies_turns classes [] = refl
+copies_turns classes (c ∷ cs) =
+    let all = sum_by-append turns_of (copy_lines classes c.to.temp c.to.class (operand_of c.value)) (assignment_lines classes cs) in
+    let one = no_turn c.to.temp (operand_of c.value ∷ []) _ (copy_sets classes c.to.temp c.to.class (operand_of c.value)) in
+    let rest = copies_turns classes cs in
     omega (arith, all, one, rest)
 
 tick_turns : (turn : Bool) (w : ℕ) → turns_of {P = ℕ} (Tick turn w) ≤ 1
 tick_turns true w = omega arith
 tick_turns false w = omega arith
 
-ending_turns : (e : Ending) → sum_by turns_of (ending_lines e) ≤ 1
-ending_turns e =
-    let all = sum_by-cons turns_of (Tick e.turn e.weight) (assignment_lines e.copies) in
+ending_turns : (classes : Classes) (e : Ending) → sum_by turns_of (ending_lines classes e) ≤ 1
+ending_turns classes e =
+    let all = sum_by-cons turns_of (Tick e.turn e.weight) (assignment_lines classes e.copies) in
     let one = tick_turns e.turn e.weight in
-    let rest = copies_turns e.copies in
+    let rest = copies_turns classes e.copies in
     omega (arith, all, one, rest)
 
-insts_turns : (insts : List (Lined Inst)) → sum_by turns_of (all_lines insts) ≡ length insts
-insts_turns [] = refl
-insts_turns (i ∷ insts) =
-    let both = sum_by-append turns_of (turn_lines i) (all_lines insts) in
-    let tick = sum_by-cons turns_of (Tick true (inst_weight i.item)) (inst_lines i.item) in
-    let one = inst_turns i.item in
-    let rest = insts_turns insts in
+insts_turns : (classes : Classes) (insts : List (Lined Inst)) → sum_by turns_of (all_lines classes insts) ≡ length insts
+insts_turns classes [] = refl
+insts_turns classes (i ∷ insts) =
+    let both = sum_by-append turns_of (turn_lines classes i) (all_lines classes insts) in
+    let tick = sum_by-cons turns_of (Tick true (inst_weight i.item)) (inst_lines classes i.item) in
+    let one = inst_turns classes i.item in
+    let rest = insts_turns classes insts in
     omega (arith, both, tick, one, rest)
 
 some_weight : (x : Inst) → 1 ≤ inst_weight x
@@ -339,51 +340,51 @@ block_weighs (c ∷ bs) b (inr a) =
     let rest = block_weighs bs b a in
     omega (arith, all, rest)
 
-few_turns : (f : Func) → IsGoodFunction f → (b : Block) (e : Ending) → Among b f.blocks → sum_by turns_of (all_lines b.insts ++ ending_lines e) ≤ 40000
-few_turns f good b e a =
+few_turns : (classes : Classes) (f : Func) → IsGoodFunction f → (b : Block) (e : Ending) → Among b f.blocks → sum_by turns_of (all_lines classes b.insts ++ ending_lines classes e) ≤ 40000
+few_turns classes f good b e a =
     let heavy = le_of (weight f) 40000 (and_left (nat_le (weight f) 40000) _ good.limits) in
     let block = block_weighs f.blocks b a in
-    let both = sum_by-append turns_of (all_lines b.insts) (ending_lines e) in
-    let insts = insts_turns b.insts in
-    let end = ending_turns e in
+    let both = sum_by-append turns_of (all_lines classes b.insts) (ending_lines classes e) in
+    let insts = insts_turns classes b.insts in
+    let end = ending_turns classes e in
     omega (arith, heavy, block, both, insts, end)
 
 abbrev is_paced : VirtualBlock ℕ → Bool
 is_paced b = nat_le (sum_by turns_of b.lines) 40000
 
-paced_blocks : (f : Func) → IsGoodFunction f → list_all is_paced (blocks_of f.blocks (all_endings f 0 f.blocks) ++ map edge_of (all_edges f f.blocks)) ≡ true
-paced_blocks f good =
-    blocks_all f is_paced (0 + length (all_edges f f.blocks)) 0 f.blocks (map edge_of (all_edges f f.blocks)) refl
-    (λ b m a le. le_true _ 40000 (few_turns f good b (block_ending f m b) a))
-    (edges_all f is_paced f.blocks (λ b l p ps a br e. let one = ending_turns (edge_for f b.label (target f.blocks l) (p ∷ ps)) in le_true _ 40000 (omega (arith, one))))
+paced_blocks : (classes : Classes) (f : Func) → IsGoodFunction f → list_all is_paced (blocks_of classes f.blocks (all_endings f 0 f.blocks) ++ map (edge_of classes) (all_edges f f.blocks)) ≡ true
+paced_blocks classes f good =
+    blocks_all classes f is_paced (0 + length (all_edges f f.blocks)) 0 f.blocks (map (edge_of classes) (all_edges f f.blocks)) refl
+    (λ b m a le. le_true _ 40000 (few_turns classes f good b (block_ending f m b) a))
+    (edges_all classes f is_paced f.blocks (λ b l p ps a br e. let one = ending_turns classes (edge_for f b.label (target f.blocks l) (p ∷ ps)) in le_true _ 40000 (omega (arith, one))))
 
 -- ---- the arguments of calls
 
-inst_few : (x : Inst) → has_few_args x ≡ true → list_all passes_few (inst_lines x) ≡ true
-inst_few (Unary to op a) h = all_few to.temp (operand_of a ∷ []) _ (unary_sets to.temp op to.class (operand_of a))
-inst_few (Binary to op a b) h = all_few to.temp (operand_of a ∷ operand_of b ∷ []) (binary_lines to.temp op to.class (operand_of a) (operand_of b)) (binary_sets to.temp op to.class (operand_of a) (operand_of b))
-inst_few (AllocInst to alignment size) h = refl
-inst_few (StoreInst size a at) h = refl
-inst_few (BlitInst from to count) h = refl
-inst_few (CallInst to callee args) h = and_both (nat_le (length (map argument_of args)) 64) true (ap (λ n. nat_le n 64) (length-map args argument_of) ∙ h) refl
+inst_few : (classes : Classes) (x : Inst) → has_few_args x ≡ true → list_all passes_few (inst_lines classes x) ≡ true
+inst_few classes (Unary to op a) h = all_few to.temp (operand_of a ∷ []) _ (unary_sets classes to.temp op to.class (operand_of a))
+inst_few classes (Binary to op a b) h = all_few to.temp (operand_of a ∷ operand_of b ∷ []) (binary_lines classes to.temp op to.class (operand_of a) (operand_of b)) (binary_sets classes to.temp op to.class (operand_of a) (operand_of b))
+inst_few classes (AllocInst to alignment size) h = refl
+inst_few classes (StoreInst size a at) h = refl
+inst_few classes (BlitInst from to count) h = refl
+inst_few classes (CallInst to callee args) h = and_both (nat_le (length (map argument_of args)) 64) true (ap (λ n. nat_le n 64) (length-map args argument_of) ∙ h) refl
 
 all_both : (p : Line ℕ → Bool) (xs ys : List (Line ℕ)) → list_all p xs ≡ true → list_all p ys ≡ true → list_all p (xs ++ ys) ≡ true
 all_both p [] ys h k = k
 all_both p (x ∷ xs) ys h k = and_both (p x) (list_all p (xs ++ ys)) (and_left (p x) (list_all p xs) h) (all_both p xs ys (and_right (p x) (list_all p xs) h) k)
 
-copies_few : (cs : List Assignment) → list_all passes_few (assignment_lines cs) ≡ true
-copies_few [] = refl
-copies_few (c ∷ cs) =
-    all_both passes_few (copy_lines c.to.temp c.to.class (operand_of c.value)) (assignment_lines cs)
-    (all_few c.to.temp (operand_of c.value ∷ []) _ (copy_sets c.to.temp c.to.class (operand_of c.value))) (copies_few cs)
+copies_few : (classes : Classes) (cs : List Assignment) → list_all passes_few (assignment_lines classes cs) ≡ true
+copies_few classes [] = refl
+copies_few classes (c ∷ cs) =
+    all_both passes_few (copy_lines classes c.to.temp c.to.class (operand_of c.value)) (assignment_lines classes cs)
+    (all_few c.to.temp (operand_of c.value ∷ []) _ (copy_sets classes c.to.temp c.to.class (operand_of c.value))) (copies_few classes cs)
 
-insts_few : (insts : List (Lined Inst)) (rest : List (Line ℕ)) → list_all (λ (i : Lined Inst). has_few_args i.item) insts ≡ true → list_all passes_few rest ≡ true → list_all passes_few (all_lines insts ++ rest) ≡ true
-insts_few [] rest h k = k
-insts_few (i ∷ insts) rest h k =
-    ap (list_all passes_few) (append_assoc (turn_lines i) (all_lines insts) rest)
-    ∙ all_both passes_few (inst_lines i.item) (all_lines insts ++ rest)
-    (inst_few i.item (and_left (has_few_args i.item) (list_all (λ (x : Lined Inst). has_few_args x.item) insts) h))
-    (insts_few insts rest (and_right (has_few_args i.item) (list_all (λ (x : Lined Inst). has_few_args x.item) insts) h) k)
+insts_few : (classes : Classes) (insts : List (Lined Inst)) (rest : List (Line ℕ)) → list_all (λ (i : Lined Inst). has_few_args i.item) insts ≡ true → list_all passes_few rest ≡ true → list_all passes_few (all_lines classes insts ++ rest) ≡ true
+insts_few classes [] rest h k = k
+insts_few classes (i ∷ insts) rest h k =
+    ap (list_all passes_few) (append_assoc (turn_lines classes i) (all_lines classes insts) rest)
+    ∙ all_both passes_few (inst_lines classes i.item) (all_lines classes insts ++ rest)
+    (inst_few classes i.item (and_left (has_few_args i.item) (list_all (λ (x : Lined Inst). has_few_args x.item) insts) h))
+    (insts_few classes insts rest (and_right (has_few_args i.item) (list_all (λ (x : Lined Inst). has_few_args x.item) insts) h) k)
 
 abbrev calls_few : Block → Bool
 calls_few b = list_all (λ (i : Lined Inst). has_few_args i.item) b.insts
@@ -393,11 +394,11 @@ all_among p [] b h a = absurd a
 all_among p (c ∷ bs) b h (inl e) = ap p e ∙ and_left (p c) (list_all p bs) h
 all_among p (c ∷ bs) b h (inr a) = all_among p bs b (and_right (p c) (list_all p bs) h) a
 
-few_blocks : (f : Func) → list_all calls_few f.blocks ≡ true → list_all (λ (b : VirtualBlock ℕ). list_all passes_few b.lines) (blocks_of f.blocks (all_endings f 0 f.blocks) ++ map edge_of (all_edges f f.blocks)) ≡ true
-few_blocks f h =
-    blocks_all f (λ (b : VirtualBlock ℕ). list_all passes_few b.lines) (0 + length (all_edges f f.blocks)) 0 f.blocks (map edge_of (all_edges f f.blocks)) refl
-    (λ b m a le. insts_few b.insts (ending_lines (block_ending f m b)) (all_among calls_few f.blocks b h a) (copies_few (block_ending f m b).copies))
-    (edges_all f (λ (b : VirtualBlock ℕ). list_all passes_few b.lines) f.blocks (λ b l p ps a br e. copies_few (edge_for f b.label (target f.blocks l) (p ∷ ps)).copies))
+few_blocks : (classes : Classes) (f : Func) → list_all calls_few f.blocks ≡ true → list_all (λ (b : VirtualBlock ℕ). list_all passes_few b.lines) (blocks_of classes f.blocks (all_endings f 0 f.blocks) ++ map (edge_of classes) (all_edges f f.blocks)) ≡ true
+few_blocks classes f h =
+    blocks_all classes f (λ (b : VirtualBlock ℕ). list_all passes_few b.lines) (0 + length (all_edges f f.blocks)) 0 f.blocks (map (edge_of classes) (all_edges f f.blocks)) refl
+    (λ b m a le. insts_few classes b.insts (ending_lines classes (block_ending f m b)) (all_among calls_few f.blocks b h a) (copies_few classes (block_ending f m b).copies))
+    (edges_all classes f (λ (b : VirtualBlock ℕ). list_all passes_few b.lines) f.blocks (λ b l p ps a br e. copies_few classes (edge_for f b.label (target f.blocks l) (p ∷ ps)).copies))
 
 -- ---- the whole
 
@@ -415,21 +416,21 @@ limits_of f good =
     let behind_params = and_right (nat_le (length f.params) 64) _ behind_temps in
     (le_of (length f.params) 64 (and_left (nat_le (length f.params) 64) _ behind_temps), le_of (alloc_area f) 1048576 (and_left (nat_le (alloc_area f) 1048576) _ behind_params))
 
-pub regular : (f : Func) → IsGoodFunction f → IsRegular (selected f (lowered f))
+pub regular : (classes : Classes) (f : Func) → IsGoodFunction f → IsRegular (selected classes f (lowered f))
 unfolding selected lowered
-regular f good =
+regular classes f good =
     let few = (limits_of f good).0 in
     let params : length (map parameter_of f.params) ≡ length f.params = length-map f.params parameter_of in
     let bytes = (limits_of f good).1 in
-    let all = area_is f in
+    let all = area_is classes f in
     record {
       few_params = le_true (length (map parameter_of f.params)) 64 (omega (arith, few, params));
-      inside = ap (λ n. list_all (λ (b : VirtualBlock ℕ). leads_inside n b.jump) (blocks_of f.blocks (all_endings f 0 f.blocks) ++ map edge_of (all_edges f f.blocks))) (total_is f) ∙ inside_blocks f good;
-      first = allocs_are_first f good;
+      inside = ap (λ n. list_all (λ (b : VirtualBlock ℕ). leads_inside n b.jump) (blocks_of classes f.blocks (all_endings f 0 f.blocks) ++ map (edge_of classes) (all_edges f f.blocks))) (total_is classes f) ∙ inside_blocks classes f good;
+      first = allocs_are_first classes f good;
       small = le_true _ 1048576 (omega (arith, bytes, all));
-      paid = paid_blocks f;
-      paced = paced_blocks f good;
-      few_args = few_blocks f (calls_within f good);
+      paid = paid_blocks classes f;
+      paced = paced_blocks classes f good;
+      few_args = few_blocks classes f (calls_within f good);
     }
 
 pub few_params : (f : Func) → IsGoodFunction f → length f.params ≤ 64

@@ -34,9 +34,9 @@ use Rattle.vcode.specs.Operations.{held}
 use Rattle.vcode.specs.Places.{Values, virtual, put}
 use Rattle.vcode.specs.Step.{State, value_of, read_all, line_step, changes, calls, resumes}
 use Rattle.select.specs.Selected.{operand_of, destination_of, argument_of, inst_lines, turn_lines, ending_lines, block_of, edge_of, all_lines, selected}
-use Rattle.select.specs.Typed.{TakesWanted, InstFits, IsTyped}
+use Rattle.select.specs.Typed.{Classes, TakesWanted, InstFits, IsTyped}
 use Rattle.select.proofs.Going.{Setting, go, Left, Go, goes_line, left_further, gone}
-use Rattle.select.proofs.Registers.{Holds, reads, read_same, long_same, arguments_read, put_holds}
+use Rattle.select.proofs.Registers.{Holds, stands, reads, read_same, long_same, arguments_read, put_holds}
 use Rattle.select.proofs.Yielding.{Yields, yielded_holds}
 use Rattle.select.proofs.OperationLines.{unary_yields, binary_yields}
 use Rattle.select.proofs.BlockLines.{block_at, has_ending, lines_before, parted, lines_further}
@@ -45,21 +45,22 @@ use Rattle.select.proofs.BlockLines.{block_at, has_ending, lines_before, parted,
 pub record Whole : Type 0 where
   pub func : Func
   pub endings : Endings
-  pub typed : IsTyped func endings
+  pub classes : Classes
+  pub typed : IsTyped classes func endings
   pub globals : List Value
   pub given : Given
 
 abbrev pub within : Whole → Setting
-within w = record { code = selected w.func w.endings; globals = w.globals; given = w.given }
+within w = record { code = selected w.classes w.func w.endings; globals = w.globals; given = w.given }
 
 -- ---- related states
 
-abbrev pub offset_in : Option Block → ℕ → ℕ
-offset_in None j = 0
-offset_in (Some b) j = lines_before b.insts j
+abbrev pub offset_in : Classes → Option Block → ℕ → ℕ
+offset_in classes None j = 0
+offset_in classes (Some b) j = lines_before classes b.insts j
 
 abbrev pub offset : Whole → (block next : ℕ) → ℕ
-offset w k j = offset_in (slice_get w.func.blocks k) j
+offset w k j = offset_in w.classes (slice_get w.func.blocks k) j
 
 abbrev pub make : ℕ → ℕ → Values ℕ → Memory → List ℕ → Spent → State ℕ
 make b n v m o p = record { block = b; next = n; values = v; memory = m; owned = o; spent = p }
@@ -69,7 +70,7 @@ abbrev pub at : Whole → Source → Values ℕ → State ℕ
 at w s values = make s.block (offset w s.block s.next) values s.memory s.locals.owned s.spent
 
 pub record Related (w : Whole) (s : Source) (t : State ℕ) : Type 0 where
-  pub holds : Holds w.typed.classes s.locals.temps t.values
+  pub holds : Holds w.classes s.locals.temps t.values
   pub is : t ≡ at w s t.values
 
 -- a state with these parts
@@ -91,25 +92,25 @@ pub record AtInst (w : Whole) (s : Source) (b : Block) (i : Lined Inst) : Type 0
 record Ready (w : Whole) (s : Source) (values : Values ℕ) (i : Lined Inst) : Type 0 where
   block : VirtualBlock ℕ
   behind : List (Line ℕ)
-  left : Left (within w) (at w s values) block (turn_lines i ++ behind)
+  left : Left (within w) (at w s values) block (turn_lines w.classes i ++ behind)
 
 ready : (w : Whole) (s : Source) (values : Values ℕ) (b : Block) (i : Lined Inst) → AtInst w s b i → Ready w s values i
 unfolding selected
 ready w s values b i a =
     let e = has_ending w.func.blocks w.endings.endings s.block b w.typed.each_ends a.here in
-    let r = parted b.insts s.next i a.inst in
-    let lines : all_lines b.insts ++ ending_lines e.ending ≡ r.before ++ (turn_lines i ++ (r.behind ++ ending_lines e.ending)) =
-    ap (λ ls. ls ++ ending_lines e.ending) r.is
-    ∙ append_assoc r.before (turn_lines i ++ r.behind) (ending_lines e.ending)
-    ∙ ap (λ ls. r.before ++ ls) (append_assoc (turn_lines i) r.behind (ending_lines e.ending)) in
+    let r = parted w.classes b.insts s.next i a.inst in
+    let lines : all_lines w.classes b.insts ++ ending_lines w.classes e.ending ≡ r.before ++ (turn_lines w.classes i ++ (r.behind ++ ending_lines w.classes e.ending)) =
+    ap (λ ls. ls ++ ending_lines w.classes e.ending) r.is
+    ∙ append_assoc r.before (turn_lines w.classes i ++ r.behind) (ending_lines w.classes e.ending)
+    ∙ ap (λ ls. r.before ++ ls) (append_assoc (turn_lines w.classes i) r.behind (ending_lines w.classes e.ending)) in
     record {
-      block = block_of b e.ending;
-      behind = r.behind ++ ending_lines e.ending;
+      block = block_of w.classes b e.ending;
+      behind = r.behind ++ ending_lines w.classes e.ending;
       left = record {
-        here = block_at w.func.blocks w.endings.endings (map edge_of w.endings.edges) s.block b e.ending a.here e.is;
+        here = block_at w.classes w.func.blocks w.endings.endings (map (edge_of w.classes) w.endings.edges) s.block b e.ending a.here e.is;
         before = r.before;
         lines = lines;
-        place = ap (λ o. offset_in o s.next) a.here ∙ r.place;
+        place = ap (λ o. offset_in w.classes o s.next) a.here ∙ r.place;
       };
     }
 
@@ -127,7 +128,7 @@ record Ticked (w : Whole) (s : Source) (values : Values ℕ) (i : Lined Inst) : 
   block : VirtualBlock ℕ
   behind : List (Line ℕ)
   goes : go (within w) (at w s values) ≡ Does (On (ticked w s values (inst_weight i.item)))
-  left : Left (within w) (ticked w s values (inst_weight i.item)) block (inst_lines i.item ++ behind)
+  left : Left (within w) (ticked w s values (inst_weight i.item)) block (inst_lines w.classes i.item ++ behind)
 
 tick : (w : Whole) (s : Source) (values : Values ℕ) (b : Block) (i : Lined Inst) → AtInst w s b i → nat_lt s.spent.turns w.given.turns ≡ true → Ticked w s values i
 unfolding line_step
@@ -140,9 +141,9 @@ tick w s values b i a more =
       block = r.block;
       behind = r.behind;
       goes =
-          goes_line (within w) t r.block (Tick true weight) (inst_lines i.item ++ r.behind) r.left
+          goes_line (within w) t r.block (Tick true weight) (inst_lines w.classes i.item ++ r.behind) r.left
           ∙ ap (λ x. cond x (Does (On u)) (Does (Over (Ended s.spent Turns)))) more;
-      left = left_further (within w) t u r.block (Tick true weight) (inst_lines i.item ++ r.behind) r.left refl refl;
+      left = left_further (within w) t u r.block (Tick true weight) (inst_lines w.classes i.item ++ r.behind) r.left refl refl;
     }
 
 pub stopped : (w : Whole) (s : Source) (values : Values ℕ) (b : Block) (i : Lined Inst) → AtInst w s b i → nat_lt s.spent.turns w.given.turns ≡ false → go (within w) (at w s values) ≡ Does (Over (Ended s.spent Turns))
@@ -151,7 +152,7 @@ stopped w s values b i a none =
     let r = ready w s values b i a in
     let t = at w s values in
     let weight = inst_weight i.item in
-    goes_line (within w) t r.block (Tick true weight) (inst_lines i.item ++ r.behind) r.left
+    goes_line (within w) t r.block (Tick true weight) (inst_lines w.classes i.item ++ r.behind) r.left
     ∙ ap (λ x. cond x (Does (On (ticked w s values weight))) (Does (Over (Ended s.spent Turns)))) none
 
 -- the state behind the instruction
@@ -159,19 +160,19 @@ abbrev next_of : Source → ℕ → Source
 next_of s weight = record s { next = s.next + 1; spent = both s.spent (one_turn weight) }
 
 -- the lines of the instruction lead to a state that is related to `now`
-pub lines_come : (w : Whole) (s now : Source) (values : Values ℕ) (b : Block) (i : Lined Inst) (u : State ℕ) → AtInst w s b i → nat_lt s.spent.turns w.given.turns ≡ true → Go (within w) (inst_lines i.item) (ticked w s values (inst_weight i.item)) u → now.block ≡ s.block → now.next ≡ s.next + 1 → u.memory ≡ now.memory → u.owned ≡ now.locals.owned → u.spent ≡ now.spent → Holds w.typed.classes now.locals.temps u.values → ComesTo w (at w s values) now
+pub lines_come : (w : Whole) (s now : Source) (values : Values ℕ) (b : Block) (i : Lined Inst) (u : State ℕ) → AtInst w s b i → nat_lt s.spent.turns w.given.turns ≡ true → Go (within w) (inst_lines w.classes i.item) (ticked w s values (inst_weight i.item)) u → now.block ≡ s.block → now.next ≡ s.next + 1 → u.memory ≡ now.memory → u.owned ≡ now.locals.owned → u.spent ≡ now.spent → Holds w.classes now.locals.temps u.values → ComesTo w (at w s values) now
 lines_come w s now values b i u a more g block next memory owned spent holds =
     let c = within w in
     let r = tick w s values b i a more in
     let t = at w s values in
     let t2 = ticked w s values (inst_weight i.item) in
-    let d = gone c t2 u r.block (inst_lines i.item) r.behind r.left g in
-    let further = lines_further b.insts s.next i a.inst in
-    let from : offset w s.block s.next ≡ lines_before b.insts s.next = ap (λ o. offset_in o s.next) a.here in
-    let to : offset w now.block now.next ≡ lines_before b.insts (s.next + 1) = ap (λ k. offset w k now.next) block ∙ ap (λ o. offset_in o now.next) a.here ∙ ap (lines_before b.insts) next in
+    let d = gone c t2 u r.block (inst_lines w.classes i.item) r.behind r.left g in
+    let further = lines_further w.classes b.insts s.next i a.inst in
+    let from : offset w s.block s.next ≡ lines_before w.classes b.insts s.next = ap (λ o. offset_in w.classes o s.next) a.here in
+    let to : offset w now.block now.next ≡ lines_before w.classes b.insts (s.next + 1) = ap (λ k. offset w k now.next) block ∙ ap (λ o. offset_in w.classes o now.next) a.here ∙ ap (lines_before w.classes b.insts) next in
     let dn = d.next in
     let place : u.next ≡ offset w now.block now.next = omega (arith, further, from, to, dn) in (
-      suc (length (inst_lines i.item)),
+      suc (length (inst_lines w.classes i.item)),
       (
         u,
         (t, refl, (On t2, r.goes, d.leads)),
@@ -188,13 +189,13 @@ lined line x = record { line = line; item = x }
 abbrev pub Matched : Whole → Source → Values ℕ → InstEffect → Type 0
 Matched w s values e = MatchesEvent (Related w) Fine (go (within w)) (goes_on w.given s e) (at w s values)
 
-value_matched : (w : Whole) (s : Source) (values : Values ℕ) (b : Block) (i : Lined Inst) (p : ℕ) (k : Class) (x : Value) → AtInst w s b i → nat_lt s.spent.turns w.given.turns ≡ true → Holds w.typed.classes s.locals.temps values → w.typed.classes p ≡ k → inst_weight i.item ≡ 1 → Yields (within w) (ticked w s values (inst_weight i.item)) (inst_lines i.item) p (held k x) → Matched w s values (assigned s.locals s.memory p (Some x))
+value_matched : (w : Whole) (s : Source) (values : Values ℕ) (b : Block) (i : Lined Inst) (p : ℕ) (k : Class) (x : Value) → AtInst w s b i → nat_lt s.spent.turns w.given.turns ≡ true → Holds w.classes s.locals.temps values → w.classes p ≡ k → inst_weight i.item ≡ 1 → Yields (within w) (ticked w s values (inst_weight i.item)) (inst_lines w.classes i.item) p (held k x) → Matched w s values (assigned s.locals s.memory p (Some x))
 value_matched w s values b i p k x a more holds class weight y =
     lines_come w s (record (next_of s 1) { locals = record s.locals { temps = slice_set s.locals.temps p (Some x) } }) values b i y.after a more y.goes refl refl y.memory y.owned
     (y.spent ∙ ap (λ n. both s.spent (one_turn n)) weight)
-    (yielded_holds (within w) (ticked w s values (inst_weight i.item)) (inst_lines i.item) p k x w.typed.classes s.locals.temps class y holds)
+    (yielded_holds (within w) (ticked w s values (inst_weight i.item)) (inst_lines w.classes i.item) p k x w.classes s.locals.temps class y holds)
 
-unary_matched : (w : Whole) (s : Source) (values : Values ℕ) (b : Block) (line : ℕ) (to : Dest) (op : _) (a : Val) → AtInst w s b (lined line (Unary to op a)) → nat_lt s.spent.turns w.given.turns ≡ true → Holds w.typed.classes s.locals.temps values → InstFits w.typed.classes (Unary to op a) → Matched w s values (inst_effect w.globals s.locals s.memory (Unary to op a))
+unary_matched : (w : Whole) (s : Source) (values : Values ℕ) (b : Block) (line : ℕ) (to : Dest) (op : _) (a : Val) → AtInst w s b (lined line (Unary to op a)) → nat_lt s.spent.turns w.given.turns ≡ true → Holds w.classes s.locals.temps values → InstFits w.classes (Unary to op a) → Matched w s values (inst_effect w.globals s.locals s.memory (Unary to op a))
 unfolding inst_effect
 unary_matched w s values b line to op a here more holds fits = by (operand w.globals s.locals.temps (operand_class op to.class) a) refl
   where
@@ -202,14 +203,15 @@ unary_matched w s values b line to op a here more holds fits = by (operand w.glo
     by_value u None e f = λ fine. absurd fine
     by_value u (Some x) e f =
         value_matched w s values b (lined line (Unary to op a)) to.temp to.class x here more holds fits.0 refl
-        (unary_yields (within w) (ticked w s values 1) to.temp op to.class (operand_of a) u x fits.1
-        (reads w.typed.classes w.globals s.locals.temps values (operand_class op to.class) a u fits.2 holds e) f)
+        (unary_yields w.classes (within w) (ticked w s values 1) to.temp op to.class (operand_of a) u x fits.1
+        (reads w.classes w.globals s.locals.temps values (operand_class op to.class) a u fits.2 holds e)
+        (stands w.classes w.globals s.locals.temps values (operand_class op to.class) a u holds e) f)
 
     by : (u : Option Value) → operand w.globals s.locals.temps (operand_class op to.class) a ≡ u → Matched w s values (assigned s.locals s.memory to.temp (option_and_then (operate_one s.memory op to.class) u))
     by None e = λ fine. absurd fine
     by (Some u) e = by_value u (operate_one s.memory op to.class u) e refl
 
-binary_matched : (w : Whole) (s : Source) (values : Values ℕ) (b : Block) (line : ℕ) (to : Dest) (op : _) (a c : Val) → AtInst w s b (lined line (Binary to op a c)) → nat_lt s.spent.turns w.given.turns ≡ true → Holds w.typed.classes s.locals.temps values → InstFits w.typed.classes (Binary to op a c) → Matched w s values (inst_effect w.globals s.locals s.memory (Binary to op a c))
+binary_matched : (w : Whole) (s : Source) (values : Values ℕ) (b : Block) (line : ℕ) (to : Dest) (op : _) (a c : Val) → AtInst w s b (lined line (Binary to op a c)) → nat_lt s.spent.turns w.given.turns ≡ true → Holds w.classes s.locals.temps values → InstFits w.classes (Binary to op a c) → Matched w s values (inst_effect w.globals s.locals s.memory (Binary to op a c))
 unfolding inst_effect
 binary_matched w s values b line to op a c here more holds fits = by (operand w.globals s.locals.temps (left_class op to.class) a) (operand w.globals s.locals.temps (right_class op to.class) c) refl refl
   where
@@ -217,16 +219,18 @@ binary_matched w s values b line to op a c here more holds fits = by (operand w.
     by_value u v None e f g = λ fine. absurd fine
     by_value u v (Some x) e f g =
         value_matched w s values b (lined line (Binary to op a c)) to.temp to.class x here more holds fits.0 refl
-        (binary_yields (within w) (ticked w s values 1) to.temp op to.class (operand_of a) (operand_of c) u v x
-        (reads w.typed.classes w.globals s.locals.temps values (left_class op to.class) a u fits.1 holds e)
-        (reads w.typed.classes w.globals s.locals.temps values (right_class op to.class) c v fits.2 holds f) g)
+        (binary_yields w.classes (within w) (ticked w s values 1) to.temp op to.class (operand_of a) (operand_of c) u v x
+        (reads w.classes w.globals s.locals.temps values (left_class op to.class) a u fits.1 holds e)
+        (reads w.classes w.globals s.locals.temps values (right_class op to.class) c v fits.2 holds f)
+        (stands w.classes w.globals s.locals.temps values (left_class op to.class) a u holds e)
+        (stands w.classes w.globals s.locals.temps values (right_class op to.class) c v holds f) g)
 
     by : (u v : Option Value) → operand w.globals s.locals.temps (left_class op to.class) a ≡ u → operand w.globals s.locals.temps (right_class op to.class) c ≡ v → Matched w s values (assigned s.locals s.memory to.temp (option_and_then (λ y. option_and_then (λ z. operate_two s.memory op to.class y z) v) u))
     by None v e f = λ fine. absurd fine
     by (Some u) None e f = λ fine. absurd fine
     by (Some u) (Some v) e f = by_value u v (operate_two s.memory op to.class u v) e f refl
 
-alloc_matched : (w : Whole) (s : Source) (values : Values ℕ) (b : Block) (line : ℕ) (to : Dest) (alignment : _) (size : ℕ) → AtInst w s b (lined line (AllocInst to alignment size)) → nat_lt s.spent.turns w.given.turns ≡ true → Holds w.typed.classes s.locals.temps values → InstFits w.typed.classes (AllocInst to alignment size) → Matched w s values (inst_effect w.globals s.locals s.memory (AllocInst to alignment size))
+alloc_matched : (w : Whole) (s : Source) (values : Values ℕ) (b : Block) (line : ℕ) (to : Dest) (alignment : _) (size : ℕ) → AtInst w s b (lined line (AllocInst to alignment size)) → nat_lt s.spent.turns w.given.turns ≡ true → Holds w.classes s.locals.temps values → InstFits w.classes (AllocInst to alignment size) → Matched w s values (inst_effect w.globals s.locals s.memory (AllocInst to alignment size))
 unfolding inst_effect line_step
 alloc_matched w s values b line to alignment size here more holds fits =
     let x = Pointer (length s.memory) 0 in
@@ -235,26 +239,26 @@ alloc_matched w s values b line to alignment size here more holds fits =
     lines_come w s
     (record (next_of s 1) { locals = record { temps = slice_set s.locals.temps to.temp (Some x); owned = s.locals.owned ++ length s.memory ∷ [] }; memory = fresh s.memory size })
     values b (lined line (AllocInst to alignment size)) u here more (u, refl, refl, refl, refl) refl refl refl refl refl
-    (put_holds w.typed.classes s.locals.temps values to.temp L x fits holds)
+    (put_holds w.classes s.locals.temps values to.temp L x fits holds)
 
 -- ---- instructions that change memory
 
-memory_matched : (w : Whole) (s : Source) (values : Values ℕ) (b : Block) (i : Lined Inst) (l : Line ℕ) (m : Memory) → AtInst w s b i → nat_lt s.spent.turns w.given.turns ≡ true → Holds w.typed.classes s.locals.temps values → inst_lines i.item ≡ l ∷ [] → line_step virtual w.globals w.given (ticked w s values (inst_weight i.item)) l ≡ changes (ticked w s values (inst_weight i.item)) (Some m) → Matched w s values (changed s.locals (inst_weight i.item) (Some m))
+memory_matched : (w : Whole) (s : Source) (values : Values ℕ) (b : Block) (i : Lined Inst) (l : Line ℕ) (m : Memory) → AtInst w s b i → nat_lt s.spent.turns w.given.turns ≡ true → Holds w.classes s.locals.temps values → inst_lines w.classes i.item ≡ l ∷ [] → line_step virtual w.globals w.given (ticked w s values (inst_weight i.item)) l ≡ changes (ticked w s values (inst_weight i.item)) (Some m) → Matched w s values (changed s.locals (inst_weight i.item) (Some m))
 memory_matched w s values b i l m here more holds lines e =
     let t = ticked w s values (inst_weight i.item) in
     let u : State ℕ = record t { next = t.next + 1; memory = m } in
     lines_come w s (record (next_of s (inst_weight i.item)) { memory = m }) values b i u here more
     (subst (λ ls. Go (within w) ls t u) (sym lines) (u, e, refl, refl, refl)) refl refl refl refl refl holds
 
-store_matched : (w : Whole) (s : Source) (values : Values ℕ) (b : Block) (line : ℕ) (size : _) (a p : Val) → AtInst w s b (lined line (StoreInst size a p)) → nat_lt s.spent.turns w.given.turns ≡ true → Holds w.typed.classes s.locals.temps values → InstFits w.typed.classes (StoreInst size a p) → Matched w s values (inst_effect w.globals s.locals s.memory (StoreInst size a p))
+store_matched : (w : Whole) (s : Source) (values : Values ℕ) (b : Block) (line : ℕ) (size : _) (a p : Val) → AtInst w s b (lined line (StoreInst size a p)) → nat_lt s.spent.turns w.given.turns ≡ true → Holds w.classes s.locals.temps values → InstFits w.classes (StoreInst size a p) → Matched w s values (inst_effect w.globals s.locals s.memory (StoreInst size a p))
 unfolding inst_effect line_step
 store_matched w s values b line size a p here more holds fits = by (operand w.globals s.locals.temps (stored_class size) a) (operand w.globals s.locals.temps L p) refl refl
   where
     by_memory : (v q : Value) (m : Option Memory) → operand w.globals s.locals.temps (stored_class size) a ≡ Some v → operand w.globals s.locals.temps L p ≡ Some q → store s.memory (byte_count size) q v ≡ m → Matched w s values (changed s.locals 1 m)
     by_memory v q None e f g = λ fine. absurd fine
     by_memory v q (Some m) e f g =
-        let r = read_same w.globals values (operand_of a) (stored_class size) v (reads w.typed.classes w.globals s.locals.temps values (stored_class size) a v fits.0 holds e) in
-        let d = long_same w.globals values (operand_of p) q (reads w.typed.classes w.globals s.locals.temps values L p q fits.1 holds f) in
+        let r = read_same w.globals values (operand_of a) (stored_class size) v (reads w.classes w.globals s.locals.temps values (stored_class size) a v fits.0 holds e) in
+        let d = long_same w.globals values (operand_of p) q (reads w.classes w.globals s.locals.temps values L p q fits.1 holds f) in
         memory_matched w s values b (lined line (StoreInst size a p)) (Store size (operand_of a) (operand_of p)) m here more holds refl
         (ap (λ o. changes (ticked w s values 1) (option_and_then (λ y. option_and_then (λ z. store s.memory (byte_count size) z y) (value_of w.globals values (operand_of p))) o)) r
         ∙ ap (λ o. changes (ticked w s values 1) (option_and_then (λ z. store s.memory (byte_count size) z v) o)) d
@@ -265,15 +269,15 @@ store_matched w s values b line size a p here more holds fits = by (operand w.gl
     by (Some v) None e f = λ fine. absurd fine
     by (Some v) (Some q) e f = by_memory v q (store s.memory (byte_count size) q v) e f refl
 
-blit_matched : (w : Whole) (s : Source) (values : Values ℕ) (b : Block) (line : ℕ) (from to : Val) (count : ℕ) → AtInst w s b (lined line (BlitInst from to count)) → nat_lt s.spent.turns w.given.turns ≡ true → Holds w.typed.classes s.locals.temps values → InstFits w.typed.classes (BlitInst from to count) → Matched w s values (inst_effect w.globals s.locals s.memory (BlitInst from to count))
+blit_matched : (w : Whole) (s : Source) (values : Values ℕ) (b : Block) (line : ℕ) (from to : Val) (count : ℕ) → AtInst w s b (lined line (BlitInst from to count)) → nat_lt s.spent.turns w.given.turns ≡ true → Holds w.classes s.locals.temps values → InstFits w.classes (BlitInst from to count) → Matched w s values (inst_effect w.globals s.locals s.memory (BlitInst from to count))
 unfolding inst_effect line_step
 blit_matched w s values b line from to count here more holds fits = by (operand w.globals s.locals.temps L from) (operand w.globals s.locals.temps L to) refl refl
   where
     by_memory : (p q : Value) (m : Option Memory) → operand w.globals s.locals.temps L from ≡ Some p → operand w.globals s.locals.temps L to ≡ Some q → copy s.memory count p q ≡ m → Matched w s values (changed s.locals (blit_weight count) m)
     by_memory p q None e f g = λ fine. absurd fine
     by_memory p q (Some m) e f g =
-        let r = long_same w.globals values (operand_of from) p (reads w.typed.classes w.globals s.locals.temps values L from p fits.0 holds e) in
-        let d = long_same w.globals values (operand_of to) q (reads w.typed.classes w.globals s.locals.temps values L to q fits.1 holds f) in
+        let r = long_same w.globals values (operand_of from) p (reads w.classes w.globals s.locals.temps values L from p fits.0 holds e) in
+        let d = long_same w.globals values (operand_of to) q (reads w.classes w.globals s.locals.temps values L to q fits.1 holds f) in
         memory_matched w s values b (lined line (BlitInst from to count)) (Blit (operand_of from) (operand_of to) count) m here more holds refl
         (ap (λ o. changes (ticked w s values (blit_weight count)) (option_and_then (λ y. option_and_then (λ z. copy s.memory count y z) (value_of w.globals values (operand_of to))) o)) r
         ∙ ap (λ o. changes (ticked w s values (blit_weight count)) (option_and_then (λ z. copy s.memory count p z) o)) d
@@ -302,12 +306,12 @@ Resumed w s values to args callee o =
 
 call_place : (w : Whole) (s : Source) (b : Block) (line : ℕ) (to : Option Dest) (callee : Val) (args : List Arg) → AtInst w s b (lined line (CallInst to callee args)) → offset w s.block s.next + 1 + 1 ≡ offset w s.block (s.next + 1)
 call_place w s b line to callee args a =
-    let further = lines_further b.insts s.next (lined line (CallInst to callee args)) a.inst in
-    let from : offset w s.block s.next ≡ lines_before b.insts s.next = ap (λ o. offset_in o s.next) a.here in
-    let next : offset w s.block (s.next + 1) ≡ lines_before b.insts (s.next + 1) = ap (λ o. offset_in o (s.next + 1)) a.here in
+    let further = lines_further w.classes b.insts s.next (lined line (CallInst to callee args)) a.inst in
+    let from : offset w s.block s.next ≡ lines_before w.classes b.insts s.next = ap (λ o. offset_in w.classes o s.next) a.here in
+    let next : offset w s.block (s.next + 1) ≡ lines_before w.classes b.insts (s.next + 1) = ap (λ o. offset_in w.classes o (s.next + 1)) a.here in
     omega (arith, further, from, next)
 
-call_received : (w : Whole) (s : Source) (values : Values ℕ) (b : Block) (line : ℕ) (to : Option Dest) (callee : Val) (args : List Arg) → AtInst w s b (lined line (CallInst to callee args)) → Holds w.typed.classes s.locals.temps values → TakesWanted w.typed.classes to → (t : Spent) (v : Option Value) (m : Memory) → Resumed w s values to args callee (Returned t v m)
+call_received : (w : Whole) (s : Source) (values : Values ℕ) (b : Block) (line : ℕ) (to : Option Dest) (callee : Val) (args : List Arg) → AtInst w s b (lined line (CallInst to callee args)) → Holds w.classes s.locals.temps values → TakesWanted w.classes to → (t : Spent) (v : Option Value) (m : Memory) → Resumed w s values to args callee (Returned t v m)
 call_received w s values b line None callee args a holds takes t v m =
     let u : State ℕ = record (ticked w s values (call_weight args)) { next = offset w s.block s.next + 1 + 1; memory = m; spent = both (both s.spent (one_turn (call_weight args))) t } in
     (0, (u, refl, record { holds = holds; is = is_at w (record (next_of s (call_weight args)) { memory = m; spent = both (both s.spent (one_turn (call_weight args))) t }) u refl (call_place w s b line None callee args a) refl refl refl }))
@@ -319,17 +323,17 @@ call_received w s values b line (Some d) callee args a holds takes t (Some v) m 
         u,
         refl,
         record {
-          holds = put_holds w.typed.classes s.locals.temps values d.temp d.class v takes holds;
+          holds = put_holds w.classes s.locals.temps values d.temp d.class v takes holds;
           is = is_at w (record (next_of s (call_weight args)) { locals = record s.locals { temps = slice_set s.locals.temps d.temp (Some v) }; memory = m; spent = both (both s.spent (one_turn (call_weight args))) t }) u refl (call_place w s b line (Some d) callee args a) refl refl refl;
         },
       ),
     )
 
-call_resumed : (w : Whole) (s : Source) (values : Values ℕ) (b : Block) (line : ℕ) (to : Option Dest) (callee : Val) (args : List Arg) → AtInst w s b (lined line (CallInst to callee args)) → Holds w.typed.classes s.locals.temps values → TakesWanted w.typed.classes to → (o : Outcome) → Resumed w s values to args callee o
+call_resumed : (w : Whole) (s : Source) (values : Values ℕ) (b : Block) (line : ℕ) (to : Option Dest) (callee : Val) (args : List Arg) → AtInst w s b (lined line (CallInst to callee args)) → Holds w.classes s.locals.temps values → TakesWanted w.classes to → (o : Outcome) → Resumed w s values to args callee o
 call_resumed w s values b line to callee args a holds takes (Returned t v m) = call_received w s values b line to callee args a holds takes t v m
 call_resumed w s values b line to callee args a holds takes (Ended t e) = λ fine. (0, refl)
 
-call_matched : (w : Whole) (s : Source) (values : Values ℕ) (b : Block) (line : ℕ) (to : Option Dest) (callee : Val) (args : List Arg) → AtInst w s b (lined line (CallInst to callee args)) → nat_lt s.spent.turns w.given.turns ≡ true → Holds w.typed.classes s.locals.temps values → InstFits w.typed.classes (CallInst to callee args) → Matched w s values (inst_effect w.globals s.locals s.memory (CallInst to callee args))
+call_matched : (w : Whole) (s : Source) (values : Values ℕ) (b : Block) (line : ℕ) (to : Option Dest) (callee : Val) (args : List Arg) → AtInst w s b (lined line (CallInst to callee args)) → nat_lt s.spent.turns w.given.turns ≡ true → Holds w.classes s.locals.temps values → InstFits w.classes (CallInst to callee args) → Matched w s values (inst_effect w.globals s.locals s.memory (CallInst to callee args))
 unfolding inst_effect line_step
 call_matched w s values b line to callee args here more holds fits = by (operand w.globals s.locals.temps L callee) (all_operands w.globals s.locals.temps args) refl refl
   where
@@ -344,8 +348,8 @@ call_matched w s values b line to callee args here more holds fits = by (operand
         let t = at w s values in
         let t2 = ticked w s values (call_weight args) in
         let r = tick w s values b i here more in
-        let known = long_same w.globals values (operand_of callee) (Function f) (reads w.typed.classes w.globals s.locals.temps values L callee (Function f) fits.1 holds e) in
-        let given = arguments_read w.typed.classes w.globals s.locals.temps values holds args vs fits.2 g in
+        let known = long_same w.globals values (operand_of callee) (Function f) (reads w.classes w.globals s.locals.temps values L callee (Function f) fits.1 holds e) in
+        let given = arguments_read w.classes w.globals s.locals.temps values holds args vs fits.2 g in
         let call : List Class → Option Class → Event (State ℕ) Asked Outcome = λ ks wants. Calls (record { call = record { callee = f; classes = ks; wants = wants; args = vs }; turns = w.given.turns - (s.spent.turns + 1); room = w.given.room; memory = s.memory }) (resumes virtual t2 (option_map destination_of to)) in (
           1,
           (
@@ -365,7 +369,7 @@ call_matched w s values b line to callee args here more holds fits = by (operand
 
 -- ---- every instruction
 
-pub inst_matched : (w : Whole) (s : Source) (values : Values ℕ) (b : Block) (line : ℕ) (x : Inst) → AtInst w s b (lined line x) → nat_lt s.spent.turns w.given.turns ≡ true → Holds w.typed.classes s.locals.temps values → InstFits w.typed.classes x → Matched w s values (inst_effect w.globals s.locals s.memory x)
+pub inst_matched : (w : Whole) (s : Source) (values : Values ℕ) (b : Block) (line : ℕ) (x : Inst) → AtInst w s b (lined line x) → nat_lt s.spent.turns w.given.turns ≡ true → Holds w.classes s.locals.temps values → InstFits w.classes x → Matched w s values (inst_effect w.globals s.locals s.memory x)
 inst_matched w s values b line (Unary to op a) here more holds fits = unary_matched w s values b line to op a here more holds fits
 inst_matched w s values b line (Binary to op a c) here more holds fits = binary_matched w s values b line to op a c here more holds fits
 inst_matched w s values b line (AllocInst to alignment size) here more holds fits = alloc_matched w s values b line to alignment size here more holds fits

@@ -18,6 +18,7 @@ use Rattle.vcode.specs.declared.code.Block.{Block as VirtualBlock}
 use Rattle.vcode.specs.Outgoing.{most_in_lines, most_in_blocks, outgoing}
 use Rattle.vcode.specs.Regular.{area}
 use Rattle.select.specs.Selected.{operand_of, argument_of, inst_lines, turn_lines, all_lines, copy_lines, unary_lines, binary_lines, assignment_lines, ending_lines, edge_of, blocks_of, selected}
+use Rattle.select.specs.Typed.{Classes}
 use Rattle.select.proofs.UsedPlaces.{Sets, copy_sets, unary_sets, binary_sets}
 use Rattle.select.proofs.Regular.{area_is}
 
@@ -38,49 +39,49 @@ both_most : (xs ys : List (Line ℕ)) (n : ℕ) → most_in_lines xs ≤ n → m
 both_most [] ys n h k = k
 both_most (x ∷ xs) ys n h k = let rest = both_most xs ys n (omega (arith, h)) k in omega (arith, h, rest)
 
-inst_passes : (x : Inst) → most_in_lines (inst_lines x) ≤ inst_args x
-inst_passes (Unary to op a) = let e = none_passed to.temp (operand_of a ∷ []) (unary_lines to.temp op to.class (operand_of a)) (unary_sets to.temp op to.class (operand_of a)) in omega (arith, e)
-inst_passes (Binary to op a b) = let e = none_passed to.temp (operand_of a ∷ operand_of b ∷ []) (binary_lines to.temp op to.class (operand_of a) (operand_of b)) (binary_sets to.temp op to.class (operand_of a) (operand_of b)) in omega (arith, e)
-inst_passes (AllocInst to alignment size) = omega arith
-inst_passes (StoreInst size a at) = omega arith
-inst_passes (BlitInst from to count) = omega arith
-inst_passes (CallInst to callee args) =
+inst_passes : (classes : Classes) (x : Inst) → most_in_lines (inst_lines classes x) ≤ inst_args x
+inst_passes classes (Unary to op a) = let e = none_passed to.temp (operand_of a ∷ []) (unary_lines classes to.temp op to.class (operand_of a)) (unary_sets classes to.temp op to.class (operand_of a)) in omega (arith, e)
+inst_passes classes (Binary to op a b) = let e = none_passed to.temp (operand_of a ∷ operand_of b ∷ []) (binary_lines classes to.temp op to.class (operand_of a) (operand_of b)) (binary_sets classes to.temp op to.class (operand_of a) (operand_of b)) in omega (arith, e)
+inst_passes classes (AllocInst to alignment size) = omega arith
+inst_passes classes (StoreInst size a at) = omega arith
+inst_passes classes (BlitInst from to count) = omega arith
+inst_passes classes (CallInst to callee args) =
     let one : length (map argument_of args) ≡ length args = length-map args argument_of in
     omega (arith, one)
 
-copies_pass : (cs : List Assignment) → most_in_lines (assignment_lines cs) ≤ 0
-copies_pass [] = omega arith
-copies_pass (c ∷ cs) =
-    let e = none_passed c.to.temp (operand_of c.value ∷ []) (copy_lines c.to.temp c.to.class (operand_of c.value)) (copy_sets c.to.temp c.to.class (operand_of c.value)) in
-    both_most (copy_lines c.to.temp c.to.class (operand_of c.value)) (assignment_lines cs) 0 (omega (arith, e)) (copies_pass cs)
+copies_pass : (classes : Classes) (cs : List Assignment) → most_in_lines (assignment_lines classes cs) ≤ 0
+copies_pass classes [] = omega arith
+copies_pass classes (c ∷ cs) =
+    let e = none_passed c.to.temp (operand_of c.value ∷ []) (copy_lines classes c.to.temp c.to.class (operand_of c.value)) (copy_sets classes c.to.temp c.to.class (operand_of c.value)) in
+    both_most (copy_lines classes c.to.temp c.to.class (operand_of c.value)) (assignment_lines classes cs) 0 (omega (arith, e)) (copies_pass classes cs)
 
-insts_pass : (insts : List (Lined Inst)) (rest : List (Line ℕ)) → most_in_lines rest ≤ 0 → most_in_lines (all_lines insts ++ rest) ≤ largest_in insts
-insts_pass [] rest h = h
-insts_pass (i ∷ insts) rest h =
-    let one = inst_passes i.item in
-    let more = insts_pass insts rest h in
-    let all = both_most (inst_lines i.item) (all_lines insts ++ rest) (max (inst_args i.item) (largest_in insts)) (omega (arith, one)) (omega (arith, more)) in
-    subst (λ ls. most_in_lines ls ≤ max (inst_args i.item) (largest_in insts)) (sym (append_assoc (turn_lines i) (all_lines insts) rest)) (omega (arith, all))
+insts_pass : (classes : Classes) (insts : List (Lined Inst)) (rest : List (Line ℕ)) → most_in_lines rest ≤ 0 → most_in_lines (all_lines classes insts ++ rest) ≤ largest_in insts
+insts_pass classes [] rest h = h
+insts_pass classes (i ∷ insts) rest h =
+    let one = inst_passes classes i.item in
+    let more = insts_pass classes insts rest h in
+    let all = both_most (inst_lines classes i.item) (all_lines classes insts ++ rest) (max (inst_args i.item) (largest_in insts)) (omega (arith, one)) (omega (arith, more)) in
+    subst (λ ls. most_in_lines ls ≤ max (inst_args i.item) (largest_in insts)) (sym (append_assoc (turn_lines classes i) (all_lines classes insts) rest)) (omega (arith, all))
 
-edges_pass : (es : List Ending) → most_in_blocks (map edge_of es) ≤ 0
-edges_pass [] = omega arith
-edges_pass (e ∷ es) = let one = copies_pass e.copies in let rest = edges_pass es in omega (arith, one, rest)
+edges_pass : (classes : Classes) (es : List Ending) → most_in_blocks (map (edge_of classes) es) ≤ 0
+edges_pass classes [] = omega arith
+edges_pass classes (e ∷ es) = let one = copies_pass classes e.copies in let rest = edges_pass classes es in omega (arith, one, rest)
 
-blocks_pass : (f : Func) (n : ℕ) (bs : List Block) (rest : List (VirtualBlock ℕ)) → most_in_blocks rest ≤ 0 → most_in_blocks (blocks_of bs (all_endings f n bs) ++ rest) ≤ largest_of bs
-blocks_pass f n [] rest h = h
-blocks_pass f n (b ∷ bs) rest h =
+blocks_pass : (classes : Classes) (f : Func) (n : ℕ) (bs : List Block) (rest : List (VirtualBlock ℕ)) → most_in_blocks rest ≤ 0 → most_in_blocks (blocks_of classes bs (all_endings f n bs) ++ rest) ≤ largest_of bs
+blocks_pass classes f n [] rest h = h
+blocks_pass classes f n (b ∷ bs) rest h =
     let ending = block_ending f n b in
-    let copies = copies_pass ending.copies in
-    let one = insts_pass b.insts (ending_lines ending) (omega (arith, copies)) in
-    let more = blocks_pass f (n + length (block_edges f b)) bs rest h in
+    let copies = copies_pass classes ending.copies in
+    let one = insts_pass classes b.insts (ending_lines classes ending) (omega (arith, copies)) in
+    let more = blocks_pass classes f (n + length (block_edges f b)) bs rest h in
     omega (arith, one, more)
 
-pub code_passes : (f : Func) → outgoing (selected f (lowered f)) ≤ largest_of f.blocks
+pub code_passes : (classes : Classes) (f : Func) → outgoing (selected classes f (lowered f)) ≤ largest_of f.blocks
 unfolding selected lowered
-code_passes f = blocks_pass f 0 f.blocks (map edge_of (all_edges f f.blocks)) (edges_pass (all_edges f f.blocks))
+code_passes classes f = blocks_pass classes f 0 f.blocks (map (edge_of classes) (all_edges f f.blocks)) (edges_pass classes (all_edges f f.blocks))
 
 -- ---- blocks of memory
 
-pub code_area : (f : Func) → area (selected f (lowered f)) ≡ alloc_area f
+pub code_area : (classes : Classes) (f : Func) → area (selected classes f (lowered f)) ≡ alloc_area f
 unfolding selected lowered
-code_area f = area_is f
+code_area classes f = area_is classes f

@@ -8,15 +8,19 @@ use Rattle.il_ast.specs.declared.operation.Extension.{Extension}
 use Rattle.il_ast.specs.declared.operation.Extension.TheVariants.{SignedWord, UnsignedWord, SignedHalf, UnsignedHalf, SignedByte, UnsignedByte}
 use Rattle.il_ast.specs.declared.operation.UnaryOp.{UnaryOp}
 use Rattle.il_ast.specs.declared.operation.UnaryOp.TheVariants.{Neg, Copy, Extend, LoadLong, Load as LoadNarrow}
+use Rattle.il_ast.specs.declared.operation.Condition.{Condition}
 use Rattle.il_ast.specs.declared.operation.BinaryOp.{BinaryOp}
 use Rattle.il_ast.specs.declared.operation.BinaryOp.TheVariants.{Add, Sub, Mul, And, Or, Xor, Div, Rem, Udiv, Urem, Sar, Shr, Shl, Compare}
+use Rattle.rv_isa.specs.declared.instruction.RegOp.{RegOp}
+use Rattle.rv_isa.specs.declared.instruction.RegOp.TheVariants.{And as AndReg, Or as OrReg, Xor as XorReg}
 use Rattle.vcode.specs.declared.place.Operand.{Operand}
 use Rattle.vcode.specs.declared.place.Operand.TheVariants.{At, Number, Name}
 use Rattle.vcode.specs.declared.line.Line.{Line}
 use Rattle.vcode.specs.declared.line.Line.TheVariants.{Tick, Set, Operate, Load, Store, Alloc, Blit, Call}
 use Rattle.vcode.specs.Named.{operand_keeps, line_keeps}
 use Rattle.vcode.specs.Regular.{is_alloc, alloc_bytes, turns_of, passes_few}
-use Rattle.select.specs.Selected.{extend_lines, copy_lines, unary_lines, binary_lines}
+use Rattle.select.specs.Selected.{is_whole, are_whole, word, words_compared, comparison_of, word_line, word_of, bits_of_words, bit_lines, compare_line, extend_lines, copy_lines, unary_lines, binary_lines}
+use Rattle.select.specs.Typed.{Classes}
 use Rattle.select.proofs.Typing.{Among}
 
 -- the operand is the register t, or one of these, or no register
@@ -42,41 +46,69 @@ Sets t xs (Alloc p size ∷ ls) = ⊥
 Sets t xs (Blit from to count ∷ ls) = ⊥
 Sets t xs (Call to callee args ∷ ls) = ⊥
 
-pub copy_sets : (t : ℕ) (k : Class) (a : Operand ℕ) → Sets t (a ∷ []) (copy_lines t k a)
-copy_sets t W a = (refl, among_in t (a ∷ []) a (inl refl), tt, tt)
-copy_sets t L a = (refl, among_in t (a ∷ []) a (inl refl), tt)
+-- an operand's word is in no other register
+word_in : (t : ℕ) (xs : List (Operand ℕ)) (a : Operand ℕ) → In t xs a → In t xs (word a)
+word_in t xs (At p) i = i
+word_in t xs (Number n) i = tt
+word_in t xs (Name g) i = tt
 
-extend_sets : (t : ℕ) (e : Extension) (a : Operand ℕ) → Sets t (a ∷ []) (extend_lines t e a)
-extend_sets t SignedWord a = (refl, among_in t (a ∷ []) a (inl refl), tt, tt)
-extend_sets t UnsignedWord a = (refl, among_in t (a ∷ []) a (inl refl), tt, (refl, inl refl, tt, tt))
-extend_sets t SignedHalf a = (refl, among_in t (a ∷ []) a (inl refl), tt, (refl, inl refl, tt, tt))
-extend_sets t UnsignedHalf a = (refl, among_in t (a ∷ []) a (inl refl), tt, (refl, inl refl, tt, tt))
-extend_sets t SignedByte a = (refl, among_in t (a ∷ []) a (inl refl), tt, (refl, inl refl, tt, tt))
-extend_sets t UnsignedByte a = (refl, among_in t (a ∷ []) a (inl refl), tt, tt)
-
-pub unary_sets : (t : ℕ) (op : UnaryOp) (k : Class) (a : Operand ℕ) → Sets t (a ∷ []) (unary_lines t op k a)
-unary_sets t Neg W a = (refl, tt, among_in t (a ∷ []) a (inl refl), tt)
-unary_sets t Neg L a = (refl, tt, among_in t (a ∷ []) a (inl refl), tt)
-unary_sets t Copy k a = copy_sets t k a
-unary_sets t (Extend e) k a = extend_sets t e a
-unary_sets t LoadLong k a = (refl, among_in t (a ∷ []) a (inl refl), tt)
-unary_sets t (LoadNarrow e) k a = (refl, among_in t (a ∷ []) a (inl refl), tt)
-
-pub binary_sets : (t : ℕ) (op : BinaryOp) (k : Class) (a b : Operand ℕ) → Sets t (a ∷ b ∷ []) (binary_lines t op k a b)
-binary_sets t op k a b = by op k (among_in t (a ∷ b ∷ []) a (inl refl)) (among_in t (a ∷ b ∷ []) b (inr (inl refl)))
+word_sets : (classes : Classes) (t : ℕ) (a : Operand ℕ) → Sets t (a ∷ []) (word_of classes t a ∷ [])
+word_sets classes t a = by (is_whole classes a)
   where
-    by : (o : BinaryOp) (c : Class) → In t (a ∷ b ∷ []) a → In t (a ∷ b ∷ []) b → Sets t (a ∷ b ∷ []) (binary_lines t o c a b)
+    by : (whole : Bool) → Sets t (a ∷ []) (word_line t a whole ∷ [])
+    by true = (refl, word_in t (a ∷ []) a (among_in t (a ∷ []) a (inl refl)), tt)
+    by false = (refl, among_in t (a ∷ []) a (inl refl), tt, tt)
+
+pub copy_sets : (classes : Classes) (t : ℕ) (k : Class) (a : Operand ℕ) → Sets t (a ∷ []) (copy_lines classes t k a)
+copy_sets classes t W a = word_sets classes t a
+copy_sets classes t L a = (refl, among_in t (a ∷ []) a (inl refl), tt)
+
+extend_sets : (classes : Classes) (t : ℕ) (e : Extension) (a : Operand ℕ) → Sets t (a ∷ []) (extend_lines classes t e a)
+extend_sets classes t SignedWord a = word_sets classes t a
+extend_sets classes t UnsignedWord a = (refl, among_in t (a ∷ []) a (inl refl), tt, (refl, inl refl, tt, tt))
+extend_sets classes t SignedHalf a = (refl, among_in t (a ∷ []) a (inl refl), tt, (refl, inl refl, tt, tt))
+extend_sets classes t UnsignedHalf a = (refl, among_in t (a ∷ []) a (inl refl), tt, (refl, inl refl, tt, tt))
+extend_sets classes t SignedByte a = (refl, among_in t (a ∷ []) a (inl refl), tt, (refl, inl refl, tt, tt))
+extend_sets classes t UnsignedByte a = (refl, among_in t (a ∷ []) a (inl refl), tt, tt)
+
+pub unary_sets : (classes : Classes) (t : ℕ) (op : UnaryOp) (k : Class) (a : Operand ℕ) → Sets t (a ∷ []) (unary_lines classes t op k a)
+unary_sets classes t Neg W a = (refl, tt, among_in t (a ∷ []) a (inl refl), tt)
+unary_sets classes t Neg L a = (refl, tt, among_in t (a ∷ []) a (inl refl), tt)
+unary_sets classes t Copy k a = copy_sets classes t k a
+unary_sets classes t (Extend e) k a = extend_sets classes t e a
+unary_sets classes t LoadLong k a = (refl, among_in t (a ∷ []) a (inl refl), tt)
+unary_sets classes t (LoadNarrow e) k a = (refl, among_in t (a ∷ []) a (inl refl), tt)
+
+bits_set : (classes : Classes) (t : ℕ) (op : RegOp) (xs : List (Operand ℕ)) (a b : Operand ℕ) → In t xs a → In t xs b → Sets t xs (bit_lines classes t op a b)
+bits_set classes t op xs a b i j = by (are_whole classes a b)
+  where
+    by : (whole : Bool) → Sets t xs (bits_of_words t op a b whole)
+    by true = (refl, word_in t xs a i, word_in t xs b j, tt)
+    by false = (refl, i, j, (refl, inl refl, tt, tt))
+
+compare_sets : (classes : Classes) (t : ℕ) (on : Condition) (k : Class) (xs : List (Operand ℕ)) (a b : Operand ℕ) → In t xs a → In t xs b → Sets t xs (compare_line t (comparison_of classes on k a b) ∷ [])
+compare_sets classes t on L xs a b i j = (refl, i, j, tt)
+compare_sets classes t on W xs a b i j = by (are_whole classes a b)
+  where
+    by : (whole : Bool) → Sets t xs (compare_line t (words_compared on a b whole) ∷ [])
+    by true = (refl, word_in t xs a i, word_in t xs b j, tt)
+    by false = (refl, i, j, tt)
+
+pub binary_sets : (classes : Classes) (t : ℕ) (op : BinaryOp) (k : Class) (a b : Operand ℕ) → Sets t (a ∷ b ∷ []) (binary_lines classes t op k a b)
+binary_sets classes t op k a b = by op k (among_in t (a ∷ b ∷ []) a (inl refl)) (among_in t (a ∷ b ∷ []) b (inr (inl refl)))
+  where
+    by : (o : BinaryOp) (c : Class) → In t (a ∷ b ∷ []) a → In t (a ∷ b ∷ []) b → Sets t (a ∷ b ∷ []) (binary_lines classes t o c a b)
     by Add W x y = (refl, x, y, tt)
     by Add L x y = (refl, x, y, tt)
     by Sub W x y = (refl, x, y, tt)
     by Sub L x y = (refl, x, y, tt)
     by Mul W x y = (refl, x, y, tt)
     by Mul L x y = (refl, x, y, tt)
-    by And W x y = (refl, x, y, (refl, inl refl, tt, tt))
+    by And W x y = bits_set classes t AndReg (a ∷ b ∷ []) a b x y
     by And L x y = (refl, x, y, tt)
-    by Or W x y = (refl, x, y, (refl, inl refl, tt, tt))
+    by Or W x y = bits_set classes t OrReg (a ∷ b ∷ []) a b x y
     by Or L x y = (refl, x, y, tt)
-    by Xor W x y = (refl, x, y, (refl, inl refl, tt, tt))
+    by Xor W x y = bits_set classes t XorReg (a ∷ b ∷ []) a b x y
     by Xor L x y = (refl, x, y, tt)
     by Div W x y = (refl, x, y, tt)
     by Div L x y = (refl, x, y, tt)
@@ -92,7 +124,7 @@ binary_sets t op k a b = by op k (among_in t (a ∷ b ∷ []) a (inl refl)) (amo
     by Shr L x y = (refl, x, y, tt)
     by Shl W x y = (refl, x, y, tt)
     by Shl L x y = (refl, x, y, tt)
-    by (Compare on j) c x y = (refl, x, y, tt)
+    by (Compare on j) c x y = compare_sets classes t on j (a ∷ b ∷ []) a b x y
 
 -- ---- what follows of such lines
 

@@ -31,6 +31,7 @@ use Rattle.vcode.specs.declared.line.Line.TheVariants.{Tick, Set, Operate, Load,
 use Rattle.vcode.specs.declared.code.Block.{Block as VirtualBlock}
 use Rattle.vcode.specs.Regular.{code_weight, weight_of}
 use Rattle.select.specs.Selected.{operand_of, inst_lines, turn_lines, all_lines, copy_lines, unary_lines, binary_lines, assignment_lines, ending_lines, edge_of, blocks_of, selected}
+use Rattle.select.specs.Typed.{Classes}
 use Rattle.select.proofs.Typing.{Among, neither_second, not_broken, none_among, not_false}
 use Rattle.select.proofs.UsedPlaces.{Sets, copy_sets, unary_sets, binary_sets}
 use Rattle.select.proofs.EachBlock.{IsTarget, is_target}
@@ -49,36 +50,36 @@ sets_weigh t xs (Alloc p size ∷ ls) s = absurd s
 sets_weigh t xs (Blit from to count ∷ ls) s = absurd s
 sets_weigh t xs (Call to callee args ∷ ls) s = absurd s
 
-inst_weighs : (x : Inst) → sum_by weight_of (inst_lines x) ≡ 0
-inst_weighs (Unary to op a) = sets_weigh to.temp (operand_of a ∷ []) (unary_lines to.temp op to.class (operand_of a)) (unary_sets to.temp op to.class (operand_of a))
-inst_weighs (Binary to op a b) = sets_weigh to.temp (operand_of a ∷ operand_of b ∷ []) (binary_lines to.temp op to.class (operand_of a) (operand_of b)) (binary_sets to.temp op to.class (operand_of a) (operand_of b))
-inst_weighs (AllocInst to alignment size) = refl
-inst_weighs (StoreInst size a at) = refl
-inst_weighs (BlitInst from to count) = refl
-inst_weighs (CallInst to callee args) = refl
+inst_weighs : (classes : Classes) (x : Inst) → sum_by weight_of (inst_lines classes x) ≡ 0
+inst_weighs classes (Unary to op a) = sets_weigh to.temp (operand_of a ∷ []) (unary_lines classes to.temp op to.class (operand_of a)) (unary_sets classes to.temp op to.class (operand_of a))
+inst_weighs classes (Binary to op a b) = sets_weigh to.temp (operand_of a ∷ operand_of b ∷ []) (binary_lines classes to.temp op to.class (operand_of a) (operand_of b)) (binary_sets classes to.temp op to.class (operand_of a) (operand_of b))
+inst_weighs classes (AllocInst to alignment size) = refl
+inst_weighs classes (StoreInst size a at) = refl
+inst_weighs classes (BlitInst from to count) = refl
+inst_weighs classes (CallInst to callee args) = refl
 
-insts_weigh : (insts : List (Lined Inst)) → sum_by weight_of (all_lines insts) ≡ sum_by (λ (i : Lined Inst). inst_weight i.item) insts
-insts_weigh [] = refl
-insts_weigh (i ∷ insts) =
-    let whole : sum_by weight_of (turn_lines i ++ all_lines insts) ≡ sum_by weight_of (turn_lines i) + sum_by weight_of (all_lines insts) = sum_by-append weight_of (turn_lines i) (all_lines insts) in
-    let tick : sum_by weight_of (turn_lines i) ≡ inst_weight i.item + sum_by weight_of (inst_lines i.item) = sum_by-cons weight_of (Tick true (inst_weight i.item)) (inst_lines i.item) in
-    let lines = inst_weighs i.item in
-    let rest = insts_weigh insts in
+insts_weigh : (classes : Classes) (insts : List (Lined Inst)) → sum_by weight_of (all_lines classes insts) ≡ sum_by (λ (i : Lined Inst). inst_weight i.item) insts
+insts_weigh classes [] = refl
+insts_weigh classes (i ∷ insts) =
+    let whole : sum_by weight_of (turn_lines classes i ++ all_lines classes insts) ≡ sum_by weight_of (turn_lines classes i) + sum_by weight_of (all_lines classes insts) = sum_by-append weight_of (turn_lines classes i) (all_lines classes insts) in
+    let tick : sum_by weight_of (turn_lines classes i) ≡ inst_weight i.item + sum_by weight_of (inst_lines classes i.item) = sum_by-cons weight_of (Tick true (inst_weight i.item)) (inst_lines classes i.item) in
+    let lines = inst_weighs classes i.item in
+    let rest = insts_weigh classes insts in
     let sums : sum_by (λ (k : Lined Inst). inst_weight k.item) (i ∷ insts) ≡ inst_weight i.item + sum_by (λ (k : Lined Inst). inst_weight k.item) insts = sum_by-cons (λ (k : Lined Inst). inst_weight k.item) i insts in
     omega (arith, whole, tick, lines, rest, sums)
 
-copies_weigh : (cs : List Assignment) → sum_by weight_of (assignment_lines cs) ≡ 0
-copies_weigh [] = refl
-copies_weigh (c ∷ cs) =
-    let whole = sum_by-append weight_of (copy_lines c.to.temp c.to.class (operand_of c.value)) (assignment_lines cs) in
-    let here = sets_weigh c.to.temp (operand_of c.value ∷ []) (copy_lines c.to.temp c.to.class (operand_of c.value)) (copy_sets c.to.temp c.to.class (operand_of c.value)) in
-    let rest = copies_weigh cs in
+copies_weigh : (classes : Classes) (cs : List Assignment) → sum_by weight_of (assignment_lines classes cs) ≡ 0
+copies_weigh classes [] = refl
+copies_weigh classes (c ∷ cs) =
+    let whole = sum_by-append weight_of (copy_lines classes c.to.temp c.to.class (operand_of c.value)) (assignment_lines classes cs) in
+    let here = sets_weigh c.to.temp (operand_of c.value ∷ []) (copy_lines classes c.to.temp c.to.class (operand_of c.value)) (copy_sets classes c.to.temp c.to.class (operand_of c.value)) in
+    let rest = copies_weigh classes cs in
     omega (arith, whole, here, rest)
 
-ending_weighs : (e : Ending) → sum_by weight_of (ending_lines e) ≡ e.weight
-ending_weighs e =
-    let tick : sum_by weight_of (ending_lines e) ≡ e.weight + sum_by weight_of (assignment_lines e.copies) = sum_by-cons weight_of (Tick e.turn e.weight) (assignment_lines e.copies) in
-    let copies = copies_weigh e.copies in
+ending_weighs : (classes : Classes) (e : Ending) → sum_by weight_of (ending_lines classes e) ≡ e.weight
+ending_weighs classes e =
+    let tick : sum_by weight_of (ending_lines classes e) ≡ e.weight + sum_by weight_of (assignment_lines classes e.copies) = sum_by-cons weight_of (Tick e.turn e.weight) (assignment_lines classes e.copies) in
+    let copies = copies_weigh classes e.copies in
     omega (arith, tick, copies)
 
 -- ---- each block has a label of its own
@@ -281,25 +282,25 @@ leaving f good c a n = by_end c.jump refl
 abbrev lines_of : VirtualBlock ℕ → ℕ
 lines_of b = sum_by weight_of b.lines
 
-edges_total : (es : List Ending) → total lines_of (map edge_of es) ≡ total (λ (e : Ending). e.weight) es
-edges_total [] = refl
-edges_total (e ∷ es) = let here = ending_weighs e in let rest = edges_total es in omega (arith, here, rest)
+edges_total : (classes : Classes) (es : List Ending) → total lines_of (map (edge_of classes) es) ≡ total (λ (e : Ending). e.weight) es
+edges_total classes [] = refl
+edges_total classes (e ∷ es) = let here = ending_weighs classes e in let rest = edges_total classes es in omega (arith, here, rest)
 
 -- a block's own, without phis and its jump
 abbrev insts_of : Block → ℕ
 insts_of b = 1 + sum_by (λ (i : Lined Inst). inst_weight i.item) b.insts
 
-blocks_total : (f : Func) → IsGoodFunction f → (number : ℕ) (bs : List Block) → ((b : Block) → Among b bs → Among b f.blocks)
-    → total lines_of (blocks_of bs (all_endings f number bs)) + total (λ (e : Ending). e.weight) (all_edges f bs) ≤ total insts_of bs + total (λ (c : Block). total (λ (b : Block). copied c b) f.blocks) bs
-blocks_total f good number [] sub = omega arith
-blocks_total f good number (c ∷ bs) sub =
+blocks_total : (classes : Classes) (f : Func) → IsGoodFunction f → (number : ℕ) (bs : List Block) → ((b : Block) → Among b bs → Among b f.blocks)
+    → total lines_of (blocks_of classes bs (all_endings f number bs)) + total (λ (e : Ending). e.weight) (all_edges f bs) ≤ total insts_of bs + total (λ (c : Block). total (λ (b : Block). copied c b) f.blocks) bs
+blocks_total classes f good number [] sub = omega arith
+blocks_total classes f good number (c ∷ bs) sub =
     let e = block_ending f number c in
-    let lines = sum_by-append weight_of (all_lines c.insts) (ending_lines e) in
-    let insts = insts_weigh c.insts in
-    let ends = ending_weighs e in
+    let lines = sum_by-append weight_of (all_lines classes c.insts) (ending_lines classes e) in
+    let insts = insts_weigh classes c.insts in
+    let ends = ending_weighs classes e in
     let edges = total_both (λ (x : Ending). x.weight) (block_edges f c) (all_edges f bs) in
     let here = leaving f good c (sub c (inl refl)) number in
-    let rest = blocks_total f good (number + length (block_edges f c)) bs (λ b a. sub b (inr a)) in
+    let rest = blocks_total classes f good (number + length (block_edges f c)) bs (λ b a. sub b (inr a)) in
     omega (arith, lines, insts, ends, edges, here, rest)
 
 paid_all : (f : Func) → IsGoodFunction f → total insts_of f.blocks + total (λ (c : Block). total (λ (b : Block). copied c b) f.blocks) f.blocks ≤ total block_weight f.blocks
@@ -311,13 +312,13 @@ paid_all f good =
     (λ b a. let same = sum_total (λ (p : Phi). length p.args) b.phis in omega (arith, same)) in
     omega (arith, turned, paid, both, less)
 
-pub weighs_no_more : (f : Func) → IsGoodFunction f → code_weight (selected f (lowered f)) ≤ weight f
+pub weighs_no_more : (classes : Classes) (f : Func) → IsGoodFunction f → code_weight (selected classes f (lowered f)) ≤ weight f
 unfolding selected lowered
-weighs_no_more f good =
-    let sums = sum_total lines_of (blocks_of f.blocks (all_endings f 0 f.blocks) ++ map edge_of (all_edges f f.blocks)) in
-    let both = total_both lines_of (blocks_of f.blocks (all_endings f 0 f.blocks)) (map edge_of (all_edges f f.blocks)) in
-    let edges = edges_total (all_edges f f.blocks) in
-    let blocks = blocks_total f good 0 f.blocks (λ b a. a) in
+weighs_no_more classes f good =
+    let sums = sum_total lines_of (blocks_of classes f.blocks (all_endings f 0 f.blocks) ++ map (edge_of classes) (all_edges f f.blocks)) in
+    let both = total_both lines_of (blocks_of classes f.blocks (all_endings f 0 f.blocks)) (map (edge_of classes) (all_edges f f.blocks)) in
+    let edges = edges_total classes (all_edges f f.blocks) in
+    let blocks = blocks_total classes f good 0 f.blocks (λ b a. a) in
     let paid = paid_all f good in
     let weights = sum_total block_weight f.blocks in
     omega (arith, sums, both, edges, blocks, paid, weights)

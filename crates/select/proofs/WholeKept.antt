@@ -1,6 +1,5 @@
 -- The virtual code of a function of a good text is the function's.
-use Rattle.std.proofs.Common.{◌≡◌, ℕ, ◌+◌, List, [], ◌∷◌, length, map, refl, ap, arith}
-use Rattle.std.specs.Prelude.{Option}
+use Rattle.std.proofs.Common.{◌≡◌, ◌+◌, List, [], ◌∷◌, length, map, refl, ap, arith}
 use Rattle.il_ast.specs.declared.operation.Class.{Class}
 use Rattle.il_ast.specs.declared.function.Param.{Param}
 use Rattle.il_ast.specs.declared.function.Func.{Func}
@@ -15,6 +14,8 @@ use Rattle.vcode.specs.Coded.{classes_in, coded}
 use Rattle.vcode.specs.Places.{virtual}
 use Rattle.vcode.specs.Step.{begin, step}
 use Rattle.select.specs.Selected.{parameter_of, selected}
+use Rattle.select.specs.Typed.{Classes}
+use Rattle.select.specs.Classes.{classes_in as temp_classes}
 use Rattle.select.proofs.Ending.{selected_keeps}
 use Rattle.select.proofs.LoweredTyping.{lowered_is_typed}
 use Rattle.select.proofs.Stack.{code_passes, code_area}
@@ -24,26 +25,27 @@ classes_are : (ps : List Param) → classes_in (map parameter_of ps) ≡ classes
 classes_are [] = refl
 classes_are (p ∷ ps) = ap (λ (cs : List Class). p.class ∷ cs) (classes_are ps)
 
-selected_classes : (f : Func) → classes_in (selected f (lowered f)).params ≡ classes_of f.params
+selected_classes : (classes : Classes) (f : Func) → classes_in (selected classes f (lowered f)).params ≡ classes_of f.params
 unfolding selected
-selected_classes f = classes_are f.params
+selected_classes classes f = classes_are f.params
 
-selected_result : (f : Func) → (selected f (lowered f)).result ≡ f.result
+selected_result : (classes : Classes) (f : Func) → (selected classes f (lowered f)).result ≡ f.result
 unfolding selected
-selected_result f = refl
+selected_result classes f = refl
 
-pub is_code : (f : Func) → IsGoodFunction f → IsCodeOf f (coded virtual (selected f (lowered f)) (length f.temps + phi_count f))
+pub is_code : (f : Func) → IsGoodFunction f → IsCodeOf f (coded virtual (selected (temp_classes f) f (lowered f)) (length f.temps + phi_count f))
 is_code f good =
-    let v = selected f (lowered f) in
-    let bytes = code_area f in
+    let classes = temp_classes f in
+    let v = selected classes f (lowered f) in
+    let bytes = code_area classes f in
     record {
-      params = selected_classes f;
-      result = selected_result f;
-      weight = weighs_no_more f good;
+      params = selected_classes classes f;
+      result = selected_result classes f;
+      weight = weighs_no_more classes f good;
       area = omega (arith, bytes);
-      outgoing = code_passes f;
+      outgoing = code_passes classes f;
       places = omega arith;
       runs = λ globals.
           meaning_composes (classes_of f.params) (body_of f globals) (begin_source f) (step_source globals f (lowered f)) (begin virtual v) (step virtual globals v)
-          (lowered_keeps f globals) (selected_keeps f (lowered f) (lowered_is_typed f good) globals);
+          (lowered_keeps f globals) (selected_keeps classes f (lowered f) (lowered_is_typed f good) globals);
     }

@@ -9,19 +9,20 @@ use Rattle.phi_copies.specs.Lowered.{lowered}
 use Rattle.vcode.specs.Coded.{coded}
 use Rattle.vcode.specs.Places.{virtual}
 use Rattle.select.specs.Selected.{selected}
-use Rattle.select.specs.Typed.{IsTyped}
+use Rattle.select.specs.Typed.{Classes, IsTyped}
+use Rattle.select.specs.Classes.{classes_in}
 use Rattle.select.specs.Invariants.{IsVirtual}
 use Rattle.select.specs.Keeping.{KeepsEndings}
 
 abbrev pub SelectionKeeps : Type 0
-SelectionKeeps = (f : Func) (code : Endings) → IsTyped f code → KeepsEndings f code (selected f code)
+SelectionKeeps = (classes : Classes) (f : Func) (code : Endings) → IsTyped classes f code → KeepsEndings f code (selected classes f code)
 
 abbrev pub LoweredIsTyped : Type 0
-LoweredIsTyped = (f : Func) → IsGoodFunction f → IsTyped f (lowered f)
+LoweredIsTyped = (f : Func) → IsGoodFunction f → IsTyped (classes_in f) f (lowered f)
 
 abbrev pub SelectedIsVirtual : Type 0
-SelectedIsVirtual = (f : Func) → IsGoodFunction f → IsVirtual (selected f (lowered f)) (length f.temps + phi_count f)
+SelectedIsVirtual = (f : Func) → IsGoodFunction f → IsVirtual (selected (classes_in f) f (lowered f)) (length f.temps + phi_count f)
 
 -- the virtual code is the function's, whatever its text's global names mean: it takes no more than the function is counted for
 abbrev pub SelectedIsCode : Type 0
-SelectedIsCode = (f : Func) → IsGoodFunction f → IsCodeOf f (coded virtual (selected f (lowered f)) (length f.temps + phi_count f))
+SelectedIsCode = (f : Func) → IsGoodFunction f → IsCodeOf f (coded virtual (selected (classes_in f) f (lowered f)) (length f.temps + phi_count f))

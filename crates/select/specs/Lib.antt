@@ -4,4 +4,5 @@ pub mod Keeping
 pub mod Laws
 pub mod Narrow
 pub mod Selected
+pub mod Tables
 pub mod Typed

@@ -23,6 +23,7 @@ use Rattle.vcode.specs.declared.line.Line.{Line}
 use Rattle.vcode.specs.declared.line.Line.TheVariants.{Tick}
 use Rattle.vcode.specs.declared.code.Block.{Block as VirtualBlock}
 use Rattle.vcode.specs.declared.code.Code.{Code}
+use Rattle.select.specs.Typed.{Classes}
 use Rattle.select.specs.Selected.{operand_of, copy_lines, inst_lines, jump_of}
 
 abbrev pub narrow : ℕ → ℕ
@@ -54,21 +55,21 @@ narrow_inst (Store size a at) = Store size (narrow_val a) (narrow_val at)
 narrow_inst (Blit from to count) = Blit (narrow_val from) (narrow_val to) count
 narrow_inst (Call to callee args) = Call (option_map narrow_dest to) (narrow_val callee) (map narrow_arg args)
 
-abbrev pub narrow_turn : Lined Inst → List (Line ℕ)
-narrow_turn i = Tick true (narrow (inst_weight i.item)) ∷ inst_lines (narrow_inst i.item)
+abbrev pub narrow_turn : Classes → Lined Inst → List (Line ℕ)
+narrow_turn classes i = Tick true (narrow (inst_weight i.item)) ∷ inst_lines classes (narrow_inst i.item)
 
-abbrev pub narrow_turns : List (Lined Inst) → List (Line ℕ)
-narrow_turns [] = []
-narrow_turns (i ∷ insts) = narrow_turn i ++ narrow_turns insts
+abbrev pub narrow_turns : Classes → List (Lined Inst) → List (Line ℕ)
+narrow_turns classes [] = []
+narrow_turns classes (i ∷ insts) = narrow_turn classes i ++ narrow_turns classes insts
 
 -- ---- endings
 
-abbrev pub narrow_copies : List Assignment → List (Line ℕ)
-narrow_copies [] = []
-narrow_copies (c ∷ cs) = copy_lines (narrow c.to.temp) c.to.class (operand_of (narrow_val c.value)) ++ narrow_copies cs
+abbrev pub narrow_copies : Classes → List Assignment → List (Line ℕ)
+narrow_copies classes [] = []
+narrow_copies classes (c ∷ cs) = copy_lines classes (narrow c.to.temp) c.to.class (operand_of (narrow_val c.value)) ++ narrow_copies classes cs
 
-abbrev pub narrow_ending : Ending → List (Line ℕ)
-narrow_ending e = Tick e.turn (narrow e.weight) ∷ narrow_copies e.copies
+abbrev pub narrow_ending : Classes → Ending → List (Line ℕ)
+narrow_ending classes e = Tick e.turn (narrow e.weight) ∷ narrow_copies classes e.copies
 
 abbrev pub narrow_leave : Leave → Leave
 narrow_leave (Goto k) = Goto k
@@ -78,17 +79,17 @@ narrow_leave Halt = Halt
 
 -- ---- blocks
 
-abbrev pub narrow_block : Block → Ending → VirtualBlock ℕ
-narrow_block b e = record { lines = narrow_turns b.insts ++ narrow_ending e; jump = jump_of (narrow_leave e.leave) }
+abbrev pub narrow_block : Classes → Block → Ending → VirtualBlock ℕ
+narrow_block classes b e = record { lines = narrow_turns classes b.insts ++ narrow_ending classes e; jump = jump_of classes (narrow_leave e.leave) }
 
-abbrev pub narrow_edge : Ending → VirtualBlock ℕ
-narrow_edge e = record { lines = narrow_ending e; jump = jump_of (narrow_leave e.leave) }
+abbrev pub narrow_edge : Classes → Ending → VirtualBlock ℕ
+narrow_edge classes e = record { lines = narrow_ending classes e; jump = jump_of classes (narrow_leave e.leave) }
 
-abbrev pub narrow_blocks : List Block → List Ending → List (VirtualBlock ℕ)
-narrow_blocks [] es = []
-narrow_blocks (b ∷ bs) [] = []
-narrow_blocks (b ∷ bs) (e ∷ es) = narrow_block b e ∷ narrow_blocks bs es
+abbrev pub narrow_blocks : Classes → List Block → List Ending → List (VirtualBlock ℕ)
+narrow_blocks classes [] es = []
+narrow_blocks classes (b ∷ bs) [] = []
+narrow_blocks classes (b ∷ bs) (e ∷ es) = narrow_block classes b e ∷ narrow_blocks classes bs es
 
-unfoldable pub narrow_code : Func → Endings → Code ℕ
-narrow_code f code =
-    record { result = f.result; params = map narrow_parameter f.params; blocks = narrow_blocks f.blocks code.endings ++ map narrow_edge code.edges }
+unfoldable pub narrow_code : Classes → Func → Endings → Code ℕ
+narrow_code classes f code =
+    record { result = f.result; params = map narrow_parameter f.params; blocks = narrow_blocks classes f.blocks code.endings ++ map (narrow_edge classes) code.edges }

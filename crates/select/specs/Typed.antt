@@ -82,9 +82,8 @@ abbrev pub ParamsFit : Classes → List Param → Type 0
 ParamsFit classes [] = Unit {0}
 ParamsFit classes (p ∷ ps) = (classes p.temp ≡ p.class) × ParamsFit classes ps
 
--- a function without phis in which all fits
-pub record IsTyped (f : Func) (code : Endings) : Type 0 where
-  pub classes : Classes
+-- a function without phis in which all fits, by these classes
+pub record IsTyped (classes : Classes) (f : Func) (code : Endings) : Type 0 where
   pub params : ParamsFit classes f.params
   pub insts : (k j : ℕ) (b : Block) (i : Lined Inst) → slice_get f.blocks k ≡ Some b → slice_get b.insts j ≡ Some i → InstFits classes i.item
   pub endings : (k : ℕ) (e : Ending) → slice_get code.endings k ≡ Some e → EndingFits classes f.result e

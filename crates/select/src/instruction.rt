@@ -1,6 +1,7 @@
 //! Lines of instructions.
 ghost use Rattle.std.specs.Prelude.{◌≡◌, ◌++◌, OnOk};
 ghost use Rattle.il_ast.specs.Cost.{inst_weight};
+ghost use Rattle.select.specs.Tables.{listed};
 ghost use Rattle.select.specs.Selected.{inst_lines};
 ghost use Rattle.select.specs.Narrow.{narrow, narrow_inst, narrow_turn, narrow_turns};
 
@@ -8,6 +9,7 @@ use crate::operand::{arguments, low_bits, operand, register, wanted};
 use crate::operation::{push_binary, push_unary};
 use il_ast::instruction::{Inst, Lined};
 use il_ast::list::Seq;
+use il_ast::operation::Class;
 use std::alloc::{AllocError, Global};
 use vcode::line::Line;
 
@@ -23,12 +25,24 @@ fn weight(inst: &Inst) -> u32
 }
 
 /// Puts the lines of an instruction behind the others.
-fn push_inst(alloc: Global, lines: &mut Seq<Line<u32>>, inst: &Inst) -> Result<(), AllocError>
-    ensures { OnOk result (lines.new ≡ lines.old ++ inst_lines (narrow_inst inst.now)) }
+fn push_inst(
+    alloc: Global,
+    classes: &[Class],
+    lines: &mut Seq<Line<u32>>,
+    inst: &Inst,
+) -> Result<(), AllocError>
+    ensures { OnOk result (lines.new ≡ lines.old ++ inst_lines (listed classes.now) (narrow_inst inst.now)) }
 {
     match inst {
         Inst::Unary { to, op, value } => {
-            push_unary(lines, register(to.temp), *op, to.class, operand(*value))
+            push_unary(
+                classes,
+                lines,
+                register(to.temp),
+                *op,
+                to.class,
+                operand(*value),
+            )
         }
         Inst::Binary {
             to,
@@ -36,6 +50,7 @@ fn push_inst(alloc: Global, lines: &mut Seq<Line<u32>>, inst: &Inst) -> Result<(
             left,
             right,
         } => push_binary(
+            classes,
             lines,
             register(to.temp),
             *op,
@@ -71,28 +86,30 @@ fn push_inst(alloc: Global, lines: &mut Seq<Line<u32>>, inst: &Inst) -> Result<(
 /// Puts an instruction's turn behind the others.
 fn push_turn(
     alloc: Global,
+    classes: &[Class],
     lines: &mut Seq<Line<u32>>,
     inst: &Lined<Inst>,
 ) -> Result<(), AllocError>
-    ensures { OnOk result (lines.new ≡ lines.old ++ narrow_turn inst.now) }
+    ensures { OnOk result (lines.new ≡ lines.old ++ narrow_turn (listed classes.now) inst.now) }
 {
     lines.push(Line::Tick {
         turn: true,
         weight: weight(&inst.item),
     })?;
-    push_inst(alloc, lines, &inst.item)
+    push_inst(alloc, classes, lines, &inst.item)
 }
 
 /// Puts the turns of a block's instructions behind the others.
 pub(crate) fn push_turns(
     alloc: Global,
+    classes: &[Class],
     lines: &mut Seq<Line<u32>>,
     insts: &[Lined<Inst>],
 ) -> Result<(), AllocError>
-    ensures { OnOk result (lines.new ≡ lines.old ++ narrow_turns insts.now) }
+    ensures { OnOk result (lines.new ≡ lines.old ++ narrow_turns (listed classes.now) insts.now) }
 {
     for inst in insts {
-        push_turn(alloc, lines, inst)?;
+        push_turn(alloc, classes, lines, inst)?;
     }
     Ok(())
 }

@@ -1,12 +1,15 @@
 //! Operands, and numbers of 32 bits. In a function of a good text no number is longer.
 ghost use Rattle.std.specs.Prelude.{◌≡◌, ◌++◌, map, IfOk, OnOk};
 ghost use Rattle.std.specs.Option.{option_map};
-ghost use Rattle.select.specs.Selected.{operand_of, destination_of, argument_of};
+ghost use Rattle.select.specs.Tables.{listed};
+ghost use Rattle.select.specs.Selected.{is_whole, word, operand_of, destination_of, argument_of};
 ghost use Rattle.select.specs.Narrow.{narrow, narrow_val, narrow_dest, narrow_arg, narrow_parameter};
 
+use bits::sext32;
 use il_ast::function::Param;
 use il_ast::list::Seq;
 use il_ast::operand::{Arg, Dest, Val};
+use il_ast::operation::Class;
 use il_ast::temp::Temp;
 use std::alloc::{AllocError, Global};
 use vcode::place::{Argument, Destination, Operand};
@@ -32,6 +35,37 @@ pub(crate) fn operand(value: Val) -> Operand<u32>
         Val::Int(number) => Operand::Number(number),
         Val::Temp(temp) => Operand::At(register(temp)),
         Val::Global(name) => Operand::Name(name),
+    }
+}
+
+/// The class of a register.
+fn class_of(classes: &[Class], register: u32) -> Class
+    ensures { result ≡ listed classes.now register }
+{
+    match classes.get(register as usize) {
+        Some(class) => *class,
+        None => Class::L,
+    }
+}
+
+/// Whether an operand's word stands sign-extended as it is, in a register of class W, or is known, in a number.
+pub(crate) fn is_whole(classes: &[Class], value: &Operand<u32>) -> bool
+    ensures { result ≡ is_whole (listed classes.now) value.now }
+{
+    match value {
+        Operand::At(register) => class_of(classes, *register) == Class::W,
+        Operand::Number(_) => true,
+        Operand::Name(_) => false,
+    }
+}
+
+/// The word of such an operand, sign-extended.
+pub(crate) fn word(value: Operand<u32>) -> Operand<u32>
+    ensures { result ≡ word value }
+{
+    match value {
+        Operand::Number(number) => Operand::Number(sext32(low_bits(number))),
+        _ => value,
     }
 }
 

@@ -1,13 +1,20 @@
 //! Lines of operations on one operand and on two.
 ghost use Rattle.std.specs.Prelude.{◌≡◌, ◌++◌, ◌∷◌, [], OnOk};
 ghost use Rattle.il_ast.specs.declared.operation.Class.TheVariants.{W as InWord, L as InLong};
-ghost use Rattle.select.specs.Selected.{as_word, shifted, extend_lines, load_of, copy_lines, negate_lines, unary_lines, operation_of, is_wide, again_as_word, binary_lines};
+ghost use Rattle.rv_isa.specs.declared.instruction.RegOp.TheVariants.{And as LowBits};
+ghost use Rattle.vcode.specs.declared.line.Operation.TheVariants.{Reg};
+ghost use Rattle.vcode.specs.declared.line.Line.TheVariants.{Operate};
+ghost use Rattle.vcode.specs.declared.place.Operand.TheVariants.{Number};
+ghost use Rattle.select.specs.Selected.{as_word, word_of, shifted, extend_lines, load_of, copy_lines, negate_lines, unary_lines, operation_of, bit_lines, compare_line, binary_lines};
+ghost use Rattle.select.specs.Tables.{listed};
 
+use crate::comparison::comparison;
+use crate::operand::{is_whole, word};
 use il_ast::list::Seq;
 use il_ast::operation::{BinaryOp, Class, Extension, UnaryOp};
 use rv_isa::instruction::{LoadOp, RegOp, RegWOp};
 use std::alloc::AllocError;
-use vcode::line::{Line, Operation};
+use vcode::line::{Comparison, Line, Operation};
 use vcode::place::Operand;
 
 /// The low 32 bits of an operand, sign-extended.
@@ -22,12 +29,26 @@ fn as_word(to: u32, value: Operand<u32>) -> Line<u32>
     }
 }
 
+/// The word of an operand, sign-extended: by no operation where it stands so.
+fn word_of(classes: &[Class], to: u32, value: Operand<u32>) -> Line<u32>
+    ensures { result ≡ word_of (listed classes.now) to value }
+{
+    if is_whole(classes, &value) {
+        Line::Set {
+            to,
+            value: word(value),
+        }
+    } else {
+        as_word(to, value)
+    }
+}
+
 /// A copy to a register of the class.
-pub(crate) fn copy(to: u32, class: Class, value: Operand<u32>) -> Line<u32>
-    ensures { result ∷ [] ≡ copy_lines to class value }
+pub(crate) fn copy(classes: &[Class], to: u32, class: Class, value: Operand<u32>) -> Line<u32>
+    ensures { result ∷ [] ≡ copy_lines (listed classes.now) to class value }
 {
     match class {
-        Class::W => as_word(to, value),
+        Class::W => word_of(classes, to, value),
         Class::L => Line::Set { to, value },
     }
 }
@@ -72,7 +93,7 @@ fn push_shifted(
 }
 
 fn low_byte(to: u32, value: Operand<u32>) -> Line<u32>
-    ensures { result ∷ [] ≡ extend_lines to (Extension.UnsignedByte) value }
+    ensures { result ≡ Operate to (Reg LowBits) value (Number 255) }
 {
     Line::Operate {
         to,
@@ -83,15 +104,16 @@ fn low_byte(to: u32, value: Operand<u32>) -> Line<u32>
 }
 
 fn push_extend(
+    classes: &[Class],
     lines: &mut Seq<Line<u32>>,
     to: u32,
     extension: Extension,
     value: Operand<u32>,
 ) -> Result<(), AllocError>
-    ensures { OnOk result (lines.new ≡ lines.old ++ extend_lines to extension value) }
+    ensures { OnOk result (lines.new ≡ lines.old ++ extend_lines (listed classes.now) to extension value) }
 {
     match extension {
-        Extension::SignedWord => lines.push(as_word(to, value)),
+        Extension::SignedWord => lines.push(word_of(classes, to, value)),
         Extension::UnsignedWord => push_shifted(lines, to, RegOp::Srl, 32, value),
         Extension::SignedHalf => push_shifted(lines, to, RegOp::Sra, 48, value),
         Extension::UnsignedHalf => push_shifted(lines, to, RegOp::Srl, 48, value),
@@ -119,18 +141,19 @@ fn load_of(extension: Extension, class: Class) -> LoadOp
 
 /// Puts the lines of an operation on one operand behind the others.
 pub(crate) fn push_unary(
+    classes: &[Class],
     lines: &mut Seq<Line<u32>>,
     to: u32,
     op: UnaryOp,
     class: Class,
     value: Operand<u32>,
 ) -> Result<(), AllocError>
-    ensures { OnOk result (lines.new ≡ lines.old ++ unary_lines to op class value) }
+    ensures { OnOk result (lines.new ≡ lines.old ++ unary_lines (listed classes.now) to op class value) }
 {
     match op {
         UnaryOp::Neg => lines.push(negate(to, class, value)),
-        UnaryOp::Copy => lines.push(copy(to, class, value)),
-        UnaryOp::Extend(extension) => push_extend(lines, to, extension, value),
+        UnaryOp::Copy => lines.push(copy(classes, to, class, value)),
+        UnaryOp::Extend(extension) => push_extend(classes, lines, to, extension, value),
         UnaryOp::LoadLong => lines.push(Line::Load {
             to,
             op: LoadOp::Ld,
@@ -195,29 +218,52 @@ fn operation_of(op: BinaryOp, class: Class) -> Operation
     }
 }
 
-/// Puts a result's low 32 bits in its place, if the operation is one on all bits and the result a word.
-fn push_again(
+/// Puts the lines of an operation on all bits of two words behind the others. Of two that stand sign-extended the result does, of any others its low 32 bits
+/// are put in its place.
+fn push_bits(
+    classes: &[Class],
     lines: &mut Seq<Line<u32>>,
     to: u32,
-    op: BinaryOp,
-    class: Class,
+    op: RegOp,
+    left: Operand<u32>,
+    right: Operand<u32>,
 ) -> Result<(), AllocError>
-    ensures { OnOk result (lines.new ≡ lines.old ++ again_as_word to (is_wide op class)) }
+    ensures { OnOk result (lines.new ≡ lines.old ++ bit_lines (listed classes.now) to op left right) }
 {
-    match class {
-        Class::W => match op {
-            BinaryOp::And | BinaryOp::Or | BinaryOp::Xor => lines.push(as_word(
-                to,
-                Operand::At(to),
-            )),
-            _ => Ok(()),
-        },
-        Class::L => Ok(()),
+    let operation = Operation::Reg(op);
+    if is_whole(classes, &left) && is_whole(classes, &right) {
+        lines.push(Line::Operate {
+            to,
+            operation,
+            left: word(left),
+            right: word(right),
+        })
+    } else {
+        lines.push(Line::Operate {
+            to,
+            operation,
+            left,
+            right,
+        })?;
+        lines.push(as_word(to, Operand::At(to)))
+    }
+}
+
+/// What a comparison gives.
+fn compare(to: u32, of: Comparison<u32>) -> Line<u32>
+    ensures { result ≡ compare_line to of }
+{
+    Line::Operate {
+        to,
+        operation: Operation::Compare(of.condition, of.class),
+        left: of.left,
+        right: of.right,
     }
 }
 
 /// Puts the lines of an operation on two operands behind the others.
 pub(crate) fn push_binary(
+    classes: &[Class],
     lines: &mut Seq<Line<u32>>,
     to: u32,
     op: BinaryOp,
@@ -225,13 +271,20 @@ pub(crate) fn push_binary(
     left: Operand<u32>,
     right: Operand<u32>,
 ) -> Result<(), AllocError>
-    ensures { OnOk result (lines.new ≡ lines.old ++ binary_lines to op class left right) }
+    ensures { OnOk result (lines.new ≡ lines.old ++ binary_lines (listed classes.now) to op class left right) }
 {
-    lines.push(Line::Operate {
-        to,
-        operation: operation_of(op, class),
-        left,
-        right,
-    })?;
-    push_again(lines, to, op, class)
+    match (op, class) {
+        (BinaryOp::And, Class::W) => push_bits(classes, lines, to, RegOp::And, left, right),
+        (BinaryOp::Or, Class::W) => push_bits(classes, lines, to, RegOp::Or, left, right),
+        (BinaryOp::Xor, Class::W) => push_bits(classes, lines, to, RegOp::Xor, left, right),
+        (BinaryOp::Compare(on, of), _) => {
+            lines.push(compare(to, comparison(classes, on, of, left, right)))
+        }
+        _ => lines.push(Line::Operate {
+            to,
+            operation: operation_of(op, class),
+            left,
+            right,
+        }),
+    }
 }

@@ -2,87 +2,103 @@
 ghost use Rattle.std.specs.Prelude.{◌≡◌, ◌≤◌, ◌+◌, ◌++◌, length, map, IfOk, OnOk};
 ghost use Rattle.il_ast.specs.Cost.{phi_count};
 ghost use Rattle.phi_copies.specs.Lowered.{lowered};
+ghost use Rattle.select.specs.Classes.{classes_in};
+ghost use Rattle.select.specs.Tables.{listed};
 ghost use Rattle.select.specs.Selected.{selected};
 ghost use Rattle.select.specs.Narrow.{narrow_block, narrow_edge, narrow_blocks, narrow_code};
 ghost use Rattle.il_ast.specs.Passes.{IsCodeOf};
 ghost use Rattle.vcode.specs.Coded.{virtual_code};
 
+use crate::classes::classes;
 use crate::instruction::push_turns;
 use crate::leave::{jump_of, push_ending};
 use crate::operand::{low_bits, parameters};
 use il_ast::block::Block as SourceBlock;
 use il_ast::function::Func;
 use il_ast::list::Seq;
+use il_ast::operation::Class;
 use phi_copies::ending::Ending;
 use phi_copies::no_phi::NoPhi;
 use std::alloc::{AllocError, Global};
 use vcode::code::{Block, Code};
 use vcode::function::VFunc;
 
-fn block_of(alloc: Global, block: &SourceBlock, ending: &Ending) -> Result<Block<u32>, AllocError>
-    ensures { IfOk result (λ made. made ≡ narrow_block block.now ending.now) }
+fn block_of(
+    alloc: Global,
+    classes: &[Class],
+    block: &SourceBlock,
+    ending: &Ending,
+) -> Result<Block<u32>, AllocError>
+    ensures { IfOk result (λ made. made ≡ narrow_block (listed classes.now) block.now ending.now) }
 {
     let mut lines = Seq::new(alloc);
-    push_turns(alloc, &mut lines, block.insts.as_slice())?;
-    push_ending(&mut lines, ending)?;
+    push_turns(alloc, classes, &mut lines, block.insts.as_slice())?;
+    push_ending(classes, &mut lines, ending)?;
     Ok(Block {
         lines,
-        jump: jump_of(ending.leave),
+        jump: jump_of(classes, ending.leave),
     })
 }
 
 /// A block with an ending alone.
-fn edge_of(alloc: Global, ending: &Ending) -> Result<Block<u32>, AllocError>
-    ensures { IfOk result (λ made. made ≡ narrow_edge ending.now) }
+fn edge_of(alloc: Global, classes: &[Class], ending: &Ending) -> Result<Block<u32>, AllocError>
+    ensures { IfOk result (λ made. made ≡ narrow_edge (listed classes.now) ending.now) }
 {
     let mut lines = Seq::new(alloc);
-    push_ending(&mut lines, ending)?;
+    push_ending(classes, &mut lines, ending)?;
     Ok(Block {
         lines,
-        jump: jump_of(ending.leave),
+        jump: jump_of(classes, ending.leave),
     })
 }
 
 /// Puts each block with its ending behind the others.
 fn push_blocks(
     alloc: Global,
+    classes: &[Class],
     made: &mut Seq<Block<u32>>,
     blocks: &[SourceBlock],
     endings: &[Ending],
 ) -> Result<(), AllocError>
-    ensures { OnOk result (made.new ≡ made.old ++ narrow_blocks blocks.now endings.now) }
+    ensures { OnOk result (made.new ≡ made.old ++ narrow_blocks (listed classes.now) blocks.now endings.now) }
 {
     for (number, block) in blocks.iter().enumerate() {
         match endings.get(number) {
-            Some(ending) => made.push(block_of(alloc, block, ending)?)?,
+            Some(ending) => made.push(block_of(alloc, classes, block, ending)?)?,
             None => return Ok(()),
         }
     }
     Ok(())
 }
 
-fn push_edges(alloc: Global, made: &mut Seq<Block<u32>>, edges: &[Ending]) -> Result<(), AllocError>
-    ensures { OnOk result (made.new ≡ made.old ++ map narrow_edge edges.now) }
+fn push_edges(
+    alloc: Global,
+    classes: &[Class],
+    made: &mut Seq<Block<u32>>,
+    edges: &[Ending],
+) -> Result<(), AllocError>
+    ensures { OnOk result (made.new ≡ made.old ++ map (narrow_edge (listed classes.now)) edges.now) }
 {
     for ending in edges {
-        made.push(edge_of(alloc, ending)?)?;
+        made.push(edge_of(alloc, classes, ending)?)?;
     }
     Ok(())
 }
 
 #[tactic(auto, unfolding(crate::specs::Narrow::narrow_code))]
-fn code_of(alloc: Global, source: &NoPhi<'_>) -> Result<Code<u32>, AllocError>
-    ensures { IfOk result (λ code. code ≡ narrow_code source.now.func.now (record { endings = source.now.endings; edges = source.now.edges })) }
+fn code_of(alloc: Global, classes: &[Class], source: &NoPhi<'_>) -> Result<Code<u32>, AllocError>
+    ensures { IfOk result (λ code. code ≡ narrow_code (listed classes.now) source.now.func.now (record { endings = source.now.endings; edges = source.now.edges })) }
 {
     let params = parameters(alloc, source.func.params.as_slice())?;
     let mut blocks = Seq::new(alloc);
     push_blocks(
         alloc,
+        classes,
         &mut blocks,
         source.func.blocks.as_slice(),
         source.endings.as_slice(),
     )?;
-    push_edges(alloc, &mut blocks, source.edges.as_slice())?;
+    push_edges(alloc, classes, &mut blocks, source.edges.as_slice())?;
     Ok(Code {
         result: source.func.result,
         params,
@@ -109,11 +125,12 @@ fn count_registers(func: &Func) -> usize
 ///
 /// Only where memory was refused.
 pub fn select(alloc: Global, source: &NoPhi<'_>) -> Result<VFunc, AllocError>
-    ensures code { IfOk result (λ v. v.code ≡ selected source.now.func.now (lowered source.now.func.now)) }
+    ensures code { IfOk result (λ v. v.code ≡ selected (classes_in source.now.func.now) source.now.func.now (lowered source.now.func.now)) }
     ensures registers { IfOk result (λ v. v.registers ≡ length source.now.func.now.temps + phi_count source.now.func.now) }
     ensures is { IfOk result (λ v. IsCodeOf source.now.func.now (virtual_code v)) }
 {
-    let code = code_of(alloc, source)?;
+    let classes = classes(alloc, source.func)?;
+    let code = code_of(alloc, classes.as_slice(), source)?;
     let registers = count_registers(source.func);
     Ok(VFunc {
         code,

@@ -6,8 +6,9 @@ use Rattle.vcode.specs.declared.code.Code.{Code}
 use Rattle.vcode.specs.Coded.{coded}
 use Rattle.vcode.specs.Places.{virtual}
 use Rattle.vcode.specs.Regular.{code_weight}
+use Rattle.select.specs.Classes.{classes_in}
 use Rattle.select.specs.Invariants.{IsVirtual}
-use Rattle.select.proofs.Narrowing.{small, light, is_selected}
+use Rattle.select.proofs.Narrowing.{small, light, is_selected_by}
 use Rattle.select.proofs.Regular.{le_true}
 use Rattle.select.proofs.Weights.{weighs_no_more}
 use Rattle.select.proofs.Parameters.{is_virtual}
@@ -20,7 +21,7 @@ count_registers-registers-requires c = (is_small c.args.source.now.func.now c.ar
 pub returns-clause-code : goal.returns-clause-code
 returns-clause-code c =
     let s = c.args.source.now in
-    c.in_ok-code.ensures ∙ is_selected s.func.now s.good s.endings s.edges s.endings_are s.edges_are
+    c.in_ok-code.ensures ∙ is_selected_by s.func.now s.good c.as_slice.result.now c.in_ok-classes.classes c.as_slice.ensures c.in_ok-classes.ensures.entries s.endings s.edges s.endings_are s.edges_are
 
 pub returns-clause-registers : goal.returns-clause-registers
 returns-clause-registers c =
@@ -32,7 +33,7 @@ pub returns-clause-is : goal.returns-clause-is
 returns-clause-is c =
     let s = c.args.source.now in
     let f = s.func.now in
-    let is = c.in_ok-code.ensures ∙ is_selected f s.good s.endings s.edges s.endings_are s.edges_are in
+    let is = c.in_ok-code.ensures ∙ is_selected_by f s.good c.as_slice.result.now c.in_ok-classes.classes c.as_slice.ensures c.in_ok-classes.ensures.entries s.endings s.edges s.endings_are s.edges_are in
     let all = c.count_registers-registers.ensures in
     let few = (is_small f s.good).temporaries in
     let many = c.low_bits.ensures ∙ small c.count_registers-registers.result (omega (arith, all, few)) ∙ all in
@@ -43,12 +44,12 @@ pub invariant_of-result : goal.invariant_of-result
 invariant_of-result c =
     let s = c.args.source.now in
     let f = s.func.now in
-    let is = c.in_ok-code.ensures ∙ is_selected f s.good s.endings s.edges s.endings_are s.edges_are in
+    let is = c.in_ok-code.ensures ∙ is_selected_by f s.good c.as_slice.result.now c.in_ok-classes.classes c.as_slice.ensures c.in_ok-classes.ensures.entries s.endings s.edges s.endings_are s.edges_are in
     let all = c.count_registers-registers.ensures in
     let few = (is_small f s.good).temporaries in
     let many = c.low_bits.ensures ∙ small c.count_registers-registers.result (omega (arith, all, few)) ∙ all in
     let v = subst (λ n. IsVirtual c.in_ok-code.code n) (sym many) (subst (λ (x : Code ℕ). IsVirtual x (length f.temps + phi_count f)) (sym is) (is_virtual f s.good)) in
     let weighs = ap (λ (x : Code ℕ). code_weight x) is in
-    let less = weighs_no_more f s.good in
+    let less = weighs_no_more (classes_in f) f s.good in
     let most = light f s.good in
     record { few = omega (arith, many, few); regular = v.regular; light = le_true (code_weight c.in_ok-code.code) 40000 (omega (arith, weighs, less, most)); known = v.known; low = v.low; distinct = v.distinct }

@@ -1,0 +1,7 @@
+use Rattle.std.proofs.Common.{◌≡◌, ◌++◌, take}
+use Rattle.std.specs.List.{flat_map}
+use Rattle.select.specs.Tables.{block_destinations}
+use Rattle.select.proofs.classes.collect_blocks.Given as goal
+
+abbrev pub invariant-loop-block : goal.invariant-loop-block
+invariant-loop-block l = l.assigned ≡ l.fn.assigned ++ flat_map block_destinations (take l.block-index l.blocks)

@@ -1,0 +1,7 @@
+use Rattle.std.proofs.Common.{◌≡◌, ◌++◌, take}
+use Rattle.std.specs.List.{flat_map}
+use Rattle.select.specs.Tables.{inst_destinations}
+use Rattle.select.proofs.classes.collect_insts.Given as goal
+
+abbrev pub invariant-loop-inst : goal.invariant-loop-inst
+invariant-loop-inst l = l.assigned ≡ l.fn.assigned ++ flat_map inst_destinations (take l.inst-index l.insts)

@@ -1,0 +1,127 @@
+//! The class of each temporary of a function without phis, in a table.
+ghost use Rattle.std.specs.Prelude.{◌≡◌, ◌<◌, ◌+◌, ◌++◌, ℕ, length, map, IfOk, OnOk};
+ghost use Rattle.std.specs.List.{flat_map};
+ghost use Rattle.il_ast.specs.declared.block.Phi.{Phi as PhiOf};
+ghost use Rattle.il_ast.specs.Cost.{phi_count};
+ghost use Rattle.select.specs.Classes.{classes_in};
+ghost use Rattle.select.specs.Tables.{listed, destinations_in, param_destination, phi_destination, item_destinations, inst_destinations, block_destinations, has_word, word_or_long, phi_classes};
+
+use il_ast::block::{Block, Phi};
+use il_ast::function::{Func, Param};
+use il_ast::instruction::{Inst, Lined};
+use il_ast::list::Seq;
+use il_ast::operand::Dest;
+use il_ast::operation::Class;
+use std::alloc::{AllocError, Global};
+
+fn collect_params(assigned: &mut Seq<Dest>, params: &[Param]) -> Result<(), AllocError>
+    ensures { OnOk result (assigned.new ≡ assigned.old ++ map param_destination params.now) }
+{
+    for param in params {
+        assigned.push(Dest {
+            temp: param.temp,
+            class: param.class,
+        })?;
+    }
+    Ok(())
+}
+
+fn collect_phis(assigned: &mut Seq<Dest>, phis: &[Phi]) -> Result<(), AllocError>
+    ensures { OnOk result (assigned.new ≡ assigned.old ++ map phi_destination phis.now) }
+{
+    for phi in phis {
+        assigned.push(phi.to)?;
+    }
+    Ok(())
+}
+
+fn collect_inst(assigned: &mut Seq<Dest>, inst: &Inst) -> Result<(), AllocError>
+    ensures { OnOk result (assigned.new ≡ assigned.old ++ item_destinations inst.now) }
+{
+    match inst {
+        Inst::Unary { to, .. } => assigned.push(*to),
+        Inst::Binary { to, .. } => assigned.push(*to),
+        Inst::Alloc { to, .. } => assigned.push(*to),
+        Inst::Call { to: Some(to), .. } => assigned.push(*to),
+        _ => Ok(()),
+    }
+}
+
+fn collect_insts(assigned: &mut Seq<Dest>, insts: &[Lined<Inst>]) -> Result<(), AllocError>
+    ensures { OnOk result (assigned.new ≡ assigned.old ++ flat_map inst_destinations insts.now) }
+{
+    for inst in insts {
+        collect_inst(assigned, &inst.item)?;
+    }
+    Ok(())
+}
+
+fn collect_blocks(assigned: &mut Seq<Dest>, blocks: &[Block]) -> Result<(), AllocError>
+    ensures { OnOk result (assigned.new ≡ assigned.old ++ flat_map block_destinations blocks.now) }
+{
+    for block in blocks {
+        collect_phis(assigned, block.phis.as_slice())?;
+        collect_insts(assigned, block.insts.as_slice())?;
+    }
+    Ok(())
+}
+
+/// What parameters, phis and instructions assign.
+fn destinations(alloc: Global, func: &Func) -> Result<Seq<Dest>, AllocError>
+    ensures { IfOk result (λ assigned. assigned ≡ destinations_in func.now) }
+{
+    let mut assigned = Seq::new(alloc);
+    collect_params(&mut assigned, func.params.as_slice())?;
+    collect_blocks(&mut assigned, func.blocks.as_slice())?;
+    Ok(assigned)
+}
+
+/// The classes of so many temporaries: a word where it is assigned as one.
+fn assigned_classes(
+    alloc: Global,
+    temps: usize,
+    assigned: &[Dest],
+) -> Result<Vec<Class>, AllocError>
+    ensures length { IfOk result (λ table. length table.items ≡ temps) }
+    ensures entries { IfOk result (λ table. (t : ℕ) → t < temps → listed table.items t ≡ word_or_long (has_word t assigned.now)) }
+{
+    let mut table = vec![in alloc; Class::L; temps]?;
+    for to in assigned {
+        let number = to.temp.number();
+        if to.class == Class::W && number < table.len() {
+            table[number] = Class::W;
+        }
+    }
+    Ok(table)
+}
+
+fn push_classes(table: &mut Seq<Class>, phis: &[Phi]) -> Result<(), AllocError>
+    ensures { OnOk result (table.new ≡ table.old ++ map (λ (p : PhiOf). p.to.class) phis.now) }
+{
+    for phi in phis {
+        table.push(phi.to.class)?;
+    }
+    Ok(())
+}
+
+/// Puts the classes of the phis' own temporaries behind the others.
+fn push_phi_classes(table: &mut Seq<Class>, blocks: &[Block]) -> Result<(), AllocError>
+    ensures { OnOk result (table.new ≡ table.old ++ flat_map phi_classes blocks.now) }
+{
+    for block in blocks {
+        push_classes(table, block.phis.as_slice())?;
+    }
+    Ok(())
+}
+
+/// The class of each temporary of a function, and behind them that of each phi's own temporary.
+pub(crate) fn classes(alloc: Global, func: &Func) -> Result<Seq<Class>, AllocError>
+    ensures length { IfOk result (λ table. length table ≡ length func.now.temps + phi_count func.now) }
+    ensures entries { IfOk result (λ table. (t : ℕ) → listed table t ≡ classes_in func.now t) }
+{
+    let assigned = destinations(alloc, func)?;
+    let own = assigned_classes(alloc, func.temps.len(), assigned.as_slice())?;
+    let mut table = Seq::from_vec(own);
+    push_phi_classes(&mut table, func.blocks.as_slice())?;
+    Ok(table)
+}
