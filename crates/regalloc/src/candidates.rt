@@ -29,33 +29,20 @@ pub(crate) struct Candidate {
     /// whether it has a value over a call
     pub(crate) over_call: bool,
 
-    /// whether a register of it is a parameter or passed to a call
-    pub(crate) is_passed: bool,
+    /// the registers of arguments that it may stand in, by the numbers of their arguments
+    pub(crate) first: u8,
+    pub(crate) last: u8,
 
-    /// whether a register of it is the result of a call, or returned
-    pub(crate) is_result: bool,
-}
-
-fn joined(left: Demand, right: Demand) -> Demand {
-    Demand {
-        weight: left.weight.saturating_add(right.weight),
-        is_passed: left.is_passed || right.is_passed,
-        is_param: left.is_param || right.is_param,
-        is_result: left.is_result || right.is_result,
-    }
+    /// the one of them that saves moves
+    pub(crate) hint: Option<u8>,
 }
 
 // What all of these registers are used for.
 fn demand_of(demands: &[Demand], members: &[u32]) -> Demand {
-    let mut all = Demand {
-        weight: 0,
-        is_passed: false,
-        is_param: false,
-        is_result: false,
-    };
+    let mut all = Demand::none();
     for register in members {
         match demands.get(*register as usize) {
-            Some(demand) => all = joined(all, *demand),
+            Some(demand) => all = all.joined(*demand),
             None => {}
         }
     }
@@ -91,8 +78,13 @@ fn candidate_of(group: &Group, number: usize, demands: &Demands) -> Candidate {
         weight: demand.weight,
         group: number,
         over_call: ranges.iter().any(|range| is_over_call(calls, *range)),
-        is_passed: demand.is_passed,
-        is_result: demand.is_result,
+        first: demand.first,
+        last: demand.last,
+        hint: if 0 < demand.hint.weight {
+            Some(demand.hint.argument)
+        } else {
+            None
+        },
     }
 }
 
@@ -176,12 +168,12 @@ pub(crate) fn singles(
 
 // What the registers that have no register of the machine yet are used for; none where all have one.
 fn left_over(list: &[Location], demands: &[Demand], members: &[u32]) -> Option<Demand> {
-    let mut all = None;
+    let mut all: Option<Demand> = None;
     for register in members {
         if is_unplaced(list, *register) {
             let demand = demand_of(demands, [*register].as_slice());
             all = match all {
-                Some(other) => Some(joined(other, demand)),
+                Some(other) => Some(other.joined(demand)),
                 None => Some(demand),
             };
         }

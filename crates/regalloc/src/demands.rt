@@ -1,4 +1,5 @@
 //! How often each register is used, and by what.
+ghost use Rattle.std.specs.Prelude.{◌≤◌};
 use std::alloc::{AllocError, Global};
 use vcode::code::{Block, Code};
 use vcode::line::{Jump, Line};
@@ -10,12 +11,65 @@ pub(crate) struct Demand {
     /// twice the number of instructions that a register of the machine saves over a slot, where a block in a loop counts ten times as often
     pub(crate) weight: u64,
 
-    /// whether it is a parameter, or passed to a call
-    pub(crate) is_passed: bool,
     pub(crate) is_param: bool,
 
-    /// whether it is the result of a call, or returned
-    pub(crate) is_result: bool,
+    /// of the eight registers that arguments are passed in, the first and the last that it may stand in: what is passed to a call may not stand in the register of
+    /// an earlier argument, and a parameter not in that of a later one
+    pub(crate) first: u8,
+    pub(crate) last: u8,
+
+    /// the one of them that saves moves, as many as its weight
+    pub(crate) hint: Hint,
+}
+
+/// One of the registers that arguments are passed in, by the number of its argument.
+#[derive(Clone, Copy, Debug, PartialEq, Eq)]
+pub(crate) struct Hint {
+    pub(crate) argument: u8,
+    pub(crate) weight: u64,
+}
+
+impl Demand {
+    /// Nothing at all.
+    pub(crate) fn none() -> Demand {
+        Demand {
+            weight: 0,
+            is_param: false,
+            first: 0,
+            last: 7,
+            hint: Hint {
+                argument: 0,
+                weight: 0,
+            },
+        }
+    }
+
+    /// What both are used for.
+    pub(crate) fn joined(self, other: Demand) -> Demand {
+        Demand {
+            weight: self.weight.saturating_add(other.weight),
+            is_param: self.is_param || other.is_param,
+            first: self.first.max(other.first),
+            last: self.last.min(other.last),
+            hint: self.hint.joined(other.hint),
+        }
+    }
+}
+
+impl Hint {
+    // The same register with both weights, or the one that weighs more.
+    fn joined(self, other: Hint) -> Hint {
+        if self.argument == other.argument {
+            Hint {
+                argument: self.argument,
+                weight: self.weight.saturating_add(other.weight),
+            }
+        } else if self.weight < other.weight {
+            other
+        } else {
+            self
+        }
+    }
 }
 
 /// A copy of a register to another. In the order of copies the one that is done most often is the last.
@@ -53,11 +107,26 @@ fn add(demands: &mut Demands, register: u32, weight: u64) {
     }
 }
 
-fn pass(demands: &mut Demands, register: u32) {
+// It goes through the register of this argument, so often.
+fn add_hint(demands: &mut Demands, register: u32, argument: u8, weight: u64) {
     match demands.registers.get_mut(register as usize) {
-        Some(demand) => demand.is_passed = true,
+        Some(demand) => demand.hint = demand.hint.joined(Hint { argument, weight }),
         None => {}
     }
+}
+
+fn from_first(demands: &mut Demands, register: u32, first: u8) {
+    match demands.registers.get_mut(register as usize) {
+        Some(demand) => demand.first = demand.first.max(first),
+        None => {}
+    }
+}
+
+// The number of an argument, where 8 stands for all that are passed on the stack.
+fn number_of(k: usize) -> u8
+    ensures { result ≤ 8 }
+{
+    if k < 8 { k as u8 } else { 8 }
 }
 
 fn read(demands: &mut Demands, operand: &Operand<u32>, weight: u64) {
@@ -67,53 +136,66 @@ fn read(demands: &mut Demands, operand: &Operand<u32>, weight: u64) {
     }
 }
 
-fn pass_operand(demands: &mut Demands, operand: &Operand<u32>) {
+// The address of a function to call may stand in no register of arguments.
+fn callee_of(demands: &mut Demands, operand: &Operand<u32>) {
     match operand {
-        Operand::At(register) => pass(demands, *register),
+        Operand::At(register) => from_first(demands, *register, 8),
         _ => {}
     }
 }
 
-fn pass_args(demands: &mut Demands, args: &[Argument<u32>]) {
-    for arg in args {
-        pass_operand(demands, &arg.value);
+fn pass(demands: &mut Demands, operand: &Operand<u32>, argument: u8, often: u64) {
+    match operand {
+        Operand::At(register) => {
+            from_first(demands, *register, argument);
+            if argument < 8 {
+                add_hint(demands, *register, argument, often);
+            }
+        }
+        _ => {}
     }
 }
 
-fn pass_param(demands: &mut Demands, register: u32) {
+fn pass_args(demands: &mut Demands, args: &[Argument<u32>], often: u64) {
+    for (k, arg) in args.iter().enumerate() {
+        pass(demands, &arg.value, number_of(k), often);
+    }
+}
+
+fn param(demands: &mut Demands, register: u32, argument: u8) {
     match demands.registers.get_mut(register as usize) {
         Some(demand) => {
-            demand.is_passed = true;
             demand.is_param = true;
+            demand.last = demand.last.min(argument);
         }
         None => {}
     }
-}
-
-fn pass_params(demands: &mut Demands, params: &[Destination<u32>]) {
-    for param in params {
-        pass_param(demands, param.place);
+    if argument < 8 {
+        add_hint(demands, register, argument, 1);
     }
 }
 
-fn result(demands: &mut Demands, register: u32) {
-    match demands.registers.get_mut(register as usize) {
-        Some(demand) => demand.is_result = true,
-        None => {}
+fn params(demands: &mut Demands, params: &[Destination<u32>]) {
+    for (k, from) in params.iter().enumerate() {
+        param(demands, from.place, number_of(k));
     }
 }
 
-fn receive(demands: &mut Demands, to: &Option<Destination<u32>>) {
+// Results are where the first argument is.
+fn receive(demands: &mut Demands, to: &Option<Destination<u32>>, often: u64) {
     match to {
-        Some(destination) => result(demands, destination.place),
+        Some(destination) => add_hint(demands, destination.place, 0, often),
         None => {}
     }
 }
 
 fn jump(demands: &mut Demands, jump: &Jump<u32>, weight: u64) {
     match jump {
-        Jump::Branch { on, .. } => read(demands, on, weight),
-        Jump::Return(Some(Operand::At(register))) => result(demands, *register),
+        Jump::Branch { on, .. } => {
+            read(demands, &on.left, weight);
+            read(demands, &on.right, weight);
+        }
+        Jump::Return(Some(Operand::At(register))) => add_hint(demands, *register, 0, weight / 2),
         _ => {}
     }
 }
@@ -171,9 +253,9 @@ fn line(demands: &mut Demands, line: &Line<u32>, often: u64) -> Result<(), Alloc
         Line::Blit { .. } => {}
         Line::Call { to, callee, args } => {
             read(demands, callee, weight);
-            pass_operand(demands, callee);
-            pass_args(demands, args.as_slice());
-            receive(demands, to);
+            callee_of(demands, callee);
+            pass_args(demands, args.as_slice(), often);
+            receive(demands, to, often);
         }
     }
     Ok(())
@@ -239,15 +321,7 @@ pub(crate) fn demands_of(
     depths: &[u32],
 ) -> Result<Demands, AllocError> {
     let mut list = Vec::new(alloc);
-    list.resize(
-        registers as usize,
-        Demand {
-            weight: 0,
-            is_passed: false,
-            is_param: false,
-            is_result: false,
-        },
-    )?;
+    list.resize(registers as usize, Demand::none())?;
     let mut calls = Vec::new(alloc);
     calls.push(0)?;
     let mut demands = Demands {
@@ -255,7 +329,7 @@ pub(crate) fn demands_of(
         copies: Vec::new(alloc),
         calls,
     };
-    pass_params(&mut demands, code.params.as_slice());
+    params(&mut demands, code.params.as_slice());
     blocks(&mut demands, code.blocks.as_slice(), depths)?;
     Ok(demands)
 }

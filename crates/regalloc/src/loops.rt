@@ -38,7 +38,7 @@ struct Search {
 fn target(jump: &Jump<u32>, k: usize) -> Option<usize> {
     match (jump, k) {
         (Jump::Goto(block), 0) => Some(*block),
-        (Jump::Branch { nonzero, .. }, 0) => Some(*nonzero),
+        (Jump::Branch { met, .. }, 0) => Some(*met),
         (Jump::Branch { otherwise, .. }, 1) => Some(*otherwise),
         _ => None,
     }

@@ -95,12 +95,16 @@ pub(crate) fn rooms(alloc: Global, count: usize, points: usize) -> Result<Vec<Ro
     Ok(rooms)
 }
 
-// The first eight are for arguments, and the first eleven are not kept by callees.
+// The first eight are those of arguments, the last argument's first; and the first eleven are not kept by callees.
 fn may_hold(k: usize, candidate: &Candidate) -> bool {
     if 11 <= k {
         return true;
     }
-    !candidate.over_call && (8 <= k || !candidate.is_passed)
+    !candidate.over_call && (8 <= k || may_hold_argument(7 - k, candidate))
+}
+
+fn may_hold_argument(argument: usize, candidate: &Candidate) -> bool {
+    usize::from(candidate.first) <= argument && argument <= usize::from(candidate.last)
 }
 
 // A register that callees keep is saved and restored, once it is used: that takes two instructions.
@@ -108,25 +112,23 @@ fn pays(candidate: &Candidate) -> bool {
     4 < candidate.weight
 }
 
-// The number of the room of x10, in which results are.
-const RESULTS: usize = 7;
-
-// Whether the candidate has to do with results, and may stand where they are.
-fn stands_in_results(rooms: &[Room], candidate: &Candidate, ranges: &[Range]) -> bool {
-    if !candidate.is_result || !may_hold(RESULTS, candidate) {
-        return false;
-    }
-    match rooms.get(RESULTS) {
-        Some(room) => room.is_free(ranges),
-        None => false,
+// The register that the candidate would save moves in, if it may stand there.
+fn room_by_hint(rooms: &[Room], candidate: &Candidate, ranges: &[Range]) -> Option<usize> {
+    let k = 7usize.saturating_sub(usize::from(candidate.hint?));
+    let room = rooms.get(k)?;
+    if may_hold(k, candidate) && room.is_free(ranges) {
+        Some(k)
+    } else {
+        None
     }
 }
 
-/// The first register that is free for the ranges of the candidate, one that needs no saving if there is one; else none, or one that pays for that. What is a result
-/// stands with results if it may.
+/// The register that the candidate would save moves in, or else the first one that is free for the ranges of the candidate, one that needs no saving if there is one;
+/// else none, or one that pays for that.
 pub(crate) fn room_for(rooms: &[Room], candidate: &Candidate, ranges: &[Range]) -> Option<usize> {
-    if stands_in_results(rooms, candidate, ranges) {
-        return Some(RESULTS);
+    match room_by_hint(rooms, candidate, ranges) {
+        Some(k) => return Some(k),
+        None => {}
     }
     let mut unused = None;
     for (k, room) in rooms.iter().enumerate() {

@@ -64,13 +64,13 @@ fn one_register_after_another(rt: HostRuntime) -> Result<(), Fail> {
     let live = live(alloc, &function)?;
     match LinearScan::new(alloc).choose(&function, &live) {
         Some(certificate) => {
-            // the copy is made where the argument ends
-            let x5 = Location::Register(5);
-            assert_eq!(rt; certificate.params.as_slice(), [x5].as_slice());
+            // the copy is made where the argument ends, and all of it where it is passed and returned
+            let x10 = Location::Register(10);
+            assert_eq!(rt; certificate.params.as_slice(), [x10].as_slice());
             assert_eq!(rt; certificate.places.len(), 2);
             assert_eq!(rt;
                 certificate.places.as_slice()[0].as_slice(),
-                [at(0, x5), at(1, x5)].as_slice()
+                [at(0, x10), at(1, x10)].as_slice()
             );
         }
         None => assert!(rt; false, "no certificate"),

@@ -1,5 +1,4 @@
 pub mod BlockLines
-pub mod Comparing
 pub mod EachBlock
 pub mod Ending
 pub mod Going

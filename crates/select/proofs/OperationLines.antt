@@ -37,7 +37,7 @@ use Rattle.vcode.specs.Operations.{held, reg_on_places, operate, loaded, extende
 use Rattle.vcode.specs.Step.{State, value_of}
 use Rattle.select.specs.Selected.{is_whole, are_whole, word, words_compared, comparison_of, word_line, word_of, bits_of_words, bit_lines, compare_line, as_word, shifted, extend_lines, load_of, copy_lines, negate_lines, unary_lines, binary_lines}
 use Rattle.select.specs.Typed.{Classes, HasResult}
-use Rattle.select.proofs.Comparing.{holds_extended}
+use Rattle.vcode.proofs.Comparing.{holds_extended}
 use Rattle.select.proofs.Going.{Setting}
 use Rattle.select.proofs.Numbers.{WordRight, LongRight, ShiftRight, add_word, sub_word, mul_word, shl_word, shr_word, sar_word, div_word, rem_word, udiv_word, urem_word, add_long, sub_long, mul_long, and_long, or_long, xor_long, div_long, rem_long, udiv_long, urem_long, shl_long, shr_long, sar_long}
 use Rattle.select.proofs.Registers.{Reads, long_same, Stands}

@@ -297,7 +297,7 @@ return_few : (classes : Classes) (a : Option Val) → jump_cost (jump_of classes
 return_few classes None = omega arith
 return_few classes (Some a) = let x = operand_few (operand_of a) in omega (arith, x)
 
-branch_few : (k : Class) → branch_cost k ≤ 6
+branch_few : (k : Class) → branch_cost k ≤ 7
 branch_few W = omega arith
 branch_few L = omega arith
 
