@@ -1,0 +1,6 @@
+pub mod Grows
+pub mod Closed
+pub mod Running
+pub mod Keeping
+pub mod Reading
+pub mod Walking
