@@ -16,6 +16,7 @@ use asm_layout::layout::layout;
 use certificates::certificate::Certificate;
 use certificates::strategy::Strategy;
 use cfg_live::live::live;
+use dead_lines::remove::remove_dead_lines;
 use flat_code::function::{FlatFunc, flat};
 use il_ast::function::Func;
 use phi_copies::lower::lower;
@@ -69,7 +70,8 @@ pub fn virtual_code_of(alloc: Global, func: &Func) -> Result<VFunc, AllocError>
 {
     let lowered = lower(alloc, func)?;
     let selected = select(alloc, &lowered)?;
-    Ok(selected)
+    let kept = remove_dead_lines(alloc, &selected)?;
+    Ok(kept)
 }
 
 /// The function in location code, to be read on bytes, such as frames are made for: as the strategy has it where parameters and what calls take stand in no

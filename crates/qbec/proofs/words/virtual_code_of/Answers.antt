@@ -1,0 +1,12 @@
+use Rattle.std.proofs.Common.{subst}
+use Rattle.il_ast.specs.declared.function.Func.{Func}
+use Rattle.il_ast.specs.Passes.{IsCodeOf}
+use Rattle.il_ast.proofs.Passing.{passes_stay}
+use Rattle.vcode.specs.Coded.{virtual_code}
+use Rattle.qbec.proofs.words.virtual_code_of.Goals as goal
+
+pub returns : goal.returns
+returns c =
+    let v = c.in_ok-selected.selected in
+    passes_stay c.args.func.now (virtual_code v) (virtual_code c.in_ok-kept.kept)
+    (subst (λ (f : Func). IsCodeOf f (virtual_code v)) c.in_ok-lowered.ensures.same c.in_ok-selected.ensures.is) c.in_ok-kept.ensures.kept
