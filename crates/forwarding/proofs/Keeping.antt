@@ -1,0 +1,452 @@
+-- Code that is put by what is known is regular, takes no more than the code did, and keeps it.
+use Rattle.std.proofs.Common.{◌≡◌, ℕ, zero, suc, ◌+◌, ◌-◌, ◌*◌, ◌≤◌, Bool, true, false, not, ◌&&◌, ◌||◌, nat_eq, nat_lt, nat_le, if◌then◌else◌, List, [], ◌∷◌, map, length, fold, Option, Some, None, refl, sym, ◌∙◌, ap, subst, arith}
+use Rattle.std.specs.Prelude.{IsTrue, max}
+use Rattle.std.specs.Option.{option_map, option_map_or}
+use Rattle.std.specs.List.{list_all, list_any, sum_by}
+use Rattle.std.proofs.lemmas.Bool.Decides.{nat_tests}
+use Rattle.il_ast.specs.declared.operation.Condition.{Condition}
+use Rattle.il_ast.specs.declared.operation.Condition.TheVariants.{Equal, NotEqual, SignedLessEqual, SignedLess, SignedGreaterEqual, SignedGreater, UnsignedLessEqual, UnsignedLess, UnsignedGreaterEqual, UnsignedGreater}
+use Rattle.il_ast.specs.Passes.{Keeps}
+use Rattle.vcode.specs.declared.place.Operand.{Operand}
+use Rattle.vcode.specs.declared.place.Operand.TheVariants.{At, Number, Name}
+use Rattle.vcode.specs.declared.place.Argument.{Argument}
+use Rattle.vcode.specs.declared.place.Destination.{Destination}
+use Rattle.vcode.specs.declared.line.Comparison.{Comparison}
+use Rattle.vcode.specs.declared.line.Line.{Line}
+use Rattle.vcode.specs.declared.line.Line.TheVariants.{Tick, Set, Operate, Load, Store, Alloc, Blit, Call}
+use Rattle.vcode.specs.declared.line.Jump.{Jump}
+use Rattle.vcode.specs.declared.line.Jump.TheVariants.{Goto, Branch, Return, Halt}
+use Rattle.vcode.specs.declared.code.Block.{Block}
+use Rattle.vcode.specs.declared.code.Code.{Code}
+use Rattle.vcode.specs.declared.function.VFunc.{VFunc}
+use Rattle.vcode.specs.Coded.{classes_in, coded}
+use Rattle.vcode.specs.Cost.{is_immediate, operand_cost, line_cost, jump_cost, affords, is_paid}
+use Rattle.vcode.specs.Named.{operand_keeps, wanted_keeps, line_keeps, jump_keeps, block_keeps, keeps_places, is_below}
+use Rattle.vcode.specs.Outgoing.{args_on_stack, most_in_lines, most_in_blocks, outgoing}
+use Rattle.vcode.specs.Places.{virtual}
+use Rattle.vcode.specs.Regular.{is_target, leads_inside, is_alloc, allocs_first, alloc_bytes, area, turns_of, passes_few, weight_of, code_weight, IsRegular}
+use Rattle.forwarding.specs.declared.fact.Fact.{Fact}
+use Rattle.forwarding.specs.declared.fact.Fact.TheVariants.{Same, Test}
+use Rattle.forwarding.specs.Facts.{Facts, operand_below, fact_below, AreBelow}
+use Rattle.forwarding.specs.Forwarded.{is_short, copied, forward, Replacing, with_argument, with_line, with_comparison, test_of, tested_by, cheaper, with_test, with_branch, with_jump, After, AreForwarded, IsForwarded, AllForwarded}
+use Rattle.forwarding.proofs.Writing.{both_true}
+use Rattle.forwarding.proofs.Running.{runs}
+
+both_are : (a b : Bool) → a ≡ true → b ≡ true → (a && b) ≡ true
+both_are a b h k = ap (λ x. x && b) h ∙ k
+
+-- ---- operands cost no more, and are as low
+
+short_cost : (b : Operand ℕ) (r : ℕ) (c : Bool) → is_short b ≡ c → operand_cost (if c then b else At r) ≤ 3
+short_cost b r false e = omega arith
+short_cost (At q) r true e = omega arith
+short_cost (Number n) r true e = let a : Operand ℕ = Number n in let low : operand_cost a ≡ 1 = ap (λ (x : Bool). if x then 1 else 9) e in omega arith
+short_cost (Name g) r true e = absurd (let no : ⊥ = cc in no)
+
+fact_cost : (o : Option Fact) (r : ℕ) → operand_cost (option_map_or (copied (At r)) o (At r)) ≤ 3
+fact_cost None r = omega arith
+fact_cost (Some (Same b)) r = short_cost b r (is_short b) refl
+fact_cost (Some (Test c)) r = omega arith
+
+forward_cost : (fs : Facts) (a : Operand ℕ) → operand_cost (forward fs a) ≤ operand_cost a
+forward_cost fs (At r) = fact_cost (fs r) r
+forward_cost fs (Number n) = omega arith
+forward_cost fs (Name g) = omega arith
+
+short_low : (n r : ℕ) (b : Operand ℕ) (c : Bool) → operand_below n b ≡ true → nat_lt r n ≡ true → operand_keeps (is_below n) (if c then b else At r) ≡ true
+short_low n r b false h low = low
+short_low n r (At q) true h low = h
+short_low n r (Number m) true h low = refl
+short_low n r (Name g) true h low = refl
+
+fact_low : (n r : ℕ) (o : Option Fact) → ((f : Fact) → o ≡ Some f → fact_below n f ≡ true) → nat_lt r n ≡ true → operand_keeps (is_below n) (option_map_or (copied (At r)) o (At r)) ≡ true
+fact_low n r None h low = low
+fact_low n r (Some (Same b)) h low = short_low n r b (is_short b) (h (Same b) refl) low
+fact_low n r (Some (Test c)) h low = low
+
+forward_low : (n : ℕ) (fs : Facts) → AreBelow n fs → (a : Operand ℕ) → operand_keeps (is_below n) a ≡ true → operand_keeps (is_below n) (forward fs a) ≡ true
+forward_low n fs below (At r) h = fact_low n r (fs r) (below r) h
+forward_low n fs below (Number m) h = refl
+forward_low n fs below (Name g) h = refl
+
+-- ---- lines
+
+args_count : (f : Replacing) (args : List (Argument ℕ)) → length (map (with_argument f) args) ≡ length args
+args_count f [] = refl
+args_count f (a ∷ args) = ap suc (args_count f args)
+
+line_costs : (fs : Facts) (l : Line ℕ) → line_cost (with_line (forward fs) l) ≤ line_cost l
+line_costs fs (Tick turn w) = omega arith
+line_costs fs (Set to a) = let x = forward_cost fs a in omega (arith, x)
+line_costs fs (Operate to op a b) = let x = forward_cost fs a in let y = forward_cost fs b in omega (arith, x, y)
+line_costs fs (Load to op a) = let x = forward_cost fs a in omega (arith, x)
+line_costs fs (Store size a b) = let x = forward_cost fs a in let y = forward_cost fs b in omega (arith, x, y)
+line_costs fs (Alloc to size) = omega arith
+line_costs fs (Blit a b count) = let x = forward_cost fs a in let y = forward_cost fs b in omega (arith, x, y)
+line_costs fs (Call to callee args) = let e = args_count (forward fs) args in omega (arith, e)
+
+args_low : (n : ℕ) (fs : Facts) → AreBelow n fs → (args : List (Argument ℕ)) → list_all (λ (a : Argument ℕ). operand_keeps (is_below n) a.value) args ≡ true
+    → list_all (λ (a : Argument ℕ). operand_keeps (is_below n) a.value) (map (with_argument (forward fs)) args) ≡ true
+args_low n fs below [] h = refl
+args_low n fs below (a ∷ args) h =
+    let s = both_true (operand_keeps (is_below n) a.value) (list_all (λ (b : Argument ℕ). operand_keeps (is_below n) b.value) args) h in
+    both_are (operand_keeps (is_below n) (forward fs a.value)) (list_all (λ (b : Argument ℕ). operand_keeps (is_below n) b.value) (map (with_argument (forward fs)) args))
+    (forward_low n fs below a.value s.0) (args_low n fs below args s.1)
+
+two_low : (n : ℕ) (fs : Facts) → AreBelow n fs → (a b : Operand ℕ) → (operand_keeps (is_below n) a && operand_keeps (is_below n) b) ≡ true
+    → (operand_keeps (is_below n) (forward fs a) && operand_keeps (is_below n) (forward fs b)) ≡ true
+two_low n fs below a b h =
+    let s = both_true (operand_keeps (is_below n) a) (operand_keeps (is_below n) b) h in
+    both_are (operand_keeps (is_below n) (forward fs a)) (operand_keeps (is_below n) (forward fs b)) (forward_low n fs below a s.0) (forward_low n fs below b s.1)
+
+line_low : (n : ℕ) (fs : Facts) → AreBelow n fs → (l : Line ℕ) → line_keeps (is_below n) l ≡ true → line_keeps (is_below n) (with_line (forward fs) l) ≡ true
+line_low n fs below (Tick turn w) h = refl
+line_low n fs below (Set to a) h =
+    let s = both_true (is_below n to) (operand_keeps (is_below n) a) h in both_are (is_below n to) (operand_keeps (is_below n) (forward fs a)) s.0 (forward_low n fs below a s.1)
+line_low n fs below (Operate to op a b) h =
+    let s = both_true (is_below n to) (operand_keeps (is_below n) a && operand_keeps (is_below n) b) h in
+    both_are (is_below n to) (operand_keeps (is_below n) (forward fs a) && operand_keeps (is_below n) (forward fs b)) s.0 (two_low n fs below a b s.1)
+line_low n fs below (Load to op a) h =
+    let s = both_true (is_below n to) (operand_keeps (is_below n) a) h in both_are (is_below n to) (operand_keeps (is_below n) (forward fs a)) s.0 (forward_low n fs below a s.1)
+line_low n fs below (Store size a b) h = two_low n fs below a b h
+line_low n fs below (Alloc to size) h = h
+line_low n fs below (Blit a b count) h = two_low n fs below a b h
+line_low n fs below (Call to callee args) h =
+    let s = both_true (wanted_keeps (is_below n) to) (operand_keeps (is_below n) callee && list_all (λ (a : Argument ℕ). operand_keeps (is_below n) a.value) args) h in
+    let t = both_true (operand_keeps (is_below n) callee) (list_all (λ (a : Argument ℕ). operand_keeps (is_below n) a.value) args) s.1 in
+    both_are (wanted_keeps (is_below n) to)
+    (operand_keeps (is_below n) (forward fs callee) && list_all (λ (a : Argument ℕ). operand_keeps (is_below n) a.value) (map (with_argument (forward fs)) args)) s.0
+    (both_are (operand_keeps (is_below n) (forward fs callee)) (list_all (λ (a : Argument ℕ). operand_keeps (is_below n) a.value) (map (with_argument (forward fs)) args))
+    (forward_low n fs below callee t.0) (args_low n fs below args t.1))
+
+-- ---- jumps
+
+-- what holds of both branches holds of the one that is chosen
+test_either : (good : Jump ℕ → Type 0) (k : Condition) (on : Comparison ℕ) (met otherwise : ℕ) (o : Option (Comparison ℕ)) → good (Branch on met otherwise)
+    → ((c : Comparison ℕ) → o ≡ Some c → nat_le (jump_cost (Branch c met otherwise)) (jump_cost (Branch on met otherwise)) ≡ true → good (Branch c met otherwise) × good (Branch c otherwise met))
+    → good (with_test k on met otherwise o)
+test_either good NotEqual on met otherwise None g h = g
+test_either good Equal on met otherwise None g h = g
+test_either good SignedLessEqual on met otherwise o g h = g
+test_either good SignedLess on met otherwise o g h = g
+test_either good SignedGreaterEqual on met otherwise o g h = g
+test_either good SignedGreater on met otherwise o g h = g
+test_either good UnsignedLessEqual on met otherwise o g h = g
+test_either good UnsignedLess on met otherwise o g h = g
+test_either good UnsignedGreaterEqual on met otherwise o g h = g
+test_either good UnsignedGreater on met otherwise o g h = g
+test_either good NotEqual on met otherwise (Some c) g h = by (nat_le (jump_cost (Branch c met otherwise)) (jump_cost (Branch on met otherwise))) refl
+  where
+    by : (b : Bool) → nat_le (jump_cost (Branch c met otherwise)) (jump_cost (Branch on met otherwise)) ≡ b → good (if b then Branch c met otherwise else Branch on met otherwise)
+    by true e = (h c refl e).0
+    by false e = g
+test_either good Equal on met otherwise (Some c) g h = by (nat_le (jump_cost (Branch c otherwise met)) (jump_cost (Branch on met otherwise))) refl
+  where
+    by : (b : Bool) → nat_le (jump_cost (Branch c otherwise met)) (jump_cost (Branch on met otherwise)) ≡ b → good (if b then Branch c otherwise met else Branch on met otherwise)
+    by true e = (h c refl e).1
+    by false e = g
+
+fact_test : (n : ℕ) (o : Option Fact) (c : Comparison ℕ) → ((f : Fact) → o ≡ Some f → fact_below n f ≡ true) → test_of o ≡ Some c → fact_below n (Test c) ≡ true
+fact_test n None c h e = absurd (let no : ⊥ = cc in no)
+fact_test n (Some (Same b)) c h e = absurd (let no : ⊥ = cc in no)
+fact_test n (Some (Test d)) c h e = let same : d ≡ c = cc in ap (λ (x : Comparison ℕ). fact_below n (Test x)) (sym same) ∙ h (Test d) refl
+
+if_test : (n : ℕ) (o : Option Fact) (c : Comparison ℕ) (b : Bool) → ((f : Fact) → o ≡ Some f → fact_below n f ≡ true) → (if b then test_of o else None) ≡ Some c → fact_below n (Test c) ≡ true
+if_test n o c true h e = fact_test n o c h e
+if_test n o c false h e = absurd (let no : ⊥ = cc in no)
+
+tested_low : (n : ℕ) (fs : Facts) → AreBelow n fs → (a b : Operand ℕ) (c : Comparison ℕ) → tested_by fs a b ≡ Some c → fact_below n (Test c) ≡ true
+tested_low n fs below (At r) (Number m) c e = if_test n (fs r) c (nat_eq m 0) (below r) e
+tested_low n fs below (At r) (At q) c e = absurd (let no : ⊥ = cc in no)
+tested_low n fs below (At r) (Name g) c e = absurd (let no : ⊥ = cc in no)
+tested_low n fs below (Number m) b c e = absurd (let no : ⊥ = cc in no)
+tested_low n fs below (Name m) b c e = absurd (let no : ⊥ = cc in no)
+
+keeps_below : (n : ℕ) (a : Operand ℕ) → operand_below n a ≡ true → operand_keeps (is_below n) a ≡ true
+keeps_below n (At r) h = h
+keeps_below n (Number m) h = refl
+keeps_below n (Name g) h = refl
+
+jump_costs : (n : ℕ) (fs : Facts) → (j : Jump ℕ) → jump_cost (with_jump fs j) ≤ jump_cost j
+jump_costs n fs (Goto k) = omega arith
+jump_costs n fs (Branch on met otherwise) =
+    let new : Comparison ℕ = with_comparison (forward fs) on in
+    let x = forward_cost fs on.left in
+    let y = forward_cost fs on.right in
+    let plain : jump_cost (Branch new met otherwise) ≤ jump_cost (Branch on met otherwise) = omega (arith, x, y) in
+    test_either (λ k. jump_cost k ≤ jump_cost (Branch on met otherwise)) new.condition new met otherwise (tested_by fs new.left new.right) plain
+    (λ c e h. let low : jump_cost (Branch c met otherwise) ≤ jump_cost (Branch new met otherwise) = grind (arith, nat_tests) in (omega (arith, low, plain), omega (arith, low, plain)))
+jump_costs n fs (Return None) = omega arith
+jump_costs n fs (Return (Some a)) = let x = forward_cost fs a in omega (arith, x)
+jump_costs n fs Halt = omega arith
+
+jump_low : (n : ℕ) (fs : Facts) → AreBelow n fs → (j : Jump ℕ) → jump_keeps (is_below n) j ≡ true → jump_keeps (is_below n) (with_jump fs j) ≡ true
+jump_low n fs below (Goto k) h = refl
+jump_low n fs below (Branch on met otherwise) h =
+    let new : Comparison ℕ = with_comparison (forward fs) on in
+    test_either (λ k. jump_keeps (is_below n) k ≡ true) new.condition new met otherwise (tested_by fs new.left new.right) (two_low n fs below on.left on.right h)
+    (λ c e cost. let s = both_true (operand_below n c.left) (operand_below n c.right) (tested_low n fs below new.left new.right c e) in
+    let all = both_are (operand_keeps (is_below n) c.left) (operand_keeps (is_below n) c.right) (keeps_below n c.left s.0) (keeps_below n c.right s.1) in (all, all))
+jump_low n fs below (Return None) h = refl
+jump_low n fs below (Return (Some a)) h = forward_low n fs below a h
+jump_low n fs below Halt h = refl
+
+jump_inside : (n m : ℕ) (fs : Facts) (j : Jump ℕ) → leads_inside m j ≡ true → leads_inside m (with_jump fs j) ≡ true
+jump_inside n m fs (Goto k) h = h
+jump_inside n m fs (Branch on met otherwise) h =
+    let new : Comparison ℕ = with_comparison (forward fs) on in
+    let s = both_true (is_target m met) (is_target m otherwise) h in
+    test_either (λ k. leads_inside m k ≡ true) new.condition new met otherwise (tested_by fs new.left new.right) h
+    (λ c e cost. (h, both_are (is_target m otherwise) (is_target m met) s.1 s.0))
+jump_inside n m fs (Return a) h = refl
+jump_inside n m fs Halt h = refl
+
+-- ---- what is paid for
+
+pays : (old new credit more : ℕ) (j k : Jump ℕ) (lines lines2 : List (Line ℕ)) → new ≤ old → credit ≤ more → ((c m : ℕ) → c ≤ m → affords c j lines ≡ true → affords m k lines2 ≡ true)
+    → (nat_le old credit && affords (credit - old) j lines) ≡ true → (nat_le new more && affords (more - new) k lines2) ≡ true
+pays old new credit more j k lines lines2 cheap le rest h =
+    let s = both_true (nat_le old credit) (affords (credit - old) j lines) h in
+    both_are (nat_le new more) (affords (more - new) k lines2) (let a = s.0 in grind (arith, nat_tests)) (rest (credit - old) (more - new) (omega arith) s.1)
+
+line_paid : (fs : Facts) (l : Line ℕ) (credit more : ℕ) (j k : Jump ℕ) (lines lines2 : List (Line ℕ)) → credit ≤ more → ((c m : ℕ) → c ≤ m → affords c j lines ≡ true → affords m k lines2 ≡ true)
+    → affords credit j (l ∷ lines) ≡ true → affords more k (with_line (forward fs) l ∷ lines2) ≡ true
+line_paid fs (Tick turn w) credit more j k lines lines2 le rest h = rest (credit + 32 * w) (more + 32 * w) (omega arith) h
+line_paid fs (Set to a) credit more j k lines lines2 le rest h =
+    pays (line_cost (Set to a)) (line_cost (with_line (forward fs) (Set to a))) credit more j k lines lines2 (line_costs fs (Set to a)) le rest h
+line_paid fs (Operate to op a b) credit more j k lines lines2 le rest h =
+    pays (line_cost (Operate to op a b)) (line_cost (with_line (forward fs) (Operate to op a b))) credit more j k lines lines2 (line_costs fs (Operate to op a b)) le rest h
+line_paid fs (Load to op a) credit more j k lines lines2 le rest h =
+    pays (line_cost (Load to op a)) (line_cost (with_line (forward fs) (Load to op a))) credit more j k lines lines2 (line_costs fs (Load to op a)) le rest h
+line_paid fs (Store size a b) credit more j k lines lines2 le rest h =
+    pays (line_cost (Store size a b)) (line_cost (with_line (forward fs) (Store size a b))) credit more j k lines lines2 (line_costs fs (Store size a b)) le rest h
+line_paid fs (Alloc to size) credit more j k lines lines2 le rest h =
+    let l : Line ℕ = Alloc to size in pays (line_cost l) (line_cost l) credit more j k lines lines2 (omega arith) le rest h
+line_paid fs (Blit a b count) credit more j k lines lines2 le rest h =
+    pays (line_cost (Blit a b count)) (line_cost (with_line (forward fs) (Blit a b count))) credit more j k lines lines2 (line_costs fs (Blit a b count)) le rest h
+line_paid fs (Call to callee args) credit more j k lines lines2 le rest h =
+    pays (line_cost (Call to callee args)) (line_cost (with_line (forward fs) (Call to callee args))) credit more j k lines lines2 (line_costs fs (Call to callee args)) le rest h
+
+lines_paid : (n : ℕ) (fs : Facts) (lines new : List (Line ℕ)) (j k : Jump ℕ) → AreForwarded n fs lines new j k → (credit more : ℕ) → credit ≤ more → affords credit j lines ≡ true → affords more k new ≡ true
+lines_paid n fs [] [] j k f credit more le h =
+    let cost = jump_costs n fs j in ap (λ (x : Jump ℕ). nat_le (jump_cost x) more) f.1 ∙ (let a : jump_cost (with_jump fs j) ≤ jump_cost j = cost in grind (arith, nat_tests))
+lines_paid n fs [] (m ∷ new) j k f credit more le h = absurd f
+lines_paid n fs (l ∷ lines) [] j k f credit more le h = absurd f
+lines_paid n fs (l ∷ lines) (m ∷ new) j k f credit more le h =
+    ap (λ (x : Line ℕ). affords more k (x ∷ new)) f.1.0 ∙ line_paid fs l credit more j k lines new le (lines_paid n f.1.1.0 lines new j k f.1.1.1.1) h
+
+-- ---- measures of lines that stay
+
+abbrev Stays : {X : Type 0} → (Line ℕ → X) → Type 0
+Stays {X} g = (f : Replacing) (l : Line ℕ) → g (with_line f l) ≡ g l
+
+weight_stays : Stays weight_of
+weight_stays f (Tick turn w) = refl
+weight_stays f (Set to a) = refl
+weight_stays f (Operate to op a b) = refl
+weight_stays f (Load to op a) = refl
+weight_stays f (Store size a b) = refl
+weight_stays f (Alloc to size) = refl
+weight_stays f (Blit a b count) = refl
+weight_stays f (Call to callee args) = refl
+
+bytes_stay : Stays alloc_bytes
+bytes_stay f (Tick turn w) = refl
+bytes_stay f (Set to a) = refl
+bytes_stay f (Operate to op a b) = refl
+bytes_stay f (Load to op a) = refl
+bytes_stay f (Store size a b) = refl
+bytes_stay f (Alloc to size) = refl
+bytes_stay f (Blit a b count) = refl
+bytes_stay f (Call to callee args) = refl
+
+turns_stay : Stays turns_of
+turns_stay f (Tick true w) = refl
+turns_stay f (Tick false w) = refl
+turns_stay f (Set to a) = refl
+turns_stay f (Operate to op a b) = refl
+turns_stay f (Load to op a) = refl
+turns_stay f (Store size a b) = refl
+turns_stay f (Alloc to size) = refl
+turns_stay f (Blit a b count) = refl
+turns_stay f (Call to callee args) = refl
+
+alloc_stays : Stays is_alloc
+alloc_stays f (Tick turn w) = refl
+alloc_stays f (Set to a) = refl
+alloc_stays f (Operate to op a b) = refl
+alloc_stays f (Load to op a) = refl
+alloc_stays f (Store size a b) = refl
+alloc_stays f (Alloc to size) = refl
+alloc_stays f (Blit a b count) = refl
+alloc_stays f (Call to callee args) = refl
+
+few_stays : Stays passes_few
+few_stays f (Tick turn w) = refl
+few_stays f (Set to a) = refl
+few_stays f (Operate to op a b) = refl
+few_stays f (Load to op a) = refl
+few_stays f (Store size a b) = refl
+few_stays f (Alloc to size) = refl
+few_stays f (Blit a b count) = refl
+few_stays f (Call to callee args) = ap (λ n. nat_le n 64) (args_count f args)
+
+passed_stays : Stays args_on_stack
+passed_stays f (Tick turn w) = refl
+passed_stays f (Set to a) = refl
+passed_stays f (Operate to op a b) = refl
+passed_stays f (Load to op a) = refl
+passed_stays f (Store size a b) = refl
+passed_stays f (Alloc to size) = refl
+passed_stays f (Blit a b count) = refl
+passed_stays f (Call to callee args) = ap (λ n. n - 8) (args_count f args)
+
+-- ---- lines side by side
+
+-- lines of the second that are those of the first with other operands
+abbrev Alike : (lines new : List (Line ℕ)) → Type 0
+Alike [] [] = Unit {0}
+Alike [] (m ∷ new) = ⊥
+Alike (l ∷ lines) [] = ⊥
+Alike (l ∷ lines) (m ∷ new) = ((f : Replacing) × (m ≡ with_line f l)) × Alike lines new
+
+alike : (n : ℕ) (fs : Facts) (lines new : List (Line ℕ)) (j k : Jump ℕ) → AreForwarded n fs lines new j k → Alike lines new
+alike n fs [] [] j k f = tt
+alike n fs [] (m ∷ new) j k f = absurd f
+alike n fs (l ∷ lines) [] j k f = absurd f
+alike n fs (l ∷ lines) (m ∷ new) j k f = ((forward fs, f.1.0), alike n f.1.1.0 lines new j k f.1.1.1.1)
+
+sum_from : (g : Line ℕ → ℕ) → Stays g → (lines new : List (Line ℕ)) → Alike lines new → (a : ℕ) → fold (λ n l. n + g l) a new ≡ fold (λ n l. n + g l) a lines
+sum_from g same [] [] h a = refl
+sum_from g same [] (m ∷ new) h a = absurd h
+sum_from g same (l ∷ lines) [] h a = absurd h
+sum_from g same (l ∷ lines) (m ∷ new) h a =
+    ap (λ k. fold (λ n x. n + g x) (a + k) new) (ap g h.0.1 ∙ same h.0.0 l) ∙ sum_from g same lines new h.1 (a + g l)
+
+lines_sum : (g : Line ℕ → ℕ) → Stays g → (lines new : List (Line ℕ)) → Alike lines new → sum_by g new ≡ sum_by g lines
+lines_sum g same lines new h = sum_from g same lines new h 0
+
+lines_all : (test : Line ℕ → Bool) → Stays test → (lines new : List (Line ℕ)) → Alike lines new → list_all test new ≡ list_all test lines
+lines_all test same [] [] h = refl
+lines_all test same [] (m ∷ new) h = absurd h
+lines_all test same (l ∷ lines) [] h = absurd h
+lines_all test same (l ∷ lines) (m ∷ new) h = ap (λ b. b && list_all test new) (ap test h.0.1 ∙ same h.0.0 l) ∙ ap (λ b. test l && b) (lines_all test same lines new h.1)
+
+lines_any : (test : Line ℕ → Bool) → Stays test → (lines new : List (Line ℕ)) → Alike lines new → list_any test new ≡ list_any test lines
+lines_any test same [] [] h = refl
+lines_any test same [] (m ∷ new) h = absurd h
+lines_any test same (l ∷ lines) [] h = absurd h
+lines_any test same (l ∷ lines) (m ∷ new) h = ap (λ b. b || list_any test new) (ap test h.0.1 ∙ same h.0.0 l) ∙ ap (λ b. test l || b) (lines_any test same lines new h.1)
+
+most_same : (lines new : List (Line ℕ)) → Alike lines new → most_in_lines new ≡ most_in_lines lines
+most_same [] [] h = refl
+most_same [] (m ∷ new) h = absurd h
+most_same (l ∷ lines) [] h = absurd h
+most_same (l ∷ lines) (m ∷ new) h = ap (λ n. max n (most_in_lines new)) (ap args_on_stack h.0.1 ∙ passed_stays h.0.0 l) ∙ ap (λ n. max (args_on_stack l) n) (most_same lines new h.1)
+
+lines_low : (n : ℕ) (fs : Facts) (lines new : List (Line ℕ)) (j k : Jump ℕ) → AreForwarded n fs lines new j k → (list_all (line_keeps (is_below n)) lines && jump_keeps (is_below n) j) ≡ true
+    → (list_all (line_keeps (is_below n)) new && jump_keeps (is_below n) k) ≡ true
+lines_low n fs [] [] j k f h = ap (jump_keeps (is_below n)) f.1 ∙ jump_low n fs f.0 j h
+lines_low n fs [] (m ∷ new) j k f h = absurd f
+lines_low n fs (l ∷ lines) [] j k f h = absurd f
+lines_low n fs (l ∷ lines) (m ∷ new) j k f h =
+    let s = both_true (line_keeps (is_below n) l && list_all (line_keeps (is_below n)) lines) (jump_keeps (is_below n) j) h in
+    let t = both_true (line_keeps (is_below n) l) (list_all (line_keeps (is_below n)) lines) s.0 in
+    let rest = lines_low n f.1.1.0 lines new j k f.1.1.1.1 (both_are (list_all (line_keeps (is_below n)) lines) (jump_keeps (is_below n) j) t.1 s.1) in
+    let u = both_true (list_all (line_keeps (is_below n)) new) (jump_keeps (is_below n) k) rest in
+    both_are (line_keeps (is_below n) m && list_all (line_keeps (is_below n)) new) (jump_keeps (is_below n) k)
+    (both_are (line_keeps (is_below n) m) (list_all (line_keeps (is_below n)) new) (ap (line_keeps (is_below n)) f.1.0 ∙ line_low n fs f.0 l t.0) u.0) u.1
+
+inside_from : (n size : ℕ) (fs : Facts) (lines new : List (Line ℕ)) (j k : Jump ℕ) → AreForwarded n fs lines new j k → leads_inside size j ≡ true → leads_inside size k ≡ true
+inside_from n size fs [] [] j k f h = ap (leads_inside size) f.1 ∙ jump_inside n size fs j h
+inside_from n size fs [] (m ∷ new) j k f h = absurd f
+inside_from n size fs (l ∷ lines) [] j k f h = absurd f
+inside_from n size fs (l ∷ lines) (m ∷ new) j k f h = inside_from n size f.1.1.0 lines new j k f.1.1.1.1 h
+
+-- ---- blocks side by side
+
+block_alike : (n : ℕ) (b c : Block ℕ) → IsForwarded n b c → Alike b.lines c.lines
+block_alike n b c f = alike n f.facts b.lines c.lines b.jump c.jump f.lines
+
+blocks_count : (n : ℕ) (blocks new : List (Block ℕ)) → AllForwarded n blocks new → length new ≡ length blocks
+blocks_count n [] [] h = refl
+blocks_count n [] (c ∷ new) h = absurd h
+blocks_count n (b ∷ blocks) [] h = absurd h
+blocks_count n (b ∷ blocks) (c ∷ new) h = ap suc (blocks_count n blocks new h.1)
+
+blocks_from : (g : Line ℕ → ℕ) → Stays g → (n : ℕ) (blocks new : List (Block ℕ)) → AllForwarded n blocks new → (a : ℕ)
+    → fold (λ m (b : Block ℕ). m + sum_by g b.lines) a new ≡ fold (λ m (b : Block ℕ). m + sum_by g b.lines) a blocks
+blocks_from g same n [] [] h a = refl
+blocks_from g same n [] (c ∷ new) h a = absurd h
+blocks_from g same n (b ∷ blocks) [] h a = absurd h
+blocks_from g same n (b ∷ blocks) (c ∷ new) h a =
+    ap (λ k. fold (λ m (d : Block ℕ). m + sum_by g d.lines) (a + k) new) (lines_sum g same b.lines c.lines (block_alike n b c h.0)) ∙ blocks_from g same n blocks new h.1 (a + sum_by g b.lines)
+
+blocks_all : (test : Block ℕ → Bool) (n : ℕ) → ((b c : Block ℕ) → IsForwarded n b c → test b ≡ true → test c ≡ true) → (blocks new : List (Block ℕ)) → AllForwarded n blocks new
+    → list_all test blocks ≡ true → list_all test new ≡ true
+blocks_all test n keep [] [] h all = refl
+blocks_all test n keep [] (c ∷ new) h all = absurd h
+blocks_all test n keep (b ∷ blocks) [] h all = absurd h
+blocks_all test n keep (b ∷ blocks) (c ∷ new) h all =
+    let s = both_true (test b) (list_all test blocks) all in both_are (test c) (list_all test new) (keep b c h.0 s.0) (blocks_all test n keep blocks new h.1 s.1)
+
+first_kept : (n : ℕ) (blocks new : List (Block ℕ)) → AllForwarded n blocks new → allocs_first blocks ≡ true → allocs_first new ≡ true
+first_kept n [] [] h all = refl
+first_kept n [] (c ∷ new) h all = absurd h
+first_kept n (b ∷ blocks) [] h all = absurd h
+first_kept n (b ∷ blocks) (c ∷ new) h all =
+    blocks_all (λ (d : Block ℕ). not (list_any is_alloc d.lines)) n (λ x y f e. ap not (lines_any is_alloc alloc_stays x.lines y.lines (block_alike n x y f)) ∙ e) blocks new h.1 all
+
+most_in_new : (n : ℕ) (blocks new : List (Block ℕ)) → AllForwarded n blocks new → most_in_blocks new ≡ most_in_blocks blocks
+most_in_new n [] [] h = refl
+most_in_new n [] (c ∷ new) h = absurd h
+most_in_new n (b ∷ blocks) [] h = absurd h
+most_in_new n (b ∷ blocks) (c ∷ new) h =
+    ap (λ m. max m (most_in_blocks new)) (most_same b.lines c.lines (block_alike n b c h.0)) ∙ ap (λ m. max (most_in_lines b.lines) m) (most_in_new n blocks new h.1)
+
+-- ---- the whole
+
+pub weight_same : (n : ℕ) (v w : Code ℕ) → AllForwarded n v.blocks w.blocks → code_weight w ≡ code_weight v
+weight_same n v w all = blocks_from weight_of weight_stays n v.blocks w.blocks all 0
+
+area_same : (n : ℕ) (v w : Code ℕ) → AllForwarded n v.blocks w.blocks → area w ≡ area v
+area_same n v w all = blocks_from alloc_bytes bytes_stay n v.blocks w.blocks all 0
+
+pub places_kept : (n : ℕ) (v w : Code ℕ) → AllForwarded n v.blocks w.blocks → w.params ≡ v.params → keeps_places (is_below n) v ≡ true → keeps_places (is_below n) w ≡ true
+places_kept n v w all same h =
+    let s = both_true (list_all (λ (d : Destination ℕ). is_below n d.place) v.params) (list_all (block_keeps (is_below n)) v.blocks) h in
+    both_are (list_all (λ (d : Destination ℕ). is_below n d.place) w.params) (list_all (block_keeps (is_below n)) w.blocks)
+    (ap (list_all (λ (d : Destination ℕ). is_below n d.place)) same ∙ s.0)
+    (blocks_all (block_keeps (is_below n)) n (λ b c f e. lines_low n f.facts b.lines c.lines b.jump c.jump f.lines e) v.blocks w.blocks all s.1)
+
+pub regular : (n : ℕ) (v w : Code ℕ) → AllForwarded n v.blocks w.blocks → w.params ≡ v.params → IsRegular v → IsRegular w
+regular n v w all same is =
+    record {
+      few_params = ap (λ (ps : List (Destination ℕ)). nat_le (length ps) 64) same ∙ is.few_params;
+      inside =
+          ap (λ m. list_all (λ (b : Block ℕ). leads_inside m b.jump) w.blocks) (blocks_count n v.blocks w.blocks all)
+          ∙ blocks_all (λ (b : Block ℕ). leads_inside (length v.blocks) b.jump) n (λ b c f e. inside_from n (length v.blocks) f.facts b.lines c.lines b.jump c.jump f.lines e) v.blocks w.blocks all is.inside;
+      first = first_kept n v.blocks w.blocks all is.first;
+      small = ap (λ m. nat_le m 1048576) (area_same n v w all) ∙ is.small;
+      paid = blocks_all is_paid n (λ b c f e. lines_paid n f.facts b.lines c.lines b.jump c.jump f.lines 0 0 (omega arith) e) v.blocks w.blocks all is.paid;
+      paced =
+          blocks_all (λ (b : Block ℕ). nat_le (sum_by turns_of b.lines) 40000) n
+          (λ b c f e. ap (λ m. nat_le m 40000) (lines_sum turns_of turns_stay b.lines c.lines (block_alike n b c f)) ∙ e) v.blocks w.blocks all is.paced;
+      few_args =
+          blocks_all (λ (b : Block ℕ). list_all passes_few b.lines) n (λ b c f e. lines_all passes_few few_stays b.lines c.lines (block_alike n b c f) ∙ e) v.blocks w.blocks all is.few_args;
+    }
+
+pub keeps : (n places : ℕ) (v w : Code ℕ) → AllForwarded n v.blocks w.blocks → w.result ≡ v.result → w.params ≡ v.params → Keeps (coded virtual v places) (coded virtual w places)
+keeps n places v w all result params =
+    let weight = weight_same n v w all in
+    let bytes = area_same n v w all in
+    let passed = most_in_new n v.blocks w.blocks all in
+    record {
+      params = ap classes_in params;
+      result = result;
+      weight = omega (arith, weight);
+      area = omega (arith, bytes);
+      outgoing = omega (arith, passed);
+      places = omega arith;
+      runs = runs n v w all result params;
+    }

@@ -1,0 +1,4 @@
+pub mod Writing
+pub mod Making
+pub mod Running
+pub mod Keeping

@@ -1,0 +1,686 @@
+-- Code that is put by what is known runs as the code does, step by step in the same states, in which all that is known is true.
+use Rattle.std.proofs.Common.{◌≡◌, ℕ, zero, suc, ◌+◌, ◌-◌, ◌%◌, ◌^◌, Bool, true, false, not, ◌&&◌, ◌||◌, nat_eq, nat_lt, nat_le, if◌then◌else◌, List, [], ◌∷◌, ◌++◌, map, drop, length, Option, Some, None, slice_get, refl, sym, ◌∙◌, ap, subst, arith}
+use Rattle.std.specs.Option.{option_map, option_and_then, option_map_or}
+use Rattle.std.proofs.lemmas.Bool.Decides.{nat_tests}
+use Rattle.il_ast.specs.declared.operation.Class.{Class}
+use Rattle.il_ast.specs.declared.operation.Class.TheVariants.{W, L}
+use Rattle.il_ast.specs.declared.operation.Condition.{Condition}
+use Rattle.il_ast.specs.declared.operation.Condition.TheVariants.{Equal, NotEqual, SignedLessEqual, SignedLess, SignedGreaterEqual, SignedGreater, UnsignedLessEqual, UnsignedLess, UnsignedGreaterEqual, UnsignedGreater}
+use Rattle.il_ast.specs.declared.operation.BinaryOp.TheVariants.{Compare as CompareTwo}
+use Rattle.il_ast.specs.declared.value.Value.{Value}
+use Rattle.il_ast.specs.declared.value.Value.TheVariants.{Integer, Pointer, Function}
+use Rattle.il_ast.specs.declared.value.End.TheVariants.{Turns}
+use Rattle.il_ast.specs.Values.{byte_count, in_place}
+use Rattle.il_ast.specs.Memory.{Memory, store, copy, fresh}
+use Rattle.il_ast.specs.Operations.{holds, truth, on_places, compare_places, operate_two}
+use Rattle.il_ast.specs.Effect.{stored_class}
+use Rattle.il_ast.specs.Run.{one_turn, both, Outcome, Returned, Ended}
+use Rattle.il_ast.specs.Logged.{Next, On, Over, Event, Does, Calls}
+use Rattle.il_ast.specs.Keeps.{Asked, Given, Fine, KeepsCode}
+use Rattle.il_ast.specs.Simulation.{TogetherNext, Together, Lockstep}
+use Rattle.il_ast.proofs.Simulated.{lockstep_keeps}
+use Rattle.vcode.specs.declared.place.Operand.{Operand}
+use Rattle.vcode.specs.declared.place.Operand.TheVariants.{At, Number, Name}
+use Rattle.vcode.specs.declared.place.Destination.{Destination}
+use Rattle.vcode.specs.declared.place.Argument.{Argument}
+use Rattle.vcode.specs.declared.line.Line.{Line}
+use Rattle.vcode.specs.declared.line.Line.TheVariants.{Tick, Set, Operate, Load, Store, Alloc, Blit, Call}
+use Rattle.vcode.specs.declared.line.Comparison.{Comparison}
+use Rattle.vcode.specs.declared.line.Jump.{Jump}
+use Rattle.vcode.specs.declared.line.Jump.TheVariants.{Goto, Branch, Return, Halt}
+use Rattle.vcode.specs.declared.line.Operation.{Operation}
+use Rattle.vcode.specs.declared.line.Operation.TheVariants.{Reg, RegW, Compare}
+use Rattle.vcode.specs.declared.code.Block.{Block}
+use Rattle.vcode.specs.declared.code.Code.{Code}
+use Rattle.vcode.specs.Cost.{is_immediate, jump_cost}
+use Rattle.vcode.specs.Operations.{held, operate, loaded, compare}
+use Rattle.vcode.specs.Places.{Values, put, assign, kept, virtual}
+use Rattle.vcode.specs.Coded.{classes_in}
+use Rattle.vcode.specs.Step.{State, begin, value_of, read, read_all, fails, goes_on, sets, changes, weighs, ticks, receives, resumes, calls, line_step, enters, compared, branches, returns, jump_step, block_step, step_in, step}
+use Rattle.forwarding.specs.declared.fact.Fact.{Fact}
+use Rattle.forwarding.specs.declared.fact.Fact.TheVariants.{Same, Test}
+use Rattle.forwarding.specs.Facts.{Facts, names_it, fact_names, asks_memory, Truth, AreTrue, AreBelow}
+use Rattle.forwarding.specs.Forwarded.{is_short, copied, forward, Replacing, with_argument, with_line, with_comparison, test_of, tested_by, cheaper, with_test, with_branch, with_jump, changes_memory, writes_it, fact_of, After, AreForwarded, IsForwarded, AllForwarded}
+
+-- ---- operands
+
+short_same : (globals : List Value) (ev : Values ℕ) (r : ℕ) (b : Operand ℕ) (c : Bool) → ev r ≡ value_of globals ev b → value_of globals ev (if c then b else At r) ≡ ev r
+short_same globals ev r b true h = sym h
+short_same globals ev r b false h = refl
+
+fact_same : (globals : List Value) (s : State ℕ) (r : ℕ) (o : Option Fact) → ((f : Fact) → o ≡ Some f → Truth globals s r f) → value_of globals s.values (option_map_or (copied (At r)) o (At r)) ≡ s.values r
+fact_same globals s r None h = refl
+fact_same globals s r (Some (Same b)) h = short_same globals s.values r b (is_short b) (h (Same b) refl)
+fact_same globals s r (Some (Test c)) h = refl
+
+operand_same : (globals : List Value) (s : State ℕ) (fs : Facts) → AreTrue globals s fs → (a : Operand ℕ) → value_of globals s.values (forward fs a) ≡ value_of globals s.values a
+operand_same globals s fs all (At r) = fact_same globals s r (fs r) (all r)
+operand_same globals s fs all (Number n) = refl
+operand_same globals s fs all (Name g) = refl
+
+-- ---- lines
+
+-- operands that have the same values
+abbrev SameValues : List Value → State ℕ → Replacing → Type 0
+SameValues globals s f = (a : Operand ℕ) → value_of globals s.values (f a) ≡ value_of globals s.values a
+
+two_same : {R : Type 0} (globals : List Value) (s : State ℕ) (f : Replacing) → SameValues globals s f → (a b : Operand ℕ) (act : Value → Value → Option R)
+    → option_and_then (λ u. option_and_then (λ v. act u v) (value_of globals s.values (f b))) (value_of globals s.values (f a))
+    ≡ option_and_then (λ u. option_and_then (λ v. act u v) (value_of globals s.values b)) (value_of globals s.values a)
+two_same {R} globals s f same a b act =
+    ap (λ (x : Option Value). option_and_then (λ u. option_and_then (λ v. act u v) x) (value_of globals s.values (f a))) (same b)
+    ∙ ap (λ (x : Option Value). option_and_then (λ u. option_and_then (λ v. act u v) (value_of globals s.values b)) x) (same a)
+
+args_same : (globals : List Value) (s : State ℕ) (f : Replacing) → SameValues globals s f → (args : List (Argument ℕ)) → read_all globals s.values (map (with_argument f) args) ≡ read_all globals s.values args
+args_same globals s f same [] = refl
+args_same globals s f same (a ∷ args) =
+    ap (λ (x : Option Value). option_and_then (λ v. option_map (λ vs. v ∷ vs) (read_all globals s.values (map (with_argument f) args))) (option_and_then (in_place a.class) x)) (same a.value)
+    ∙ ap (λ (x : Option (List Value)). option_and_then (λ v. option_map (λ vs. v ∷ vs) x) (read globals s.values a.class a.value)) (args_same globals s f same args)
+
+classes_same : (f : Replacing) (args : List (Argument ℕ)) → map (λ (a : Argument ℕ). a.class) (map (with_argument f) args) ≡ map (λ (a : Argument ℕ). a.class) args
+classes_same f [] = refl
+classes_same f (a ∷ args) = ap (λ (cs : List Class). a.class ∷ cs) (classes_same f args)
+
+calls_same : (i : Given) (s : State ℕ) (to : Option (Destination ℕ)) (f : Replacing) (args : List (Argument ℕ)) (x : Option Value) (vs : Option (List Value))
+    → calls virtual i s to (map (with_argument f) args) x vs ≡ calls virtual i s to args x vs
+calls_same i s to f args (Some (Function g)) (Some vs) =
+    ap
+    (λ (cs : List Class). Calls
+    (record {
+      call = record { callee = g; classes = cs; wants = option_map (λ (d : Destination ℕ). d.class) to; args = vs };
+      turns = i.turns - s.spent.turns;
+      room = i.room;
+      memory = s.memory;
+    })
+    (resumes virtual s to))
+    (classes_same f args)
+calls_same i s to f args (Some (Function g)) None = refl
+calls_same i s to f args (Some (Integer k)) vs = refl
+calls_same i s to f args (Some (Pointer b k)) vs = refl
+calls_same i s to f args None vs = refl
+
+line_same : (globals : List Value) (i : Given) (s : State ℕ) (f : Replacing) → SameValues globals s f → (l : Line ℕ) → line_step virtual globals i s (with_line f l) ≡ line_step virtual globals i s l
+unfolding line_step
+line_same globals i s f same (Tick turn w) = refl
+line_same globals i s f same (Set to a) = ap (takes_to s to) (same a)
+  where
+    takes_to : State ℕ → ℕ → Option Value → Event (State ℕ) Asked Outcome
+    takes_to s to o = goes_on (record s { values = assign virtual to o s.values })
+line_same globals i s f same (Operate to op a b) = ap (sets virtual s to) (two_same globals s f same a b (operate s.memory op))
+line_same globals i s f same (Load to op at) = ap (λ (o : Option Value). sets virtual s to (option_and_then (loaded s.memory op) o)) (same at)
+line_same globals i s f same (Store size a at) =
+    ap (changes s)
+    (ap (λ (x : Option Value). option_and_then (λ v. option_and_then (λ p. store s.memory (byte_count size) p v) x) (read globals s.values (stored_class size) (f a))) (same at)
+    ∙ ap (λ (x : Option Value). option_and_then (λ v. option_and_then (λ p. store s.memory (byte_count size) p v) (value_of globals s.values at)) (option_and_then (in_place (stored_class size)) x)) (same a))
+line_same globals i s f same (Alloc to size) = refl
+line_same globals i s f same (Blit from to count) = ap (changes s) (two_same globals s f same from to (λ p q. copy s.memory count p q))
+line_same globals i s f same (Call to callee args) =
+    ap (λ (x : Option Value). calls virtual i s to (map (with_argument f) args) x (read_all globals s.values (map (with_argument f) args))) (same callee)
+    ∙ ap (calls virtual i s to (map (with_argument f) args) (value_of globals s.values callee)) (args_same globals s f same args)
+    ∙ calls_same i s to f args (value_of globals s.values callee) (read_all globals s.values args)
+
+-- ---- a test of a comparison's result
+
+record IsTruth (v : Value) : Type 0 where
+  answer : Bool
+  is : v ≡ Integer (truth answer)
+
+some_is : (x y : Value) → Some x ≡ Some y → x ≡ y
+some_is x y h = cc
+
+mapped : (o : Option Bool) (v : Value) → option_map (λ (t : Bool). Integer (truth t)) o ≡ Some v → IsTruth v
+mapped None v h = absurd (let no : ⊥ = cc in no)
+mapped (Some t) v h = record { answer = t; is = sym (some_is (Integer (truth t)) v h) }
+
+two_truth : (m : Memory) (on : Condition) (k : Class) (a b v : Value) → operate_two m (CompareTwo on k) W a b ≡ Some v → IsTruth v
+unfolding operate_two
+two_truth m on k (Integer a) (Integer b) v h = record { answer = holds on k a b; is = sym (some_is (Integer (truth (holds on k a b))) v h) }
+two_truth m on k (Integer a) (Pointer b o) v h = mapped (compare_places m on (Integer a) (Pointer b o)) v h
+two_truth m on k (Integer a) (Function g) v h = mapped (compare_places m on (Integer a) (Function g)) v h
+two_truth m on k (Pointer a p) (Integer b) v h = mapped (compare_places m on (Pointer a p) (Integer b)) v h
+two_truth m on k (Pointer a p) (Pointer b o) v h = mapped (compare_places m on (Pointer a p) (Pointer b o)) v h
+two_truth m on k (Pointer a p) (Function g) v h = mapped (compare_places m on (Pointer a p) (Function g)) v h
+two_truth m on k (Function f) (Integer b) v h = mapped (compare_places m on (Function f) (Integer b)) v h
+two_truth m on k (Function f) (Pointer b o) v h = mapped (compare_places m on (Function f) (Pointer b o)) v h
+two_truth m on k (Function f) (Function g) v h = mapped (compare_places m on (Function f) (Function g)) v h
+
+then_truth : {X : Type 0} (o : Option X) (f : X → Option Value) (v : Value) → ((x : X) → f x ≡ Some v → IsTruth v) → option_and_then f o ≡ Some v → IsTruth v
+then_truth None f v h e = absurd (let no : ⊥ = cc in no)
+then_truth (Some x) f v h e = h x e
+
+operate_truth : (m : Memory) (on : Condition) (k : Class) (a b v : Value) → operate m (Compare on k) a b ≡ Some v → IsTruth v
+unfolding operate
+operate_truth m on k a b v h =
+    then_truth (in_place k a) (λ x. option_and_then (λ y. operate_two m (CompareTwo on k) W x y) (in_place k b)) v
+    (λ x e. then_truth (in_place k b) (λ y. operate_two m (CompareTwo on k) W x y) v (λ y g. two_truth m on k x y v g) e) h
+
+compared_truth : (globals : List Value) (s : State ℕ) (c : Comparison ℕ) (v : Value) → compared globals s c ≡ Some v → IsTruth v
+compared_truth globals s c v h =
+    then_truth (value_of globals s.values c.left) (λ a. option_and_then (λ b. operate s.memory (Compare c.condition c.class) a b) (value_of globals s.values c.right)) v
+    (λ a e. then_truth (value_of globals s.values c.right) (λ b. operate s.memory (Compare c.condition c.class) a b) v (λ b g. operate_truth s.memory c.condition c.class a b v g) e) h
+
+-- a truth compared with 0
+unequal : (m : Memory) (k : Class) (t : Bool) → operate m (Compare NotEqual k) (Integer (truth t)) (Integer 0) ≡ Some (Integer (truth t))
+unfolding operate operate_two
+unequal m W true = refl
+unequal m W false = refl
+unequal m L true = refl
+unequal m L false = refl
+
+equal : (m : Memory) (k : Class) (t : Bool) → operate m (Compare Equal k) (Integer (truth t)) (Integer 0) ≡ Some (Integer (truth (not t)))
+unfolding operate operate_two
+equal m W true = refl
+equal m W false = refl
+equal m L true = refl
+equal m L false = refl
+
+branch_unequal : (s : State ℕ) (k : Class) (met otherwise : ℕ) (o : Option Value) → ((v : Value) → o ≡ Some v → IsTruth v)
+    → branches s met otherwise o ≡ branches s met otherwise (option_and_then (λ u. operate s.memory (Compare NotEqual k) u (Integer 0)) o)
+branch_unequal s k met otherwise None h = refl
+branch_unequal s k met otherwise (Some v) h =
+    let t = h v refl in
+    ap (λ (x : Value). branches s met otherwise (Some x)) t.is ∙ ap (branches s met otherwise) (sym (unequal s.memory k t.answer))
+    ∙ ap (λ (x : Value). branches s met otherwise (operate s.memory (Compare NotEqual k) x (Integer 0))) (sym t.is)
+
+turned_round : (s : State ℕ) (met otherwise : ℕ) (t : Bool) → branches s otherwise met (Some (Integer (truth t))) ≡ branches s met otherwise (Some (Integer (truth (not t))))
+turned_round s met otherwise true = refl
+turned_round s met otherwise false = refl
+
+branch_equal : (s : State ℕ) (k : Class) (met otherwise : ℕ) (o : Option Value) → ((v : Value) → o ≡ Some v → IsTruth v)
+    → branches s otherwise met o ≡ branches s met otherwise (option_and_then (λ u. operate s.memory (Compare Equal k) u (Integer 0)) o)
+branch_equal s k met otherwise None h = refl
+branch_equal s k met otherwise (Some v) h =
+    let t = h v refl in
+    ap (λ (x : Value). branches s otherwise met (Some x)) t.is ∙ turned_round s met otherwise t.answer ∙ ap (branches s met otherwise) (sym (equal s.memory k t.answer))
+    ∙ ap (λ (x : Value). branches s met otherwise (operate s.memory (Compare Equal k) x (Integer 0))) (sym t.is)
+
+-- what a comparison tests, if it tests one
+record Tests (globals : List Value) (s : State ℕ) (on c : Comparison ℕ) : Type 0 where
+  right : value_of globals s.values on.right ≡ Some (Integer 0)
+  left : value_of globals s.values on.left ≡ compared globals s c
+
+compared_tests : (globals : List Value) (s : State ℕ) (on c : Comparison ℕ) → Tests globals s on c
+    → compared globals s on ≡ option_and_then (λ u. operate s.memory (Compare on.condition on.class) u (Integer 0)) (compared globals s c)
+compared_tests globals s on c t =
+    ap (λ (x : Option Value). option_and_then (λ u. option_and_then (λ v. operate s.memory (Compare on.condition on.class) u v) x) (value_of globals s.values on.left)) t.right
+    ∙ ap (option_and_then (λ u. operate s.memory (Compare on.condition on.class) u (Integer 0))) t.left
+
+fact_tests : (globals : List Value) (s : State ℕ) (r : ℕ) (o : Option Fact) (c : Comparison ℕ) → ((f : Fact) → o ≡ Some f → Truth globals s r f) → test_of o ≡ Some c → s.values r ≡ compared globals s c
+fact_tests globals s r None c h e = absurd (let no : ⊥ = cc in no)
+fact_tests globals s r (Some (Same b)) c h e = absurd (let no : ⊥ = cc in no)
+fact_tests globals s r (Some (Test d)) c h e = let same : d ≡ c = cc in h (Test d) refl ∙ ap (compared globals s) same
+
+zero_tests : (globals : List Value) (s : State ℕ) (fs : Facts) → AreTrue globals s fs → (r n : ℕ) (c : Comparison ℕ) (b : Bool) → nat_eq n 0 ≡ b → (if b then test_of (fs r) else None) ≡ Some c
+    → (value_of globals s.values (Number n) ≡ Some (Integer 0)) × (s.values r ≡ compared globals s c)
+zero_tests globals s fs all r n c true e h =
+    (ap (λ k. Some (Integer (k % 2 ^ 64))) (let same : n ≡ 0 = grind (arith, nat_tests) in same), fact_tests globals s r (fs r) c (all r) h)
+zero_tests globals s fs all r n c false e h = absurd (let no : ⊥ = cc in no)
+
+tests : (globals : List Value) (s : State ℕ) (fs : Facts) → AreTrue globals s fs → (a b : Operand ℕ) (c : Comparison ℕ) → tested_by fs a b ≡ Some c
+    → (value_of globals s.values b ≡ Some (Integer 0)) × (value_of globals s.values a ≡ compared globals s c)
+tests globals s fs all (At r) (Number n) c h = zero_tests globals s fs all r n c (nat_eq n 0) refl h
+tests globals s fs all (At r) (At q) c h = absurd (let no : ⊥ = cc in no)
+tests globals s fs all (At r) (Name g) c h = absurd (let no : ⊥ = cc in no)
+tests globals s fs all (Number m) b c h = absurd (let no : ⊥ = cc in no)
+tests globals s fs all (Name m) b c h = absurd (let no : ⊥ = cc in no)
+
+-- ---- jumps
+
+abbrev SameJump : List Value → Option Class → State ℕ → Jump ℕ → Jump ℕ → Type 0
+SameJump globals result s j k = jump_step globals result s k ≡ jump_step globals result s j
+
+cheaper_same : (globals : List Value) (result : Option Class) (s : State ℕ) (j k : Jump ℕ) (b : Bool) → SameJump globals result s j k → SameJump globals result s j (if b then k else j)
+cheaper_same globals result s j k true h = h
+cheaper_same globals result s j k false h = refl
+
+test_same : (globals : List Value) (result : Option Class) (s : State ℕ) (on : Comparison ℕ) (k : Condition) (met otherwise : ℕ) (o : Option (Comparison ℕ)) → on.condition ≡ k
+    → ((c : Comparison ℕ) → o ≡ Some c → Tests globals s on c) → SameJump globals result s (Branch on met otherwise) (with_test k on met otherwise o)
+unfolding jump_step
+test_same globals result s on NotEqual met otherwise (Some c) e t =
+    cheaper_same globals result s (Branch on met otherwise) (Branch c met otherwise) (nat_le (jump_cost (Branch c met otherwise)) (jump_cost (Branch on met otherwise)))
+    (branch_unequal s on.class met otherwise (compared globals s c) (compared_truth globals s c)
+    ∙ ap (λ (k : Condition). branches s met otherwise (option_and_then (λ u. operate s.memory (Compare k on.class) u (Integer 0)) (compared globals s c))) (sym e)
+    ∙ ap (branches s met otherwise) (sym (compared_tests globals s on c (t c refl))))
+test_same globals result s on Equal met otherwise (Some c) e t =
+    cheaper_same globals result s (Branch on met otherwise) (Branch c otherwise met) (nat_le (jump_cost (Branch c otherwise met)) (jump_cost (Branch on met otherwise)))
+    (branch_equal s on.class met otherwise (compared globals s c) (compared_truth globals s c)
+    ∙ ap (λ (k : Condition). branches s met otherwise (option_and_then (λ u. operate s.memory (Compare k on.class) u (Integer 0)) (compared globals s c))) (sym e)
+    ∙ ap (branches s met otherwise) (sym (compared_tests globals s on c (t c refl))))
+test_same globals result s on NotEqual met otherwise None e t = refl
+test_same globals result s on Equal met otherwise None e t = refl
+test_same globals result s on SignedLessEqual met otherwise o e t = refl
+test_same globals result s on SignedLess met otherwise o e t = refl
+test_same globals result s on SignedGreaterEqual met otherwise o e t = refl
+test_same globals result s on SignedGreater met otherwise o e t = refl
+test_same globals result s on UnsignedLessEqual met otherwise o e t = refl
+test_same globals result s on UnsignedLess met otherwise o e t = refl
+test_same globals result s on UnsignedGreaterEqual met otherwise o e t = refl
+test_same globals result s on UnsignedGreater met otherwise o e t = refl
+
+jump_same : (globals : List Value) (result : Option Class) (s : State ℕ) (fs : Facts) → AreTrue globals s fs → (j : Jump ℕ) → SameJump globals result s j (with_jump fs j)
+unfolding jump_step
+jump_same globals result s fs all (Goto k) = refl
+jump_same globals result s fs all (Branch on met otherwise) =
+    let new : Comparison ℕ = with_comparison (forward fs) on in
+    test_same globals result s new new.condition met otherwise (tested_by fs new.left new.right) refl
+    (λ c e. let t = tests globals s fs all new.left new.right c e in record { right = t.0; left = t.1 })
+    ∙ ap (branches s met otherwise) (two_same globals s (forward fs) (operand_same globals s fs all) on.left on.right (operate s.memory (Compare on.condition on.class)))
+jump_same globals result s fs all (Return None) = refl
+jump_same globals None s fs all (Return (Some a)) = refl
+jump_same globals (Some k) s fs all (Return (Some a)) = ap (λ (x : Option Value). returns s (option_and_then (in_place k) x)) (operand_same globals s fs all a)
+jump_same globals result s fs all Halt = refl
+
+-- ---- where an event goes on
+
+abbrev OnNext : (State ℕ → Type 0) → Next (State ℕ) Outcome → Type 0
+OnNext holds (On u) = holds u
+OnNext holds (Over o) = Unit {0}
+
+abbrev OnEvent : (State ℕ → Type 0) → Event (State ℕ) Asked Outcome → Type 0
+OnEvent holds (Does n) = OnNext holds n
+OnEvent holds (Calls i k) = (o : Outcome) → OnNext holds (k o)
+
+abbrev Relation : Type 1
+Relation = State ℕ → State ℕ → Type 0
+
+next_self : (related : Relation) (n : Next (State ℕ) Outcome) → OnNext (λ u. related u u) n → TogetherNext related Fine n n
+next_self related (On u) h = (u, refl, h)
+next_self related (Over o) h = λ f. refl
+
+event_self : (related : Relation) (e : Event (State ℕ) Asked Outcome) → OnEvent (λ u. related u u) e → Together related Fine e e
+event_self related (Does (On u)) h = (u, refl, h)
+event_self related (Does (Over o)) h = λ f. refl
+event_self related (Calls i k) h = (k, refl, λ o. next_self related (k o) (h o))
+
+next_more : (p q : State ℕ → Type 0) → ((u : State ℕ) → p u → q u) → (n : Next (State ℕ) Outcome) → OnNext p n → OnNext q n
+next_more p q more (On u) h = more u h
+next_more p q more (Over o) h = tt
+
+event_more : (p q : State ℕ → Type 0) → ((u : State ℕ) → p u → q u) → (e : Event (State ℕ) Asked Outcome) → OnEvent p e → OnEvent q e
+event_more p q more (Does n) h = next_more p q more n h
+event_more p q more (Calls i k) h = λ o. next_more p q more (k o) (h o)
+
+-- ---- a line was done
+
+-- what it leaves as it was, and that what it makes known is true
+record Moved (globals : List Value) (m : Line ℕ) (s u : State ℕ) : Type 0 where
+  block : u.block ≡ s.block
+  next : u.next ≡ s.next + 1
+  values : (r : ℕ) → writes_it m r ≡ false → u.values r ≡ s.values r
+  memory : changes_memory m ≡ false → u.memory ≡ s.memory
+  fact : (r : ℕ) (f : Fact) → writes_it m r ≡ true → fact_of m ≡ Some f → ((k : ℕ) → writes_it m k ≡ true → fact_names f k ≡ false) → Truth globals u r f
+
+turned : (a b : ℕ) → nat_eq a b ≡ nat_eq b a
+turned a b = grind (arith, nat_tests)
+
+other_value : (ev : Values ℕ) (to : ℕ) (o : Option Value) (r : ℕ) → nat_eq to r ≡ false → assign virtual to o ev r ≡ ev r
+other_value ev to o r h = ap (λ (b : Bool). if b then o else ev r) (turned r to ∙ h)
+
+own_value : (ev : Values ℕ) (to : ℕ) (o : Option Value) (r : ℕ) → nat_eq to r ≡ true → assign virtual to o ev r ≡ o
+own_value ev to o r h = ap (λ (b : Bool). if b then o else ev r) (turned r to ∙ h)
+
+-- an operand that doesn't name the register has the value that it had
+still : (globals : List Value) (ev : Values ℕ) (to : ℕ) (o : Option Value) (a : Operand ℕ) → names_it a to ≡ false → value_of globals (assign virtual to o ev) a ≡ value_of globals ev a
+still globals ev to o (At k) h = other_value ev to o k (turned to k ∙ h)
+still globals ev to o (Number n) h = refl
+still globals ev to o (Name g) h = refl
+
+is_same : (r : ℕ) → nat_eq r r ≡ true
+is_same r = grind (arith, nat_tests)
+
+first_false : (a b : Bool) → (a || b) ≡ false → (a ≡ false) × (b ≡ false)
+first_false true b h = cc
+first_false false b h = (refl, h)
+
+-- a line that makes nothing known
+unknown_fact : (globals : List Value) (u : State ℕ) (r : ℕ) (f : Fact) → None ≡ Some f → Truth globals u r f
+unknown_fact globals u r f h = absurd (let no : ⊥ = cc in no)
+
+sets_moves : (globals : List Value) (m : Line ℕ) (s : State ℕ) (to : ℕ) (o : Option Value) → ((r : ℕ) → writes_it m r ≡ nat_eq to r)
+    → ((v : Value) → o ≡ Some v → (r : ℕ) (f : Fact) → nat_eq to r ≡ true → fact_of m ≡ Some f → ((k : ℕ) → writes_it m k ≡ true → fact_names f k ≡ false)
+    → Truth globals (record s { next = s.next + 1; values = put virtual to v s.values }) r f)
+    → OnEvent (Moved globals m s) (sets virtual s to o)
+sets_moves globals m s to None writes known = tt
+sets_moves globals m s to (Some v) writes known =
+    record {
+      block = refl;
+      next = refl;
+      values = λ r h. other_value s.values to (Some v) r (sym (writes r) ∙ h);
+      memory = λ h. refl;
+      fact = λ r f w h names. known v refl r f (sym (writes r) ∙ w) h names;
+    }
+
+changes_moves : (globals : List Value) (m : Line ℕ) (s : State ℕ) (o : Option Memory) → changes_memory m ≡ true → fact_of m ≡ None → OnEvent (Moved globals m s) (changes s o)
+changes_moves globals m s None c n = tt
+changes_moves globals m s (Some x) c n =
+    record {
+      block = refl;
+      next = refl;
+      values = λ r h. refl;
+      memory = λ h. absurd (let no : ⊥ = cc in no);
+      fact = λ r f w h names. unknown_fact globals (record s { next = s.next + 1; memory = x }) r f (sym n ∙ h);
+    }
+
+ticks_move : (globals : List Value) (i : Given) (s : State ℕ) (turn : Bool) (w : ℕ) → OnEvent (Moved globals (Tick turn w) s) (ticks i s turn w)
+ticks_move globals i s false w =
+    record { block = refl; next = refl; values = λ r h. refl; memory = λ h. refl; fact = λ r f e h names. unknown_fact globals (record s { next = s.next + 1; spent = both s.spent (weighs w) }) r f h }
+ticks_move globals i s true w = by (nat_lt s.spent.turns i.turns)
+  where
+    by : (b : Bool) → OnEvent (Moved globals (Tick true w) s) (if b then goes_on (record s { spent = both s.spent (one_turn w) }) else Does (Over (Ended s.spent Turns)))
+    by true =
+        record { block = refl; next = refl; values = λ r h. refl; memory = λ h. refl; fact = λ r f e h names. unknown_fact globals (record s { next = s.next + 1; spent = both s.spent (one_turn w) }) r f h }
+    by false = tt
+
+receives_moves : (globals : List Value) (s u : State ℕ) (to : Option (Destination ℕ)) (callee : Operand ℕ) (args : List (Argument ℕ)) (v : Option Value) → u.block ≡ s.block → u.next ≡ s.next → ((r : ℕ) → u.values r ≡ s.values r)
+    → OnNext (Moved globals (Call to callee args) s) (receives virtual u to v)
+receives_moves globals s u None callee args v b n same =
+    record {
+      block = b;
+      next = ap (λ k. k + 1) n;
+      values = λ r h. same r;
+      memory = λ h. absurd (let no : ⊥ = cc in no);
+      fact = λ r f w h names. unknown_fact globals (record u { next = u.next + 1 }) r f h;
+    }
+receives_moves globals s u (Some d) callee args None b n same = tt
+receives_moves globals s u (Some d) callee args (Some v) b n same =
+    record {
+      block = b;
+      next = ap (λ k. k + 1) n;
+      values = λ r h. other_value u.values d.place (Some (held d.class v)) r h ∙ same r;
+      memory = λ h. absurd (let no : ⊥ = cc in no);
+      fact = λ r f w h names. unknown_fact globals (record u { next = u.next + 1; values = put virtual d.place (held d.class v) u.values }) r f h;
+    }
+
+calls_move : (globals : List Value) (i : Given) (s : State ℕ) (to : Option (Destination ℕ)) (callee : Operand ℕ) (args : List (Argument ℕ)) (x : Option Value) (vs : Option (List Value))
+    → OnEvent (Moved globals (Call to callee args) s) (calls virtual i s to args x vs)
+calls_move globals i s to callee args (Some (Function g)) (Some vs) = by
+  where
+    by : (o : Outcome) → OnNext (Moved globals (Call to callee args) s) (resumes virtual s to o)
+    by (Returned t v now) = receives_moves globals s (record s { values = kept virtual s.values; memory = now; spent = both s.spent t }) to callee args v refl refl (λ r. refl)
+    by (Ended t e) = tt
+calls_move globals i s to callee args (Some (Function g)) None = tt
+calls_move globals i s to callee args (Some (Integer k)) vs = tt
+calls_move globals i s to callee args (Some (Pointer b k)) vs = tt
+calls_move globals i s to callee args None vs = tt
+
+set_true : (globals : List Value) (s : State ℕ) (to : ℕ) (a : Operand ℕ) (r : ℕ) (f : Fact) → nat_eq to r ≡ true → Some (Same a) ≡ Some f → ((k : ℕ) → nat_eq to k ≡ true → fact_names f k ≡ false)
+    → Truth globals (record s { next = s.next + 1; values = assign virtual to (value_of globals s.values a) s.values }) r f
+set_true globals s to a r f w h names =
+    let o = value_of globals s.values a in
+    let is : Same a ≡ f = some_fact (Same a) f h in
+    subst (λ (x : Fact). Truth globals (record s { next = s.next + 1; values = assign virtual to o s.values }) r x) is
+    (own_value s.values to o r w ∙ sym (still globals s.values to o a (ap (λ (x : Fact). fact_names x to) is ∙ names to (is_same to))))
+  where
+    some_fact : (x y : Fact) → Some x ≡ Some y → x ≡ y
+    some_fact x y e = cc
+
+compared_true : (globals : List Value) (s : State ℕ) (to : ℕ) (c : Comparison ℕ) (v : Value) (r : ℕ) (f : Fact) → compared globals s c ≡ Some v → nat_eq to r ≡ true → Some (Test c) ≡ Some f
+    → ((k : ℕ) → nat_eq to k ≡ true → fact_names f k ≡ false) → Truth globals (record s { next = s.next + 1; values = put virtual to v s.values }) r f
+compared_true globals s to c v r f e w h names =
+    let is : Test c ≡ f = some_fact (Test c) f h in
+    let unnamed = first_false (names_it c.left to) (names_it c.right to) (ap (λ (x : Fact). fact_names x to) is ∙ names to (is_same to)) in
+    let ev : Values ℕ = put virtual to v s.values in
+    let act : Value → Value → Option Value = operate s.memory (Compare c.condition c.class) in
+    let same : compared globals (record s { next = s.next + 1; values = ev }) c ≡ compared globals s c =
+    ap (λ (x : Option Value). option_and_then (λ a. option_and_then (λ b. operate s.memory (Compare c.condition c.class) a b) x) (value_of globals ev c.left)) (still globals s.values to (Some v) c.right unnamed.1)
+    ∙ ap (λ (x : Option Value). option_and_then (λ a. option_and_then (λ b. operate s.memory (Compare c.condition c.class) a b) (value_of globals s.values c.right)) x) (still globals s.values to (Some v) c.left unnamed.0)
+    in
+    subst (λ (x : Fact). Truth globals (record s { next = s.next + 1; values = ev }) r x) is (own_value s.values to (Some v) r w ∙ sym e ∙ sym same)
+  where
+    some_fact : (x y : Fact) → Some x ≡ Some y → x ≡ y
+    some_fact x y e = cc
+
+line_moves : (globals : List Value) (i : Given) (s : State ℕ) (m : Line ℕ) → OnEvent (Moved globals m s) (line_step virtual globals i s m)
+unfolding line_step
+line_moves globals i s (Tick turn w) = ticks_move globals i s turn w
+line_moves globals i s (Set to a) =
+    record {
+      block = refl;
+      next = refl;
+      values = λ r h. other_value s.values to (value_of globals s.values a) r h;
+      memory = λ h. refl;
+      fact = λ r f w h names. set_true globals s to a r f w h names;
+    }
+line_moves globals i s (Operate to (Compare on k) a b) =
+    sets_moves globals (Operate to (Compare on k) a b) s to (compared globals s (record { condition = on; class = k; left = a; right = b })) (λ r. refl)
+    (λ v e r f w h names. compared_true globals s to (record { condition = on; class = k; left = a; right = b }) v r f e w h names)
+line_moves globals i s (Operate to (Reg op) a b) =
+    sets_moves globals (Operate to (Reg op) a b) s to (option_and_then (λ u. option_and_then (λ v. operate s.memory (Reg op) u v) (value_of globals s.values b)) (value_of globals s.values a)) (λ r. refl)
+    (λ v e r f w h names. unknown_fact globals (record s { next = s.next + 1; values = put virtual to v s.values }) r f h)
+line_moves globals i s (Operate to (RegW op) a b) =
+    sets_moves globals (Operate to (RegW op) a b) s to (option_and_then (λ u. option_and_then (λ v. operate s.memory (RegW op) u v) (value_of globals s.values b)) (value_of globals s.values a)) (λ r. refl)
+    (λ v e r f w h names. unknown_fact globals (record s { next = s.next + 1; values = put virtual to v s.values }) r f h)
+line_moves globals i s (Load to op at) =
+    sets_moves globals (Load to op at) s to (option_and_then (loaded s.memory op) (value_of globals s.values at)) (λ r. refl)
+    (λ v e r f w h names. unknown_fact globals (record s { next = s.next + 1; values = put virtual to v s.values }) r f h)
+line_moves globals i s (Store size a at) =
+    changes_moves globals (Store size a at) s
+    (option_and_then (λ v. option_and_then (λ p. store s.memory (byte_count size) p v) (value_of globals s.values at)) (read globals s.values (stored_class size) a)) refl refl
+line_moves globals i s (Alloc to size) =
+    record {
+      block = refl;
+      next = refl;
+      values = λ r h. other_value s.values to (Some (Pointer (length s.memory) 0)) r h;
+      memory = λ h. absurd (let no : ⊥ = cc in no);
+      fact = λ r f w h names. absurd (let no : ⊥ = cc in no);
+    }
+line_moves globals i s (Blit from to count) =
+    changes_moves globals (Blit from to count) s
+    (option_and_then (λ p. option_and_then (λ q. copy s.memory count p q) (value_of globals s.values to)) (value_of globals s.values from)) refl refl
+line_moves globals i s (Call to callee args) = calls_move globals i s to callee args (value_of globals s.values callee) (read_all globals s.values args)
+
+-- ---- what was known and what the line makes known is true
+
+value_kept : (globals : List Value) (m : Line ℕ) (s u : State ℕ) → Moved globals m s u → (a : Operand ℕ) → ((k : ℕ) → writes_it m k ≡ true → names_it a k ≡ false) → value_of globals u.values a ≡ value_of globals s.values a
+value_kept globals m s u moved (At k) h = by (writes_it m k) refl
+  where
+    by : (b : Bool) → writes_it m k ≡ b → u.values k ≡ s.values k
+    by true e = let no : nat_eq k k ≡ false = h k e in let yes_it_is = is_same k in cc
+    by false e = moved.values k e
+value_kept globals m s u moved (Number n) h = refl
+value_kept globals m s u moved (Name g) h = refl
+
+truth_kept : (globals : List Value) (m : Line ℕ) (s u : State ℕ) → Moved globals m s u → (r : ℕ) (f : Fact) → writes_it m r ≡ false → ((k : ℕ) → writes_it m k ≡ true → fact_names f k ≡ false)
+    → (asks_memory f ≡ true → u.memory ≡ s.memory) → Truth globals s r f → Truth globals u r f
+truth_kept globals m s u moved r (Same a) w names asks h = moved.values r w ∙ h ∙ sym (value_kept globals m s u moved a names)
+truth_kept globals m s u moved r (Test c) w names asks h =
+    let left = value_kept globals m s u moved c.left (λ k e. (first_false (names_it c.left k) (names_it c.right k) (names k e)).0) in
+    let right = value_kept globals m s u moved c.right (λ k e. (first_false (names_it c.left k) (names_it c.right k) (names k e)).1) in
+    moved.values r w ∙ h
+    ∙ sym (ap (λ (x : Memory). option_and_then (λ a. option_and_then (λ b. operate x (Compare c.condition c.class) a b) (value_of globals u.values c.right)) (value_of globals u.values c.left)) (asks refl)
+    ∙ ap (λ (x : Option Value). option_and_then (λ a. option_and_then (λ b. operate s.memory (Compare c.condition c.class) a b) x) (value_of globals u.values c.left)) right
+    ∙ ap (λ (x : Option Value). option_and_then (λ a. option_and_then (λ b. operate s.memory (Compare c.condition c.class) a b) (value_of globals s.values c.right)) x) left)
+
+true_after : (globals : List Value) (m : Line ℕ) (s u : State ℕ) (old new : Facts) → Moved globals m s u → After m old new → AreTrue globals s old → AreTrue globals u new
+true_after globals m s u old new moved after all r f h =
+    let a = after r f h in
+    by (writes_it m r) refl a.1.0 a.1.1
+  where
+    memory_kept : (b : Bool) → changes_memory m ≡ b → (b ≡ true → asks_memory f ≡ false) → asks_memory f ≡ true → u.memory ≡ s.memory
+    memory_kept true e g asks = let no = g refl in cc
+    memory_kept false e g asks = moved.memory e
+
+    by : (b : Bool) → writes_it m r ≡ b → (if b then fact_of m else old r) ≡ Some f → (b ≡ false → changes_memory m ≡ true → asks_memory f ≡ false) → Truth globals u r f
+    by true e g asks = moved.fact r f e g (after r f h).0
+    by false e g asks = truth_kept globals m s u moved r f e (after r f h).0 (memory_kept (changes_memory m) refl (asks refl)) (all r f g)
+
+-- ---- what stands next
+
+head_at : {X : Type 0} (xs : List X) (n : ℕ) (y : X) (ys : List X) → drop n xs ≡ y ∷ ys → slice_get xs n ≡ Some y
+head_at [] zero y ys h = cc
+head_at [] (suc n) y ys h = cc
+head_at (x ∷ xs) zero y ys h = let e : x ≡ y = cc in ap (λ z. Some z) e
+head_at (x ∷ xs) (suc n) y ys h = head_at xs n y ys h
+
+tail_suc : {X : Type 0} (xs : List X) (n : ℕ) (y : X) (ys : List X) → drop n xs ≡ y ∷ ys → drop (suc n) xs ≡ ys
+tail_suc [] zero y ys h = cc
+tail_suc [] (suc n) y ys h = cc
+tail_suc (x ∷ xs) zero y ys h = let e : xs ≡ ys = cc in e
+tail_suc (x ∷ xs) (suc n) y ys h = tail_suc xs n y ys h
+
+tail_at : {X : Type 0} (xs : List X) (n : ℕ) (y : X) (ys : List X) → drop n xs ≡ y ∷ ys → drop (n + 1) xs ≡ ys
+tail_at xs n y ys h = ap (λ k. drop k xs) (let e : n + 1 ≡ suc n = omega arith in e) ∙ tail_suc xs n y ys h
+
+nothing_at : {X : Type 0} (xs : List X) (n : ℕ) → drop n xs ≡ [] → slice_get xs n ≡ None
+nothing_at [] n h = refl
+nothing_at (x ∷ xs) zero h = cc
+nothing_at (x ∷ xs) (suc n) h = nothing_at xs n h
+
+step_line : (globals : List Value) (code : Code ℕ) (i : Given) (s : State ℕ) (b : Block ℕ) (l : Line ℕ)
+    → slice_get code.blocks s.block ≡ Some b → slice_get b.lines s.next ≡ Some l → step virtual globals code i s ≡ line_step virtual globals i s l
+unfolding step
+step_line globals code i s b l e f = ap (step_in virtual globals code i s) e ∙ ap (block_step virtual globals code i s b) f
+
+step_jump : (globals : List Value) (code : Code ℕ) (i : Given) (s : State ℕ) (b : Block ℕ)
+    → slice_get code.blocks s.block ≡ Some b → slice_get b.lines s.next ≡ None → step virtual globals code i s ≡ jump_step globals code.result s b.jump
+unfolding step
+step_jump globals code i s b e f = ap (step_in virtual globals code i s) e ∙ ap (block_step virtual globals code i s b) f
+
+step_nowhere : (globals : List Value) (code : Code ℕ) (i : Given) (s : State ℕ) → slice_get code.blocks s.block ≡ None → step virtual globals code i s ≡ fails s
+unfolding step
+step_nowhere globals code i s e = ap (step_in virtual globals code i s) e
+
+-- ---- the states
+
+record Here (n : ℕ) (w : Code ℕ) (globals : List Value) (s : State ℕ) (b : Block ℕ) (left : List (Line ℕ)) : Type 0 where
+  block : Block ℕ
+  facts : Facts
+  found : slice_get w.blocks s.block ≡ Some block
+  forwarded : AreForwarded n facts left (drop s.next block.lines) b.jump block.jump
+  true_facts : AreTrue globals s facts
+
+record Related (n : ℕ) (v w : Code ℕ) (globals : List Value) (s t : State ℕ) : Type 0 where
+  is : t ≡ s
+  there : (b : Block ℕ) → slice_get v.blocks s.block ≡ Some b → Here n w globals s b (drop s.next b.lines)
+
+same_some : {X : Type 0} (x y : X) (o : Option X) → o ≡ Some x → o ≡ Some y → x ≡ y
+same_some x y o e f = let g : Some x ≡ Some y = sym e ∙ f in cc
+
+record Found (n : ℕ) (b : Block ℕ) (o : Option (Block ℕ)) : Type 0 where
+  block : Block ℕ
+  at : o ≡ Some block
+  forwarded : IsForwarded n b block
+
+block_found : (n : ℕ) (blocks new : List (Block ℕ)) → AllForwarded n blocks new → (k : ℕ) (b : Block ℕ) → slice_get blocks k ≡ Some b → Found n b (slice_get new k)
+block_found n [] new all k b e = absurd (let no : ⊥ = cc in no)
+block_found n (d ∷ blocks) [] all k b e = absurd all
+block_found n (d ∷ blocks) (c ∷ new) all zero b e =
+    let same : d ≡ b = cc in record { block = c; at = refl; forwarded = subst (λ (x : Block ℕ). IsForwarded n x c) same all.0 }
+block_found n (d ∷ blocks) (c ∷ new) all (suc k) b e = block_found n blocks new all.1 k b e
+
+-- at the start of a block
+at_start : (n : ℕ) (v w : Code ℕ) (globals : List Value) → AllForwarded n v.blocks w.blocks → (s : State ℕ) → s.next ≡ 0 → Related n v w globals s s
+at_start n v w globals all s zero_next =
+    record {
+      is = refl;
+      there = λ b e.
+          let f = block_found n v.blocks w.blocks all s.block b e in
+          let g = f.forwarded in
+          record {
+            block = f.block;
+            facts = g.facts;
+            found = f.at;
+            forwarded = subst (λ k. AreForwarded n g.facts (drop k b.lines) (drop k f.block.lines) b.jump f.block.jump) (sym zero_next) g.lines;
+            true_facts = λ r x h. absurd (let none = g.nothing r in let no : ⊥ = cc in no);
+          };
+    }
+
+jump_starts : (globals : List Value) (result : Option Class) (s : State ℕ) (j : Jump ℕ) → OnEvent (λ u. u.next ≡ 0) (jump_step globals result s j)
+unfolding jump_step
+jump_starts globals result s (Goto k) = refl
+jump_starts globals result s (Branch on met otherwise) = by (compared globals s on)
+  where
+    by : (o : Option Value) → OnEvent (λ u. u.next ≡ 0) (branches s met otherwise o)
+    by None = tt
+    by (Some (Integer k)) = refl
+    by (Some (Pointer b k)) = tt
+    by (Some (Function g)) = tt
+jump_starts globals result s (Return None) = tt
+jump_starts globals None s (Return (Some a)) = tt
+jump_starts globals (Some k) s (Return (Some a)) = by (read globals s.values k a)
+  where
+    by : (o : Option Value) → OnEvent (λ u. u.next ≡ 0) (returns s o)
+    by None = tt
+    by (Some v) = tt
+jump_starts globals result s Halt = tt
+
+-- ---- a step
+
+abbrev Beside : (n : ℕ) (v w : Code ℕ) (globals : List Value) (i : Given) (s : State ℕ) → Type 0
+Beside n v w globals i s = Together (Related n v w globals) Fine (step virtual globals v i s) (step virtual globals w i s)
+
+one_event : (related : Relation) (x y e : Event (State ℕ) Asked Outcome) → x ≡ e → y ≡ e → OnEvent (λ u. related u u) e → Together related Fine x y
+one_event related x y e a b h =
+    subst (λ (z : Event (State ℕ) Asked Outcome). Together related Fine z y) (sym a)
+    (subst (λ (z : Event (State ℕ) Asked Outcome). Together related Fine e z) (sym b) (event_self related e h))
+
+jump_beside : (n : ℕ) (v w : Code ℕ) (globals : List Value) (i : Given) (s : State ℕ) (b c : Block ℕ) (fs : Facts) → AllForwarded n v.blocks w.blocks → w.result ≡ v.result
+    → slice_get v.blocks s.block ≡ Some b → slice_get w.blocks s.block ≡ Some c → drop s.next b.lines ≡ [] → drop s.next c.lines ≡ [] → c.jump ≡ with_jump fs b.jump → AreTrue globals s fs
+    → Beside n v w globals i s
+jump_beside n v w globals i s b c fs all result at found ahead ahead2 is facts =
+    one_event (Related n v w globals) (step virtual globals v i s) (step virtual globals w i s) (jump_step globals v.result s b.jump)
+    (step_jump globals v i s b at (nothing_at b.lines s.next ahead))
+    (step_jump globals w i s c found (nothing_at c.lines s.next ahead2) ∙ ap (λ (r : Option Class). jump_step globals r s c.jump) result ∙ ap (jump_step globals v.result s) is
+    ∙ jump_same globals v.result s fs facts b.jump)
+    (event_more (λ u. u.next ≡ 0) (λ u. Related n v w globals u u) (λ u e. at_start n v w globals all u e) (jump_step globals v.result s b.jump) (jump_starts globals v.result s b.jump))
+
+line_beside : (n : ℕ) (v w : Code ℕ) (globals : List Value) (i : Given) (s : State ℕ) (b c : Block ℕ) (fs gs : Facts) (l m : Line ℕ) (left left2 : List (Line ℕ))
+    → slice_get v.blocks s.block ≡ Some b → slice_get w.blocks s.block ≡ Some c → drop s.next b.lines ≡ l ∷ left → drop s.next c.lines ≡ m ∷ left2 → m ≡ with_line (forward fs) l → After m fs gs
+    → AreForwarded n gs left left2 b.jump c.jump → AreTrue globals s fs → Beside n v w globals i s
+line_beside n v w globals i s b c fs gs l m left left2 at found ahead ahead2 is after rest facts =
+    one_event (Related n v w globals) (step virtual globals v i s) (step virtual globals w i s) (line_step virtual globals i s m)
+    (step_line globals v i s b l at (head_at b.lines s.next l left ahead)
+    ∙ sym (line_same globals i s (forward fs) (operand_same globals s fs facts) l) ∙ ap (line_step virtual globals i s) (sym is))
+    (step_line globals w i s c m found (head_at c.lines s.next m left2 ahead2))
+    (event_more (Moved globals m s) (λ u. Related n v w globals u u) on (line_step virtual globals i s m) (line_moves globals i s m))
+  where
+    on : (u : State ℕ) → Moved globals m s u → Related n v w globals u u
+    on u moved =
+        record {
+          is = refl;
+          there = λ d e.
+              let same : b ≡ d = same_some b d (slice_get v.blocks s.block) at (ap (slice_get v.blocks) (sym moved.block) ∙ e) in
+              let one : drop u.next b.lines ≡ left = ap (λ k. drop k b.lines) moved.next ∙ tail_at b.lines s.next l left ahead in
+              let two : drop u.next c.lines ≡ left2 = ap (λ k. drop k c.lines) moved.next ∙ tail_at c.lines s.next m left2 ahead2 in
+              subst (λ (x : Block ℕ). Here n w globals u x (drop u.next x.lines)) same
+              (subst (λ (xs : List (Line ℕ)). Here n w globals u b xs) (sym one)
+              (record {
+                block = c;
+                facts = gs;
+                found = ap (slice_get w.blocks) moved.block ∙ found;
+                forwarded = subst (λ (xs : List (Line ℕ)). AreForwarded n gs left xs b.jump c.jump) (sym two) rest;
+                true_facts = true_after globals m s u fs gs moved after facts;
+              }));
+        }
+
+left_beside : (n : ℕ) (v w : Code ℕ) (globals : List Value) (i : Given) (s : State ℕ) (b c : Block ℕ) (fs : Facts) (left left2 : List (Line ℕ)) → AllForwarded n v.blocks w.blocks → w.result ≡ v.result
+    → slice_get v.blocks s.block ≡ Some b → slice_get w.blocks s.block ≡ Some c → drop s.next b.lines ≡ left → drop s.next c.lines ≡ left2 → AreForwarded n fs left left2 b.jump c.jump → AreTrue globals s fs
+    → Beside n v w globals i s
+left_beside n v w globals i s b c fs [] [] all result at found ahead ahead2 h facts = jump_beside n v w globals i s b c fs all result at found ahead ahead2 h.1 facts
+left_beside n v w globals i s b c fs [] (m ∷ left2) all result at found ahead ahead2 h facts = absurd h
+left_beside n v w globals i s b c fs (l ∷ left) [] all result at found ahead ahead2 h facts = absurd h
+left_beside n v w globals i s b c fs (l ∷ left) (m ∷ left2) all result at found ahead ahead2 h facts =
+    line_beside n v w globals i s b c fs h.1.1.0 l m left left2 at found ahead ahead2 h.1.0 h.1.1.1.0 h.1.1.1.1 facts
+
+block_beside : (n : ℕ) (v w : Code ℕ) (globals : List Value) (i : Given) (s : State ℕ) (o : Option (Block ℕ)) → AllForwarded n v.blocks w.blocks → w.result ≡ v.result → slice_get v.blocks s.block ≡ o
+    → ((b : Block ℕ) → slice_get v.blocks s.block ≡ Some b → Here n w globals s b (drop s.next b.lines)) → Beside n v w globals i s
+block_beside n v w globals i s None all result at there =
+    subst (λ (x : Event (State ℕ) Asked Outcome). Together (Related n v w globals) Fine x (step virtual globals w i s)) (sym (step_nowhere globals v i s at)) (λ f. absurd f)
+block_beside n v w globals i s (Some b) all result at there =
+    let h = there b at in
+    left_beside n v w globals i s b h.block h.facts (drop s.next b.lines) (drop s.next h.block.lines) all result at h.found refl refl h.forwarded h.true_facts
+
+in_lockstep : (n : ℕ) (v w : Code ℕ) (globals : List Value) (i : Given) → AllForwarded n v.blocks w.blocks → w.result ≡ v.result → Lockstep (Related n v w globals) Fine (step virtual globals v i) (step virtual globals w i)
+in_lockstep n v w globals i all result s t h =
+    subst (λ (u : State ℕ). Together (Related n v w globals) Fine (step virtual globals v i s) (step virtual globals w i u)) (sym h.is)
+    (block_beside n v w globals i s (slice_get v.blocks s.block) all result refl h.there)
+
+start_same : (v w : Code ℕ) → w.params ≡ v.params → (i : Given) → begin virtual w i ≡ begin virtual v i
+start_same v w e i = ap (λ (ps : List (Destination ℕ)). begin virtual (record v { params = ps }) i) e
+
+pub runs : (n : ℕ) (v w : Code ℕ) → AllForwarded n v.blocks w.blocks → w.result ≡ v.result → w.params ≡ v.params → (globals : List Value)
+    → KeepsCode (classes_in v.params) (begin virtual v) (step virtual globals v) (begin virtual w) (step virtual globals w)
+runs n v w all result params globals =
+    lockstep_keeps (classes_in v.params) (begin virtual v) (step virtual globals v) (begin virtual w) (step virtual globals w) (λ i. Related n v w globals)
+    (λ i args. subst (λ (t : State ℕ). Related n v w globals (begin virtual v i) t) (sym (start_same v w params i)) (at_start n v w globals all (begin virtual v i) refl))
+    (λ i. in_lockstep n v w globals i all result)

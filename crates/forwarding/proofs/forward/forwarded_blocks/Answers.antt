@@ -1,0 +1,13 @@
+use Rattle.std.proofs.Common.{◌≡◌, ℕ, List, [], ◌++◌, length, drop, sym, ap, ◌∙◌, subst, arith}
+use Rattle.std.proofs.lemmas.List.{drop_all}
+use Rattle.vcode.specs.declared.code.Block.{Block}
+use Rattle.forwarding.specs.Forwarded.{AllForwarded}
+use Rattle.forwarding.proofs.Making.{append_none}
+use Rattle.forwarding.proofs.forward.forwarded_blocks.Goals as goal
+
+pub returns : goal.returns
+returns c =
+    let n = length c.args.table.now.written.items in
+    let none : drop c.loop-block.block-index c.args.blocks.now ≡ [] = drop_all c.loop-block.block-index c.args.blocks.now (let past = c.loop-block-test.false in omega arith) in
+    subst (λ (xs : List (Block ℕ)). AllForwarded n c.args.blocks.now xs) (append_none c.loop-block.made.items ∙ sym c.from_vec.ensures)
+    (c.loop-block.invariant.made [] (subst (λ (xs : List (Block ℕ)). AllForwarded n xs []) (sym none) tt))

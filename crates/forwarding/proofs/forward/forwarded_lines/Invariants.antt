@@ -1,0 +1,16 @@
+use Rattle.std.proofs.Common.{◌≡◌, ℕ, List, ◌++◌, length, drop}
+use Rattle.vcode.specs.declared.line.Line.{Line}
+use Rattle.vcode.specs.declared.line.Jump.{Jump}
+use Rattle.forwarding.specs.Table.{facts_of, IsTable}
+use Rattle.forwarding.specs.Forwarded.{AreForwarded}
+use Rattle.forwarding.proofs.forward.forwarded_lines.Given as goal
+
+abbrev pub invariant-loop-line : goal.invariant-loop-line
+invariant-loop-line l =
+    record {
+      table : IsTable l.table;
+      count : length l.table.written.items ≡ length l.fn.table.written.items;
+      made :
+          (rest : List (Line ℕ)) (j k : Jump ℕ) → AreForwarded (length l.fn.table.written.items) (facts_of l.table) (drop l.line-index l.lines) rest j k
+          → AreForwarded (length l.fn.table.written.items) (facts_of l.fn.table) l.fn.lines (l.made.items ++ rest) j k;
+    }

@@ -1,0 +1,50 @@
+-- What registers are known to hold.
+use Rattle.std.specs.Prelude.{◌≡◌, ℕ, Bool, true, false, not, ◌&&◌, ◌||◌, nat_eq, nat_lt, nat_le, if◌then◌else◌, List, [], ◌∷◌, map, Option, Some, None}
+use Rattle.std.specs.Option.{option_map_or}
+use Rattle.il_ast.specs.declared.operation.Condition.{Condition}
+use Rattle.il_ast.specs.declared.operation.Condition.TheVariants.{Equal, NotEqual}
+use Rattle.il_ast.specs.declared.value.Value.{Value}
+use Rattle.vcode.specs.declared.place.Operand.{Operand}
+use Rattle.vcode.specs.declared.place.Operand.TheVariants.{At, Number, Name}
+use Rattle.vcode.specs.declared.line.Comparison.{Comparison}
+use Rattle.vcode.specs.Cost.{is_immediate}
+use Rattle.vcode.specs.Step.{State, value_of, compared}
+use Rattle.forwarding.specs.declared.fact.Fact.{Fact}
+use Rattle.forwarding.specs.declared.fact.Fact.TheVariants.{Same, Test}
+
+-- what is known of each register
+abbrev pub Facts : Type 0
+Facts = ℕ → Option Fact
+
+abbrev pub names_it : Operand ℕ → ℕ → Bool
+names_it (At k) r = nat_eq k r
+names_it a r = false
+
+abbrev pub fact_names : Fact → ℕ → Bool
+fact_names (Same a) r = names_it a r
+fact_names (Test c) r = names_it c.left r || names_it c.right r
+
+-- a comparison may be of pointers
+abbrev pub asks_memory : Fact → Bool
+asks_memory (Same a) = false
+asks_memory (Test c) = true
+
+-- the register holds what the operand does, or what the comparison gives
+abbrev pub Truth : List Value → State ℕ → ℕ → Fact → Type 0
+Truth globals s r (Same a) = s.values r ≡ value_of globals s.values a
+Truth globals s r (Test c) = s.values r ≡ compared globals s c
+
+abbrev pub AreTrue : List Value → State ℕ → Facts → Type 0
+AreTrue globals s fs = (r : ℕ) (f : Fact) → fs r ≡ Some f → Truth globals s r f
+
+-- each register that is named is below n
+abbrev pub operand_below : (n : ℕ) → Operand ℕ → Bool
+operand_below n (At r) = nat_lt r n
+operand_below n a = true
+
+abbrev pub fact_below : (n : ℕ) → Fact → Bool
+fact_below n (Same a) = operand_below n a
+fact_below n (Test c) = operand_below n c.left && operand_below n c.right
+
+abbrev pub AreBelow : (n : ℕ) → Facts → Type 0
+AreBelow n fs = (r : ℕ) (f : Fact) → fs r ≡ Some f → fact_below n f ≡ true

@@ -1,0 +1,143 @@
+-- Code in which operands and branches are put by what is known of registers.
+use Rattle.std.specs.Prelude.{◌≡◌, ℕ, Bool, true, false, not, nat_eq, nat_le, if◌then◌else◌, List, [], ◌∷◌, map, Option, Some, None}
+use Rattle.std.specs.Option.{option_map, option_map_or}
+use Rattle.il_ast.specs.declared.operation.Condition.{Condition}
+use Rattle.il_ast.specs.declared.operation.Condition.TheVariants.{Equal, NotEqual}
+use Rattle.vcode.specs.declared.place.Operand.{Operand}
+use Rattle.vcode.specs.declared.place.Operand.TheVariants.{At, Number, Name}
+use Rattle.vcode.specs.declared.place.Argument.{Argument}
+use Rattle.vcode.specs.declared.line.Line.{Line}
+use Rattle.vcode.specs.declared.line.Line.TheVariants.{Tick, Set, Operate, Load, Store, Alloc, Blit, Call}
+use Rattle.vcode.specs.declared.line.Operation.TheVariants.{Compare}
+use Rattle.vcode.specs.declared.line.Comparison.{Comparison}
+use Rattle.vcode.specs.declared.line.Jump.{Jump}
+use Rattle.vcode.specs.declared.line.Jump.TheVariants.{Goto, Branch, Return, Halt}
+use Rattle.vcode.specs.declared.code.Block.{Block}
+use Rattle.vcode.specs.declared.code.Code.{Code}
+use Rattle.vcode.specs.declared.function.VFunc.{VFunc}
+use Rattle.vcode.specs.Cost.{is_immediate, jump_cost}
+use Rattle.cfg_live.specs.Registers.{line_writes}
+use Rattle.forwarding.specs.declared.fact.Fact.{Fact}
+use Rattle.forwarding.specs.declared.fact.Fact.TheVariants.{Same, Test}
+use Rattle.forwarding.specs.Facts.{Facts, fact_names, asks_memory, AreBelow}
+
+-- ---- operands
+
+-- a register, or a number that is an immediate
+abbrev pub is_short : Operand ℕ → Bool
+is_short (At r) = true
+is_short (Number n) = is_immediate n
+is_short (Name g) = false
+
+abbrev pub copied : Operand ℕ → Fact → Operand ℕ
+copied a (Same b) = if is_short b then b else a
+copied a (Test c) = a
+
+-- what an operand is known to be a copy of, in its place
+abbrev pub forward : Facts → Operand ℕ → Operand ℕ
+forward fs (At r) = option_map_or (copied (At r)) (fs r) (At r)
+forward fs a = a
+
+-- ---- lines
+
+abbrev pub Replacing : Type 0
+Replacing = Operand ℕ → Operand ℕ
+
+abbrev pub with_argument : Replacing → Argument ℕ → Argument ℕ
+with_argument f a = record { class = a.class; value = f a.value }
+
+abbrev pub with_line : Replacing → Line ℕ → Line ℕ
+with_line f (Tick turn w) = Tick turn w
+with_line f (Set to a) = Set to (f a)
+with_line f (Operate to op a b) = Operate to op (f a) (f b)
+with_line f (Load to op at) = Load to op (f at)
+with_line f (Store size a at) = Store size (f a) (f at)
+with_line f (Alloc to size) = Alloc to size
+with_line f (Blit from to count) = Blit (f from) (f to) count
+with_line f (Call to callee args) = Call to (f callee) (map (with_argument f) args)
+
+-- ---- jumps
+
+abbrev pub with_comparison : Replacing → Comparison ℕ → Comparison ℕ
+with_comparison f on = record { condition = on.condition; class = on.class; left = f on.left; right = f on.right }
+
+-- the comparison whose result this one compares with 0
+abbrev pub test_of : Option Fact → Option (Comparison ℕ)
+test_of (Some (Test c)) = Some c
+test_of o = None
+
+abbrev pub tested_by : Facts → (left right : Operand ℕ) → Option (Comparison ℕ)
+tested_by fs (At r) (Number n) = if nat_eq n 0 then test_of (fs r) else None
+tested_by fs a b = None
+
+-- in place of a jump, if it costs no more
+abbrev pub cheaper : (old new : Jump ℕ) → Jump ℕ
+cheaper old new = if nat_le (jump_cost new) (jump_cost old) then new else old
+
+abbrev pub with_test : Condition → Comparison ℕ → (met otherwise : ℕ) → Option (Comparison ℕ) → Jump ℕ
+with_test NotEqual on met otherwise (Some c) = cheaper (Branch on met otherwise) (Branch c met otherwise)
+with_test Equal on met otherwise (Some c) = cheaper (Branch on met otherwise) (Branch c otherwise met)
+with_test k on met otherwise o = Branch on met otherwise
+
+abbrev pub with_branch : Facts → Comparison ℕ → (met otherwise : ℕ) → Jump ℕ
+with_branch fs on met otherwise = with_test on.condition on met otherwise (tested_by fs on.left on.right)
+
+abbrev pub with_jump : Facts → Jump ℕ → Jump ℕ
+with_jump fs (Goto k) = Goto k
+with_jump fs (Branch on met otherwise) = with_branch fs (with_comparison (forward fs) on) met otherwise
+with_jump fs (Return a) = Return (option_map (forward fs) a)
+with_jump fs Halt = Halt
+
+-- ---- what is known after a line
+
+abbrev pub changes_memory : Line ℕ → Bool
+changes_memory (Store size a at) = true
+changes_memory (Alloc to size) = true
+changes_memory (Blit from to count) = true
+changes_memory (Call to callee args) = true
+changes_memory l = false
+
+abbrev pub writes_it : Line ℕ → ℕ → Bool
+writes_it l r = option_map_or (λ k. nat_eq k r) (line_writes l) false
+
+-- what a line makes known of the register that it writes
+abbrev pub fact_of : Line ℕ → Option Fact
+fact_of (Set to a) = Some (Same a)
+fact_of (Operate to (Compare on k) a b) = Some (Test (record { condition = on; class = k; left = a; right = b }))
+fact_of l = None
+
+-- nothing but what the line makes known, and what was known and neither names what it writes nor asks memory that it changes
+abbrev pub After : Line ℕ → Facts → Facts → Type 0
+After l old new =
+    (r : ℕ) (f : Fact)
+    → new r ≡ Some f
+    → ((k : ℕ) → writes_it l k ≡ true → fact_names f k ≡ false)
+    × (((if writes_it l r then fact_of l else old r) ≡ Some f) × (writes_it l r ≡ false → changes_memory l ≡ true → asks_memory f ≡ false))
+
+-- ---- blocks
+
+-- the lines and the jump, put by what is known, which is `fs` before them and names registers below n alone
+abbrev pub AreForwarded : (n : ℕ) → Facts → (lines new : List (Line ℕ)) → (jump next : Jump ℕ) → Type 0
+AreForwarded n fs [] [] j k = AreBelow n fs × (k ≡ with_jump fs j)
+AreForwarded n fs [] (m ∷ new) j k = ⊥
+AreForwarded n fs (l ∷ lines) [] j k = ⊥
+AreForwarded n fs (l ∷ lines) (m ∷ new) j k =
+    AreBelow n fs × ((m ≡ with_line (forward fs) l) × ((gs : Facts) × (After m fs gs × AreForwarded n gs lines new j k)))
+
+-- nothing is known where a block begins
+pub record IsForwarded (n : ℕ) (b c : Block ℕ) : Type 0 where
+  pub facts : Facts
+  pub nothing : (r : ℕ) → facts r ≡ None
+  pub lines : AreForwarded n facts b.lines c.lines b.jump c.jump
+
+abbrev pub AllForwarded : (n : ℕ) → (blocks new : List (Block ℕ)) → Type 0
+AllForwarded n [] [] = Unit {0}
+AllForwarded n [] (c ∷ new) = ⊥
+AllForwarded n (b ∷ blocks) [] = ⊥
+AllForwarded n (b ∷ blocks) (c ∷ new) = IsForwarded n b c × AllForwarded n blocks new
+
+pub record IsForwardedFrom (v w : VFunc) : Type 0 where
+  pub result : w.code.result ≡ v.code.result
+  pub params : w.code.params ≡ v.code.params
+  pub registers : w.registers ≡ v.registers
+  pub blocks : AllForwarded v.registers v.code.blocks w.code.blocks

@@ -1,0 +1,3 @@
+pub mod Facts
+pub mod Table
+pub mod Forwarded

@@ -1,0 +1,38 @@
+-- What registers are known to hold, as a table has it: facts with the times since when they are known, and when registers and memory were last written.
+use Rattle.std.specs.Prelude.{◌≡◌, ℕ, ◌≤◌, Bool, true, false, ◌&&◌, nat_eq, nat_lt, nat_le, if◌then◌else◌, List, length, slice_get, Option, Some, None}
+use Rattle.std.specs.Option.{option_map_or}
+use Rattle.vcode.specs.declared.place.Operand.{Operand}
+use Rattle.vcode.specs.declared.place.Operand.TheVariants.{At}
+use Rattle.forwarding.specs.declared.fact.Fact.{Fact}
+use Rattle.forwarding.specs.declared.fact.Fact.TheVariants.{Same, Test}
+use Rattle.forwarding.specs.declared.fact.Known.{Known}
+use Rattle.forwarding.specs.declared.table.Table.{Table}
+use Rattle.forwarding.specs.Facts.{Facts, fact_names, asks_memory}
+
+abbrev pub cell : List (Option Known) → ℕ → Option Known
+cell cells r = option_map_or (λ (k : Option Known). k) (slice_get cells r) None
+
+-- no register of it was written since
+abbrev pub is_fresh : (written : List ℕ) → (since : ℕ) → Operand ℕ → Bool
+is_fresh written since (At r) = option_map_or (λ w. nat_le w since) (slice_get written r) false
+is_fresh written since a = true
+
+abbrev pub stands : (written : List ℕ) → (memory since : ℕ) → Fact → Bool
+stands written memory since (Same a) = is_fresh written since a
+stands written memory since (Test c) = is_fresh written since c.left && (is_fresh written since c.right && nat_le memory since)
+
+abbrev pub counted : (written : List ℕ) → (memory begun : ℕ) → Option Known → Option Fact
+counted written memory begun None = None
+counted written memory begun (Some k) = if nat_lt begun k.since && stands written memory k.since k.fact then Some k.fact else None
+
+-- what the table knows; nothing where its clock has stopped
+abbrev pub facts_of : Table → Facts
+facts_of t r = if t.stopped then None else counted t.written.items t.memory t.begun (cell t.cells.items r)
+
+-- nothing is later than its clock
+abbrev pub IsTable : Table → Type 0
+IsTable t = (r : ℕ) (k : Known) → cell t.cells.items r ≡ Some k → k.since ≤ t.clock
+
+-- of a register after r was written, of which `known` is known then: only facts that don't name r
+abbrev pub Left : ℕ → Option Fact → Facts → ℕ → Fact → Type 0
+Left r known fs q f = (fact_names f r ≡ false) × ((if nat_eq q r then known else fs q) ≡ Some f)

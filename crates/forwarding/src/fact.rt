@@ -1,0 +1,19 @@
+//! What is known of a register.
+use vcode::line::Comparison;
+use vcode::place::Operand;
+
+/// What a register holds.
+#[derive(Clone, Copy, Debug, PartialEq, Eq)]
+pub enum Fact {
+    /// what the operand does
+    Same(Operand<u32>),
+    /// what the comparison gives
+    Test(Comparison<u32>),
+}
+
+/// A fact, and the time since when it is known.
+#[derive(Clone, Copy, Debug, PartialEq, Eq)]
+pub struct Known {
+    pub fact: Fact,
+    pub since: u64,
+}

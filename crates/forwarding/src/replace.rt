@@ -1,0 +1,241 @@
+//! Lines and jumps, put by what is known of registers.
+ghost use Rattle.std.specs.Prelude.{◌≡◌, ◌+◌, ◌≤◌, ◌++◌, ℕ, true, false, map, drop, length, OnOk, IfOk, Some, None};
+ghost use Rattle.std.specs.Option.{option_map};
+ghost use Rattle.vcode.specs.declared.place.Operand.TheVariants.{At};
+ghost use Rattle.vcode.specs.declared.line.Jump.TheVariants.{Branch};
+ghost use Rattle.vcode.specs.Cost.{is_immediate, operand_cost, branch_cost};
+ghost use Rattle.forwarding.specs.Table.{facts_of};
+ghost use Rattle.forwarding.specs.Forwarded.{is_short, forward, with_argument, with_line, with_comparison, tested_by, cheaper, with_test, with_branch, with_jump};
+
+use crate::fact::Fact;
+use crate::table::Table;
+use il_ast::list::Seq;
+use il_ast::operation::{Class, Condition};
+use std::alloc::{AllocError, Global};
+use vcode::line::{Comparison, Jump, Line};
+use vcode::place::{Argument, Operand};
+
+fn is_immediate(number: u64) -> bool
+    ensures { result ≡ is_immediate number }
+{
+    number < 2048 || number >= 0xffff_ffff_ffff_f800
+}
+
+fn is_short(operand: &Operand<u32>) -> bool
+    ensures { result ≡ is_short operand.now }
+{
+    match operand {
+        Operand::At(_) => true,
+        Operand::Number(number) => is_immediate(*number),
+        Operand::Name(_) => false,
+    }
+}
+
+// What a register is known to be a copy of, in its place.
+fn copied(table: &Table, register: u32) -> Operand<u32>
+    ensures { result ≡ forward (facts_of table.now) (At register) }
+{
+    match table.fact(register) {
+        Some(Fact::Same(operand)) => {
+            if is_short(&operand) {
+                operand
+            } else {
+                Operand::At(register)
+            }
+        }
+        _ => Operand::At(register),
+    }
+}
+
+fn operand(table: &Table, from: &Operand<u32>) -> Operand<u32>
+    ensures { result ≡ forward (facts_of table.now) from.now }
+{
+    match from {
+        Operand::At(register) => copied(table, *register),
+        other => *other,
+    }
+}
+
+fn argument(table: &Table, from: &Argument<u32>) -> Argument<u32>
+    ensures { result ≡ with_argument (forward (facts_of table.now)) from.now }
+{
+    Argument {
+        class: from.class,
+        value: operand(table, &from.value),
+    }
+}
+
+fn push_arguments(
+    table: &Table,
+    to: &mut Seq<Argument<u32>>,
+    args: &[Argument<u32>],
+) -> Result<(), AllocError>
+    ensures { OnOk result (to.new ≡ to.old ++ map (with_argument (forward (facts_of table.now))) args.now) }
+{
+    for arg in args {
+        to.push(argument(table, arg))?;
+    }
+    Ok(())
+}
+
+fn arguments(
+    alloc: Global,
+    table: &Table,
+    args: &[Argument<u32>],
+) -> Result<Seq<Argument<u32>>, AllocError>
+    ensures { IfOk result (λ v. v ≡ map (with_argument (forward (facts_of table.now))) args.now) }
+{
+    let mut to = Seq::new(alloc);
+    push_arguments(table, &mut to, args)?;
+    Ok(to)
+}
+
+/// The line with each operand put by what is known.
+///
+/// # Errors
+///
+/// Only where memory was refused.
+pub(crate) fn line(alloc: Global, table: &Table, from: &Line<u32>) -> Result<Line<u32>, AllocError>
+    ensures { IfOk result (λ v. v ≡ with_line (forward (facts_of table.now)) from.now) }
+{
+    Ok(match from {
+        Line::Tick { turn, weight } => Line::Tick {
+            turn: *turn,
+            weight: *weight,
+        },
+        Line::Set { to, value } => Line::Set {
+            to: *to,
+            value: operand(table, value),
+        },
+        Line::Operate {
+            to,
+            operation,
+            left,
+            right,
+        } => Line::Operate {
+            to: *to,
+            operation: *operation,
+            left: operand(table, left),
+            right: operand(table, right),
+        },
+        Line::Load { to, op, at } => Line::Load {
+            to: *to,
+            op: *op,
+            at: operand(table, at),
+        },
+        Line::Store { size, value, at } => Line::Store {
+            size: *size,
+            value: operand(table, value),
+            at: operand(table, at),
+        },
+        Line::Alloc { to, size } => Line::Alloc {
+            to: *to,
+            size: *size,
+        },
+        Line::Blit { from, to, count } => Line::Blit {
+            from: operand(table, from),
+            to: operand(table, to),
+            count: *count,
+        },
+        Line::Call { to, callee, args } => Line::Call {
+            to: *to,
+            callee: operand(table, callee),
+            args: arguments(alloc, table, args.as_slice())?,
+        },
+    })
+}
+
+fn comparison(table: &Table, from: &Comparison<u32>) -> Comparison<u32>
+    ensures { result ≡ with_comparison (forward (facts_of table.now)) from.now }
+{
+    Comparison {
+        condition: from.condition,
+        class: from.class,
+        left: operand(table, &from.left),
+        right: operand(table, &from.right),
+    }
+}
+
+// The comparison whose result this one compares with 0.
+fn tested(table: &Table, on: &Comparison<u32>) -> Option<Comparison<u32>>
+    ensures { result ≡ tested_by (facts_of table.now) on.now.left on.now.right }
+{
+    match (on.left, on.right) {
+        (Operand::At(register), Operand::Number(number)) => {
+            if number != 0 {
+                return None;
+            }
+            match table.fact(register) {
+                Some(Fact::Test(test)) => Some(test),
+                _ => None,
+            }
+        }
+        _ => None,
+    }
+}
+
+fn operand_cost(operand: &Operand<u32>) -> u32
+    ensures cost { result ≡ operand_cost operand.now }
+    ensures few { result ≤ 9 }
+{
+    match operand {
+        Operand::At(_) => 3,
+        Operand::Number(number) => { if is_immediate(*number) { 1 } else { 9 } }
+        Operand::Name(_) => 2,
+    }
+}
+
+// What a branch costs.
+fn cost(on: &Comparison<u32>) -> u32
+    ensures { result ≡ operand_cost on.now.left + operand_cost on.now.right + branch_cost on.now.class }
+{
+    let operands = operand_cost(&on.left) + operand_cost(&on.right);
+    match on.class {
+        Class::W => operands + 6,
+        Class::L => operands + 4,
+    }
+}
+
+fn plain(on: Comparison<u32>, met: usize, otherwise: usize) -> Jump<u32>
+    ensures { result ≡ Branch on met otherwise }
+{
+    Jump::Branch { on, met, otherwise }
+}
+
+// A branch on the comparison whose result is tested, if that costs no more.
+fn with_test(on: Comparison<u32>, met: usize, otherwise: usize, test: Comparison<u32>) -> Jump<u32>
+    ensures { result ≡ with_test on.condition on met otherwise (Some test) }
+{
+    if cost(&test) > cost(&on) {
+        return plain(on, met, otherwise);
+    }
+    match on.condition {
+        Condition::NotEqual => plain(test, met, otherwise),
+        Condition::Equal => plain(test, otherwise, met),
+        _ => plain(on, met, otherwise),
+    }
+}
+
+fn branch(table: &Table, on: Comparison<u32>, met: usize, otherwise: usize) -> Jump<u32>
+    ensures { result ≡ with_branch (facts_of table.now) on met otherwise }
+{
+    match tested(table, &on) {
+        Some(test) => with_test(on, met, otherwise, test),
+        None => plain(on, met, otherwise),
+    }
+}
+
+/// The jump with each operand put by what is known; where it tests the result of a comparison it is a branch on that, if that costs no more.
+pub(crate) fn jump(table: &Table, from: &Jump<u32>) -> Jump<u32>
+    ensures { result ≡ with_jump (facts_of table.now) from.now }
+{
+    match from {
+        Jump::Goto(block) => Jump::Goto(*block),
+        Jump::Branch { on, met, otherwise } => {
+            branch(table, comparison(table, on), *met, *otherwise)
+        }
+        Jump::Return(None) => Jump::Return(None),
+        Jump::Return(Some(value)) => Jump::Return(Some(operand(table, value))),
+        Jump::Halt => Jump::Halt,
+    }
+}

@@ -1,0 +1,180 @@
+//! Small functions, and what is made of them.
+use crate::forward::forward;
+use il_ast::list::Seq;
+use il_ast::operation::{Class, Condition};
+use rv_isa::instruction::RegOp;
+use std::alloc::{AllocError, Global};
+use std::test::Fail;
+use vcode::code::{Block, Code};
+use vcode::function::VFunc;
+use vcode::line::{Comparison, Jump, Line, Operation};
+use vcode::place::{Destination, Operand};
+
+/// Copies its argument from register 0 to register 1, adds 5 to that, and returns the copy.
+fn copies(alloc: Global) -> Result<VFunc, AllocError> {
+    let mut params = Seq::new(alloc);
+    params.push(Destination {
+        place: 0,
+        class: Class::L,
+    })?;
+    let mut lines = Seq::new(alloc);
+    lines.push(Line::Tick {
+        turn: true,
+        weight: 1,
+    })?;
+    lines.push(Line::Set {
+        to: 1,
+        value: Operand::At(0),
+    })?;
+    lines.push(Line::Operate {
+        to: 2,
+        operation: Operation::Reg(RegOp::Add),
+        left: Operand::At(1),
+        right: Operand::Number(5),
+    })?;
+    let mut blocks = Seq::new(alloc);
+    blocks.push(Block {
+        lines,
+        jump: Jump::Return(Some(Operand::At(1))),
+    })?;
+    Ok(VFunc {
+        code: Code {
+            result: Some(Class::L),
+            params,
+            blocks,
+        },
+        registers: 3,
+    })
+}
+
+/// Compares its argument with 7 and branches on the result, and once more, but writes the argument in between.
+fn branches(alloc: Global) -> Result<VFunc, AllocError> {
+    let mut params = Seq::new(alloc);
+    params.push(Destination {
+        place: 0,
+        class: Class::L,
+    })?;
+    let mut first = Seq::new(alloc);
+    first.push(Line::Tick {
+        turn: true,
+        weight: 1,
+    })?;
+    first.push(Line::Operate {
+        to: 1,
+        operation: Operation::Compare(Condition::SignedLess, Class::L),
+        left: Operand::At(0),
+        right: Operand::Number(7),
+    })?;
+    let mut second = Seq::new(alloc);
+    second.push(Line::Tick {
+        turn: true,
+        weight: 1,
+    })?;
+    second.push(Line::Operate {
+        to: 1,
+        operation: Operation::Compare(Condition::SignedLess, Class::L),
+        left: Operand::At(0),
+        right: Operand::Number(7),
+    })?;
+    second.push(Line::Set {
+        to: 0,
+        value: Operand::Number(1),
+    })?;
+    let mut last = Seq::new(alloc);
+    last.push(Line::Tick {
+        turn: true,
+        weight: 1,
+    })?;
+    let mut blocks = Seq::new(alloc);
+    blocks.push(Block {
+        lines: first,
+        jump: Jump::Branch {
+            on: Comparison {
+                condition: Condition::Equal,
+                class: Class::W,
+                left: Operand::At(1),
+                right: Operand::Number(0),
+            },
+            met: 1,
+            otherwise: 2,
+        },
+    })?;
+    blocks.push(Block {
+        lines: second,
+        jump: Jump::Branch {
+            on: Comparison {
+                condition: Condition::Equal,
+                class: Class::W,
+                left: Operand::At(1),
+                right: Operand::Number(0),
+            },
+            met: 1,
+            otherwise: 2,
+        },
+    })?;
+    blocks.push(Block {
+        lines: last,
+        jump: Jump::Return(None),
+    })?;
+    Ok(VFunc {
+        code: Code {
+            result: None,
+            params,
+            blocks,
+        },
+        registers: 2,
+    })
+}
+
+/// The jump of a block, or a halt.
+fn jump_of(function: &VFunc, block: usize) -> Jump<u32> {
+    match function.code.blocks.as_slice().get(block) {
+        Some(found) => found.jump,
+        None => Jump::Halt,
+    }
+}
+
+/// The left operand of the operation at a line of the first block.
+fn left_of(function: &VFunc, line: usize) -> Option<Operand<u32>> {
+    match function.code.blocks.as_slice().get(0) {
+        Some(block) => match block.lines.as_slice().get(line) {
+            Some(Line::Operate { left, .. }) => Some(*left),
+            _ => None,
+        },
+        None => None,
+    }
+}
+
+#[test]
+fn copies_are_carried_on(rt: HostRuntime) -> Result<(), Fail> {
+    let function = copies(rt.alloc())?;
+    let made = forward(rt.alloc(), &function)?;
+    assert_eq!(rt; left_of(&function, 2), Some(Operand::At(1)));
+    assert_eq!(rt; left_of(&made, 2), Some(Operand::At(0)));
+    assert_eq!(rt; jump_of(&made, 0), Jump::Return(Some(Operand::At(0))));
+    assert_eq!(rt; made.registers, 3);
+    Ok(())
+}
+
+#[test]
+fn branches_compare_unless_a_side_is_written(rt: HostRuntime) -> Result<(), Fail> {
+    let function = branches(rt.alloc())?;
+    let made = forward(rt.alloc(), &function)?;
+    let on = Comparison {
+        condition: Condition::SignedLess,
+        class: Class::L,
+        left: Operand::At(0),
+        right: Operand::Number(7),
+    };
+    assert_eq!(rt;
+        jump_of(&made, 0),
+        Jump::Branch {
+            on,
+            met: 2,
+            otherwise: 1,
+        }
+    );
+    assert_eq!(rt; jump_of(&made, 1), jump_of(&function, 1));
+    assert_eq!(rt; jump_of(&made, 2), Jump::Return(None));
+    Ok(())
+}
