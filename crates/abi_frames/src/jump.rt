@@ -6,8 +6,8 @@ ghost use Rattle.abi_frames.specs.Emission.{result_items, goto_items, branch_whe
 
 use crate::fields::register;
 use crate::layout::Layout;
+use crate::line::{operand_source, push_operand_for};
 use crate::operand::{push_operand, push_word};
-use crate::line::{push_operand_for, operand_source};
 use il_ast::operation::{Class, Condition};
 use rv_isa::instruction::{BranchOp, Instr};
 use rv_isa::labelled::Item;

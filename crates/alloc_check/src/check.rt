@@ -199,11 +199,7 @@ fn targets(table: &Table, certificate: &Certificate, places: &[Equality], jump: 
 {
     match jump {
         Jump::Goto(block) => all_hold(table, starts_at(certificate, *block)),
-        Jump::Branch {
-            on,
-            met,
-            otherwise,
-        } => {
+        Jump::Branch { on, met, otherwise } => {
             held(table, places, &on.left)
                 && held(table, places, &on.right)
                 && all_hold(table, starts_at(certificate, *met))

@@ -90,11 +90,7 @@ fn next_of_jump(alloc: Global, firsts: &[usize], jump: &Jump<u32>) -> Result<Seq
     let mut next = Seq::new(alloc);
     match jump {
         Jump::Goto(block) => push_start(&mut next, firsts.get(*block).copied())?,
-        Jump::Branch {
-            met,
-            otherwise,
-            ..
-        } => {
+        Jump::Branch { met, otherwise, .. } => {
             push_start(&mut next, firsts.get(*met).copied())?;
             push_start(&mut next, firsts.get(*otherwise).copied())?;
         }

@@ -191,8 +191,8 @@ fn cost(on: &Comparison<u32>) -> u32
 {
     let operands = operand_cost(&on.left) + operand_cost(&on.right);
     match on.class {
-        Class::W => operands + 6,
-        Class::L => operands + 4,
+        Class::W => operands + 7,
+        Class::L => operands + 5,
     }
 }
 

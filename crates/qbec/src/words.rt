@@ -18,6 +18,7 @@ use certificates::strategy::Strategy;
 use cfg_live::live::live;
 use dead_lines::remove::remove_dead_lines;
 use flat_code::function::{FlatFunc, flat};
+use forwarding::forward::forward;
 use il_ast::function::Func;
 use phi_copies::lower::lower;
 use rv_isa::code::Code;
@@ -59,7 +60,7 @@ pub fn allocated(
     }
 }
 
-/// The function in virtual code. A pass on virtual code has its place behind `select`.
+/// The function in virtual code: selected, with copies and comparisons carried forward, and without dead lines. A pass on virtual code has its place here.
 ///
 /// # Errors
 ///
@@ -70,7 +71,8 @@ pub fn virtual_code_of(alloc: Global, func: &Func) -> Result<VFunc, AllocError>
 {
     let lowered = lower(alloc, func)?;
     let selected = select(alloc, &lowered)?;
-    let kept = remove_dead_lines(alloc, &selected)?;
+    let forwarded = forward(alloc, &selected)?;
+    let kept = remove_dead_lines(alloc, &forwarded)?;
     Ok(kept)
 }
 

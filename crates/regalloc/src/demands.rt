@@ -1,5 +1,6 @@
 //! How often each register is used, and by what.
 ghost use Rattle.std.specs.Prelude.{◌≤◌};
+
 use std::alloc::{AllocError, Global};
 use vcode::code::{Block, Code};
 use vcode::line::{Jump, Line};

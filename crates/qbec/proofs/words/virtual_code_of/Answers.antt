@@ -7,6 +7,8 @@ use Rattle.qbec.proofs.words.virtual_code_of.Goals as goal
 
 pub returns : goal.returns
 returns c =
-    let v = c.in_ok-selected.selected in
-    passes_stay c.args.func.now (virtual_code v) (virtual_code c.in_ok-kept.kept)
-    (subst (λ (f : Func). IsCodeOf f (virtual_code v)) c.in_ok-lowered.ensures.same c.in_ok-selected.ensures.is) c.in_ok-kept.ensures.kept
+    let v = virtual_code c.in_ok-selected.selected in
+    let w = virtual_code c.in_ok-forwarded.forwarded in
+    let first = subst (λ (f : Func). IsCodeOf f v) c.in_ok-lowered.ensures.same c.in_ok-selected.ensures.is in
+    passes_stay c.args.func.now w (virtual_code c.in_ok-kept.kept) (passes_stay c.args.func.now v w first c.in_ok-forwarded.ensures.kept)
+    c.in_ok-kept.ensures.kept
