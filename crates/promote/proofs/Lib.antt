@@ -1,2 +1,4 @@
 pub mod Choosing
 pub mod Ordering
+pub mod Respect
+pub mod Rules

@@ -1,3 +1,4 @@
 pub mod Uses
 pub mod Promoted
 pub mod Tables
+pub mod Laws

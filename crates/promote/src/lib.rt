@@ -11,6 +11,7 @@
 #![tactic(auto)]
 
 mod copying;
+pub mod laws;
 pub mod mention;
 mod mentions;
 pub mod promote;
