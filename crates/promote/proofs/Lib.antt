@@ -4,3 +4,4 @@ pub mod Respect
 pub mod Rules
 pub mod Ranges
 pub mod Hiding
+pub mod Carrying
