@@ -5,3 +5,5 @@ pub mod Rules
 pub mod Ranges
 pub mod Hiding
 pub mod Carrying
+pub mod Operating
+pub mod Sides
