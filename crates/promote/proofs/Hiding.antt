@@ -5,6 +5,7 @@ use Rattle.std.specs.Option.{option_map, option_and_then, option_flatten}
 use Rattle.std.proofs.lemmas.Bool.Decides.{nat_tests}
 use Rattle.std.proofs.lemmas.List.{length-set, length-replicate}
 use Rattle.std.proofs.Math.Nat.{pow-succ'}
+use Rattle.std.proofs.lemmas.Option.{slice_get_within}
 use Rattle.il_ast.specs.declared.value.Value.{Value}
 use Rattle.il_ast.specs.declared.value.Value.TheVariants.{Integer, Pointer, Function}
 use Rattle.il_ast.specs.declared.value.Cell.{Cell}
@@ -408,3 +409,35 @@ copy_hides hs m (suc n) (Pointer a o) (Integer k) c d = refl
 copy_hides hs m (suc n) (Pointer a o) (Function f) c d = refl
 copy_hides hs m (suc n) (Integer k) q c d = refl
 copy_hides hs m (suc n) (Function f) q c d = refl
+
+-- ---- fresh blocks
+
+pub get_end : {X : Type 0} (P : X → Type 0) (xs : List X) (x y : X) (b : ℕ) → P x → ((z : X) → slice_get xs b ≡ Some z → P z) → slice_get (xs ++ x ∷ []) b ≡ Some y → P y
+get_end P [] x y zero new old e = let same : x ≡ y = cc in subst P same new
+get_end P [] x y (suc b) new old e = absurd (let no : ⊥ = cc in no)
+get_end P (z ∷ zs) x y zero new old e = old y e
+get_end P (z ∷ zs) x y (suc b) new old e = get_end P zs x y b new old e
+
+end_mark : (hs : Marks) (h : Bool) (b : ℕ) → b < length hs → slice_get (hs ++ h ∷ []) b ≡ slice_get hs b
+end_mark [] h b lt = absurd (omega arith)
+end_mark (g ∷ hs) h zero lt = refl
+end_mark (g ∷ hs) h (suc b) lt = end_mark hs h b (omega arith)
+
+pub fresh_clean : (hs ks : Marks) (m : Memory) (h : Bool) (n : ℕ) → ks ≡ hs ++ h ∷ [] → Extends hs ks → length hs ≡ length m → CleanMemory hs m → CleanMemory ks (fresh m n)
+fresh_clean hs ks m h n is ext l c b x e g =
+    get_end (IfCleanCells ks) m (Some (replicate n Blank)) x b (clean_blanks ks n)
+    (λ z f.
+        let within = slice_get_within m b z f in
+        let old : slice_get hs b ≡ Some false = sym (end_mark hs h b (omega (arith, within, l))) ∙ (sym (ap (λ k. slice_get k b) is) ∙ e) in
+        clean_block_later hs ks ext z (c b z old f)) g
+
+free_clean : (hs : Marks) (m : Memory) (b : ℕ) → CleanMemory hs m → CleanMemory hs (free m b)
+free_clean hs m b h d x e g = get_set (IfCleanCells hs) m b d None x tt (λ z s. h d z e s) g
+
+pub free_all_clean : (hs : Marks) (m : Memory) (bs : List ℕ) → CleanMemory hs m → CleanMemory hs (free_all m bs)
+free_all_clean hs m [] h = h
+free_all_clean hs m (b ∷ bs) h = free_all_clean hs (free m b) bs (free_clean hs m b h)
+
+pub length_free : (m : Memory) (bs : List ℕ) → length (free_all m bs) ≡ length m
+length_free m [] = refl
+length_free m (b ∷ bs) = length_free (free m b) bs ∙ length-set m b None

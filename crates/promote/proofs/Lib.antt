@@ -7,3 +7,4 @@ pub mod Hiding
 pub mod Carrying
 pub mod Operating
 pub mod Sides
+pub mod Instructions

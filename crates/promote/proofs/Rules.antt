@@ -341,7 +341,7 @@ fits_same ds es h L (Global g) = refl
 abbrev Passes : (Operand → Option ℕ) → Type 0
 Passes f = (line t : ℕ) → f (operand_at line L (Temp t)) ≡ None → f (operand_at line W (Temp t)) ≡ None
 
-store_class : (size : Size) → operand_class (storing size) L ≡ stored_class size
+pub store_class : (size : Size) → operand_class (storing size) L ≡ stored_class size
 store_class Byte = refl
 store_class Half = refl
 store_class Word = refl
