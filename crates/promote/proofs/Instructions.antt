@@ -147,7 +147,7 @@ state_assign c hs m ts us owned t v st p h =
       sides = sides_assign c.widths hs (length c.memory) m ts us t v p h st.sides;
     }
 
-assigned_so : (c : Setting) (hs : Marks) (m : Memory) (ts us : List (Option Value)) (owned : List ℕ) (t : ℕ) (o o2 : Option Value) → State c hs m ts us owned → c.widths t ≡ None → o2 ≡ o → IfClean hs o → GoesSo c hs (assigned (held_as ts owned) m t o) (assigned (held_as us owned) (hide hs m) t o2)
+pub assigned_so : (c : Setting) (hs : Marks) (m : Memory) (ts us : List (Option Value)) (owned : List ℕ) (t : ℕ) (o o2 : Option Value) → State c hs m ts us owned → c.widths t ≡ None → o2 ≡ o → IfClean hs o → GoesSo c hs (assigned (held_as ts owned) m t o) (assigned (held_as us owned) (hide hs m) t o2)
 assigned_so c hs m ts us owned t None o2 st p e h = tt
 assigned_so c hs m ts us owned t (Some v) o2 st p e h =
     record {
@@ -157,7 +157,7 @@ assigned_so c hs m ts us owned t (Some v) o2 st p e h =
       state = state_assign c hs m ts us owned t v st p h;
     }
 
-kept_hidden : (c : Setting) (hs : Marks) (m now : Memory) → Extends c.marks hs → KeptHidden c.marks c.memory m → KeptHidden hs m now → KeptHidden c.marks c.memory now
+pub kept_hidden : (c : Setting) (hs : Marks) (m now : Memory) → Extends c.marks hs → KeptHidden c.marks c.memory m → KeptHidden hs m now → KeptHidden c.marks c.memory now
 kept_hidden c hs m now g k h b e = h b (g b true e) ∙ k b e
 
 changed_so : (c : Setting) (hs : Marks) (m : Memory) (ts us : List (Option Value)) (owned : List ℕ) (weight : ℕ) (o o2 : Option Memory) → State c hs m ts us owned → o2 ≡ option_map (hide hs) o → IfChanged hs m o → GoesSo c hs (changed (held_as ts owned) weight o) (changed (held_as us owned) weight o2)
@@ -191,7 +191,7 @@ one_then_clean : (hs : Marks) (m : Memory) (op : UnaryOp) (c : Class) (o : Optio
 one_then_clean hs m op c None k h = tt
 one_then_clean hs m op c (Some v) k h = one_clean hs m op c v k h
 
-unary_so : (c : Setting) (hs : Marks) (m : Memory) (ts us : List (Option Value)) (owned : List ℕ) → State c hs m ts us owned → (to : Dest) (op : UnaryOp) (a : Val) → c.widths to.temp ≡ None → PlainValue c.widths a → GoesSo c hs (inst_effect c.globals (held_as ts owned) m (Unary to op a)) (inst_effect c.globals (held_as us owned) (hide hs m) (Unary to op a))
+pub unary_so : (c : Setting) (hs : Marks) (m : Memory) (ts us : List (Option Value)) (owned : List ℕ) → State c hs m ts us owned → (to : Dest) (op : UnaryOp) (a : Val) → c.widths to.temp ≡ None → PlainValue c.widths a → GoesSo c hs (inst_effect c.globals (held_as ts owned) m (Unary to op a)) (inst_effect c.globals (held_as us owned) (hide hs m) (Unary to op a))
 unfolding inst_effect
 unary_so c hs m ts us owned st to op a p q =
     let k = operand_class op to.class in
@@ -211,7 +211,7 @@ two_then_clean hs m op c None y h k = tt
 two_then_clean hs m op c (Some u) None h k = tt
 two_then_clean hs m op c (Some u) (Some v) h k = two_clean hs m op c u v h k
 
-binary_so : (c : Setting) (hs : Marks) (m : Memory) (ts us : List (Option Value)) (owned : List ℕ) → State c hs m ts us owned → (to : Dest) (op : BinaryOp) (a b : Val) → c.widths to.temp ≡ None → PlainValue c.widths a → PlainValue c.widths b → GoesSo c hs (inst_effect c.globals (held_as ts owned) m (Binary to op a b)) (inst_effect c.globals (held_as us owned) (hide hs m) (Binary to op a b))
+pub binary_so : (c : Setting) (hs : Marks) (m : Memory) (ts us : List (Option Value)) (owned : List ℕ) → State c hs m ts us owned → (to : Dest) (op : BinaryOp) (a b : Val) → c.widths to.temp ≡ None → PlainValue c.widths a → PlainValue c.widths b → GoesSo c hs (inst_effect c.globals (held_as ts owned) m (Binary to op a b)) (inst_effect c.globals (held_as us owned) (hide hs m) (Binary to op a b))
 unfolding inst_effect
 binary_so c hs m ts us owned st to op a b p q r =
     let j = left_class op to.class in
@@ -238,7 +238,7 @@ store_then_changed hs m n None y d h k = tt
 store_then_changed hs m n (Some v) None d h k = tt
 store_then_changed hs m n (Some v) (Some p) d h k = store_changed hs m n p v d k h
 
-store_so : (c : Setting) (hs : Marks) (m : Memory) (ts us : List (Option Value)) (owned : List ℕ) → State c hs m ts us owned → (size : Size) (a at : Val) → PlainValue c.widths a → PlainValue c.widths at → GoesSo c hs (inst_effect c.globals (held_as ts owned) m (Store size a at)) (inst_effect c.globals (held_as us owned) (hide hs m) (Store size a at))
+pub store_so : (c : Setting) (hs : Marks) (m : Memory) (ts us : List (Option Value)) (owned : List ℕ) → State c hs m ts us owned → (size : Size) (a at : Val) → PlainValue c.widths a → PlainValue c.widths at → GoesSo c hs (inst_effect c.globals (held_as ts owned) m (Store size a at)) (inst_effect c.globals (held_as us owned) (hide hs m) (Store size a at))
 unfolding inst_effect
 store_so c hs m ts us owned st size a at q r =
     let n = byte_count size in
@@ -263,7 +263,7 @@ copy_then_changed hs m n None y d h k = tt
 copy_then_changed hs m n (Some p) None d h k = tt
 copy_then_changed hs m n (Some p) (Some q) d h k = copy_changed hs m n p q d h k
 
-blit_so : (c : Setting) (hs : Marks) (m : Memory) (ts us : List (Option Value)) (owned : List ℕ) → State c hs m ts us owned → (from to : Val) (n : ℕ) → PlainValue c.widths from → PlainValue c.widths to → GoesSo c hs (inst_effect c.globals (held_as ts owned) m (Blit from to n)) (inst_effect c.globals (held_as us owned) (hide hs m) (Blit from to n))
+pub blit_so : (c : Setting) (hs : Marks) (m : Memory) (ts us : List (Option Value)) (owned : List ℕ) → State c hs m ts us owned → (from to : Val) (n : ℕ) → PlainValue c.widths from → PlainValue c.widths to → GoesSo c hs (inst_effect c.globals (held_as ts owned) m (Blit from to n)) (inst_effect c.globals (held_as us owned) (hide hs m) (Blit from to n))
 unfolding inst_effect
 blit_so c hs m ts us owned st from to n q r =
     let h = operand_clean c hs m ts us owned st L from q in
@@ -282,7 +282,7 @@ abbrev pub PlainArgs : Widths → List Arg → Type 0
 PlainArgs w [] = Unit {0}
 PlainArgs w (a ∷ args) = PlainValue w a.value × PlainArgs w args
 
-plain_args : (w : Widths) (args : List Arg) → Respected w (flat_map arg_mentions args) → PlainArgs w args
+pub plain_args : (w : Widths) (args : List Arg) → Respected w (flat_map arg_mentions args) → PlainArgs w args
 plain_args w [] h = tt
 plain_args w (a ∷ args) h = (
   plain_value w a.value (respected_first w (value_mentions Used a.value) (flat_map arg_mentions args) h),
@@ -320,7 +320,7 @@ call_so c hs to args None y p h = tt
 call_so c hs to args (Some f) None p h = tt
 call_so c hs to args (Some f) (Some values) p h = asks_so c hs to args f values p h
 
-calls_so : (c : Setting) (hs : Marks) (m : Memory) (ts us : List (Option Value)) (owned : List ℕ) → State c hs m ts us owned → (to : Option Dest) (callee : Val) (args : List Arg) → DestPlain c.widths to → PlainValue c.widths callee → PlainArgs c.widths args → GoesSo c hs (inst_effect c.globals (held_as ts owned) m (CallInst to callee args)) (inst_effect c.globals (held_as us owned) (hide hs m) (CallInst to callee args))
+pub calls_so : (c : Setting) (hs : Marks) (m : Memory) (ts us : List (Option Value)) (owned : List ℕ) → State c hs m ts us owned → (to : Option Dest) (callee : Val) (args : List Arg) → DestPlain c.widths to → PlainValue c.widths callee → PlainArgs c.widths args → GoesSo c hs (inst_effect c.globals (held_as ts owned) m (CallInst to callee args)) (inst_effect c.globals (held_as us owned) (hide hs m) (CallInst to callee args))
 unfolding inst_effect
 calls_so c hs m ts us owned st to callee args p q r =
     subst (GoesSo c hs (call_effect to args (operand c.globals ts L callee) (all_operands c.globals ts args)))

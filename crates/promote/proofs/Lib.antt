@@ -8,3 +8,4 @@ pub mod Carrying
 pub mod Operating
 pub mod Sides
 pub mod Instructions
+pub mod Locals
