@@ -9,3 +9,5 @@ pub mod Operating
 pub mod Sides
 pub mod Instructions
 pub mod Locals
+pub mod Turns
+pub mod Runs
