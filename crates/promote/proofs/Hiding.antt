@@ -167,7 +167,7 @@ clean_block_later : (hs ks : Marks) → Extends hs ks → (x : Option (List Cell
 clean_block_later hs ks h None c = tt
 clean_block_later hs ks h (Some cells) c = clean_cells_later hs ks h cells c
 
-clean_both : (hs : Marks) (xs ys : List Cell) → CleanCells hs xs → CleanCells hs ys → CleanCells hs (xs ++ ys)
+pub clean_both : (hs : Marks) (xs ys : List Cell) → CleanCells hs xs → CleanCells hs ys → CleanCells hs (xs ++ ys)
 clean_both hs [] ys h k = k
 clean_both hs (x ∷ xs) ys h k = (h.0, clean_both hs xs ys h.1 k)
 
@@ -183,7 +183,7 @@ clean_drop hs zero (x ∷ xs) h = h
 clean_drop hs (suc n) [] h = tt
 clean_drop hs (suc n) (x ∷ xs) h = clean_drop hs n xs h.1
 
-clean_blanks : (hs : Marks) (n : ℕ) → CleanCells hs (replicate n Blank)
+pub clean_blanks : (hs : Marks) (n : ℕ) → CleanCells hs (replicate n Blank)
 clean_blanks hs zero = tt
 clean_blanks hs (suc n) = (tt, clean_blanks hs n)
 

@@ -11,3 +11,4 @@ pub mod Instructions
 pub mod Locals
 pub mod Turns
 pub mod Runs
+pub mod Programs

@@ -2,3 +2,4 @@ pub mod Uses
 pub mod Promoted
 pub mod Tables
 pub mod Laws
+pub mod Programs
