@@ -121,6 +121,7 @@ both_true false b h = absurd (let no : ⊥ = cc in no)
 find_here : (p : Size → Bool) (x s : Size) (r : Option Size) (b : Bool) → p x ≡ b → (r ≡ Some s → p s ≡ true) → cond b (Some x) r ≡ Some s → p s ≡ true
 find_here p x s r true e h is = let same : x ≡ s = cc in ap p (sym same) ∙ e
 find_here p x s r false e h is = h is
+
 find_true : (p : Size → Bool) (xs : List Size) (s : Size) → find p xs ≡ Some s → p s ≡ true
 find_true p [] s e = absurd (let no : ⊥ = cc in no)
 find_true p (x ∷ xs) s e = find_here p x s (find p xs) (p x) refl (find_true p xs s) e

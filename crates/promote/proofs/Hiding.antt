@@ -208,6 +208,7 @@ cells_clean hs n (Function f) h = if_clean hs (nat_eq n 8) (parts (Function f)) 
 block_clean_at : (hs : Marks) (m : Memory) (b : ℕ) → CleanMemory hs m → slice_get hs b ≡ Some false → (o : Option (Option (List Cell))) → slice_get m b ≡ o → IfCleanCells hs (option_flatten o)
 block_clean_at hs m b h e None s = tt
 block_clean_at hs m b h e (Some x) s = h b x e s
+
 block_clean : (hs : Marks) (m : Memory) (b : ℕ) → CleanMemory hs m → slice_get hs b ≡ Some false → IfCleanCells hs (block_at m b)
 block_clean hs m b h e = block_clean_at hs m b h e (slice_get m b) refl
 
@@ -323,6 +324,7 @@ differ_by : (hs : Marks) (a b : ℕ) (t : Bool) → nat_eq a b ≡ t → slice_g
 differ_by hs a b false e h k = refl
 differ_by hs a b true e h k =
     let same : a ≡ b = same_number a b e in let both : slice_get hs a ≡ slice_get hs b = ap (slice_get hs) same in absurd (let no : ⊥ = cc in no)
+
 pub marks_differ : (hs : Marks) (a b : ℕ) → slice_get hs a ≡ Some true → slice_get hs b ≡ Some false → nat_eq a b ≡ false
 marks_differ hs a b h k = differ_by hs a b (nat_eq a b) refl h k
 
@@ -427,9 +429,9 @@ pub fresh_clean : (hs ks : Marks) (m : Memory) (h : Bool) (n : ℕ) → ks ≡ h
 fresh_clean hs ks m h n is ext l c b x e g =
     get_end (IfCleanCells ks) m (Some (replicate n Blank)) x b (clean_blanks ks n)
     (λ z f.
-        let within = slice_get_within m b z f in
-        let old : slice_get hs b ≡ Some false = sym (end_mark hs h b (omega (arith, within, l))) ∙ (sym (ap (λ k. slice_get k b) is) ∙ e) in
-        clean_block_later hs ks ext z (c b z old f)) g
+    let within = slice_get_within m b z f in
+    let old : slice_get hs b ≡ Some false = sym (end_mark hs h b (omega (arith, within, l))) ∙ (sym (ap (λ k. slice_get k b) is) ∙ e) in
+    clean_block_later hs ks ext z (c b z old f)) g
 
 free_clean : (hs : Marks) (m : Memory) (b : ℕ) → CleanMemory hs m → CleanMemory hs (free m b)
 free_clean hs m b h d x e g = get_set (IfCleanCells hs) m b d None x tt (λ z s. h d z e s) g

@@ -117,6 +117,7 @@ read_held hs first m s v u h = by_block (slice_get m h.block) refl
   where
     at_block : load m (byte_count s) v ≡ option_and_then value_of (option_and_then (span 0 (byte_count s)) (option_flatten (slice_get m h.block)))
     at_block = ap (load m (byte_count s)) h.is
+
     by_cells : (cells : List Cell) → slice_get m h.block ≡ Some (Some cells) → Shows hs s cells u → (load m (byte_count s) v ≡ None) ⊎ Read hs m s v u
     by_cells cells e (inl none) =
         inl (at_block ∙ (ap (λ o. option_and_then value_of (option_and_then (span 0 (byte_count s)) (option_flatten o))) e ∙ none))
@@ -130,6 +131,7 @@ read_held hs first m s v u h = by_block (slice_get m h.block) refl
           got = at_block
               ∙ (ap (λ o. option_and_then value_of (option_and_then (span 0 (byte_count s)) (option_flatten o))) e ∙ ap (option_and_then value_of) x.begins);
         })
+
     by_block : (o : Option (Option (List Cell))) → slice_get m h.block ≡ o → (load m (byte_count s) v ≡ None) ⊎ Read hs m s v u
     by_block None e = inl (at_block ∙ ap (λ o. option_and_then value_of (option_and_then (span 0 (byte_count s)) (option_flatten o))) e)
     by_block (Some None) e = inl (at_block ∙ ap (λ o. option_and_then value_of (option_and_then (span 0 (byte_count s)) (option_flatten o))) e)
@@ -206,6 +208,7 @@ load_so c hs m ts us owned st to op p s k q r = by_slot (slice_get ts p) refl
     by_load : (v : Value) → LoadsSo hs m op to.class v (slice_get us p) → TakenSo c hs m ts us owned to op p (operate_one m op to.class v)
     by_load v (inl none) = subst (TakenSo c hs m ts us owned to op p) (sym none) tt
     by_load v (inr x) = assigned_so c hs m ts us owned to.temp (operate_one m op to.class v) (taken_second c hs m us to op p) st k x.0 x.1
+
     by_slot : (o : Option (Option Value)) → slice_get ts p ≡ o → TakenSo c hs m ts us owned to op p (taken_first m to op (operand_class op to.class) (slice_get ts p))
     by_slot None e = subst (λ o. TakenSo c hs m ts us owned to op p (taken_first m to op (operand_class op to.class) o)) (sym e) tt
     by_slot (Some None) e = subst (λ o. TakenSo c hs m ts us owned to op p (taken_first m to op (operand_class op to.class) o)) (sym e) tt
@@ -327,13 +330,16 @@ value_put_so c hs m ts us owned st size p q v clean = by_slot (slice_get ts p) r
     by_fit b cells new true at low hidden there made le =
         let fits : length new ≤ length cells = let k : 0 + length new ≤ length cells = grind (arith, nat_tests) in omega arith in
         stored_so c hs m ts us owned st size p b v cells new q at low hidden there made fits (put_there hs (hide hs m) size v new clean made)
+
     by_block : (b : ℕ) (new : List Cell) (o : Option (Option (List Cell))) → slice_get ts p ≡ Some (Some (Pointer b 0)) → length c.memory ≤ b → slice_get hs b ≡ Some true → slice_get m b ≡ o → cells_for (byte_count size) v ≡ Some new → PutSo c hs m ts us owned size p v (option_map (λ cs. slice_set m b (Some cs)) (option_and_then (put 0 new) (option_flatten o)))
     by_block b new None at low hidden there made = tt
     by_block b new (Some None) at low hidden there made = tt
     by_block b new (Some (Some cells)) at low hidden there made = by_fit b cells new (nat_le (0 + length new) (length cells)) at low hidden there made refl
+
     by_cells : (b : ℕ) (o : Option (List Cell)) → slice_get ts p ≡ Some (Some (Pointer b 0)) → length c.memory ≤ b → slice_get hs b ≡ Some true → cells_for (byte_count size) v ≡ o → PutSo c hs m ts us owned size p v (option_and_then (write_at m b 0) o)
     by_cells b None at low hidden made = tt
     by_cells b (Some new) at low hidden made = by_block b new (slice_get m b) at low hidden refl made
+
     by_slot : (o : Option (Option Value)) → slice_get ts p ≡ o → PutSo c hs m ts us owned size p v (put_at m size v (slice_get ts p))
     by_slot None e = subst (λ o. PutSo c hs m ts us owned size p v (put_at m size v o)) (sym e) tt
     by_slot (Some None) e = subst (λ o. PutSo c hs m ts us owned size p v (put_at m size v o)) (sym e) tt
@@ -353,6 +359,7 @@ promoted_store_so c hs m ts us owned st size a p plain q =
     second_is =
         ap (λ k. put_second hs m us owned size p (operand c.globals us k a)) (store_class size)
         ∙ ap (put_second hs m us owned size p) (operand_alike c hs m ts us owned st (stored_class size) a plain)
+
     by_operand : (x : Option Value) → IfClean hs x → GoesSo c hs (put_first c m ts owned size p x) (put_second hs m us owned size p x)
     by_operand None clean = tt
     by_operand (Some v) clean = value_put_so c hs m ts us owned st size p q v clean

@@ -106,6 +106,7 @@ after_one : (n x : ℕ) (xs ys : List ℕ) (b c : Bool) → ((k : ℕ) → come_
 after_one n x xs ys true c h = h n
 after_one n x xs ys false true h = h (n + 1)
 after_one n x xs ys false false h = refl
+
 after_both : (n : ℕ) (xs ys : List ℕ) → come_after n (xs ++ ys) ≡ option_and_then (λ k. come_after k ys) (come_after n xs)
 after_both n [] ys = refl
 after_both n (x ∷ xs) ys = after_one n x xs ys (nat_lt x n) (nat_eq x n) (λ k. after_both k xs ys)
@@ -113,6 +114,7 @@ after_both n (x ∷ xs) ys = after_one n x xs ys (nat_lt x n) (nat_eq x n) (λ k
 roles_step : (t : ℕ) (m : Mention) (ms ns : List Mention) (b : Bool) → roles t (ms ++ ns) ≡ roles t ms ++ roles t ns → cond b (m.role ∷ roles t (ms ++ ns)) (roles t (ms ++ ns)) ≡ cond b (m.role ∷ roles t ms) (roles t ms) ++ roles t ns
 roles_step t m ms ns true h = ap (λ rs. m.role ∷ rs) h
 roles_step t m ms ns false h = h
+
 roles_both : (t : ℕ) (ms ns : List Mention) → roles t (ms ++ ns) ≡ roles t ms ++ roles t ns
 roles_both t [] ns = refl
 roles_both t (m ∷ ms) ns = roles_step t m ms ns (nat_eq m.temp t) (roles_both t ms ns)
@@ -141,6 +143,7 @@ come_one n k m ms false true lt eq h e =
     let same : m.temp ≡ n = grind (arith, nat_tests) in
     come_more n k m ms (omega arith) (record { more = omega arith; none = r.none })
 come_one n k m ms false false lt eq h e = absurd (let no : ⊥ = cc in no)
+
 comes : (n k : ℕ) (ms : List Mention) → come_after n (temps ms) ≡ Some k → Come n k ms
 comes n k [] e = let same : n ≡ k = cc in record { more = omega arith; none = λ t le. refl }
 comes n k (m ∷ ms) e = come_one n k m ms (nat_lt m.temp n) (nat_eq m.temp n) refl refl (λ i. comes i k ms) e
@@ -207,13 +210,16 @@ self p = grind (arith, nat_tests)
 not_first : (p t : ℕ) (size : Size) (b : Bool) → starts (cond b (Used ∷ (Accessed size ∷ [])) (Accessed size ∷ [])) ≡ false
 not_first p t size true = refl
 not_first p t size false = refl
+
 alone : (p : ℕ) (size : Size) → roles p (mention (Accessed size) p ∷ []) ≡ Accessed size ∷ []
 alone p size = ap (λ b. cond b (Accessed size ∷ []) []) (self p)
+
 come_or : (w : Widths) (n p : ℕ) (s size : Size) (a : Val) → w p ≡ Some s → starts (roles p (value_mentions Used a ++ mention (Accessed size) p ∷ [])) ≡ false
 come_or w n p s size (Int k) e = ap starts (alone p size)
 come_or w n p s size (Temp t) e =
     ap (λ rs. starts (cond (nat_eq t p) (Used ∷ rs) rs)) (alone p size) ∙ not_first p t size (nat_eq t p)
 come_or w n p s size (Global g) e = ap starts (alone p size)
+
 has_come : (w : Widths) (n p : ℕ) (s size : Size) (a : Val) → w p ≡ Some s → Fresh w n (value_mentions Used a ++ mention (Accessed size) p ∷ []) → p < n
 has_come w n p s size a e f =
     let no = come_or w n p s size a e in let yes = f p s e in grind arith

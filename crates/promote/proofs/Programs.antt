@@ -286,8 +286,7 @@ start_clean p words h b x e =
     clean_there hs (start_memory p words) b x
     (both_clean hs (map (λ (d : Placed DataDef). Some (object_cells p d)) p.objects) (map (λ (w : List ℕ). Some (word_cells w)) words ++ Some (list_cells (length p.objects) (length words)) ∷ [])
     (objects_clean p hs p.objects (names_start p words h) h.data_bytes)
-    (both_clean hs (map (λ (w : List ℕ). Some (word_cells w)) words) (Some (list_cells (length p.objects) (length words)) ∷ []) (words_clean hs words h.word_bytes)
-    (
+    (both_clean hs (map (λ (w : List ℕ). Some (word_cells w)) words) (Some (list_cells (length p.objects) (length words)) ∷ []) (words_clean hs words h.word_bytes) (
       clean_both hs (pointers_from (length p.objects) (length words)) (replicate 8 (Plain 0))
           (pointers_clean (length (start_memory p words)) (length p.objects) (length words) (omega (arith, long))) (zeros_clean hs 8),
       tt,

@@ -83,6 +83,7 @@ none_both (Some n) b e h = absurd (let no : ⊥ = cc in no)
 first_later : (a b c : Option ℕ) → or_else a (or_else b c) ≡ or_else (or_else a b) c
 first_later None b c = refl
 first_later (Some n) b c = refl
+
 first_both : {X : Type 0} (f : X → Option ℕ) (xs ys : List X) → first f (xs ++ ys) ≡ or_else (first f xs) (first f ys)
 first_both f [] ys = refl
 first_both f (x ∷ xs) ys = ap (or_else (f x)) (first_both f xs ys) ∙ first_later (f x) (first f xs) (first f ys)
@@ -128,9 +129,11 @@ Stays {X} f = (size : Size) (a at : Val) (p : ℕ) (to : Dest) (op op2 : UnaryOp
 stays_unary : {X : Type 0} (f : Inst → X) → Stays f → (to : Dest) (op : UnaryOp) (p : ℕ) (o : Option Size) → f (taken_from o to op p) ≡ f (Unary to op (Temp p))
 stays_unary f h to op p None = refl
 stays_unary f h to op p (Some s) = (h s (Temp p) (Temp p) p to (loading op to.class) op).1
+
 stays_store : {X : Type 0} (f : Inst → X) → Stays f → (size : Size) (a : Val) (p : ℕ) (o : Option Size) → f (stored_in o size a p) ≡ f (Store size a (Temp p))
 stays_store f h size a p None = refl
 stays_store f h size a p (Some s) = sym (h size a (Temp p) p (record { temp = p; class = L }) (storing size) (storing size)).0
+
 stays : {X : Type 0} (w : Widths) (f : Inst → X) → Stays f → (i : Inst) → f (promoted w i) ≡ f i
 stays w f h (Unary to op (Int n)) = refl
 stays w f h (Unary to op (Temp p)) = stays_unary f h to op p (w p)
@@ -201,6 +204,7 @@ same_need w f g r =
 or_later : (a b c : Bool) → (a || (b || c)) ≡ ((a || b) || c)
 or_later true b c = refl
 or_later false b c = refl
+
 any_both : {X : Type 0} (p : X → Bool) (xs ys : List X) → list_any p (xs ++ ys) ≡ (list_any p xs || list_any p ys)
 any_both p [] ys = refl
 any_both p (x ∷ xs) ys = ap (λ b. p x || b) (any_both p xs ys) ∙ or_later (p x) (list_any p xs) (list_any p ys)
@@ -222,9 +226,11 @@ or_none b e = ap (λ x. x || false) e
 unary_any : (p : Definer → Bool) (line : ℕ) (to : Dest) (op : UnaryOp) (t : ℕ) (o : Option Size) → list_any p (item_definers line (taken_from o to op t)) ≡ list_any p (definer line to ∷ [])
 unary_any p line to op t None = refl
 unary_any p line to op t (Some s) = refl
+
 store_any : (w : Widths) (p : Definer → Bool) → Misses w p → (line : ℕ) (size : Size) (a : Val) (t : ℕ) (o : Option Size) → w t ≡ o → list_any p (item_definers line (stored_in o size a t)) ≡ false
 store_any w p h line size a t None e = refl
 store_any w p h line size a t (Some s) e = or_none (p (definer line (record { temp = t; class = L }))) (h line t s e)
+
 item_any : (w : Widths) (p : Definer → Bool) → Misses w p → (line : ℕ) (i : Inst) → list_any p (item_definers line (promoted w i)) ≡ list_any p (item_definers line i)
 item_any w p h line (Unary to op (Int n)) = refl
 item_any w p h line (Unary to op (Temp t)) = unary_any p line to op t (w t)
@@ -277,6 +283,7 @@ unequal : (w : Widths) (p t : ℕ) (s : Size) (b : Bool) → nat_eq p t ≡ b �
 unequal w p t s false e h k = refl
 unequal w p t s true e h k =
     let same : p ≡ t = same_number p t e in let both : w p ≡ w t = ap w same in absurd (let no : ⊥ = cc in no)
+
 plain_misses : (w : Widths) (t : ℕ) → w t ≡ None → Misses w (given L t)
 plain_misses w t k line p s e = unequal w p t s (nat_eq p t) refl e k
 
@@ -482,6 +489,7 @@ at_given_one bad c t d ds true true e f none h is =
     let same : d.temp ≡ t = same_number d.temp t e in ap bad (sym same) ∙ when_false (bad d.temp) d.line none
 at_given_one bad c t d ds true false e f none h is = h is
 at_given_one bad c t d ds false k e f none h is = h is
+
 at_given : (bad : ℕ → Bool) (c : Class) (t : ℕ) (ds : List Definer) → first (λ (d : Definer). when (bad d.temp) d.line) ds ≡ None → is_given c t ds ≡ true → bad t ≡ false
 at_given bad c t [] none e = absurd (let no : ⊥ = cc in no)
 at_given bad c t (d ∷ ds) none e =
@@ -496,6 +504,7 @@ class_of w f t h two mis None e true k =
 class_of w f t h two mis (Some s) e true k =
     let wrong = (none_parts _ (in_insts has_wrong_result f.blocks) mis).1 in
     let no = never_word w f t s h wrong e in absurd (let never : ⊥ = cc in never)
+
 one_class : (w : Widths) (f : Func) (bs : List Block) → Respected w (mentions_of f) → two_types f ≡ None → misplaced f ≡ None → bs ≡ map (promoted_block w) f.blocks → (t : ℕ) → (is_given W t (definers_in f.params bs) && is_given L t (definers_in f.params bs)) ≡ false
 one_class w f bs h two mis e t =
     ap (λ cs. is_given W t (definers_in f.params cs) && is_given L t (definers_in f.params cs)) e
@@ -578,15 +587,18 @@ loaded_right (Load SignedHalf) to L t line e = refl
 loaded_right (Load UnsignedHalf) to L t line e = refl
 loaded_right (Load SignedByte) to L t line e = refl
 loaded_right (Load UnsignedByte) to L t line e = refl
+
 taken_right : (to : Dest) (op : UnaryOp) (t line : ℕ) (o : Option Size) → when (has_wrong_result (Unary to op (Temp t))) line ≡ None → when (has_wrong_result (taken_from o to op t)) line ≡ None
 taken_right to op t line None e = e
 taken_right to op t line (Some s) e = loaded_right op to to.class t line e
+
 stored_right : (size : Size) (a : Val) (t line : ℕ) (o : Option Size) → when (has_wrong_result (stored_in o size a t)) line ≡ None
 stored_right size a t line None = refl
 stored_right Byte a t line (Some s) = refl
 stored_right Half a t line (Some s) = refl
 stored_right Word a t line (Some s) = refl
 stored_right Long a t line (Some s) = refl
+
 wrong_result_stays : (i : Inst) (line : ℕ) (w : Widths) → when (has_wrong_result i) line ≡ None → when (has_wrong_result (promoted w i)) line ≡ None
 wrong_result_stays (Unary to op (Int n)) line w e = e
 wrong_result_stays (Unary to op (Temp t)) line w e = taken_right to op t line (w t) e
@@ -623,6 +635,7 @@ alloc_stays w (b ∷ bs) =
 value_none : (p q : Val → Bool) → ((a : Val) → p a ≡ false → q a ≡ false) → (line : ℕ) (a : Option Val) → breaks_in p line a ≡ None → breaks_in q line a ≡ None
 value_none p q h line None e = refl
 value_none p q h line (Some a) e = when_none (q a) line (h a (when_false (p a) line e))
+
 returned_none : (p q : Val → Bool) → ((a : Val) → p a ≡ false → q a ≡ false) → (j : Option (Lined Jump)) → returned_breaks p j ≡ None → returned_breaks q j ≡ None
 returned_none p q h None e = refl
 returned_none p q h (Some j) e = value_none p q h j.line (value_returned j.item) e

@@ -99,6 +99,7 @@ set_alike (z ∷ zs) (y ∷ ys) (suc i) (suc j) x n e = set_alike zs ys i j x (o
 differs_by : (w : Widths) (r t : ℕ) (s : Size) (b : Bool) → nat_eq r t ≡ b → w r ≡ Some s → w t ≡ None → b ≡ false
 differs_by w r t s false e h k = refl
 differs_by w r t s true e h k = let same : w r ≡ w t = ap w (same_number r t e) in absurd (let no : ⊥ = cc in no)
+
 pub differs : (w : Widths) (r t : ℕ) (s : Size) → w r ≡ Some s → w t ≡ None → nat_eq r t ≡ false
 differs w r t s h k = differs_by w r t s (nat_eq r t) refl h k
 
@@ -172,6 +173,7 @@ older w hs first m ts us l x r s q e =
 bool_cases : (b : Bool) → (b ≡ true) ⊎ (b ≡ false)
 bool_cases true = inl refl
 bool_cases false = inr refl
+
 number_cases : (a b : ℕ) → (nat_eq a b ≡ true) ⊎ (nat_eq a b ≡ false)
 number_cases a b = bool_cases (nat_eq a b)
 
@@ -186,6 +188,7 @@ get_set_new (z ∷ zs) (suc i) (suc j) x y t e =
 flipped_by : (w : Widths) (r t : ℕ) (s : Size) (b : Bool) → nat_eq r t ≡ b → w r ≡ None → w t ≡ Some s → b ≡ false
 flipped_by w r t s false e h k = refl
 flipped_by w r t s true e h k = let same : w r ≡ w t = ap w (same_number r t e) in absurd (let no : ⊥ = cc in no)
+
 flipped : (w : Widths) (r t : ℕ) (s : Size) → w r ≡ None → w t ≡ Some s → nat_eq r t ≡ false
 flipped w r t s h k = flipped_by w r t s (nat_eq r t) refl h k
 
@@ -276,6 +279,7 @@ held_store w hs first m ts us p b s cells x f at shows sides r q (Some v) g e (i
         let v_is : v ≡ Pointer b 0 = h.is ∙ ap (λ n. Pointer n 0) one in
         let here : slice_get ts r ≡ Some (Some (Pointer b 0)) = e ∙ ap (λ z. Some (Some z)) v_is in
         absurd (other_number r p other (sides.apart r p q s (Pointer b 0) g f here at))
+
 pub sides_store : (w : Widths) (hs : Marks) (first : ℕ) (m : Memory) (ts us : List (Option Value)) (p b : ℕ) (s : Size) (cells : List Cell) (x : Value) → w p ≡ Some s → slice_get ts p ≡ Some (Some (Pointer b 0)) → Shows hs s cells (Some (Some x)) → Sides w hs first m ts us → Sides w hs first (slice_set m b (Some cells)) ts (slice_set us p (Some x))
 sides_store w hs first m ts us p b s cells x f at shows sides =
     record {

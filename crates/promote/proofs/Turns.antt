@@ -222,12 +222,12 @@ free_kept c m [] h k = k
 free_kept c m (b ∷ bs) h k =
     free_kept c (free m b) bs h.1
     (λ d e.
-        let within = slice_get_within c.marks d true e in
-        let alike = c.alike in
-        let from = h.0 in
-        let lt : d < b = omega (arith, within, alike, from) in
-        let other : nat_eq d b ≡ false = grind (arith, nat_tests) in
-        get_set_other m b d None other ∙ k d e)
+    let within = slice_get_within c.marks d true e in
+    let alike = c.alike in
+    let from = h.0 in
+    let lt : d < b = omega (arith, within, alike, from) in
+    let other : nat_eq d b ≡ false = grind (arith, nat_tests) in
+    get_set_other m b d None other ∙ k d e)
 
 freed : (c : Setting) (hs : Marks) (m : Memory) (ts us : List (Option Value)) (owned : List ℕ) → State c hs m ts us owned → Left c hs (free_all m owned)
 freed c hs m ts us owned st =

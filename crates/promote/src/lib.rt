@@ -17,3 +17,5 @@ mod mentions;
 pub mod promote;
 mod rewriting;
 pub mod standing;
+#[cfg(test)]
+mod tests;

@@ -33,7 +33,8 @@ fn collect_params(params: &[Param], found: &mut Vec<Mention>) -> Result<(), Allo
     Ok(())
 }
 
-fn collect_blocks(blocks: &[Block], found: &mut Vec<Mention>) -> Result<(), AllocError>
+/// The mentions in blocks, behind those that were found.
+pub fn collect_blocks(blocks: &[Block], found: &mut Vec<Mention>) -> Result<(), AllocError>
     ensures { OnOk result (found.new.items ≡ found.old.items ++ flat_map block_mentions blocks.now) }
 {
     for block in blocks {
@@ -95,7 +96,10 @@ fn collect_item(inst: &Inst, found: &mut Vec<Mention>) -> Result<(), AllocError>
             collect_value(operand_role(*op, to.class), *value, found)
         }
         Inst::Binary {
-            to, left, right, ..
+            to,
+            left,
+            right,
+            ..
         } => {
             collect_dest(Role::Used, *to, found)?;
             collect_value(Role::Used, *left, found)?;

@@ -3,7 +3,7 @@ ghost use Rattle.std.specs.Prelude.{◌≡◌, map, IfOk};
 ghost use Rattle.promote.specs.Promoted.{storing, extending, loading, promoted_store, promoted_unary, promoted, promoted_line, promoted_block};
 ghost use Rattle.promote.specs.Tables.{widths_by};
 
-use crate::copying::{copied_few};
+use crate::copying::copied_few;
 use crate::standing::{Standing, width_at};
 use il_ast::block::{Block, Phi};
 use il_ast::instruction::{Inst, Jump, Lined};
