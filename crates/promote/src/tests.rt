@@ -187,41 +187,61 @@ fn what_is_used_otherwise_stays(rt: HostRuntime) -> Result<(), Fail> {
     stays_beside(true, stored(Size::Word, Val::Int(7), 0), &rt)
 }
 
-#[test]
-fn whole_functions_are_promoted(rt: HostRuntime) -> Result<(), Fail> {
-    let insts = vec![in rt.alloc();
-        Lined {
-            line: 2,
-            item: made(0)
+/// A function that makes a word and stores it.
+fn function(alloc: Global) -> Result<Func, AllocError> {
+    let local = Temp::at(0);
+    let made = Inst::Alloc {
+        to: Dest {
+            temp: local,
+            class: Class::L,
         },
-        Lined {
-            line: 3,
-            item: stored(Size::Word, Val::Int(7), 0)
-        },
-    ]?;
+        alignment: Alignment::Four,
+        size: 4,
+    };
+    let stored = Inst::Store {
+        size: Size::Word,
+        value: Val::Int(7),
+        at: Val::Temp(local),
+    };
+    let made = Lined {
+        line: 2,
+        item: made,
+    };
+    let stored = Lined {
+        line: 3,
+        item: stored,
+    };
+    let insts = vec![in alloc; made, stored]?;
     let block = Block {
         line: 1,
         label: Label::at(0),
-        phis: Seq::new(rt.alloc()),
+        phis: Seq::new(alloc),
         insts: Seq::from_vec(insts),
         jump: Some(Lined {
             line: 4,
             item: Jump::Halt,
         }),
     };
-    let blocks = vec![in rt.alloc(); block]?;
-    let temps = vec![in rt.alloc(); Seq::from_vec(vec![in rt.alloc(); b'p']?)]?;
-    let labels = vec![in rt.alloc(); Seq::from_vec(vec![in rt.alloc(); b's']?)]?;
-    let function = Func {
+    let blocks = vec![in alloc; block]?;
+    let temp = vec![in alloc; b'p']?;
+    let temps = vec![in alloc; Seq::from_vec(temp)]?;
+    let label = vec![in alloc; b's']?;
+    let labels = vec![in alloc; Seq::from_vec(label)]?;
+    Ok(Func {
         line: 1,
         exported: false,
         name: Symbol::at(0),
         result: None,
-        params: Seq::new(rt.alloc()),
+        params: Seq::new(alloc),
         blocks: Seq::from_vec(blocks),
         temps: Seq::from_vec(temps),
         labels: Seq::from_vec(labels),
-    };
+    })
+}
+
+#[test]
+fn whole_functions_are_promoted(rt: HostRuntime) -> Result<(), Fail> {
+    let function = function(rt.alloc())?;
     let now = promote(rt.alloc(), &function)?;
     let ops = operations_of(rt.alloc(), now.blocks.as_slice())?;
     let word = UnaryOp::Extend(Extension::SignedWord);
