@@ -1,6 +1,6 @@
 -- A temporary carries what memory carries: a value put there by a copy or an extension, and taken as a load takes it.
-use Rattle.std.proofs.Common.{◌≡◌, ℕ, zero, suc, ◌+◌, ◌-◌, ◌*◌, ◌/◌, ◌%◌, ◌^◌, ◌<◌, ◌≤◌, Bool, true, false, ◌&&◌, nat_eq, cond, List, [], ◌∷◌, map, length, refl, sym, ◌∙◌, ap, subst, arith, lit<, mod-lt}
-use Rattle.std.specs.Prelude.{ℤ, Option, Some, None}
+use Rattle.std.proofs.Common.{◌≡◌, ℕ, zero, suc, ◌+◌, ◌*◌, ◌/◌, ◌%◌, ◌^◌, ◌<◌, Bool, true, false, ◌&&◌, nat_eq, cond, List, [], ◌∷◌, map, refl, sym, ◌∙◌, ap, subst, arith, lit<, mod-lt}
+use Rattle.std.specs.Prelude.{Option, Some, None}
 use Rattle.std.specs.Option.{option_map, option_and_then}
 use Rattle.std.specs.Int.{w8, w16, w32, w64, cast_signed, cast_unsigned}
 use Rattle.std.proofs.Math.Nat.{pow-suc}
@@ -14,17 +14,16 @@ use Rattle.il_ast.specs.declared.operation.Size.TheVariants.{Byte, Half, Word, L
 use Rattle.il_ast.specs.declared.operation.Extension.{Extension}
 use Rattle.il_ast.specs.declared.operation.Extension.TheVariants.{SignedWord, UnsignedWord, SignedHalf, UnsignedHalf, SignedByte, UnsignedByte}
 use Rattle.il_ast.specs.declared.operation.UnaryOp.{UnaryOp}
-use Rattle.il_ast.specs.declared.operation.UnaryOp.TheVariants.{Neg, Copy, Extend, LoadLong, Load}
+use Rattle.il_ast.specs.declared.operation.UnaryOp.TheVariants.{LoadLong, Load}
 use Rattle.il_ast.specs.declared.value.Value.{Value}
 use Rattle.il_ast.specs.declared.value.Value.TheVariants.{Integer, Pointer, Function}
 use Rattle.il_ast.specs.declared.value.Callee.{Callee}
 use Rattle.il_ast.specs.declared.value.Callee.TheVariants.{Defined, SystemWrite, SystemExit}
 use Rattle.il_ast.specs.declared.value.Cell.{Cell}
-use Rattle.il_ast.specs.declared.value.Cell.TheVariants.{Plain, Part, Blank}
+use Rattle.il_ast.specs.declared.value.Cell.TheVariants.{Plain}
 use Rattle.il_ast.specs.Values.{bytes_of, number_of, byte_count, in_place, same_value, same_callee}
 use Rattle.il_ast.specs.Memory.{Memory, parts, cells_for, plain_bytes, are_parts_from, value_of}
 use Rattle.il_ast.specs.Operations.{operand_class, extended, extension_bytes, widened, operate_one}
-use Rattle.il_ast.specs.Effect.{stored_class}
 use Rattle.promote.specs.Uses.{extension_size}
 use Rattle.promote.specs.Promoted.{storing, extending, loading}
 use Rattle.promote.proofs.Hiding.{Marks, Clean, IfClean}

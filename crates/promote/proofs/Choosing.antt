@@ -1,6 +1,6 @@
 -- What the table knows of a temporary is its width.
-use Rattle.std.proofs.Common.{◌≡◌, ℕ, Bool, true, false, ◌&&◌, nat_eq, cond, List, [], ◌∷◌, refl, sym, ◌∙◌, ap}
-use Rattle.std.specs.Prelude.{Option, Some, None}
+use Rattle.std.proofs.Common.{◌≡◌, ℕ, Bool, true, false, ◌&&◌, cond, List, [], ◌∷◌, refl, sym, ◌∙◌, ap}
+use Rattle.std.specs.Prelude.{Option, Some}
 use Rattle.std.specs.List.{list_all, find}
 use Rattle.std.proofs.Math.Path.{fun_ext}
 use Rattle.il_ast.specs.declared.operation.Size.{Size}
@@ -11,7 +11,7 @@ use Rattle.promote.specs.declared.mention.Mention.{Mention}
 use Rattle.promote.specs.declared.standing.Standing.{Standing}
 use Rattle.promote.specs.declared.standing.Standing.TheVariants.{Unseen, Unused, Kept, Refused}
 use Rattle.promote.specs.Uses.{same_size, suits, begins_made, is_promotable, roles, width_in}
-use Rattle.promote.specs.Tables.{seen, seen_all, width, standing_at, widths_by}
+use Rattle.promote.specs.Tables.{seen_all, width, standing_at, widths_by}
 
 -- ---- sizes
 

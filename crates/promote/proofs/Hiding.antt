@@ -1,5 +1,5 @@
 -- Memory with hidden blocks: those that are live have blank cells. What is clean doesn't point there.
-use Rattle.std.proofs.Common.{◌≡◌, ℕ, zero, suc, ◌+◌, ◌-◌, ◌*◌, ◌/◌, ◌%◌, ◌^◌, ◌<◌, ◌≤◌, Bool, true, false, not, ◌&&◌, nat_eq, nat_le, cond, List, [], ◌∷◌, ◌++◌, map, length, take, drop, replicate, refl, sym, ◌∙◌, ap, subst, arith, lit<, mod-lt}
+use Rattle.std.proofs.Common.{◌≡◌, ℕ, zero, suc, ◌+◌, ◌*◌, ◌/◌, ◌^◌, ◌<◌, ◌≤◌, Bool, true, false, nat_eq, nat_le, cond, List, [], ◌∷◌, ◌++◌, map, length, take, drop, replicate, refl, sym, ◌∙◌, ap, subst, arith, lit<, mod-lt}
 use Rattle.std.specs.Prelude.{slice_get, slice_set, Option, Some, None}
 use Rattle.std.specs.Option.{option_map, option_and_then, option_flatten}
 use Rattle.std.proofs.lemmas.Bool.Decides.{nat_tests}
@@ -11,7 +11,7 @@ use Rattle.il_ast.specs.declared.value.Value.TheVariants.{Integer, Pointer, Func
 use Rattle.il_ast.specs.declared.value.Cell.{Cell}
 use Rattle.il_ast.specs.declared.value.Cell.TheVariants.{Plain, Part, Blank}
 use Rattle.il_ast.specs.Values.{bytes_of, number_of}
-use Rattle.il_ast.specs.Memory.{Memory, block_at, parts, cells_for, plain_bytes, are_parts_from, value_of, span, put, cells_at, write_at, load, store, apart_or_same, copy, fresh, free, free_all, size_at}
+use Rattle.il_ast.specs.Memory.{Memory, block_at, parts, cells_for, plain_bytes, are_parts_from, value_of, span, put, cells_at, write_at, load, store, apart_or_same, copy, fresh, free, free_all}
 use Rattle.promote.proofs.Respect.{same_number}
 
 -- for each block ever made whether it is hidden

@@ -1,44 +1,31 @@
 -- One instruction on both sides.
-use Rattle.std.proofs.Common.{◌≡◌, ◌⊎◌, inl, inr, ℕ, zero, suc, ◌+◌, ◌%◌, ◌^◌, ◌<◌, ◌≤◌, Bool, true, false, ◌&&◌, nat_eq, nat_le, cond, List, [], ◌∷◌, ◌++◌, map, length, take, drop, replicate, refl, sym, ◌∙◌, ap, subst, arith, lit<, mod-lt}
+use Rattle.std.proofs.Common.{◌≡◌, ℕ, zero, suc, ◌≤◌, true, List, [], ◌∷◌, length, refl, sym, ◌∙◌, ap, subst, arith, lit<, mod-lt}
 use Rattle.std.specs.Prelude.{slice_get, slice_set, Option, Some, None}
 use Rattle.std.specs.Option.{option_map, option_and_then, option_flatten}
 use Rattle.std.specs.List.{flat_map}
-use Rattle.std.proofs.lemmas.Bool.Decides.{nat_tests}
-use Rattle.std.proofs.lemmas.List.{length-set, length-replicate}
-use Rattle.std.proofs.lemmas.Option.{slice_get_within}
 use Rattle.il_ast.specs.declared.operation.Class.{Class}
-use Rattle.il_ast.specs.declared.operation.Class.TheVariants.{W, L}
+use Rattle.il_ast.specs.declared.operation.Class.TheVariants.{L}
 use Rattle.il_ast.specs.declared.operation.Size.{Size}
-use Rattle.il_ast.specs.declared.operation.Size.TheVariants.{Byte, Half, Word, Long}
-use Rattle.il_ast.specs.declared.operation.Extension.{Extension}
 use Rattle.il_ast.specs.declared.operation.UnaryOp.{UnaryOp}
-use Rattle.il_ast.specs.declared.operation.UnaryOp.TheVariants.{Neg, Copy, Extend, LoadLong, Load}
 use Rattle.il_ast.specs.declared.operation.BinaryOp.{BinaryOp}
 use Rattle.il_ast.specs.declared.operand.Val.{Val}
 use Rattle.il_ast.specs.declared.operand.Val.TheVariants.{Int, Temp, Global}
 use Rattle.il_ast.specs.declared.operand.Dest.{Dest}
 use Rattle.il_ast.specs.declared.operand.Arg.{Arg}
-use Rattle.il_ast.specs.declared.instruction.Inst.{Inst}
-use Rattle.il_ast.specs.declared.instruction.Inst.TheVariants.{Unary, Binary, Alloc, Store, Blit, Call as CallInst}
+use Rattle.il_ast.specs.declared.instruction.Inst.TheVariants.{Unary, Binary, Store, Blit, Call as CallInst}
 use Rattle.il_ast.specs.declared.value.Value.{Value}
 use Rattle.il_ast.specs.declared.value.Value.TheVariants.{Integer, Pointer, Function}
-use Rattle.il_ast.specs.declared.value.Cell.{Cell}
-use Rattle.il_ast.specs.declared.value.Cell.TheVariants.{Blank}
 use Rattle.il_ast.specs.Values.{in_place, byte_count}
-use Rattle.il_ast.specs.Memory.{Memory, block_at, cells_for, value_of, span, put, cells_at, write_at, load, store, copy, fresh, free, free_all}
-use Rattle.il_ast.specs.Operations.{operand_class, left_class, right_class, extension_bytes, widened, operate_one, operate_two}
-use Rattle.il_ast.specs.Effect.{Locals, Call, value_at, operand, all_operands, assign, InstEffect, Done, Asks, Fails, assigned, changed, stored_class, blit_weight, call_weight, calls_value, call_effect, inst_effect}
-use Rattle.promote.specs.declared.mention.Role.{Role}
-use Rattle.promote.specs.declared.mention.Role.TheVariants.{Made, Accessed, Used}
-use Rattle.promote.specs.Uses.{value_mentions, operand_role, extension_size, same_size, suits, destination_mentions, arg_mentions, item_mentions}
-use Rattle.promote.specs.Promoted.{Widths, storing, loading, extending, promoted, stored_in, taken_from}
-use Rattle.promote.proofs.Choosing.{same_true}
-use Rattle.promote.proofs.Respect.{Suited, Respected, respected_first, respected_then, used_plain, same_number, self}
-use Rattle.promote.proofs.Rules.{store_class}
-use Rattle.promote.proofs.Hiding.{Marks, hide, blank, get_set_other, get_shown, set_hidden, length_hide, fresh_hides, Clean, IfClean, CleanAll, CleanMemory, IfCleanCells, CleanCells, Extends, clean_later, IfChanged, Changed, store_changed, store_hides, copy_changed, copy_hides, fresh_clean}
-use Rattle.promote.proofs.Operating.{one_shown, one_clean, two_shown, two_clean, Placed, IfPlaced, placed_clean, in_place_placed}
-use Rattle.promote.proofs.Carrying.{Put, put_there, Takes, take_long, take_short, extension_count}
-use Rattle.promote.proofs.Sides.{Stored, Shows, Held, IfHeld, Sides, KeptHidden, sides_later, sides_assign, sides_alloc, sides_store, marks_grow, fresh_kept, get_last}
+use Rattle.il_ast.specs.Memory.{Memory, store, copy}
+use Rattle.il_ast.specs.Operations.{operand_class, left_class, right_class, operate_one, operate_two}
+use Rattle.il_ast.specs.Effect.{Locals, value_at, operand, all_operands, InstEffect, Done, Asks, Fails, assigned, changed, stored_class, blit_weight, calls_value, call_effect, inst_effect}
+use Rattle.promote.specs.declared.mention.Role.TheVariants.{Used}
+use Rattle.promote.specs.Uses.{value_mentions, arg_mentions}
+use Rattle.promote.specs.Promoted.{Widths}
+use Rattle.promote.proofs.Respect.{Suited, Respected, respected_first, respected_then, used_plain}
+use Rattle.promote.proofs.Hiding.{Marks, hide, Clean, IfClean, CleanAll, CleanMemory, Extends, clean_later, IfChanged, store_changed, store_hides, copy_changed, copy_hides}
+use Rattle.promote.proofs.Operating.{one_shown, one_clean, two_shown, two_clean, IfPlaced, placed_clean, in_place_placed}
+use Rattle.promote.proofs.Sides.{Sides, KeptHidden, sides_later, sides_assign}
 
 -- what stays fixed in an activation: the widths, the values of global names, and the marks and the memory at its beginning
 pub record Setting : Type 0 where

@@ -1,5 +1,5 @@
 -- Allocs, and loads and stores of promoted temporaries, on both sides.
-use Rattle.std.proofs.Common.{◌≡◌, ◌⊎◌, inl, inr, ℕ, zero, suc, ◌+◌, ◌-◌, ◌/◌, ◌<◌, ◌≤◌, Bool, true, false, ◌&&◌, nat_eq, nat_le, cond, List, [], ◌∷◌, ◌++◌, map, length, take, drop, replicate, length-append, refl, sym, ◌∙◌, ap, subst, arith}
+use Rattle.std.proofs.Common.{◌≡◌, ◌⊎◌, inl, inr, ℕ, zero, suc, ◌+◌, ◌-◌, ◌/◌, ◌<◌, ◌≤◌, Bool, true, false, nat_eq, nat_le, cond, List, [], ◌∷◌, ◌++◌, map, length, take, drop, replicate, length-append, refl, sym, ◌∙◌, ap, subst, arith}
 use Rattle.std.specs.Prelude.{slice_get, slice_set, Option, Some, None}
 use Rattle.std.specs.Option.{option_map, option_and_then, option_flatten}
 use Rattle.std.proofs.lemmas.Bool.Decides.{nat_tests}
@@ -10,7 +10,7 @@ use Rattle.std.proofs.lemmas.Option.{slice_get_within}
 use Rattle.il_ast.specs.declared.operation.Class.{Class}
 use Rattle.il_ast.specs.declared.operation.Class.TheVariants.{W, L}
 use Rattle.il_ast.specs.declared.operation.Size.{Size}
-use Rattle.il_ast.specs.declared.operation.Size.TheVariants.{Byte, Half, Word, Long}
+use Rattle.il_ast.specs.declared.operation.Size.TheVariants.{Long}
 use Rattle.il_ast.specs.declared.operation.Extension.{Extension}
 use Rattle.il_ast.specs.declared.operation.UnaryOp.{UnaryOp}
 use Rattle.il_ast.specs.declared.operation.UnaryOp.TheVariants.{Neg, Copy, Extend, LoadLong, Load}
@@ -18,7 +18,6 @@ use Rattle.il_ast.specs.declared.operation.Alignment.{Alignment}
 use Rattle.il_ast.specs.declared.operand.Val.{Val}
 use Rattle.il_ast.specs.declared.operand.Val.TheVariants.{Int, Temp, Global}
 use Rattle.il_ast.specs.declared.operand.Dest.{Dest}
-use Rattle.il_ast.specs.declared.operand.Arg.{Arg}
 use Rattle.il_ast.specs.declared.instruction.Inst.{Inst}
 use Rattle.il_ast.specs.declared.instruction.Inst.TheVariants.{Unary, Binary, Alloc, Store, Blit, Call as CallInst}
 use Rattle.il_ast.specs.declared.value.Value.{Value}
@@ -26,21 +25,20 @@ use Rattle.il_ast.specs.declared.value.Value.TheVariants.{Integer, Pointer, Func
 use Rattle.il_ast.specs.declared.value.Cell.{Cell}
 use Rattle.il_ast.specs.declared.value.Cell.TheVariants.{Plain, Blank}
 use Rattle.il_ast.specs.Values.{bytes_of, in_place, byte_count}
-use Rattle.il_ast.specs.Memory.{Memory, block_at, parts, cells_for, value_of, span, put, cells_at, write_at, load, store, fresh}
+use Rattle.il_ast.specs.Memory.{Memory, parts, cells_for, value_of, span, put, write_at, load, store, fresh}
 use Rattle.il_ast.specs.Operations.{operand_class, extension_bytes, widened, operate_one}
-use Rattle.il_ast.specs.Effect.{Locals, operand, assign, InstEffect, Done, Asks, Fails, assigned, changed, stored_class, inst_effect}
-use Rattle.promote.specs.declared.mention.Role.{Role}
-use Rattle.promote.specs.declared.mention.Role.TheVariants.{Made, Accessed, Used}
+use Rattle.il_ast.specs.Effect.{operand, InstEffect, Done, assigned, changed, stored_class, inst_effect}
+use Rattle.promote.specs.declared.mention.Role.TheVariants.{Accessed, Used}
 use Rattle.promote.specs.Uses.{value_mentions, operand_role, extension_size, same_size, suits, destination_mentions, arg_mentions, item_mentions}
 use Rattle.promote.specs.declared.mention.Mention.{Mention}
 use Rattle.promote.specs.Promoted.{Widths, storing, loading, extending, promoted, stored_in, taken_from}
 use Rattle.promote.proofs.Choosing.{same_true}
-use Rattle.promote.proofs.Respect.{Suited, Respected, respected_first, respected_then, same_number, self}
+use Rattle.promote.proofs.Respect.{Respected, respected_first, respected_then, same_number}
 use Rattle.promote.proofs.Rules.{store_class}
-use Rattle.promote.proofs.Hiding.{Marks, hide, blank, get_set_other, get_set, set_hidden, length_hide, fresh_hides, Clean, IfClean, CleanMemory, IfCleanCells, Extends, marks_differ, fresh_clean}
-use Rattle.promote.proofs.Carrying.{Put, put_there, Takes, take_long, take_short, extension_count}
-use Rattle.promote.proofs.Sides.{Stored, Shows, Held, IfHeld, Sides, KeptHidden, sides_later, sides_assign, sides_alloc, sides_store, marks_grow, fresh_kept, get_last}
-use Rattle.promote.proofs.Instructions.{Setting, AllFrom, State, held_as, DoneSo, DestPlain, GoesSo, PlainValue, suited_plain, plain_value, plain_args, operand_alike, operand_clean, assigned_so, kept_hidden, unary_so, binary_so, store_so, blit_so, calls_so}
+use Rattle.promote.proofs.Hiding.{Marks, hide, blank, get_set_other, set_hidden, length_hide, fresh_hides, Clean, IfClean, CleanMemory, Extends, fresh_clean}
+use Rattle.promote.proofs.Carrying.{Put, put_there, take_long, take_short, extension_count}
+use Rattle.promote.proofs.Sides.{Shows, Held, Sides, KeptHidden, sides_later, sides_assign, sides_alloc, sides_store, marks_grow, fresh_kept, get_last}
+use Rattle.promote.proofs.Instructions.{Setting, AllFrom, State, held_as, DestPlain, GoesSo, PlainValue, suited_plain, plain_value, plain_args, operand_alike, operand_clean, assigned_so, kept_hidden, unary_so, binary_so, store_so, blit_so, calls_so}
 
 -- ---- allocs
 

@@ -1,5 +1,5 @@
 -- Operations on clean values see no hidden block, and give clean values.
-use Rattle.std.proofs.Common.{◌≡◌, ℕ, zero, suc, ◌+◌, ◌-◌, ◌%◌, ◌^◌, ◌<◌, ◌≤◌, Bool, true, false, ◌&&◌, nat_eq, nat_le, nat_lt, cond, List, [], ◌∷◌, length, refl, sym, ◌∙◌, ap, subst, arith, lit<, mod-lt}
+use Rattle.std.proofs.Common.{◌≡◌, ℕ, ◌+◌, ◌-◌, ◌%◌, ◌^◌, ◌<◌, ◌≤◌, Bool, true, false, ◌&&◌, nat_eq, nat_le, nat_lt, cond, length, refl, ◌∙◌, ap, arith, lit<, mod-lt}
 use Rattle.std.specs.Prelude.{slice_get, Option, Some, None}
 use Rattle.std.specs.Option.{option_map, option_and_then, option_map_or}
 use Rattle.il_ast.specs.declared.operation.Class.{Class}
@@ -15,7 +15,7 @@ use Rattle.il_ast.specs.declared.value.Value.{Value}
 use Rattle.il_ast.specs.declared.value.Value.TheVariants.{Integer, Pointer, Function}
 use Rattle.il_ast.specs.Values.{modulus, in_place}
 use Rattle.il_ast.specs.Memory.{Memory, load, size_at}
-use Rattle.il_ast.specs.Operations.{left_class, right_class, on_integers, extended, extension_bytes, truth, where_different, on_offsets, reaches, lies_in, compare_pointers, compare_with_zero, compare_places, on_places, widened, operate_one, operate_two}
+use Rattle.il_ast.specs.Operations.{left_class, right_class, on_integers, extension_bytes, truth, where_different, on_offsets, reaches, lies_in, compare_pointers, compare_with_zero, compare_places, on_places, widened, operate_one, operate_two}
 use Rattle.promote.proofs.Ranges.{IfBelow, integers_fit, extended_fits, neg_fits, modulus_fits}
 use Rattle.promote.proofs.Hiding.{Marks, hide, Clean, IfClean, CleanMemory, block_shown, load_shown, load_clean}
 

@@ -1,5 +1,5 @@
 -- Temporaries and labels stand in the same order once temporaries are promoted.
-use Rattle.std.proofs.Common.{◌≡◌, ℕ, ◌+◌, ◌<◌, ◌≤◌, Bool, true, false, ◌&&◌, nat_eq, cond, List, [], ◌∷◌, ◌++◌, map, length, append_assoc, refl, sym, ◌∙◌, ap, subst, arith}
+use Rattle.std.proofs.Common.{◌≡◌, ℕ, ◌+◌, ◌<◌, ◌≤◌, Bool, true, false, ◌&&◌, nat_eq, cond, List, [], ◌∷◌, ◌++◌, map, length, refl, sym, ◌∙◌, ap, subst, arith}
 use Rattle.std.specs.Prelude.{nat_lt, Option, Some, None}
 use Rattle.std.specs.Option.{option_and_then}
 use Rattle.std.specs.List.{list_all, flat_map}
@@ -27,7 +27,7 @@ use Rattle.promote.specs.declared.mention.Role.{Role}
 use Rattle.promote.specs.declared.mention.Role.TheVariants.{Made, Accessed, Used}
 use Rattle.promote.specs.declared.mention.Mention.{Mention}
 use Rattle.promote.specs.Uses.{mention, value_mentions, operand_role, destination_mentions, arg_mentions, item_mentions, inst_mentions, jump_mentions, end_mentions, phi_arg_mentions, phi_mentions, block_mentions, param_mentions, mentions_of, roles, begins_made, width_in}
-use Rattle.promote.specs.Promoted.{Widths, promoted, promoted_line, promoted_block, promoted_unary, promoted_store, taken_from, stored_in, storing, loading}
+use Rattle.promote.specs.Promoted.{Widths, promoted, promoted_line, promoted_block, taken_from, stored_in}
 use Rattle.promote.proofs.Choosing.{width_promotable}
 
 -- ---- the temporaries of mentions

@@ -1,11 +1,9 @@
 -- Calls, and whole programs, on both sides.
-use Rattle.std.proofs.Common.{◌≡◌, ℕ, zero, suc, ◌+◌, ◌-◌, ◌%◌, ◌^◌, ◌<◌, ◌≤◌, Bool, true, false, ◌&&◌, nat_eq, nat_lt, cond, List, [], ◌∷◌, ◌++◌, map, length, replicate, length-append, refl, sym, ◌∙◌, ap, subst, arith, lit<}
+use Rattle.std.proofs.Common.{◌≡◌, ℕ, zero, suc, ◌+◌, ◌-◌, ◌%◌, ◌^◌, ◌<◌, ◌≤◌, Bool, true, false, nat_eq, nat_lt, cond, List, [], ◌∷◌, ◌++◌, map, length, replicate, length-append, refl, sym, ◌∙◌, ap, subst, arith, lit<}
 use Rattle.std.specs.Prelude.{slice_get, Option, Some, None}
 use Rattle.std.specs.List.{flat_map}
 use Rattle.std.specs.Option.{option_and_then}
-use Rattle.std.proofs.lemmas.Bool.Decides.{nat_tests}
 use Rattle.std.proofs.lemmas.List.{length-map, length-replicate}
-use Rattle.std.proofs.lemmas.Option.{slice_get_within}
 use Rattle.il_ast.specs.declared.operation.Class.{Class}
 use Rattle.il_ast.specs.declared.operation.Class.TheVariants.{W, L}
 use Rattle.il_ast.specs.declared.operation.Size.{Size}
@@ -34,9 +32,9 @@ use Rattle.il_ast.specs.Cost.{need}
 use Rattle.il_ast.specs.Effect.{Call}
 use Rattle.il_ast.specs.Run.{Spent, nothing, one_call, Outcome, Returned, Ended, after, Callees, body}
 use Rattle.il_ast.specs.Start.{target_value, values_of, globals_of, address_cells, item_cells, field_cells, object_cells, word_cells, pointers_from, list_cells, start_memory}
-use Rattle.il_ast.specs.Meaning.{call_fits, answered, put_out, write_bytes, write_integer, write_call, exit_call, call_function, call_named, callees, stack_room, main_args, main_classes, params_of, main_call, outcome, end_of, behaviour_of, Behaviour, meaning}
+use Rattle.il_ast.specs.Meaning.{call_fits, answered, put_out, write_bytes, write_integer, write_call, exit_call, call_function, call_named, callees, stack_room, main_args, main_classes, params_of, main_call, outcome, behaviour_of, meaning}
 use Rattle.promote.specs.Uses.{mentions_of, width_in}
-use Rattle.promote.specs.Promoted.{Rewrites, IsPromoted}
+use Rattle.promote.specs.Promoted.{IsPromoted}
 use Rattle.promote.specs.Programs.{ArePromoted, IsProgramPromoted, AreBytes, AreWords, ItemsHaveBytes, FieldsHaveBytes, ObjectsHaveBytes, AreAmong, HasBytes, SameOutcome}
 use Rattle.promote.proofs.Respect.{all_respected}
 use Rattle.promote.proofs.Rules.{same_need}

@@ -1,11 +1,10 @@
 -- Promoted temporaries are made, and accessed at their width, and nothing else.
-use Rattle.std.proofs.Common.{◌≡◌, ℕ, Bool, true, false, ◌&&◌, nat_eq, cond, List, [], ◌∷◌, ◌++◌, map, refl, sym, ◌∙◌, ap, subst, arith}
+use Rattle.std.proofs.Common.{◌≡◌, ℕ, Bool, true, false, ◌&&◌, nat_eq, cond, List, [], ◌∷◌, ◌++◌, refl, subst, arith}
 use Rattle.std.specs.Prelude.{slice_get, zero, suc, Option, Some, None}
 use Rattle.std.specs.List.{list_all, flat_map}
 use Rattle.std.proofs.lemmas.Bool.Decides.{nat_tests}
 use Rattle.il_ast.specs.declared.operation.Size.{Size}
 use Rattle.promote.specs.declared.mention.Role.{Role}
-use Rattle.promote.specs.declared.mention.Role.TheVariants.{Made, Accessed, Used}
 use Rattle.promote.specs.declared.mention.Mention.{Mention}
 use Rattle.promote.specs.Uses.{suits, roles, width_in}
 use Rattle.promote.specs.Promoted.{Widths}

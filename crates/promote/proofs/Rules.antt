@@ -1,5 +1,5 @@
 -- Once temporaries are promoted, a function keeps all rules that it kept, and its limits.
-use Rattle.std.proofs.Common.{◌≡◌, ℕ, ◌+◌, ◌*◌, Bool, true, false, not, ◌&&◌, ◌||◌, nat_eq, nat_le, cond, List, [], ◌∷◌, ◌++◌, map, length, refl, sym, ◌∙◌, ap, subst, arith}
+use Rattle.std.proofs.Common.{◌≡◌, ℕ, ◌+◌, ◌*◌, Bool, true, false, not, ◌&&◌, ◌||◌, nat_eq, nat_le, List, [], ◌∷◌, ◌++◌, map, length, refl, sym, ◌∙◌, ap}
 use Rattle.std.specs.Prelude.{max, nat_lt, Option, Some, None, is_none}
 use Rattle.std.specs.List.{list_all, list_any, flat_map, sum_by, fold}
 use Rattle.std.proofs.Math.Path.{fun_ext}
@@ -7,7 +7,6 @@ use Rattle.il_ast.specs.declared.operation.Class.{Class}
 use Rattle.il_ast.specs.declared.operation.Class.TheVariants.{W, L}
 use Rattle.il_ast.specs.declared.operation.Size.{Size}
 use Rattle.il_ast.specs.declared.operation.Size.TheVariants.{Byte, Half, Word, Long}
-use Rattle.il_ast.specs.declared.operation.Extension.{Extension}
 use Rattle.il_ast.specs.declared.operation.Extension.TheVariants.{SignedWord, UnsignedWord, SignedHalf, UnsignedHalf, SignedByte, UnsignedByte}
 use Rattle.il_ast.specs.declared.operation.UnaryOp.{UnaryOp}
 use Rattle.il_ast.specs.declared.operation.UnaryOp.TheVariants.{Neg, Copy, Extend, LoadLong, Load}
@@ -34,15 +33,13 @@ use Rattle.il_types.specs.declared.site.Operand.{Operand}
 use Rattle.il_types.specs.declared.site.Site.{Site}
 use Rattle.il_types.specs.First.{when, or_else, first}
 use Rattle.il_types.specs.Marks.{is_given}
-use Rattle.il_types.specs.Sites.{definer, param_definers, phi_definers, item_definers, inst_definers, block_definers, definers_of, operand_at, phi_operands, item_operands, inst_operands, end_operands, block_operands, operands_of, block_targets, targets_of, sources_in, sources_of}
-use Rattle.il_types.specs.Locals.{first_repeated, param_sites, label_sites, phi_sites, repeated_local, is_label, unknown_label, is_entry, jump_to_entry, block_without_jump, two_types, fits, is_long_only, is_word, has_wrong_result, in_insts, misplaced, is_defined, fits_result, returned_breaks, breaks_in, value_returned, in_returns, wrong_return, undefined_temp, has_wrong_size, is_alloc, wrong_alloc_in, wrong_alloc, is_long_blit, long_blit, is_predecessor, names_from, jumps_to, covers, uncovered_in, uncovered_phi}
+use Rattle.il_types.specs.Sites.{definer, param_definers, phi_definers, item_definers, inst_definers, block_definers, definers_of, operand_at, phi_operands, item_operands, inst_operands, end_operands, block_operands, operands_of, block_targets, sources_in}
+use Rattle.il_types.specs.Locals.{first_repeated, param_sites, label_sites, phi_sites, is_label, is_entry, two_types, fits, is_long_only, is_word, has_wrong_result, in_insts, misplaced, is_defined, fits_result, returned_breaks, breaks_in, value_returned, in_returns, wrong_return, undefined_temp, has_wrong_size, is_alloc, wrong_alloc_in, is_long_blit, is_predecessor, names_from, jumps_to, covers, uncovered_in}
 use Rattle.il_types.specs.Rules.{broken_in_function, has_few_args, is_within}
-use Rattle.promote.specs.declared.mention.Role.{Role}
-use Rattle.promote.specs.declared.mention.Role.TheVariants.{Made, Accessed, Used}
-use Rattle.promote.specs.declared.mention.Mention.{Mention}
-use Rattle.promote.specs.Uses.{value_mentions, item_mentions, inst_mentions, end_mentions, phi_mentions, phi_arg_mentions, block_mentions, param_mentions, mentions_of, width_in}
-use Rattle.promote.specs.Promoted.{Widths, Rewrites, IsPromoted, promoted, promoted_line, promoted_block, taken_from, stored_in, storing, extending, loading}
-use Rattle.promote.proofs.Respect.{Suited, Respected, all_respected, respected_first, respected_then, same_number, other_number}
+use Rattle.promote.specs.declared.mention.Role.TheVariants.{Used}
+use Rattle.promote.specs.Uses.{item_mentions, inst_mentions, end_mentions, phi_mentions, block_mentions, param_mentions, mentions_of}
+use Rattle.promote.specs.Promoted.{Widths, Rewrites, promoted, promoted_line, promoted_block, taken_from, stored_in, storing, loading}
+use Rattle.promote.proofs.Respect.{Suited, Respected, respected_first, respected_then, same_number}
 
 -- ---- lists of changed items
 

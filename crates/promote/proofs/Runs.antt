@@ -1,5 +1,5 @@
 -- Runs of a body on both sides.
-use Rattle.std.proofs.Common.{◌≡◌, ℕ, zero, suc, ◌+◌, ◌-◌, ◌<◌, ◌≤◌, Bool, true, false, cond, List, [], ◌∷◌, length, replicate, refl, sym, ◌∙◌, ap, subst, arith}
+use Rattle.std.proofs.Common.{◌≡◌, ℕ, zero, suc, ◌-◌, ◌≤◌, List, [], ◌∷◌, length, replicate, refl, sym, ◌∙◌, ap, subst, arith}
 use Rattle.std.specs.Prelude.{slice_get, slice_set, Option, Some, None}
 use Rattle.std.specs.List.{flat_map}
 use Rattle.il_ast.specs.declared.operation.Size.{Size}
@@ -10,16 +10,15 @@ use Rattle.il_ast.specs.declared.value.Value.{Value}
 use Rattle.il_ast.specs.declared.value.End.{End}
 use Rattle.il_ast.specs.declared.value.End.TheVariants.{Exit, Halt, Undefined, Stack, Turns}
 use Rattle.il_ast.specs.Memory.{Memory}
-use Rattle.il_ast.specs.Effect.{Env, Activation, Call, Effect, Goes, Calls, Returns, Ends, assign, effect}
-use Rattle.il_ast.specs.Run.{Spent, nothing, one_turn, both, Outcome, Returned, Ended, after, Callees, Rest, receive, resume, perform, run, with_args, begun, body}
-use Rattle.promote.specs.declared.mention.Role.TheVariants.{Used}
+use Rattle.il_ast.specs.Effect.{Activation, Call, Effect, Goes, Calls, Returns, Ends, assign, effect}
+use Rattle.il_ast.specs.Run.{Spent, one_turn, both, Outcome, Returned, Ended, after, Callees, Rest, receive, resume, perform, run, with_args, begun, body}
 use Rattle.promote.specs.Uses.{param_mentions, block_mentions, mentions_of}
 use Rattle.promote.specs.Promoted.{Widths, Rewrites}
 use Rattle.promote.proofs.Respect.{Respected, respected_first, respected_then}
-use Rattle.promote.proofs.Hiding.{Marks, hide, Clean, IfClean, CleanAll, CleanMemory, Extends, clean_later}
+use Rattle.promote.proofs.Hiding.{Marks, hide, IfClean, CleanAll, CleanMemory, Extends}
 use Rattle.promote.proofs.Sides.{IfHeld, Sides, KeptHidden, sides_later}
-use Rattle.promote.proofs.Instructions.{Setting, AllFrom, State, held_as, DestPlain, suited_plain, kept_hidden, state_assign}
-use Rattle.promote.proofs.Turns.{beside, WentSo, CallsSo, Left, ReturnsSo, EndsSo, TurnSo, turn_so}
+use Rattle.promote.proofs.Instructions.{Setting, State, held_as, DestPlain, suited_plain, kept_hidden, state_assign}
+use Rattle.promote.proofs.Turns.{beside, EndsSo, TurnSo, turn_so}
 
 -- a return, from a call with these marks and this memory
 pub record BackSo (hs : Marks) (m : Memory) (s : Spent) (v : Option Value) (now : Memory) (o : Outcome) : Type 0 where

@@ -1,21 +1,21 @@
 -- Temporaries on both sides: those that aren't promoted are equal, and a promoted one has what its block begins with.
-use Rattle.std.proofs.Common.{◌≡◌, ◌⊎◌, inl, inr, ℕ, zero, suc, ◌+◌, ◌<◌, ◌≤◌, Bool, true, false, ◌&&◌, nat_eq, nat_le, cond, List, [], ◌∷◌, ◌++◌, length, take, drop, replicate, refl, sym, ◌∙◌, ap, subst, arith}
+use Rattle.std.proofs.Common.{◌≡◌, ◌⊎◌, inl, inr, ℕ, zero, suc, ◌+◌, ◌<◌, ◌≤◌, Bool, true, false, nat_eq, nat_le, cond, List, [], ◌∷◌, ◌++◌, length, take, drop, replicate, refl, sym, ◌∙◌, ap, subst, arith}
 use Rattle.std.specs.Prelude.{slice_get, slice_set, Option, Some, None}
-use Rattle.std.specs.Option.{option_map, option_and_then, option_flatten}
+use Rattle.std.specs.Option.{option_and_then}
 use Rattle.std.proofs.lemmas.Bool.Decides.{nat_tests}
 use Rattle.std.proofs.lemmas.List.{length-set}
 use Rattle.std.proofs.lemmas.Option.{slice_get_within}
 use Rattle.il_ast.specs.declared.operation.Size.{Size}
 use Rattle.il_ast.specs.declared.operation.Size.TheVariants.{Byte, Half, Word, Long}
 use Rattle.il_ast.specs.declared.value.Value.{Value}
-use Rattle.il_ast.specs.declared.value.Value.TheVariants.{Integer, Pointer, Function}
+use Rattle.il_ast.specs.declared.value.Value.TheVariants.{Pointer}
 use Rattle.il_ast.specs.declared.value.Cell.{Cell}
-use Rattle.il_ast.specs.declared.value.Cell.TheVariants.{Plain, Part, Blank}
+use Rattle.il_ast.specs.declared.value.Cell.TheVariants.{Blank}
 use Rattle.il_ast.specs.Values.{byte_count}
-use Rattle.il_ast.specs.Memory.{Memory, block_at, cells_for, value_of, span, put, cells_at, write_at, load, store, fresh}
+use Rattle.il_ast.specs.Memory.{Memory, cells_for, value_of, span, fresh}
 use Rattle.promote.specs.Promoted.{Widths}
 use Rattle.promote.proofs.Respect.{same_number, other_number, self}
-use Rattle.promote.proofs.Hiding.{Marks, Clean, IfClean, Extends, clean_later, get_set_other, get_set_same, get_set, marks_differ}
+use Rattle.promote.proofs.Hiding.{Marks, Clean, IfClean, Extends, clean_later, get_set_other, get_set_same, get_set}
 
 -- the value was put there, and the block begins with its cells
 pub record Stored (hs : Marks) (s : Size) (cells : List Cell) (u : Option (Option Value)) : Type 0 where

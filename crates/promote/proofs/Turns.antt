@@ -1,7 +1,7 @@
 -- One turn on both sides.
-use Rattle.std.proofs.Common.{◌≡◌, ℕ, zero, suc, ◌+◌, ◌<◌, ◌≤◌, Bool, true, false, not, nat_eq, nat_lt, cond, List, [], ◌∷◌, ◌++◌, map, length, refl, sym, ◌∙◌, ap, subst, arith}
+use Rattle.std.proofs.Common.{◌≡◌, ℕ, ◌+◌, ◌<◌, ◌≤◌, Bool, true, false, not, nat_eq, nat_lt, cond, List, [], ◌∷◌, ◌++◌, map, length, refl, sym, ◌∙◌, ap, subst, arith}
 use Rattle.std.specs.Prelude.{slice_get, slice_set, Option, Some, None}
-use Rattle.std.specs.List.{flat_map, find, position, position_or_len}
+use Rattle.std.specs.List.{flat_map, find, position_or_len}
 use Rattle.std.proofs.lemmas.List.{length-map}
 use Rattle.std.specs.Option.{option_map, option_and_then}
 use Rattle.std.proofs.lemmas.Bool.Decides.{nat_tests}
@@ -22,14 +22,13 @@ use Rattle.il_ast.specs.declared.value.Value.{Value}
 use Rattle.il_ast.specs.declared.value.End.{End}
 use Rattle.il_ast.specs.declared.value.End.TheVariants.{Exit, Halt, Undefined, Stack, Turns}
 use Rattle.il_ast.specs.Memory.{Memory, free, free_all}
-use Rattle.il_ast.specs.Effect.{Locals, Activation, Env, Call, operand, assign, InstEffect, Done, Asks, Fails, inst_effect, Effect, Goes, Calls, Returns, Ends, phi_value, phi_values, with_phis, place_of, entered, enter_at, enter_place, enter, branch_to, branched, returned, return_value, jump_effect, end_effect, after_inst, turn_in, turn_of, effect}
-use Rattle.promote.specs.declared.mention.Role.TheVariants.{Used}
-use Rattle.promote.specs.Uses.{value_mentions, phi_arg_mentions, phi_mentions, item_mentions, inst_mentions, jump_mentions, end_mentions, block_mentions, param_mentions, mentions_of}
+use Rattle.il_ast.specs.Effect.{Activation, Env, Call, operand, InstEffect, Done, Asks, Fails, inst_effect, Effect, Goes, Calls, Returns, Ends, phi_value, phi_values, with_phis, place_of, entered, enter_at, enter_place, enter, branch_to, branched, returned, return_value, jump_effect, end_effect, after_inst, turn_in, turn_of, effect}
+use Rattle.promote.specs.Uses.{phi_arg_mentions, phi_mentions, inst_mentions, jump_mentions, end_mentions, block_mentions, param_mentions, mentions_of}
 use Rattle.promote.specs.Promoted.{Widths, Rewrites, promoted, promoted_line, promoted_block}
 use Rattle.promote.proofs.Respect.{Respected, respected_first, respected_then, respected_at}
-use Rattle.promote.proofs.Hiding.{Marks, hide, Clean, IfClean, CleanAll, CleanMemory, Extends, free_all_hides, free_all_clean, length_free, get_set_other}
+use Rattle.promote.proofs.Hiding.{Marks, hide, IfClean, CleanAll, CleanMemory, Extends, free_all_hides, free_all_clean, length_free, get_set_other}
 use Rattle.promote.proofs.Sides.{KeptHidden}
-use Rattle.promote.proofs.Instructions.{Setting, AllFrom, State, held_as, DoneSo, DestPlain, GoesSo, PlainValue, plain_value, suited_plain, operand_alike, operand_clean, state_assign}
+use Rattle.promote.proofs.Instructions.{Setting, AllFrom, State, held_as, DestPlain, GoesSo, PlainValue, plain_value, suited_plain, operand_alike, operand_clean, state_assign}
 use Rattle.promote.proofs.Locals.{inst_so}
 
 -- the same place, with the other side's temporaries

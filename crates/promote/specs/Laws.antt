@@ -1,5 +1,5 @@
 -- What is proved of functions in which temporaries are promoted.
-use Rattle.std.specs.Prelude.{◌≡◌, true, None}
+use Rattle.std.specs.Prelude.{◌≡◌, None}
 use Rattle.il_ast.specs.declared.function.Func.{Func}
 use Rattle.il_ast.specs.Cost.{weight, need}
 use Rattle.il_types.specs.declared.rule.Rule.{Rule}

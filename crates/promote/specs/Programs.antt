@@ -1,5 +1,5 @@
 -- Programs in whose functions temporaries are promoted: they mean what they did.
-use Rattle.std.specs.Prelude.{◌≡◌, ◌≢◌, ℕ, ◌<◌, ◌^◌, List, [], ◌∷◌, length, slice_get, Option, Some, None}
+use Rattle.std.specs.Prelude.{◌≡◌, ◌≢◌, ℕ, ◌<◌, ◌^◌, List, [], ◌∷◌, length, slice_get, Some}
 use Rattle.il_ast.specs.declared.datum.Item.{Item}
 use Rattle.il_ast.specs.declared.datum.Item.TheVariants.{Int, Bytes, Address}
 use Rattle.il_ast.specs.declared.datum.Field.{Field}
@@ -10,10 +10,9 @@ use Rattle.il_ast.specs.declared.program.Target.{Target}
 use Rattle.il_ast.specs.declared.program.Target.TheVariants.{Code, Object}
 use Rattle.il_ast.specs.declared.program.Placed.{Placed}
 use Rattle.il_ast.specs.declared.program.Program.{Program}
-use Rattle.il_ast.specs.declared.value.End.{End}
 use Rattle.il_ast.specs.declared.value.End.TheVariants.{Exit, Halt, Undefined, Stack, Turns}
 use Rattle.il_ast.specs.Memory.{Memory}
-use Rattle.il_ast.specs.Run.{Spent, Outcome, Returned, Ended}
+use Rattle.il_ast.specs.Run.{Outcome, Returned, Ended}
 use Rattle.il_ast.specs.Meaning.{outcome, meaning}
 use Rattle.promote.specs.Promoted.{IsPromoted}
 

@@ -3,7 +3,7 @@ use Rattle.std.specs.Prelude.{ℕ, if◌then◌else◌, List, [], ◌∷◌, sli
 use Rattle.il_ast.specs.declared.operation.Size.{Size}
 use Rattle.il_ast.specs.declared.operation.Size.TheVariants.{Byte}
 use Rattle.promote.specs.declared.mention.Role.{Role}
-use Rattle.promote.specs.declared.mention.Role.TheVariants.{Made, Accessed, Used}
+use Rattle.promote.specs.declared.mention.Role.TheVariants.{Made, Accessed}
 use Rattle.promote.specs.declared.standing.Standing.{Standing}
 use Rattle.promote.specs.declared.standing.Standing.TheVariants.{Unseen, Unused, Kept, Refused}
 use Rattle.promote.specs.Uses.{same_size}

@@ -1,4 +1,4 @@
-use Rattle.std.proofs.Common.{◌≡◌, ℕ, ◌++◌, take, drop, map}
+use Rattle.std.proofs.Common.{◌≡◌, take}
 use Rattle.promote.proofs.copying.copied.Given as goal
 
 abbrev pub invariant-loop-item : goal.invariant-loop-item

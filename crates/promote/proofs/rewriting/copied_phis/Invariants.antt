@@ -1,4 +1,4 @@
-use Rattle.std.proofs.Common.{◌≡◌, ℕ, ◌++◌, take, drop, map}
+use Rattle.std.proofs.Common.{◌≡◌, take}
 use Rattle.promote.proofs.rewriting.copied_phis.Given as goal
 
 abbrev pub invariant-loop-phi : goal.invariant-loop-phi

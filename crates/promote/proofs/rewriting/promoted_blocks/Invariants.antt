@@ -1,4 +1,4 @@
-use Rattle.std.proofs.Common.{◌≡◌, ℕ, ◌++◌, take, drop, map}
+use Rattle.std.proofs.Common.{◌≡◌, take, map}
 use Rattle.promote.specs.Tables.{widths_by}
 use Rattle.promote.specs.Promoted.{promoted_block}
 use Rattle.promote.proofs.rewriting.promoted_blocks.Given as goal
