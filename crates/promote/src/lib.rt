@@ -7,6 +7,11 @@
 //! A temporary is promoted where nothing but `alloc` assigns it, every other mention of it is the address of a load or store of one and the same number of bytes,
 //! and the text mentions it first at its `alloc` (`specs/Uses`). What the function becomes is in `specs/Promoted`.
 //!
+//! The laws stand in `laws`: a function keeps the rules and limits that it kept, weighs as much and needs as much stack (`specs/Laws`); and a program whose
+//! functions are promoted has the output, the end and the turns that it had, wherever it didn't become undefined (`specs/Programs`). In the proof the memory of the
+//! second program is that of the first with the blocks of promoted temporaries hidden (`proofs/Hiding`), and the temporaries of an activation stand side by side
+//! (`proofs/Sides`).
+//!
 //! The crate stands on `il_ast` for functions and their meaning, and on `il_types` for the rules that they keep.
 #![tactic(auto)]
 
