@@ -1,0 +1,14 @@
+pub mod Choosing
+pub mod Ordering
+pub mod Respect
+pub mod Rules
+pub mod Ranges
+pub mod Hiding
+pub mod Carrying
+pub mod Operating
+pub mod Sides
+pub mod Instructions
+pub mod Locals
+pub mod Turns
+pub mod Runs
+pub mod Programs

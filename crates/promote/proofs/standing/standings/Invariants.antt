@@ -1,0 +1,8 @@
+use Rattle.std.proofs.Common.{◌≡◌, ℕ, drop}
+use Rattle.promote.specs.Tables.{seen_all, standing_at}
+use Rattle.promote.specs.Uses.{roles}
+use Rattle.promote.specs.declared.standing.Standing.TheVariants.{Unseen}
+use Rattle.promote.proofs.standing.standings.Given as goal
+
+abbrev pub invariant-loop-mention : goal.invariant-loop-mention
+invariant-loop-mention l = (t : ℕ) → seen_all (standing_at l.table.items t) (roles t (drop l.mention-index l.mentions)) ≡ seen_all Unseen (roles t l.mentions)

@@ -1,0 +1,5 @@
+pub mod Uses
+pub mod Promoted
+pub mod Tables
+pub mod Laws
+pub mod Programs

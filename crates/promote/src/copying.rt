@@ -1,0 +1,43 @@
+//! Copies of lists.
+ghost use Rattle.std.specs.Prelude.{◌≡◌, IfOk};
+
+use il_ast::few::Few;
+use il_ast::list::Seq;
+use il_ast::name::Name;
+use std::alloc::{AllocError, Global};
+
+/// A list with the same items.
+pub fn copied<T: Copy + Drop>(alloc: Global, items: &[T]) -> Result<Seq<T>, AllocError>
+    ensures { IfOk result (λ copy. copy ≡ items.now) }
+{
+    let mut copy = Vec::new(alloc);
+    for item in items {
+        copy.push(*item)?;
+    }
+    Ok(Seq::from_vec(copy))
+}
+
+/// A short list with the same items.
+pub fn copied_few<T: Copy + Default + Drop>(
+    alloc: Global,
+    items: &[T],
+) -> Result<Few<T>, AllocError>
+    ensures { IfOk result (λ copy. copy ≡ items.now) }
+{
+    let mut copy = Few::new(alloc);
+    for item in items {
+        copy.push(*item)?;
+    }
+    Ok(copy)
+}
+
+/// The same names.
+pub fn copied_names(alloc: Global, names: &[Name]) -> Result<Seq<Name>, AllocError>
+    ensures { IfOk result (λ copy. copy ≡ names.now) }
+{
+    let mut copy = Vec::new(alloc);
+    for name in names {
+        copy.push(copied(alloc, name.as_slice())?)?;
+    }
+    Ok(Seq::from_vec(copy))
+}

@@ -1,0 +1,21 @@
+//! A mention of a temporary.
+use il_ast::operation::Size;
+use il_ast::temp::Temp;
+
+/// What a temporary is where a text mentions it.
+#[derive(Clone, Copy, Debug, PartialEq, Eq)]
+pub enum Role {
+    /// the destination of an `alloc`
+    Made,
+    /// the address of a load or a store of so many bytes
+    Accessed(Size),
+    /// anything else
+    Used,
+}
+
+/// A mention of a temporary.
+#[derive(Clone, Copy, Debug, PartialEq, Eq)]
+pub struct Mention {
+    pub temp: Temp,
+    pub role: Role,
+}
