@@ -1,7 +1,8 @@
 //! How fast the parts of qbec are.
 //!
-//! `bench` alone does a little of each, and says what came of it. `bench table` prints the table of the README with the time of each row. Else the words are a measure,
-//! a kind and a size, and the time is printed behind what came of it:
+//! `bench` alone does a little of each, and says what came of it. `bench table` prints the table of the README with the time of each row. `bench examples`
+//! prints for each program of examples/ that ends how many instructions its executable takes on the machine, and how many turns the program takes; a further word is the
+//! folder of the texts, where that isn't `../../examples`. Else the words are a measure, a kind and a size, and the time is printed behind what came of it:
 //!
 //! | Measure | Kinds | Size |
 //! |---|---|---|
@@ -14,6 +15,7 @@
 //! | `moves` | | moves in one cycle |
 #![tactic(auto)]
 
+mod examples;
 mod front;
 mod graphs;
 mod interpreter;
@@ -23,6 +25,7 @@ mod moves;
 mod phis;
 mod texts;
 
+use crate::examples::{EXAMPLES, example};
 use crate::front::{compile_text, link_text};
 use crate::interpreter::{Turns, interpret_turns};
 use crate::liveness::{joins, live_at_first};
@@ -151,6 +154,14 @@ fn print_rows(rt: &HostRuntime, rows: &[(&str, &str, u64)], timed: bool) -> io::
     Ok(())
 }
 
+fn print_examples(rt: &HostRuntime, folder: &str) -> io::Result<()> {
+    for (names, words) in EXAMPLES {
+        let said = example(rt, folder, names, words)?;
+        println!(rt; "{names}: {said}")?;
+    }
+    Ok(())
+}
+
 fn main(rt: HostRuntime) -> io::Result<()> {
     let words: Vec<String> = env::args(&rt)?.skip(1).collect(rt.alloc())?;
     let word = |k: usize| match words.as_slice().get(k) {
@@ -162,6 +173,15 @@ fn main(rt: HostRuntime) -> io::Result<()> {
     match word(0) {
         "" => print_rows(&rt, &LITTLE, false),
         "table" => print_rows(&rt, &TABLE, true),
+        "examples" => {
+            let folder = word(1);
+            let folder = if folder.is_empty() {
+                "../../examples"
+            } else {
+                folder
+            };
+            print_examples(&rt, folder)
+        }
         "text" => {
             let text = text_for(rt.alloc(), "text", word(1), size)?;
             print!(rt; "{text}")
