@@ -1,4 +1,5 @@
 //! Texts that are made by a rule: too long to be written down, or one beside a limit.
+use crate::branches::push_branches;
 use std::alloc::{AllocError, Global};
 
 const MAIN: &str = "export function w $main() {\n@s\n";
@@ -25,6 +26,7 @@ pub fn push_made(
         "heavy" => heavy(&mut text, size)?,
         "phis" => phis(&mut text, size)?,
         "bytes" => bytes(&mut text, size)?,
+        "branches" => push_branches(&mut text, size)?,
         _ => {}
     }
     texts.push(text.as_bytes().to_vec(alloc)?)?;

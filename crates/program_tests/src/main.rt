@@ -5,6 +5,7 @@
 //! words those that are named, of the table's and of these: `strategies`, `prefixes`, `files`, `lines`, `devices`, `random`. `random N SEED` runs N random programs.
 #![tactic(auto)]
 
+mod branches;
 mod case;
 mod commanded;
 mod compiled;
