@@ -1,7 +1,7 @@
 -- Code that is put by what is known is regular, takes no more than the code did, and keeps it.
-use Rattle.std.proofs.Common.{◌≡◌, ℕ, zero, suc, ◌+◌, ◌-◌, ◌*◌, ◌≤◌, Bool, true, false, not, ◌&&◌, ◌||◌, nat_eq, nat_lt, nat_le, if◌then◌else◌, List, [], ◌∷◌, map, length, fold, Option, Some, None, refl, sym, ◌∙◌, ap, subst, arith}
-use Rattle.std.specs.Prelude.{IsTrue, max}
-use Rattle.std.specs.Option.{option_map, option_map_or}
+use Rattle.std.proofs.Common.{◌≡◌, ℕ, suc, ◌+◌, ◌-◌, ◌*◌, ◌≤◌, Bool, true, false, not, ◌&&◌, ◌||◌, nat_eq, nat_lt, nat_le, if◌then◌else◌, List, [], ◌∷◌, map, length, fold, Option, Some, None, refl, sym, ◌∙◌, ap, arith}
+use Rattle.std.specs.Prelude.{max}
+use Rattle.std.specs.Option.{option_map_or}
 use Rattle.std.specs.List.{list_all, list_any, sum_by}
 use Rattle.std.proofs.lemmas.Bool.Decides.{nat_tests}
 use Rattle.il_ast.specs.declared.operation.Condition.{Condition}
@@ -18,17 +18,16 @@ use Rattle.vcode.specs.declared.line.Jump.{Jump}
 use Rattle.vcode.specs.declared.line.Jump.TheVariants.{Goto, Branch, Return, Halt}
 use Rattle.vcode.specs.declared.code.Block.{Block}
 use Rattle.vcode.specs.declared.code.Code.{Code}
-use Rattle.vcode.specs.declared.function.VFunc.{VFunc}
 use Rattle.vcode.specs.Coded.{classes_in, coded}
-use Rattle.vcode.specs.Cost.{is_immediate, operand_cost, line_cost, jump_cost, affords, is_paid}
+use Rattle.vcode.specs.Cost.{operand_cost, line_cost, jump_cost, affords, is_paid}
 use Rattle.vcode.specs.Named.{operand_keeps, wanted_keeps, line_keeps, jump_keeps, block_keeps, keeps_places, is_below}
-use Rattle.vcode.specs.Outgoing.{args_on_stack, most_in_lines, most_in_blocks, outgoing}
+use Rattle.vcode.specs.Outgoing.{args_on_stack, most_in_lines, most_in_blocks}
 use Rattle.vcode.specs.Places.{virtual}
 use Rattle.vcode.specs.Regular.{is_target, leads_inside, is_alloc, allocs_first, alloc_bytes, area, turns_of, passes_few, weight_of, code_weight, IsRegular}
 use Rattle.forwarding.specs.declared.fact.Fact.{Fact}
 use Rattle.forwarding.specs.declared.fact.Fact.TheVariants.{Same, Test}
 use Rattle.forwarding.specs.Facts.{Facts, operand_below, fact_below, AreBelow}
-use Rattle.forwarding.specs.Forwarded.{is_short, copied, forward, Replacing, with_argument, with_line, with_comparison, test_of, tested_by, cheaper, with_test, with_branch, with_jump, After, AreForwarded, IsForwarded, AllForwarded}
+use Rattle.forwarding.specs.Forwarded.{is_short, copied, forward, Replacing, with_argument, with_line, with_comparison, test_of, tested_by, with_test, with_jump, AreForwarded, IsForwarded, AllForwarded}
 use Rattle.forwarding.proofs.Writing.{both_true}
 use Rattle.forwarding.proofs.Running.{runs}
 
@@ -121,30 +120,27 @@ line_low n fs below (Call to callee args) h =
 
 -- ---- jumps
 
--- what holds of both branches holds of the one that is chosen
-test_either : (good : Jump ℕ → Type 0) (k : Condition) (on : Comparison ℕ) (met otherwise : ℕ) (o : Option (Comparison ℕ)) → good (Branch on met otherwise)
-    → ((c : Comparison ℕ) → o ≡ Some c → nat_le (jump_cost (Branch c met otherwise)) (jump_cost (Branch on met otherwise)) ≡ true → good (Branch c met otherwise) × good (Branch c otherwise met))
-    → good (with_test k on met otherwise o)
-test_either good NotEqual on met otherwise None g h = g
-test_either good Equal on met otherwise None g h = g
-test_either good SignedLessEqual on met otherwise o g h = g
-test_either good SignedLess on met otherwise o g h = g
-test_either good SignedGreaterEqual on met otherwise o g h = g
-test_either good SignedGreater on met otherwise o g h = g
-test_either good UnsignedLessEqual on met otherwise o g h = g
-test_either good UnsignedLess on met otherwise o g h = g
-test_either good UnsignedGreaterEqual on met otherwise o g h = g
-test_either good UnsignedGreater on met otherwise o g h = g
-test_either good NotEqual on met otherwise (Some c) g h = by (nat_le (jump_cost (Branch c met otherwise)) (jump_cost (Branch on met otherwise))) refl
-  where
-    by : (b : Bool) → nat_le (jump_cost (Branch c met otherwise)) (jump_cost (Branch on met otherwise)) ≡ b → good (if b then Branch c met otherwise else Branch on met otherwise)
-    by true e = (h c refl e).0
-    by false e = g
-test_either good Equal on met otherwise (Some c) g h = by (nat_le (jump_cost (Branch c otherwise met)) (jump_cost (Branch on met otherwise))) refl
-  where
-    by : (b : Bool) → nat_le (jump_cost (Branch c otherwise met)) (jump_cost (Branch on met otherwise)) ≡ b → good (if b then Branch c otherwise met else Branch on met otherwise)
-    by true e = (h c refl e).1
-    by false e = g
+chosen : (lines : List (Line ℕ)) (good : Jump ℕ → Type 0) (old new : Jump ℕ) (b : Bool) → affords 0 new lines ≡ b → good old → (affords 0 new lines ≡ true → good new) → good (if b then new else old)
+chosen lines good old new true e g h = h e
+chosen lines good old new false e g h = g
+
+-- what holds of the branch as it is, and of both new ones where the lines pay for them, holds of the one that is chosen
+test_either : (lines : List (Line ℕ)) (good : Jump ℕ → Type 0) (k : Condition) (on : Comparison ℕ) (met otherwise : ℕ) (o : Option (Comparison ℕ)) → good (Branch on met otherwise)
+    → ((c : Comparison ℕ) → o ≡ Some c
+    → (affords 0 (Branch c met otherwise) lines ≡ true → good (Branch c met otherwise)) × (affords 0 (Branch c otherwise met) lines ≡ true → good (Branch c otherwise met)))
+    → good (with_test lines k on met otherwise o)
+test_either lines good NotEqual on met otherwise None g h = g
+test_either lines good Equal on met otherwise None g h = g
+test_either lines good SignedLessEqual on met otherwise o g h = g
+test_either lines good SignedLess on met otherwise o g h = g
+test_either lines good SignedGreaterEqual on met otherwise o g h = g
+test_either lines good SignedGreater on met otherwise o g h = g
+test_either lines good UnsignedLessEqual on met otherwise o g h = g
+test_either lines good UnsignedLess on met otherwise o g h = g
+test_either lines good UnsignedGreaterEqual on met otherwise o g h = g
+test_either lines good UnsignedGreater on met otherwise o g h = g
+test_either lines good NotEqual on met otherwise (Some c) g h = chosen lines good (Branch on met otherwise) (Branch c met otherwise) (affords 0 (Branch c met otherwise) lines) refl g (h c refl).0
+test_either lines good Equal on met otherwise (Some c) g h = chosen lines good (Branch on met otherwise) (Branch c otherwise met) (affords 0 (Branch c otherwise met) lines) refl g (h c refl).1
 
 fact_test : (n : ℕ) (o : Option Fact) (c : Comparison ℕ) → ((f : Fact) → o ≡ Some f → fact_below n f ≡ true) → test_of o ≡ Some c → fact_below n (Test c) ≡ true
 fact_test n None c h e = absurd (let no : ⊥ = cc in no)
@@ -167,39 +163,26 @@ keeps_below n (At r) h = h
 keeps_below n (Number m) h = refl
 keeps_below n (Name g) h = refl
 
-jump_costs : (n : ℕ) (fs : Facts) → (j : Jump ℕ) → jump_cost (with_jump fs j) ≤ jump_cost j
-jump_costs n fs (Goto k) = omega arith
-jump_costs n fs (Branch on met otherwise) =
+jump_low : (lines : List (Line ℕ)) (n : ℕ) (fs : Facts) → AreBelow n fs → (j : Jump ℕ) → jump_keeps (is_below n) j ≡ true → jump_keeps (is_below n) (with_jump lines fs j) ≡ true
+jump_low lines n fs below (Goto k) h = refl
+jump_low lines n fs below (Branch on met otherwise) h =
     let new : Comparison ℕ = with_comparison (forward fs) on in
-    let x = forward_cost fs on.left in
-    let y = forward_cost fs on.right in
-    let plain : jump_cost (Branch new met otherwise) ≤ jump_cost (Branch on met otherwise) = omega (arith, x, y) in
-    test_either (λ k. jump_cost k ≤ jump_cost (Branch on met otherwise)) new.condition new met otherwise (tested_by fs new.left new.right) plain
-    (λ c e h. let low : jump_cost (Branch c met otherwise) ≤ jump_cost (Branch new met otherwise) = grind (arith, nat_tests) in (omega (arith, low, plain), omega (arith, low, plain)))
-jump_costs n fs (Return None) = omega arith
-jump_costs n fs (Return (Some a)) = let x = forward_cost fs a in omega (arith, x)
-jump_costs n fs Halt = omega arith
+    test_either lines (λ k. jump_keeps (is_below n) k ≡ true) new.condition new met otherwise (tested_by fs new.left new.right) (two_low n fs below on.left on.right h)
+    (λ c e. let s = both_true (operand_below n c.left) (operand_below n c.right) (tested_low n fs below new.left new.right c e) in
+    let all = both_are (operand_keeps (is_below n) c.left) (operand_keeps (is_below n) c.right) (keeps_below n c.left s.0) (keeps_below n c.right s.1) in (λ paid. all, λ paid. all))
+jump_low lines n fs below (Return None) h = refl
+jump_low lines n fs below (Return (Some a)) h = forward_low n fs below a h
+jump_low lines n fs below Halt h = refl
 
-jump_low : (n : ℕ) (fs : Facts) → AreBelow n fs → (j : Jump ℕ) → jump_keeps (is_below n) j ≡ true → jump_keeps (is_below n) (with_jump fs j) ≡ true
-jump_low n fs below (Goto k) h = refl
-jump_low n fs below (Branch on met otherwise) h =
-    let new : Comparison ℕ = with_comparison (forward fs) on in
-    test_either (λ k. jump_keeps (is_below n) k ≡ true) new.condition new met otherwise (tested_by fs new.left new.right) (two_low n fs below on.left on.right h)
-    (λ c e cost. let s = both_true (operand_below n c.left) (operand_below n c.right) (tested_low n fs below new.left new.right c e) in
-    let all = both_are (operand_keeps (is_below n) c.left) (operand_keeps (is_below n) c.right) (keeps_below n c.left s.0) (keeps_below n c.right s.1) in (all, all))
-jump_low n fs below (Return None) h = refl
-jump_low n fs below (Return (Some a)) h = forward_low n fs below a h
-jump_low n fs below Halt h = refl
-
-jump_inside : (n m : ℕ) (fs : Facts) (j : Jump ℕ) → leads_inside m j ≡ true → leads_inside m (with_jump fs j) ≡ true
-jump_inside n m fs (Goto k) h = h
-jump_inside n m fs (Branch on met otherwise) h =
+jump_inside : (lines : List (Line ℕ)) (n m : ℕ) (fs : Facts) (j : Jump ℕ) → leads_inside m j ≡ true → leads_inside m (with_jump lines fs j) ≡ true
+jump_inside lines n m fs (Goto k) h = h
+jump_inside lines n m fs (Branch on met otherwise) h =
     let new : Comparison ℕ = with_comparison (forward fs) on in
     let s = both_true (is_target m met) (is_target m otherwise) h in
-    test_either (λ k. leads_inside m k ≡ true) new.condition new met otherwise (tested_by fs new.left new.right) h
-    (λ c e cost. (h, both_are (is_target m otherwise) (is_target m met) s.1 s.0))
-jump_inside n m fs (Return a) h = refl
-jump_inside n m fs Halt h = refl
+    test_either lines (λ k. leads_inside m k ≡ true) new.condition new met otherwise (tested_by fs new.left new.right) h
+    (λ c e. (λ paid. h, λ paid. both_are (is_target m otherwise) (is_target m met) s.1 s.0))
+jump_inside lines n m fs (Return a) h = refl
+jump_inside lines n m fs Halt h = refl
 
 -- ---- what is paid for
 
@@ -227,13 +210,40 @@ line_paid fs (Blit a b count) credit more j k lines lines2 le rest h =
 line_paid fs (Call to callee args) credit more j k lines lines2 le rest h =
     pays (line_cost (Call to callee args)) (line_cost (with_line (forward fs) (Call to callee args))) credit more j k lines lines2 (line_costs fs (Call to callee args)) le rest h
 
-lines_paid : (n : ℕ) (fs : Facts) (lines new : List (Line ℕ)) (j k : Jump ℕ) → AreForwarded n fs lines new j k → (credit more : ℕ) → credit ≤ more → affords credit j lines ≡ true → affords more k new ≡ true
-lines_paid n fs [] [] j k f credit more le h =
-    let cost = jump_costs n fs j in ap (λ (x : Jump ℕ). nat_le (jump_cost x) more) f.1 ∙ (let a : jump_cost (with_jump fs j) ≤ jump_cost j = cost in grind (arith, nat_tests))
-lines_paid n fs [] (m ∷ new) j k f credit more le h = absurd f
-lines_paid n fs (l ∷ lines) [] j k f credit more le h = absurd f
-lines_paid n fs (l ∷ lines) (m ∷ new) j k f credit more le h =
-    ap (λ (x : Line ℕ). affords more k (x ∷ new)) f.1.0 ∙ line_paid fs l credit more j k lines new le (lines_paid n f.1.1.0 lines new j k f.1.1.1.1) h
+-- the new lines pay for any jump that costs no more than the old one
+lines_paid : (n : ℕ) (whole : List (Line ℕ)) (fs : Facts) (lines new : List (Line ℕ)) (j k next : Jump ℕ) → AreForwarded n whole fs lines new j k → jump_cost next ≤ jump_cost j → (credit more : ℕ) → credit ≤ more
+    → affords credit j lines ≡ true → affords more next new ≡ true
+lines_paid n whole fs [] [] j k next f low credit more le h = grind (arith, nat_tests)
+lines_paid n whole fs [] (m ∷ new) j k next f low credit more le h = absurd f
+lines_paid n whole fs (l ∷ lines) [] j k next f low credit more le h = absurd f
+lines_paid n whole fs (l ∷ lines) (m ∷ new) j k next f low credit more le h =
+    ap (λ (x : Line ℕ). affords more next (x ∷ new)) f.1.0 ∙ line_paid fs l credit more j next lines new le (lines_paid n whole f.1.1.0 lines new j k next f.1.1.1.1 low) h
+
+-- lines that pay for every jump that costs no more pay for the one that is made of it
+jump_paid : (lines : List (Line ℕ)) (fs : Facts) (j : Jump ℕ) → ((k : Jump ℕ) → jump_cost k ≤ jump_cost j → affords 0 k lines ≡ true) → affords 0 (with_jump lines fs j) lines ≡ true
+jump_paid lines fs (Goto k) h = h (Goto k) (omega arith)
+jump_paid lines fs (Branch on met otherwise) h =
+    let new : Comparison ℕ = with_comparison (forward fs) on in
+    let x = forward_cost fs on.left in
+    let y = forward_cost fs on.right in
+    test_either lines (λ k. affords 0 k lines ≡ true) new.condition new met otherwise (tested_by fs new.left new.right) (h (Branch new met otherwise) (omega (arith, x, y)))
+    (λ c e. (λ paid. paid, λ paid. paid))
+jump_paid lines fs (Return None) h = h (Return None) (omega arith)
+jump_paid lines fs (Return (Some a)) h = h (Return (Some (forward fs a))) (let x = forward_cost fs a in omega (arith, x))
+jump_paid lines fs Halt h = h Halt (omega arith)
+
+-- what is known after all lines, and the jump that it makes
+jump_made : (n : ℕ) (whole : List (Line ℕ)) (fs : Facts) (lines new : List (Line ℕ)) (j k : Jump ℕ) → AreForwarded n whole fs lines new j k → (gs : Facts) × (k ≡ with_jump whole gs j)
+jump_made n whole fs [] [] j k f = (fs, f.1)
+jump_made n whole fs [] (m ∷ new) j k f = absurd f
+jump_made n whole fs (l ∷ lines) [] j k f = absurd f
+jump_made n whole fs (l ∷ lines) (m ∷ new) j k f = jump_made n whole f.1.1.0 lines new j k f.1.1.1.1
+
+block_paid : (n : ℕ) (b c : Block ℕ) → IsForwarded n b c → is_paid b ≡ true → is_paid c ≡ true
+block_paid n b c f paid =
+    let made = jump_made n c.lines f.facts b.lines c.lines b.jump c.jump f.lines in
+    ap (λ (k : Jump ℕ). affords 0 k c.lines) made.1
+    ∙ jump_paid c.lines made.0 b.jump (λ k low. lines_paid n c.lines f.facts b.lines c.lines b.jump c.jump k f.lines low 0 0 (omega arith) paid)
 
 -- ---- measures of lines that stay
 
@@ -310,11 +320,11 @@ Alike [] (m ∷ new) = ⊥
 Alike (l ∷ lines) [] = ⊥
 Alike (l ∷ lines) (m ∷ new) = ((f : Replacing) × (m ≡ with_line f l)) × Alike lines new
 
-alike : (n : ℕ) (fs : Facts) (lines new : List (Line ℕ)) (j k : Jump ℕ) → AreForwarded n fs lines new j k → Alike lines new
-alike n fs [] [] j k f = tt
-alike n fs [] (m ∷ new) j k f = absurd f
-alike n fs (l ∷ lines) [] j k f = absurd f
-alike n fs (l ∷ lines) (m ∷ new) j k f = ((forward fs, f.1.0), alike n f.1.1.0 lines new j k f.1.1.1.1)
+alike : (n : ℕ) (whole : List (Line ℕ)) (fs : Facts) (lines new : List (Line ℕ)) (j k : Jump ℕ) → AreForwarded n whole fs lines new j k → Alike lines new
+alike n whole fs [] [] j k f = tt
+alike n whole fs [] (m ∷ new) j k f = absurd f
+alike n whole fs (l ∷ lines) [] j k f = absurd f
+alike n whole fs (l ∷ lines) (m ∷ new) j k f = ((forward fs, f.1.0), alike n whole f.1.1.0 lines new j k f.1.1.1.1)
 
 sum_from : (g : Line ℕ → ℕ) → Stays g → (lines new : List (Line ℕ)) → Alike lines new → (a : ℕ) → fold (λ n l. n + g l) a new ≡ fold (λ n l. n + g l) a lines
 sum_from g same [] [] h a = refl
@@ -344,29 +354,29 @@ most_same [] (m ∷ new) h = absurd h
 most_same (l ∷ lines) [] h = absurd h
 most_same (l ∷ lines) (m ∷ new) h = ap (λ n. max n (most_in_lines new)) (ap args_on_stack h.0.1 ∙ passed_stays h.0.0 l) ∙ ap (λ n. max (args_on_stack l) n) (most_same lines new h.1)
 
-lines_low : (n : ℕ) (fs : Facts) (lines new : List (Line ℕ)) (j k : Jump ℕ) → AreForwarded n fs lines new j k → (list_all (line_keeps (is_below n)) lines && jump_keeps (is_below n) j) ≡ true
+lines_low : (n : ℕ) (whole : List (Line ℕ)) (fs : Facts) (lines new : List (Line ℕ)) (j k : Jump ℕ) → AreForwarded n whole fs lines new j k → (list_all (line_keeps (is_below n)) lines && jump_keeps (is_below n) j) ≡ true
     → (list_all (line_keeps (is_below n)) new && jump_keeps (is_below n) k) ≡ true
-lines_low n fs [] [] j k f h = ap (jump_keeps (is_below n)) f.1 ∙ jump_low n fs f.0 j h
-lines_low n fs [] (m ∷ new) j k f h = absurd f
-lines_low n fs (l ∷ lines) [] j k f h = absurd f
-lines_low n fs (l ∷ lines) (m ∷ new) j k f h =
+lines_low n whole fs [] [] j k f h = ap (jump_keeps (is_below n)) f.1 ∙ jump_low whole n fs f.0 j h
+lines_low n whole fs [] (m ∷ new) j k f h = absurd f
+lines_low n whole fs (l ∷ lines) [] j k f h = absurd f
+lines_low n whole fs (l ∷ lines) (m ∷ new) j k f h =
     let s = both_true (line_keeps (is_below n) l && list_all (line_keeps (is_below n)) lines) (jump_keeps (is_below n) j) h in
     let t = both_true (line_keeps (is_below n) l) (list_all (line_keeps (is_below n)) lines) s.0 in
-    let rest = lines_low n f.1.1.0 lines new j k f.1.1.1.1 (both_are (list_all (line_keeps (is_below n)) lines) (jump_keeps (is_below n) j) t.1 s.1) in
+    let rest = lines_low n whole f.1.1.0 lines new j k f.1.1.1.1 (both_are (list_all (line_keeps (is_below n)) lines) (jump_keeps (is_below n) j) t.1 s.1) in
     let u = both_true (list_all (line_keeps (is_below n)) new) (jump_keeps (is_below n) k) rest in
     both_are (line_keeps (is_below n) m && list_all (line_keeps (is_below n)) new) (jump_keeps (is_below n) k)
     (both_are (line_keeps (is_below n) m) (list_all (line_keeps (is_below n)) new) (ap (line_keeps (is_below n)) f.1.0 ∙ line_low n fs f.0 l t.0) u.0) u.1
 
-inside_from : (n size : ℕ) (fs : Facts) (lines new : List (Line ℕ)) (j k : Jump ℕ) → AreForwarded n fs lines new j k → leads_inside size j ≡ true → leads_inside size k ≡ true
-inside_from n size fs [] [] j k f h = ap (leads_inside size) f.1 ∙ jump_inside n size fs j h
-inside_from n size fs [] (m ∷ new) j k f h = absurd f
-inside_from n size fs (l ∷ lines) [] j k f h = absurd f
-inside_from n size fs (l ∷ lines) (m ∷ new) j k f h = inside_from n size f.1.1.0 lines new j k f.1.1.1.1 h
+inside_from : (n size : ℕ) (whole : List (Line ℕ)) (fs : Facts) (lines new : List (Line ℕ)) (j k : Jump ℕ) → AreForwarded n whole fs lines new j k → leads_inside size j ≡ true → leads_inside size k ≡ true
+inside_from n size whole fs [] [] j k f h = ap (leads_inside size) f.1 ∙ jump_inside whole n size fs j h
+inside_from n size whole fs [] (m ∷ new) j k f h = absurd f
+inside_from n size whole fs (l ∷ lines) [] j k f h = absurd f
+inside_from n size whole fs (l ∷ lines) (m ∷ new) j k f h = inside_from n size whole f.1.1.0 lines new j k f.1.1.1.1 h
 
 -- ---- blocks side by side
 
 block_alike : (n : ℕ) (b c : Block ℕ) → IsForwarded n b c → Alike b.lines c.lines
-block_alike n b c f = alike n f.facts b.lines c.lines b.jump c.jump f.lines
+block_alike n b c f = alike n c.lines f.facts b.lines c.lines b.jump c.jump f.lines
 
 blocks_count : (n : ℕ) (blocks new : List (Block ℕ)) → AllForwarded n blocks new → length new ≡ length blocks
 blocks_count n [] [] h = refl
@@ -417,7 +427,7 @@ places_kept n v w all same h =
     let s = both_true (list_all (λ (d : Destination ℕ). is_below n d.place) v.params) (list_all (block_keeps (is_below n)) v.blocks) h in
     both_are (list_all (λ (d : Destination ℕ). is_below n d.place) w.params) (list_all (block_keeps (is_below n)) w.blocks)
     (ap (list_all (λ (d : Destination ℕ). is_below n d.place)) same ∙ s.0)
-    (blocks_all (block_keeps (is_below n)) n (λ b c f e. lines_low n f.facts b.lines c.lines b.jump c.jump f.lines e) v.blocks w.blocks all s.1)
+    (blocks_all (block_keeps (is_below n)) n (λ b c f e. lines_low n c.lines f.facts b.lines c.lines b.jump c.jump f.lines e) v.blocks w.blocks all s.1)
 
 pub regular : (n : ℕ) (v w : Code ℕ) → AllForwarded n v.blocks w.blocks → w.params ≡ v.params → IsRegular v → IsRegular w
 regular n v w all same is =
@@ -425,10 +435,10 @@ regular n v w all same is =
       few_params = ap (λ (ps : List (Destination ℕ)). nat_le (length ps) 64) same ∙ is.few_params;
       inside =
           ap (λ m. list_all (λ (b : Block ℕ). leads_inside m b.jump) w.blocks) (blocks_count n v.blocks w.blocks all)
-          ∙ blocks_all (λ (b : Block ℕ). leads_inside (length v.blocks) b.jump) n (λ b c f e. inside_from n (length v.blocks) f.facts b.lines c.lines b.jump c.jump f.lines e) v.blocks w.blocks all is.inside;
+          ∙ blocks_all (λ (b : Block ℕ). leads_inside (length v.blocks) b.jump) n (λ b c f e. inside_from n (length v.blocks) c.lines f.facts b.lines c.lines b.jump c.jump f.lines e) v.blocks w.blocks all is.inside;
       first = first_kept n v.blocks w.blocks all is.first;
       small = ap (λ m. nat_le m 1048576) (area_same n v w all) ∙ is.small;
-      paid = blocks_all is_paid n (λ b c f e. lines_paid n f.facts b.lines c.lines b.jump c.jump f.lines 0 0 (omega arith) e) v.blocks w.blocks all is.paid;
+      paid = blocks_all is_paid n (block_paid n) v.blocks w.blocks all is.paid;
       paced =
           blocks_all (λ (b : Block ℕ). nat_le (sum_by turns_of b.lines) 40000) n
           (λ b c f e. ap (λ m. nat_le m 40000) (lines_sum turns_of turns_stay b.lines c.lines (block_alike n b c f)) ∙ e) v.blocks w.blocks all is.paced;

@@ -68,10 +68,10 @@ append_none (x ∷ xs) = ap (λ zs. x ∷ zs) (append_none xs)
 pub below_of : (n : ℕ) (t : Table) → length t.written.items ≡ n → AreBelow n (facts_of t)
 below_of n t e r f h = ap (λ m. fact_below m f) (sym e) ∙ known_below t r f h
 
-pub lines_on : (n : ℕ) (t u : Table) (lines : List (Line ℕ)) (i : ℕ) (l m : Line ℕ) (rest : List (Line ℕ)) (j k : Jump ℕ) → i < length lines → l ≡ get_or lines i l → length t.written.items ≡ n
-    → m ≡ with_line (forward (facts_of t)) l → After m (facts_of t) (facts_of u) → AreForwarded n (facts_of u) (drop (i + 1) lines) rest j k → AreForwarded n (facts_of t) (drop i lines) (m ∷ rest) j k
-lines_on n t u lines i l m rest j k low at count is after h =
-    subst (λ (xs : List (Line ℕ)). AreForwarded n (facts_of t) xs (m ∷ rest) j k) (sym (item_next lines i l low at)) (below_of n t count, (is, (facts_of u, (after, h))))
+pub lines_on : (n : ℕ) (whole : List (Line ℕ)) (t u : Table) (lines : List (Line ℕ)) (i : ℕ) (l m : Line ℕ) (rest : List (Line ℕ)) (j k : Jump ℕ) → i < length lines → l ≡ get_or lines i l → length t.written.items ≡ n
+    → m ≡ with_line (forward (facts_of t)) l → After m (facts_of t) (facts_of u) → AreForwarded n whole (facts_of u) (drop (i + 1) lines) rest j k → AreForwarded n whole (facts_of t) (drop i lines) (m ∷ rest) j k
+lines_on n whole t u lines i l m rest j k low at count is after h =
+    subst (λ (xs : List (Line ℕ)). AreForwarded n whole (facts_of t) xs (m ∷ rest) j k) (sym (item_next lines i l low at)) (below_of n t count, (is, (facts_of u, (after, h))))
 
 -- ---- blocks
 

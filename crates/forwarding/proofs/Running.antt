@@ -1,5 +1,5 @@
 -- Code that is put by what is known runs as the code does, step by step in the same states, in which all that is known is true.
-use Rattle.std.proofs.Common.{◌≡◌, ℕ, zero, suc, ◌+◌, ◌-◌, ◌%◌, ◌^◌, Bool, true, false, not, ◌&&◌, ◌||◌, nat_eq, nat_lt, nat_le, if◌then◌else◌, List, [], ◌∷◌, ◌++◌, map, drop, length, Option, Some, None, slice_get, refl, sym, ◌∙◌, ap, subst, arith}
+use Rattle.std.proofs.Common.{◌≡◌, ℕ, zero, suc, ◌+◌, ◌-◌, ◌%◌, ◌^◌, Bool, true, false, not, ◌||◌, nat_eq, nat_lt, if◌then◌else◌, List, [], ◌∷◌, map, drop, length, Option, Some, None, slice_get, refl, sym, ◌∙◌, ap, subst, arith}
 use Rattle.std.specs.Option.{option_map, option_and_then, option_map_or}
 use Rattle.std.proofs.lemmas.Bool.Decides.{nat_tests}
 use Rattle.il_ast.specs.declared.operation.Class.{Class}
@@ -11,8 +11,8 @@ use Rattle.il_ast.specs.declared.value.Value.{Value}
 use Rattle.il_ast.specs.declared.value.Value.TheVariants.{Integer, Pointer, Function}
 use Rattle.il_ast.specs.declared.value.End.TheVariants.{Turns}
 use Rattle.il_ast.specs.Values.{byte_count, in_place}
-use Rattle.il_ast.specs.Memory.{Memory, store, copy, fresh}
-use Rattle.il_ast.specs.Operations.{holds, truth, on_places, compare_places, operate_two}
+use Rattle.il_ast.specs.Memory.{Memory, store, copy}
+use Rattle.il_ast.specs.Operations.{holds, truth, compare_places, operate_two}
 use Rattle.il_ast.specs.Effect.{stored_class}
 use Rattle.il_ast.specs.Run.{one_turn, both, Outcome, Returned, Ended}
 use Rattle.il_ast.specs.Logged.{Next, On, Over, Event, Does, Calls}
@@ -28,19 +28,18 @@ use Rattle.vcode.specs.declared.line.Line.TheVariants.{Tick, Set, Operate, Load,
 use Rattle.vcode.specs.declared.line.Comparison.{Comparison}
 use Rattle.vcode.specs.declared.line.Jump.{Jump}
 use Rattle.vcode.specs.declared.line.Jump.TheVariants.{Goto, Branch, Return, Halt}
-use Rattle.vcode.specs.declared.line.Operation.{Operation}
 use Rattle.vcode.specs.declared.line.Operation.TheVariants.{Reg, RegW, Compare}
 use Rattle.vcode.specs.declared.code.Block.{Block}
 use Rattle.vcode.specs.declared.code.Code.{Code}
-use Rattle.vcode.specs.Cost.{is_immediate, jump_cost}
-use Rattle.vcode.specs.Operations.{held, operate, loaded, compare}
+use Rattle.vcode.specs.Cost.{affords}
+use Rattle.vcode.specs.Operations.{held, operate, loaded}
 use Rattle.vcode.specs.Places.{Values, put, assign, kept, virtual}
 use Rattle.vcode.specs.Coded.{classes_in}
-use Rattle.vcode.specs.Step.{State, begin, value_of, read, read_all, fails, goes_on, sets, changes, weighs, ticks, receives, resumes, calls, line_step, enters, compared, branches, returns, jump_step, block_step, step_in, step}
+use Rattle.vcode.specs.Step.{State, begin, value_of, read, read_all, fails, goes_on, sets, changes, weighs, ticks, receives, resumes, calls, line_step, compared, branches, returns, jump_step, block_step, step_in, step}
 use Rattle.forwarding.specs.declared.fact.Fact.{Fact}
 use Rattle.forwarding.specs.declared.fact.Fact.TheVariants.{Same, Test}
-use Rattle.forwarding.specs.Facts.{Facts, names_it, fact_names, asks_memory, Truth, AreTrue, AreBelow}
-use Rattle.forwarding.specs.Forwarded.{is_short, copied, forward, Replacing, with_argument, with_line, with_comparison, test_of, tested_by, cheaper, with_test, with_branch, with_jump, changes_memory, writes_it, fact_of, After, AreForwarded, IsForwarded, AllForwarded}
+use Rattle.forwarding.specs.Facts.{Facts, names_it, fact_names, asks_memory, Truth, AreTrue}
+use Rattle.forwarding.specs.Forwarded.{is_short, copied, forward, Replacing, with_argument, with_line, with_comparison, test_of, tested_by, with_test, with_jump, changes_memory, writes_it, fact_of, After, AreForwarded, IsForwarded, AllForwarded}
 
 -- ---- operands
 
@@ -229,46 +228,46 @@ tests globals s fs all (Name m) b c h = absurd (let no : ⊥ = cc in no)
 abbrev SameJump : List Value → Option Class → State ℕ → Jump ℕ → Jump ℕ → Type 0
 SameJump globals result s j k = jump_step globals result s k ≡ jump_step globals result s j
 
-cheaper_same : (globals : List Value) (result : Option Class) (s : State ℕ) (j k : Jump ℕ) (b : Bool) → SameJump globals result s j k → SameJump globals result s j (if b then k else j)
-cheaper_same globals result s j k true h = h
-cheaper_same globals result s j k false h = refl
+either_same : (globals : List Value) (result : Option Class) (s : State ℕ) (j k : Jump ℕ) (b : Bool) → SameJump globals result s j k → SameJump globals result s j (if b then k else j)
+either_same globals result s j k true h = h
+either_same globals result s j k false h = refl
 
-test_same : (globals : List Value) (result : Option Class) (s : State ℕ) (on : Comparison ℕ) (k : Condition) (met otherwise : ℕ) (o : Option (Comparison ℕ)) → on.condition ≡ k
-    → ((c : Comparison ℕ) → o ≡ Some c → Tests globals s on c) → SameJump globals result s (Branch on met otherwise) (with_test k on met otherwise o)
+test_same : (whole : List (Line ℕ)) (globals : List Value) (result : Option Class) (s : State ℕ) (on : Comparison ℕ) (k : Condition) (met otherwise : ℕ) (o : Option (Comparison ℕ)) → on.condition ≡ k
+    → ((c : Comparison ℕ) → o ≡ Some c → Tests globals s on c) → SameJump globals result s (Branch on met otherwise) (with_test whole k on met otherwise o)
 unfolding jump_step
-test_same globals result s on NotEqual met otherwise (Some c) e t =
-    cheaper_same globals result s (Branch on met otherwise) (Branch c met otherwise) (nat_le (jump_cost (Branch c met otherwise)) (jump_cost (Branch on met otherwise)))
+test_same whole globals result s on NotEqual met otherwise (Some c) e t =
+    either_same globals result s (Branch on met otherwise) (Branch c met otherwise) (affords 0 (Branch c met otherwise) whole)
     (branch_unequal s on.class met otherwise (compared globals s c) (compared_truth globals s c)
     ∙ ap (λ (k : Condition). branches s met otherwise (option_and_then (λ u. operate s.memory (Compare k on.class) u (Integer 0)) (compared globals s c))) (sym e)
     ∙ ap (branches s met otherwise) (sym (compared_tests globals s on c (t c refl))))
-test_same globals result s on Equal met otherwise (Some c) e t =
-    cheaper_same globals result s (Branch on met otherwise) (Branch c otherwise met) (nat_le (jump_cost (Branch c otherwise met)) (jump_cost (Branch on met otherwise)))
+test_same whole globals result s on Equal met otherwise (Some c) e t =
+    either_same globals result s (Branch on met otherwise) (Branch c otherwise met) (affords 0 (Branch c otherwise met) whole)
     (branch_equal s on.class met otherwise (compared globals s c) (compared_truth globals s c)
     ∙ ap (λ (k : Condition). branches s met otherwise (option_and_then (λ u. operate s.memory (Compare k on.class) u (Integer 0)) (compared globals s c))) (sym e)
     ∙ ap (branches s met otherwise) (sym (compared_tests globals s on c (t c refl))))
-test_same globals result s on NotEqual met otherwise None e t = refl
-test_same globals result s on Equal met otherwise None e t = refl
-test_same globals result s on SignedLessEqual met otherwise o e t = refl
-test_same globals result s on SignedLess met otherwise o e t = refl
-test_same globals result s on SignedGreaterEqual met otherwise o e t = refl
-test_same globals result s on SignedGreater met otherwise o e t = refl
-test_same globals result s on UnsignedLessEqual met otherwise o e t = refl
-test_same globals result s on UnsignedLess met otherwise o e t = refl
-test_same globals result s on UnsignedGreaterEqual met otherwise o e t = refl
-test_same globals result s on UnsignedGreater met otherwise o e t = refl
+test_same whole globals result s on NotEqual met otherwise None e t = refl
+test_same whole globals result s on Equal met otherwise None e t = refl
+test_same whole globals result s on SignedLessEqual met otherwise o e t = refl
+test_same whole globals result s on SignedLess met otherwise o e t = refl
+test_same whole globals result s on SignedGreaterEqual met otherwise o e t = refl
+test_same whole globals result s on SignedGreater met otherwise o e t = refl
+test_same whole globals result s on UnsignedLessEqual met otherwise o e t = refl
+test_same whole globals result s on UnsignedLess met otherwise o e t = refl
+test_same whole globals result s on UnsignedGreaterEqual met otherwise o e t = refl
+test_same whole globals result s on UnsignedGreater met otherwise o e t = refl
 
-jump_same : (globals : List Value) (result : Option Class) (s : State ℕ) (fs : Facts) → AreTrue globals s fs → (j : Jump ℕ) → SameJump globals result s j (with_jump fs j)
+jump_same : (whole : List (Line ℕ)) (globals : List Value) (result : Option Class) (s : State ℕ) (fs : Facts) → AreTrue globals s fs → (j : Jump ℕ) → SameJump globals result s j (with_jump whole fs j)
 unfolding jump_step
-jump_same globals result s fs all (Goto k) = refl
-jump_same globals result s fs all (Branch on met otherwise) =
+jump_same whole globals result s fs all (Goto k) = refl
+jump_same whole globals result s fs all (Branch on met otherwise) =
     let new : Comparison ℕ = with_comparison (forward fs) on in
-    test_same globals result s new new.condition met otherwise (tested_by fs new.left new.right) refl
+    test_same whole globals result s new new.condition met otherwise (tested_by fs new.left new.right) refl
     (λ c e. let t = tests globals s fs all new.left new.right c e in record { right = t.0; left = t.1 })
     ∙ ap (branches s met otherwise) (two_same globals s (forward fs) (operand_same globals s fs all) on.left on.right (operate s.memory (Compare on.condition on.class)))
-jump_same globals result s fs all (Return None) = refl
-jump_same globals None s fs all (Return (Some a)) = refl
-jump_same globals (Some k) s fs all (Return (Some a)) = ap (λ (x : Option Value). returns s (option_and_then (in_place k) x)) (operand_same globals s fs all a)
-jump_same globals result s fs all Halt = refl
+jump_same whole globals result s fs all (Return None) = refl
+jump_same whole globals None s fs all (Return (Some a)) = refl
+jump_same whole globals (Some k) s fs all (Return (Some a)) = ap (λ (x : Option Value). returns s (option_and_then (in_place k) x)) (operand_same globals s fs all a)
+jump_same whole globals result s fs all Halt = refl
 
 -- ---- where an event goes on
 
@@ -546,7 +545,7 @@ record Here (n : ℕ) (w : Code ℕ) (globals : List Value) (s : State ℕ) (b :
   block : Block ℕ
   facts : Facts
   found : slice_get w.blocks s.block ≡ Some block
-  forwarded : AreForwarded n facts left (drop s.next block.lines) b.jump block.jump
+  forwarded : AreForwarded n block.lines facts left (drop s.next block.lines) b.jump block.jump
   true_facts : AreTrue globals s facts
 
 record Related (n : ℕ) (v w : Code ℕ) (globals : List Value) (s t : State ℕ) : Type 0 where
@@ -580,7 +579,7 @@ at_start n v w globals all s zero_next =
             block = f.block;
             facts = g.facts;
             found = f.at;
-            forwarded = subst (λ k. AreForwarded n g.facts (drop k b.lines) (drop k f.block.lines) b.jump f.block.jump) (sym zero_next) g.lines;
+            forwarded = subst (λ k. AreForwarded n f.block.lines g.facts (drop k b.lines) (drop k f.block.lines) b.jump f.block.jump) (sym zero_next) g.lines;
             true_facts = λ r x h. absurd (let none = g.nothing r in let no : ⊥ = cc in no);
           };
     }
@@ -615,18 +614,18 @@ one_event related x y e a b h =
     (subst (λ (z : Event (State ℕ) Asked Outcome). Together related Fine e z) (sym b) (event_self related e h))
 
 jump_beside : (n : ℕ) (v w : Code ℕ) (globals : List Value) (i : Given) (s : State ℕ) (b c : Block ℕ) (fs : Facts) → AllForwarded n v.blocks w.blocks → w.result ≡ v.result
-    → slice_get v.blocks s.block ≡ Some b → slice_get w.blocks s.block ≡ Some c → drop s.next b.lines ≡ [] → drop s.next c.lines ≡ [] → c.jump ≡ with_jump fs b.jump → AreTrue globals s fs
+    → slice_get v.blocks s.block ≡ Some b → slice_get w.blocks s.block ≡ Some c → drop s.next b.lines ≡ [] → drop s.next c.lines ≡ [] → c.jump ≡ with_jump c.lines fs b.jump → AreTrue globals s fs
     → Beside n v w globals i s
 jump_beside n v w globals i s b c fs all result at found ahead ahead2 is facts =
     one_event (Related n v w globals) (step virtual globals v i s) (step virtual globals w i s) (jump_step globals v.result s b.jump)
     (step_jump globals v i s b at (nothing_at b.lines s.next ahead))
     (step_jump globals w i s c found (nothing_at c.lines s.next ahead2) ∙ ap (λ (r : Option Class). jump_step globals r s c.jump) result ∙ ap (jump_step globals v.result s) is
-    ∙ jump_same globals v.result s fs facts b.jump)
+    ∙ jump_same c.lines globals v.result s fs facts b.jump)
     (event_more (λ u. u.next ≡ 0) (λ u. Related n v w globals u u) (λ u e. at_start n v w globals all u e) (jump_step globals v.result s b.jump) (jump_starts globals v.result s b.jump))
 
 line_beside : (n : ℕ) (v w : Code ℕ) (globals : List Value) (i : Given) (s : State ℕ) (b c : Block ℕ) (fs gs : Facts) (l m : Line ℕ) (left left2 : List (Line ℕ))
     → slice_get v.blocks s.block ≡ Some b → slice_get w.blocks s.block ≡ Some c → drop s.next b.lines ≡ l ∷ left → drop s.next c.lines ≡ m ∷ left2 → m ≡ with_line (forward fs) l → After m fs gs
-    → AreForwarded n gs left left2 b.jump c.jump → AreTrue globals s fs → Beside n v w globals i s
+    → AreForwarded n c.lines gs left left2 b.jump c.jump → AreTrue globals s fs → Beside n v w globals i s
 line_beside n v w globals i s b c fs gs l m left left2 at found ahead ahead2 is after rest facts =
     one_event (Related n v w globals) (step virtual globals v i s) (step virtual globals w i s) (line_step virtual globals i s m)
     (step_line globals v i s b l at (head_at b.lines s.next l left ahead)
@@ -648,13 +647,13 @@ line_beside n v w globals i s b c fs gs l m left left2 at found ahead ahead2 is 
                 block = c;
                 facts = gs;
                 found = ap (slice_get w.blocks) moved.block ∙ found;
-                forwarded = subst (λ (xs : List (Line ℕ)). AreForwarded n gs left xs b.jump c.jump) (sym two) rest;
+                forwarded = subst (λ (xs : List (Line ℕ)). AreForwarded n c.lines gs left xs b.jump c.jump) (sym two) rest;
                 true_facts = true_after globals m s u fs gs moved after facts;
               }));
         }
 
 left_beside : (n : ℕ) (v w : Code ℕ) (globals : List Value) (i : Given) (s : State ℕ) (b c : Block ℕ) (fs : Facts) (left left2 : List (Line ℕ)) → AllForwarded n v.blocks w.blocks → w.result ≡ v.result
-    → slice_get v.blocks s.block ≡ Some b → slice_get w.blocks s.block ≡ Some c → drop s.next b.lines ≡ left → drop s.next c.lines ≡ left2 → AreForwarded n fs left left2 b.jump c.jump → AreTrue globals s fs
+    → slice_get v.blocks s.block ≡ Some b → slice_get w.blocks s.block ≡ Some c → drop s.next b.lines ≡ left → drop s.next c.lines ≡ left2 → AreForwarded n c.lines fs left left2 b.jump c.jump → AreTrue globals s fs
     → Beside n v w globals i s
 left_beside n v w globals i s b c fs [] [] all result at found ahead ahead2 h facts = jump_beside n v w globals i s b c fs all result at found ahead ahead2 h.1 facts
 left_beside n v w globals i s b c fs [] (m ∷ left2) all result at found ahead ahead2 h facts = absurd h

@@ -1,13 +1,8 @@
 -- What registers are known to hold.
-use Rattle.std.specs.Prelude.{◌≡◌, ℕ, Bool, true, false, not, ◌&&◌, ◌||◌, nat_eq, nat_lt, nat_le, if◌then◌else◌, List, [], ◌∷◌, map, Option, Some, None}
-use Rattle.std.specs.Option.{option_map_or}
-use Rattle.il_ast.specs.declared.operation.Condition.{Condition}
-use Rattle.il_ast.specs.declared.operation.Condition.TheVariants.{Equal, NotEqual}
+use Rattle.std.specs.Prelude.{◌≡◌, ℕ, Bool, true, false, ◌&&◌, ◌||◌, nat_eq, nat_lt, List, Option, Some}
 use Rattle.il_ast.specs.declared.value.Value.{Value}
 use Rattle.vcode.specs.declared.place.Operand.{Operand}
-use Rattle.vcode.specs.declared.place.Operand.TheVariants.{At, Number, Name}
-use Rattle.vcode.specs.declared.line.Comparison.{Comparison}
-use Rattle.vcode.specs.Cost.{is_immediate}
+use Rattle.vcode.specs.declared.place.Operand.TheVariants.{At}
 use Rattle.vcode.specs.Step.{State, value_of, compared}
 use Rattle.forwarding.specs.declared.fact.Fact.{Fact}
 use Rattle.forwarding.specs.declared.fact.Fact.TheVariants.{Same, Test}

@@ -1,5 +1,5 @@
 -- Code in which operands and branches are put by what is known of registers.
-use Rattle.std.specs.Prelude.{◌≡◌, ℕ, Bool, true, false, not, nat_eq, nat_le, if◌then◌else◌, List, [], ◌∷◌, map, Option, Some, None}
+use Rattle.std.specs.Prelude.{◌≡◌, ℕ, Bool, true, false, nat_eq, if◌then◌else◌, List, [], ◌∷◌, map, Option, Some, None}
 use Rattle.std.specs.Option.{option_map, option_map_or}
 use Rattle.il_ast.specs.declared.operation.Condition.{Condition}
 use Rattle.il_ast.specs.declared.operation.Condition.TheVariants.{Equal, NotEqual}
@@ -13,9 +13,8 @@ use Rattle.vcode.specs.declared.line.Comparison.{Comparison}
 use Rattle.vcode.specs.declared.line.Jump.{Jump}
 use Rattle.vcode.specs.declared.line.Jump.TheVariants.{Goto, Branch, Return, Halt}
 use Rattle.vcode.specs.declared.code.Block.{Block}
-use Rattle.vcode.specs.declared.code.Code.{Code}
 use Rattle.vcode.specs.declared.function.VFunc.{VFunc}
-use Rattle.vcode.specs.Cost.{is_immediate, jump_cost}
+use Rattle.vcode.specs.Cost.{is_immediate, affords}
 use Rattle.cfg_live.specs.Registers.{line_writes}
 use Rattle.forwarding.specs.declared.fact.Fact.{Fact}
 use Rattle.forwarding.specs.declared.fact.Fact.TheVariants.{Same, Test}
@@ -70,23 +69,24 @@ abbrev pub tested_by : Facts → (left right : Operand ℕ) → Option (Comparis
 tested_by fs (At r) (Number n) = if nat_eq n 0 then test_of (fs r) else None
 tested_by fs a b = None
 
--- in place of a jump, if it costs no more
-abbrev pub cheaper : (old new : Jump ℕ) → Jump ℕ
-cheaper old new = if nat_le (jump_cost new) (jump_cost old) then new else old
+-- in place of a jump, if the lines before it pay for it
+abbrev pub afforded : (lines : List (Line ℕ)) → (old new : Jump ℕ) → Jump ℕ
+afforded lines old new = if affords 0 new lines then new else old
 
-abbrev pub with_test : Condition → Comparison ℕ → (met otherwise : ℕ) → Option (Comparison ℕ) → Jump ℕ
-with_test NotEqual on met otherwise (Some c) = cheaper (Branch on met otherwise) (Branch c met otherwise)
-with_test Equal on met otherwise (Some c) = cheaper (Branch on met otherwise) (Branch c otherwise met)
-with_test k on met otherwise o = Branch on met otherwise
+abbrev pub with_test : (lines : List (Line ℕ)) → Condition → Comparison ℕ → (met otherwise : ℕ) → Option (Comparison ℕ) → Jump ℕ
+with_test lines NotEqual on met otherwise (Some c) = afforded lines (Branch on met otherwise) (Branch c met otherwise)
+with_test lines Equal on met otherwise (Some c) = afforded lines (Branch on met otherwise) (Branch c otherwise met)
+with_test lines k on met otherwise o = Branch on met otherwise
 
-abbrev pub with_branch : Facts → Comparison ℕ → (met otherwise : ℕ) → Jump ℕ
-with_branch fs on met otherwise = with_test on.condition on met otherwise (tested_by fs on.left on.right)
+abbrev pub with_branch : (lines : List (Line ℕ)) → Facts → Comparison ℕ → (met otherwise : ℕ) → Jump ℕ
+with_branch lines fs on met otherwise = with_test lines on.condition on met otherwise (tested_by fs on.left on.right)
 
-abbrev pub with_jump : Facts → Jump ℕ → Jump ℕ
-with_jump fs (Goto k) = Goto k
-with_jump fs (Branch on met otherwise) = with_branch fs (with_comparison (forward fs) on) met otherwise
-with_jump fs (Return a) = Return (option_map (forward fs) a)
-with_jump fs Halt = Halt
+-- the jump after all these lines
+abbrev pub with_jump : (lines : List (Line ℕ)) → Facts → Jump ℕ → Jump ℕ
+with_jump lines fs (Goto k) = Goto k
+with_jump lines fs (Branch on met otherwise) = with_branch lines fs (with_comparison (forward fs) on) met otherwise
+with_jump lines fs (Return a) = Return (option_map (forward fs) a)
+with_jump lines fs Halt = Halt
 
 -- ---- what is known after a line
 
@@ -116,19 +116,19 @@ After l old new =
 
 -- ---- blocks
 
--- the lines and the jump, put by what is known, which is `fs` before them and names registers below n alone
-abbrev pub AreForwarded : (n : ℕ) → Facts → (lines new : List (Line ℕ)) → (jump next : Jump ℕ) → Type 0
-AreForwarded n fs [] [] j k = AreBelow n fs × (k ≡ with_jump fs j)
-AreForwarded n fs [] (m ∷ new) j k = ⊥
-AreForwarded n fs (l ∷ lines) [] j k = ⊥
-AreForwarded n fs (l ∷ lines) (m ∷ new) j k =
-    AreBelow n fs × ((m ≡ with_line (forward fs) l) × ((gs : Facts) × (After m fs gs × AreForwarded n gs lines new j k)))
+-- the lines and the jump, put by what is known, which is `fs` before them and names registers below n alone; `whole` is all lines of the new block
+abbrev pub AreForwarded : (n : ℕ) → (whole : List (Line ℕ)) → Facts → (lines new : List (Line ℕ)) → (jump next : Jump ℕ) → Type 0
+AreForwarded n whole fs [] [] j k = AreBelow n fs × (k ≡ with_jump whole fs j)
+AreForwarded n whole fs [] (m ∷ new) j k = ⊥
+AreForwarded n whole fs (l ∷ lines) [] j k = ⊥
+AreForwarded n whole fs (l ∷ lines) (m ∷ new) j k =
+    AreBelow n fs × ((m ≡ with_line (forward fs) l) × ((gs : Facts) × (After m fs gs × AreForwarded n whole gs lines new j k)))
 
 -- nothing is known where a block begins
 pub record IsForwarded (n : ℕ) (b c : Block ℕ) : Type 0 where
   pub facts : Facts
   pub nothing : (r : ℕ) → facts r ≡ None
-  pub lines : AreForwarded n facts b.lines c.lines b.jump c.jump
+  pub lines : AreForwarded n c.lines facts b.lines c.lines b.jump c.jump
 
 abbrev pub AllForwarded : (n : ℕ) → (blocks new : List (Block ℕ)) → Type 0
 AllForwarded n [] [] = Unit {0}

@@ -1,5 +1,5 @@
 -- What registers are known to hold, as a table has it: facts with the times since when they are known, and when registers and memory were last written.
-use Rattle.std.specs.Prelude.{◌≡◌, ℕ, ◌≤◌, Bool, true, false, ◌&&◌, nat_eq, nat_lt, nat_le, if◌then◌else◌, List, length, slice_get, Option, Some, None}
+use Rattle.std.specs.Prelude.{◌≡◌, ℕ, ◌≤◌, Bool, true, false, ◌&&◌, nat_eq, nat_lt, nat_le, if◌then◌else◌, List, slice_get, Option, Some, None}
 use Rattle.std.specs.Option.{option_map_or}
 use Rattle.vcode.specs.declared.place.Operand.{Operand}
 use Rattle.vcode.specs.declared.place.Operand.TheVariants.{At}
@@ -7,7 +7,7 @@ use Rattle.forwarding.specs.declared.fact.Fact.{Fact}
 use Rattle.forwarding.specs.declared.fact.Fact.TheVariants.{Same, Test}
 use Rattle.forwarding.specs.declared.fact.Known.{Known}
 use Rattle.forwarding.specs.declared.table.Table.{Table}
-use Rattle.forwarding.specs.Facts.{Facts, fact_names, asks_memory}
+use Rattle.forwarding.specs.Facts.{Facts, fact_names}
 
 abbrev pub cell : List (Option Known) → ℕ → Option Known
 cell cells r = option_map_or (λ (k : Option Known). k) (slice_get cells r) None

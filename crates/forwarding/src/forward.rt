@@ -1,6 +1,7 @@
 //! Blocks and functions, put by what is known.
 ghost use Rattle.std.specs.Prelude.{◌≡◌, ◌∷◌, ◌++◌, [], ℕ, List, true, false, not, ◌||◌, nat_eq, length, drop, OnOk, IfOk, Some, None};
 ghost use Rattle.il_ast.specs.Passes.{Keeps};
+ghost use Rattle.vcode.specs.declared.line.Line.{Line as ALine};
 ghost use Rattle.vcode.specs.declared.line.Line.TheVariants.{Operate, Call};
 ghost use Rattle.vcode.specs.declared.place.Operand.{Operand as AnOperand};
 ghost use Rattle.vcode.specs.declared.place.Argument.{Argument as AnArgument};
@@ -83,7 +84,7 @@ fn forwarded_lines(
     requires { IsTable table.old }
     ensures table { IsTable table.new }
     ensures count { length table.new.written.items ≡ length table.old.written.items }
-    ensures lines { IfOk result (λ v. (j k : AJump ℕ) → AreForwarded (length table.old.written.items) (facts_of table.new) [] [] j k → AreForwarded (length table.old.written.items) (facts_of table.old) lines.now v.items j k) }
+    ensures lines { IfOk result (λ v. (whole : List (ALine ℕ)) (j k : AJump ℕ) → AreForwarded (length table.old.written.items) whole (facts_of table.new) [] [] j k → AreForwarded (length table.old.written.items) whole (facts_of table.old) lines.now v.items j k) }
 {
     let mut made = Vec::new(alloc);
     for line in lines {
@@ -106,7 +107,7 @@ fn forwarded_block(
 {
     table.begin();
     let lines = forwarded_lines(alloc, table, block.lines.as_slice())?;
-    let jump = jump(table, &block.jump);
+    let jump = jump(table, &lines, &block.jump);
     Ok(Block {
         lines: Seq::from_vec(lines),
         jump,
@@ -136,7 +137,7 @@ fn params(alloc: Global, params: &[Destination<u32>]) -> Result<Seq<Destination<
 }
 
 /// The function with operands that are known copies replaced by what they are copies of, and branches on results of comparisons put as branches on the
-/// comparisons, as long as neither side is written, block by block. It takes time and memory as the text is long.
+/// comparisons, as long as neither side is written and the ticks of the block pay for it, block by block. It takes time and memory as the text is long.
 ///
 /// # Errors
 ///

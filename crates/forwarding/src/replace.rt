@@ -1,25 +1,20 @@
 //! Lines and jumps, put by what is known of registers.
-ghost use Rattle.std.specs.Prelude.{◌≡◌, ◌+◌, ◌≤◌, ◌++◌, ℕ, true, false, map, drop, length, OnOk, IfOk, Some, None};
+ghost use Rattle.std.specs.Prelude.{◌≡◌, ◌++◌, ℕ, true, false, map, drop, length, OnOk, IfOk, Some, None};
 ghost use Rattle.std.specs.Option.{option_map};
 ghost use Rattle.vcode.specs.declared.place.Operand.TheVariants.{At};
 ghost use Rattle.vcode.specs.declared.line.Jump.TheVariants.{Branch};
-ghost use Rattle.vcode.specs.Cost.{is_immediate, operand_cost, branch_cost};
+ghost use Rattle.vcode.specs.Cost.{is_immediate};
 ghost use Rattle.forwarding.specs.Table.{facts_of};
-ghost use Rattle.forwarding.specs.Forwarded.{is_short, forward, with_argument, with_line, with_comparison, tested_by, cheaper, with_test, with_branch, with_jump};
+ghost use Rattle.forwarding.specs.Forwarded.{is_short, forward, with_argument, with_line, with_comparison, tested_by, afforded, with_test, with_branch, with_jump};
 
+use crate::cost::{affords, is_immediate};
 use crate::fact::Fact;
 use crate::table::Table;
 use il_ast::list::Seq;
-use il_ast::operation::{Class, Condition};
+use il_ast::operation::Condition;
 use std::alloc::{AllocError, Global};
 use vcode::line::{Comparison, Jump, Line};
 use vcode::place::{Argument, Operand};
-
-fn is_immediate(number: u64) -> bool
-    ensures { result ≡ is_immediate number }
-{
-    number < 2048 || number >= 0xffff_ffff_ffff_f800
-}
 
 fn is_short(operand: &Operand<u32>) -> bool
     ensures { result ≡ is_short operand.now }
@@ -174,65 +169,61 @@ fn tested(table: &Table, on: &Comparison<u32>) -> Option<Comparison<u32>>
     }
 }
 
-fn operand_cost(operand: &Operand<u32>) -> u32
-    ensures cost { result ≡ operand_cost operand.now }
-    ensures few { result ≤ 9 }
-{
-    match operand {
-        Operand::At(_) => 3,
-        Operand::Number(number) => { if is_immediate(*number) { 1 } else { 9 } }
-        Operand::Name(_) => 2,
-    }
-}
-
-// What a branch costs.
-fn cost(on: &Comparison<u32>) -> u32
-    ensures { result ≡ operand_cost on.now.left + operand_cost on.now.right + branch_cost on.now.class }
-{
-    let operands = operand_cost(&on.left) + operand_cost(&on.right);
-    match on.class {
-        Class::W => operands + 7,
-        Class::L => operands + 5,
-    }
-}
-
 fn plain(on: Comparison<u32>, met: usize, otherwise: usize) -> Jump<u32>
     ensures { result ≡ Branch on met otherwise }
 {
     Jump::Branch { on, met, otherwise }
 }
 
-// A branch on the comparison whose result is tested, if that costs no more.
-fn with_test(on: Comparison<u32>, met: usize, otherwise: usize, test: Comparison<u32>) -> Jump<u32>
-    ensures { result ≡ with_test on.condition on met otherwise (Some test) }
+// A jump in place of another, if the lines pay for it.
+fn afforded(lines: &[Line<u32>], old: Jump<u32>, new: Jump<u32>) -> Jump<u32>
+    ensures { result ≡ afforded lines.now old new }
 {
-    if cost(&test) > cost(&on) {
-        return plain(on, met, otherwise);
-    }
-    match on.condition {
-        Condition::NotEqual => plain(test, met, otherwise),
-        Condition::Equal => plain(test, otherwise, met),
-        _ => plain(on, met, otherwise),
+    if affords(lines, &new) { new } else { old }
+}
+
+// A branch on the comparison whose result is tested, if the lines pay for it.
+fn with_test(
+    lines: &[Line<u32>],
+    on: Comparison<u32>,
+    met: usize,
+    otherwise: usize,
+    test: Comparison<u32>,
+) -> Jump<u32>
+    ensures { result ≡ with_test lines.now on.condition on met otherwise (Some test) }
+{
+    let condition = on.condition;
+    let old = plain(on, met, otherwise);
+    match condition {
+        Condition::NotEqual => afforded(lines, old, plain(test, met, otherwise)),
+        Condition::Equal => afforded(lines, old, plain(test, otherwise, met)),
+        _ => old,
     }
 }
 
-fn branch(table: &Table, on: Comparison<u32>, met: usize, otherwise: usize) -> Jump<u32>
-    ensures { result ≡ with_branch (facts_of table.now) on met otherwise }
+fn branch(
+    table: &Table,
+    lines: &[Line<u32>],
+    on: Comparison<u32>,
+    met: usize,
+    otherwise: usize,
+) -> Jump<u32>
+    ensures { result ≡ with_branch lines.now (facts_of table.now) on met otherwise }
 {
     match tested(table, &on) {
-        Some(test) => with_test(on, met, otherwise, test),
+        Some(test) => with_test(lines, on, met, otherwise, test),
         None => plain(on, met, otherwise),
     }
 }
 
-/// The jump with each operand put by what is known; where it tests the result of a comparison it is a branch on that, if that costs no more.
-pub(crate) fn jump(table: &Table, from: &Jump<u32>) -> Jump<u32>
-    ensures { result ≡ with_jump (facts_of table.now) from.now }
+/// The jump after these lines with each operand put by what is known; where it tests the result of a comparison it is a branch on that, if the lines pay for it.
+pub(crate) fn jump(table: &Table, lines: &[Line<u32>], from: &Jump<u32>) -> Jump<u32>
+    ensures { result ≡ with_jump lines.now (facts_of table.now) from.now }
 {
     match from {
         Jump::Goto(block) => Jump::Goto(*block),
         Jump::Branch { on, met, otherwise } => {
-            branch(table, comparison(table, on), *met, *otherwise)
+            branch(table, lines, comparison(table, on), *met, *otherwise)
         }
         Jump::Return(None) => Jump::Return(None),
         Jump::Return(Some(value)) => Jump::Return(Some(operand(table, value))),

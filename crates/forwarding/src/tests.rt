@@ -126,6 +126,93 @@ fn branches(alloc: Global) -> Result<VFunc, AllocError> {
     })
 }
 
+/// Compares its two arguments and branches on the result, and once more after lines that leave too little for the other branch.
+fn compared_arguments(alloc: Global) -> Result<VFunc, AllocError> {
+    let mut params = Seq::new(alloc);
+    params.push(Destination {
+        place: 0,
+        class: Class::L,
+    })?;
+    params.push(Destination {
+        place: 1,
+        class: Class::L,
+    })?;
+    let mut first = Seq::new(alloc);
+    first.push(Line::Tick {
+        turn: true,
+        weight: 1,
+    })?;
+    first.push(Line::Operate {
+        to: 2,
+        operation: Operation::Compare(Condition::SignedLess, Class::L),
+        left: Operand::At(0),
+        right: Operand::At(1),
+    })?;
+    let mut second = Seq::new(alloc);
+    second.push(Line::Tick {
+        turn: true,
+        weight: 1,
+    })?;
+    second.push(Line::Operate {
+        to: 2,
+        operation: Operation::Compare(Condition::SignedLess, Class::L),
+        left: Operand::At(0),
+        right: Operand::At(1),
+    })?;
+    second.push(Line::Set {
+        to: 3,
+        value: Operand::Number(1),
+    })?;
+    second.push(Line::Set {
+        to: 3,
+        value: Operand::Number(2),
+    })?;
+    let mut last = Seq::new(alloc);
+    last.push(Line::Tick {
+        turn: true,
+        weight: 1,
+    })?;
+    let mut blocks = Seq::new(alloc);
+    blocks.push(Block {
+        lines: first,
+        jump: Jump::Branch {
+            on: Comparison {
+                condition: Condition::NotEqual,
+                class: Class::L,
+                left: Operand::At(2),
+                right: Operand::Number(0),
+            },
+            met: 1,
+            otherwise: 2,
+        },
+    })?;
+    blocks.push(Block {
+        lines: second,
+        jump: Jump::Branch {
+            on: Comparison {
+                condition: Condition::NotEqual,
+                class: Class::L,
+                left: Operand::At(2),
+                right: Operand::Number(0),
+            },
+            met: 1,
+            otherwise: 2,
+        },
+    })?;
+    blocks.push(Block {
+        lines: last,
+        jump: Jump::Return(None),
+    })?;
+    Ok(VFunc {
+        code: Code {
+            result: None,
+            params,
+            blocks,
+        },
+        registers: 4,
+    })
+}
+
 /// The jump of a block, or a halt.
 fn jump_of(function: &VFunc, block: usize) -> Jump<u32> {
     match function.code.blocks.as_slice().get(block) {
@@ -176,5 +263,34 @@ fn branches_compare_unless_a_side_is_written(rt: HostRuntime) -> Result<(), Fail
     );
     assert_eq!(rt; jump_of(&made, 1), jump_of(&function, 1));
     assert_eq!(rt; jump_of(&made, 2), Jump::Return(None));
+    Ok(())
+}
+
+#[test]
+fn branches_compare_registers(rt: HostRuntime) -> Result<(), Fail> {
+    let function = compared_arguments(rt.alloc())?;
+    let made = forward(rt.alloc(), &function)?;
+    let on = Comparison {
+        condition: Condition::SignedLess,
+        class: Class::L,
+        left: Operand::At(0),
+        right: Operand::At(1),
+    };
+    assert_eq!(rt;
+        jump_of(&made, 0),
+        Jump::Branch {
+            on,
+            met: 1,
+            otherwise: 2,
+        }
+    );
+    Ok(())
+}
+
+#[test]
+fn branches_stay_where_the_block_cannot_pay(rt: HostRuntime) -> Result<(), Fail> {
+    let function = compared_arguments(rt.alloc())?;
+    let made = forward(rt.alloc(), &function)?;
+    assert_eq!(rt; jump_of(&made, 1), jump_of(&function, 1));
     Ok(())
 }

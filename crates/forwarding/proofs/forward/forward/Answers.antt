@@ -1,9 +1,8 @@
-use Rattle.std.proofs.Common.{◌≡◌, ℕ, true, List, length, refl, sym, ◌∙◌, ap, subst}
-use Rattle.std.specs.Prelude.{IsTrue, nat_le}
+use Rattle.std.proofs.Common.{◌≡◌, ℕ, List, length, refl, ◌∙◌, ap, subst}
+use Rattle.std.specs.Prelude.{nat_le}
 use Rattle.vcode.specs.declared.place.Destination.{Destination}
 use Rattle.vcode.specs.declared.code.Block.{Block}
 use Rattle.vcode.specs.declared.code.Code.{Code}
-use Rattle.vcode.specs.Coded.{coded, virtual_code}
 use Rattle.vcode.specs.Named.{are_low, are_distinct}
 use Rattle.vcode.specs.Places.{virtual}
 use Rattle.forwarding.specs.Forwarded.{AllForwarded}

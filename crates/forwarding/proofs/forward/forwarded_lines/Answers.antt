@@ -1,9 +1,8 @@
-use Rattle.std.proofs.Common.{◌≡◌, ℕ, ◌+◌, List, [], ◌∷◌, ◌++◌, length, drop, sym, ap, ◌∙◌, subst, arith}
+use Rattle.std.proofs.Common.{◌≡◌, ℕ, List, [], ◌∷◌, ◌++◌, length, drop, sym, ap, ◌∙◌, subst, arith}
 use Rattle.std.proofs.lemmas.List.{drop_all}
 use Rattle.vcode.specs.declared.line.Line.{Line}
-use Rattle.vcode.specs.declared.line.Jump.{Jump}
 use Rattle.forwarding.specs.Table.{facts_of}
-use Rattle.forwarding.specs.Forwarded.{AreForwarded, with_line, forward, After}
+use Rattle.forwarding.specs.Forwarded.{AreForwarded}
 use Rattle.forwarding.proofs.Making.{lines_on, append_one, append_none}
 use Rattle.forwarding.proofs.forward.forwarded_lines.Goals as goal
 
@@ -15,17 +14,17 @@ loop-line-preserved c =
     record {
       table = c.pass.ensures.table;
       count = c.pass.ensures.count ∙ c.loop-line.invariant.count;
-      made = λ rest j k h.
-          subst (λ (xs : List (Line ℕ)). AreForwarded n (facts_of c.args.table.now) c.args.lines.now xs j k)
+      made = λ rest whole j k h.
+          subst (λ (xs : List (Line ℕ)). AreForwarded n whole (facts_of c.args.table.now) c.args.lines.now xs j k)
           (sym (ap (λ (xs : List (Line ℕ)). xs ++ rest) c.in_ok-push.ensures.items ∙ append_one c.loop-line.made.items c.in_ok-put.put rest))
-          (c.loop-line.invariant.made (c.in_ok-put.put ∷ rest) j k
-          (lines_on n t u c.args.lines.now c.loop-line.line-index c.line-item.result c.in_ok-put.put rest j k c.loop-line-test.true c.line-item.is c.loop-line.invariant.count c.in_ok-put.ensures
+          (c.loop-line.invariant.made (c.in_ok-put.put ∷ rest) whole j k
+          (lines_on n whole t u c.args.lines.now c.loop-line.line-index c.line-item.result c.in_ok-put.put rest j k c.loop-line-test.true c.line-item.is c.loop-line.invariant.count c.in_ok-put.ensures
           c.pass.ensures.after h));
     }
 
 pub returns-clause-lines : goal.returns-clause-lines
-returns-clause-lines c = λ j k h.
+returns-clause-lines c = λ whole j k h.
     let n = length c.args.table.now.written.items in
     let none : drop c.loop-line.line-index c.args.lines.now ≡ [] = drop_all c.loop-line.line-index c.args.lines.now (let past = c.loop-line-test.false in omega arith) in
-    subst (λ (xs : List (Line ℕ)). AreForwarded n (facts_of c.args.table.now) c.args.lines.now xs j k) (append_none c.loop-line.made.items)
-    (c.loop-line.invariant.made [] j k (subst (λ (xs : List (Line ℕ)). AreForwarded n (facts_of c.loop-line.table) xs [] j k) (sym none) h))
+    subst (λ (xs : List (Line ℕ)). AreForwarded n whole (facts_of c.args.table.now) c.args.lines.now xs j k) (append_none c.loop-line.made.items)
+    (c.loop-line.invariant.made [] whole j k (subst (λ (xs : List (Line ℕ)). AreForwarded n whole (facts_of c.loop-line.table) xs [] j k) (sym none) h))

@@ -11,6 +11,6 @@ invariant-loop-line l =
       table : IsTable l.table;
       count : length l.table.written.items ≡ length l.fn.table.written.items;
       made :
-          (rest : List (Line ℕ)) (j k : Jump ℕ) → AreForwarded (length l.fn.table.written.items) (facts_of l.table) (drop l.line-index l.lines) rest j k
-          → AreForwarded (length l.fn.table.written.items) (facts_of l.fn.table) l.fn.lines (l.made.items ++ rest) j k;
+          (rest whole : List (Line ℕ)) (j k : Jump ℕ) → AreForwarded (length l.fn.table.written.items) whole (facts_of l.table) (drop l.line-index l.lines) rest j k
+          → AreForwarded (length l.fn.table.written.items) whole (facts_of l.fn.table) l.fn.lines (l.made.items ++ rest) j k;
     }

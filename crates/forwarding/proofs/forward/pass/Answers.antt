@@ -1,10 +1,9 @@
-use Rattle.std.proofs.Common.{◌≡◌, ◌∙◌, ℕ, nat_eq, if◌then◌else◌, None, Some, Option, sym, ap, subst}
+use Rattle.std.proofs.Common.{◌∙◌, ℕ, nat_eq, if◌then◌else◌, None, Some, Option, sym, ap, subst}
 use Rattle.vcode.specs.declared.line.Line.{Line}
-use Rattle.vcode.specs.declared.line.Line.TheVariants.{Operate}
 use Rattle.forwarding.specs.declared.fact.Fact.{Fact}
 use Rattle.forwarding.specs.declared.fact.Fact.TheVariants.{Same}
 use Rattle.forwarding.specs.Table.{facts_of}
-use Rattle.forwarding.specs.Forwarded.{After, fact_of}
+use Rattle.forwarding.specs.Forwarded.{After}
 use Rattle.forwarding.proofs.Making.{after_write, after_both, after_change}
 use Rattle.forwarding.proofs.forward.pass.Goals as goal
 

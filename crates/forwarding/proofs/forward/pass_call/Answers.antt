@@ -1,4 +1,4 @@
-use Rattle.std.proofs.Common.{◌≡◌, ℕ, None, Option, sym, subst}
+use Rattle.std.proofs.Common.{ℕ, None, Option, sym, subst}
 use Rattle.vcode.specs.declared.place.Destination.{Destination}
 use Rattle.vcode.specs.declared.line.Line.TheVariants.{Call}
 use Rattle.forwarding.specs.Table.{facts_of}

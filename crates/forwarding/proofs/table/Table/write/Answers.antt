@@ -1,4 +1,4 @@
-use Rattle.std.proofs.Common.{◌≡◌, ℕ, ◌+◌, ◌<◌, refl, arith, ap, ◌∙◌}
+use Rattle.std.proofs.Common.{◌+◌, refl, arith}
 use Rattle.forwarding.specs.declared.table.Table.{Table}
 use Rattle.forwarding.proofs.Writing.{Wrote, left_written, table_written}
 use Rattle.forwarding.proofs.table.Table.write.Goals as goal

@@ -1,0 +1,109 @@
+//! Whether the lines of a block pay for its jump.
+ghost use Rattle.std.specs.Prelude.{◌≡◌, ◌≤◌, ◌+◌, ◌<◌, ◌^◌, IfSome};
+ghost use Rattle.vcode.specs.Cost.{is_immediate, operand_cost, operation_cost, branch_cost, line_cost, jump_cost, affords};
+ghost use Rattle.forwarding.specs.Cost.{spent};
+
+use il_ast::operation::Class;
+use vcode::line::{Jump, Line, Operation};
+use vcode::place::Operand;
+
+/// Whether one immediate of 12 bits gives the number.
+pub(crate) fn is_immediate(number: u64) -> bool
+    ensures { result ≡ is_immediate number }
+{
+    number < 2048 || number >= 0xffff_ffff_ffff_f800
+}
+
+fn operand_cost(operand: &Operand<u32>) -> u128
+    ensures cost { result ≡ operand_cost operand.now }
+    ensures small { result ≤ 9 }
+{
+    match operand {
+        Operand::At(_) => 3,
+        Operand::Number(number) => { if is_immediate(*number) { 1 } else { 9 } }
+        Operand::Name(_) => 2,
+    }
+}
+
+fn operation_cost(operation: Operation) -> u128
+    ensures cost { result ≡ operation_cost operation }
+    ensures small { result ≤ 6 }
+{
+    match operation {
+        Operation::Reg(_) => 1,
+        Operation::RegW(_) => 1,
+        Operation::Compare(_, _) => 6,
+    }
+}
+
+fn line_cost(line: &Line<u32>) -> u128
+    ensures { result ≡ line_cost line.now }
+{
+    match line {
+        Line::Tick { .. } => 0,
+        Line::Set { value, .. } => operand_cost(value) + 3,
+        Line::Operate {
+            operation,
+            left,
+            right,
+            ..
+        } => operand_cost(left) + operand_cost(right) + operation_cost(*operation) + 3,
+        Line::Load { at, .. } => operand_cost(at) + 4,
+        Line::Store { value, at, .. } => operand_cost(value) + operand_cost(at) + 1,
+        Line::Alloc { .. } => 6,
+        Line::Blit { from, to, count } => {
+            operand_cost(from) + operand_cost(to) + 8 * ((u128::from(*count) + 7) / 8)
+        }
+        Line::Call { args, .. } => 20 + 24 * (args.len() as u128),
+    }
+}
+
+fn branch_cost(class: Class) -> u128
+    ensures cost { result ≡ branch_cost class }
+    ensures small { result ≤ 9 }
+{
+    match class {
+        Class::W => 7,
+        Class::L => 5,
+    }
+}
+
+fn jump_cost(jump: &Jump<u32>) -> u128
+    ensures { result ≡ jump_cost jump.now }
+{
+    match jump {
+        Jump::Goto(_) => 2,
+        Jump::Branch { on, .. } => {
+            operand_cost(&on.left) + operand_cost(&on.right) + branch_cost(on.class)
+        }
+        Jump::Return(None) => 2,
+        Jump::Return(Some(value)) => operand_cost(value) + 3,
+        Jump::Halt => 1,
+    }
+}
+
+// What is left of a credit after a line, if it affords that. A unit of weight pays for 32 instructions.
+fn spend(credit: u128, line: &Line<u32>) -> Option<u128>
+    requires { credit + 2 ^ 37 < 2 ^ 128 }
+    ensures spent { result ≡ spent credit line.now }
+    ensures small { IfSome result (λ left. left ≤ credit + 2 ^ 37) }
+{
+    match line {
+        Line::Tick { weight, .. } => Some(credit + 32 * u128::from(*weight)),
+        _ => credit.checked_sub(line_cost(line)),
+    }
+}
+
+/// Whether the lines pay for themselves, each by the ticks before it, and then for the jump.
+pub(crate) fn affords(lines: &[Line<u32>], jump: &Jump<u32>) -> bool
+    ensures { result ≡ affords 0 jump.now lines.now }
+{
+    let mut credit = 0u128;
+    for line in lines {
+        match spend(credit, line) {
+            Some(left) => credit = left,
+            None => return false,
+        }
+    }
+    jump_cost(jump) <= credit
+}
