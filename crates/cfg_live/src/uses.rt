@@ -64,7 +64,7 @@ pub(crate) fn line_reads(alloc: Global, line: &Line<u32>) -> Result<Seq<u32>, Al
 }
 
 /// The register that a line writes.
-pub(crate) fn line_writes(line: &Line<u32>) -> Option<u32>
+pub fn line_writes(line: &Line<u32>) -> Option<u32>
     ensures { result ≡ line_writes line.now }
 {
     match line {

@@ -26,8 +26,8 @@ use Rattle.vcode.specs.Places.{virtual}
 use Rattle.vcode.specs.Regular.{is_target, leads_inside, is_alloc, allocs_first, alloc_bytes, area, turns_of, passes_few, weight_of, code_weight, IsRegular}
 use Rattle.forwarding.specs.declared.fact.Fact.{Fact}
 use Rattle.forwarding.specs.declared.fact.Fact.TheVariants.{Same, Test}
-use Rattle.forwarding.specs.Facts.{Facts, operand_below, fact_below, AreBelow}
-use Rattle.forwarding.specs.Forwarded.{is_short, copied, forward, Replacing, with_argument, with_line, with_comparison, test_of, tested_by, with_test, with_jump, AreForwarded, IsForwarded, AllForwarded}
+use Rattle.forwarding.specs.Facts.{Facts, operand_below, fact_below, kept_if, AreBelow}
+use Rattle.forwarding.specs.Forwarded.{is_short, copied, forward, Replacing, with_argument, with_line, with_comparison, test_of, tested_by, with_test, with_jump, writes_it, fact_of, leaves, after, AreForwarded, IsForwarded, AllForwarded}
 use Rattle.forwarding.proofs.Writing.{both_true}
 use Rattle.forwarding.proofs.Running.{runs}
 
@@ -217,7 +217,7 @@ lines_paid n whole fs [] [] j k next f low credit more le h = grind (arith, nat_
 lines_paid n whole fs [] (m ∷ new) j k next f low credit more le h = absurd f
 lines_paid n whole fs (l ∷ lines) [] j k next f low credit more le h = absurd f
 lines_paid n whole fs (l ∷ lines) (m ∷ new) j k next f low credit more le h =
-    ap (λ (x : Line ℕ). affords more next (x ∷ new)) f.1.0 ∙ line_paid fs l credit more j next lines new le (lines_paid n whole f.1.1.0 lines new j k next f.1.1.1.1 low) h
+    ap (λ (x : Line ℕ). affords more next (x ∷ new)) f.0 ∙ line_paid fs l credit more j next lines new le (lines_paid n whole (after n m fs) lines new j k next f.1 low) h
 
 -- lines that pay for every jump that costs no more pay for the one that is made of it
 jump_paid : (lines : List (Line ℕ)) (fs : Facts) (j : Jump ℕ) → ((k : Jump ℕ) → jump_cost k ≤ jump_cost j → affords 0 k lines ≡ true) → affords 0 (with_jump lines fs j) lines ≡ true
@@ -234,16 +234,16 @@ jump_paid lines fs Halt h = h Halt (omega arith)
 
 -- what is known after all lines, and the jump that it makes
 jump_made : (n : ℕ) (whole : List (Line ℕ)) (fs : Facts) (lines new : List (Line ℕ)) (j k : Jump ℕ) → AreForwarded n whole fs lines new j k → (gs : Facts) × (k ≡ with_jump whole gs j)
-jump_made n whole fs [] [] j k f = (fs, f.1)
+jump_made n whole fs [] [] j k f = (fs, f)
 jump_made n whole fs [] (m ∷ new) j k f = absurd f
 jump_made n whole fs (l ∷ lines) [] j k f = absurd f
-jump_made n whole fs (l ∷ lines) (m ∷ new) j k f = jump_made n whole f.1.1.0 lines new j k f.1.1.1.1
+jump_made n whole fs (l ∷ lines) (m ∷ new) j k f = jump_made n whole (after n m fs) lines new j k f.1
 
 block_paid : (n : ℕ) (b c : Block ℕ) → IsForwarded n b c → is_paid b ≡ true → is_paid c ≡ true
 block_paid n b c f paid =
-    let made = jump_made n c.lines f.facts b.lines c.lines b.jump c.jump f.lines in
+    let made = jump_made n c.lines (λ r. None) b.lines c.lines b.jump c.jump f in
     ap (λ (k : Jump ℕ). affords 0 k c.lines) made.1
-    ∙ jump_paid c.lines made.0 b.jump (λ k low. lines_paid n c.lines f.facts b.lines c.lines b.jump c.jump k f.lines low 0 0 (omega arith) paid)
+    ∙ jump_paid c.lines made.0 b.jump (λ k low. lines_paid n c.lines (λ r. None) b.lines c.lines b.jump c.jump k f low 0 0 (omega arith) paid)
 
 -- ---- measures of lines that stay
 
@@ -324,7 +324,7 @@ alike : (n : ℕ) (whole : List (Line ℕ)) (fs : Facts) (lines new : List (Line
 alike n whole fs [] [] j k f = tt
 alike n whole fs [] (m ∷ new) j k f = absurd f
 alike n whole fs (l ∷ lines) [] j k f = absurd f
-alike n whole fs (l ∷ lines) (m ∷ new) j k f = ((forward fs, f.1.0), alike n whole f.1.1.0 lines new j k f.1.1.1.1)
+alike n whole fs (l ∷ lines) (m ∷ new) j k f = ((forward fs, f.0), alike n whole (after n m fs) lines new j k f.1)
 
 sum_from : (g : Line ℕ → ℕ) → Stays g → (lines new : List (Line ℕ)) → Alike lines new → (a : ℕ) → fold (λ n l. n + g l) a new ≡ fold (λ n l. n + g l) a lines
 sum_from g same [] [] h a = refl
@@ -354,29 +354,43 @@ most_same [] (m ∷ new) h = absurd h
 most_same (l ∷ lines) [] h = absurd h
 most_same (l ∷ lines) (m ∷ new) h = ap (λ n. max n (most_in_lines new)) (ap args_on_stack h.0.1 ∙ passed_stays h.0.0 l) ∙ ap (λ n. max (args_on_stack l) n) (most_same lines new h.1)
 
-lines_low : (n : ℕ) (whole : List (Line ℕ)) (fs : Facts) (lines new : List (Line ℕ)) (j k : Jump ℕ) → AreForwarded n whole fs lines new j k → (list_all (line_keeps (is_below n)) lines && jump_keeps (is_below n) j) ≡ true
+kept_below : (n : ℕ) (b : Bool) (test : Fact → Bool) (o : Option Fact) (f : Fact) → kept_if (λ g. b && (fact_below n g && test g)) o ≡ Some f → fact_below n f ≡ true
+kept_below n b test None f h = absurd (let no : ⊥ = cc in no)
+kept_below n b test (Some g) f h = by (b && (fact_below n g && test g)) refl h
+  where
+    by : (c : Bool) → (b && (fact_below n g && test g)) ≡ c → (if c then Some g else None) ≡ Some f → fact_below n f ≡ true
+    by true e k =
+        let same : g ≡ f = cc in
+        ap (fact_below n) (sym same) ∙ (both_true (fact_below n g) (test g) (both_true b (fact_below n g && test g) e).1).0
+    by false e k = absurd (let no : ⊥ = cc in no)
+
+after_below : (n : ℕ) (l : Line ℕ) (fs : Facts) → AreBelow n (after n l fs)
+after_below n l fs r f h = kept_below n (nat_lt r n) (leaves l) (if writes_it l r then fact_of l else fs r) f h
+
+lines_low : (n : ℕ) (whole : List (Line ℕ)) (fs : Facts) (lines new : List (Line ℕ)) (j k : Jump ℕ) → AreForwarded n whole fs lines new j k → AreBelow n fs
+    → (list_all (line_keeps (is_below n)) lines && jump_keeps (is_below n) j) ≡ true
     → (list_all (line_keeps (is_below n)) new && jump_keeps (is_below n) k) ≡ true
-lines_low n whole fs [] [] j k f h = ap (jump_keeps (is_below n)) f.1 ∙ jump_low whole n fs f.0 j h
-lines_low n whole fs [] (m ∷ new) j k f h = absurd f
-lines_low n whole fs (l ∷ lines) [] j k f h = absurd f
-lines_low n whole fs (l ∷ lines) (m ∷ new) j k f h =
+lines_low n whole fs [] [] j k f below h = ap (jump_keeps (is_below n)) f ∙ jump_low whole n fs below j h
+lines_low n whole fs [] (m ∷ new) j k f below h = absurd f
+lines_low n whole fs (l ∷ lines) [] j k f below h = absurd f
+lines_low n whole fs (l ∷ lines) (m ∷ new) j k f below h =
     let s = both_true (line_keeps (is_below n) l && list_all (line_keeps (is_below n)) lines) (jump_keeps (is_below n) j) h in
     let t = both_true (line_keeps (is_below n) l) (list_all (line_keeps (is_below n)) lines) s.0 in
-    let rest = lines_low n whole f.1.1.0 lines new j k f.1.1.1.1 (both_are (list_all (line_keeps (is_below n)) lines) (jump_keeps (is_below n) j) t.1 s.1) in
+    let rest = lines_low n whole (after n m fs) lines new j k f.1 (after_below n m fs) (both_are (list_all (line_keeps (is_below n)) lines) (jump_keeps (is_below n) j) t.1 s.1) in
     let u = both_true (list_all (line_keeps (is_below n)) new) (jump_keeps (is_below n) k) rest in
     both_are (line_keeps (is_below n) m && list_all (line_keeps (is_below n)) new) (jump_keeps (is_below n) k)
-    (both_are (line_keeps (is_below n) m) (list_all (line_keeps (is_below n)) new) (ap (line_keeps (is_below n)) f.1.0 ∙ line_low n fs f.0 l t.0) u.0) u.1
+    (both_are (line_keeps (is_below n) m) (list_all (line_keeps (is_below n)) new) (ap (line_keeps (is_below n)) f.0 ∙ line_low n fs below l t.0) u.0) u.1
 
 inside_from : (n size : ℕ) (whole : List (Line ℕ)) (fs : Facts) (lines new : List (Line ℕ)) (j k : Jump ℕ) → AreForwarded n whole fs lines new j k → leads_inside size j ≡ true → leads_inside size k ≡ true
-inside_from n size whole fs [] [] j k f h = ap (leads_inside size) f.1 ∙ jump_inside whole n size fs j h
+inside_from n size whole fs [] [] j k f h = ap (leads_inside size) f ∙ jump_inside whole n size fs j h
 inside_from n size whole fs [] (m ∷ new) j k f h = absurd f
 inside_from n size whole fs (l ∷ lines) [] j k f h = absurd f
-inside_from n size whole fs (l ∷ lines) (m ∷ new) j k f h = inside_from n size whole f.1.1.0 lines new j k f.1.1.1.1 h
+inside_from n size whole fs (l ∷ lines) (m ∷ new) j k f h = inside_from n size whole (after n m fs) lines new j k f.1 h
 
 -- ---- blocks side by side
 
 block_alike : (n : ℕ) (b c : Block ℕ) → IsForwarded n b c → Alike b.lines c.lines
-block_alike n b c f = alike n c.lines f.facts b.lines c.lines b.jump c.jump f.lines
+block_alike n b c f = alike n c.lines (λ r. None) b.lines c.lines b.jump c.jump f
 
 blocks_count : (n : ℕ) (blocks new : List (Block ℕ)) → AllForwarded n blocks new → length new ≡ length blocks
 blocks_count n [] [] h = refl
@@ -427,7 +441,7 @@ places_kept n v w all same h =
     let s = both_true (list_all (λ (d : Destination ℕ). is_below n d.place) v.params) (list_all (block_keeps (is_below n)) v.blocks) h in
     both_are (list_all (λ (d : Destination ℕ). is_below n d.place) w.params) (list_all (block_keeps (is_below n)) w.blocks)
     (ap (list_all (λ (d : Destination ℕ). is_below n d.place)) same ∙ s.0)
-    (blocks_all (block_keeps (is_below n)) n (λ b c f e. lines_low n c.lines f.facts b.lines c.lines b.jump c.jump f.lines e) v.blocks w.blocks all s.1)
+    (blocks_all (block_keeps (is_below n)) n (λ b c f e. lines_low n c.lines (λ r. None) b.lines c.lines b.jump c.jump f (λ r g h. absurd (let no : ⊥ = cc in no)) e) v.blocks w.blocks all s.1)
 
 pub regular : (n : ℕ) (v w : Code ℕ) → AllForwarded n v.blocks w.blocks → w.params ≡ v.params → IsRegular v → IsRegular w
 regular n v w all same is =
@@ -435,7 +449,7 @@ regular n v w all same is =
       few_params = ap (λ (ps : List (Destination ℕ)). nat_le (length ps) 64) same ∙ is.few_params;
       inside =
           ap (λ m. list_all (λ (b : Block ℕ). leads_inside m b.jump) w.blocks) (blocks_count n v.blocks w.blocks all)
-          ∙ blocks_all (λ (b : Block ℕ). leads_inside (length v.blocks) b.jump) n (λ b c f e. inside_from n (length v.blocks) c.lines f.facts b.lines c.lines b.jump c.jump f.lines e) v.blocks w.blocks all is.inside;
+          ∙ blocks_all (λ (b : Block ℕ). leads_inside (length v.blocks) b.jump) n (λ b c f e. inside_from n (length v.blocks) c.lines (λ r. None) b.lines c.lines b.jump c.jump f e) v.blocks w.blocks all is.inside;
       first = first_kept n v.blocks w.blocks all is.first;
       small = ap (λ m. nat_le m 1048576) (area_same n v w all) ∙ is.small;
       paid = blocks_all is_paid n (block_paid n) v.blocks w.blocks all is.paid;

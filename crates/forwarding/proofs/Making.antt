@@ -1,54 +1,111 @@
 -- What is known goes on from line to line, and lines and blocks are made one after another.
-use Rattle.std.proofs.Common.{◌≡◌, ℕ, ◌+◌, ◌<◌, Bool, true, false, nat_eq, if◌then◌else◌, List, [], ◌∷◌, ◌++◌, length, get_or, drop, zero, suc, Option, Some, None, refl, sym, ◌∙◌, ap, subst, arith}
+use Rattle.std.proofs.Common.{◌≡◌, ℕ, ◌+◌, ◌<◌, Bool, true, false, not, ◌&&◌, nat_eq, nat_lt, if◌then◌else◌, List, [], ◌∷◌, ◌++◌, length, get_or, drop, zero, suc, Option, Some, None, refl, sym, ◌∙◌, ap, subst, arith}
+use Rattle.std.specs.Option.{option_map_or}
+use Rattle.std.proofs.Math.Path.{fun_ext}
 use Rattle.std.proofs.lemmas.Bool.Decides.{nat_tests}
 use Rattle.vcode.specs.declared.line.Line.{Line}
 use Rattle.vcode.specs.declared.line.Jump.{Jump}
 use Rattle.vcode.specs.declared.code.Block.{Block}
+use Rattle.vcode.specs.declared.line.Line.TheVariants.{Tick, Set, Operate, Load, Store, Alloc, Blit, Call}
+use Rattle.cfg_live.specs.Registers.{line_writes}
 use Rattle.forwarding.specs.declared.fact.Fact.{Fact}
 use Rattle.forwarding.specs.declared.table.Table.{Table}
-use Rattle.forwarding.specs.Facts.{Facts, fact_names, asks_memory, fact_below, AreBelow}
-use Rattle.forwarding.specs.Table.{facts_of, Left}
-use Rattle.forwarding.specs.Forwarded.{forward, with_line, After, AreForwarded, IsForwarded, AllForwarded}
-use Rattle.forwarding.proofs.Writing.{known_below}
+use Rattle.forwarding.specs.Facts.{Facts, fact_names, asks_memory, fact_below, kept_if}
+use Rattle.forwarding.specs.Table.{facts_of, changed, over}
+use Rattle.forwarding.specs.Forwarded.{forward, with_line, changes_memory, fact_of, after, AreForwarded, IsForwarded, AllForwarded}
 
 -- ---- what is known after a line
-
-abbrev AllLeft : ℕ → Option Fact → Facts → Facts → Type 0
-AllLeft to known old new = (q : ℕ) (f : Fact) → new q ≡ Some f → Left to known old q f
-
-abbrev NoneAsk : Facts → Facts → Type 0
-NoneAsk old new = (q : ℕ) (f : Fact) → new q ≡ Some f → (asks_memory f ≡ false) × (old q ≡ Some f)
 
 turned : (a b : ℕ) → nat_eq a b ≡ nat_eq b a
 turned a b = grind (arith, nat_tests)
 
-unnamed : (to : ℕ) (f : Fact) → fact_names f to ≡ false → (k : ℕ) → nat_eq to k ≡ true → fact_names f k ≡ false
-unnamed to f h k e = let same : to ≡ k = grind (arith, nat_tests) in ap (fact_names f) (sym same) ∙ h
-
-pub after_write : (to : ℕ) (known : Option Fact) (old new : Facts) → AllLeft to known old new → (r : ℕ) (f : Fact) → new r ≡ Some f
-    → ((k : ℕ) → nat_eq to k ≡ true → fact_names f k ≡ false) × (((if nat_eq to r then known else old r) ≡ Some f) × (nat_eq to r ≡ false → false ≡ true → asks_memory f ≡ false))
-after_write to known old new left r f h =
-    let s = left r f h in
-    (unnamed to f s.0, (ap (λ b. if b then known else old r) (turned to r) ∙ s.1, λ e no. cc))
-
-pub after_both : (to : ℕ) (old mid new : Facts) → NoneAsk old mid → AllLeft to None mid new → (r : ℕ) (f : Fact) → new r ≡ Some f
-    → ((k : ℕ) → nat_eq to k ≡ true → fact_names f k ≡ false) × (((if nat_eq to r then None else old r) ≡ Some f) × (nat_eq to r ≡ false → true ≡ true → asks_memory f ≡ false))
-after_both to old mid new none left r f h =
-    let s = left r f h in
-    let at : (if nat_eq to r then None else mid r) ≡ Some f = ap (λ b. if b then None else mid r) (turned to r) ∙ s.1 in
-    (unnamed to f s.0, (by (nat_eq to r) at, λ e same. of (nat_eq to r) at))
+-- what a line does that writes register r
+after_some : (n r : ℕ) (memory : Bool) (known : Option Fact) (fs : Facts) → ((f : Fact) → known ≡ Some f → (memory && asks_memory f) ≡ false) → (q : ℕ)
+    → kept_if (λ f. nat_lt q n && (fact_below n f && (not (fact_names f r) && not (memory && asks_memory f)))) (if nat_eq r q then known else fs q) ≡ over n r known (changed memory fs) q
+after_some n r memory known fs asks q = by (nat_eq r q) (nat_eq q r) (turned r q)
   where
-    by : (b : Bool) → (if b then None else mid r) ≡ Some f → (if b then None else old r) ≡ Some f
-    by true e = e
-    by false e = (none r f e).1
+    test : Fact → Bool
+    test f = nat_lt q n && (fact_below n f && (not (fact_names f r) && not (memory && asks_memory f)))
 
-    of : (b : Bool) → (if b then None else mid r) ≡ Some f → asks_memory f ≡ false
-    of true e = cc
-    of false e = (none r f e).0
+    less : Fact → Bool
+    less f = nat_lt q n && (fact_below n f && not (fact_names f r))
 
-pub after_change : (old new : Facts) (known : Option Fact) → NoneAsk old new → (r : ℕ) (f : Fact) → new r ≡ Some f
-    → ((k : ℕ) → false ≡ true → fact_names f k ≡ false) × (((if false then known else old r) ≡ Some f) × (false ≡ false → true ≡ true → asks_memory f ≡ false))
-after_change old new known none r f h = (λ k no. cc, ((none r f h).1, λ e same. (none r f h).0))
+    all : (a b c d : Bool) → d ≡ false → (a && (b && (c && not d))) ≡ (a && (b && c))
+    all true true true d h = ap not h
+    all true true false d h = refl
+    all true false c d h = refl
+    all false b c d h = refl
+
+    one : (o : Option Fact) → ((f : Fact) → o ≡ Some f → (memory && asks_memory f) ≡ false) → kept_if test o ≡ kept_if less o
+    one None h = refl
+    one (Some f) h = ap (λ b. if b then Some f else None) (all (nat_lt q n) (fact_below n f) (not (fact_names f r)) (memory && asks_memory f) (h f refl))
+
+    off : (a b c : Bool) → (a && (b && (c && false))) ≡ false
+    off true true true = refl
+    off true true false = refl
+    off true false c = refl
+    off false b c = refl
+
+    on : (a b c : Bool) → (a && (b && (c && true))) ≡ (a && (b && c))
+    on true true true = refl
+    on true true false = refl
+    on true false c = refl
+    on false b c = refl
+
+    old_one : (f : Fact) (d : Bool) → d ≡ not (memory && asks_memory f) → (if test f then Some f else None) ≡ kept_if less (if d then Some f else None)
+    old_one f true e =
+        ap (λ b. if b then Some f else None) (ap (λ d. nat_lt q n && (fact_below n f && (not (fact_names f r) && d))) (sym e) ∙ on (nat_lt q n) (fact_below n f) (not (fact_names f r)))
+    old_one f false e =
+        ap (λ b. if b then Some f else None) (ap (λ d. nat_lt q n && (fact_below n f && (not (fact_names f r) && d))) (sym e) ∙ off (nat_lt q n) (fact_below n f) (not (fact_names f r)))
+
+    old : (o : Option Fact) → kept_if test o ≡ kept_if less (kept_if (λ f. not (memory && asks_memory f)) o)
+    old None = refl
+    old (Some f) = old_one f (not (memory && asks_memory f)) refl
+
+    by : (a b : Bool) → a ≡ b → kept_if test (if a then known else fs q) ≡ kept_if less (if b then known else changed memory fs q)
+    by true true e = one known asks
+    by false false e = old (fs q)
+    by true false e = cc
+    by false true e = cc
+
+-- what a line does that writes none
+after_none : (n : ℕ) (memory : Bool) (fs : Facts) → ((r : ℕ) (f : Fact) → fs r ≡ Some f → (nat_lt r n && fact_below n f) ≡ true) → (q : ℕ)
+    → kept_if (λ f. nat_lt q n && (fact_below n f && (not false && not (memory && asks_memory f)))) (fs q) ≡ changed memory fs q
+after_none n memory fs low q = by (fs q) (low q)
+  where
+    both : (a b c : Bool) → (a && b) ≡ true → (a && (b && (true && c))) ≡ c
+    both true true c h = refl
+    both true false c h = cc
+    both false b c h = cc
+
+    by : (o : Option Fact) → ((f : Fact) → o ≡ Some f → (nat_lt q n && fact_below n f) ≡ true)
+        → kept_if (λ f. nat_lt q n && (fact_below n f && (not false && not (memory && asks_memory f)))) o ≡ kept_if (λ f. not (memory && asks_memory f)) o
+    by None h = refl
+    by (Some f) h = ap (λ b. if b then Some f else None) (both (nat_lt q n) (fact_below n f) (not (memory && asks_memory f)) (h f refl))
+
+-- a line that makes something known changes no memory
+unasked : (l : Line ℕ) (f : Fact) → fact_of l ≡ Some f → (changes_memory l && asks_memory f) ≡ false
+unasked (Tick turn w) f h = refl
+unasked (Set to a) f h = refl
+unasked (Operate to op a b) f h = refl
+unasked (Load to op at) f h = refl
+unasked (Store size a at) f h = absurd (let no : ⊥ = cc in no)
+unasked (Alloc to size) f h = absurd (let no : ⊥ = cc in no)
+unasked (Blit from to count) f h = absurd (let no : ⊥ = cc in no)
+unasked (Call to callee args) f h = absurd (let no : ⊥ = cc in no)
+
+pub after_write : (n : ℕ) (l : Line ℕ) (r : ℕ) (fs : Facts) → line_writes l ≡ Some r → (q : ℕ) → after n l fs q ≡ over n r (fact_of l) (changed (changes_memory l) fs) q
+after_write n l r fs writes q =
+    ap (λ (o : Option ℕ). kept_if (λ f. nat_lt q n && (fact_below n f && (not (option_map_or (fact_names f) o false) && not (changes_memory l && asks_memory f))))
+    (if option_map_or (λ k. nat_eq k q) o false then fact_of l else fs q)) writes
+    ∙ after_some n r (changes_memory l) (fact_of l) fs (unasked l) q
+
+pub after_nothing : (n : ℕ) (l : Line ℕ) (fs : Facts) → line_writes l ≡ None → ((r : ℕ) (f : Fact) → fs r ≡ Some f → (nat_lt r n && fact_below n f) ≡ true) → (q : ℕ)
+    → after n l fs q ≡ changed (changes_memory l) fs q
+after_nothing n l fs writes low q =
+    ap (λ (o : Option ℕ). kept_if (λ f. nat_lt q n && (fact_below n f && (not (option_map_or (fact_names f) o false) && not (changes_memory l && asks_memory f))))
+    (if option_map_or (λ k. nat_eq k q) o false then fact_of l else fs q)) writes
+    ∙ after_none n (changes_memory l) fs low q
 
 -- ---- lines
 
@@ -65,13 +122,12 @@ pub append_none : {X : Type 0} (xs : List X) → xs ++ [] ≡ xs
 append_none [] = refl
 append_none (x ∷ xs) = ap (λ zs. x ∷ zs) (append_none xs)
 
-pub below_of : (n : ℕ) (t : Table) → length t.written.items ≡ n → AreBelow n (facts_of t)
-below_of n t e r f h = ap (λ m. fact_below m f) (sym e) ∙ known_below t r f h
-
-pub lines_on : (n : ℕ) (whole : List (Line ℕ)) (t u : Table) (lines : List (Line ℕ)) (i : ℕ) (l m : Line ℕ) (rest : List (Line ℕ)) (j k : Jump ℕ) → i < length lines → l ≡ get_or lines i l → length t.written.items ≡ n
-    → m ≡ with_line (forward (facts_of t)) l → After m (facts_of t) (facts_of u) → AreForwarded n whole (facts_of u) (drop (i + 1) lines) rest j k → AreForwarded n whole (facts_of t) (drop i lines) (m ∷ rest) j k
-lines_on n whole t u lines i l m rest j k low at count is after h =
-    subst (λ (xs : List (Line ℕ)). AreForwarded n whole (facts_of t) xs (m ∷ rest) j k) (sym (item_next lines i l low at)) (below_of n t count, (is, (facts_of u, (after, h))))
+pub lines_on : (n : ℕ) (whole : List (Line ℕ)) (t u : Table) (lines : List (Line ℕ)) (i : ℕ) (l m : Line ℕ) (rest : List (Line ℕ)) (j k : Jump ℕ) → i < length lines → l ≡ get_or lines i l
+    → m ≡ with_line (forward (facts_of t)) l → ((q : ℕ) → facts_of u q ≡ after n m (facts_of t) q) → AreForwarded n whole (facts_of u) (drop (i + 1) lines) rest j k
+    → AreForwarded n whole (facts_of t) (drop i lines) (m ∷ rest) j k
+lines_on n whole t u lines i l m rest j k low at is known h =
+    subst (λ (xs : List (Line ℕ)). AreForwarded n whole (facts_of t) xs (m ∷ rest) j k) (sym (item_next lines i l low at))
+    (is, subst (λ (fs : Facts). AreForwarded n whole fs (drop (i + 1) lines) rest j k) (fun_ext known) h)
 
 -- ---- blocks
 

@@ -1,5 +1,5 @@
 -- Code that is put by what is known runs as the code does, step by step in the same states, in which all that is known is true.
-use Rattle.std.proofs.Common.{◌≡◌, ℕ, zero, suc, ◌+◌, ◌-◌, ◌%◌, ◌^◌, Bool, true, false, not, ◌||◌, nat_eq, nat_lt, if◌then◌else◌, List, [], ◌∷◌, map, drop, length, Option, Some, None, slice_get, refl, sym, ◌∙◌, ap, subst, arith}
+use Rattle.std.proofs.Common.{◌≡◌, ℕ, zero, suc, ◌+◌, ◌-◌, ◌%◌, ◌^◌, Bool, true, false, not, ◌&&◌, ◌||◌, nat_eq, nat_lt, if◌then◌else◌, List, [], ◌∷◌, map, drop, length, Option, Some, None, slice_get, refl, sym, ◌∙◌, ap, subst, arith}
 use Rattle.std.specs.Option.{option_map, option_and_then, option_map_or}
 use Rattle.std.proofs.lemmas.Bool.Decides.{nat_tests}
 use Rattle.il_ast.specs.declared.operation.Class.{Class}
@@ -36,10 +36,11 @@ use Rattle.vcode.specs.Operations.{held, operate, loaded}
 use Rattle.vcode.specs.Places.{Values, put, assign, kept, virtual}
 use Rattle.vcode.specs.Coded.{classes_in}
 use Rattle.vcode.specs.Step.{State, begin, value_of, read, read_all, fails, goes_on, sets, changes, weighs, ticks, receives, resumes, calls, line_step, compared, branches, returns, jump_step, block_step, step_in, step}
+use Rattle.cfg_live.specs.Registers.{line_writes}
 use Rattle.forwarding.specs.declared.fact.Fact.{Fact}
 use Rattle.forwarding.specs.declared.fact.Fact.TheVariants.{Same, Test}
-use Rattle.forwarding.specs.Facts.{Facts, names_it, fact_names, asks_memory, Truth, AreTrue}
-use Rattle.forwarding.specs.Forwarded.{is_short, copied, forward, Replacing, with_argument, with_line, with_comparison, test_of, tested_by, with_test, with_jump, changes_memory, writes_it, fact_of, After, AreForwarded, IsForwarded, AllForwarded}
+use Rattle.forwarding.specs.Facts.{Facts, names_it, fact_names, asks_memory, kept_if, fact_below, Truth, AreTrue}
+use Rattle.forwarding.specs.Forwarded.{is_short, copied, forward, Replacing, with_argument, with_line, with_comparison, test_of, tested_by, with_test, with_jump, changes_memory, writes_it, fact_of, leaves, after, AreForwarded, IsForwarded, AllForwarded}
 
 -- ---- operands
 
@@ -490,18 +491,60 @@ truth_kept globals m s u moved r (Test c) w names asks h =
     ∙ ap (λ (x : Option Value). option_and_then (λ a. option_and_then (λ b. operate s.memory (Compare c.condition c.class) a b) x) (value_of globals u.values c.left)) right
     ∙ ap (λ (x : Option Value). option_and_then (λ a. option_and_then (λ b. operate s.memory (Compare c.condition c.class) a b) (value_of globals s.values c.right)) x) left)
 
-true_after : (globals : List Value) (m : Line ℕ) (s u : State ℕ) (old new : Facts) → Moved globals m s u → After m old new → AreTrue globals s old → AreTrue globals u new
-true_after globals m s u old new moved after all r f h =
-    let a = after r f h in
-    by (writes_it m r) refl a.1.0 a.1.1
+-- what is known after a line passed the test, and was known before or is made known
+record Passed (n : ℕ) (l : Line ℕ) (fs : Facts) (r : ℕ) (f : Fact) : Type 0 where
+  from : (if writes_it l r then fact_of l else fs r) ≡ Some f
+  test : (nat_lt r n && (fact_below n f && leaves l f)) ≡ true
+
+passed_of : (n : ℕ) (l : Line ℕ) (fs : Facts) (r : ℕ) (f : Fact) (o : Option Fact) → (if writes_it l r then fact_of l else fs r) ≡ o → kept_if (λ g. nat_lt r n && (fact_below n g && leaves l g)) o ≡ Some f
+    → Passed n l fs r f
+passed_of n l fs r f None e h = absurd (let no : ⊥ = cc in no)
+passed_of n l fs r f (Some g) e h = by (nat_lt r n && (fact_below n g && leaves l g)) refl h
   where
-    memory_kept : (b : Bool) → changes_memory m ≡ b → (b ≡ true → asks_memory f ≡ false) → asks_memory f ≡ true → u.memory ≡ s.memory
-    memory_kept true e g asks = let no = g refl in cc
+    by : (b : Bool) → (nat_lt r n && (fact_below n g && leaves l g)) ≡ b → (if b then Some g else None) ≡ Some f → Passed n l fs r f
+    by true t k = let same : g ≡ f = cc in record { from = e ∙ k; test = ap (λ x. nat_lt r n && (fact_below n x && leaves l x)) (sym same) ∙ t }
+    by false t k = absurd (let no : ⊥ = cc in no)
+
+passed : (n : ℕ) (l : Line ℕ) (fs : Facts) (r : ℕ) (f : Fact) → after n l fs r ≡ Some f → Passed n l fs r f
+passed n l fs r f h = passed_of n l fs r f (if writes_it l r then fact_of l else fs r) refl h
+
+both_of : (a b : Bool) → (a && b) ≡ true → (a ≡ true) × (b ≡ true)
+both_of true b h = (refl, h)
+both_of false b h = cc
+
+not_true : (b : Bool) → not b ≡ true → b ≡ false
+not_true true h = cc
+not_true false h = refl
+
+names_none : (o : Option ℕ) (f : Fact) → option_map_or (fact_names f) o false ≡ false → (k : ℕ) → option_map_or (λ q. nat_eq q k) o false ≡ true → fact_names f k ≡ false
+names_none None f h k e = cc
+names_none (Some q) f h k e = let same : q ≡ k = grind (arith, nat_tests) in ap (fact_names f) (sym same) ∙ h
+
+true_after : (globals : List Value) (n : ℕ) (m : Line ℕ) (s u : State ℕ) (old : Facts) → Moved globals m s u → AreTrue globals s old → AreTrue globals u (after n m old)
+true_after globals n m s u old moved all r f h = by (writes_it m r) refl p.from
+  where
+    p : Passed n m old r f
+    p = passed n m old r f h
+
+    tests : (fact_below n f ≡ true) × (leaves m f ≡ true)
+    tests = both_of (fact_below n f) (leaves m f) (both_of (nat_lt r n) (fact_below n f && leaves m f) p.test).1
+
+    left : (not (option_map_or (fact_names f) (line_writes m) false) ≡ true) × (not (changes_memory m && asks_memory f) ≡ true)
+    left = both_of (not (option_map_or (fact_names f) (line_writes m) false)) (not (changes_memory m && asks_memory f)) tests.1
+
+    names : (k : ℕ) → writes_it m k ≡ true → fact_names f k ≡ false
+    names = names_none (line_writes m) f (not_true (option_map_or (fact_names f) (line_writes m) false) left.0)
+
+    memory_kept : (b : Bool) → changes_memory m ≡ b → (b && asks_memory f) ≡ false → asks_memory f ≡ true → u.memory ≡ s.memory
+    memory_kept true e g asks = cc
     memory_kept false e g asks = moved.memory e
 
-    by : (b : Bool) → writes_it m r ≡ b → (if b then fact_of m else old r) ≡ Some f → (b ≡ false → changes_memory m ≡ true → asks_memory f ≡ false) → Truth globals u r f
-    by true e g asks = moved.fact r f e g (after r f h).0
-    by false e g asks = truth_kept globals m s u moved r f e (after r f h).0 (memory_kept (changes_memory m) refl (asks refl)) (all r f g)
+    kept : asks_memory f ≡ true → u.memory ≡ s.memory
+    kept = memory_kept (changes_memory m) refl (not_true (changes_memory m && asks_memory f) left.1)
+
+    by : (b : Bool) → writes_it m r ≡ b → (if b then fact_of m else old r) ≡ Some f → Truth globals u r f
+    by true e g = moved.fact r f e g names
+    by false e g = truth_kept globals m s u moved r f e names kept (all r f g)
 
 -- ---- what stands next
 
@@ -574,13 +617,12 @@ at_start n v w globals all s zero_next =
       is = refl;
       there = λ b e.
           let f = block_found n v.blocks w.blocks all s.block b e in
-          let g = f.forwarded in
           record {
             block = f.block;
-            facts = g.facts;
+            facts = λ r. None;
             found = f.at;
-            forwarded = subst (λ k. AreForwarded n f.block.lines g.facts (drop k b.lines) (drop k f.block.lines) b.jump f.block.jump) (sym zero_next) g.lines;
-            true_facts = λ r x h. absurd (let none = g.nothing r in let no : ⊥ = cc in no);
+            forwarded = subst (λ k. AreForwarded n f.block.lines (λ r. None) (drop k b.lines) (drop k f.block.lines) b.jump f.block.jump) (sym zero_next) f.forwarded;
+            true_facts = λ r x h. absurd (let no : ⊥ = cc in no);
           };
     }
 
@@ -623,10 +665,10 @@ jump_beside n v w globals i s b c fs all result at found ahead ahead2 is facts =
     ∙ jump_same c.lines globals v.result s fs facts b.jump)
     (event_more (λ u. u.next ≡ 0) (λ u. Related n v w globals u u) (λ u e. at_start n v w globals all u e) (jump_step globals v.result s b.jump) (jump_starts globals v.result s b.jump))
 
-line_beside : (n : ℕ) (v w : Code ℕ) (globals : List Value) (i : Given) (s : State ℕ) (b c : Block ℕ) (fs gs : Facts) (l m : Line ℕ) (left left2 : List (Line ℕ))
-    → slice_get v.blocks s.block ≡ Some b → slice_get w.blocks s.block ≡ Some c → drop s.next b.lines ≡ l ∷ left → drop s.next c.lines ≡ m ∷ left2 → m ≡ with_line (forward fs) l → After m fs gs
-    → AreForwarded n c.lines gs left left2 b.jump c.jump → AreTrue globals s fs → Beside n v w globals i s
-line_beside n v w globals i s b c fs gs l m left left2 at found ahead ahead2 is after rest facts =
+line_beside : (n : ℕ) (v w : Code ℕ) (globals : List Value) (i : Given) (s : State ℕ) (b c : Block ℕ) (fs : Facts) (l m : Line ℕ) (left left2 : List (Line ℕ))
+    → slice_get v.blocks s.block ≡ Some b → slice_get w.blocks s.block ≡ Some c → drop s.next b.lines ≡ l ∷ left → drop s.next c.lines ≡ m ∷ left2 → m ≡ with_line (forward fs) l
+    → AreForwarded n c.lines (after n m fs) left left2 b.jump c.jump → AreTrue globals s fs → Beside n v w globals i s
+line_beside n v w globals i s b c fs l m left left2 at found ahead ahead2 is rest facts =
     one_event (Related n v w globals) (step virtual globals v i s) (step virtual globals w i s) (line_step virtual globals i s m)
     (step_line globals v i s b l at (head_at b.lines s.next l left ahead)
     ∙ sym (line_same globals i s (forward fs) (operand_same globals s fs facts) l) ∙ ap (line_step virtual globals i s) (sym is))
@@ -645,21 +687,21 @@ line_beside n v w globals i s b c fs gs l m left left2 at found ahead ahead2 is 
               (subst (λ (xs : List (Line ℕ)). Here n w globals u b xs) (sym one)
               (record {
                 block = c;
-                facts = gs;
+                facts = after n m fs;
                 found = ap (slice_get w.blocks) moved.block ∙ found;
-                forwarded = subst (λ (xs : List (Line ℕ)). AreForwarded n c.lines gs left xs b.jump c.jump) (sym two) rest;
-                true_facts = true_after globals m s u fs gs moved after facts;
+                forwarded = subst (λ (xs : List (Line ℕ)). AreForwarded n c.lines (after n m fs) left xs b.jump c.jump) (sym two) rest;
+                true_facts = true_after globals n m s u fs moved facts;
               }));
         }
 
 left_beside : (n : ℕ) (v w : Code ℕ) (globals : List Value) (i : Given) (s : State ℕ) (b c : Block ℕ) (fs : Facts) (left left2 : List (Line ℕ)) → AllForwarded n v.blocks w.blocks → w.result ≡ v.result
     → slice_get v.blocks s.block ≡ Some b → slice_get w.blocks s.block ≡ Some c → drop s.next b.lines ≡ left → drop s.next c.lines ≡ left2 → AreForwarded n c.lines fs left left2 b.jump c.jump → AreTrue globals s fs
     → Beside n v w globals i s
-left_beside n v w globals i s b c fs [] [] all result at found ahead ahead2 h facts = jump_beside n v w globals i s b c fs all result at found ahead ahead2 h.1 facts
+left_beside n v w globals i s b c fs [] [] all result at found ahead ahead2 h facts = jump_beside n v w globals i s b c fs all result at found ahead ahead2 h facts
 left_beside n v w globals i s b c fs [] (m ∷ left2) all result at found ahead ahead2 h facts = absurd h
 left_beside n v w globals i s b c fs (l ∷ left) [] all result at found ahead ahead2 h facts = absurd h
 left_beside n v w globals i s b c fs (l ∷ left) (m ∷ left2) all result at found ahead ahead2 h facts =
-    line_beside n v w globals i s b c fs h.1.1.0 l m left left2 at found ahead ahead2 h.1.0 h.1.1.1.0 h.1.1.1.1 facts
+    line_beside n v w globals i s b c fs l m left left2 at found ahead ahead2 h.0 h.1 facts
 
 block_beside : (n : ℕ) (v w : Code ℕ) (globals : List Value) (i : Given) (s : State ℕ) (o : Option (Block ℕ)) → AllForwarded n v.blocks w.blocks → w.result ≡ v.result → slice_get v.blocks s.block ≡ o
     → ((b : Block ℕ) → slice_get v.blocks s.block ≡ Some b → Here n w globals s b (drop s.next b.lines)) → Beside n v w globals i s

@@ -1,5 +1,5 @@
 -- What registers are known to hold.
-use Rattle.std.specs.Prelude.{◌≡◌, ℕ, Bool, true, false, ◌&&◌, ◌||◌, nat_eq, nat_lt, List, Option, Some}
+use Rattle.std.specs.Prelude.{◌≡◌, ℕ, Bool, true, false, ◌&&◌, ◌||◌, nat_eq, nat_lt, if◌then◌else◌, List, Option, Some, None}
 use Rattle.il_ast.specs.declared.value.Value.{Value}
 use Rattle.vcode.specs.declared.place.Operand.{Operand}
 use Rattle.vcode.specs.declared.place.Operand.TheVariants.{At}
@@ -31,6 +31,11 @@ Truth globals s r (Test c) = s.values r ≡ compared globals s c
 
 abbrev pub AreTrue : List Value → State ℕ → Facts → Type 0
 AreTrue globals s fs = (r : ℕ) (f : Fact) → fs r ≡ Some f → Truth globals s r f
+
+-- a fact, if it passes the test
+abbrev pub kept_if : (Fact → Bool) → Option Fact → Option Fact
+kept_if test None = None
+kept_if test (Some f) = if test f then Some f else None
 
 -- each register that is named is below n
 abbrev pub operand_below : (n : ℕ) → Operand ℕ → Bool

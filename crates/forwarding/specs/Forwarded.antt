@@ -1,5 +1,5 @@
 -- Code in which operands and branches are put by what is known of registers.
-use Rattle.std.specs.Prelude.{◌≡◌, ℕ, Bool, true, false, nat_eq, if◌then◌else◌, List, [], ◌∷◌, map, Option, Some, None}
+use Rattle.std.specs.Prelude.{◌≡◌, ℕ, Bool, true, false, not, ◌&&◌, nat_eq, nat_lt, if◌then◌else◌, List, [], ◌∷◌, map, Option, Some, None}
 use Rattle.std.specs.Option.{option_map, option_map_or}
 use Rattle.il_ast.specs.declared.operation.Condition.{Condition}
 use Rattle.il_ast.specs.declared.operation.Condition.TheVariants.{Equal, NotEqual}
@@ -18,7 +18,7 @@ use Rattle.vcode.specs.Cost.{is_immediate, affords}
 use Rattle.cfg_live.specs.Registers.{line_writes}
 use Rattle.forwarding.specs.declared.fact.Fact.{Fact}
 use Rattle.forwarding.specs.declared.fact.Fact.TheVariants.{Same, Test}
-use Rattle.forwarding.specs.Facts.{Facts, fact_names, asks_memory, AreBelow}
+use Rattle.forwarding.specs.Facts.{Facts, fact_names, asks_memory, fact_below, kept_if}
 
 -- ---- operands
 
@@ -106,29 +106,26 @@ fact_of (Set to a) = Some (Same a)
 fact_of (Operate to (Compare on k) a b) = Some (Test (record { condition = on; class = k; left = a; right = b }))
 fact_of l = None
 
--- nothing but what the line makes known, and what was known and neither names what it writes nor asks memory that it changes
-abbrev pub After : Line ℕ → Facts → Facts → Type 0
-After l old new =
-    (r : ℕ) (f : Fact)
-    → new r ≡ Some f
-    → ((k : ℕ) → writes_it l k ≡ true → fact_names f k ≡ false)
-    × (((if writes_it l r then fact_of l else old r) ≡ Some f) × (writes_it l r ≡ false → changes_memory l ≡ true → asks_memory f ≡ false))
+-- a line leaves a fact true that names no register that it writes, and asks no memory that it changes
+abbrev pub leaves : Line ℕ → Fact → Bool
+leaves l f = not (option_map_or (fact_names f) (line_writes l) false) && not (changes_memory l && asks_memory f)
+
+-- what is known after a line, of n registers: what it makes known, and what was known, each if the line leaves it true
+abbrev pub after : (n : ℕ) → Line ℕ → Facts → Facts
+after n l fs r = kept_if (λ f. nat_lt r n && (fact_below n f && leaves l f)) (if writes_it l r then fact_of l else fs r)
 
 -- ---- blocks
 
--- the lines and the jump, put by what is known, which is `fs` before them and names registers below n alone; `whole` is all lines of the new block
+-- the lines and the jump, put by what is known, which is `fs` before them; `whole` is all lines of the new block
 abbrev pub AreForwarded : (n : ℕ) → (whole : List (Line ℕ)) → Facts → (lines new : List (Line ℕ)) → (jump next : Jump ℕ) → Type 0
-AreForwarded n whole fs [] [] j k = AreBelow n fs × (k ≡ with_jump whole fs j)
+AreForwarded n whole fs [] [] j k = k ≡ with_jump whole fs j
 AreForwarded n whole fs [] (m ∷ new) j k = ⊥
 AreForwarded n whole fs (l ∷ lines) [] j k = ⊥
-AreForwarded n whole fs (l ∷ lines) (m ∷ new) j k =
-    AreBelow n fs × ((m ≡ with_line (forward fs) l) × ((gs : Facts) × (After m fs gs × AreForwarded n whole gs lines new j k)))
+AreForwarded n whole fs (l ∷ lines) (m ∷ new) j k = (m ≡ with_line (forward fs) l) × AreForwarded n whole (after n m fs) lines new j k
 
 -- nothing is known where a block begins
-pub record IsForwarded (n : ℕ) (b c : Block ℕ) : Type 0 where
-  pub facts : Facts
-  pub nothing : (r : ℕ) → facts r ≡ None
-  pub lines : AreForwarded n c.lines facts b.lines c.lines b.jump c.jump
+abbrev pub IsForwarded : (n : ℕ) → (b c : Block ℕ) → Type 0
+IsForwarded n b c = AreForwarded n c.lines (λ r. None) b.lines c.lines b.jump c.jump
 
 abbrev pub AllForwarded : (n : ℕ) → (blocks new : List (Block ℕ)) → Type 0
 AllForwarded n [] [] = Unit {0}

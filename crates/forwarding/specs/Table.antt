@@ -1,5 +1,5 @@
 -- What registers are known to hold, as a table has it: facts with the times since when they are known, and when registers and memory were last written.
-use Rattle.std.specs.Prelude.{◌≡◌, ℕ, ◌≤◌, Bool, true, false, ◌&&◌, nat_eq, nat_lt, nat_le, if◌then◌else◌, List, slice_get, Option, Some, None}
+use Rattle.std.specs.Prelude.{◌≡◌, ℕ, ◌<◌, ◌≤◌, Bool, true, false, not, ◌&&◌, nat_eq, nat_lt, nat_le, if◌then◌else◌, List, length, slice_get, Option, Some, None}
 use Rattle.std.specs.Option.{option_map_or}
 use Rattle.vcode.specs.declared.place.Operand.{Operand}
 use Rattle.vcode.specs.declared.place.Operand.TheVariants.{At}
@@ -7,7 +7,7 @@ use Rattle.forwarding.specs.declared.fact.Fact.{Fact}
 use Rattle.forwarding.specs.declared.fact.Fact.TheVariants.{Same, Test}
 use Rattle.forwarding.specs.declared.fact.Known.{Known}
 use Rattle.forwarding.specs.declared.table.Table.{Table}
-use Rattle.forwarding.specs.Facts.{Facts, fact_names}
+use Rattle.forwarding.specs.Facts.{Facts, fact_names, asks_memory, fact_below, kept_if}
 
 abbrev pub cell : List (Option Known) → ℕ → Option Known
 cell cells r = option_map_or (λ (k : Option Known). k) (slice_get cells r) None
@@ -25,14 +25,28 @@ abbrev pub counted : (written : List ℕ) → (memory begun : ℕ) → Option Kn
 counted written memory begun None = None
 counted written memory begun (Some k) = if nat_lt begun k.since && stands written memory k.since k.fact then Some k.fact else None
 
--- what the table knows; nothing where its clock has stopped
+-- what the table knows
 abbrev pub facts_of : Table → Facts
-facts_of t r = if t.stopped then None else counted t.written.items t.memory t.begun (cell t.cells.items r)
+facts_of t r = counted t.written.items t.memory t.begun (cell t.cells.items r)
 
 -- nothing is later than its clock
-abbrev pub IsTable : Table → Type 0
-IsTable t = (r : ℕ) (k : Known) → cell t.cells.items r ≡ Some k → k.since ≤ t.clock
+pub record IsTable (t : Table) : Type 0 where
+  pub cells : (r : ℕ) (k : Known) → cell t.cells.items r ≡ Some k → k.since ≤ t.clock
+  pub written : (r w : ℕ) → slice_get t.written.items r ≡ Some w → w ≤ t.clock
+  pub memory : t.memory ≤ t.clock
+  pub begun : t.begun ≤ t.clock
+  pub wide : length t.cells.items ≡ length t.written.items
 
--- of a register after r was written, of which `known` is known then: only facts that don't name r
-abbrev pub Left : ℕ → Option Fact → Facts → ℕ → Fact → Type 0
-Left r known fs q f = (fact_names f r ≡ false) × ((if nat_eq q r then known else fs q) ≡ Some f)
+-- a line is being done: the block began before it, and what is known was known before it
+pub record IsAtLine (t : Table) : Type 0 where
+  pub table : IsTable t
+  pub cells : (r : ℕ) (k : Known) → cell t.cells.items r ≡ Some k → k.since < t.clock
+  pub begun : t.begun < t.clock
+
+-- after memory was written, if it was
+abbrev pub changed : Bool → Facts → Facts
+changed memory fs q = kept_if (λ f. not (memory && asks_memory f)) (fs q)
+
+-- after register r was written, of which `known` is known then, of n registers
+abbrev pub over : (n r : ℕ) → Option Fact → Facts → Facts
+over n r known fs q = kept_if (λ f. nat_lt q n && (fact_below n f && not (fact_names f r))) (if nat_eq q r then known else fs q)

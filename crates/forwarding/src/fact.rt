@@ -15,5 +15,5 @@ pub enum Fact {
 #[derive(Clone, Copy, Debug, PartialEq, Eq)]
 pub struct Known {
     pub fact: Fact,
-    pub since: u64,
+    pub since: u128,
 }

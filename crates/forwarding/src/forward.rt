@@ -1,77 +1,65 @@
 //! Blocks and functions, put by what is known.
-ghost use Rattle.std.specs.Prelude.{◌≡◌, ◌∷◌, ◌++◌, [], ℕ, List, true, false, not, ◌||◌, nat_eq, length, drop, OnOk, IfOk, Some, None};
+ghost use Rattle.std.specs.Prelude.{◌≡◌, ◌+◌, ◌*◌, ◌^◌, ◌<◌, ◌≤◌, [], ℕ, List, length, IfOk, None};
 ghost use Rattle.il_ast.specs.Passes.{Keeps};
 ghost use Rattle.vcode.specs.declared.line.Line.{Line as ALine};
-ghost use Rattle.vcode.specs.declared.line.Line.TheVariants.{Operate, Call};
-ghost use Rattle.vcode.specs.declared.place.Operand.{Operand as AnOperand};
-ghost use Rattle.vcode.specs.declared.place.Argument.{Argument as AnArgument};
 ghost use Rattle.vcode.specs.declared.line.Jump.{Jump as AJump};
 ghost use Rattle.vcode.specs.Coded.{virtual_code};
 ghost use Rattle.forwarding.specs.Table.{facts_of, IsTable};
-ghost use Rattle.forwarding.specs.Forwarded.{fact_of, forward, with_line, with_jump, After, AreForwarded, IsForwarded, AllForwarded, IsForwardedFrom};
+ghost use Rattle.forwarding.specs.Forwarded.{changes_memory, fact_of, after, AreForwarded, IsForwarded, AllForwarded, IsForwardedFrom};
 
 use crate::fact::Fact;
 use crate::replace::{jump, line as forwarded};
 use crate::table::Table;
+use cfg_live::uses::line_writes;
 use il_ast::list::Seq;
 use std::alloc::{AllocError, Global};
 use vcode::code::{Block, Code};
 use vcode::function::VFunc;
 use vcode::line::{Comparison, Line, Operation};
-use vcode::place::{Destination, Operand};
+use vcode::place::Destination;
+
+fn changes_memory(line: &Line<u32>) -> bool
+    ensures { result ≡ changes_memory line.now }
+{
+    match line {
+        Line::Store { .. } | Line::Alloc { .. } | Line::Blit { .. } | Line::Call { .. } => true,
+        _ => false,
+    }
+}
 
 // What a line makes known of the register that it writes.
-fn fact_of(operation: Operation, left: Operand<u32>, right: Operand<u32>) -> Option<Fact>
-    ensures { (to : ℕ) → result ≡ fact_of (Operate to operation left right) }
+fn fact_of(line: &Line<u32>) -> Option<Fact>
+    ensures { result ≡ fact_of line.now }
 {
-    match operation {
-        Operation::Compare(condition, class) => Some(Fact::Test(Comparison {
-            condition,
-            class,
+    match line {
+        Line::Set { value, .. } => Some(Fact::Same(*value)),
+        Line::Operate {
+            operation: Operation::Compare(condition, class),
             left,
             right,
+            ..
+        } => Some(Fact::Test(Comparison {
+            condition: *condition,
+            class: *class,
+            left: *left,
+            right: *right,
         })),
         _ => None,
     }
 }
 
-fn pass_call(table: &mut Table, to: &Option<Destination<u32>>)
-    requires { IsTable table.old }
-    ensures table { IsTable table.new }
-    ensures after { (callee : AnOperand ℕ) (args : List (AnArgument ℕ)) → After (Call to.now callee args) (facts_of table.old) (facts_of table.new) }
-    ensures count { length table.new.written.items ≡ length table.old.written.items }
-{
-    table.change_memory();
-    match to {
-        Some(destination) => table.write(destination.place, None),
-        None => {}
-    }
-}
-
 // A line was done.
 fn pass(table: &mut Table, line: &Line<u32>)
-    requires { IsTable table.old }
+    requires table { IsTable table.old }
+    requires runs { table.old.clock + 1 < 2 ^ 128 }
     ensures table { IsTable table.new }
-    ensures after { After line.now (facts_of table.old) (facts_of table.new) }
+    ensures after { (q : ℕ) → facts_of table.new q ≡ after (length table.old.written.items) line.now (facts_of table.old) q }
+    ensures clock { table.new.clock ≡ table.old.clock + 1 }
     ensures count { length table.new.written.items ≡ length table.old.written.items }
 {
-    match line {
-        Line::Tick { .. } => {}
-        Line::Set { to, value } => table.write(*to, Some(Fact::Same(*value))),
-        Line::Operate {
-            to,
-            operation,
-            left,
-            right,
-        } => table.write(*to, fact_of(*operation, *left, *right)),
-        Line::Load { to, .. } => table.write(*to, None),
-        Line::Store { .. } => table.change_memory(),
-        Line::Blit { .. } => table.change_memory(),
-        Line::Alloc { to, .. } => {
-            table.change_memory();
-            table.write(*to, None);
-        }
-        Line::Call { to, .. } => pass_call(table, to),
+    table.tick(changes_memory(line));
+    if let Some(register) = line_writes(line) {
+        table.write(register, fact_of(line));
     }
 }
 
@@ -81,8 +69,10 @@ fn forwarded_lines(
     table: &mut Table,
     lines: &[Line<u32>],
 ) -> Result<Vec<Line<u32>>, AllocError>
-    requires { IsTable table.old }
+    requires table { IsTable table.old }
+    requires runs { table.old.clock + length lines.now < 2 ^ 128 }
     ensures table { IsTable table.new }
+    ensures clock { IfOk result (λ v. table.new.clock ≡ table.old.clock + length lines.now) }
     ensures count { length table.new.written.items ≡ length table.old.written.items }
     ensures lines { IfOk result (λ v. (whole : List (ALine ℕ)) (j k : AJump ℕ) → AreForwarded (length table.old.written.items) whole (facts_of table.new) [] [] j k → AreForwarded (length table.old.written.items) whole (facts_of table.old) lines.now v.items j k) }
 {
@@ -98,14 +88,17 @@ fn forwarded_lines(
 fn forwarded_block(
     alloc: Global,
     table: &mut Table,
+    number: usize,
     block: &Block<u32>,
 ) -> Result<Block<u32>, AllocError>
-    requires { IsTable table.old }
+    requires table { IsTable table.old }
+    requires later { table.old.clock ≤ number * 2 ^ 64 }
     ensures table { IsTable table.new }
+    ensures clock { IfOk result (λ v. table.new.clock ≤ (number + 1) * 2 ^ 64) }
     ensures count { length table.new.written.items ≡ length table.old.written.items }
     ensures block { IfOk result (λ v. IsForwarded (length table.old.written.items) block.now v) }
 {
-    table.begin();
+    table.begin(number);
     let lines = forwarded_lines(alloc, table, block.lines.as_slice())?;
     let jump = jump(table, &lines, &block.jump);
     Ok(Block {
@@ -119,12 +112,13 @@ fn forwarded_blocks(
     table: &mut Table,
     blocks: &[Block<u32>],
 ) -> Result<Seq<Block<u32>>, AllocError>
-    requires { IsTable table.old }
+    requires table { IsTable table.old }
+    requires starts { table.old.clock ≡ 0 }
     ensures { IfOk result (λ v. AllForwarded (length table.old.written.items) blocks.now v) }
 {
     let mut made = Vec::new(alloc);
-    for block in blocks {
-        made.push(forwarded_block(alloc, table, block)?)?;
+    for (number, block) in blocks.iter().enumerate() {
+        made.push(forwarded_block(alloc, table, number, block)?)?;
     }
     Ok(Seq::from_vec(made))
 }

@@ -1,28 +1,25 @@
 //! What is known of each register.
-ghost use Rattle.std.specs.Prelude.{◌≡◌, ◌<◌, ◌≤◌, ℕ, Bool, true, false, ◌&&◌, ◌||◌, nat_le, nat_eq, if◌then◌else◌, length, slice_get, IfOk, Some, None};
-ghost use Rattle.forwarding.specs.declared.fact.Fact.{Fact as AFact};
-ghost use Rattle.forwarding.specs.declared.fact.Known.{Known as AKnown};
-ghost use Rattle.forwarding.specs.Facts.{names_it, fact_names, asks_memory};
-ghost use Rattle.forwarding.specs.Table.{cell, is_fresh, stands, counted, facts_of, IsTable, Left};
+ghost use Rattle.std.specs.Prelude.{◌≡◌, ◌+◌, ◌*◌, ◌^◌, ◌<◌, ◌≤◌, ℕ, true, false, not, ◌&&◌, ◌||◌, nat_le, length, slice_get, slice_set, IfOk, Some, None};
+ghost use Rattle.std.specs.Option.{option_map};
+ghost use Rattle.forwarding.specs.Facts.{names_it, fact_names, kept_if};
+ghost use Rattle.forwarding.specs.Table.{cell, is_fresh, stands, facts_of, IsTable, IsAtLine, changed, over};
 
 use crate::fact::{Fact, Known};
 use std::alloc::{AllocError, Global};
 use vcode::place::Operand;
 
 /// Facts of registers, each with the time since when it is known. A fact counts as long as no register that it names was written since, nor memory, if it
-/// asks that; so writing a register takes one step, however many facts name it.
+/// asks that; so writing a register takes one step, however many facts name it. Block b begins at time b * 2^64, and each line takes 1.
 #[derive(Drop)]
 pub struct Table {
     pub cells: Vec<Option<Known>>,
     /// when each register was last written
-    pub written: Vec<u64>,
+    pub written: Vec<u128>,
     /// when memory was last written
-    pub memory: u64,
+    pub memory: u128,
     /// when the block began
-    pub begun: u64,
-    pub clock: u64,
-    /// Its clock has stopped, and it knows nothing any more.
-    pub stopped: bool,
+    pub begun: u128,
+    pub clock: u128,
 }
 
 fn names(operand: &Operand<u32>, register: u32) -> bool
@@ -52,7 +49,7 @@ fn cell(cells: &[Option<Known>], register: usize) -> Option<Known>
     }
 }
 
-fn is_fresh(written: &[u64], since: u64, operand: &Operand<u32>) -> bool
+fn is_fresh(written: &[u128], since: u128, operand: &Operand<u32>) -> bool
     ensures { result ≡ is_fresh written.now since operand.now }
 {
     match operand {
@@ -65,8 +62,8 @@ fn is_fresh(written: &[u64], since: u64, operand: &Operand<u32>) -> bool
 }
 
 // What is known of the register that is written, if it doesn't name that.
-fn kept(register: u32, known: Option<Fact>, since: u64) -> Option<Known>
-    ensures { (k : AKnown) → result ≡ Some k → (k.since ≡ since) × ((fact_names k.fact register ≡ false) × (known ≡ Some k.fact)) }
+fn kept(register: u32, known: Option<Fact>, since: u128) -> Option<Known>
+    ensures { result ≡ option_map (λ f. record { fact = f; since = since }) (kept_if (λ f. not (fact_names f register)) known) }
 {
     match known {
         Some(fact) => {
@@ -80,20 +77,19 @@ fn kept(register: u32, known: Option<Fact>, since: u64) -> Option<Known>
     }
 }
 
-fn set_time(written: &mut Vec<u64>, register: u32, time: u64)
-    ensures times { (q w : ℕ) → slice_get written.new.items q ≡ Some w → (if nat_eq q register then Some time else slice_get written.old.items q) ≡ Some w }
-    ensures count { length written.new.items ≡ length written.old.items }
+fn set_time(written: &mut Vec<u128>, register: u32, time: u128)
+    ensures { written.new.items ≡ slice_set written.old.items register time }
 {
-    if (register as usize) < written.len() {
-        written[register as usize] = time;
+    if let Some(last) = written.get_mut(register as usize) {
+        *last = time;
     }
 }
 
 fn set_cell(cells: &mut Vec<Option<Known>>, register: u32, known: Option<Known>)
-    ensures { (q : ℕ) (k : AKnown) → cell cells.new.items q ≡ Some k → (if nat_eq q register then known else cell cells.old.items q) ≡ Some k }
+    ensures { cells.new.items ≡ slice_set cells.old.items register known }
 {
-    if (register as usize) < cells.len() {
-        cells[register as usize] = known;
+    if let Some(cell) = cells.get_mut(register as usize) {
+        *cell = known;
     }
 }
 
@@ -105,6 +101,7 @@ impl Table {
     /// Only where memory was refused.
     pub(crate) fn new(alloc: Global, registers: u32) -> Result<Table, AllocError>
         ensures table { IfOk result (λ t. IsTable t) }
+        ensures starts { IfOk result (λ t. t.clock ≡ 0) }
         ensures count { IfOk result (λ t. length t.written.items ≡ registers) }
     {
         let mut cells = Vec::new(alloc);
@@ -117,7 +114,6 @@ impl Table {
             memory: 0,
             begun: 0,
             clock: 0,
-            stopped: false,
         })
     }
 
@@ -138,9 +134,6 @@ impl Table {
     pub(crate) fn fact(&self, register: u32) -> Option<Fact>
         ensures { result ≡ facts_of self.now register }
     {
-        if self.stopped {
-            return None;
-        }
         match cell(&self.cells, register as usize) {
             Some(known) => {
                 if self.begun < known.since && self.stands(&known) {
@@ -153,44 +146,43 @@ impl Table {
         }
     }
 
-    /// A block begins: nothing is known.
-    pub(crate) fn begin(&mut self)
-        requires { IsTable self.old }
+    /// A block begins, and nothing is known.
+    pub(crate) fn begin(&mut self, block: usize)
+        requires table { IsTable self.old }
+        requires later { self.old.clock ≤ block * 2 ^ 64 }
         ensures table { IsTable self.new }
         ensures nothing { (r : ℕ) → facts_of self.new r ≡ None }
+        ensures clock { self.new.clock ≡ block * 2 ^ 64 }
         ensures count { length self.new.written.items ≡ length self.old.written.items }
     {
+        self.clock = block as u128 * 0x1_0000_0000_0000_0000;
         self.begun = self.clock;
     }
 
-    /// The register is written, and that is known of it then.
-    pub(crate) fn write(&mut self, register: u32, known: Option<Fact>)
-        requires { IsTable self.old }
-        ensures table { IsTable self.new }
-        ensures left { (q : ℕ) (f : AFact) → facts_of self.new q ≡ Some f → Left register known (facts_of self.old) q f }
+    /// A line begins, which writes memory, or doesn't.
+    pub(crate) fn tick(&mut self, memory: bool)
+        requires table { IsTable self.old }
+        requires runs { self.old.clock + 1 < 2 ^ 128 }
+        ensures table { IsAtLine self.new }
+        ensures facts { (q : ℕ) → facts_of self.new q ≡ changed memory (facts_of self.old) q }
+        ensures clock { self.new.clock ≡ self.old.clock + 1 }
         ensures count { length self.new.written.items ≡ length self.old.written.items }
     {
-        if self.clock == u64::MAX {
-            self.stopped = true;
-            return;
-        }
         self.clock += 1;
-        set_time(&mut self.written, register, self.clock);
-        set_cell(&mut self.cells, register, kept(register, known, self.clock));
+        if memory {
+            self.memory = self.clock;
+        }
     }
 
-    /// Memory is written.
-    pub(crate) fn change_memory(&mut self)
-        requires { IsTable self.old }
+    /// The line writes the register, and that is known of it then.
+    pub(crate) fn write(&mut self, register: u32, known: Option<Fact>)
+        requires { IsAtLine self.old }
         ensures table { IsTable self.new }
-        ensures left { (q : ℕ) (f : AFact) → facts_of self.new q ≡ Some f → (asks_memory f ≡ false) × (facts_of self.old q ≡ Some f) }
+        ensures facts { (q : ℕ) → facts_of self.new q ≡ over (length self.old.written.items) register known (facts_of self.old) q }
+        ensures clock { self.new.clock ≡ self.old.clock }
         ensures count { length self.new.written.items ≡ length self.old.written.items }
     {
-        if self.clock == u64::MAX {
-            self.stopped = true;
-            return;
-        }
-        self.clock += 1;
-        self.memory = self.clock;
+        set_time(&mut self.written, register, self.clock);
+        set_cell(&mut self.cells, register, kept(register, known, self.clock));
     }
 }

@@ -1,15 +1,16 @@
-use Rattle.std.proofs.Common.{◌≡◌, ℕ, List, ◌++◌, length, drop}
+use Rattle.std.proofs.Common.{◌≡◌, ◌≤◌, ◌*◌, ◌^◌, ℕ, List, ◌++◌, length, drop}
 use Rattle.vcode.specs.declared.code.Block.{Block}
 use Rattle.forwarding.specs.Table.{IsTable}
 use Rattle.forwarding.specs.Forwarded.{AllForwarded}
 use Rattle.forwarding.proofs.forward.forwarded_blocks.Given as goal
 
-abbrev pub invariant-loop-block : goal.invariant-loop-block
-invariant-loop-block l =
+abbrev pub invariant-loop-number : goal.invariant-loop-number
+invariant-loop-number l =
     record {
       table : IsTable l.table;
+      clock : l.table.clock ≤ l.number * 2 ^ 64;
       count : length l.table.written.items ≡ length l.fn.table.written.items;
       made :
-          (rest : List (Block ℕ)) → AllForwarded (length l.fn.table.written.items) (drop l.block-index l.blocks) rest
+          (rest : List (Block ℕ)) → AllForwarded (length l.fn.table.written.items) (drop l.number l.blocks) rest
           → AllForwarded (length l.fn.table.written.items) l.fn.blocks (l.made.items ++ rest);
     }

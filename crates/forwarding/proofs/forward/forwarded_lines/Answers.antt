@@ -2,7 +2,7 @@ use Rattle.std.proofs.Common.{◌≡◌, ℕ, List, [], ◌∷◌, ◌++◌, len
 use Rattle.std.proofs.lemmas.List.{drop_all}
 use Rattle.vcode.specs.declared.line.Line.{Line}
 use Rattle.forwarding.specs.Table.{facts_of}
-use Rattle.forwarding.specs.Forwarded.{AreForwarded}
+use Rattle.forwarding.specs.Forwarded.{after, AreForwarded}
 use Rattle.forwarding.proofs.Making.{lines_on, append_one, append_none}
 use Rattle.forwarding.proofs.forward.forwarded_lines.Goals as goal
 
@@ -14,12 +14,14 @@ loop-line-preserved c =
     record {
       table = c.pass.ensures.table;
       count = c.pass.ensures.count ∙ c.loop-line.invariant.count;
+      clock = let one = c.pass.ensures.clock in let before = c.loop-line.invariant.clock in omega (arith, one, before);
+      runs = c.loop-line.invariant.runs;
       made = λ rest whole j k h.
           subst (λ (xs : List (Line ℕ)). AreForwarded n whole (facts_of c.args.table.now) c.args.lines.now xs j k)
           (sym (ap (λ (xs : List (Line ℕ)). xs ++ rest) c.in_ok-push.ensures.items ∙ append_one c.loop-line.made.items c.in_ok-put.put rest))
           (c.loop-line.invariant.made (c.in_ok-put.put ∷ rest) whole j k
-          (lines_on n whole t u c.args.lines.now c.loop-line.line-index c.line-item.result c.in_ok-put.put rest j k c.loop-line-test.true c.line-item.is c.loop-line.invariant.count c.in_ok-put.ensures
-          c.pass.ensures.after h));
+          (lines_on n whole t u c.args.lines.now c.loop-line.line-index c.line-item.result c.in_ok-put.put rest j k c.loop-line-test.true c.line-item.is c.in_ok-put.ensures
+          (λ q. c.pass.ensures.after q ∙ ap (λ m. after m c.in_ok-put.put (facts_of t) q) c.loop-line.invariant.count) h));
     }
 
 pub returns-clause-lines : goal.returns-clause-lines

@@ -1,42 +1,13 @@
-use Rattle.std.proofs.Common.{◌+◌, refl, arith}
-use Rattle.forwarding.specs.declared.table.Table.{Table}
-use Rattle.forwarding.proofs.Writing.{Wrote, left_written, table_written}
+use Rattle.std.proofs.Common.{slice_set, refl, ◌∙◌, ap}
+use Rattle.forwarding.proofs.Writing.{register_written, table_written}
 use Rattle.forwarding.proofs.table.Table.write.Goals as goal
 
 pub returns-clause-table : goal.returns-clause-table
 returns-clause-table c =
-    let t : Table = c.args.self.now in
-    let u : Table = record { cells = c.set_cell.new.cells; written = c.set_time.new.written; memory = t.memory; begun = t.begun; clock = t.clock + 1; stopped = t.stopped } in
-    let w : Wrote c.args.register (t.clock + 1) c.args.known t u =
-    record {
-      cell_is = c.kept.result;
-      kept = c.kept.ensures;
-      cells = c.set_cell.ensures;
-      written = c.set_time.ensures.times;
-      memory = refl;
-      begun = refl;
-      stopped = refl;
-      later = omega arith;
-      clock = refl;
-    }
-    in
-    table_written c.args.register (t.clock + 1) c.args.known t u c.requires w
+    table_written c.args.self.now (record c.args.self.now { cells = c.set_cell.new.cells; written = c.set_time.new.written }) c.args.register c.args.known c.requires
+    (c.set_cell.ensures ∙ ap (λ k. slice_set c.args.self.now.cells.items c.args.register k) c.kept.ensures) c.set_time.ensures refl refl refl
 
-pub returns-clause-left : goal.returns-clause-left
-returns-clause-left c =
-    let t : Table = c.args.self.now in
-    let u : Table = record { cells = c.set_cell.new.cells; written = c.set_time.new.written; memory = t.memory; begun = t.begun; clock = t.clock + 1; stopped = t.stopped } in
-    let w : Wrote c.args.register (t.clock + 1) c.args.known t u =
-    record {
-      cell_is = c.kept.result;
-      kept = c.kept.ensures;
-      cells = c.set_cell.ensures;
-      written = c.set_time.ensures.times;
-      memory = refl;
-      begun = refl;
-      stopped = refl;
-      later = omega arith;
-      clock = refl;
-    }
-    in
-    left_written c.args.register (t.clock + 1) c.args.known t u c.requires w
+pub returns-clause-facts : goal.returns-clause-facts
+returns-clause-facts c =
+    register_written c.args.self.now (record c.args.self.now { cells = c.set_cell.new.cells; written = c.set_time.new.written }) c.args.register c.args.known c.requires
+    (c.set_cell.ensures ∙ ap (λ k. slice_set c.args.self.now.cells.items c.args.register k) c.kept.ensures) c.set_time.ensures refl refl
