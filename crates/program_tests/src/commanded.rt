@@ -1,9 +1,10 @@
 //! The commands, over files and streams in memory.
 use crate::memory_disk::MemoryDisk;
-use crate::memory_sink::MemorySink;
 use commands::command::command;
 use regalloc::linear_scan::LinearScan;
+use shell::memory::MemorySink;
 use std::alloc::{AllocError, Global};
+use std::str;
 
 /// What a command answered and wrote.
 #[derive(Drop)]
@@ -32,7 +33,7 @@ pub fn perform_with(
 ) -> Result<Done, AllocError> {
     let mut how = LinearScan::new(alloc);
     let status = command(alloc, words, &mut how, disk, &mut out, &mut err);
-    let message = String::from_str(alloc, err.text())?;
+    let message = String::from_str(alloc, str::from_utf8(err.bytes.as_slice()).unwrap_or("no text"))?;
     Ok(Done {
         status,
         output: out.bytes,

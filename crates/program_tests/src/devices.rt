@@ -1,12 +1,12 @@
 //! Disks and streams that fail, and lines for want of memory.
 use crate::commanded::{perform_with, perform_words};
 use crate::memory_disk::MemoryDisk;
-use crate::memory_sink::MemorySink;
 use crate::report::Report;
 use commands::failure::Failure;
 use commands::refusal::Refusal;
 use elf_file::LoadError;
 use shell::disk::FileFault;
+use shell::memory::MemorySink;
 use std::alloc::{AllocError, Global};
 
 /// Puts out `Hi` and a line end, and halts.

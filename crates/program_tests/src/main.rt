@@ -17,7 +17,6 @@ mod lines;
 mod made;
 mod measures;
 mod memory_disk;
-mod memory_sink;
 mod prefixes;
 mod programs;
 mod random;

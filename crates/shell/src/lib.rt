@@ -3,6 +3,7 @@
 //! Where bytes come from and go to, and what a disassembly shows.
 //!
 //! - [`sink::Sink`] is what takes bytes: a file, a standard stream, or memory. Its laws say how many bytes a call took, which ones, and how often a call failed.
+//! - [`memory::MemorySink`] is one in memory, which takes as many bytes a call as its maker says, and fails at the call that its maker says.
 //! - [`write_exe::write_exe`] writes all bytes to any sink, whatever the sink does; a fault tells how many went out, and comes only where the sink failed.
 //! - [`message::Message`] writes text to a sink without taking memory.
 //! - [`disk::Disk`] reads and writes files, and promises nothing.
@@ -13,6 +14,7 @@
 
 pub mod dis_lines;
 pub mod disk;
+pub mod memory;
 pub mod message;
 pub mod sink;
 #[cfg(test)]

@@ -1,63 +1,12 @@
 //! Sinks that take little, and the lines of small files.
 use crate::dis_lines::dis_lines;
+use crate::memory::MemorySink;
 use crate::message::Message;
-use crate::sink::{Sink, SinkFault};
 use crate::write_exe::{WriteFault, write_exe};
 use elf_file::read_image;
 use std::alloc::{AllocError, Global};
 use std::fmt::Write;
 use std::test::Fail;
-
-/// Memory that takes at most `most` bytes a call, and fails at call `fails_at`, counted from 1.
-#[derive(Drop)]
-struct Slow {
-    bytes: Vec<u8>,
-    most: usize,
-    fails_at: u64,
-    calls: u64,
-    faults: u64,
-}
-
-impl Slow {
-    fn new(alloc: Global, most: usize, fails_at: u64) -> Slow {
-        Slow {
-            bytes: Vec::new(alloc),
-            most,
-            fails_at,
-            calls: 0,
-            faults: 0,
-        }
-    }
-}
-
-impl Sink for Slow {
-    ghost use Rattle.std.specs.Prelude.{Some};
-
-    ghost held = { λ s. Some s.bytes.items };
-
-    ghost faults = { λ s. s.faults };
-
-    fn put(&mut self, bytes: &[u8]) -> Result<usize, SinkFault> {
-        self.calls = self.calls.saturating_add(1);
-        if self.calls == self.fails_at {
-            self.faults = self.faults.saturating_add(1);
-            return Err(SinkFault);
-        }
-        let count = bytes.len().min(self.most);
-        match self.bytes.extend_from_slice(&bytes[..count]) {
-            Ok(()) => {
-                if count == 0 && bytes.len() > 0 {
-                    self.faults = self.faults.saturating_add(1);
-                }
-                Ok(count)
-            }
-            Err(_) => {
-                self.faults = self.faults.saturating_add(1);
-                Err(SinkFault)
-            }
-        }
-    }
-}
 
 #[test]
 fn all_goes_out_or_a_beginning(rt: HostRuntime) -> Result<(), Fail> {
@@ -70,12 +19,12 @@ fn all_goes_out_or_a_beginning(rt: HostRuntime) -> Result<(), Fail> {
         (0, 0, Err(WriteFault { written: 0 }), b"", 1),
     ];
     for (most, fails_at, answer, bytes, faults) in table {
-        let mut sink = Slow::new(rt.alloc(), most, fails_at);
+        let mut sink = MemorySink::new(rt.alloc(), most, fails_at);
         assert_eq!(rt; write_exe(b"seven77", &mut sink), answer);
         assert_eq!(rt; sink.bytes.as_slice(), bytes);
         assert_eq!(rt; sink.faults, faults);
     }
-    let mut sink = Slow::new(rt.alloc(), 0, 1);
+    let mut sink = MemorySink::new(rt.alloc(), 0, 1);
     assert_eq!(rt; write_exe(b"", &mut sink), Ok(()));
     assert_eq!(rt; sink.calls, 0);
     Ok(())
@@ -83,12 +32,12 @@ fn all_goes_out_or_a_beginning(rt: HostRuntime) -> Result<(), Fail> {
 
 #[test]
 fn messages_go_out(rt: HostRuntime) -> Result<(), Fail> {
-    let mut sink = Slow::new(rt.alloc(), 2, 0);
+    let mut sink = MemorySink::new(rt.alloc(), 2, 0);
     let number = 255;
     let written = write!(Message::new(&mut sink), "number {number:04x}\n");
     assert!(rt; written.is_ok());
     assert_eq!(rt; sink.bytes.as_slice(), b"number 00ff\n".as_slice());
-    let mut sink = Slow::new(rt.alloc(), 2, 2);
+    let mut sink = MemorySink::new(rt.alloc(), 2, 2);
     let written = write!(Message::new(&mut sink), "number {number:04x}\n");
     assert!(rt; written.is_err());
     assert_eq!(rt; sink.bytes.as_slice(), b"nu".as_slice());
