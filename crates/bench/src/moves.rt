@@ -1,5 +1,5 @@
 //! Moves in one cycle.
-ghost use Rattle.std.specs.Prelude.{◌≡◌, ◌<◌, ℕ, length, slice_index_or, IfOk, All};
+ghost use Rattle.std.specs.Prelude.{◌≡◌, ◌+◌, ◌<◌, ℕ, nat_lt, if◌then◌else◌, length, slice_index_or, IfOk, All};
 ghost use Rattle.phi_copies.specs.declared.moves.Move.{Move};
 
 use phi_copies::moves::Move;
@@ -9,6 +9,8 @@ use std::alloc::{AllocError, Global};
 // Move i goes to place i from the place behind it, and the last from place 0.
 fn cycle(alloc: Global, count: usize) -> Result<Vec<Move>, AllocError>
     ensures to { IfOk result (λ v. (k : ℕ) (d : Move) → k < length v.items → (slice_index_or v.items k d).to ≡ k) }
+    ensures from { IfOk result (λ v. All (λ m. m.from ≡ (if nat_lt (m.to + 1) count then m.to + 1 else 0)) v.items) }
+    ensures many { IfOk result (λ v. length v.items ≡ count) }
     ensures inside { IfOk result (λ v. All (λ m. (m.to < count) × (m.from < count)) v.items) }
 {
     let mut moves = Vec::new(alloc);
