@@ -1,5 +1,5 @@
 -- The checker's tests, taken together, are what makes a certificate accepted.
-use Rattle.std.proofs.Common.{◌≡◌, ℕ, Bool, true, false, ◌&&◌, nat_le, length, refl, sym, ◌∙◌, ap}
+use Rattle.std.proofs.Common.{◌≡◌, ℕ, Bool, true, false, ◌&&◌, refl, sym, ◌∙◌, ap}
 use Rattle.std.specs.List.{list_all}
 use Rattle.vcode.specs.declared.place.Location.{Location}
 use Rattle.vcode.specs.declared.code.Code.{Code}
@@ -9,7 +9,7 @@ use Rattle.vcode.specs.Named.{keeps_places, is_below, is_place, are_near, are_di
 use Rattle.vcode.specs.Places.{located}
 use Rattle.certificates.specs.declared.certificate.Certificate.{Certificate}
 use Rattle.alloc_check.specs.Certified.{placed_by, is_sound}
-use Rattle.alloc_check.specs.Accepted.{end_point, starts_exist, is_placed, is_accepted}
+use Rattle.alloc_check.specs.Accepted.{equalities_exist, names_once, has_lengths, is_whole, is_placed, is_accepted}
 use Rattle.alloc_check.specs.Walk.{sound_in}
 use Rattle.alloc_check.proofs.Agreeing.{both_true}
 use Rattle.alloc_check.proofs.Certifies.{from_true}
@@ -31,23 +31,26 @@ parts slots l h =
 
 -- the tests before code is made
 abbrev pub right_in : VFunc → Certificate → Bool
-right_in v c = nat_le (end_point 0 v.code.blocks) (length c.places) && (starts_exist v.registers c.starts && sound_in v.registers v.code c)
+right_in v c = is_whole v c && sound_in v.registers v.code c
 
-joined : (a s w r d : Bool) → (s ≡ true → d ≡ true → w ≡ r) → ((a && (s && w)) && d) ≡ (a && (s && (r && d)))
-joined false s w r d e = refl
-joined true false w r d e = refl
-joined true true w r true e = ap (λ b. b && true) (e refl refl)
-joined true true w r false e = never w ∙ sym (never r)
+joined : (a w r d : Bool) → (a ≡ true → d ≡ true → w ≡ r) → ((a && w) && d) ≡ (a && (r && d))
+joined false w r d e = refl
+joined true w r true e = ap (λ b. b && true) (e refl refl)
+joined true w r false e = never w ∙ sym (never r)
   where
     never : (b : Bool) → (b && false) ≡ false
     never true = refl
     never false = refl
 
+starts_there : (v : VFunc) (c : Certificate) → is_whole v c ≡ true → equalities_exist v.registers c.starts ≡ true
+starts_there v c h =
+    let rest = both_true (has_lengths v.code c) (equalities_exist v.registers c.starts && (equalities_exist v.registers c.places && list_all names_once c.places)) h in
+    (both_true (equalities_exist v.registers c.starts) (equalities_exist v.registers c.places && list_all names_once c.places) rest.1).0
+
 pub tests_accept : (v : VFunc) (c : Certificate) → (right_in v c && is_placed v.registers (placed_by v.code c)) ≡ is_accepted v c
 tests_accept v c =
-    joined (nat_le (end_point 0 v.code.blocks) (length c.places)) (starts_exist v.registers c.starts) (sound_in v.registers v.code c) (is_sound v.code c)
-    (is_placed v.registers (placed_by v.code c))
-    (λ starts placed. sound_is v.registers v.code c (from_true (keeps_places (is_below v.registers) v.code) v.known) starts (parts v.registers (placed_by v.code c) placed).places)
+    joined (is_whole v c) (sound_in v.registers v.code c) (is_sound v.code c) (is_placed v.registers (placed_by v.code c))
+    (λ whole placed. sound_is v.registers v.code c (from_true (keeps_places (is_below v.registers) v.code) v.known) (starts_there v c whole) (parts v.registers (placed_by v.code c) placed).places)
 
 pub refused : (v : VFunc) (c : Certificate) → right_in v c ≡ false → is_accepted v c ≡ false
 refused v c h = sym (tests_accept v c) ∙ ap (λ b. b && is_placed v.registers (placed_by v.code c)) h
@@ -57,6 +60,5 @@ accepted v c h d = sym (tests_accept v c) ∙ ap (λ b. b && is_placed v.registe
 
 pub accepted_sound : (v : VFunc) (c : Certificate) → is_accepted v c ≡ true → is_sound v.code c ≡ true
 accepted_sound v c h =
-    let first = both_true (nat_le (end_point 0 v.code.blocks) (length c.places)) (starts_exist v.registers c.starts && (is_sound v.code c && is_placed v.registers (placed_by v.code c))) h in
-    let second = both_true (starts_exist v.registers c.starts) (is_sound v.code c && is_placed v.registers (placed_by v.code c)) first.1 in
-    (both_true (is_sound v.code c) (is_placed v.registers (placed_by v.code c)) second.1).0
+    let first = both_true (is_whole v c) (is_sound v.code c && is_placed v.registers (placed_by v.code c)) h in
+    (both_true (is_sound v.code c) (is_placed v.registers (placed_by v.code c)) first.1).0

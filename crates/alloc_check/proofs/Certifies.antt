@@ -4,7 +4,6 @@ use Rattle.std.specs.Prelude.{IsTrue}
 use Rattle.std.specs.List.{list_all, list_any, sum_by}
 use Rattle.std.proofs.lemmas.Bool.Decides.{nat_tests}
 use Rattle.vcode.specs.declared.place.Location.{Location}
-use Rattle.vcode.specs.declared.place.Location.TheVariants.{Slot}
 use Rattle.vcode.specs.declared.place.Operand.{Operand}
 use Rattle.vcode.specs.declared.place.Operand.TheVariants.{At}
 use Rattle.vcode.specs.declared.place.Destination.{Destination}
@@ -16,10 +15,10 @@ use Rattle.vcode.specs.Cost.{is_paid}
 use Rattle.vcode.specs.Regular.{leads_inside, is_alloc, allocs_first, alloc_bytes, area, turns_of, passes_few, weight_of, code_weight, IsRegular}
 use Rattle.certificates.specs.declared.certificate.Transfer.{Transfer}
 use Rattle.certificates.specs.declared.certificate.Certificate.{Certificate}
-use Rattle.alloc_check.specs.Placed.{Layout, placed_line, placed_block, in_slots}
+use Rattle.alloc_check.specs.Placed.{Layout, placed_line}
 use Rattle.alloc_check.specs.Certified.{moves_at, layout_at, transfers, next_point, jump_point, certified_lines, certified_block, certified_blocks, certified_params, placed_by}
 use Rattle.alloc_check.specs.Walk.{moves_before}
-use Rattle.alloc_check.proofs.Regular.{all_map, leads_same, alloc_same, bytes_same, turns_same, few_same}
+use Rattle.alloc_check.proofs.Regular.{leads_same, alloc_same, bytes_same, turns_same, few_same}
 use Rattle.alloc_check.proofs.Walks.{lines_on, append_three}
 
 pub to_true : (b : Bool) → b ≡ true → IsTrue b

@@ -1,5 +1,5 @@
 -- Points only grow.
-use Rattle.std.proofs.Common.{◌≡◌, ℕ, ◌+◌, ◌<◌, ◌≤◌, Bool, true, false, nat_le, List, [], ◌∷◌, Some, None, refl, sym, ap, ◌∙◌, arith, if◌then◌else◌, zero, suc, length, get_or, drop}
+use Rattle.std.proofs.Common.{◌≡◌, ℕ, ◌+◌, ◌<◌, ◌≤◌, Bool, true, false, nat_le, nat_eq, List, [], ◌∷◌, Some, None, refl, sym, ap, ◌∙◌, arith, if◌then◌else◌, zero, suc, length, get_or, drop}
 use Rattle.std.proofs.lemmas.Bool.Decides.{nat_tests}
 use Rattle.vcode.specs.declared.line.Line.{Line}
 use Rattle.vcode.specs.declared.line.Line.TheVariants.{Tick, Set, Operate, Load, Store, Alloc, Blit, Call}
@@ -43,12 +43,12 @@ within limit p q h = by (nat_le p limit) refl h
     by true e f = (cc, grind (arith, nat_tests))
     by false e f = cc
 
-pub none_within : (limit p : ℕ) → bounded limit p ≡ None → nat_le p limit ≡ false
-none_within limit p h = by (nat_le p limit) h
+pub none_there : (count p : ℕ) → bounded count p ≡ None → nat_eq p count ≡ false
+none_there count p h = by (nat_le p count) refl h
   where
-    by : (b : Bool) → (if b then Some p else None) ≡ None → b ≡ false
-    by true e = cc
-    by false e = refl
+    by : (b : Bool) → nat_le p count ≡ b → (if b then Some p else None) ≡ None → nat_eq p count ≡ false
+    by true e f = cc
+    by false e f = grind (arith, nat_tests)
 
 -- ---- in a loop
 

@@ -11,3 +11,4 @@ pub mod Measures
 pub mod Accepts
 pub mod Slots
 pub mod Spilled
+pub mod Naming

@@ -26,7 +26,7 @@ use Rattle.cfg_live.specs.Registers.{with_operand, with_args, line_reads, jump_r
 use Rattle.alloc_check.specs.Placed.{placed_operand, placed_argument, placed_destination, placed_line, placed_jump, placed_block, in_slots}
 use Rattle.alloc_check.specs.Owners.{Owners, nobody, other_than, own_put, own_also, own_kept, moved, known, owns, operand_held, args_held, all_hold, where_held, received, after_line}
 use Rattle.alloc_check.specs.Certified.{moves_at, starts_at, layout_at, transfers, next_point, jump_point, certified_lines, certified_blocks, certified_params, placed_by, jump_right, lines_right, blocks_right, own_params, is_param, params_placed, entry_right, is_sound}
-use Rattle.alloc_check.specs.Accepted.{exists_in, starts_exist, is_placed, is_accepted}
+use Rattle.alloc_check.specs.Accepted.{exists_in, equalities_exist, names_once, is_whole, is_placed, is_accepted}
 use Rattle.alloc_check.specs.Slotted.{is_empty, is_own, own_at, lines_own, blocks_own, Wanted, start_wanted, targets_wanted, writes_to, LinesWant, names, BlocksWant, IsSlotted}
 use Rattle.alloc_check.specs.Walk.{moves_before}
 use Rattle.alloc_check.proofs.Agreeing.{both_true, either_true, same_is}
@@ -168,11 +168,11 @@ all_exist n (e ∷ es) h =
     let s = both_true (is_own n e) (list_all (is_own n) es) h in
     ap (λ b. b && list_all (exists_in n) es) (own_exists n e s.0) ∙ all_exist n es s.1
 
-slotted_starts : (n : ℕ) (starts : List (List Equality)) → list_all (λ (es : List Equality). list_all (is_own n) es) starts ≡ true → starts_exist n starts ≡ true
-slotted_starts n [] h = refl
-slotted_starts n (es ∷ starts) h =
+own_all_exist : (n : ℕ) (starts : List (List Equality)) → list_all (λ (es : List Equality). list_all (is_own n) es) starts ≡ true → equalities_exist n starts ≡ true
+own_all_exist n [] h = refl
+own_all_exist n (es ∷ starts) h =
     let s = both_true (list_all (is_own n) es) (list_all (λ (xs : List Equality). list_all (is_own n) xs) starts) h in
-    ap (λ b. b && starts_exist n starts) (all_exist n es s.0) ∙ slotted_starts n starts s.1
+    ap (λ b. b && equalities_exist n starts) (all_exist n es s.0) ∙ own_all_exist n starts s.1
 
 start_own : (n : ℕ) (starts : List (List Equality)) (k : ℕ) → list_all (λ (es : List Equality). list_all (is_own n) es) starts ≡ true
     → list_all (is_own n) (option_map_or (λ (es : List Equality). es) (slice_get starts k) []) ≡ true
@@ -474,9 +474,15 @@ slotted_sound wanted v c is =
     ∙ entry_so v.registers v.code.params (starts_at c 0) (start_own v.registers c.starts 0 is.starts))
     ∙ blocks_go wanted v.registers c 0 0 v.code.blocks is.starts is.still is.places is.wants
 
+slotted_whole : (wanted : Wanted) (v : VFunc) (c : Certificate) → IsSlotted wanted v c → is_whole v c ≡ true
+slotted_whole wanted v c is =
+    ap (λ b. b && (equalities_exist v.registers c.starts && (equalities_exist v.registers c.places && list_all names_once c.places))) is.lengths
+    ∙ ap (λ b. b && (equalities_exist v.registers c.places && list_all names_once c.places)) (own_all_exist v.registers c.starts is.starts)
+    ∙ ap (λ b. b && list_all names_once c.places) (own_all_exist v.registers c.places is.owned)
+    ∙ is.once
+
 pub slotted_accepted : (wanted : Wanted) (v : VFunc) (c : Certificate) → IsSlotted wanted v c → is_accepted v c ≡ true
 slotted_accepted wanted v c is =
-    ap (λ b. b && (starts_exist v.registers c.starts && (is_sound v.code c && is_placed v.registers (placed_by v.code c)))) is.long
-    ∙ ap (λ b. b && (is_sound v.code c && is_placed v.registers (placed_by v.code c))) (slotted_starts v.registers c.starts is.starts)
+    ap (λ b. b && (is_sound v.code c && is_placed v.registers (placed_by v.code c))) (slotted_whole wanted v c is)
     ∙ ap (λ b. b && is_placed v.registers (placed_by v.code c)) (slotted_sound wanted v c is)
     ∙ slotted_placed wanted v c is

@@ -1,5 +1,5 @@
 -- The certificate that has each register in its slot, and knows the live ones of each block's start.
-use Rattle.std.proofs.Common.{◌≡◌, ℕ, zero, suc, ◌+◌, ◌<◌, ◌≤◌, Bool, true, false, ◌&&◌, ◌||◌, nat_eq, nat_lt, nat_le, if◌then◌else◌, List, [], ◌∷◌, ◌++◌, map, length, slice_get, Option, Some, None, refl, sym, ◌∙◌, ap, arith, inl, inr}
+use Rattle.std.proofs.Common.{◌≡◌, ℕ, zero, suc, ◌+◌, ◌<◌, ◌≤◌, Bool, true, false, not, ◌&&◌, ◌||◌, nat_eq, nat_lt, if◌then◌else◌, List, [], ◌∷◌, ◌++◌, map, length, slice_get, Option, Some, None, refl, sym, ◌∙◌, ap, arith, inl, inr}
 use Rattle.std.specs.List.{list_all, list_any}
 use Rattle.std.specs.Prelude.{◌⊎◌}
 use Rattle.std.specs.Option.{option_map, option_map_or}
@@ -30,7 +30,7 @@ use Rattle.cfg_live.specs.Paths.{writes, leads}
 use Rattle.cfg_live.specs.Rows.{holds, AreLive}
 use Rattle.certificates.proofs.Grows.{block_count, uses_count}
 use Rattle.alloc_check.specs.Certified.{place_by, starts_at, places_at, next_point, jump_point}
-use Rattle.alloc_check.specs.Accepted.{end_point}
+use Rattle.alloc_check.specs.Accepted.{end_point, names_once, has_lengths}
 use Rattle.alloc_check.specs.Slotted.{is_empty, is_own, own_at, lines_own, blocks_own, start_wanted, targets_wanted, writes_to, LinesWant, names, BlocksWant, IsSlotted}
 use Rattle.alloc_check.proofs.Certifies.{from_true}
 use Rattle.alloc_check.proofs.Regular.{map_length}
@@ -204,6 +204,66 @@ written_own n es (Some x) below all =
     let one = with_own n es x low all in
     (one.0, (λ r h. (let same : x ≡ r = cc in ap (has (with_place (slots n) es x)) (sym same) ∙ one.1.0), one.1.1))
 
+-- ---- each register once
+
+once_more : (es : List Equality) (e : Equality) → names_once es ≡ true → has es e.register ≡ false → names_once (es ++ e ∷ []) ≡ true
+once_more [] e h f = refl
+once_more (x ∷ es) e h f =
+    let s = both_true (not (has es x.register)) (names_once es) h in
+    let t = neither (nat_eq x.register e.register) (has es e.register) f in
+    let other : nat_eq e.register x.register ≡ false = grind (arith, nat_tests) in
+    let before : has es x.register ≡ false = is_not (has es x.register) s.0 in
+    let after : has (es ++ e ∷ []) x.register ≡ false =
+    any_append (λ (k : Equality). nat_eq k.register x.register) es (e ∷ []) ∙ ap (λ b. b || (nat_eq e.register x.register || false)) before ∙ ap (λ b. b || false) other in
+    ap (λ b. not b && names_once (es ++ e ∷ [])) after ∙ once_more es e s.1 t.1
+  where
+    neither : (a b : Bool) → (a || b) ≡ false → (a ≡ false) × (b ≡ false)
+    neither true b g = cc
+    neither false b g = (refl, g)
+
+    is_not : (b : Bool) → not b ≡ true → b ≡ false
+    is_not true g = cc
+    is_not false g = refl
+
+with_once : (n : ℕ) (es : List Equality) (r : ℕ) → r < n → names_once es ≡ true → names_once (with_place (slots n) es r) ≡ true
+with_once n es r low once = by (has es r) refl
+  where
+    by : (b : Bool) → has es r ≡ b → names_once (with_place (slots n) es r) ≡ true
+    by true f = ap (λ b. names_once (if b then es else es ++ place_in (slots n) r)) f ∙ once
+    by false f =
+        ap (λ b. names_once (if b then es else es ++ place_in (slots n) r)) f ∙ ap (λ xs. names_once (es ++ xs)) (place_slot n r low) ∙ once_more es (own r) once f
+
+withs_once : (n : ℕ) (es : List Equality) (rs : List ℕ) → list_all (is_below n) rs ≡ true → names_once es ≡ true → names_once (with_places (slots n) es rs) ≡ true
+withs_once n es [] below once = once
+withs_once n es (x ∷ rs) below once =
+    let s = both_true (is_below n x) (list_all (is_below n) rs) below in
+    let low : x < n = grind (arith, nat_tests) in
+    withs_once n (with_place (slots n) es x) rs s.1 (with_once n es x low once)
+
+written_once : (n : ℕ) (es : List Equality) (w : Option ℕ) → below_wanted n w ≡ true → names_once es ≡ true → names_once (with_written (slots n) es w) ≡ true
+written_once n es None below once = once
+written_once n es (Some x) below once =
+    let low : x < n = grind (arith, nat_tests) in
+    with_once n es x low once
+
+abbrev use_below : ℕ → Uses → Bool
+use_below n u = list_all (is_below n) u.reads && below_wanted n u.writes
+
+-- at each point the registers that it names are in their slots, and each is named once
+points_own : (n : ℕ) (us : List Uses) → list_all (use_below n) us ≡ true
+    → (list_all (λ (es : List Equality). list_all (is_own n) es) (map (point_places (slots n)) us) ≡ true) × (list_all names_once (map (point_places (slots n)) us) ≡ true)
+points_own n [] h = (refl, refl)
+points_own n (u ∷ us) h =
+    let s = both_true (use_below n u) (list_all (use_below n) us) h in
+    let t = both_true (list_all (is_below n) u.reads) (below_wanted n u.writes) s.0 in
+    let reads = withs_own n [] u.reads t.0 refl in
+    let all = written_own n (with_places (slots n) [] u.reads) u.writes t.1 reads.0 in
+    let once = written_once n (with_places (slots n) [] u.reads) u.writes t.1 (withs_once n [] u.reads t.0 refl) in
+    let rest = points_own n us s.1 in (
+      ap (λ b. b && list_all (λ (es : List Equality). list_all (is_own n) es) (map (point_places (slots n)) us)) all.0 ∙ rest.0,
+      ap (λ b. b && list_all names_once (map (point_places (slots n)) us)) once ∙ rest.1,
+    )
+
 -- each register that the point names is in its slot
 pub point_own : (n : ℕ) (u : Uses) → list_all (is_below n) u.reads ≡ true → below_wanted n u.writes ≡ true
     → ((r : ℕ) → is_in u.reads r ≡ true → place_by (point_places (slots n) u) r ≡ Slot r) × ((r : ℕ) → u.writes ≡ Some r → place_by (point_places (slots n) u) r ≡ Slot r)
@@ -297,6 +357,32 @@ pub next_blocks_begin : (firsts : List ℕ) (ns : List (List ℕ)) (blocks : Lis
 next_blocks_begin firsts ns [] p x h = h
 next_blocks_begin firsts ns (b ∷ blocks) p x h =
     next_blocks_begin firsts (next_block firsts ns b) blocks p x (get_append (next_lines ns b.lines) (jump_next firsts b.jump ∷ []) p x (nexts_begin ns b.lines p x h))
+
+-- ---- what points name
+
+one_below : (n : ℕ) (us : List Uses) (u : Uses) → list_all (use_below n) us ≡ true → list_all (is_below n) u.reads ≡ true → below_wanted n u.writes ≡ true → list_all (use_below n) (us ++ u ∷ []) ≡ true
+one_below n us u h reads writes =
+    every_append (use_below n) us (u ∷ []) h (ap (λ b. (b && below_wanted n u.writes) && true) reads ∙ ap (λ b. b && true) writes)
+
+lines_below : (n : ℕ) (us : List Uses) (lines : List (Line ℕ)) → list_all (use_below n) us ≡ true → list_all (line_keeps (is_below n)) lines ≡ true → list_all (use_below n) (with_lines us lines) ≡ true
+lines_below n us [] h below = h
+lines_below n us (l ∷ lines) h below =
+    let s = both_true (line_keeps (is_below n) l) (list_all (line_keeps (is_below n)) lines) below in
+    let low = names_below (is_below n) l s.0 in
+    lines_below n (with_line us l) lines
+    (elim (kind l) [
+      | inl t ↦ ap (list_all (use_below n)) (t.uses us) ∙ h
+      | inr t ↦ ap (list_all (use_below n)) (t.uses us) ∙ one_below n us (line_uses l) h low.0 low.1
+    ])
+    s.1
+
+blocks_below : (n : ℕ) (us : List Uses) (blocks : List (Block ℕ)) → list_all (use_below n) us ≡ true → list_all (block_keeps (is_below n)) blocks ≡ true → list_all (use_below n) (with_blocks us blocks) ≡ true
+blocks_below n us [] h below = h
+blocks_below n us (b ∷ blocks) h below =
+    let s = both_true (block_keeps (is_below n) b) (list_all (block_keeps (is_below n)) blocks) below in
+    let t = both_true (list_all (line_keeps (is_below n)) b.lines) (jump_keeps (is_below n) b.jump) s.0 in
+    blocks_below n (with_block us b) blocks
+    (one_below n (with_lines us b.lines) (jump_uses b.jump) (lines_below n us b.lines h t.0) (sym (jump_below (is_below n) b.jump) ∙ t.1) refl) s.1
 
 -- ---- the live registers where a block begins
 
@@ -545,22 +631,42 @@ blocks_so v n rows live p k (b ∷ blocks) us ns cu cn bu bn firsts below =
 
 -- ---- all of it
 
+starts_count : (n : ℕ) (rows : List Bits) (p : ℕ) (blocks : List (Block ℕ)) → length (listed_starts (slots n) rows n p blocks) ≡ length blocks
+starts_count n rows p [] = refl
+starts_count n rows p (b ∷ blocks) = ap suc (starts_count n rows (jump_point p b.lines + 1) blocks)
+
+equal : (a b : ℕ) → a ≡ b → nat_eq a b ≡ true
+equal a b h = grind (arith, nat_tests)
+
+lengths_listed : (v : Code ℕ) (n : ℕ) (rows : List Bits) → list_all (λ (d : Destination ℕ). is_below n d.place) v.params ≡ true → has_lengths v (slotted v n rows) ≡ true
+lengths_listed v n rows low =
+    let c = slotted v n rows in
+    let points : end_point 0 v.blocks ≡ length (uses v.blocks) = sym (uses_count v.blocks) in
+    let params = equal (length c.params) (length v.params) (ap length (params_listed n v.params low) ∙ map_length (λ (d : Destination ℕ). Slot d.place) v.params) in
+    let starts = equal (length c.starts) (length v.blocks) (starts_count n rows 0 v.blocks) in
+    let moves = equal (end_point 0 v.blocks) (length c.moves) (points ∙ sym (map_length no_moves (uses v.blocks))) in
+    let places = equal (end_point 0 v.blocks) (length c.places) (points ∙ sym (map_length (point_places (slots n)) (uses v.blocks))) in
+    ap (λ b. b && (nat_eq (length c.starts) (length v.blocks) && (nat_eq (end_point 0 v.blocks) (length c.moves) && nat_eq (end_point 0 v.blocks) (length c.places)))) params
+    ∙ ap (λ b. b && (nat_eq (end_point 0 v.blocks) (length c.moves) && nat_eq (end_point 0 v.blocks) (length c.places))) starts
+    ∙ ap (λ b. b && nat_eq (end_point 0 v.blocks) (length c.places)) moves
+    ∙ places
+
 pub spilled : (v : VFunc) (rows : List Bits) → AreLive (graph_of v.code) v.registers rows → IsSlotted (holds rows) v (slotted v.code v.registers rows)
 spilled v rows live =
     let s = both_true (list_all (λ (d : Destination ℕ). is_below v.registers d.place) v.code.params) (list_all (block_keeps (is_below v.registers)) v.code.blocks)
     (from_true (keeps_places (is_below v.registers) v.code) v.known) in
     let firsts : starts v.code.blocks ≡ firsts_from 0 v.code.blocks = starts_same [] v.code.blocks in
+    let owned = points_own v.registers (uses v.code.blocks) (blocks_below v.registers [] v.code.blocks refl s.1) in
     let all = blocks_so v.code v.registers rows live 0 0 v.code.blocks [] [] refl refl (λ q x h. h)
     (λ q x h. ap (λ fs. slice_get (next_blocks fs [] v.code.blocks) q) firsts ∙ h)
     (λ i q h. ap (slice_get (firsts_from 0 v.code.blocks)) (let e : 0 + i ≡ i = omega arith in e) ∙ h) s.1 in
     record {
       params = params_listed v.registers v.code.params s.0;
+      lengths = lengths_listed v.code v.registers rows s.0;
       still = still_listed (uses v.code.blocks);
-      long =
-          (let e : length (map (point_places (slots v.registers)) (uses v.code.blocks)) ≡ end_point 0 v.code.blocks =
-          map_length (point_places (slots v.registers)) (uses v.code.blocks) ∙ uses_count v.code.blocks in
-          ap (λ k. nat_le (end_point 0 v.code.blocks) k) e ∙ (let f : nat_le (end_point 0 v.code.blocks) (end_point 0 v.code.blocks) ≡ true = grind (arith, nat_tests) in f));
       starts = starts_listed v.registers rows 0 v.code.blocks;
+      owned = owned.0;
+      once = owned.1;
       places = all.1;
       wants = all.0;
     }

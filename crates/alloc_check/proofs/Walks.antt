@@ -18,7 +18,7 @@ use Rattle.certificates.specs.declared.certificate.Certificate.{Certificate}
 use Rattle.alloc_check.specs.Placed.{Layout, placed_operand, placed_argument, placed_destination, placed_line, placed_jump}
 use Rattle.alloc_check.specs.Owners.{Owners, nobody, own_put, own_move, own_kept, own_also, moved, known, operand_held, args_held, where_held, received, after_line}
 use Rattle.alloc_check.specs.Certified.{moves_at, starts_at, layout_at, transfers, next_point, jump_point, certified_lines, certified_block, certified_blocks, certified_params, placed_by, jump_right, lines_right, blocks_right, own_params, params_placed, entry_right, is_sound}
-use Rattle.alloc_check.specs.Accepted.{exists_in, starts_exist}
+use Rattle.alloc_check.specs.Accepted.{exists_in, equalities_exist}
 use Rattle.alloc_check.specs.Table.{in_table}
 use Rattle.alloc_check.specs.Walk.{put_in, moved_in, known_in, after_reads, receives_in, line_in, lines_in, jump_in, blocks_in, params_in, entry_holds, sound_in, certified_line}
 use Rattle.alloc_check.proofs.Agreeing.{both_true}
@@ -154,12 +154,12 @@ known_is n (e ∷ es) own h =
     ∙ ap (λ b. option_and_then (known_in n es) (where_held b (own_also e own))) here.1
     ∙ known_is n es (own_also e own) first.1
 
-start_exists : (n : ℕ) (starts : List (List Equality)) (k : ℕ) → starts_exist n starts ≡ true → list_all (exists_in n) (option_map_or (λ (es : List Equality). es) (slice_get starts k) []) ≡ true
+start_exists : (n : ℕ) (starts : List (List Equality)) (k : ℕ) → equalities_exist n starts ≡ true → list_all (exists_in n) (option_map_or (λ (es : List Equality). es) (slice_get starts k) []) ≡ true
 start_exists n [] k h = refl
-start_exists n (es ∷ starts) zero h = (both_true (list_all (exists_in n) es) (starts_exist n starts) h).0
-start_exists n (es ∷ starts) (suc k) h = start_exists n starts k (both_true (list_all (exists_in n) es) (starts_exist n starts) h).1
+start_exists n (es ∷ starts) zero h = (both_true (list_all (exists_in n) es) (equalities_exist n starts) h).0
+start_exists n (es ∷ starts) (suc k) h = start_exists n starts k (both_true (list_all (exists_in n) es) (equalities_exist n starts) h).1
 
-pub blocks_are : (n : ℕ) (c : Certificate) (p k : ℕ) (blocks : List (Block ℕ)) → starts_exist n c.starts ≡ true → list_all (block_keeps (is_below n)) blocks ≡ true
+pub blocks_are : (n : ℕ) (c : Certificate) (p k : ℕ) (blocks : List (Block ℕ)) → equalities_exist n c.starts ≡ true → list_all (block_keeps (is_below n)) blocks ≡ true
     → list_all (block_keeps (is_place n)) (certified_blocks c p blocks) ≡ true → blocks_in n c p k blocks ≡ blocks_right c p k blocks
 blocks_are n c p k [] starts e h = refl
 blocks_are n c p k (b ∷ blocks) starts e h =
@@ -191,7 +191,7 @@ and_assoc : (a b c : Bool) → ((a && b) && c) ≡ (a && (b && c))
 and_assoc true b c = refl
 and_assoc false b c = refl
 
-pub sound_is : (n : ℕ) (v : Code ℕ) (c : Certificate) → keeps_places (is_below n) v ≡ true → starts_exist n c.starts ≡ true → keeps_places (is_place n) (placed_by v c) ≡ true
+pub sound_is : (n : ℕ) (v : Code ℕ) (c : Certificate) → keeps_places (is_below n) v ≡ true → equalities_exist n c.starts ≡ true → keeps_places (is_place n) (placed_by v c) ≡ true
     → sound_in n v c ≡ is_sound v c
 sound_is n v c e starts h =
     let below = both_true (list_all (λ (d : Destination ℕ). is_below n d.place) v.params) (list_all (block_keeps (is_below n)) v.blocks) e in

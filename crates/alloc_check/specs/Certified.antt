@@ -3,7 +3,7 @@ use Rattle.std.specs.Prelude.{ℕ, ◌+◌, Bool, true, false, not, ◌&&◌, �
 use Rattle.std.specs.List.{list_all, list_any}
 use Rattle.std.specs.Option.{option_map_or}
 use Rattle.vcode.specs.declared.place.Location.{Location}
-use Rattle.vcode.specs.declared.place.Location.TheVariants.{Slot}
+use Rattle.vcode.specs.declared.place.Location.TheVariants.{Register}
 use Rattle.vcode.specs.declared.place.Operand.TheVariants.{At}
 use Rattle.vcode.specs.declared.place.Destination.{Destination}
 use Rattle.vcode.specs.declared.line.Line.{Line}
@@ -27,9 +27,9 @@ moves_at c p = option_map_or (λ (ms : List Transfer). ms) (slice_get c.moves p)
 abbrev pub starts_at : Certificate → ℕ → List Equality
 starts_at c k = option_map_or (λ (es : List Equality). es) (slice_get c.starts k) []
 
--- the place of the register by the first equality that names it
+-- the place of the register by the first equality that names it; where none does it is x0, which no code may name
 abbrev pub place_by : List Equality → Layout
-place_by [] r = Slot 0
+place_by [] r = Register 0
 place_by (e ∷ es) r = if nat_eq e.register r then e.place else place_by es r
 
 abbrev pub places_at : Certificate → ℕ → List Equality

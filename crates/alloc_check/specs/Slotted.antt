@@ -1,5 +1,5 @@
 -- Certificates that have each register in the slot of its number, and know of each block's start what is wanted there.
-use Rattle.std.specs.Prelude.{◌≡◌, ℕ, ◌+◌, Bool, true, false, ◌&&◌, ◌||◌, nat_eq, nat_lt, nat_le, List, [], ◌∷◌, map, length}
+use Rattle.std.specs.Prelude.{◌≡◌, ℕ, ◌+◌, Bool, true, false, ◌&&◌, ◌||◌, nat_eq, nat_lt, List, [], ◌∷◌, map}
 use Rattle.std.specs.List.{list_all, list_any}
 use Rattle.std.specs.Option.{option_map_or}
 use Rattle.vcode.specs.declared.place.Location.TheVariants.{Slot}
@@ -16,7 +16,7 @@ use Rattle.certificates.specs.declared.certificate.Transfer.{Transfer}
 use Rattle.certificates.specs.declared.certificate.Certificate.{Certificate}
 use Rattle.cfg_live.specs.Registers.{line_reads, line_writes, jump_reads}
 use Rattle.alloc_check.specs.Certified.{starts_at, layout_at, next_point, jump_point}
-use Rattle.alloc_check.specs.Accepted.{end_point}
+use Rattle.alloc_check.specs.Accepted.{names_once, has_lengths}
 
 abbrev pub is_empty : List Transfer → Bool
 is_empty [] = true
@@ -73,8 +73,10 @@ BlocksWant wanted c p k (b ∷ blocks) =
 
 pub record IsSlotted (wanted : Wanted) (v : VFunc) (c : Certificate) : Type 0 where
   pub params : c.params ≡ map (λ (d : Destination ℕ). Slot d.place) v.code.params
+  pub lengths : has_lengths v.code c ≡ true
   pub still : list_all is_empty c.moves ≡ true
-  pub long : nat_le (end_point 0 v.code.blocks) (length c.places) ≡ true
   pub starts : list_all (λ (es : List Equality). list_all (is_own v.registers) es) c.starts ≡ true
+  pub owned : list_all (λ (es : List Equality). list_all (is_own v.registers) es) c.places ≡ true
+  pub once : list_all names_once c.places ≡ true
   pub places : blocks_own c 0 v.code.blocks ≡ true
   pub wants : BlocksWant wanted c 0 0 v.code.blocks

@@ -1,16 +1,16 @@
 //! Which certificates are taken for code.
-ghost use Rattle.std.specs.Prelude.{◌≡◌, ◌<◌, ◌^◌, ◌&&◌, true, false, nat_le, length, IfOk, IfErr};
+ghost use Rattle.std.specs.Prelude.{◌≡◌, ◌<◌, ◌^◌, ◌&&◌, true, false, IfOk, IfErr};
 ghost use Rattle.alloc_check.specs.declared.accept.Refused.TheVariants.{No};
 ghost use Rattle.alloc_check.specs.Certified.{placed_by};
-ghost use Rattle.alloc_check.specs.Accepted.{end_point, starts_exist, is_accepted};
+ghost use Rattle.alloc_check.specs.Accepted.{end_point, is_whole, is_accepted};
 ghost use Rattle.il_ast.specs.Passes.{Keeps};
 ghost use Rattle.vcode.specs.Coded.{virtual_code, location_code};
 ghost use Rattle.alloc_check.specs.Walk.{sound_in};
 
 use crate::certified::certified;
 use crate::check::is_sound;
-use crate::fits::{is_placed, starts_exist};
-use crate::points::are_within;
+use crate::fits::is_placed;
+use crate::whole::is_whole;
 use certificates::certificate::Certificate;
 use std::alloc::{AllocError, Global};
 use vcode::function::{LFunc, VFunc};
@@ -37,14 +37,10 @@ impl From<AllocError> for Refused {
 
 // What is to be known before code is made.
 fn is_right(alloc: Global, function: &VFunc, certificate: &Certificate) -> Result<bool, AllocError>
-    ensures right { IfOk result (λ b. b ≡ (nat_le (end_point 0 function.now.code.blocks) (length certificate.now.places) && (starts_exist function.now.registers certificate.now.starts && sound_in function.now.registers function.now.code certificate.now))) }
+    ensures right { IfOk result (λ b. b ≡ (is_whole function.now certificate.now && sound_in function.now.registers function.now.code certificate.now)) }
     ensures few { IfOk result (λ b. b ≡ true → end_point 0 function.now.code.blocks < 2 ^ 64) }
 {
-    let blocks = function.code.blocks.as_slice();
-    if !are_within(blocks, certificate.places.len()) {
-        return Ok(false);
-    }
-    if !starts_exist(function.registers, certificate.starts.as_slice()) {
+    if !is_whole(function, certificate) {
         return Ok(false);
     }
     let right = is_sound(alloc, function, certificate)?;
@@ -56,7 +52,9 @@ fn is_right(alloc: Global, function: &VFunc, certificate: &Certificate) -> Resul
 ///
 /// # Errors
 ///
-/// `Refused::No` only where the certificate isn't accepted, `Refused::Memory` only where memory was refused.
+/// `Refused::No` only where the certificate isn't accepted: a list is too short or too long, a register or place isn't there, a point has for a register no place
+/// or two, two parameters have one place, a line or a jump doesn't find what it asks for, or the ticks don't pay for the moves. `Refused::Memory` only where memory
+/// was refused.
 pub fn accept(alloc: Global, function: &VFunc, certificate: &Certificate) -> Result<LFunc, Refused>
     ensures code { IfOk result (λ l. l.code ≡ placed_by function.now.code certificate.now) }
     ensures slots { IfOk result (λ l. l.slots ≡ function.now.registers) }

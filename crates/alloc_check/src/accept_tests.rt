@@ -122,6 +122,7 @@ fn of_layout(
     let mut moves = Seq::new(alloc);
     moves.push(list(alloc, before_call)?)?;
     moves.push(list(alloc, before_sum)?)?;
+    moves.push(Seq::new(alloc))?;
     let mut places = Seq::new(alloc);
     places.push(list(alloc, &[at(0, layout.passed), at(1, layout.result)])?)?;
     places.push(list(
@@ -362,34 +363,95 @@ fn moves_stay_within_the_price(rt: HostRuntime) -> Result<(), Fail> {
     Ok(())
 }
 
+/// Whether `calling` with this certificate is answered no.
+fn is_no(alloc: Global, certificate: &Certificate) -> Result<bool, AllocError> {
+    let function = calling(alloc)?;
+    Ok(matches!(accept(alloc, &function, certificate), Err(Refused::No)))
+}
+
 #[test]
 fn short_lists_are_refused(rt: HostRuntime) -> Result<(), Fail> {
     let alloc = rt.alloc();
-    let function = calling(alloc)?;
-    let mut certificate = of_layout(alloc, kept(), &[], &[])?;
-    certificate.places = Seq::new(alloc);
-    assert!(rt; matches!(accept(alloc, &function, &certificate), Err(Refused::No)));
-    let mut certificate = of_layout(alloc, kept(), &[], &[])?;
-    certificate.starts = Seq::new(alloc);
-    assert!(rt; matches!(accept(alloc, &function, &certificate), Err(Refused::No)));
     let mut certificate = of_layout(alloc, kept(), &[], &[])?;
     certificate.params = Seq::new(alloc);
-    assert!(rt; matches!(accept(alloc, &function, &certificate), Err(Refused::No)));
-    // where it says nothing of moves there are none
+    assert!(rt; is_no(alloc, &certificate)?);
+    let mut certificate = of_layout(alloc, kept(), &[], &[])?;
+    certificate.starts = Seq::new(alloc);
+    assert!(rt; is_no(alloc, &certificate)?);
     let mut certificate = of_layout(alloc, kept(), &[], &[])?;
     certificate.moves = Seq::new(alloc);
-    assert!(rt; accept(alloc, &function, &certificate).is_ok());
+    assert!(rt; is_no(alloc, &certificate)?);
+    let mut certificate = of_layout(alloc, kept(), &[], &[])?;
+    certificate.places = Seq::new(alloc);
+    assert!(rt; is_no(alloc, &certificate)?);
+    Ok(())
+}
+
+#[test]
+fn long_lists_are_refused(rt: HostRuntime) -> Result<(), Fail> {
+    let alloc = rt.alloc();
+    let mut certificate = of_layout(alloc, kept(), &[], &[])?;
+    certificate.params.push(Location::Register(18))?;
+    assert!(rt; is_no(alloc, &certificate)?);
+    let mut certificate = of_layout(alloc, kept(), &[], &[])?;
+    certificate.starts.push(Seq::new(alloc))?;
+    assert!(rt; is_no(alloc, &certificate)?);
+    let mut certificate = of_layout(alloc, kept(), &[], &[])?;
+    certificate.moves.push(Seq::new(alloc))?;
+    assert!(rt; is_no(alloc, &certificate)?);
+    let mut certificate = of_layout(alloc, kept(), &[], &[])?;
+    certificate.places.push(Seq::new(alloc))?;
+    assert!(rt; is_no(alloc, &certificate)?);
+    Ok(())
+}
+
+/// The certificate with everything in registers, but that the return names these places.
+fn returning(alloc: Global, named: &[Equality]) -> Result<Certificate, AllocError> {
+    let right = of_layout(alloc, kept(), &[], &[])?;
+    let mut places = Seq::new(alloc);
+    for equalities in right.places.as_slice().iter().take(2) {
+        places.push(list(alloc, equalities.as_slice())?)?;
+    }
+    places.push(list(alloc, named)?)?;
+    Ok(Certificate { places, ..right })
+}
+
+#[test]
+fn each_register_of_a_point_has_one_place(rt: HostRuntime) -> Result<(), Fail> {
+    let alloc = rt.alloc();
+    let at = |register: u32, place: Location| Equality { register, place };
+    let sum = at(2, Location::Register(11));
+    let [x9, x28] = [Location::Register(9), Location::Register(28)];
+    // the place of another register besides is let pass
+    let named = returning(alloc, &[sum, at(0, x9)])?;
+    assert!(rt; !is_no(alloc, &named)?);
+    for places in [
+        &[] as &[Equality],
+        &[at(0, x9)],
+        &[sum, sum],
+        &[sum, at(2, x9)],
+        &[sum, at(0, x28)],
+        &[sum, at(0, Location::Slot(3))],
+        &[sum, at(3, x9)],
+    ] {
+        let named = returning(alloc, places)?;
+        assert!(rt; is_no(alloc, &named)?);
+    }
     Ok(())
 }
 
 /// A certificate for `taking_two` with its arguments in these places.
 fn in_two(alloc: Global, params: [Location; 2]) -> Result<Certificate, AllocError> {
+    let mut starts = Seq::new(alloc);
+    starts.push(Seq::new(alloc))?;
+    let mut moves = Seq::new(alloc);
+    moves.push(Seq::new(alloc))?;
     let mut places = Seq::new(alloc);
     places.push(Seq::new(alloc))?;
     Ok(Certificate {
         params: list(alloc, params.as_slice())?,
-        starts: Seq::new(alloc),
-        moves: Seq::new(alloc),
+        starts,
+        moves,
         places,
     })
 }

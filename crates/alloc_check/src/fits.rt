@@ -4,7 +4,7 @@ ghost use Rattle.std.specs.List.{list_all, list_any};
 ghost use Rattle.vcode.specs.Cost.{is_immediate, operand_cost, operation_cost, line_cost, return_cost, branch_cost, jump_cost, is_paid};
 ghost use Rattle.vcode.specs.Named.{operand_keeps, wanted_keeps, line_keeps, jump_keeps, block_keeps, keeps_places, is_place, is_near, are_near, are_distinct};
 ghost use Rattle.vcode.specs.Places.{located, same_location};
-ghost use Rattle.alloc_check.specs.Accepted.{is_placed, exists_in, starts_exist};
+ghost use Rattle.alloc_check.specs.Accepted.{is_placed, exists_in, equalities_exist};
 ghost use Rattle.alloc_check.specs.Walk.{spent};
 
 use certificates::certificate::Equality;
@@ -285,8 +285,8 @@ fn all_exist(registers: u32, equalities: &[Equality]) -> bool
 }
 
 /// Whether all places and registers of these equalities exist, where there are so many registers, and as many slots.
-pub(crate) fn starts_exist(registers: u32, starts: &[Seq<Equality>]) -> bool
-    ensures { result ≡ starts_exist registers starts.now }
+pub(crate) fn equalities_exist(registers: u32, starts: &[Seq<Equality>]) -> bool
+    ensures { result ≡ equalities_exist registers starts.now }
 {
     starts
         .iter()

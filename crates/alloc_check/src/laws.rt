@@ -1,5 +1,5 @@
 //! What is proved of certificates, each as the contract of a function that does nothing.
-ghost use Rattle.alloc_check.specs.Laws.{SoundKeeps, SlotsAreAccepted, SpillAllIsAccepted};
+ghost use Rattle.alloc_check.specs.Laws.{EachHasOnePlace, OneMoveIsPaid, SoundKeeps, SlotsAreAccepted, SpillAllIsAccepted};
 
 /// The code that a sound certificate makes, with its places and its moves, keeps the virtual code: with the same parameters and result, of the same weight, and with
 /// the same runs.
@@ -16,4 +16,14 @@ pub fn slots_are_accepted()
 /// What `certificates::spill_all::slotted` answers for the live registers of a function is accepted, and makes the code that `spill_all` makes.
 pub fn spill_all_is_accepted()
     ensures { SpillAllIsAccepted }
+{}
+
+/// An accepted certificate has for each point exactly one place for each register that the point reads or writes.
+pub fn each_has_one_place()
+    ensures { EachHasOnePlace }
+{}
+
+/// The weight of a call, and that of a jump, pays for one move before it too: 32 instructions for each unit.
+pub fn one_move_is_paid()
+    ensures { OneMoveIsPaid }
 {}

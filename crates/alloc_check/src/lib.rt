@@ -10,7 +10,8 @@
 //!
 //! [`accept::accept`] takes a certificate from anyone and makes its code, or answers `Refused::No`. Its contract says what the code is, that it keeps the virtual
 //! code, and that the answer is no only for certificates that `specs/Accepted` doesn't accept: those that aren't sound, name places or registers that there
-//! aren't, leave out points, put two parameters into one place, or move more than the ticks pay for. The check goes once over the code, with a table of the
+//! aren't, have a list that is too short or too long, have for a point a register without a place or with two, put two parameters into one place, or move
+//! more than the ticks pay for. The check goes once over the code, with a table of the
 //! places' owners in which asking and writing take the same time however many places there are; the code is made after it.
 //!
 //! [`placing`] makes lines and jumps with a place for each register, wherever a [`placing::Placing`] says that is.
@@ -32,3 +33,4 @@ pub mod spill_all;
 mod table;
 #[cfg(test)]
 mod tests;
+mod whole;

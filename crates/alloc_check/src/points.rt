@@ -1,5 +1,5 @@
 //! Points of virtual code: lines but for ticks, and jumps, from 0 in the order of the text.
-ghost use Rattle.std.specs.Prelude.{◌≡◌, ◌<◌, ◌≤◌, ◌+◌, ◌^◌, nat_le};
+ghost use Rattle.std.specs.Prelude.{◌≡◌, ◌<◌, ◌≤◌, ◌+◌, ◌^◌, true, nat_eq};
 ghost use Rattle.alloc_check.specs.Certified.{next_point, jump_point};
 ghost use Rattle.alloc_check.specs.Accepted.{end_point};
 ghost use Rattle.alloc_check.specs.Walk.{bounded};
@@ -64,16 +64,17 @@ fn block_within(first: usize, block: &Block<u32>, limit: usize) -> Option<usize>
     }
 }
 
-/// Whether there are at most so many points.
-pub(crate) fn are_within(blocks: &[Block<u32>], limit: usize) -> bool
-    ensures { result ≡ nat_le (end_point 0 blocks.now) limit }
+/// Whether there are exactly so many points.
+pub(crate) fn are_points(blocks: &[Block<u32>], count: usize) -> bool
+    ensures count { result ≡ nat_eq (end_point 0 blocks.now) count }
+    ensures few { result ≡ true → end_point 0 blocks.now < 2 ^ 64 }
 {
     let mut point = 0usize;
     for block in blocks {
-        match block_within(point, block, limit) {
+        match block_within(point, block, count) {
             Some(next) => point = next,
             None => return false,
         }
     }
-    true
+    point == count
 }

@@ -36,7 +36,7 @@ pub(crate) fn places_at(certificate: &Certificate, point: usize) -> &[Equality]
     }
 }
 
-/// The place of the register by the first equality that names it.
+/// The place of the register by the first equality that names it; x0, which no code may name, where none does.
 pub(crate) fn place_by(equalities: &[Equality], register: u32) -> Location
     ensures { result ≡ place_by equalities.now register }
 {
@@ -45,7 +45,7 @@ pub(crate) fn place_by(equalities: &[Equality], register: u32) -> Location
             return equality.place;
         }
     }
-    Location::Slot(0)
+    Location::Register(0)
 }
 
 /// Each register where these equalities have it.

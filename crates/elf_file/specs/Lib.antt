@@ -4,3 +4,4 @@ pub mod Loaded
 pub mod Conditions
 pub mod File
 pub mod Stands
+pub mod Laws

@@ -33,6 +33,13 @@ pub(crate) fn permits(access: Access, permission: Permission) -> bool
     }
 }
 
+/// Whether there is memory at an address with this permission.
+pub(crate) fn is_mapped(permission: Permission) -> bool
+    ensures { result ≡ is_mapped permission }
+{
+    permission.readable || permission.writable || permission.executable
+}
+
 /// Whether all of `n` bytes from an address upward allow this access. None does past the last address.
 #[inline(never)]
 pub(crate) fn allowed<R: Ram>(ram: &R, access: Access, at: u64, n: u64) -> bool

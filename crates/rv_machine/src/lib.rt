@@ -8,9 +8,12 @@
 //!   a limit, [`words::are_arguments`].
 //! - [`Machine::step`](machine::Machine::step) does exactly what `step` says: it comes to that state, or stops as that stop, [`stop::Stop`], and is
 //!   then as it was. Beyond that it may only stop for want of memory, where the instruction is a store and the memory
-//!   refuses, or calls `write` with descriptor 1 and some bytes; then too nothing has changed.
+//!   refuses, or calls `write` with descriptor 1 and some bytes, and only where what it stores or puts out may be written or read; then too nothing has
+//!   changed.
 //! - [`Machine::run`](machine::Machine::run) gives the output and the end of `runs` with that limit, `RunEnds` of `specs/Runs.antt`: `Stop::Limit` exactly
 //!   where the program has not stopped.
+//!
+//! What state a machine is in can be read: its pc, a register, the permission and the byte at an address, and the output.
 //!
 //! All of it holds over any memory that keeps the laws of [`ram::Ram`]. [`flat_ram::FlatRam`] keeps each mapped range in one vector, and never
 //! refuses; [`page_ram::PageRam`] makes a page of 4096 bytes when a byte of it is first stored to.

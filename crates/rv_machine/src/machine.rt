@@ -1,7 +1,9 @@
 //! A machine: registers, a memory and the output.
 
+use crate::access::is_mapped;
 use crate::ram::Ram;
 use crate::registers::Registers;
+use rv_isa::permission::Permission;
 use rv_isa::ranges::Register;
 
 /// A machine over a memory of the kind `R`. What state it is in, `view` of `specs/Machine.antt` says.
@@ -16,14 +18,46 @@ pub struct Machine<R: Ram> {
 impl<R: Ram> Machine<R> {
     ghost use Rattle.std.specs.Prelude.{◌≡◌};
     ghost use Rattle.rv_isa.specs.State.{register, put};
-    ghost use Rattle.rv_machine.specs.Machine.{view};
+    ghost use Rattle.rv_machine.specs.Machine.{view, mapped_byte};
 
-    /// The value of a register.
+    /// The address of the next instruction.
+    pub fn pc(&self) -> u64
+        ensures { result ≡ (view ⟦<R as Ram>⟧ self.now).pc }
+    {
+        self.pc
+    }
+
+    /// The value of a register; that of x0 is 0.
     #[inline(always)]
-    pub(crate) fn register(&self, r: Register) -> u64
+    pub fn register(&self, r: Register) -> u64
         ensures { result ≡ register (view ⟦<R as Ram>⟧ self.now) r }
     {
         self.registers.get(r)
+    }
+
+    /// What is allowed at an address.
+    pub fn permission(&self, at: u64) -> Permission
+        ensures { result ≡ (view ⟦<R as Ram>⟧ self.now).allows at }
+    {
+        self.ram.permission(at)
+    }
+
+    /// The byte at an address, or none where nothing is mapped, that is, nothing is allowed.
+    pub fn byte(&self, at: u64) -> Option<u8>
+        ensures { result ≡ mapped_byte (view ⟦<R as Ram>⟧ self.now) at }
+    {
+        if is_mapped(self.ram.permission(at)) {
+            Some(self.ram.get(at))
+        } else {
+            None
+        }
+    }
+
+    /// All that the program has put out since the start.
+    pub fn output(&self) -> &[u8]
+        ensures { result.now ≡ (view ⟦<R as Ram>⟧ self.now).output }
+    {
+        self.output.as_slice()
     }
 
     /// Leaves a value in a register, and goes on to the next instruction.

@@ -70,7 +70,8 @@ impl<R: Ram> Machine<R> {
 
     /// Runs the instruction at pc. Where it stops the machine, nothing has changed.
     ///
-    /// It stops for memory only where the instruction is a store and the memory refuses, or calls `write` with descriptor 1 and some bytes.
+    /// It stops for memory only where the instruction is a store and the memory refuses, or calls `write` with descriptor 1 and some bytes, and only where what it
+    /// accesses may be accessed: with memory enough the step goes on.
     #[inline(never)]
     pub fn step(&mut self) -> Result<(), Stop>
         ensures gives { Gives (step (view ⟦<R as Ram>⟧ self.old)) result (view ⟦<R as Ram>⟧ self.old) (view ⟦<R as Ram>⟧ self.new) }

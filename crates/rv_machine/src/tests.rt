@@ -335,6 +335,34 @@ fn programs_over_pages(rt: HostRuntime) -> Result<(), Fail> {
     programs::<PageRam>(&rt, rt.alloc())
 }
 
+// What can be read of a machine: after the store over two pages, and after output.
+fn readers<R: Ram>(rt: &impl Abort, alloc: Global) -> Result<(), Fail> {
+    let mut machine: Machine<R> = started(rt, alloc, &ACROSS_PAGES)?;
+    assert_eq!(rt; machine.pc(), 0x10000);
+    assert_eq!(rt; machine.byte(0x0fff_efff), Some(0));
+    for _ in 0..11 {
+        assert_eq!(rt; machine.step(), Ok(()));
+    }
+    assert_eq!(rt; machine.pc(), 0x1002c);
+    assert_eq!(rt; machine.register(X5), 0x0fff_effc);
+    assert_eq!(rt; machine.byte(0x0fff_efff), Some(0x55));
+    assert_eq!(rt; machine.byte(0x0fff_f000), Some(0x44));
+    // the lowest byte of the first word, of the data, and nothing between
+    assert_eq!(rt; machine.byte(0x10000), Some((ACROSS_PAGES[0] % 256) as u8));
+    assert_eq!(rt; machine.byte(0x11000), Some(0x48));
+    assert_eq!(rt; machine.byte(0x10ff0), None);
+    assert!(rt; machine.permission(0x10000).executable && !machine.permission(0x10000).readable);
+    assert!(rt; machine.permission(0x11000).writable && !machine.permission(0x11010).readable);
+    assert!(rt; machine.output().is_empty());
+    Ok(())
+}
+
+#[test]
+fn readers_over_both_memories(rt: HostRuntime) -> Result<(), Fail> {
+    readers::<FlatRam>(&rt, rt.alloc())?;
+    readers::<PageRam>(&rt, rt.alloc())
+}
+
 // A machine that stops is as it was.
 #[test]
 fn stops(rt: HostRuntime) -> Result<(), Fail> {

@@ -1,6 +1,0 @@
-use Rattle.std.proofs.Common.{◌≡◌, ◌≤◌, drop}
-use Rattle.alloc_check.specs.Accepted.{end_point}
-use Rattle.alloc_check.proofs.points.are_within.Given as goal
-
-abbrev pub invariant-loop-block : goal.invariant-loop-block
-invariant-loop-block l = record { points : end_point l.point (drop l.block-index l.blocks) ≡ end_point 0 l.fn.blocks; low : l.point ≤ l.limit }
