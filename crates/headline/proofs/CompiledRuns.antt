@@ -2,7 +2,6 @@
 use Rattle.std.proofs.Common.{◌≡◌, ℕ, zero, suc, ◌+◌, ◌%◌, ◌^◌, ◌<◌, ◌≤◌, List, [], ◌∷◌, length, map, refl, ap, subst, arith, lit<}
 use Rattle.std.specs.Prelude.{slice_get, slice_index, Option, Some, None}
 use Rattle.std.specs.Option.{option_and_then}
-use Rattle.std.proofs.lemmas.Option.{slice_get_within}
 use Rattle.il_ast.specs.declared.datum.DataDef.{DataDef}
 use Rattle.il_ast.specs.declared.function.Func.{Func}
 use Rattle.il_ast.specs.declared.program.Placed.{Placed}
@@ -12,7 +11,6 @@ use Rattle.il_ast.specs.declared.program.Target.TheVariants.{Code, Object}
 use Rattle.il_ast.specs.declared.value.Callee.TheVariants.{Defined, SystemWrite, SystemExit}
 use Rattle.il_ast.specs.Cost.{need, round_16}
 use Rattle.il_ast.specs.Start.{target_value, values_of, globals_of}
-use Rattle.il_types.specs.declared.checked.Checked.{Checked}
 use Rattle.il_ast.specs.Passes.{classes_of}
 use Rattle.vcode.specs.Places.{located}
 use Rattle.vcode.specs.Regular.{area}
@@ -27,16 +25,14 @@ use Rattle.obj_link.specs.Image.{IsImage}
 use Rattle.obj_link.specs.Limits.{object_size}
 use Rattle.obj_link.specs.Natives.{functions_start}
 use Rattle.obj_link.specs.Placed.{object_addresses, objects_start, objects_end, addresses_of, target_address, name_address, contents_of, FitsBelow, EveryCode}
-use Rattle.obj_link.specs.Program.{IsProgram}
-use Rattle.obj_link.specs.Laws.{IsThere, HasWhatNamesMean}
+use Rattle.obj_link.specs.Laws.{IsThere}
 use Rattle.obj_link.proofs.AddressLemmas.{objects_rise}
-use Rattle.obj_link.proofs.ThereLemmas.{what_names_mean}
 use Rattle.elf_file.specs.Loaded.{Executable}
 use Rattle.elf_file.specs.Stands.{Stands}
 use Rattle.rv_machine.specs.Start.{Starts}
 use Rattle.headline.specs.Functions.{FunctionsKept, body_of}
 use Rattle.headline.specs.Places.{setting_of, start_places}
-use Rattle.headline.specs.Executables.{entries_of, places_of}
+use Rattle.headline.specs.Executables.{entries_of, places_of, NamesAreThere}
 use Rattle.headline.specs.Compiled.{StandFor, EachStands, CompiledRuns}
 use Rattle.headline.proofs.InNeed.{bytes_in_need, frame_in_need}
 use Rattle.headline.proofs.LayersKeep.{layers_keep}
@@ -121,9 +117,9 @@ names_shown p codes fits w words (Code SystemWrite ∷ ts) there = (refl, names_
 names_shown p codes fits w words (Code SystemExit ∷ ts) there = (refl, names_shown p codes fits w words ts (λ n t e. there (suc n) t e))
 names_shown p codes fits w words (Object k ∷ ts) there = (object_shown p codes fits w words k (there 0 (Object k) refl), names_shown p codes fits w words ts (λ n t e. there (suc n) t e))
 
-text_shown : (texts : List Checked) (p : Program) (codes : List Words) → HasWhatNamesMean texts p → FitsBelow p codes → Worth p codes → (words : List (List ℕ)) (t : ℕ)
+text_shown : (p : Program) (codes : List Words) → NamesAreThere p → FitsBelow p codes → Worth p codes → (words : List (List ℕ)) (t : ℕ)
     → AllShow (entries_of p codes) (λ b. slice_get (start_places (addresses_of p codes).objects words) b) (globals_of p t) (addresses_in (addresses_of p codes) (slice_get p.targets t))
-text_shown texts p codes has fits w words t = by (slice_get p.targets t) refl
+text_shown p codes has fits w words t = by (slice_get p.targets t) refl
   where
     by : (o : Option (List Target)) → slice_get p.targets t ≡ o
         → AllShow (entries_of p codes) (λ b. slice_get (start_places (addresses_of p codes).objects words) b) (values_of o) (addresses_in (addresses_of p codes) o)
@@ -154,18 +150,17 @@ as_many [] (f ∷ fs) each = absurd each
 as_many (c ∷ codes) [] each = absurd each
 as_many (c ∷ codes) (f ∷ fs) each = ap suc (as_many codes fs each.1)
 
-function_kept : (texts : List Checked) (p : Program) (codes : List Words) (x : Executable) (words : List (List ℕ)) (s : State)
-    → IsProgram texts p → EachStands codes p.functions → EveryCode codes → FitsBelow p codes → IsImage (contents_of p codes) → Stands (contents_of p codes) x → Starts x words s
+function_kept : (p : Program) (codes : List Words) (x : Executable) (words : List (List ℕ)) (s : State)
+    → NamesAreThere p → EachStands codes p.functions → EveryCode codes → FitsBelow p codes → IsImage (contents_of p codes) → Stands (contents_of p codes) x → Starts x words s
     → FunctionsKept (setting_of (places_of p codes) words s) p
-function_kept texts p codes x words s is each every fits good stands starts k at f found entry =
+function_kept p codes x words s has each every fits good stands starts k at f found entry =
     let many = as_many codes p.functions each in
     let a = addresses_of p codes in
     let c = setting_of (places_of p codes) words s in
     let code = found_code codes p.functions each k f found in
     let r = code.stands in
-    let has = what_names_mean texts p is in
     let w = worth p codes many every fits in
-    let well = stands_well texts p codes x is many every fits good stands in
+    let well = stands_well p codes x has many every fits good stands in
     let setting = setting_is (places_of p codes) x words s starts well.entries well.aligned in
     let global = name_address a p.targets f.text in
     let addresses = addresses_in a (slice_get p.targets f.text) in
@@ -179,7 +174,7 @@ function_kept texts p codes x words s is each every fits good stands starts k at
       machine =
           m.keeps c.world at labelled.0 global addresses setting.world (λ n y e. name_is a (slice_get p.targets f.text) n y e)
           (address_aligned functions_start codes refl k at entry) labelled.1;
-      names = text_shown texts p codes has fits w words f.text;
+      names = text_shown p codes has fits w words f.text;
       area_fits = m.area_fits;
       frame_fits = m.fits;
       some = m.some;
@@ -189,15 +184,12 @@ function_kept texts p codes x words s is each every fits good stands starts k at
 -- ---- the whole
 
 pub compiled_runs : CompiledRuns
-compiled_runs texts p codes x words s is each every fits good stands starts few short =
+compiled_runs p codes x words s has each every fits good stands starts few short =
     let many = as_many codes p.functions each in
-    let has = what_names_mean texts p is in
     let w = worth p codes many every fits in
-    let well = stands_well texts p codes x is many every fits good stands in
-    let main = has.main in
-    let within = slice_get_within p.functions p.main main.0 main.1 in
-    let main_is = w.functions p.main within in
+    let well = stands_well p codes x has many every fits good stands in
+    let main_is = w.functions p.main has.main in
     executable_runs p (places_of p codes) x words s starts few short well.data_bytes well.entries well.aligned
-    (function_kept texts p codes x words s is each every fits good stands starts)
+    (function_kept p codes x words s has each every fits good stands starts)
     (natives_perform p codes x words s good stands starts)
     (start_runs p codes x words s good stands starts well.data_bytes few short main_is (function_small p codes fits p.main) (address_aligned functions_start codes refl p.main _ main_is))

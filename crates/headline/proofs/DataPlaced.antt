@@ -5,7 +5,7 @@ use Rattle.std.specs.Option.{option_map}
 use Rattle.std.specs.List.{flat_map, sum_by}
 use Rattle.std.proofs.lemmas.List.{length-append, length-map, length-replicate}
 use Rattle.std.proofs.lemmas.List.Sums.{sum_by-cons}
-use Rattle.std.proofs.lemmas.Option.{slice_get-get_or, slice_get-map}
+use Rattle.std.proofs.lemmas.Option.{slice_get-get_or, slice_get-map, slice_get_within}
 use Rattle.il_ast.specs.declared.datum.DataDef.{DataDef}
 use Rattle.il_ast.specs.declared.datum.Field.{Field}
 use Rattle.il_ast.specs.declared.datum.Field.TheVariants.{Items, Zeros}
@@ -27,7 +27,6 @@ use Rattle.il_ast.specs.Values.{bytes_of, byte_count}
 use Rattle.il_ast.specs.Cost.{round_16}
 use Rattle.il_ast.specs.Memory.{parts}
 use Rattle.il_ast.specs.Start.{target_value, values_of, globals_of, address_cells, item_cells, field_cells, object_cells}
-use Rattle.il_types.specs.declared.checked.Checked.{Checked}
 use Rattle.rv_isa.specs.Words.{Words}
 use Rattle.rv_isa.specs.Laid.{filled, WordsStand}
 use Rattle.rv_isa.specs.State.{State}
@@ -37,8 +36,7 @@ use Rattle.obj_link.specs.Image.{IsImage, code_start, image_end, round_to_page, 
 use Rattle.obj_link.specs.Limits.{item_size, field_size, object_size}
 use Rattle.obj_link.specs.Natives.{start_words, write_words, exit_words, functions_start, write_address, exit_address}
 use Rattle.obj_link.specs.Placed.{function_addresses, functions_end, object_addresses, objects_end, objects_start, addresses_of, callee_address, name_address, functions_words, value_number, cell_byte, in_slots, object_bytes, contents_of, FitsBelow, EveryCode}
-use Rattle.obj_link.specs.Program.{IsProgram}
-use Rattle.obj_link.specs.Laws.{IsThere, HasWhatNamesMean}
+use Rattle.obj_link.specs.Laws.{IsThere}
 use Rattle.obj_link.proofs.AddressLemmas.{objects_rise, functions_rise}
 use Rattle.obj_link.proofs.ThereLemmas.{what_names_mean}
 use Rattle.elf_file.specs.declared.flags.Flags.TheVariants.{ReadWrite}
@@ -47,7 +45,7 @@ use Rattle.elf_file.specs.Stands.{Stands}
 use Rattle.rv_machine.specs.Start.{Starts}
 use Rattle.flat_code.specs.Spots.{Bases, AreEntries}
 use Rattle.headline.specs.Places.{CellStands, CellsStand, BlocksStand, DataStands}
-use Rattle.headline.specs.Executables.{entries_of, places_of, PlacedStands}
+use Rattle.headline.specs.Executables.{entries_of, places_of, NamesAreThere, ProgramsHaveNames, PlacedStands}
 use Rattle.headline.proofs.PlacedWords.{ground_of, words_stand}
 
 -- ---- addresses of functions
@@ -255,6 +253,12 @@ target_there n m (Code SystemWrite) h = tt
 target_there n m (Code SystemExit) h = tt
 target_there n m (Object k) h = h
 
+-- all that names of a program of texts mean is there
+pub programs_have_names : ProgramsHaveNames
+programs_have_names texts p is =
+    let has = what_names_mean texts p is in
+    record { targets = has.targets; main = slice_get_within p.functions p.main has.main.0 has.main.1 }
+
 -- what the global names of a text are worth is there
 abbrev NamesThere : (n m : ℕ) → List Value → Type 0
 NamesThere n m globals = (g : ℕ) (v : Value) → slice_get globals g ≡ Some v → ValueThere n m v
@@ -286,8 +290,8 @@ fields_there : (n m : ℕ) (globals : List Value) → NamesThere n m globals →
 fields_there n m globals h [] = tt
 fields_there n m globals h (f ∷ fs) = there_both n m (field_cells globals f) (flat_map (field_cells globals) fs) (field_there n m globals h f) (fields_there n m globals h fs)
 
-names_there : (texts : List Checked) (p : Program) → HasWhatNamesMean texts p → (t : ℕ) → NamesThere (length p.functions) (length p.objects) (globals_of p t)
-names_there texts p has t g v h = by (slice_get p.targets t) refl h
+names_there : (p : Program) → NamesAreThere p → (t : ℕ) → NamesThere (length p.functions) (length p.objects) (globals_of p t)
+names_there p has t g v h = by (slice_get p.targets t) refl h
   where
     inner : (targets : List Target) → slice_get p.targets t ≡ Some targets → (o : Option Target) → slice_get targets g ≡ o → option_map target_value o ≡ Some v → ValueThere (length p.functions) (length p.objects) v
     inner targets is None at e = absurd (let no : ⊥ = cc in no)
@@ -375,17 +379,17 @@ cells_stand p codes w byte (c ∷ cells) at h b = (cell_stands p codes w (byte a
 
 -- ---- all data
 
-objects_stand : (texts : List Checked) (p : Program) (codes : List Words) → HasWhatNamesMean texts p → Worth p codes → (byte : ℕ → Option ℕ) (high : ℕ) (ds : List (Placed DataDef)) (from at : ℕ) → from ≤ at
+objects_stand : (p : Program) (codes : List Words) → NamesAreThere p → Worth p codes → (byte : ℕ → Option ℕ) (high : ℕ) (ds : List (Placed DataDef)) (from at : ℕ) → from ≤ at
     → BytesStand byte (flat_map (object_bytes (addresses_of p codes) p) ds) at → at + length (flat_map (object_bytes (addresses_of p codes) p) ds) ≤ high
     → BlocksStand (entries_of p codes) (bases_of p codes) byte from high (map (object_cells p) ds) (object_addresses at ds)
-objects_stand texts p codes has w byte high [] from at le b fits = tt
-objects_stand texts p codes has w byte high (d ∷ ds) from at le b fits =
+objects_stand p codes has w byte high [] from at le b fits = tt
+objects_stand p codes has w byte high (d ∷ ds) from at le b fits =
     let a = addresses_of p codes in
     let cells = object_cells p d in
     let bytes = map (cell_byte a) cells in
     let rest = flat_map (object_bytes a p) ds in
     let split = bytes_split byte (object_bytes a p d) rest at b in
-    let there = fields_there (length p.functions) (length p.objects) (globals_of p d.text) (names_there texts p has d.text) d.item.fields in
+    let there = fields_there (length p.functions) (length p.objects) (globals_of p d.text) (names_there p has d.text) d.item.fields in
     let long : length bytes ≡ length cells = length-map cells (cell_byte a) in
     let size : length cells ≡ object_size d.item = object_long p d in
     let slot : length (object_bytes a p d) ≡ round_16 (length bytes) = slot_long bytes in
@@ -395,7 +399,7 @@ objects_stand texts p codes has w byte high (d ∷ ds) from at le b fits =
       le,
       (omega (arith, long, slot, both, fits)),
       cells_stand p codes w byte cells at there (slot_starts byte bytes at split.first),
-      objects_stand texts p codes has w byte high ds (at + length cells) (at + round_16 (object_size d.item)) (omega (arith, size))
+      objects_stand p codes has w byte high ds (at + length cells) (at + round_16 (object_size d.item)) (omega (arith, size))
           (subst (BytesStand byte rest) next split.second) (omega (arith, fits, both, whole)),
     )
 
@@ -431,8 +435,8 @@ worth p codes same every fits =
       entries = are_entries p codes every fits;
     }
 
-pub data_stands : (texts : List Checked) (p : Program) (codes : List Words) (x : Executable) → IsProgram texts p → length codes ≡ length p.functions → EveryCode codes → FitsBelow p codes → IsImage (contents_of p codes) → Stands (contents_of p codes) x → DataStands p (places_of p codes) x
-data_stands texts p codes x is same every fits good stands =
+pub data_stands : (p : Program) (codes : List Words) (x : Executable) → NamesAreThere p → length codes ≡ length p.functions → EveryCode codes → FitsBelow p codes → IsImage (contents_of p codes) → Stands (contents_of p codes) x → DataStands p (places_of p codes) x
+data_stands p codes x has same every fits good stands =
     let image = contents_of p codes in
     let below = good.below_stack in
     let bytes = bytes_from (byte_in x) image.data_bytes (data_start image) stands.data_bytes in
@@ -445,10 +449,10 @@ data_stands texts p codes x is same every fits good stands =
           (let here : data_start image + (a - data_start image) ≡ a = omega (arith, low) in
           subst (λ n. flags_in x n ≡ Some ReadWrite) here (stands.data_flags (a - data_start image) (omega (arith, low, high))));
       objects =
-          objects_stand texts p codes (what_names_mean texts p is) (worth p codes same every fits) (byte_in x) (data_start image + length image.data_bytes) p.objects (data_start image) (objects_start codes)
+          objects_stand p codes has (worth p codes same every fits) (byte_in x) (data_start image + length image.data_bytes) p.objects (data_start image) (objects_start codes)
           (omega (arith, at)) (subst (BytesStand (byte_in x) image.data_bytes) at bytes) (omega (arith, at));
     }
 
 pub stands_well : PlacedStands
-stands_well texts p codes x is same every fits good stands =
-    record { data_bytes = data_stands texts p codes x is same every fits good stands; entries = are_entries p codes every fits; aligned = entries_aligned p codes }
+stands_well p codes x has same every fits good stands =
+    record { data_bytes = data_stands p codes x has same every fits good stands; entries = are_entries p codes every fits; aligned = entries_aligned p codes }

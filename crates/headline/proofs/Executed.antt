@@ -164,7 +164,7 @@ ended_with (Returned q (Some (Function g)) m) e is t = cc
 ended_with (Ended q z) e is t = (q, ap (Ended q) (is ∙ t))
 
 -- what comes before a failure is put out: the program returned without a result, or nothing is put out, or at fewer turns it goes on with that output
-put_out_before : (p : Program) (words : List (List ℕ)) (n : ℕ) (s : State) → s.output ≡ [] → ((k : ℕ) → (behaviour_of (outcome p words k)).ending ≡ Turns → GoesOnSo p words k s) → (output : List ℕ) → (output ≡ []) ⊎ StillGoes p words n output → PutsOut s output
+pub put_out_before : (p : Program) (words : List (List ℕ)) (n : ℕ) (s : State) → s.output ≡ [] → ((k : ℕ) → (behaviour_of (outcome p words k)).ending ≡ Turns → GoesOnSo p words k s) → (output : List ℕ) → (output ≡ []) ⊎ StillGoes p words n output → PutsOut s output
 unfolding runs meaning
 put_out_before p words n s silent later output (inl none) = record { steps = 0; now = s; going = refl; output_is = silent ∙ sym none }
 put_out_before p words n s silent later output (inr at) =

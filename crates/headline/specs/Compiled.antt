@@ -4,7 +4,6 @@ use Rattle.il_ast.specs.declared.function.Func.{Func}
 use Rattle.il_ast.specs.declared.program.Placed.{Placed}
 use Rattle.il_ast.specs.declared.program.Program.{Program}
 use Rattle.il_ast.specs.Passes.{IsCodeOf}
-use Rattle.il_types.specs.declared.checked.Checked.{Checked}
 use Rattle.vcode.specs.declared.place.Location.{Location}
 use Rattle.vcode.specs.declared.code.Code.{Code}
 use Rattle.vcode.specs.Coded.{coded}
@@ -18,11 +17,11 @@ use Rattle.rv_isa.specs.State.{State}
 use Rattle.rv_isa.specs.Start.{word_bytes}
 use Rattle.obj_link.specs.Image.{IsImage}
 use Rattle.obj_link.specs.Placed.{contents_of, FitsBelow, EveryCode}
-use Rattle.obj_link.specs.Program.{IsProgram}
 use Rattle.elf_file.specs.Loaded.{Executable}
 use Rattle.elf_file.specs.Stands.{Stands}
 use Rattle.rv_machine.specs.Start.{Starts}
 use Rattle.headline.specs.Headline.{Executes}
+use Rattle.headline.specs.Executables.{NamesAreThere}
 
 -- Words that stand for a function: they are the layout of labelled code that performs what location code, which is the function's, runs on bytes.
 pub record StandFor (f : Func) (c : Words) : Type 0 where
@@ -41,11 +40,12 @@ EachStands [] (f ∷ fs) = ⊥
 EachStands (c ∷ codes) [] = ⊥
 EachStands (c ∷ codes) (f ∷ fs) = StandFor f.item c × EachStands codes fs
 
--- from every start of the program's executable, with words within their limits, the machine executes the program
+-- From every start of the program's executable, with words within their limits, the machine executes the program. It needn't be a program of texts: its
+-- functions may be any that the words stand for.
 abbrev pub CompiledRuns : Type 0
 CompiledRuns =
-    (texts : List Checked) (p : Program) (codes : List Words) (x : Executable) (words : List (List ℕ)) (s : State)
-    → IsProgram texts p
+    (p : Program) (codes : List Words) (x : Executable) (words : List (List ℕ)) (s : State)
+    → NamesAreThere p
     → EachStands codes p.functions
     → EveryCode codes
     → FitsBelow p codes

@@ -1,6 +1,7 @@
 -- Where the functions and data of a placed program stand, and what its executable does of itself: its data, `write`, `exit` and the start code.
 use Rattle.std.specs.Prelude.{◌≡◌, ℕ, ◌+◌, ◌%◌, ◌^◌, ◌<◌, ◌≤◌, List, length, slice_get, Some}
 use Rattle.il_ast.specs.declared.program.Program.{Program}
+use Rattle.il_ast.specs.declared.program.Target.{Target}
 use Rattle.il_ast.specs.declared.value.Callee.{Callee}
 use Rattle.il_ast.specs.declared.value.Callee.TheVariants.{Defined, SystemWrite, SystemExit}
 use Rattle.rv_isa.specs.Words.{Words}
@@ -11,6 +12,7 @@ use Rattle.obj_link.specs.Natives.{write_address, exit_address}
 use Rattle.il_types.specs.declared.checked.Checked.{Checked}
 use Rattle.obj_link.specs.Placed.{addresses_of, callee_address, contents_of, FitsBelow, EveryCode}
 use Rattle.obj_link.specs.Program.{IsProgram}
+use Rattle.obj_link.specs.Laws.{IsThere}
 use Rattle.elf_file.specs.Loaded.{Executable}
 use Rattle.elf_file.specs.Stands.{Stands}
 use Rattle.rv_machine.specs.Start.{Starts}
@@ -56,6 +58,15 @@ PlacedStart =
     → callee_address (addresses_of p codes) (Defined p.main) % 4 ≡ 0
     → StartRuns (places_of p codes) p words s
 
+-- all that names of a program mean is there, and so is its `main`
+pub record NamesAreThere (p : Program) : Type 0 where
+  pub targets : (t n : ℕ) (targets : List Target) (target : Target) → slice_get p.targets t ≡ Some targets → slice_get targets n ≡ Some target → IsThere (length p.functions) (length p.objects) target
+  pub main : p.main < length p.functions
+
+-- programs of texts are so
+abbrev pub ProgramsHaveNames : Type 0
+ProgramsHaveNames = (texts : List Checked) (p : Program) → IsProgram texts p → NamesAreThere p
+
 -- what an executable of a program owes of its data and its addresses
 pub record StandsWell (p : Program) (codes : List Words) (x : Executable) : Type 0 where
   pub data_bytes : DataStands p (places_of p codes) x
@@ -64,8 +75,8 @@ pub record StandsWell (p : Program) (codes : List Words) (x : Executable) : Type
 
 abbrev pub PlacedStands : Type 0
 PlacedStands =
-    (texts : List Checked) (p : Program) (codes : List Words) (x : Executable)
-    → IsProgram texts p
+    (p : Program) (codes : List Words) (x : Executable)
+    → NamesAreThere p
     → length codes ≡ length p.functions
     → EveryCode codes
     → FitsBelow p codes

@@ -6,7 +6,7 @@ ghost use Rattle.headline.specs.Whole.{ProgramIsExecuted};
 ghost use Rattle.headline.specs.Executable.{ExecutableRuns};
 ghost use Rattle.headline.specs.Example.{state};
 ghost use Rattle.headline.specs.Compiled.{CompiledRuns};
-ghost use Rattle.headline.specs.Executables.{PlacedNatives, PlacedStands, PlacedStart};
+ghost use Rattle.headline.specs.Executables.{PlacedNatives, PlacedStands, PlacedStart, ProgramsHaveNames};
 ghost use Rattle.il_ast.specs.ExamplePrograms.{halts};
 ghost use Rattle.std.specs.Prelude.{[]};
 
@@ -41,6 +41,11 @@ pub fn natives_perform()
 /// In the executable of a placed program the start code calls `main`, and exits with what that returns.
 pub fn start_runs()
     ensures { PlacedStart }
+{}
+
+/// All that names of linked texts mean is there, and so is `main`.
+pub fn programs_have_names()
+    ensures { ProgramsHaveNames }
 {}
 
 /// In the executable of a placed program the data stands at its addresses, and the functions have addresses of their own, each a multiple of 4.

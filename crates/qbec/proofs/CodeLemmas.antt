@@ -9,7 +9,7 @@ use Rattle.il_ast.specs.Cost.{weight}
 use Rattle.phi_copies.specs.Good.{IsGoodFunction}
 use Rattle.rv_isa.specs.Words.{Words, IsCode}
 use Rattle.obj_link.specs.Shown.{shown}
-use Rattle.headline.specs.Compiled.{StandFor}
+use Rattle.qbec.specs.Promoted.{StandPromoted}
 use Rattle.qbec.specs.Codes.{AreGood, AreWords}
 
 pub record CodesSoFar (fs : List (Placed (Bor Func))) (k : ℕ) (codes : List Words) : Type 0 where
@@ -26,7 +26,7 @@ drop_here (x ∷ fs) (suc k) f h =
     drop_here fs k f h ∙ ap (λ n. f ∷ drop n (x ∷ fs)) (sym next)
 
 pub one_more_code : (fs : List (Placed (Bor Func))) (k : ℕ) (o : Placed (Bor Func)) (codes all : List Words) (c : Words) → k < length fs → CodesSoFar fs k codes
-    → StandFor (slice_index_or fs k o).item.now c → length c.words ≤ 32 * weight (slice_index_or fs k o).item.now + 256 → IsCode c → all ≡ codes ++ c ∷ [] → CodesSoFar fs (k + 1) all
+    → StandPromoted (slice_index_or fs k o).item.now c → length c.words ≤ 32 * weight (slice_index_or fs k o).item.now + 256 → IsCode c → all ≡ codes ++ c ∷ [] → CodesSoFar fs (k + 1) all
 one_more_code fs k o codes all c lt s stands few code is =
     record {
       whole =

@@ -1,7 +1,5 @@
--- The file of a program whose functions have words that stand for them.
-use Rattle.std.proofs.Common.{◌≡◌, ℕ, suc, List, [], ◌∷◌, length, refl, ap, subst}
-use Rattle.il_ast.specs.declared.program.Placed.{Placed}
-use Rattle.il_ast.specs.declared.function.Func.{Func}
+-- The file of a program whose functions have words that stand for what they become.
+use Rattle.std.proofs.Common.{◌≡◌, ℕ, ◌≤◌, List, length, subst}
 use Rattle.il_ast.specs.declared.program.Program.{Program}
 use Rattle.il_types.specs.declared.checked.Checked.{Checked}
 use Rattle.rv_isa.specs.Words.{Words}
@@ -9,22 +7,41 @@ use Rattle.obj_link.specs.Image.{Contents, IsImage}
 use Rattle.obj_link.specs.Placed.{contents_of, FitsBelow}
 use Rattle.obj_link.specs.Program.{IsProgram}
 use Rattle.obj_link.proofs.FitLemmas.{program_fits}
+use Rattle.rv_isa.specs.State.{State}
+use Rattle.rv_isa.specs.Start.{word_bytes}
 use Rattle.elf_file.specs.Conditions.{Loads}
 use Rattle.elf_file.specs.File.{executable_of}
+use Rattle.elf_file.specs.Loaded.{Executable}
 use Rattle.elf_file.specs.Stands.{Stands}
-use Rattle.headline.specs.Compiled.{EachStands}
+use Rattle.rv_machine.specs.Start.{Starts}
+use Rattle.promote.proofs.Programs.{outcome_stays}
+use Rattle.headline.specs.Headline.{Executes}
+use Rattle.headline.proofs.DataPlaced.{programs_have_names, stands_well}
 use Rattle.headline.proofs.CompiledRuns.{compiled_runs}
 use Rattle.qbec.specs.Codes.{AreWords}
 use Rattle.qbec.specs.Compile.{IsFile}
-
-pub one_each : (codes : List Words) (fs : List (Placed Func)) → EachStands codes fs → length codes ≡ length fs
-one_each [] [] h = refl
-one_each [] (f ∷ fs) h = absurd h
-one_each (c ∷ codes) [] h = absurd h
-one_each (c ∷ codes) (f ∷ fs) h = ap suc (one_each codes fs h.1)
+use Rattle.qbec.specs.Promoted.{with_functions}
+use Rattle.qbec.proofs.PromotedFunctions.{compiled, one_each, is_promoted, names_are_there, same_contents}
+use Rattle.qbec.proofs.ExecutableBytes.{has_bytes}
+use Rattle.qbec.proofs.PromotedRuns.{executes_so}
 
 pub fits_below : (texts : List Checked) (p : Program) (codes : List Words) → IsProgram texts p → AreWords codes p.functions → FitsBelow p codes
 fits_below texts p codes is words = program_fits texts p codes is words.few
+
+-- the machine executes the program in whose place the promoted one is compiled
+runs_promoted : (texts : List Checked) (p : Program) (codes : List Words) (x : Executable) (ws : List (List ℕ)) (s : State)
+    → IsProgram texts p → AreWords codes p.functions → IsImage (contents_of p codes) → Stands (contents_of p codes) x → Starts x ws s → length ws ≤ 1024 → length (word_bytes ws) ≤ 65536 → Executes p ws s
+runs_promoted texts p codes x ws s is words good stands starts few short =
+    let made = compiled codes p.functions words.stand in
+    let q = with_functions p made.functions in
+    let has = programs_have_names texts p is in
+    let fits = fits_below texts p codes is words in
+    let same = same_contents p codes made.functions made.are in
+    let well = stands_well p codes x has (one_each codes p.functions words.stand) words.every fits good stands in
+    let bytes = has_bytes p codes x ws s has well.data_bytes starts few in
+    executes_so p q ws s starts.begins.silent (λ n. outcome_stays p q ws n (is_promoted p made.functions made.are) bytes)
+    (compiled_runs q codes x ws s (names_are_there p made.functions made.are has) made.stand words.every fits (subst IsImage same good)
+    (subst (λ i. Stands i x) same stands) starts few short)
 
 pub is_file : (texts : List Checked) (p : Program) (codes : List Words) (image : Contents) (bytes : List ℕ) → IsProgram texts p → AreWords codes p.functions → image ≡ contents_of p codes → IsImage image → Loads bytes (executable_of image) → Stands image (executable_of image) → IsFile p bytes
 is_file texts p codes image bytes is words made good loads stands =
@@ -35,6 +52,6 @@ is_file texts p codes image bytes is words made good loads stands =
       stands = subst (λ i. Stands i (executable_of image)) made stands;
       runs =
           λ ws s starts few short.
-          compiled_runs texts p codes (executable_of image) ws s is words.stand words.every (fits_below texts p codes is words) (subst IsImage made good)
+          runs_promoted texts p codes (executable_of image) ws s is words (subst IsImage made good)
           (subst (λ i. Stands i (executable_of image)) made stands) starts few short;
     }

@@ -1,5 +1,8 @@
 pub mod TextLemmas
 pub mod SlotCode
 pub mod CodeLemmas
+pub mod PromotedFunctions
+pub mod ExecutableBytes
+pub mod PromotedRuns
 pub mod FileLemmas
 pub mod CompileLemmas

@@ -6,14 +6,14 @@ use Rattle.il_ast.specs.declared.program.Placed.{Placed}
 use Rattle.phi_copies.specs.Good.{IsGoodFunction}
 use Rattle.rv_isa.specs.Words.{Words}
 use Rattle.obj_link.specs.Placed.{AreCodes, EveryCode}
-use Rattle.headline.specs.Compiled.{EachStands}
+use Rattle.qbec.specs.Promoted.{EachPromoted}
 
 -- each can be lowered
 abbrev pub AreGood : List (Placed (Bor Func)) → Type 0
 AreGood fs = (k : ℕ) (f : Placed (Bor Func)) → slice_get fs k ≡ Some f → IsGoodFunction f.item.now
 
--- words that stand for each function, and not too many
+-- words that stand for what each function becomes, and not too many
 pub record AreWords (codes : List Words) (fs : List (Placed Func)) : Type 0 where
-  pub stand : EachStands codes fs
+  pub stand : EachPromoted codes fs
   pub few : AreCodes codes fs
   pub every : EveryCode codes

@@ -1,5 +1,5 @@
 -- How far a function has come on the way to its words.
-use Rattle.std.specs.Prelude.{ℕ, ◌+◌, ◌*◌, ◌≤◌, List, length}
+use Rattle.std.specs.Prelude.{◌+◌, ◌*◌, ◌≤◌, List, length}
 use Rattle.il_ast.specs.declared.function.Func.{Func}
 use Rattle.il_ast.specs.Passes.{IsCodeOf}
 use Rattle.vcode.specs.declared.function.LFunc.{LFunc}

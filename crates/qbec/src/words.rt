@@ -5,7 +5,7 @@ ghost use Rattle.il_ast.specs.Passes.{Keeps, IsCodeOf};
 ghost use Rattle.phi_copies.specs.Good.{IsGoodFunction};
 ghost use Rattle.vcode.specs.Coded.{virtual_code, location_code};
 ghost use Rattle.abi_frames.specs.Covered.{is_covered};
-ghost use Rattle.headline.specs.Compiled.{StandFor};
+ghost use Rattle.qbec.specs.Promoted.{StandPromoted};
 ghost use Rattle.qbec.specs.Words.{IsLocated, IsLaidOut};
 
 use abi_frames::covered::covers;
@@ -21,6 +21,7 @@ use flat_code::function::{FlatFunc, flat};
 use forwarding::forward::forward;
 use il_ast::function::Func;
 use phi_copies::lower::lower;
+use promote::promote::promote;
 use rv_isa::code::Code;
 use select::select::select;
 use std::alloc::{AllocError, Global};
@@ -107,7 +108,7 @@ pub fn laid_out(alloc: Global, function: &FlatFunc) -> Result<Code, AllocError>
     Ok(code)
 }
 
-/// The words of a function.
+/// The words of a function, whose locals are taken out of memory first.
 ///
 /// # Errors
 ///
@@ -118,9 +119,10 @@ pub fn function_words(
     how: &mut dyn Strategy,
 ) -> Result<Code, AllocError>
     requires { IsGoodFunction func.now }
-    ensures { IfOk result (λ c. StandFor func.now c × (length c.words ≤ 32 * weight func.now + 256)) }
+    ensures { IfOk result (λ c. StandPromoted func.now c × (length c.words ≤ 32 * weight func.now + 256)) }
 {
-    let function = located(alloc, func, how)?;
+    let promoted = promote(alloc, func)?;
+    let function = located(alloc, &promoted, how)?;
     let code = laid_out(alloc, &function)?;
     Ok(code)
 }

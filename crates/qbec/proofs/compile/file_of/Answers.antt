@@ -3,7 +3,8 @@ use Rattle.obj_link.specs.Image.{IsImage}
 use Rattle.std.proofs.lemmas.List.{length-map}
 use Rattle.obj_link.specs.ProgramOf.{program}
 use Rattle.obj_link.specs.Shown.{shown}
-use Rattle.qbec.proofs.FileLemmas.{one_each, fits_below, is_file}
+use Rattle.qbec.proofs.PromotedFunctions.{one_each}
+use Rattle.qbec.proofs.FileLemmas.{fits_below, is_file}
 use Rattle.qbec.proofs.compile.file_of.Goals as goal
 
 pub place-requires-clause-one_each : goal.place-requires-clause-one_each
