@@ -1,5 +1,5 @@
 -- Parameters that the certificate has no place for.
-use Rattle.std.proofs.Common.{◌≡◌, ℕ, zero, suc, ◌<◌, ◌≤◌, List, [], ◌∷◌, ◌++◌, length, drop, None, refl, sym, ap, ◌∙◌, arith}
+use Rattle.std.proofs.Common.{◌≡◌, ℕ, zero, suc, ◌<◌, ◌≤◌, List, [], ◌∷◌, length, drop, None, refl, sym, ap, ◌∙◌, arith}
 use Rattle.vcode.specs.declared.place.Location.{Location}
 use Rattle.vcode.specs.declared.place.Destination.{Destination}
 use Rattle.alloc_check.specs.Owners.{Owners}
@@ -28,7 +28,3 @@ no_more (d ∷ ds) [] zero h = refl
 no_more (d ∷ ds) (q ∷ qs) zero h = absurd (omega arith)
 no_more (d ∷ ds) [] (suc k) h = ap (λ (qs : List Location). certified_params (drop k ds) qs) (drop_none (suc k) ∙ sym (drop_none k)) ∙ no_more ds [] k (omega arith)
 no_more (d ∷ ds) (q ∷ qs) (suc k) h = no_more ds qs k (omega arith)
-
-pub append_none : {X : Type 0} (xs : List X) → xs ++ [] ≡ xs
-append_none [] = refl
-append_none (x ∷ xs) = ap (λ zs. x ∷ zs) (append_none xs)

@@ -27,8 +27,10 @@ use Rattle.vcode.specs.declared.line.Jump.TheVariants.{Goto, Branch, Return, Hal
 use Rattle.vcode.specs.declared.code.Block.{Block}
 use Rattle.vcode.specs.declared.code.Code.{Code}
 use Rattle.vcode.specs.Operations.{held, operate, loaded}
-use Rattle.vcode.specs.Places.{Places, Values, unknown, put, assign, kept, virtual, located}
-use Rattle.vcode.specs.Step.{State, bound, begin, value_of, read, read_all, fails, goes_on, sets, changes, weighs, ticks, receives, resumes, calls, line_step, enters, compared, branches, returns, jump_step, block_step, step_in, step}
+use Rattle.vcode.specs.Places.{Values, unknown, put, assign, kept, virtual, located}
+use Rattle.vcode.specs.Step.{State, bound, begin, value_of, read, read_all, goes_on, sets, changes, weighs, ticks, receives, resumes, calls, line_step, enters, compared, branches, returns, jump_step, step}
+use Rattle.vcode.proofs.Lists.{head_at, tail_at, nothing_at, same_some}
+use Rattle.vcode.proofs.Stepping.{step_line, step_jump, step_nowhere}
 use Rattle.certificates.specs.declared.certificate.Equality.{Equality}
 use Rattle.certificates.specs.declared.certificate.Transfer.{Transfer}
 use Rattle.certificates.specs.declared.certificate.Certificate.{Certificate}
@@ -321,42 +323,6 @@ after_steps related go k t u (Does (On s)) leads h =
 after_steps related go k t u (Does (Over o)) leads h = λ f. leads_then go k (On t) u (Over o) leads (h f)
 after_steps related go k t u (Calls i next) leads h = (k, (u, leads, (h.0, h.1, λ o. next_matches related go (next o) (h.0 o) (h.2 o))))
 
--- ---- what stands next
-
-head_at : {X : Type 0} (xs : List X) (n : ℕ) (y : X) (ys : List X) → drop n xs ≡ y ∷ ys → slice_get xs n ≡ Some y
-head_at [] zero y ys h = cc
-head_at [] (suc n) y ys h = cc
-head_at (x ∷ xs) zero y ys h = let e : x ≡ y = cc in ap (λ z. Some z) e
-head_at (x ∷ xs) (suc n) y ys h = head_at xs n y ys h
-
-tail_suc : {X : Type 0} (xs : List X) (n : ℕ) (y : X) (ys : List X) → drop n xs ≡ y ∷ ys → drop (suc n) xs ≡ ys
-tail_suc [] zero y ys h = cc
-tail_suc [] (suc n) y ys h = cc
-tail_suc (x ∷ xs) zero y ys h = let e : xs ≡ ys = cc in e
-tail_suc (x ∷ xs) (suc n) y ys h = tail_suc xs n y ys h
-
-tail_at : {X : Type 0} (xs : List X) (n : ℕ) (y : X) (ys : List X) → drop n xs ≡ y ∷ ys → drop (n + 1) xs ≡ ys
-tail_at xs n y ys h = ap (λ k. drop k xs) (let e : n + 1 ≡ suc n = omega arith in e) ∙ tail_suc xs n y ys h
-
-nothing_at : {X : Type 0} (xs : List X) (n : ℕ) → drop n xs ≡ [] → slice_get xs n ≡ None
-nothing_at [] n h = refl
-nothing_at (x ∷ xs) zero h = cc
-nothing_at (x ∷ xs) (suc n) h = nothing_at xs n h
-
-step_line : {P : Type 0} (places : Places P) (globals : List Value) (code : Code P) (i : Given) (s : State P) (b : Block P) (l : Line P)
-    → slice_get code.blocks s.block ≡ Some b → slice_get b.lines s.next ≡ Some l → step places globals code i s ≡ line_step places globals i s l
-unfolding step
-step_line places globals code i s b l e f = ap (step_in places globals code i s) e ∙ ap (block_step places globals code i s b) f
-
-step_jump : {P : Type 0} (places : Places P) (globals : List Value) (code : Code P) (i : Given) (s : State P) (b : Block P)
-    → slice_get code.blocks s.block ≡ Some b → slice_get b.lines s.next ≡ None → step places globals code i s ≡ jump_step globals code.result s b.jump
-unfolding step
-step_jump places globals code i s b e f = ap (step_in places globals code i s) e ∙ ap (block_step places globals code i s b) f
-
-step_nowhere : {P : Type 0} (places : Places P) (globals : List Value) (code : Code P) (i : Given) (s : State P) → slice_get code.blocks s.block ≡ None → step places globals code i s ≡ fails s
-unfolding step
-step_nowhere places globals code i s e = ap (step_in places globals code i s) e
-
 -- ---- moves
 
 -- the moves are done, and these lines are next
@@ -408,9 +374,6 @@ record Related (v : Code ℕ) (c : Certificate) (s : State ℕ) (t : State Locat
   values : Values Location
   is : t ≡ carry s next values
   there : (b : Block ℕ) → slice_get v.blocks s.block ≡ Some b → Here v c s next values b (drop s.next b.lines)
-
-same_some : {X : Type 0} (x y : X) (o : Option X) → o ≡ Some x → o ≡ Some y → x ≡ y
-same_some x y o e f = let g : Some x ≡ Some y = sym e ∙ f in cc
 
 -- a line was done: what is left is behind it
 onward : (v : Code ℕ) (c : Certificate) (s : State ℕ) (n : ℕ) (b : Block ℕ) (block : Block Location) (l : Line ℕ) (ll : Line Location) (left : List (Line ℕ)) (point : ℕ) (own : Owners)

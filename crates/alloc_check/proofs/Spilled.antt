@@ -19,6 +19,7 @@ use Rattle.vcode.specs.declared.code.Code.{Code}
 use Rattle.vcode.specs.declared.function.VFunc.{VFunc}
 use Rattle.vcode.specs.Named.{operand_keeps, line_keeps, jump_keeps, block_keeps, keeps_places, is_below}
 use Rattle.vcode.specs.Places.{same_location}
+use Rattle.vcode.proofs.Lists.{one_more}
 use Rattle.certificates.specs.declared.certificate.Equality.{Equality}
 use Rattle.certificates.specs.Listed.{place_in, has, with_place, with_places, with_written, point_places, live_places, listed_params, listed_starts, no_moves, slots, slotted}
 use Rattle.cfg_live.specs.declared.uses.Uses.{Uses}
@@ -28,7 +29,7 @@ use Rattle.cfg_live.specs.Points.{line_uses, jump_uses, with_line, with_lines, w
 use Rattle.cfg_live.specs.Points.{starts_after, starts}
 use Rattle.cfg_live.specs.Paths.{writes, leads}
 use Rattle.cfg_live.specs.Rows.{holds, AreLive}
-use Rattle.certificates.proofs.Grows.{block_count, uses_count}
+use Rattle.cfg_live.proofs.Counting.{block_count, uses_count}
 use Rattle.alloc_check.specs.Certified.{place_by, starts_at, places_at, next_point, jump_point}
 use Rattle.alloc_check.specs.Accepted.{end_point, names_once, has_lengths}
 use Rattle.alloc_check.specs.Slotted.{is_empty, is_own, own_at, lines_own, blocks_own, start_wanted, targets_wanted, writes_to, LinesWant, names, BlocksWant, IsSlotted}
@@ -537,10 +538,6 @@ here_is g p us u ns k cu cn bu bn =
 
 abbrev Both : Code ℕ → ℕ → List Bits → ℕ → Jump ℕ → List (Line ℕ) → Type 0
 Both v n rows p j lines = LinesWant (holds rows) (slotted v n rows) p j lines × (lines_own (slotted v n rows) p j lines ≡ true)
-
-one_more : {X : Type 0} (xs : List X) (x : X) → length (xs ++ x ∷ []) ≡ length xs + 1
-one_more [] x = refl
-one_more (y ∷ xs) x = ap suc (one_more xs x) ∙ (let e : suc (length xs + 1) ≡ suc (length xs) + 1 = omega arith in e)
 
 -- what is live behind a line is live before it, but for what it writes
 point_flows : (v : Code ℕ) (n : ℕ) (rows : List Bits) → AreLive (graph_of v) n rows → (p q r : ℕ) (l : Line ℕ) (ns : List (List ℕ)) → At (graph_of v) p (line_uses l) (after_point (length ns)) → q ≡ length ns + 1

@@ -22,7 +22,7 @@ use Rattle.alloc_check.specs.Accepted.{exists_in, equalities_exist}
 use Rattle.alloc_check.specs.Table.{in_table}
 use Rattle.alloc_check.specs.Walk.{put_in, moved_in, known_in, after_reads, receives_in, line_in, lines_in, jump_in, blocks_in, params_in, entry_holds, sound_in, certified_line}
 use Rattle.alloc_check.proofs.Agreeing.{both_true}
-use Rattle.alloc_check.proofs.Counted.{item_next}
+use Rattle.vcode.proofs.Lists.{item_next}
 
 -- ---- the code, line by line
 

@@ -1,5 +1,5 @@
 -- What the checker does, step by step: as `Certified` has it, but none where a place or a register has no room in its table.
-use Rattle.std.specs.Prelude.{ℕ, ◌+◌, ◌-◌, ◌*◌, Bool, true, false, not, ◌&&◌, ◌||◌, nat_lt, nat_le, if◌then◌else◌, List, [], ◌∷◌, ◌++◌, Option, Some, None}
+use Rattle.std.specs.Prelude.{ℕ, ◌+◌, Bool, true, false, not, ◌&&◌, ◌||◌, nat_lt, nat_le, if◌then◌else◌, List, [], ◌∷◌, ◌++◌, Option, Some, None}
 use Rattle.std.specs.List.{list_all}
 use Rattle.std.specs.Option.{option_map_or, option_and_then}
 use Rattle.vcode.specs.declared.place.Location.{Location}
@@ -9,7 +9,6 @@ use Rattle.vcode.specs.declared.line.Line.TheVariants.{Tick, Set, Operate, Load,
 use Rattle.vcode.specs.declared.line.Jump.{Jump}
 use Rattle.vcode.specs.declared.code.Block.{Block}
 use Rattle.vcode.specs.declared.code.Code.{Code}
-use Rattle.vcode.specs.Cost.{line_cost}
 use Rattle.certificates.specs.declared.certificate.Equality.{Equality}
 use Rattle.certificates.specs.declared.certificate.Transfer.{Transfer}
 use Rattle.certificates.specs.declared.certificate.Certificate.{Certificate}
@@ -93,11 +92,6 @@ sound_in n v c = entry_in n v c && blocks_in n c 0 0 v.blocks
 -- where that is not beyond the limit
 abbrev pub bounded : ℕ → ℕ → Option ℕ
 bounded limit p = if nat_le p limit then Some p else None
-
--- what is left of a credit after a line, if it affords that
-abbrev pub spent : ℕ → Line Location → Option ℕ
-spent credit (Tick turn w) = Some (credit + 32 * w)
-spent credit l = if nat_le (line_cost l) credit then Some (credit - line_cost l) else None
 
 abbrev pub moves_before : Certificate → ℕ → Line ℕ → List Transfer
 moves_before c p (Tick turn w) = []

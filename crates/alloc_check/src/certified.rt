@@ -5,9 +5,9 @@ ghost use Rattle.alloc_check.specs.Accepted.{end_point};
 ghost use Rattle.alloc_check.specs.Walk.{moves_before, certified_line};
 
 use crate::placing::{jump, line};
-use crate::points::{jump_point, next_point};
 use crate::says::{By, moves_at, places_at};
 use certificates::certificate::{Certificate, Transfer};
+use cfg_live::numbering::{jump_point, next_point};
 use il_ast::list::Seq;
 use std::alloc::{AllocError, Global};
 use vcode::code::{Block, Code};

@@ -6,10 +6,10 @@ ghost use Rattle.alloc_check.specs.Accepted.{end_point};
 ghost use Rattle.alloc_check.specs.Table.{own_of, IsTable};
 ghost use Rattle.alloc_check.specs.Walk.{put_in, moved_in, known_in, receives_in, line_in, point_in, lines_in, jump_in, block_in, blocks_in, params_in, entry_holds, entry_in, sound_in};
 
-use crate::points::{jump_point, next_point};
 use crate::says::{moves_at, place_by, places_at, starts_at};
 use crate::table::Table;
 use certificates::certificate::{Certificate, Equality, Transfer};
+use cfg_live::numbering::{jump_point, next_point};
 use std::alloc::{AllocError, Global};
 use vcode::code::{Block, Code};
 use vcode::function::VFunc;

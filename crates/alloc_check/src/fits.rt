@@ -1,16 +1,16 @@
 //! Whether location code may be a function's: which places it names, and whether its ticks pay for it.
 ghost use Rattle.std.specs.Prelude.{◌≡◌, ◌≤◌, ◌+◌, ◌^◌, IfSome, ◌<◌};
 ghost use Rattle.std.specs.List.{list_all, list_any};
-ghost use Rattle.vcode.specs.Cost.{is_immediate, operand_cost, operation_cost, line_cost, return_cost, branch_cost, jump_cost, is_paid};
+ghost use Rattle.vcode.specs.Cost.{is_paid};
 ghost use Rattle.vcode.specs.Named.{operand_keeps, wanted_keeps, line_keeps, jump_keeps, block_keeps, keeps_places, is_place, is_near, are_near, are_distinct};
 ghost use Rattle.vcode.specs.Places.{located, same_location};
 ghost use Rattle.alloc_check.specs.Accepted.{is_placed, exists_in, equalities_exist};
-ghost use Rattle.alloc_check.specs.Walk.{spent};
 
 use certificates::certificate::Equality;
 use il_ast::list::Seq;
 use il_ast::operation::Class;
 use vcode::code::{Block, Code};
+use vcode::cost::is_paid;
 use vcode::line::{Jump, Line, Operation};
 use vcode::place::{Argument, Destination, Location, Operand};
 
@@ -154,104 +154,6 @@ fn are_distinct(params: &[Destination<Location>]) -> bool
         }
     }
     true
-}
-
-fn is_immediate(number: u64) -> bool
-    ensures { result ≡ is_immediate number }
-{
-    number < 2048 || 18_446_744_073_709_549_568 <= number
-}
-
-fn operand_cost(value: &Operand<Location>) -> u128
-    ensures cost { result ≡ operand_cost value.now }
-    ensures small { result ≤ 9 }
-{
-    match value {
-        Operand::At(_) => 3,
-        Operand::Number(number) => { if is_immediate(*number) { 1 } else { 9 } }
-        Operand::Name(_) => 2,
-    }
-}
-
-fn operation_cost(operation: Operation) -> u128
-    ensures cost { result ≡ operation_cost operation }
-    ensures small { result ≤ 6 }
-{
-    match operation {
-        Operation::Reg(_) => 1,
-        Operation::RegW(_) => 1,
-        Operation::Compare(_, _) => 6,
-    }
-}
-
-fn line_cost(line: &Line<Location>) -> u128
-    ensures { result ≡ line_cost line.now }
-{
-    match line {
-        Line::Tick { .. } => 0,
-        Line::Set { value, .. } => operand_cost(value) + 3,
-        Line::Operate {
-            operation,
-            left,
-            right,
-            ..
-        } => operand_cost(left) + operand_cost(right) + operation_cost(*operation) + 3,
-        Line::Load { at, .. } => operand_cost(at) + 4,
-        Line::Store { value, at, .. } => operand_cost(value) + operand_cost(at) + 1,
-        Line::Alloc { .. } => 6,
-        Line::Blit { from, to, count } => {
-            operand_cost(from) + operand_cost(to) + 8 * ((u128::from(*count) + 7) / 8)
-        }
-        Line::Call { args, .. } => 20 + 24 * (args.len() as u128),
-    }
-}
-
-fn branch_cost(class: Class) -> u128
-    ensures { result ≡ branch_cost class }
-{
-    match class {
-        Class::W => 7,
-        Class::L => 5,
-    }
-}
-
-fn jump_cost(jump: &Jump<Location>) -> u128
-    ensures { result ≡ jump_cost jump.now }
-{
-    match jump {
-        Jump::Goto(_) => 2,
-        Jump::Branch { on, .. } => {
-            operand_cost(&on.left) + operand_cost(&on.right) + branch_cost(on.class)
-        }
-        Jump::Return(None) => 2,
-        Jump::Return(Some(value)) => operand_cost(value) + 3,
-        Jump::Halt => 1,
-    }
-}
-
-// What is left of a credit after a line, if it affords that. A unit of weight pays for 32 instructions.
-fn spend(credit: u128, line: &Line<Location>) -> Option<u128>
-    requires { credit + 2 ^ 37 < 2 ^ 128 }
-    ensures spent { result ≡ spent credit line.now }
-    ensures small { IfSome result (λ left. left ≤ credit + 2 ^ 37) }
-{
-    match line {
-        Line::Tick { weight, .. } => Some(credit + 32 * u128::from(*weight)),
-        _ => credit.checked_sub(line_cost(line)),
-    }
-}
-
-fn is_paid(block: &Block<Location>) -> bool
-    ensures { result ≡ is_paid block.now }
-{
-    let mut credit = 0u128;
-    for line in block.lines.as_slice() {
-        match spend(credit, line) {
-            Some(left) => credit = left,
-            None => return false,
-        }
-    }
-    jump_cost(&block.jump) <= credit
 }
 
 fn are_paid(blocks: &[Block<Location>]) -> bool

@@ -7,29 +7,6 @@ ghost use Rattle.alloc_check.specs.Walk.{bounded};
 use vcode::code::Block;
 use vcode::line::Line;
 
-/// The point behind a line.
-pub(crate) fn next_point(point: usize, line: &Line<u32>) -> usize
-    requires { next_point point line.now < 2 ^ 64 }
-    ensures { result ≡ next_point point line.now }
-{
-    match line {
-        Line::Tick { .. } => point,
-        _ => point + 1,
-    }
-}
-
-/// The point of the jump behind these lines, the first of which is at `first`.
-pub(crate) fn jump_point(first: usize, lines: &[Line<u32>]) -> usize
-    requires { jump_point first lines.now < 2 ^ 64 }
-    ensures { result ≡ jump_point first lines.now }
-{
-    let mut point = first;
-    for line in lines {
-        point = next_point(point, line);
-    }
-    point
-}
-
 fn next_within(point: usize, line: &Line<u32>, limit: usize) -> Option<usize>
     requires { point ≤ limit }
     ensures { result ≡ bounded limit (next_point point line.now) }

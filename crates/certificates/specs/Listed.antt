@@ -6,8 +6,6 @@ use Rattle.bitset.specs.Bits.{Bits}
 use Rattle.vcode.specs.declared.place.Location.{Location}
 use Rattle.vcode.specs.declared.place.Location.TheVariants.{Slot}
 use Rattle.vcode.specs.declared.place.Destination.{Destination}
-use Rattle.vcode.specs.declared.line.Line.{Line}
-use Rattle.vcode.specs.declared.line.Line.TheVariants.{Tick}
 use Rattle.vcode.specs.declared.code.Block.{Block}
 use Rattle.vcode.specs.declared.code.Code.{Code}
 use Rattle.cfg_live.specs.declared.uses.Uses.{Uses}
@@ -16,6 +14,7 @@ use Rattle.cfg_live.specs.Rows.{holds}
 use Rattle.certificates.specs.declared.certificate.Equality.{Equality}
 use Rattle.certificates.specs.declared.certificate.Transfer.{Transfer}
 use Rattle.certificates.specs.declared.certificate.Certificate.{Certificate}
+pub use Rattle.cfg_live.specs.Numbering.{next_point, jump_point, end_point}
 
 -- the register at its place, if the list has one
 abbrev pub place_in : List Location → ℕ → List Equality
@@ -48,21 +47,6 @@ live_places list rows p (suc r) = live_places list rows p r ++ (if holds rows p 
 abbrev pub listed_params : List Location → List (Destination ℕ) → List Location
 listed_params list [] = []
 listed_params list (d ∷ ds) = option_map_or (λ (q : Location). q ∷ []) (slice_get list d.place) [] ++ listed_params list ds
-
--- a tick is no point
-abbrev pub next_point : ℕ → Line ℕ → ℕ
-next_point p (Tick turn w) = p
-next_point p l = p + 1
-
--- the point of the jump behind these lines
-abbrev pub jump_point : ℕ → List (Line ℕ) → ℕ
-jump_point p [] = p
-jump_point p (l ∷ lines) = jump_point (next_point p l) lines
-
--- the point behind the last of these blocks
-abbrev pub end_point : ℕ → List (Block ℕ) → ℕ
-end_point p [] = p
-end_point p (b ∷ blocks) = end_point (jump_point p b.lines + 1) blocks
 
 -- what is live where each block begins
 abbrev pub listed_starts : List Location → List Bits → (registers p : ℕ) → List (Block ℕ) → List (List Equality)

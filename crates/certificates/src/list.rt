@@ -3,9 +3,10 @@ ghost use Rattle.std.specs.Prelude.{◌≡◌, ◌<◌, ◌^◌, ◌++◌, [], �
 ghost use Rattle.std.specs.Option.{option_map_or};
 ghost use Rattle.cfg_live.specs.Points.{uses};
 ghost use Rattle.cfg_live.specs.Rows.{holds};
-ghost use Rattle.certificates.specs.Listed.{place_in, with_place, with_places, with_written, point_places, has, live_places, listed_params, next_point, jump_point, end_point, listed_starts, no_moves, listed};
+ghost use Rattle.certificates.specs.Listed.{place_in, with_place, with_places, with_written, point_places, has, live_places, listed_params, end_point, listed_starts, no_moves, listed};
 
 use crate::certificate::{Certificate, Equality, Transfer};
+use cfg_live::numbering::jump_point;
 use cfg_live::points::graph;
 use cfg_live::sets::Live;
 use cfg_live::uses::Uses;
@@ -160,28 +161,6 @@ fn push_params(
         push_param(params, list, param.place)?;
     }
     Ok(())
-}
-
-fn next_point(point: usize, line: &Line<u32>) -> usize
-    requires { next_point point line.now < 2 ^ 64 }
-    ensures { result ≡ next_point point line.now }
-{
-    match line {
-        Line::Tick { .. } => point,
-        _ => point + 1,
-    }
-}
-
-// The point of the jump behind these lines.
-fn jump_point(first: usize, lines: &[Line<u32>]) -> usize
-    requires { jump_point first lines.now < 2 ^ 64 }
-    ensures { result ≡ jump_point first lines.now }
-{
-    let mut point = first;
-    for line in lines {
-        point = next_point(point, line);
-    }
-    point
 }
 
 fn push_starts(

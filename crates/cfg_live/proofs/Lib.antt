@@ -2,3 +2,4 @@ mod Exact
 pub mod Marks
 pub mod Unset
 pub mod Whole
+pub mod Counting

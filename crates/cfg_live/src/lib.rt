@@ -18,6 +18,7 @@ mod flow;
 pub mod graph;
 pub mod laws;
 pub mod live;
+pub mod numbering;
 mod order;
 pub mod points;
 pub mod sets;

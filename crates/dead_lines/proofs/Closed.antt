@@ -25,7 +25,8 @@ use Rattle.cfg_live.specs.Paths.{writes, leads}
 use Rattle.cfg_live.specs.Rows.{holds, AreLive}
 use Rattle.dead_lines.specs.Without.{Wanted, is_dead, reads_it, writes_it, wanted_above, wanted_at, next_point, jump_point, kept_block, kept_blocks}
 use Rattle.dead_lines.specs.Overlaid.{names_it}
-use Rattle.dead_lines.proofs.Grows.{one_more, block_count}
+use Rattle.vcode.proofs.Lists.{one_more}
+use Rattle.cfg_live.proofs.Counting.{block_count}
 use Rattle.dead_lines.proofs.Reading.{is_in, is_same, operand_in, two_in, call_in}
 
 -- ---- tests

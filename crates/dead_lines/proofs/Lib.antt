@@ -1,4 +1,3 @@
-pub mod Grows
 pub mod Closed
 pub mod Running
 pub mod Keeping

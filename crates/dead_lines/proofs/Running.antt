@@ -1,5 +1,5 @@
 -- Code without dead lines runs as the code does: live registers agree, a dead line is matched by no step and any other by one.
-use Rattle.std.proofs.Common.{◌≡◌, ℕ, zero, suc, ◌+◌, Bool, true, false, not, ◌&&◌, ◌||◌, nat_eq, nat_lt, if◌then◌else◌, List, [], ◌∷◌, ◌++◌, drop, length, Option, Some, None, slice_get, refl, sym, ◌∙◌, ap, subst, arith}
+use Rattle.std.proofs.Common.{◌≡◌, ℕ, ◌+◌, Bool, true, false, not, ◌&&◌, ◌||◌, nat_eq, nat_lt, if◌then◌else◌, List, [], ◌∷◌, ◌++◌, drop, length, Option, Some, None, slice_get, refl, sym, ◌∙◌, ap, subst, arith}
 use Rattle.std.specs.Option.{option_map, option_and_then}
 use Rattle.std.specs.List.{list_any}
 use Rattle.std.proofs.lemmas.Bool.Decides.{nat_tests}
@@ -31,7 +31,9 @@ use Rattle.vcode.specs.declared.function.VFunc.{VFunc}
 use Rattle.vcode.specs.Operations.{held, operate, loaded}
 use Rattle.vcode.specs.Places.{Values, put, assign, kept, virtual}
 use Rattle.vcode.specs.Coded.{classes_in}
-use Rattle.vcode.specs.Step.{State, begin, value_of, read, read_all, fails, goes_on, sets, changes, weighs, ticks, receives, resumes, calls, line_step, enters, compared, branches, returns, jump_step, block_step, step_in, step}
+use Rattle.vcode.specs.Step.{State, begin, value_of, read, read_all, goes_on, sets, changes, weighs, ticks, receives, resumes, calls, line_step, enters, compared, branches, returns, jump_step, step}
+use Rattle.vcode.proofs.Lists.{head_at, tail_at, nothing_at, same_some}
+use Rattle.vcode.proofs.Stepping.{step_line, step_jump, step_nowhere}
 use Rattle.cfg_live.specs.Registers.{with_operand, jump_reads}
 use Rattle.cfg_live.specs.Points.{with_start, jump_next, graph_of}
 use Rattle.cfg_live.specs.Rows.{holds, AreLive}
@@ -348,42 +350,6 @@ event_together related go (Does (On s)) t h = (1, (h.0, (t, refl, (On h.0, h.1, 
 event_together related go (Does (Over o)) t h = λ f. (1, (t, refl, (Over o, h f, refl)))
 event_together related go (Calls i next) t h = (0, (t, refl, (h.0, h.1, λ o. next_together related go (next o) (h.0 o) (h.2 o))))
 
--- ---- what stands next
-
-head_at : {X : Type 0} (xs : List X) (n : ℕ) (y : X) (ys : List X) → drop n xs ≡ y ∷ ys → slice_get xs n ≡ Some y
-head_at [] zero y ys h = cc
-head_at [] (suc n) y ys h = cc
-head_at (x ∷ xs) zero y ys h = let e : x ≡ y = cc in ap (λ z. Some z) e
-head_at (x ∷ xs) (suc n) y ys h = head_at xs n y ys h
-
-tail_suc : {X : Type 0} (xs : List X) (n : ℕ) (y : X) (ys : List X) → drop n xs ≡ y ∷ ys → drop (suc n) xs ≡ ys
-tail_suc [] zero y ys h = cc
-tail_suc [] (suc n) y ys h = cc
-tail_suc (x ∷ xs) zero y ys h = let e : xs ≡ ys = cc in e
-tail_suc (x ∷ xs) (suc n) y ys h = tail_suc xs n y ys h
-
-tail_at : {X : Type 0} (xs : List X) (n : ℕ) (y : X) (ys : List X) → drop n xs ≡ y ∷ ys → drop (n + 1) xs ≡ ys
-tail_at xs n y ys h = ap (λ k. drop k xs) (let e : n + 1 ≡ suc n = omega arith in e) ∙ tail_suc xs n y ys h
-
-nothing_at : {X : Type 0} (xs : List X) (n : ℕ) → drop n xs ≡ [] → slice_get xs n ≡ None
-nothing_at [] n h = refl
-nothing_at (x ∷ xs) zero h = cc
-nothing_at (x ∷ xs) (suc n) h = nothing_at xs n h
-
-step_line : (globals : List Value) (code : Code ℕ) (i : Given) (s : State ℕ) (b : Block ℕ) (l : Line ℕ)
-    → slice_get code.blocks s.block ≡ Some b → slice_get b.lines s.next ≡ Some l → step virtual globals code i s ≡ line_step virtual globals i s l
-unfolding step
-step_line globals code i s b l e f = ap (step_in virtual globals code i s) e ∙ ap (block_step virtual globals code i s b) f
-
-step_jump : (globals : List Value) (code : Code ℕ) (i : Given) (s : State ℕ) (b : Block ℕ)
-    → slice_get code.blocks s.block ≡ Some b → slice_get b.lines s.next ≡ None → step virtual globals code i s ≡ jump_step globals code.result s b.jump
-unfolding step
-step_jump globals code i s b e f = ap (step_in virtual globals code i s) e ∙ ap (block_step virtual globals code i s b) f
-
-step_nowhere : (globals : List Value) (code : Code ℕ) (i : Given) (s : State ℕ) → slice_get code.blocks s.block ≡ None → step virtual globals code i s ≡ fails s
-unfolding step
-step_nowhere globals code i s e = ap (step_in virtual globals code i s) e
-
 -- ---- states side by side
 
 -- in block b, which is found, with these lines left
@@ -402,9 +368,6 @@ record Related (v : Code ℕ) (rows : List Bits) (s : State ℕ) (t : State ℕ)
   values : Values ℕ
   is : t ≡ carry s next values
   there : (b : Block ℕ) → slice_get v.blocks s.block ≡ Some b → Here v rows s next values b (drop s.next b.lines)
-
-same_some : {X : Type 0} (x y : X) (o : Option X) → o ≡ Some x → o ≡ Some y → x ≡ y
-same_some x y o e f = let g : Some x ≡ Some y = sym e ∙ f in cc
 
 -- a line was done: what is left is behind it
 onward : (v : Code ℕ) (rows : List Bits) (s u : State ℕ) (n m : ℕ) (el el2 : Values ℕ) (b : Block ℕ) (l : Line ℕ) (left : List (Line ℕ)) (h : Here v rows s n el b (l ∷ left))
@@ -470,7 +433,7 @@ dead_matched v rows globals i s n el b l left h at ahead dead =
     let w : Wanted = wanted_at h.out left in
     let agrees : Agree w s.values el = λ r e. h.agrees r (ap (λ (c : Bool). (if c then w else wanted_above w l) r) dead ∙ e) in
     let lines : drop n h.block.lines ≡ kept_lines h.out left = h.lines ∙ ap (λ (c : Bool). if c then kept_lines h.out left else l ∷ kept_lines h.out left) dead in
-    let first : step virtual globals v i s ≡ line_step virtual globals i s l = step_line globals v i s b l at (head_at b.lines s.next l left ahead) in
+    let first : step virtual globals v i s ≡ line_step virtual globals i s l = step_line virtual globals v i s b l at (head_at b.lines s.next l left ahead) in
     subst (λ (x : Event (State ℕ) Asked Outcome). MatchesEvent (Related v rows) Fine (step virtual globals (without_dead rows v) i) x (carry s n el)) (sym first)
     (dead_alone (Related v rows) (step virtual globals (without_dead rows v) i) globals i s n el w l dead agrees
     (λ u e f same. onward v rows s u n n el el b l left h at ahead lines e f same))
@@ -482,9 +445,9 @@ line_matched v rows globals i s n el b l left h at ahead stays =
     let w : Wanted = wanted_at h.out left in
     let agrees : Agree (wanted_above w l) s.values el = λ r e. h.agrees r (ap (λ (c : Bool). (if c then w else wanted_above w l) r) stays ∙ e) in
     let lines : drop n h.block.lines ≡ l ∷ kept_lines h.out left = h.lines ∙ ap (λ (c : Bool). if c then kept_lines h.out left else l ∷ kept_lines h.out left) stays in
-    let first : step virtual globals v i s ≡ line_step virtual globals i s l = step_line globals v i s b l at (head_at b.lines s.next l left ahead) in
+    let first : step virtual globals v i s ≡ line_step virtual globals i s l = step_line virtual globals v i s b l at (head_at b.lines s.next l left ahead) in
     let second : step virtual globals (without_dead rows v) i (carry s n el) ≡ line_step virtual globals i (carry s n el) l =
-    step_line globals (without_dead rows v) i (carry s n el) h.block l h.found (head_at h.block.lines n l (kept_lines h.out left) lines) in
+    step_line virtual globals (without_dead rows v) i (carry s n el) h.block l h.found (head_at h.block.lines n l (kept_lines h.out left) lines) in
     let together : Together (Related v rows) Fine (line_step virtual globals i s l) (line_step virtual globals i (carry s n el) l) =
     line_beside (Related v rows) globals i s n el w l agrees
     (λ u el2 e f same. onward v rows s u n (n + 1) el el2 b l left h at ahead (tail_at h.block.lines n l (kept_lines h.out left) lines) e f same) in
@@ -497,9 +460,9 @@ jump_matched : (v : Code ℕ) (rows : List Bits) (globals : List Value) (i : Giv
     → MatchesEvent (Related v rows) Fine (step virtual globals (without_dead rows v) i) (step virtual globals v i s) (carry s n el)
 jump_matched v rows globals i all s n el b h at ahead =
     let firsts = firsts_from 0 v.blocks in
-    let first : step virtual globals v i s ≡ jump_step globals v.result s b.jump = step_jump globals v i s b at (nothing_at b.lines s.next ahead) in
+    let first : step virtual globals v i s ≡ jump_step globals v.result s b.jump = step_jump virtual globals v i s b at (nothing_at b.lines s.next ahead) in
     let second : step virtual globals (without_dead rows v) i (carry s n el) ≡ jump_step globals v.result (carry s n el) b.jump =
-    step_jump globals (without_dead rows v) i (carry s n el) h.block h.found (nothing_at h.block.lines n h.lines) ∙ ap (jump_step globals v.result (carry s n el)) h.jump in
+    step_jump virtual globals (without_dead rows v) i (carry s n el) h.block h.found (nothing_at h.block.lines n h.lines) ∙ ap (jump_step globals v.result (carry s n el)) h.jump in
     let together : Together (Related v rows) Fine (jump_step globals v.result s b.jump) (jump_step globals v.result (carry s n el) b.jump) =
     jump_beside (Related v rows) globals v.result s n el firsts b.jump (λ r e. h.agrees r (h.reads r e))
     (λ k leads. at_start v rows all s k el (λ q r e f. h.agrees r (h.goes q r (leads q e) f))) in
@@ -522,7 +485,7 @@ block_matched : (v : Code ℕ) (rows : List Bits) (globals : List Value) (i : Gi
     → slice_get v.blocks s.block ≡ o → ((b : Block ℕ) → slice_get v.blocks s.block ≡ Some b → Here v rows s n el b (drop s.next b.lines))
     → MatchesEvent (Related v rows) Fine (step virtual globals (without_dead rows v) i) (step virtual globals v i s) (carry s n el)
 block_matched v rows globals i all s n el None at there =
-    subst (λ (x : Event (State ℕ) Asked Outcome). MatchesEvent (Related v rows) Fine (step virtual globals (without_dead rows v) i) x (carry s n el)) (sym (step_nowhere globals v i s at)) (λ f. absurd f)
+    subst (λ (x : Event (State ℕ) Asked Outcome). MatchesEvent (Related v rows) Fine (step virtual globals (without_dead rows v) i) x (carry s n el)) (sym (step_nowhere virtual globals v i s at)) (λ f. absurd f)
 block_matched v rows globals i all s n el (Some b) at there = left_matched v rows globals i all s n el b (drop s.next b.lines) at refl (there b at)
 
 simulates : (v : Code ℕ) (rows : List Bits) (globals : List Value) (i : Given) → AllStand v rows → Simulates (Related v rows) Fine (step virtual globals v i) (step virtual globals (without_dead rows v) i)

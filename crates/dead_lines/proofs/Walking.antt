@@ -3,7 +3,7 @@ use Rattle.std.proofs.Common.{◌≡◌, ℕ, ◌+◌, ◌-◌, ◌<◌, ◌≤�
 use Rattle.std.proofs.lemmas.Grind.{reverse_onto}
 use Rattle.vcode.specs.declared.line.Line.{Line}
 use Rattle.dead_lines.specs.Without.{Wanted, is_dead, wanted_above, wanted_at, kept_lines}
-use Rattle.dead_lines.proofs.Grows.{item_next}
+use Rattle.vcode.proofs.Lists.{item_next}
 
 line_above : (lines : List (Line ℕ)) (k : ℕ) (l : Line ℕ) → 0 < k → k ≤ length lines → l ≡ get_or lines (k - 1) l → drop (k - 1) lines ≡ l ∷ drop k lines
 line_above lines k l low high at =

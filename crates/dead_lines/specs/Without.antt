@@ -4,13 +4,14 @@ use Rattle.std.specs.List.{list_any}
 use Rattle.std.specs.Option.{option_map_or}
 use Rattle.bitset.specs.Bits.{Bits}
 use Rattle.vcode.specs.declared.line.Line.{Line}
-use Rattle.vcode.specs.declared.line.Line.TheVariants.{Tick, Set, Operate, Load}
+use Rattle.vcode.specs.declared.line.Line.TheVariants.{Set, Operate, Load}
 use Rattle.vcode.specs.declared.code.Block.{Block}
 use Rattle.vcode.specs.declared.code.Code.{Code}
 use Rattle.vcode.specs.declared.function.VFunc.{VFunc}
 use Rattle.cfg_live.specs.Registers.{line_reads, line_writes}
 use Rattle.cfg_live.specs.Points.{graph_of}
 use Rattle.cfg_live.specs.Rows.{holds, AreLive}
+pub use Rattle.cfg_live.specs.Numbering.{next_point, jump_point, end_point}
 
 -- the registers whose values are still used
 abbrev pub Wanted : Type 0
@@ -46,20 +47,6 @@ kept_lines out [] = []
 kept_lines out (l ∷ lines) = if is_dead (wanted_at out lines) l then kept_lines out lines else l ∷ kept_lines out lines
 
 -- ---- blocks, of which each begins at a point of the function; a tick is no point
-
-abbrev pub next_point : ℕ → Line ℕ → ℕ
-next_point p (Tick turn w) = p
-next_point p l = p + 1
-
--- the point of the jump behind these lines
-abbrev pub jump_point : ℕ → List (Line ℕ) → ℕ
-jump_point p [] = p
-jump_point p (l ∷ lines) = jump_point (next_point p l) lines
-
--- the point behind the last of these blocks
-abbrev pub end_point : ℕ → List (Block ℕ) → ℕ
-end_point p [] = p
-end_point p (b ∷ blocks) = end_point (jump_point p b.lines + 1) blocks
 
 -- behind its lines a block wants what is live right before its jump
 abbrev pub kept_block : List Bits → ℕ → Block ℕ → Block ℕ

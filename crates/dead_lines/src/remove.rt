@@ -6,11 +6,12 @@ ghost use Rattle.vcode.specs.Coded.{virtual_code};
 ghost use Rattle.vcode.specs.Named.{line_keeps, block_keeps, is_below};
 ghost use Rattle.cfg_live.specs.Points.{graph_of};
 ghost use Rattle.cfg_live.specs.Rows.{holds, AreLive};
-ghost use Rattle.dead_lines.specs.Without.{kept_lines, kept_block, kept_blocks, next_point, jump_point, end_point, without_dead, IsWithoutDead};
+ghost use Rattle.dead_lines.specs.Without.{kept_lines, kept_block, kept_blocks, end_point, without_dead, IsWithoutDead};
 
 use crate::copied::{line as copied, params as copied_params};
 use crate::overlay::Overlay;
 use cfg_live::live::live_in;
+use cfg_live::numbering::jump_point;
 use cfg_live::points::graph;
 use cfg_live::sets::Live;
 use il_ast::list::Seq;
@@ -60,28 +61,6 @@ fn kept_block(
         lines: Seq::from_vec(lines),
         jump: block.jump,
     })
-}
-
-fn next_point(point: usize, line: &Line<u32>) -> usize
-    requires { next_point point line.now < 2 ^ 64 }
-    ensures { result ≡ next_point point line.now }
-{
-    match line {
-        Line::Tick { .. } => point,
-        _ => point + 1,
-    }
-}
-
-// The point of the jump behind these lines.
-fn jump_point(first: usize, lines: &[Line<u32>]) -> usize
-    requires { jump_point first lines.now < 2 ^ 64 }
-    ensures { result ≡ jump_point first lines.now }
-{
-    let mut point = first;
-    for line in lines {
-        point = next_point(point, line);
-    }
-    point
 }
 
 fn push_blocks(

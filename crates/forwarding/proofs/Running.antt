@@ -35,7 +35,9 @@ use Rattle.vcode.specs.Cost.{affords}
 use Rattle.vcode.specs.Operations.{held, operate, loaded}
 use Rattle.vcode.specs.Places.{Values, put, assign, kept, virtual}
 use Rattle.vcode.specs.Coded.{classes_in}
-use Rattle.vcode.specs.Step.{State, begin, value_of, read, read_all, fails, goes_on, sets, changes, weighs, ticks, receives, resumes, calls, line_step, compared, branches, returns, jump_step, block_step, step_in, step}
+use Rattle.vcode.specs.Step.{State, begin, value_of, read, read_all, goes_on, sets, changes, weighs, ticks, receives, resumes, calls, line_step, compared, branches, returns, jump_step, step}
+use Rattle.vcode.proofs.Lists.{head_at, tail_at, nothing_at, same_some}
+use Rattle.vcode.proofs.Stepping.{step_line, step_jump, step_nowhere}
 use Rattle.cfg_live.specs.Registers.{line_writes}
 use Rattle.forwarding.specs.declared.fact.Fact.{Fact}
 use Rattle.forwarding.specs.declared.fact.Fact.TheVariants.{Same, Test}
@@ -546,42 +548,6 @@ true_after globals n m s u old moved all r f h = by (writes_it m r) refl p.from
     by true e g = moved.fact r f e g names
     by false e g = truth_kept globals m s u moved r f e names kept (all r f g)
 
--- ---- what stands next
-
-head_at : {X : Type 0} (xs : List X) (n : ℕ) (y : X) (ys : List X) → drop n xs ≡ y ∷ ys → slice_get xs n ≡ Some y
-head_at [] zero y ys h = cc
-head_at [] (suc n) y ys h = cc
-head_at (x ∷ xs) zero y ys h = let e : x ≡ y = cc in ap (λ z. Some z) e
-head_at (x ∷ xs) (suc n) y ys h = head_at xs n y ys h
-
-tail_suc : {X : Type 0} (xs : List X) (n : ℕ) (y : X) (ys : List X) → drop n xs ≡ y ∷ ys → drop (suc n) xs ≡ ys
-tail_suc [] zero y ys h = cc
-tail_suc [] (suc n) y ys h = cc
-tail_suc (x ∷ xs) zero y ys h = let e : xs ≡ ys = cc in e
-tail_suc (x ∷ xs) (suc n) y ys h = tail_suc xs n y ys h
-
-tail_at : {X : Type 0} (xs : List X) (n : ℕ) (y : X) (ys : List X) → drop n xs ≡ y ∷ ys → drop (n + 1) xs ≡ ys
-tail_at xs n y ys h = ap (λ k. drop k xs) (let e : n + 1 ≡ suc n = omega arith in e) ∙ tail_suc xs n y ys h
-
-nothing_at : {X : Type 0} (xs : List X) (n : ℕ) → drop n xs ≡ [] → slice_get xs n ≡ None
-nothing_at [] n h = refl
-nothing_at (x ∷ xs) zero h = cc
-nothing_at (x ∷ xs) (suc n) h = nothing_at xs n h
-
-step_line : (globals : List Value) (code : Code ℕ) (i : Given) (s : State ℕ) (b : Block ℕ) (l : Line ℕ)
-    → slice_get code.blocks s.block ≡ Some b → slice_get b.lines s.next ≡ Some l → step virtual globals code i s ≡ line_step virtual globals i s l
-unfolding step
-step_line globals code i s b l e f = ap (step_in virtual globals code i s) e ∙ ap (block_step virtual globals code i s b) f
-
-step_jump : (globals : List Value) (code : Code ℕ) (i : Given) (s : State ℕ) (b : Block ℕ)
-    → slice_get code.blocks s.block ≡ Some b → slice_get b.lines s.next ≡ None → step virtual globals code i s ≡ jump_step globals code.result s b.jump
-unfolding step
-step_jump globals code i s b e f = ap (step_in virtual globals code i s) e ∙ ap (block_step virtual globals code i s b) f
-
-step_nowhere : (globals : List Value) (code : Code ℕ) (i : Given) (s : State ℕ) → slice_get code.blocks s.block ≡ None → step virtual globals code i s ≡ fails s
-unfolding step
-step_nowhere globals code i s e = ap (step_in virtual globals code i s) e
-
 -- ---- the states
 
 record Here (n : ℕ) (w : Code ℕ) (globals : List Value) (s : State ℕ) (b : Block ℕ) (left : List (Line ℕ)) : Type 0 where
@@ -594,9 +560,6 @@ record Here (n : ℕ) (w : Code ℕ) (globals : List Value) (s : State ℕ) (b :
 record Related (n : ℕ) (v w : Code ℕ) (globals : List Value) (s t : State ℕ) : Type 0 where
   is : t ≡ s
   there : (b : Block ℕ) → slice_get v.blocks s.block ≡ Some b → Here n w globals s b (drop s.next b.lines)
-
-same_some : {X : Type 0} (x y : X) (o : Option X) → o ≡ Some x → o ≡ Some y → x ≡ y
-same_some x y o e f = let g : Some x ≡ Some y = sym e ∙ f in cc
 
 record Found (n : ℕ) (b : Block ℕ) (o : Option (Block ℕ)) : Type 0 where
   block : Block ℕ
@@ -660,8 +623,8 @@ jump_beside : (n : ℕ) (v w : Code ℕ) (globals : List Value) (i : Given) (s :
     → Beside n v w globals i s
 jump_beside n v w globals i s b c fs all result at found ahead ahead2 is facts =
     one_event (Related n v w globals) (step virtual globals v i s) (step virtual globals w i s) (jump_step globals v.result s b.jump)
-    (step_jump globals v i s b at (nothing_at b.lines s.next ahead))
-    (step_jump globals w i s c found (nothing_at c.lines s.next ahead2) ∙ ap (λ (r : Option Class). jump_step globals r s c.jump) result ∙ ap (jump_step globals v.result s) is
+    (step_jump virtual globals v i s b at (nothing_at b.lines s.next ahead))
+    (step_jump virtual globals w i s c found (nothing_at c.lines s.next ahead2) ∙ ap (λ (r : Option Class). jump_step globals r s c.jump) result ∙ ap (jump_step globals v.result s) is
     ∙ jump_same c.lines globals v.result s fs facts b.jump)
     (event_more (λ u. u.next ≡ 0) (λ u. Related n v w globals u u) (λ u e. at_start n v w globals all u e) (jump_step globals v.result s b.jump) (jump_starts globals v.result s b.jump))
 
@@ -670,9 +633,9 @@ line_beside : (n : ℕ) (v w : Code ℕ) (globals : List Value) (i : Given) (s :
     → AreForwarded n c.lines (after n m fs) left left2 b.jump c.jump → AreTrue globals s fs → Beside n v w globals i s
 line_beside n v w globals i s b c fs l m left left2 at found ahead ahead2 is rest facts =
     one_event (Related n v w globals) (step virtual globals v i s) (step virtual globals w i s) (line_step virtual globals i s m)
-    (step_line globals v i s b l at (head_at b.lines s.next l left ahead)
+    (step_line virtual globals v i s b l at (head_at b.lines s.next l left ahead)
     ∙ sym (line_same globals i s (forward fs) (operand_same globals s fs facts) l) ∙ ap (line_step virtual globals i s) (sym is))
-    (step_line globals w i s c m found (head_at c.lines s.next m left2 ahead2))
+    (step_line virtual globals w i s c m found (head_at c.lines s.next m left2 ahead2))
     (event_more (Moved globals m s) (λ u. Related n v w globals u u) on (line_step virtual globals i s m) (line_moves globals i s m))
   where
     on : (u : State ℕ) → Moved globals m s u → Related n v w globals u u
@@ -706,7 +669,7 @@ left_beside n v w globals i s b c fs (l ∷ left) (m ∷ left2) all result at fo
 block_beside : (n : ℕ) (v w : Code ℕ) (globals : List Value) (i : Given) (s : State ℕ) (o : Option (Block ℕ)) → AllForwarded n v.blocks w.blocks → w.result ≡ v.result → slice_get v.blocks s.block ≡ o
     → ((b : Block ℕ) → slice_get v.blocks s.block ≡ Some b → Here n w globals s b (drop s.next b.lines)) → Beside n v w globals i s
 block_beside n v w globals i s None all result at there =
-    subst (λ (x : Event (State ℕ) Asked Outcome). Together (Related n v w globals) Fine x (step virtual globals w i s)) (sym (step_nowhere globals v i s at)) (λ f. absurd f)
+    subst (λ (x : Event (State ℕ) Asked Outcome). Together (Related n v w globals) Fine x (step virtual globals w i s)) (sym (step_nowhere virtual globals v i s at)) (λ f. absurd f)
 block_beside n v w globals i s (Some b) all result at there =
     let h = there b at in
     left_beside n v w globals i s b h.block h.facts (drop s.next b.lines) (drop s.next h.block.lines) all result at h.found refl refl h.forwarded h.true_facts

@@ -1,4 +1,3 @@
 pub mod Facts
 pub mod Table
-pub mod Cost
 pub mod Forwarded

@@ -14,7 +14,6 @@
 //! The crate stands on `vcode` for code and on `cfg_live` for the registers that lines write.
 #![tactic(auto)]
 
-mod cost;
 pub mod fact;
 pub mod forward;
 mod replace;

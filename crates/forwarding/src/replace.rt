@@ -7,12 +7,12 @@ ghost use Rattle.vcode.specs.Cost.{is_immediate};
 ghost use Rattle.forwarding.specs.Table.{facts_of};
 ghost use Rattle.forwarding.specs.Forwarded.{is_short, forward, with_argument, with_line, with_comparison, tested_by, afforded, with_test, with_branch, with_jump};
 
-use crate::cost::{affords, is_immediate};
 use crate::fact::Fact;
 use crate::table::Table;
 use il_ast::list::Seq;
 use il_ast::operation::Condition;
 use std::alloc::{AllocError, Global};
+use vcode::cost::{affords, is_immediate};
 use vcode::line::{Comparison, Jump, Line};
 use vcode::place::{Argument, Operand};
 

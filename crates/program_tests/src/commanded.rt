@@ -33,7 +33,10 @@ pub fn perform_with(
 ) -> Result<Done, AllocError> {
     let mut how = LinearScan::new(alloc);
     let status = command(alloc, words, &mut how, disk, &mut out, &mut err);
-    let message = String::from_str(alloc, str::from_utf8(err.bytes.as_slice()).unwrap_or("no text"))?;
+    let message = String::from_str(
+        alloc,
+        str::from_utf8(err.bytes.as_slice()).unwrap_or("no text"),
+    )?;
     Ok(Done {
         status,
         output: out.bytes,

@@ -1,3 +1,6 @@
 pub mod Comparing
 mod Computed
 mod Words
+pub mod Lists
+pub mod Stepping
+mod Affording

@@ -2,6 +2,7 @@ pub mod Operations
 pub mod Places
 pub mod Step
 pub mod Cost
+pub mod Spent
 pub mod Regular
 pub mod Named
 pub mod ExampleCodes

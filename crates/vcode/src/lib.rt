@@ -16,6 +16,7 @@
 #![tactic(auto)]
 
 pub mod code;
+pub mod cost;
 pub mod function;
 pub mod laws;
 pub mod line;

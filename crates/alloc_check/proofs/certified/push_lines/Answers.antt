@@ -1,6 +1,7 @@
 use Rattle.std.proofs.Common.{arith, ◌+◌, ◌++◌, drop, ap, sym, ◌∙◌}
 use Rattle.alloc_check.specs.Certified.{jump_point, certified_lines}
-use Rattle.alloc_check.proofs.Counted.{next_fits, item_next}
+use Rattle.cfg_live.proofs.Counting.{next_fits}
+use Rattle.vcode.proofs.Lists.{item_next}
 use Rattle.alloc_check.proofs.Walks.{push_on}
 use Rattle.alloc_check.proofs.certified.push_lines.Goals as goal
 

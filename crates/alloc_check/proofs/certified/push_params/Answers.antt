@@ -1,5 +1,6 @@
 use Rattle.std.proofs.Common.{sym, ◌∙◌, ap, ◌++◌}
-use Rattle.alloc_check.proofs.Entering.{no_more, append_none}
+use Rattle.alloc_check.proofs.Entering.{no_more}
+use Rattle.vcode.proofs.Lists.{append_none}
 use Rattle.alloc_check.proofs.certified.push_params.Goals as goal
 
 pub returns-in-None : goal.returns-in-None

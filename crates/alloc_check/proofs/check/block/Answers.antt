@@ -1,5 +1,5 @@
 use Rattle.std.proofs.Common.{arith}
-use Rattle.alloc_check.proofs.Counted.{jump_low}
+use Rattle.cfg_live.proofs.Counting.{jump_low}
 use Rattle.alloc_check.proofs.check.block.Goals as goal
 
 pub begin-requires-clause-room : goal.begin-requires-clause-room

@@ -1,7 +1,7 @@
 use Rattle.std.proofs.Common.{arith, ◌≡◌, ap}
 use Rattle.alloc_check.specs.Certified.{jump_point}
 use Rattle.alloc_check.specs.Accepted.{end_point}
-use Rattle.alloc_check.proofs.Counted.{block_fits}
+use Rattle.cfg_live.proofs.Counting.{block_fits}
 use Rattle.alloc_check.proofs.check.blocks.Goals as goal
 
 pub block-requires-clause-room : goal.block-requires-clause-room

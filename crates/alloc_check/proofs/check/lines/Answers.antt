@@ -1,6 +1,6 @@
 use Rattle.std.proofs.Common.{arith}
 use Rattle.alloc_check.specs.Certified.{jump_point}
-use Rattle.alloc_check.proofs.Counted.{next_fits}
+use Rattle.cfg_live.proofs.Counting.{next_fits}
 use Rattle.alloc_check.proofs.check.lines.Goals as goal
 
 pub point-requires-clause-room : goal.point-requires-clause-room

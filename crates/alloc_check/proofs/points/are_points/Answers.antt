@@ -1,7 +1,8 @@
 use Rattle.std.proofs.Common.{sym, ◌∙◌, ◌+◌}
 use Rattle.alloc_check.specs.Certified.{jump_point}
 use Rattle.alloc_check.specs.Accepted.{end_point}
-use Rattle.alloc_check.proofs.Counted.{block_fits, beyond, none_there}
+use Rattle.alloc_check.proofs.Counted.{beyond, none_there}
+use Rattle.cfg_live.proofs.Counting.{block_fits}
 use Rattle.alloc_check.proofs.points.are_points.Goals as goal
 
 pub returns-in-None : goal.returns-in-None

@@ -1,6 +1,7 @@
 use Rattle.std.proofs.Common.{sym, ◌∙◌}
 use Rattle.alloc_check.specs.Certified.{next_point, jump_point}
-use Rattle.alloc_check.proofs.Counted.{next_fits, beyond}
+use Rattle.alloc_check.proofs.Counted.{beyond}
+use Rattle.cfg_live.proofs.Counting.{next_fits}
 use Rattle.alloc_check.proofs.points.lines_within.Goals as goal
 
 pub returns-in-None : goal.returns-in-None

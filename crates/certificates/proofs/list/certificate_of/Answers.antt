@@ -1,7 +1,7 @@
 use Rattle.std.proofs.Common.{arith, ◌≡◌, length, ap, ◌∙◌, sym}
 use Rattle.cfg_live.specs.declared.graph.Graph.{Graph}
 use Rattle.certificates.specs.Listed.{end_point}
-use Rattle.certificates.proofs.Grows.{uses_count}
+use Rattle.cfg_live.proofs.Counting.{uses_count}
 use Rattle.certificates.proofs.list.certificate_of.Goals as goal
 
 pub push_starts-requires : goal.push_starts-requires

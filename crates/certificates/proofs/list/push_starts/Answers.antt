@@ -1,6 +1,6 @@
 use Rattle.std.proofs.Common.{arith, ◌≡◌, ap}
 use Rattle.certificates.specs.Listed.{jump_point, end_point}
-use Rattle.certificates.proofs.Grows.{block_fits}
+use Rattle.cfg_live.proofs.Counting.{block_fits}
 use Rattle.certificates.proofs.list.push_starts.Goals as goal
 
 pub jump_point-point-requires : goal.jump_point-point-requires

@@ -1,6 +1,6 @@
 use Rattle.std.proofs.Common.{arith, ◌≡◌, ap}
 use Rattle.dead_lines.specs.Without.{jump_point, end_point}
-use Rattle.dead_lines.proofs.Grows.{block_fits}
+use Rattle.cfg_live.proofs.Counting.{block_fits}
 use Rattle.dead_lines.proofs.remove.push_blocks.Goals as goal
 
 pub jump_point-point-requires : goal.jump_point-point-requires

@@ -1,7 +1,7 @@
 use Rattle.std.proofs.Common.{arith, ◌≡◌, length, ap, ◌∙◌, sym}
 use Rattle.cfg_live.specs.declared.graph.Graph.{Graph}
 use Rattle.dead_lines.specs.Without.{end_point}
-use Rattle.dead_lines.proofs.Grows.{uses_count}
+use Rattle.cfg_live.proofs.Counting.{uses_count}
 use Rattle.dead_lines.proofs.remove.remove_dead_lines.Goals as goal
 
 pub without_dead-requires-clause-few : goal.without_dead-requires-clause-few

@@ -2,7 +2,7 @@ use Rattle.std.proofs.Common.{◌≡◌, ℕ, List, [], length, drop, sym, ◌�
 use Rattle.std.proofs.lemmas.List.{drop_all}
 use Rattle.vcode.specs.declared.code.Block.{Block}
 use Rattle.forwarding.specs.Forwarded.{AllForwarded}
-use Rattle.forwarding.proofs.Making.{append_none}
+use Rattle.vcode.proofs.Lists.{append_none}
 use Rattle.forwarding.proofs.forward.forwarded_blocks.Goals as goal
 
 pub returns : goal.returns

@@ -3,7 +3,8 @@ use Rattle.std.proofs.lemmas.List.{drop_all}
 use Rattle.vcode.specs.declared.line.Line.{Line}
 use Rattle.forwarding.specs.Table.{facts_of}
 use Rattle.forwarding.specs.Forwarded.{after, AreForwarded}
-use Rattle.forwarding.proofs.Making.{lines_on, append_one, append_none}
+use Rattle.forwarding.proofs.Making.{lines_on, append_one}
+use Rattle.vcode.proofs.Lists.{append_none}
 use Rattle.forwarding.proofs.forward.forwarded_lines.Goals as goal
 
 pub loop-line-preserved : goal.loop-line-preserved

@@ -1,13 +1,14 @@
 -- Points only grow, and are as many as the graph has.
-use Rattle.std.proofs.Common.{◌≡◌, ℕ, zero, suc, ◌+◌, ◌<◌, ◌≤◌, List, [], ◌∷◌, ◌++◌, length, get_or, drop, refl, sym, ap, ◌∙◌, arith}
+use Rattle.std.proofs.Common.{◌≡◌, ℕ, ◌+◌, ◌<◌, ◌≤◌, List, [], ◌∷◌, length, get_or, drop, refl, sym, ap, ◌∙◌, arith}
 use Rattle.vcode.specs.declared.line.Line.{Line}
 use Rattle.vcode.specs.declared.line.Line.TheVariants.{Tick, Set, Operate, Load, Store, Alloc, Blit, Call}
 use Rattle.vcode.specs.declared.code.Block.{Block}
 use Rattle.cfg_live.specs.declared.uses.Uses.{Uses}
 use Rattle.cfg_live.specs.Points.{line_uses, jump_uses, with_line, with_lines, with_block, with_blocks, uses}
-use Rattle.dead_lines.specs.Without.{next_point, jump_point, end_point}
+use Rattle.cfg_live.specs.Numbering.{next_point, jump_point, end_point}
+use Rattle.vcode.proofs.Lists.{item_next, one_more}
 
-next_low : (p : ℕ) (l : Line ℕ) → p ≤ next_point p l
+pub next_low : (p : ℕ) (l : Line ℕ) → p ≤ next_point p l
 next_low p (Tick turn w) = omega arith
 next_low p (Set to a) = omega arith
 next_low p (Operate to op a b) = omega arith
@@ -17,18 +18,13 @@ next_low p (Alloc to size) = omega arith
 next_low p (Blit from to count) = omega arith
 next_low p (Call to callee args) = omega arith
 
-jump_low : (p : ℕ) (lines : List (Line ℕ)) → p ≤ jump_point p lines
+pub jump_low : (p : ℕ) (lines : List (Line ℕ)) → p ≤ jump_point p lines
 jump_low p [] = omega arith
 jump_low p (l ∷ lines) = let a : p ≤ next_point p l = next_low p l in let b : next_point p l ≤ jump_point (next_point p l) lines = jump_low (next_point p l) lines in omega arith
 
-end_low : (p : ℕ) (blocks : List (Block ℕ)) → p ≤ end_point p blocks
+pub end_low : (p : ℕ) (blocks : List (Block ℕ)) → p ≤ end_point p blocks
 end_low p [] = omega arith
 end_low p (b ∷ blocks) = let a = jump_low p b.lines in let c = end_low (jump_point p b.lines + 1) blocks in omega arith
-
-pub item_next : {X : Type 0} (xs : List X) (i : ℕ) (x : X) → i < length xs → x ≡ get_or xs i x → drop i xs ≡ x ∷ drop (i + 1) xs
-item_next [] i x low e = absurd (omega arith)
-item_next (y ∷ ys) zero x low e = ap (λ z. z ∷ ys) (sym e)
-item_next (y ∷ ys) (suc i) x low e = item_next ys i x (omega arith) e ∙ ap (λ k. x ∷ drop k (y ∷ ys)) (let f : suc (i + 1) ≡ suc i + 1 = omega arith in f)
 
 pub next_fits : (lines : List (Line ℕ)) (i p e : ℕ) (l : Line ℕ) → i < length lines → l ≡ get_or lines i l → jump_point p (drop i lines) ≡ e → next_point p l ≤ e
 next_fits lines i p e l low at is =
@@ -43,10 +39,6 @@ block_fits blocks i p e b low at is =
     omega arith
 
 -- ---- the graph's points
-
-pub one_more : {X : Type 0} (xs : List X) (x : X) → length (xs ++ x ∷ []) ≡ length xs + 1
-one_more [] x = refl
-one_more (y ∷ xs) x = ap suc (one_more xs x) ∙ (let e : suc (length xs + 1) ≡ suc (length xs) + 1 = omega arith in e)
 
 line_count : (us : List Uses) (l : Line ℕ) → length (with_line us l) ≡ next_point (length us) l
 line_count us (Tick turn w) = refl

@@ -1,20 +1,21 @@
-//! Whether the lines of a block pay for its jump.
+//! What lines and jumps cost, and whether the ticks of a block pay for it.
 ghost use Rattle.std.specs.Prelude.{◌≡◌, ◌≤◌, ◌+◌, ◌<◌, ◌^◌, IfSome};
-ghost use Rattle.vcode.specs.Cost.{is_immediate, operand_cost, operation_cost, branch_cost, line_cost, jump_cost, affords};
-ghost use Rattle.forwarding.specs.Cost.{spent};
+ghost use Rattle.vcode.specs.Cost.{is_immediate, operand_cost, operation_cost, branch_cost, line_cost, jump_cost, affords, is_paid};
+ghost use Rattle.vcode.specs.Spent.{spent};
 
+use crate::code::Block;
+use crate::line::{Jump, Line, Operation};
+use crate::place::Operand;
 use il_ast::operation::Class;
-use vcode::line::{Jump, Line, Operation};
-use vcode::place::Operand;
 
-/// Whether one immediate of 12 bits gives the number.
-pub(crate) fn is_immediate(number: u64) -> bool
+/// Whether one immediate of 12 bits with a sign gives the number.
+pub fn is_immediate(number: u64) -> bool
     ensures { result ≡ is_immediate number }
 {
     number < 2048 || number >= 0xffff_ffff_ffff_f800
 }
 
-fn operand_cost(operand: &Operand<u32>) -> u128
+fn operand_cost<P>(operand: &Operand<P>) -> u128
     ensures cost { result ≡ operand_cost operand.now }
     ensures small { result ≤ 9 }
 {
@@ -36,7 +37,7 @@ fn operation_cost(operation: Operation) -> u128
     }
 }
 
-fn line_cost(line: &Line<u32>) -> u128
+fn line_cost<P: Drop>(line: &Line<P>) -> u128
     ensures { result ≡ line_cost line.now }
 {
     match line {
@@ -68,7 +69,7 @@ fn branch_cost(class: Class) -> u128
     }
 }
 
-fn jump_cost(jump: &Jump<u32>) -> u128
+fn jump_cost<P>(jump: &Jump<P>) -> u128
     ensures { result ≡ jump_cost jump.now }
 {
     match jump {
@@ -83,7 +84,7 @@ fn jump_cost(jump: &Jump<u32>) -> u128
 }
 
 // What is left of a credit after a line, if it affords that. A unit of weight pays for 32 instructions.
-fn spend(credit: u128, line: &Line<u32>) -> Option<u128>
+fn spend<P: Drop>(credit: u128, line: &Line<P>) -> Option<u128>
     requires { credit + 2 ^ 37 < 2 ^ 128 }
     ensures spent { result ≡ spent credit line.now }
     ensures small { IfSome result (λ left. left ≤ credit + 2 ^ 37) }
@@ -95,7 +96,7 @@ fn spend(credit: u128, line: &Line<u32>) -> Option<u128>
 }
 
 /// Whether the lines pay for themselves, each by the ticks before it, and then for the jump.
-pub(crate) fn affords(lines: &[Line<u32>], jump: &Jump<u32>) -> bool
+pub fn affords<P: Drop>(lines: &[Line<P>], jump: &Jump<P>) -> bool
     ensures { result ≡ affords 0 jump.now lines.now }
 {
     let mut credit = 0u128;
@@ -106,4 +107,11 @@ pub(crate) fn affords(lines: &[Line<u32>], jump: &Jump<u32>) -> bool
         }
     }
     jump_cost(jump) <= credit
+}
+
+/// Whether the ticks of the block pay for its lines and its jump.
+pub fn is_paid<P: Drop>(block: &Block<P>) -> bool
+    ensures { result ≡ is_paid block.now }
+{
+    affords(block.lines.as_slice(), &block.jump)
 }

@@ -1,7 +1,7 @@
 use Rattle.std.proofs.Common.{arith}
-use Rattle.alloc_check.specs.Certified.{jump_point}
-use Rattle.alloc_check.proofs.Counted.{next_fits}
-use Rattle.alloc_check.proofs.points.jump_point.Goals as goal
+use Rattle.cfg_live.specs.Numbering.{jump_point}
+use Rattle.cfg_live.proofs.Counting.{next_fits}
+use Rattle.cfg_live.proofs.numbering.jump_point.Goals as goal
 
 pub next_point-point-requires : goal.next_point-point-requires
 next_point-point-requires c =

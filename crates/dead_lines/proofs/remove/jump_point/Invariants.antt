@@ -1,6 +1,0 @@
-use Rattle.std.proofs.Common.{◌≡◌, drop}
-use Rattle.dead_lines.specs.Without.{jump_point}
-use Rattle.dead_lines.proofs.remove.jump_point.Given as goal
-
-abbrev pub invariant-loop-line : goal.invariant-loop-line
-invariant-loop-line l = jump_point l.point (drop l.line-index l.lines) ≡ jump_point l.fn.first l.fn.lines

@@ -1,6 +1,0 @@
-use Rattle.std.proofs.Common.{◌≡◌, ◌≤◌, ◌*◌, drop}
-use Rattle.vcode.specs.Cost.{affords}
-use Rattle.forwarding.proofs.cost.affords.Given as goal
-
-abbrev pub invariant-loop-line : goal.invariant-loop-line
-invariant-loop-line l = record { walk : affords l.credit l.fn.jump (drop l.line-index l.lines) ≡ affords 0 l.fn.jump l.fn.lines; small : l.credit ≤ 137438953472 * l.line-index }
