@@ -1,7 +1,6 @@
 //! Registers that hold whole words alone.
 ghost use Rattle.std.specs.Prelude.{◌≡◌, ℕ, IsTrue, IfOk};
 ghost use Rattle.std.specs.List.{list_all};
-ghost use Rattle.vcode.specs.declared.place.Destination.{Destination as DestinationOf};
 ghost use Rattle.vcode.specs.declared.code.Block.{Block as BlockOf};
 ghost use Rattle.whole_words.specs.Whole.{is_whole_number, is_marked, is_whole, keeps_whole, gives_whole, loads_whole, is_word, takes_whole, wants_whole, keeps_marks, are_closed};
 
