@@ -26,6 +26,7 @@ use rv_isa::code::Code;
 use select::select::select;
 use std::alloc::{AllocError, Global};
 use vcode::function::{LFunc, VFunc};
+use whole_words::copies::copy_whole_words;
 
 // By this certificate where it is right, else with every register in a slot of its own.
 fn certified(
@@ -61,7 +62,8 @@ pub fn allocated(
     }
 }
 
-/// The function in virtual code: selected, with copies and comparisons carried forward, and without dead lines. A pass on virtual code has its place here.
+/// The function in virtual code: selected, with extensions of whole words as copies, with copies and comparisons carried forward, and without dead lines. A pass
+/// on virtual code has its place here.
 ///
 /// # Errors
 ///
@@ -72,7 +74,8 @@ pub fn virtual_code_of(alloc: Global, func: &Func) -> Result<VFunc, AllocError>
 {
     let lowered = lower(alloc, func)?;
     let selected = select(alloc, &lowered)?;
-    let forwarded = forward(alloc, &selected)?;
+    let copied = copy_whole_words(alloc, &selected)?;
+    let forwarded = forward(alloc, &copied)?;
     let kept = remove_dead_lines(alloc, &forwarded)?;
     Ok(kept)
 }

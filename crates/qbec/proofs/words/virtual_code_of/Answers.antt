@@ -7,8 +7,10 @@ use Rattle.qbec.proofs.words.virtual_code_of.Goals as goal
 
 pub returns : goal.returns
 returns c =
+    let f = c.args.func.now in
     let v = virtual_code c.in_ok-selected.selected in
+    let u = virtual_code c.in_ok-copied.copied in
     let w = virtual_code c.in_ok-forwarded.forwarded in
     let first = subst (λ (f : Func). IsCodeOf f v) c.in_ok-lowered.ensures.same c.in_ok-selected.ensures.is in
-    passes_stay c.args.func.now w (virtual_code c.in_ok-kept.kept) (passes_stay c.args.func.now v w first c.in_ok-forwarded.ensures.kept)
+    passes_stay f w (virtual_code c.in_ok-kept.kept) (passes_stay f u w (passes_stay f v u first c.in_ok-copied.ensures.kept) c.in_ok-forwarded.ensures.kept)
     c.in_ok-kept.ensures.kept

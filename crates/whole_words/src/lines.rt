@@ -1,0 +1,137 @@
+//! Lines in which extensions of whole words are copies.
+ghost use Rattle.std.specs.Prelude.{◌≡◌, map, IfOk};
+ghost use Rattle.whole_words.specs.Whole.{is_extension, with_copy, with_copies};
+
+use crate::marks::is_marked;
+use il_ast::list::Seq;
+use rv_isa::instruction::RegWOp;
+use std::alloc::{AllocError, Global};
+use vcode::code::Block;
+use vcode::line::{Line, Operation};
+use vcode::place::{Argument, Destination, Operand};
+
+// Whether the operation extends a word that stands whole.
+fn is_extension(
+    marks: &[bool],
+    operation: Operation,
+    left: Operand<u32>,
+    right: Operand<u32>,
+) -> bool
+    ensures { result ≡ is_extension marks.now operation left right }
+{
+    match operation {
+        Operation::RegW(RegWOp::Addw) => match left {
+            Operand::At(register) => match right {
+                Operand::Number(number) => number == 0 && is_marked(marks, register),
+                _ => false,
+            },
+            _ => false,
+        },
+        _ => false,
+    }
+}
+
+fn arguments(alloc: Global, args: &[Argument<u32>]) -> Result<Seq<Argument<u32>>, AllocError>
+    ensures { IfOk result (λ v. v ≡ args.now) }
+{
+    let items = args.to_vec(alloc)?;
+    Ok(Seq::from_vec(items))
+}
+
+/// The same parameters.
+pub fn params(
+    alloc: Global,
+    params: &[Destination<u32>],
+) -> Result<Seq<Destination<u32>>, AllocError>
+    ensures { IfOk result (λ v. v ≡ params.now) }
+{
+    let items = params.to_vec(alloc)?;
+    Ok(Seq::from_vec(items))
+}
+
+fn line(alloc: Global, marks: &[bool], from: &Line<u32>) -> Result<Line<u32>, AllocError>
+    ensures { IfOk result (λ v. v ≡ with_copy marks.now from.now) }
+{
+    Ok(match from {
+        Line::Tick { turn, weight } => Line::Tick {
+            turn: *turn,
+            weight: *weight,
+        },
+        Line::Set { to, value } => Line::Set {
+            to: *to,
+            value: *value,
+        },
+        Line::Operate {
+            to,
+            operation,
+            left,
+            right,
+        } => {
+            if is_extension(marks, *operation, *left, *right) {
+                Line::Set {
+                    to: *to,
+                    value: *left,
+                }
+            } else {
+                Line::Operate {
+                    to: *to,
+                    operation: *operation,
+                    left: *left,
+                    right: *right,
+                }
+            }
+        }
+        Line::Load { to, op, at } => Line::Load {
+            to: *to,
+            op: *op,
+            at: *at,
+        },
+        Line::Store { size, value, at } => Line::Store {
+            size: *size,
+            value: *value,
+            at: *at,
+        },
+        Line::Alloc { to, size } => Line::Alloc {
+            to: *to,
+            size: *size,
+        },
+        Line::Blit { from, to, count } => Line::Blit {
+            from: *from,
+            to: *to,
+            count: *count,
+        },
+        Line::Call { to, callee, args } => Line::Call {
+            to: *to,
+            callee: *callee,
+            args: arguments(alloc, args.as_slice())?,
+        },
+    })
+}
+
+fn lines(alloc: Global, marks: &[bool], from: &[Line<u32>]) -> Result<Seq<Line<u32>>, AllocError>
+    ensures { IfOk result (λ v. v ≡ map (with_copy marks.now) from.now) }
+{
+    let mut made = Vec::new(alloc);
+    for item in from {
+        made.push(line(alloc, marks, item)?)?;
+    }
+    Ok(Seq::from_vec(made))
+}
+
+/// The blocks, in which extensions of marked registers are copies.
+pub fn blocks(
+    alloc: Global,
+    marks: &[bool],
+    from: &[Block<u32>],
+) -> Result<Seq<Block<u32>>, AllocError>
+    ensures { IfOk result (λ v. v ≡ map (with_copies marks.now) from.now) }
+{
+    let mut made = Vec::new(alloc);
+    for block in from {
+        made.push(Block {
+            lines: lines(alloc, marks, block.lines.as_slice())?,
+            jump: block.jump,
+        })?;
+    }
+    Ok(Seq::from_vec(made))
+}
