@@ -18,6 +18,8 @@ pub struct Case {
     /// what its functions need and weigh, in order; empty where that isn't told
     pub needs: String,
     pub weights: String,
+    /// at least so many instructions of its file add
+    pub additions: usize,
     /// strategies of every kind are tried on it
     pub is_tried: bool,
     /// its bytes by the two strategies of the compiler differ
@@ -39,6 +41,7 @@ impl Case {
             price: None,
             needs: String::new(alloc),
             weights: String::new(alloc),
+            additions: 0,
             is_tried: false,
             differs: false,
             is_large: false,

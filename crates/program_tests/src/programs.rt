@@ -11,6 +11,7 @@ use regalloc::spill_all::SpillAll;
 use rv_machine::flat_ram::FlatRam;
 use rv_machine::page_ram::PageRam;
 use std::alloc::{AllocError, Global};
+use std::str;
 
 /// Checks a case in every way that it can be.
 pub fn check(case: &Case, report: &mut Report) -> Result<(), AllocError> {
@@ -223,6 +224,26 @@ fn run_words<'x>(
     perform(alloc, disk, words.as_slice())
 }
 
+// The additions of a long loop stand in the code, and in no table that it builds on the stack.
+fn check_additions(
+    case: &Case,
+    disk: &mut MemoryDisk,
+    report: &mut Report,
+) -> Result<(), AllocError> {
+    if case.additions == 0 {
+        return Ok(());
+    }
+    let shown = perform_words(report.alloc, disk, "dis out")?;
+    let text = str::from_utf8(shown.output.as_slice()).unwrap_or("");
+    let mut count = 0usize;
+    for line in text.lines() {
+        if line.contains("  add") {
+            count = count.saturating_add(1);
+        }
+    }
+    report.holds("instructions that add", count >= case.additions)
+}
+
 fn check_build(
     case: &Case,
     disk: &mut MemoryDisk,
@@ -237,6 +258,7 @@ fn check_build(
     }
     let line = built.line(alloc)?;
     report.compare("build", "0 ", line.as_str())?;
+    check_additions(case, disk, report)?;
     if case.wanted.is_lost() {
         return Ok(());
     }

@@ -13,6 +13,7 @@
 //! | `end END` | the end: `exit N`, `halt`, `limit`, `undefined`, `stack`, or a refusal as its line has it |
 //! | `output HEX`, `prints`, `zeros N` | the output: in hexadecimal; the lines up to one that is a dot; N bytes 0 |
 //! | `limit N`, `turns N`, `price N`, `needs N N ..`, `weighs N N ..` | turns and instructions given; turns and price of the run; measures of the functions |
+//! | `additions N` | at least so many instructions of its file add |
 //! | `tried`, `differs`, `large` | strategies of every kind are tried; the bytes by both strategies differ; it is compiled once |
 use crate::case::Case;
 use crate::made::push_made;
@@ -145,6 +146,7 @@ fn take_of(alloc: Global, case: &mut Case, key: &str, rest: &str) -> Result<(), 
         "price" => case.price = Some(number(rest)),
         "needs" => case.needs = String::from_str(alloc, rest)?,
         "weighs" => case.weights = String::from_str(alloc, rest)?,
+        "additions" => case.additions = number(rest) as usize,
         "tried" => case.is_tried = true,
         "differs" => case.differs = true,
         "large" => case.is_large = true,
