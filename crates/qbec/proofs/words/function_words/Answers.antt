@@ -3,7 +3,7 @@ use Rattle.qbec.proofs.words.function_words.Goals as goal
 
 pub returns : goal.returns
 returns g c =
-    let l = c.in_ok-function.ensures.located in
+    let l = c.in_ok-function.ensures in
     let laid = c.in_ok-code.ensures in
     let few = laid.few in
     let light = l.is.weight in (
