@@ -3,7 +3,7 @@ use Rattle.std.proofs.Common.{◌≡◌, ℕ, suc, ◌+◌, ◌-◌, ◌*◌, �
 use Rattle.std.specs.Prelude.{◌&&◌, nat_le, length, map, max, slice_get, Option, Some, None}
 use Rattle.std.specs.Option.{option_map}
 use Rattle.std.specs.List.{list_all}
-use Rattle.std.proofs.lemmas.Bool.{and_parts, and_from}
+use Rattle.std.proofs.lemmas.Bool.{and_parts}
 use Rattle.std.proofs.lemmas.List.Sums.{sum_by-cons}
 use Rattle.il_ast.specs.declared.operation.Class.{Class}
 use Rattle.il_ast.specs.declared.operation.Class.TheVariants.{W, L}
@@ -35,8 +35,7 @@ use Rattle.flat_code.specs.Step.{FlatState, Numbers, put, kept, held, number_of,
 use Rattle.abi_frames.specs.Calls.{Ready, passed}
 use Rattle.abi_frames.specs.Performs.{Returns, Stops, KeepsOn, Performs, PerformsAt, ReachStays, AllPerform}
 use Rattle.abi_frames.specs.Layout.{most_in_lines}
-use Rattle.abi_frames.specs.Covered.{is_off_arguments, is_behind, covers_args, covers_line}
-use Rattle.abi_frames.specs.Emission.{fetch, source, pass_all, call_through, receive_items, lines_items, jump_items}
+use Rattle.abi_frames.specs.Emission.{prepare_items, callee_source, call_through, receive_items, lines_items, jump_items}
 use Rattle.abi_frames.proofs.Leading.{StandAt, Reaches, Leads, leads_nowhere, leads_so}
 use Rattle.abi_frames.proofs.Activations.{Setting, IsSetting, site, bottom, operand_in, Framed, operand_known, Assigned, MayWrite, assigned, assigned_output, is_among}
 use Rattle.abi_frames.proofs.Saving.{call_saves}
@@ -44,7 +43,7 @@ use Rattle.abi_frames.proofs.Pacing.{few_standing}
 use Rattle.rv_isa.specs.declared.labelled.Item.TheVariants.{Label}
 use Rattle.abi_frames.proofs.LineCode.{leads_set_line}
 use Rattle.abi_frames.proofs.Sizes.{call_parts, le_is}
-use Rattle.abi_frames.proofs.Passing.{can_pass, all_can_pass}
+use Rattle.abi_frames.proofs.Passing.{in_place}
 use Rattle.abi_frames.proofs.Calling.{leads_prepared, gone_to, goes_through, ready, SameFrame, same_frame, framed_back}
 use Rattle.abi_frames.proofs.Simulation.{CodeStands, At, Performed, step_of, Log, Follows, Then, undefined, stands_here, nothing_taken, later_fits, next_index, may_write}
 
@@ -53,18 +52,8 @@ use Rattle.abi_frames.proofs.Simulation.{CodeStands, At, Performed, step_of, Log
 pub record CallLine (c : Setting) (to : Option (Destination Location)) (callee : Operand Location) (args : List (Argument Location)) : Type 0 where
   pub wanted : wanted_keeps (is_place c.slots) to ≡ true
   pub known : operand_keeps (is_place c.slots) callee ≡ true
-  pub off : operand_keeps is_off_arguments callee ≡ true
-  pub good : all_can_pass c.slots 0 args ≡ true
+  pub good : list_all (in_place c.slots) args ≡ true
   pub fits : 8 * (length args - 8) ≤ c.layout.saves
-
-can_pass_all : (slots k : ℕ) (args : List (Argument Location)) → list_all (λ (a : Argument Location). operand_keeps (is_place slots) a.value) args ≡ true
-    → covers_args k args ≡ true → all_can_pass slots k args ≡ true
-can_pass_all slots k [] h covered = refl
-can_pass_all slots k (a ∷ args) h covered =
-    let places = and_parts (operand_keeps (is_place slots) a.value) (list_all (λ (b : Argument Location). operand_keeps (is_place slots) b.value) args) h in
-    let behind = and_parts (operand_keeps (is_behind k) a.value) (covers_args (k + 1) args) covered in
-    and_from (can_pass slots k a) (all_can_pass slots (k + 1) args)
-    (and_from (operand_keeps (is_place slots) a.value) (operand_keeps (is_behind k) a.value) places.0 behind.0) (can_pass_all slots (k + 1) args places.1 behind.1)
 
 first_fits : (a m s : ℕ) → 8 * max a m ≤ s → 8 * a ≤ s
 first_fits a m s h = omega (arith, h)
@@ -78,13 +67,10 @@ call_line c f b to callee args lines fs k u a =
     (operand_keeps (is_place c.slots) callee && list_all (λ (x : Argument Location). operand_keeps (is_place c.slots) x.value) args) known in
     let operands = and_parts (operand_keeps (is_place c.slots) callee)
     (list_all (λ (x : Argument Location). operand_keeps (is_place c.slots) x.value) args) parts.1 in
-    let covered = (and_parts (covers_line (Call to callee args)) (list_all covers_line lines) a.covered).0 in
-    let off = and_parts (operand_keeps is_off_arguments callee) (covers_args 0 args) covered in
     record {
       wanted = parts.0;
       known = operands.0;
-      off = off.0;
-      good = can_pass_all c.slots 0 args operands.1 off.1;
+      good = operands.1;
       fits = first_fits (length args - 8) (most_in_lines lines) c.layout.saves a.passes;
     }
 
@@ -97,18 +83,15 @@ pub record Departs (c : Setting) (to : Option (Destination Location)) (callee : 
   pub v : State
   pub comes : Comes s steps v
   pub some : 0 < steps
-  pub few : steps ≤ longest_size (pass_all c.layout 0 args ++ fetch c.layout 28 callee) + 1
+  pub few : steps ≤ longest_size (prepare_items c.layout callee args) + 1
   pub ready : Ready c.world at (bottom c) (map (λ (a : Argument Location). a.class) args) given v
   pub same : SameFrame c s v
   pub stands : StandAt (site c) (receive_items c.layout to ++ tail) (v.registers 1)
   pub output : v.output ≡ s.output
 
 -- the items of a call, as they are run
-call_assoc : (p q r t tail : List Item) → (p ++ (q ++ (r ++ t))) ++ tail ≡ (p ++ q) ++ (r ++ (t ++ tail))
-call_assoc p q r t tail =
-    append_assoc p (q ++ (r ++ t)) tail
-    ∙ (ap (λ l. p ++ l) (append_assoc q (r ++ t) tail)
-    ∙ (ap (λ l. p ++ (q ++ l)) (append_assoc r t tail) ∙ sym (append_assoc p q (r ++ (t ++ tail)))))
+call_assoc : (p r t tail : List Item) → (p ++ (r ++ t)) ++ tail ≡ p ++ (r ++ (t ++ tail))
+call_assoc p r t tail = append_assoc p (r ++ t) tail ∙ ap (λ l. p ++ l) (append_assoc r t tail)
 
 length-classes : (args : List (Argument Location)) → length (map (λ (a : Argument Location). a.class) args) ≡ length args
 length-classes [] = refl
@@ -123,13 +106,12 @@ departs : (c : Setting) (f : Code Location) → CodeStands c f → (b : Block Lo
 departs c f is b to callee args lines fs k u a at xs turns room is_at is_xs even =
     let line = call_line c f b to callee args lines fs k u a in
     let tail : List Item = (lines_items c.layout (a.used + 0) lines ++ jump_items c.layout (fs.block + 1) b.jump) ++ (Label (fs.block + 1) ∷ a.rest) in
-    let first : List Item = pass_all c.layout 0 args ++ fetch c.layout 28 callee in
-    let jump : List Item = call_through (source 28 callee) ∷ [] in
-    let m = (leads_prepared c is.setting u callee args a.framed.pointer line.known line.off line.good line.fits).from (jump ++ (receive_items c.layout to ++ tail))
-    (subst (λ l. StandAt (site c) l u.pc) (call_assoc (pass_all c.layout 0 args) (fetch c.layout 28 callee) jump (receive_items c.layout to) tail)
+    let jump : List Item = call_through (callee_source callee) ∷ [] in
+    let m = (leads_prepared c is.setting u callee args a.framed.pointer line.known line.good line.fits).from (jump ++ (receive_items c.layout to ++ tail))
+    (subst (λ l. StandAt (site c) l u.pc) (call_assoc (prepare_items c.layout callee args) jump (receive_items c.layout to) tail)
     (stands_here c f b (Call to callee args) lines fs k u a)) a.fixed in
     let address : operand_in c u callee ≡ at = operand_known c fs.numbers fs.memory u callee at is.setting a.framed line.known is_at in
-    let gone = goes_through (site c) m.after (source 28 callee) at (receive_items c.layout to ++ tail)
+    let gone = goes_through (site c) m.after (callee_source callee) at (receive_items c.layout to ++ tail)
     (m.holds.address ∙ address) even m.stands m.fixed in
     let few = m.few in
     record {
@@ -186,7 +168,6 @@ resumed c f b to callee args lines fs k u a at given d wants before t x now back
           ∙ (ap (λ o. o ++ t.output) (d.output ∙ a.output) ∙ append_assoc c.start.output fs.spent.output t.output));
       known = (and_parts (line_keeps (is_place c.slots) (Call to callee args)) (list_all (line_keeps (is_place c.slots)) lines) a.known).1;
       jump_known = a.jump_known;
-      covered = (and_parts (covers_line (Call to callee args)) (list_all covers_line lines) a.covered).1;
       credit = a.credit - cost;
       paid = parts.1;
       price = omega (arith, enough, size, few, few_more, price, price_there);

@@ -1,6 +1,6 @@
 -- A call, and the return from it: the machine is ready for the callee, and what a frame keeps is there again afterwards.
-use Rattle.std.proofs.Common.{◌≡◌, ◌≢◌, ℕ, zero, suc, ◌+◌, ◌-◌, ◌*◌, ◌%◌, ◌^◌, ◌<◌, ◌≤◌, Bool, true, false, List, [], ◌∷◌, ◌++◌, refl, sym, ◌∙◌, ap, subst, arith, lit<}
-use Rattle.std.specs.Prelude.{nat_le, if◌then◌else◌, length, map, slice_get, Option, Some, None, Ok}
+use Rattle.std.proofs.Common.{◌≡◌, ◌≢◌, ℕ, zero, suc, ◌+◌, ◌-◌, ◌*◌, ◌%◌, ◌^◌, ◌<◌, ◌≤◌, Bool, true, false, List, [], ◌∷◌, ◌++◌, refl, sym, ◌∙◌, ap, subst, arith, lit<, lit≤}
+use Rattle.std.specs.Prelude.{◌&&◌, nat_eq, nat_le, if◌then◌else◌, length, map, slice_get, Option, Some, None, Ok}
 use Rattle.std.specs.Option.{option_map, option_and_then}
 use Rattle.std.specs.List.{list_all}
 use Rattle.std.proofs.lemmas.Bool.{and_parts}
@@ -20,56 +20,149 @@ use Rattle.rv_isa.proofs.RunLemmas.{comes_by_step}
 use Rattle.vcode.specs.declared.place.Location.{Location}
 use Rattle.vcode.specs.declared.place.Location.TheVariants.{Register as InRegister, Slot}
 use Rattle.vcode.specs.declared.place.Operand.{Operand}
+use Rattle.vcode.specs.declared.place.Operand.TheVariants.{At, Number, Name}
 use Rattle.vcode.specs.declared.place.Argument.{Argument}
 use Rattle.vcode.specs.Places.{is_callers}
 use Rattle.vcode.specs.Named.{is_place, operand_keeps}
 use Rattle.flat_code.specs.Spots.{Spot, Away, Known, Spots, SameReach}
 use Rattle.flat_code.specs.Step.{Numbers, kept, number_of, read_all, taken}
 use Rattle.abi_frames.specs.Calls.{Ready, Back, is_kept, passed}
-use Rattle.abi_frames.specs.Covered.{is_off_arguments, is_behind}
-use Rattle.abi_frames.specs.Fields.{reg, low}
-use Rattle.abi_frames.specs.Emission.{fetch, source, pass_all, call_through}
+use Rattle.abi_frames.specs.Fields.{reg, low, add_low}
+use Rattle.abi_frames.specs.Emission.{fetch, source, stack_all, passed_items, callee_items, callee_source, prepare_items, call_through}
 use Rattle.abi_frames.proofs.ConstantNumbers.{near_moves}
-use Rattle.abi_frames.proofs.Leading.{Site, StandAt, Leads, leads_then, leads_so, stepped, in_register, in_register_small}
+use Rattle.abi_frames.proofs.Leading.{Site, StandAt, Leads, leads_nowhere, leads_then, leads_so, Sets, IsReg, register_reg, stepped, in_register, in_register_small, same_in_register}
 use Rattle.abi_frames.proofs.Instructions.{is_28}
-use Rattle.abi_frames.proofs.Activations.{Setting, IsSetting, site, bottom, slot_at, save_at, value_at, operand_in, place_is, slot_is, is_among, is_held, Framed, operand_known}
+use Rattle.abi_frames.proofs.Activations.{Setting, IsSetting, site, bottom, slot_at, save_at, value_at, operand_in, place_is, place_reg, slot_is, is_among, is_held, Framed, operand_known}
 use Rattle.abi_frames.proofs.LineCode.{Fetched, leads_fetch}
-use Rattle.abi_frames.proofs.Passing.{Unmoved, unmoved, operand_unmoved, sent, Passed, can_pass, all_can_pass, leads_arguments}
+use Rattle.abi_frames.proofs.Passing.{sent, in_place, Kept, operand_kept, sent_kept, each, Stacked, stacked_keeps, leads_stack}
+use Rattle.abi_frames.proofs.Arranging.{InRegisters, leads_copy, leads_passed}
 
 -- ---- the arguments, and the callee's address
 
-pub record Prepared (c : Setting) (s : State) (callee : Operand Location) (args : List (Argument Location)) (u : State) : Type 0 where
-  pub passed : Passed c s 0 args u
-  pub address : in_register u (source 28 callee) ≡ operand_in c s callee
+-- all arguments are where the convention has them
+pub record Passed (c : Setting) (s : State) (args : List (Argument Location)) (u : State) : Type 0 where
+  pub in_registers : (i : ℕ) (a : Argument Location) → i < 8 → slice_get args i ≡ Some a → u.registers (10 + i) ≡ sent c s a
+  pub on_stack : (i : ℕ) (a : Argument Location) → 8 ≤ i → slice_get args i ≡ Some a
+      → number_at u.bytes (bottom c + 8 * (i - 8)) 8 ≡ sent c s a
+  pub low : (n : ℕ) → n < 10 → u.registers n ≡ s.registers n
+  pub high : (n : ℕ) → 17 < n → n < 28 → u.registers n ≡ s.registers n
+  pub below : (x : ℕ) → x < bottom c → u.bytes x ≡ s.bytes x
+  pub above : (x : ℕ) → bottom c + 8 * (length args - 8) ≤ x → u.bytes x ≡ s.bytes x
+  pub output : u.output ≡ s.output
 
-passed_still : (c : Setting) (s u w : State) (args : List (Argument Location)) → Passed c s 0 args u → ((n : ℕ) → n ≢ 28 → w.registers n ≡ u.registers n)
-    → w.bytes ≡ u.bytes → w.output ≡ u.output → Passed c s 0 args w
-passed_still c s u w args h others bytes output = record {
-  in_registers = λ i a few e. others (10 + (0 + i)) (λ x. absurd (omega (arith, x, few))) ∙ h.in_registers i a few e;
-  on_stack = λ i a many e. ap (λ (m : ℕ → ℕ). number_at m (bottom c + 8 * (0 + i - 8)) 8) bytes ∙ h.on_stack i a many e;
-  before = λ n lo below. others n (λ x. absurd (omega (arith, x, below))) ∙ h.before n lo below;
-  behind = λ n hi below. others n (λ x. absurd (omega (arith, x, below))) ∙ h.behind n hi below;
-  high = λ n hi below. others n (λ x. absurd (omega (arith, x, below))) ∙ h.high n hi below;
-  below = λ x lo. ap (λ (m : ℕ → ℕ). m x) bytes ∙ h.below x lo;
-  above = λ x hi. ap (λ (m : ℕ → ℕ). m x) bytes ∙ h.above x hi;
-  output = output ∙ h.output;
-}
+pub record Prepared (c : Setting) (s : State) (callee : Operand Location) (args : List (Argument Location)) (u : State) : Type 0 where
+  pub passed : Passed c s args u
+  pub address : in_register u (callee_source callee) ≡ operand_in c s callee
+
+-- the callee's address is in a register that is not for arguments
+record HasCallee (c : Setting) (s : State) (callee : Operand Location) (u : State) : Type 0 where
+  value : in_register u (callee_source callee) ≡ operand_in c s callee
+  others : (n : ℕ) → n ≢ 28 → u.registers n ≡ s.registers n
+  bytes : u.bytes ≡ s.bytes
+  output : u.output ≡ s.output
+
+leads_fetched : (c : Setting) → IsSetting c → (s : State) (a : Operand Location) → s.registers 2 ≡ bottom c → operand_keeps (is_place c.slots) a ≡ true
+    → callee_items c.layout a ≡ fetch c.layout 28 a → callee_source a ≡ source 28 a → Leads (site c) (callee_items c.layout a) s (HasCallee c s a)
+leads_fetched c is s a pointer known items there =
+    subst (λ l. Leads (site c) l s (HasCallee c s a)) (sym items)
+    (leads_so (site c) (fetch c.layout 28 a) s (Fetched c s 28 a) (HasCallee c s a)
+    (leads_fetch c is s 28 a is_28 (λ e. absurd (omega (arith, e))) pointer known)
+    (λ u f h. record { value = ap (in_register u) there ∙ h.value; others = h.others; bytes = h.bytes; output = h.output }))
+
+leads_callee : (c : Setting) → IsSetting c → (s : State) (callee : Operand Location) → s.registers 2 ≡ bottom c → operand_keeps (is_place c.slots) callee ≡ true
+    → Leads (site c) (callee_items c.layout callee) s (HasCallee c s callee)
+leads_callee c is s (At (InRegister r)) pointer known = by_test (nat_le 10 r && nat_le r 17) refl
+  where
+    reg : IsReg r
+    reg = place_reg r (place_is c.slots r known)
+
+    by_test : (t : Bool) → (nat_le 10 r && nat_le r 17) ≡ t
+        → Leads (site c) (if t then add_low 28 r 0 ∷ [] else []) s (HasCallee c s (At (InRegister r)))
+    by_test true e =
+        let there : callee_source (At (InRegister r)) ≡ 28 = ap (λ (t : Bool). if t then 28 else r) e in
+        leads_so (site c) (add_low 28 r 0 ∷ []) s (Sets s 28 (s.registers r)) (HasCallee c s (At (InRegister r)))
+        (leads_copy (site c) s 28 r is_28 reg)
+        (λ u f h. record {
+          value = ap (in_register u) there ∙ (register_reg u 28 is_28 ∙ h.value);
+          others = h.others;
+          bytes = h.bytes;
+          output = h.output;
+        })
+    by_test false e =
+        let there : callee_source (At (InRegister r)) ≡ r = ap (λ (t : Bool). if t then 28 else r) e in
+        leads_nowhere (site c) s (HasCallee c s (At (InRegister r)))
+        (record { value = ap (in_register s) there ∙ register_reg s r reg; others = λ n h. refl; bytes = refl; output = refl })
+leads_callee c is s (At (Slot i)) pointer known = leads_fetched c is s (At (Slot i)) pointer known refl refl
+leads_callee c is s (Number n) pointer known = leads_fetched c is s (Number n) pointer known refl refl
+leads_callee c is s (Name g) pointer known = leads_fetched c is s (Name g) pointer known refl refl
+
+stays_low : (c : Setting) (s u : State) (args : List (Argument Location)) → InRegisters c s args u → (n : ℕ) → n < 10 → in_register u n ≡ in_register s n
+stays_low c s u args h n lo = same_in_register s u n (omega (arith, lo)) (h.low n lo)
+
+stays_high : (c : Setting) (s u : State) (args : List (Argument Location)) → InRegisters c s args u → (n : ℕ) → 17 < n → n < 29 → in_register u n ≡ in_register s n
+stays_high c s u args h n lo hi = same_in_register s u n (omega (arith, hi)) (h.high n lo (λ e. absurd (omega (arith, e, hi))))
+
+-- it stays there
+callee_stays : (c : Setting) (s u w : State) (callee : Operand Location) (args : List (Argument Location)) → operand_keeps (is_place c.slots) callee ≡ true
+    → HasCallee c s callee u → InRegisters c u args w → in_register w (callee_source callee) ≡ operand_in c s callee
+callee_stays c s u w (At (InRegister r)) args known one two = by_range (nat_le 10 r) refl (nat_le r 17) refl ∙ one.value
+  where
+    hi : r ≤ 27
+    hi = (place_is c.slots r known).to_27
+
+    by_range : (p : Bool) → nat_le 10 r ≡ p → (q : Bool) → nat_le r 17 ≡ q
+        → in_register w (if p && q then 28 else r) ≡ in_register u (if p && q then 28 else r)
+    by_range true e true f = stays_high c u w args two 28 (lit< tt) (lit< tt)
+    by_range true e false f = stays_high c u w args two r (grind (arith, nat_tests)) (omega (arith, hi))
+    by_range false e q f = stays_low c u w args two r (grind (arith, nat_tests))
+callee_stays c s u w (At (Slot i)) args known one two = stays_high c u w args two 28 (lit< tt) (lit< tt) ∙ one.value
+callee_stays c s u w (Number n) args known one two = by_test (nat_eq n 0) ∙ one.value
+  where
+    by_test : (t : Bool) → in_register w (if t then 0 else 28) ≡ in_register u (if t then 0 else 28)
+    by_test true = stays_low c u w args two 0 (lit< tt)
+    by_test false = stays_high c u w args two 28 (lit< tt) (lit< tt)
+callee_stays c s u w (Name g) args known one two = stays_high c u w args two 28 (lit< tt) (lit< tt) ∙ one.value
+
+passed_all : (c : Setting) → IsSetting c → (s t u w : State) (callee : Operand Location) (args : List (Argument Location)) → list_all (in_place c.slots) args ≡ true
+    → Stacked c s 0 args t → Kept c s t → HasCallee c t callee u → InRegisters c u args w → Passed c s args w
+passed_all c is s t u w callee args good one kept two three =
+    let bytes : w.bytes ≡ t.bytes = three.bytes ∙ two.bytes in
+    let same : Kept c s u = record {
+      registers = λ n low. two.others n (λ e. absurd (omega (arith, e, low))) ∙ kept.registers n low;
+      bytes = λ x hi. ap (λ (m : ℕ → ℕ). m x) two.bytes ∙ kept.bytes x hi;
+    } in
+    record {
+      in_registers = λ i a few e. three.in_registers i a few e ∙ sent_kept c is s u a same (each (in_place c.slots) args i a good e);
+      on_stack = λ i a many e.
+          let here : bottom c + 8 * (i - 8) ≡ bottom c + 8 * (0 + i - 8) = omega arith in
+          ap (λ (m : ℕ → ℕ). number_at m (bottom c + 8 * (i - 8)) 8) bytes
+          ∙ (ap (λ x. number_at t.bytes x 8) here ∙ one.on_stack i a (omega (arith, many)) e);
+      low = λ n lo. three.low n lo ∙ same.registers n (omega (arith, lo));
+      high = λ n hi below. three.high n hi (λ e. absurd (omega (arith, e, below))) ∙ same.registers n (omega (arith, below));
+      below = λ x lo. ap (λ (m : ℕ → ℕ). m x) bytes ∙ one.below x (omega (arith, lo));
+      above = λ x hi. ap (λ (m : ℕ → ℕ). m x) bytes ∙ one.above x (omega (arith, hi));
+      output = three.output ∙ (two.output ∙ one.output);
+    }
 
 pub leads_prepared : (c : Setting) → IsSetting c → (s : State) (callee : Operand Location) (args : List (Argument Location)) → s.registers 2 ≡ bottom c
-    → operand_keeps (is_place c.slots) callee ≡ true → operand_keeps is_off_arguments callee ≡ true → all_can_pass c.slots 0 args ≡ true
-    → 8 * (length args - 8) ≤ c.layout.saves
-    → Leads (site c) (pass_all c.layout 0 args ++ fetch c.layout 28 callee) s (Prepared c s callee args)
-leads_prepared c is s callee args pointer known off good fits =
+    → operand_keeps (is_place c.slots) callee ≡ true → list_all (in_place c.slots) args ≡ true → 8 * (length args - 8) ≤ c.layout.saves
+    → Leads (site c) (prepare_items c.layout callee args) s (Prepared c s callee args)
+leads_prepared c is s callee args pointer known good fits =
     let room : 8 * (0 + length args - 8) ≤ c.layout.saves = omega (arith, fits) in
-    leads_then (site c) (pass_all c.layout 0 args) (fetch c.layout 28 callee) s (Passed c s 0 args) (Prepared c s callee args)
-    (leads_arguments c is s 0 args pointer good room)
-    (λ u f one.
-    leads_so (site c) (fetch c.layout 28 callee) u (Fetched c u 28 callee) (Prepared c s callee args)
-    (leads_fetch c is u 28 callee is_28 (λ e. absurd (omega (arith, e))) (one.before 2 (lit< tt) (lit< tt) ∙ pointer) known)
-    (λ w g two. record {
-      passed = passed_still c s u w args one two.others two.bytes two.output;
-      address = two.value ∙ operand_unmoved c is s u callee (unmoved c s 0 args u room one) known off;
-    }))
+    leads_then (site c) (stack_all c.layout 0 args) (callee_items c.layout callee ++ passed_items c.layout args) s (Stacked c s 0 args) (Prepared c s callee args)
+    (leads_stack c is s 0 args pointer good room)
+    (λ t f one.
+    let kept = stacked_keeps c s 0 args t room one in
+    let at_t : t.registers 2 ≡ bottom c = kept.registers 2 (lit≤ tt) ∙ pointer in
+    leads_then (site c) (callee_items c.layout callee) (passed_items c.layout args) t (HasCallee c t callee) (Prepared c s callee args)
+    (leads_callee c is t callee at_t known)
+    (λ u g two.
+    leads_so (site c) (passed_items c.layout args) u (InRegisters c u args) (Prepared c s callee args)
+    (leads_passed c is u args (two.others 2 (λ e. absurd (omega (arith, e))) ∙ at_t) good)
+    (λ w h three. record {
+      passed = passed_all c is s t u w callee args good one kept two three;
+      address = callee_stays c t u w callee args known two three ∙ operand_kept c is s t callee kept known;
+    })))
 
 -- ---- the jump to the callee
 
@@ -166,26 +259,25 @@ same_class a b e = cc
 no_class : (k : Class) (o : Option Class) → o ≡ None → o ≡ Some k → ⊥
 no_class k o e f = let no : ⊥ = cc in no
 
-pub sends : (c : Setting) → IsSetting c → (numbers : Numbers) (memory : Spots) (s : State) → Framed c numbers memory s → (from : ℕ) (args : List (Argument Location))
-    → all_can_pass c.slots from args ≡ true → (xs : List ℕ) → read_all c.addresses numbers args ≡ Some xs
+pub sends : (c : Setting) → IsSetting c → (numbers : Numbers) (memory : Spots) (s : State) → Framed c numbers memory s → (args : List (Argument Location))
+    → list_all (in_place c.slots) args ≡ true → (xs : List ℕ) → read_all c.addresses numbers args ≡ Some xs
     → (i : ℕ) (k : Class) (n : ℕ) → slice_get (map (λ a. a.class) args) i ≡ Some k → slice_get xs i ≡ Some n → Sends c s args i k n
-sends c is numbers memory s framed from [] good xs known i k n e d = absurd (no_class k None refl e)
-sends c is numbers memory s framed from (a ∷ args) good xs known zero k n e d =
-    let parts = and_parts (can_pass c.slots from a) (all_can_pass c.slots (from + 1) args) good in
-    let places = and_parts (operand_keeps (is_place c.slots) a.value) (operand_keeps (is_behind from) a.value) parts.0 in
+sends c is numbers memory s framed [] good xs known i k n e d = absurd (no_class k None refl e)
+sends c is numbers memory s framed (a ∷ args) good xs known zero k n e d =
+    let parts = and_parts (in_place c.slots a) (list_all (in_place c.slots) args) good in
     let more = read_more c numbers a args xs known in
     let first : taken a.class more.first ≡ n =
     same_number (taken a.class more.first) n (ap (λ (ys : List ℕ). slice_get ys zero) (sym more.all) ∙ d) in
-    let value : operand_in c s a.value ≡ more.first = operand_known c numbers memory s a.value more.first is framed places.0 more.is_first in
+    let value : operand_in c s a.value ≡ more.first = operand_known c numbers memory s a.value more.first is framed parts.0 more.is_first in
     record {
       argument = a;
       is = refl;
       value = ap (λ x. passed a.class (taken a.class x)) value ∙ (ap (passed a.class) first ∙ ap (λ q. passed q n) (same_class a.class k e));
     }
-sends c is numbers memory s framed from (a ∷ args) good xs known (suc i) k n e d =
-    let parts = and_parts (can_pass c.slots from a) (all_can_pass c.slots (from + 1) args) good in
+sends c is numbers memory s framed (a ∷ args) good xs known (suc i) k n e d =
+    let parts = and_parts (in_place c.slots a) (list_all (in_place c.slots) args) good in
     let more = read_more c numbers a args xs known in
-    let next = sends c is numbers memory s framed (from + 1) args parts.1 more.others more.is_others i k n e
+    let next = sends c is numbers memory s framed args parts.1 more.others more.is_others i k n e
     (ap (λ (ys : List ℕ). slice_get ys (suc i)) (sym more.all) ∙ d) in
     record { argument = next.argument; is = next.is; value = next.value }
 
@@ -195,7 +287,7 @@ known_not_away : (m : Spot) (n : ℕ) → m ≡ Known n → m ≡ Away → ⊥
 known_not_away m n e f = let no : ⊥ = cc in no
 
 spots_then : (c : Setting) → IsSetting c → (numbers : Numbers) (memory : Spots) (s u v : State) (args : List (Argument Location)) → Framed c numbers memory s
-    → Passed c s 0 args u → 8 * (length args - 8) ≤ c.layout.saves → v.bytes ≡ u.bytes → (x n : ℕ) → memory x ≡ Known n → v.bytes x ≡ n
+    → Passed c s args u → 8 * (length args - 8) ≤ c.layout.saves → v.bytes ≡ u.bytes → (x n : ℕ) → memory x ≡ Known n → v.bytes x ≡ n
 spots_then c is numbers memory s u v args framed h fits same x n known =
     ap (λ (m : ℕ → ℕ). m x) same ∙ (by_test (nat_le (bottom c) x) refl (nat_le (bottom c + c.layout.saves) x) refl ∙ framed.spots.known x n known)
   where
@@ -213,8 +305,8 @@ spots_then c is numbers memory s u v args framed h fits same x n known =
         absurd (known_not_away (memory x) n known (framed.clear x lo (omega (arith, hi, saves, frame, above))))
 
 pub ready : (c : Setting) → IsSetting c → (numbers : Numbers) (memory : Spots) (s u v : State) (rest : List Item) (at turns room : ℕ)
-    (args : List (Argument Location)) (xs : List ℕ) → Framed c numbers memory s → Passed c s 0 args u → Gone (site c) rest at u v
-    → all_can_pass c.slots 0 args ≡ true → 8 * (length args - 8) ≤ c.layout.saves → read_all c.addresses numbers args ≡ Some xs
+    (args : List (Argument Location)) (xs : List ℕ) → Framed c numbers memory s → Passed c s args u → Gone (site c) rest at u v
+    → list_all (in_place c.slots) args ≡ true → 8 * (length args - 8) ≤ c.layout.saves → read_all c.addresses numbers args ≡ Some xs
     → length (map (λ (a : Argument Location). a.class) args) ≡ length args
     → Ready c.world at (bottom c) (map (λ a. a.class) args) (record { turns = turns; room = room; args = xs; memory = memory }) v
 ready c is numbers memory s u v rest at turns room args xs framed h gone good fits known many =
@@ -225,18 +317,14 @@ ready c is numbers memory s u v rest at turns room args xs framed h gone good fi
     record {
       fixed = gone.fixed;
       place = gone.place;
-      stack_pointer = gone.others 2 (λ e. absurd (omega (arith, e))) ∙ (h.before 2 (lit< tt) (lit< tt) ∙ framed.pointer);
+      stack_pointer = gone.others 2 (λ e. absurd (omega (arith, e))) ∙ (h.low 2 (lit< tt) ∙ framed.pointer);
       return_address = gone.aligned;
       in_registers = λ i n k few e d.
-          let one = sends c is numbers memory s framed 0 args good xs known i k n e d in
-          let here : 10 + i ≡ 10 + (0 + i) = omega arith in
-          gone.others (10 + i) (λ x. absurd (omega (arith, x)))
-          ∙ (ap u.registers here ∙ (h.in_registers i one.argument (omega (arith, few)) one.is ∙ one.value));
+          let one = sends c is numbers memory s framed args good xs known i k n e d in
+          gone.others (10 + i) (λ x. absurd (omega (arith, x))) ∙ (h.in_registers i one.argument few one.is ∙ one.value);
       on_stack = λ i n k hi e d.
-          let one = sends c is numbers memory s framed 0 args good xs known i k n e d in
-          let here : bottom c + 8 * (i - 8) ≡ bottom c + 8 * (0 + i - 8) = omega arith in
-          ap (λ (m : ℕ → ℕ). number_at m (bottom c + 8 * (i - 8)) 8) gone.bytes
-          ∙ (ap (λ x. number_at u.bytes x 8) here ∙ (h.on_stack i one.argument (omega (arith, hi)) one.is ∙ one.value));
+          let one = sends c is numbers memory s framed args good xs known i k n e d in
+          ap (λ (m : ℕ → ℕ). number_at m (bottom c + 8 * (i - 8)) 8) gone.bytes ∙ (h.on_stack i one.argument hi one.is ∙ one.value);
       below_top = omega (arith, many, fits, saves, frame, above, below);
       memory = record {
         known = spots_then c is numbers memory s u v args framed h fits gone.bytes;
@@ -255,17 +343,16 @@ kept_range : (n : ℕ) → is_kept n ≡ true → n ≢ 1
 kept_range n h e = absurd (let no : ⊥ = grind (arith, nat_tests) in no)
 
 pub same_frame : (c : Setting) (s u v : State) (rest : List Item) (at : ℕ) (args : List (Argument Location)) → 8 * (length args - 8) ≤ c.layout.saves
-    → Passed c s 0 args u → Gone (site c) rest at u v → SameFrame c s v
+    → Passed c s args u → Gone (site c) rest at u v → SameFrame c s v
 same_frame c s u v rest at args fits h gone =
-    let still : Unmoved c s u = unmoved c s 0 args u (omega (arith, fits)) h in
     record {
-      registers = λ n k. gone.others n (kept_range n k) ∙ by_test still n k (nat_le n 9) refl;
-      bytes = λ x hi. ap (λ (m : ℕ → ℕ). m x) gone.bytes ∙ still.bytes x hi;
+      registers = λ n k. gone.others n (kept_range n k) ∙ by_test n k (nat_le n 9) refl;
+      bytes = λ x hi. ap (λ (m : ℕ → ℕ). m x) gone.bytes ∙ h.above x (omega (arith, hi, fits));
     }
   where
-    by_test : Unmoved c s u → (n : ℕ) → is_kept n ≡ true → (b : Bool) → nat_le n 9 ≡ b → u.registers n ≡ s.registers n
-    by_test still n k true e = still.low n (grind (arith, nat_tests))
-    by_test still n k false e = still.high n (grind (arith, nat_tests)) (grind (arith, nat_tests))
+    by_test : (n : ℕ) → is_kept n ≡ true → (b : Bool) → nat_le n 9 ≡ b → u.registers n ≡ s.registers n
+    by_test n k true e = h.low n (grind (arith, nat_tests))
+    by_test n k false e = h.high n (grind (arith, nat_tests)) (grind (arith, nat_tests))
 
 -- a byte of the frame, or above it, that the program may not access
 byte_back : (c : Setting) (memory now : Spots) (s v w : State) → SameFrame c s v → Back c.world (bottom c) memory v now w

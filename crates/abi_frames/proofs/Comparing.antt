@@ -1,14 +1,12 @@
 -- What the code of comparisons does.
 use Rattle.std.proofs.Common.{◌≡◌, ℕ, ◌+◌, ◌-◌, ◌%◌, ◌^◌, ◌<◌, Bool, true, false, List, [], ◌∷◌, refl, ◌∙◌, ap, subst, arith}
 use Rattle.std.specs.Prelude.{not, nat_eq, nat_lt, nat_le, int_lt, int_le, ℤ, pos, negsuc}
-use Rattle.std.specs.Int.{cast_signed, w32, w64}
-use Rattle.std.proofs.lemmas.Int.{ints}
+use Rattle.std.specs.Int.{cast_signed, w64}
 use Rattle.std.proofs.lemmas.Bool.Decides.{nat_tests}
-use Rattle.il_ast.specs.declared.operation.Class.TheVariants.{W, L}
+use Rattle.il_ast.specs.declared.operation.Class.TheVariants.{L}
 use Rattle.il_ast.specs.declared.operation.Condition.{Condition}
 use Rattle.il_ast.specs.declared.operation.Condition.TheVariants.{Equal, NotEqual, SignedLessEqual, SignedLess, SignedGreaterEqual, SignedGreater, UnsignedLessEqual, UnsignedLess, UnsignedGreaterEqual, UnsignedGreater}
 use Rattle.il_ast.specs.Operations.{holds, truth}
-use Rattle.bits.specs.Words.{sign_extended}
 use Rattle.rv_isa.specs.State.{State, register}
 use Rattle.rv_isa.specs.Arithmetic.{imm_value, truth as bit_of}
 use Rattle.rv_isa.specs.declared.instruction.Instr.TheVariants.{Reg, Imm}

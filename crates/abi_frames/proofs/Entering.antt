@@ -1,8 +1,8 @@
 -- Arguments come to the places of their parameters: from registers, and from the stack of the caller.
-use Rattle.std.proofs.Common.{◌≡◌, ◌≢◌, ℕ, ◌+◌, ◌-◌, ◌*◌, ◌%◌, ◌^◌, ◌<◌, ◌≤◌, Bool, true, false, List, [], ◌∷◌, refl, sym, ◌∙◌, ap, subst, arith, lit<}
-use Rattle.std.specs.Prelude.{◌||◌, not, nat_eq, nat_lt, nat_le, if◌then◌else◌, length, Option, Some, None}
+use Rattle.std.proofs.Common.{◌≡◌, ◌≢◌, ℕ, zero, suc, ◌+◌, ◌-◌, ◌*◌, ◌%◌, ◌^◌, ◌<◌, ◌≤◌, Bool, true, false, List, [], ◌∷◌, ◌++◌, refl, sym, ◌∙◌, ap, subst, arith, lit<, lit≤, zero-add}
+use Rattle.std.specs.Prelude.{◌||◌, ◌&&◌, not, nat_eq, nat_lt, nat_le, if◌then◌else◌, length, slice_get, Some, None}
 use Rattle.std.specs.List.{list_all, list_any}
-use Rattle.std.proofs.lemmas.Bool.{and_parts}
+use Rattle.std.proofs.lemmas.Bool.{and_parts, and_from}
 use Rattle.std.proofs.lemmas.Bool.Decides.{nat_tests}
 use Rattle.rv_isa.specs.State.{State}
 use Rattle.rv_isa.specs.Memory.{number_at, stored}
@@ -10,18 +10,19 @@ use Rattle.rv_isa.proofs.MemoryLemmas.{number_same, stored_above}
 use Rattle.vcode.specs.declared.place.Location.{Location}
 use Rattle.vcode.specs.declared.place.Location.TheVariants.{Register as InRegister, Slot}
 use Rattle.vcode.specs.declared.place.Destination.{Destination}
+use Rattle.vcode.specs.declared.place.Argument.{Argument}
 use Rattle.vcode.specs.Places.{same_location, located}
 use Rattle.vcode.specs.Named.{is_place, are_distinct}
 use Rattle.flat_code.specs.Step.{Numbers, put, bound, held}
-use Rattle.abi_frames.specs.Covered.{is_ahead, covers_params}
 use Rattle.abi_frames.specs.Fields.{add_low, sum_to, load_8, constant}
-use Rattle.abi_frames.specs.Emission.{store_slot, slot_offset}
-use Rattle.abi_frames.specs.Functions.{caller_pointer, from_register, from_stack, argument_items, arguments_items, pointer_items, entry_items}
-use Rattle.abi_frames.proofs.ConstantNumbers.{near_moves}
-use Rattle.abi_frames.proofs.Leading.{Site, Leads, leads_nowhere, leads_then, leads_so, leads_fixed, leads_again, Sets, IsReg, register_reg}
-use Rattle.abi_frames.proofs.Instructions.{UsableFrom, Writes, leads_add_low, leads_sum, leads_constant, leads_load, leads_store_slot, near_address, is_2, is_28}
-use Rattle.abi_frames.proofs.Activations.{Setting, IsSetting, site, bottom, slot_at, place_is, place_reg, slot_is, slot_in_frame, Framed, Assigned, MayWrite, assigned, assigned_output}
+use Rattle.abi_frames.specs.Emission.{store_slot, slot_offset, passed_items}
+use Rattle.abi_frames.specs.Functions.{caller_pointer, from_register, from_stack, argument_items, arguments_items, is_for_arguments, goes_away, is_on_stack, source_in, sources, pointer_items, entry_items}
+use Rattle.abi_frames.proofs.Leading.{Leads, leads_nowhere, leads_then, leads_so, leads_fixed, leads_again, Sets, IsReg}
+use Rattle.abi_frames.proofs.Instructions.{UsableFrom, Writes, leads_sum, leads_constant, leads_load, leads_store_slot, near_address, is_2, is_28}
+use Rattle.abi_frames.proofs.Activations.{Setting, IsSetting, site, bottom, slot_at, save_at, value_at, is_held, held_below, place_is, place_reg, slot_is, slot_in_frame, Framed, Assigned, MayWrite, assigned, assigned_output}
 use Rattle.abi_frames.proofs.Saving.{AllMayWrite}
+use Rattle.abi_frames.proofs.Arranging.{leads_copy, InRegisters, leads_passed}
+use Rattle.abi_frames.proofs.Sources.{source, sources_stand, source_at, AllApart, apart_more, source_is}
 use Rattle.abi_frames.proofs.Simulation.{framed_same}
 
 -- ---- what holds before an argument is taken
@@ -50,16 +51,6 @@ eq_is a b h = grind (arith, nat_tests)
 
 is_30 : IsReg 30
 is_30 = record { some = lit< tt; small = lit< tt }
-
-same_low : (x : ℕ) → x < 2 ^ 64 → (x + 0) % 2 ^ 64 ≡ x
-same_low x h = omega (arith, h)
-
-leads_copy : (c : Site) (s : State) (d a : ℕ) → IsReg d → IsReg a → Leads c (add_low d a 0 ∷ []) s (Sets s d (s.registers a))
-leads_copy c s d a is is_a =
-    leads_fixed c (add_low d a 0 ∷ []) s (Sets s d (s.registers a))
-    (λ fixed.
-    leads_add_low c s d a 0 (s.registers a) (s.registers a) is (register_reg s a is_a)
-    (near_moves (s.registers a) 0 (lit< tt) ∙ same_low (s.registers a) (fixed.words a)))
 
 -- into a register
 took_register : (c : Setting) (s : State) (r v : ℕ) (u : State) → is_place c.slots (InRegister r) ≡ true → Sets s r v u → Took c s (InRegister r) v u
@@ -93,24 +84,10 @@ leads_into_slot c is s x i reg other pointer good =
 leads_from_register : (c : Setting) → IsSetting c → (s : State) (k : ℕ) (p : Location) → k < 8 → s.registers 2 ≡ bottom c → is_place c.slots p ≡ true
     → Leads (site c) (from_register c.layout k p) s (Took c s p (s.registers (10 + k)))
 leads_from_register c is s k (InRegister r) few pointer good =
-    by_test (nat_eq r (10 + k)) refl
-  where
-    reg : IsReg (10 + k)
-    reg = record { some = omega arith; small = omega (arith, few) }
-
-    stays : r ≡ 10 + k → Took c s (InRegister r) (s.registers (10 + k)) s
-    stays e = record {
-      assigned = record { value = ap s.registers e; others = λ m lo other. refl; bytes = refl; output = refl };
-      caller = refl;
-    }
-
-    by_test : (t : Bool) → nat_eq r (10 + k) ≡ t
-        → Leads (site c) (if t then [] else add_low r (10 + k) 0 ∷ []) s (Took c s (InRegister r) (s.registers (10 + k)))
-    by_test true e = leads_nowhere (site c) s (Took c s (InRegister r) (s.registers (10 + k))) (stays (eq_is r (10 + k) e))
-    by_test false e =
-        leads_so (site c) (add_low r (10 + k) 0 ∷ []) s (Sets s r (s.registers (10 + k))) (Took c s (InRegister r) (s.registers (10 + k)))
-        (leads_copy (site c) s r (10 + k) (place_reg r (place_is c.slots r good)) reg)
-        (λ u f h. took_register c s r (s.registers (10 + k)) u good h)
+    let reg : IsReg (10 + k) = record { some = omega arith; small = omega (arith, few) } in
+    leads_so (site c) (add_low r (10 + k) 0 ∷ []) s (Sets s r (s.registers (10 + k))) (Took c s (InRegister r) (s.registers (10 + k)))
+    (leads_copy (site c) s r (10 + k) (place_reg r (place_is c.slots r good)) reg)
+    (λ u f h. took_register c s r (s.registers (10 + k)) u good h)
 leads_from_register c is s k (Slot i) few pointer good =
     let reg : IsReg (10 + k) = record { some = omega arith; small = omega (arith, few) } in
     leads_into_slot c is s (10 + k) i reg (λ e. absurd (omega (arith, e, few))) pointer good
@@ -169,45 +146,42 @@ leads_from_stack c is s k (Slot i) there caller pointer good =
     }
 
 -- an argument from where it is passed, into its place
-leads_argument : (c : Setting) → IsSetting c → (params k : ℕ) (p : Location) (numbers : Numbers) (s : State) → k < params → params ≤ 64
-    → c.sp + 8 * (params - 8) ≤ c.world.top → Entering c params k numbers s → is_place c.slots p ≡ true
+leads_argument : (c : Setting) → IsSetting c → (params from k : ℕ) (p : Location) (numbers : Numbers) (s : State) → k < params → params ≤ 64
+    → c.sp + 8 * (params - 8) ≤ c.world.top → Entering c params from numbers s → is_place c.slots p ≡ true
     → Leads (site c) (argument_items c.layout k p) s (Took c s p (argument_in c s k))
-leads_argument c is params k p numbers s below few fits entering good = by_test (nat_lt k 8) refl
+leads_argument c is params from k p numbers s below few fits entering good = by_test (nat_lt k 8) refl
   where
     by_test : (t : Bool) → nat_lt k 8 ≡ t
         → Leads (site c) (if t then from_register c.layout k p else from_stack c.layout k p) s
         (Took c s p (if t then s.registers (10 + k) else number_at s.bytes (c.sp + 8 * (k - 8)) 8))
     by_test true e = leads_from_register c is s k p (grind (arith, nat_tests)) entering.framed.pointer good
     by_test false e =
-        let from : 8 ≤ k = grind (arith, nat_tests) in
-        leads_from_stack c is s k p (on_callers_stack c is k params from below few fits) (entering.caller (omega (arith, from, below)))
+        let many : 8 ≤ k = grind (arith, nat_tests) in
+        leads_from_stack c is s k p (on_callers_stack c is k params many below few fits) (entering.caller (omega (arith, many, below)))
         entering.framed.pointer good
 
 -- it is the one that the caller passed
-argument_same : (c : Setting) (params k : ℕ) (numbers : Numbers) (s : State) → Entering c params k numbers s → argument_in c s k ≡ argument_in c c.start k
-argument_same c params k numbers s entering = by_test (nat_lt k 8) refl
+argument_same : (c : Setting) (params from k : ℕ) (numbers : Numbers) (s : State) → from ≤ k → Entering c params from numbers s
+    → argument_in c s k ≡ argument_in c c.start k
+argument_same c params from k numbers s later entering = by_test (nat_lt k 8) refl
   where
     by_test : (t : Bool) → nat_lt k 8 ≡ t
         → (if t then s.registers (10 + k) else number_at s.bytes (c.sp + 8 * (k - 8)) 8)
         ≡ (if t then c.start.registers (10 + k) else number_at c.start.bytes (c.sp + 8 * (k - 8)) 8)
-    by_test true e = entering.registers k (omega arith) (grind (arith, nat_tests))
+    by_test true e = entering.registers k later (grind (arith, nat_tests))
     by_test false e = number_same s.bytes c.start.bytes (c.sp + 8 * (k - 8)) 8 (λ x lo hi. entering.stack x (omega (arith, lo)))
 
 -- ---- after it
 
--- a later argument's register is no place of this parameter
-ahead_of : (r k i : ℕ) → is_ahead k (InRegister r) ≡ true → k < i → i < 8 → 10 + i ≢ r
-ahead_of r k i ahead later few e = absurd (by_test (nat_le r (10 + k)) refl (nat_lt 17 r) refl ahead)
-  where
-    by_test : (a : Bool) → nat_le r (10 + k) ≡ a → (b : Bool) → nat_lt 17 r ≡ b → (a || b) ≡ true → ⊥
-    by_test true x b y h = let low : r ≤ 10 + k = grind (arith, nat_tests) in omega (arith, low, later, e)
-    by_test false x true y h = let high : 17 < r = grind (arith, nat_tests) in omega (arith, high, few, e)
-    by_test false x false y h = let no : ⊥ = cc in no
+-- no number is known
+abbrev pub nothing : Numbers
+nothing = λ p. None
 
-took_keeps_registers : (c : Setting) (s : State) (k : ℕ) (p : Location) (v : ℕ) (u : State) → is_ahead k p ≡ true → Assigned c s p v u
-    → (i : ℕ) → k < i → i < 8 → u.registers (10 + i) ≡ s.registers (10 + i)
-took_keeps_registers c s k (InRegister r) v u ahead h i later few = h.others (10 + i) (omega (arith, few)) (ahead_of r k i ahead later few)
-took_keeps_registers c s k (Slot j) v u ahead h i later few = h.registers (10 + i) (omega (arith, few))
+none_is : (v : ℕ) → None ≡ Some v → ⊥
+none_is v e = let no : ⊥ = cc in no
+
+some_is : (a b : ℕ) → Some a ≡ Some b → a ≡ b
+some_is a b e = cc
 
 took_keeps_stack : (c : Setting) → IsSetting c → (s : State) (p : Location) (v : ℕ) (u : State) → is_place c.slots p ≡ true → Assigned c s p v u
     → (x : ℕ) → c.sp ≤ x → u.bytes x ≡ s.bytes x
@@ -218,48 +192,24 @@ took_keeps_stack c is s (Slot i) v u good h x above =
     let bottom_fits = is.above in
     ap (λ (m : ℕ → ℕ). m x) h.bytes ∙ stored_above s.bytes (slot_at c i) 8 v x (omega (arith, few, fits, bottom_fits, above))
 
-entering_more : (c : Setting) → IsSetting c → (params k : ℕ) (numbers : Numbers) (s : State) (p : Location) (v : ℕ) (o : Option ℕ) (u : State)
-    → is_place c.slots p ≡ true → MayWrite c.saved p → is_ahead k p ≡ true → ((x : ℕ) → o ≡ Some x → v ≡ x) → Entering c params k numbers s → Took c s p v u
-    → Entering c params (k + 1) (put p o numbers) u
-entering_more c is params k numbers s p v o u good may ahead value entering took = record {
-  framed = assigned c is numbers c.before s u p v o good may entering.framed took.assigned value;
-  output = assigned_output c s p v u took.assigned ∙ entering.output;
-  registers = λ i from few. took_keeps_registers c s k p v u ahead took.assigned i (omega (arith, from)) few ∙ entering.registers i (omega (arith, from)) few;
-  stack = λ x above. took_keeps_stack c is s p v u good took.assigned x above ∙ entering.stack x above;
-  caller = λ some. took.caller ∙ entering.caller some;
+took_keeps_registers : (c : Setting) (s : State) (p : Location) (v : ℕ) (u : State) (n : ℕ) → n ≤ 27 → p ≢ InRegister n → Assigned c s p v u
+    → u.registers n ≡ s.registers n
+took_keeps_registers c s (InRegister r) v u n low other h = h.others n (omega (arith, low)) (λ e. absurd (other (ap InRegister (sym e))))
+took_keeps_registers c s (Slot j) v u n low other h = h.registers n (omega (arith, low))
+
+-- a frame in which these numbers are known
+framed_with : (c : Setting) (m n : Numbers) (u : State) → ((p : Location) (v : ℕ) → is_place c.slots p ≡ true → n p ≡ Some v → value_at c u p ≡ v)
+    → Framed c m c.before u → Framed c n c.before u
+framed_with c m n u places framed = record {
+  pointer = framed.pointer;
+  places = places;
+  spots = framed.spots;
+  clear = framed.clear;
+  reach = framed.reach;
+  saved = framed.saved;
+  thread = framed.thread;
+  others = framed.others;
 }
-
--- of fewer numbers
-entering_less : (c : Setting) (params k : ℕ) (m n : Numbers) (u : State) → ((p : Location) (v : ℕ) → n p ≡ Some v → m p ≡ Some v) → Entering c params k m u
-    → Entering c params k n u
-entering_less c params k m n u less entering =
-    let framed = entering.framed in
-    record {
-      framed = record {
-        pointer = framed.pointer;
-        places = λ p v good known. framed.places p v good (less p v known);
-        spots = framed.spots;
-        clear = framed.clear;
-        reach = framed.reach;
-        saved = framed.saved;
-        thread = framed.thread;
-        others = framed.others;
-      };
-      output = entering.output;
-      registers = entering.registers;
-      stack = entering.stack;
-      caller = entering.caller;
-    }
-
--- ---- places that hold no argument yet
-
-abbrev pub AllUnknown : Numbers → List (Destination Location) → Type 0
-AllUnknown numbers [] = Unit {0}
-AllUnknown numbers (d ∷ ds) = (numbers d.place ≡ None) × AllUnknown numbers ds
-
-pub none_is_known : (ds : List (Destination Location)) → AllUnknown (λ p. None) ds
-none_is_known [] = tt
-none_is_known (d ∷ ds) = (refl, none_is_known ds)
 
 same_is : (p q : Location) → same_location p q ≡ true → p ≡ q
 same_is (InRegister a) (InRegister b) h = ap InRegister (eq_is a b h)
@@ -267,53 +217,42 @@ same_is (InRegister a) (Slot b) h = absurd (let no : ⊥ = cc in no)
 same_is (Slot a) (InRegister b) h = absurd (let no : ⊥ = cc in no)
 same_is (Slot a) (Slot b) h = ap Slot (eq_is a b h)
 
-eq_back : (a b : ℕ) → nat_eq a b ≡ false → nat_eq b a ≡ false
-eq_back a b h = by_test (nat_eq b a) refl
+same_itself : (p : Location) → same_location p p ≡ true
+same_itself (InRegister a) = grind (arith, nat_tests)
+same_itself (Slot a) = grind (arith, nat_tests)
+
+-- a parameter's place has its argument, and every other place what it had
+record Holding (c : Setting) (params from : ℕ) (s : State) (p : Location) (v : ℕ) (u : State) : Type 0 where
+  entering : Entering c params from nothing u
+  value : value_at c u p ≡ v
+  kept : (q : Location) → is_place c.slots q ≡ true → p ≢ q → value_at c u q ≡ value_at c s q
+
+holding : (c : Setting) → IsSetting c → (params from : ℕ) (s : State) (p : Location) (v : ℕ) (u : State) → is_place c.slots p ≡ true → MayWrite c.saved p
+    → ((i : ℕ) → from ≤ i → i < 8 → p ≢ InRegister (10 + i)) → Entering c params from nothing s → Took c s p v u → Holding c params from s p v u
+holding c is params from s p v u good may away entering took =
+    let all : Numbers = λ q. Some (value_at c s q) in
+    let before : Framed c all c.before s = framed_with c nothing all s (λ q x g e. some_is (value_at c s q) x e) entering.framed in
+    let after : Framed c (put p (Some v) all) c.before u =
+    assigned c is all c.before s u p v (Some v) good may before took.assigned (λ x e. some_is v x e) in
+    record {
+      entering = record {
+        framed = framed_with c (put p (Some v) all) nothing u (λ q x g e. absurd (none_is x e)) after;
+        output = assigned_output c s p v u took.assigned ∙ entering.output;
+        registers = λ i lo hi.
+            took_keeps_registers c s p v u (10 + i) (omega (arith, hi)) (away i lo hi) took.assigned ∙ entering.registers i lo hi;
+        stack = λ x above. took_keeps_stack c is s p v u good took.assigned x above ∙ entering.stack x above;
+        caller = λ some. took.caller ∙ entering.caller some;
+      };
+      value = after.places p v good (ap (λ t. if t then Some v else all p) (same_itself p));
+      kept = λ q g other. by_test q g other after (same_location q p) refl;
+    }
   where
-    by_test : (t : Bool) → nat_eq b a ≡ t → nat_eq b a ≡ false
-    by_test true e = absurd (let no : ⊥ = grind (arith, nat_tests) in no)
-    by_test false e = e
+    by_test : (q : Location) → is_place c.slots q ≡ true → p ≢ q → Framed c (put p (Some v) (λ x. Some (value_at c s x))) c.before u
+        → (t : Bool) → same_location q p ≡ t → value_at c u q ≡ value_at c s q
+    by_test q g other after true e = absurd (other (sym (same_is q p e)))
+    by_test q g other after false e = after.places q (value_at c s q) g (ap (λ t. if t then Some v else Some (value_at c s q)) e)
 
-differ_back : (p q : Location) → same_location p q ≡ false → same_location q p ≡ false
-differ_back (InRegister a) (InRegister b) h = eq_back a b h
-differ_back (InRegister a) (Slot b) h = refl
-differ_back (Slot a) (InRegister b) h = refl
-differ_back (Slot a) (Slot b) h = eq_back a b h
-
--- what is known apart from a place that isn't
-known_apart : (p : Location) (numbers : Numbers) → numbers p ≡ None → (q : Location) (v : ℕ) → numbers q ≡ Some v → put p None numbers q ≡ Some v
-known_apart p numbers unknown q v known = by_test (same_location q p) refl
-  where
-    none_is_not : (o : Option ℕ) → o ≡ None → o ≡ Some v → ⊥
-    none_is_not o e f = let no : ⊥ = cc in no
-
-    by_test : (t : Bool) → same_location q p ≡ t → (if t then None else numbers q) ≡ Some v
-    by_test true e = absurd (none_is_not (numbers p) unknown (ap numbers (sym (same_is q p e)) ∙ known))
-    by_test false e = known
-
-neither : (a b : Bool) → not (a || b) ≡ true → (a ≡ false) × (not b ≡ true)
-neither true b h = absurd (let no : ⊥ = cc in no)
-neither false b h = (refl, h)
-
-abbrev has_place : Destination Location → Destination Location → Bool
-has_place d e = located.same d.place e.place
-
-still_unknown : (d : Destination Location) (ds : List (Destination Location)) (numbers : Numbers) (o : Option ℕ) → not (list_any (has_place d) ds) ≡ true
-    → AllUnknown numbers ds → AllUnknown (put d.place o numbers) ds
-still_unknown d [] numbers o apart unknown = tt
-still_unknown d (e ∷ ds) numbers o apart unknown =
-    let parts = neither (has_place d e) (list_any (has_place d) ds) apart in
-    let other : same_location e.place d.place ≡ false = differ_back d.place e.place parts.0 in
-    let here : put d.place o numbers e.place ≡ numbers e.place = rw other refl in
-    (here ∙ unknown.0, still_unknown d ds numbers o parts.1 unknown.1)
-
--- ---- all arguments
-
--- these arguments are passed, from argument k on
-abbrev pub ArePassed : Setting → (k : ℕ) → List (Destination Location) → List ℕ → Type 0
-ArePassed c k [] xs = Unit {0}
-ArePassed c k (d ∷ ds) [] = Unit {0}
-ArePassed c k (d ∷ ds) (x ∷ xs) = (argument_in c c.start k ≡ held d.class x) × ArePassed c (k + 1) ds xs
+-- ---- the arguments of a group
 
 -- what the induction over the parameters needs to know of those that are left
 pub record CanTake (c : Setting) (params k : ℕ) (ds : List (Destination Location)) : Type 0 where
@@ -321,7 +260,6 @@ pub record CanTake (c : Setting) (params k : ℕ) (ds : List (Destination Locati
   pub few : params ≤ 64
   pub fits : c.sp + 8 * (params - 8) ≤ c.world.top
   pub places : list_all (λ (d : Destination Location). is_place c.slots d.place) ds ≡ true
-  pub ahead : covers_params k ds ≡ true
   pub may : AllMayWrite c.saved ds
 
 can_take_more : (c : Setting) (params k : ℕ) (d : Destination Location) (ds : List (Destination Location)) → CanTake c params k (d ∷ ds) → CanTake c params (k + 1) ds
@@ -332,65 +270,316 @@ can_take_more c params k d ds can =
       few = can.few;
       fits = can.fits;
       places = (and_parts (is_place c.slots d.place) (list_all (λ (e : Destination Location). is_place c.slots e.place) ds) can.places).1;
-      ahead = (and_parts (is_ahead k d.place) (covers_params (k + 1) ds) can.ahead).1;
       may = can.may.1;
     }
 
--- one more of them
-leads_next : (c : Setting) → IsSetting c → (params k : ℕ) (d : Destination Location) (ds : List (Destination Location)) (numbers : Numbers) (o : Option ℕ) (s : State)
-    → CanTake c params k (d ∷ ds) → ((x : ℕ) → o ≡ Some x → argument_in c c.start k ≡ x) → Entering c params k numbers s
-    → Leads (site c) (argument_items c.layout k d.place) s (Entering c params (k + 1) (put d.place o numbers))
-leads_next c is params k d ds numbers o s can value entering =
+-- a group of arguments, of which none is passed in a register that was written, nor changes one that will be read
+record IsGroup (test : ℕ → Location → Bool) (from : ℕ) : Type 0 where
+  later : (k : ℕ) (p : Location) → test k p ≡ true → from ≤ k
+  away : (k : ℕ) (p : Location) → test k p ≡ true → (i : ℕ) → from ≤ i → i < 8 → p ≢ InRegister (10 + i)
+
+-- those of the group, from the k-th on, are in their places; other places are as they were
+record Group (c : Setting) (params from : ℕ) (test : ℕ → Location → Bool) (k : ℕ) (ds : List (Destination Location)) (s u : State) : Type 0 where
+  entering : Entering c params from nothing u
+  values : (i : ℕ) (d : Destination Location) → slice_get ds i ≡ Some d → test (k + i) d.place ≡ true → value_at c u d.place ≡ argument_in c c.start (k + i)
+  kept : (q : Location) → is_place c.slots q ≡ true → ((i : ℕ) (d : Destination Location) → slice_get ds i ≡ Some d → test (k + i) d.place ≡ true → d.place ≢ q)
+      → value_at c u q ≡ value_at c s q
+
+-- one of them
+record One (c : Setting) (params from : ℕ) (test : ℕ → Location → Bool) (k : ℕ) (p : Location) (s u : State) : Type 0 where
+  entering : Entering c params from nothing u
+  value : test k p ≡ true → value_at c u p ≡ argument_in c c.start k
+  kept : (q : Location) → is_place c.slots q ≡ true → (test k p ≡ true → p ≢ q) → value_at c u q ≡ value_at c s q
+
+leads_one : (c : Setting) → IsSetting c → (params from : ℕ) (test : ℕ → Location → Bool) → IsGroup test from → (k : ℕ) (p : Location) (s : State) → k < params → params ≤ 64
+    → c.sp + 8 * (params - 8) ≤ c.world.top → is_place c.slots p ≡ true → MayWrite c.saved p → Entering c params from nothing s
+    → Leads (site c) (if test k p then argument_items c.layout k p else []) s (One c params from test k p s)
+leads_one c is params from test group k p s below few fits good may entering = by_test (test k p) refl
+  where
+    two_ways : test k p ≡ false → test k p ≡ true → ⊥
+    two_ways e d = let no : ⊥ = cc in no
+
+    by_test : (t : Bool) → test k p ≡ t → Leads (site c) (if t then argument_items c.layout k p else []) s (One c params from test k p s)
+    by_test true e =
+        leads_so (site c) (argument_items c.layout k p) s (Took c s p (argument_in c s k)) (One c params from test k p s)
+        (leads_argument c is params from k p nothing s below few fits entering good)
+        (λ u f took.
+        let h = holding c is params from s p (argument_in c s k) u good may (group.away k p e) entering took in
+        record {
+          entering = h.entering;
+          value = λ d. h.value ∙ argument_same c params from k nothing s (group.later k p e) entering;
+          kept = λ q g other. h.kept q g (other e);
+        })
+    by_test false e =
+        leads_nowhere (site c) s (One c params from test k p s)
+        (record { entering = entering; value = λ d. absurd (two_ways e d); kept = λ q g other. refl })
+
+place_of : (slots : ℕ) (ds : List (Destination Location)) (i : ℕ) (d : Destination Location) → list_all (λ (e : Destination Location). is_place slots e.place) ds ≡ true
+    → slice_get ds i ≡ Some d → is_place slots d.place ≡ true
+place_of slots [] i d h e = absurd (let no : ⊥ = cc in no)
+place_of slots (x ∷ ds) zero d h e =
+    ap (λ (y : Destination Location). is_place slots y.place) (sym (same x d e))
+    ∙ (and_parts (is_place slots x.place) (list_all (λ (y : Destination Location). is_place slots y.place) ds) h).0
+  where
+    same : (a b : Destination Location) → Some a ≡ Some b → a ≡ b
+    same a b e = cc
+place_of slots (x ∷ ds) (suc i) d h e =
+    place_of slots ds i d (and_parts (is_place slots x.place) (list_all (λ (y : Destination Location). is_place slots y.place) ds) h).1 e
+
+no_more : (k : ℕ) → k ≡ k + zero
+no_more k = omega arith
+
+one_more : (k i : ℕ) → k + 1 + i ≡ k + suc i
+one_more k i = omega arith
+
+-- the first of them, and the others
+group_values : (c : Setting) (params from : ℕ) (test : ℕ → Location → Bool) (k : ℕ) (d : Destination Location) (ds : List (Destination Location)) (s u w : State)
+    → is_place c.slots d.place ≡ true → AllApart (d ∷ ds) → One c params from test k d.place s u → Group c params from test (k + 1) ds u w
+    → (i : ℕ) (e : Destination Location) → slice_get (d ∷ ds) i ≡ Some e → test (k + i) e.place ≡ true → value_at c w e.place ≡ argument_in c c.start (k + i)
+group_values c params from test k d ds s u w good apart one two zero e is passes =
+    let same : d ≡ e = some_destination d e is in
+    let here : test k d.place ≡ true = ap (λ n. test n d.place) (no_more k) ∙ (ap (λ (x : Destination Location). test (k + zero) x.place) same ∙ passes) in
+    ap (λ (x : Destination Location). value_at c w x.place) (sym same)
+    ∙ (two.kept d.place good (λ j x is_x t g. absurd (apart zero (suc j) d x (λ z. absurd (let no : ⊥ = omega (arith, z) in no)) refl is_x (sym g)))
+    ∙ (one.value here ∙ ap (argument_in c c.start) (no_more k)))
+  where
+    some_destination : (a b : Destination Location) → Some a ≡ Some b → a ≡ b
+    some_destination a b e = cc
+group_values c params from test k d ds s u w good apart one two (suc i) e is passes =
+    two.values i e is (ap (λ n. test n e.place) (one_more k i) ∙ passes) ∙ ap (argument_in c c.start) (one_more k i)
+
+leads_group : (c : Setting) → IsSetting c → (params from : ℕ) (test : ℕ → Location → Bool) → IsGroup test from → (k : ℕ) (ds : List (Destination Location)) (s : State)
+    → CanTake c params k ds → AllApart ds → Entering c params from nothing s
+    → Leads (site c) (arguments_items c.layout test k ds) s (Group c params from test k ds s)
+leads_group c is params from test group k [] s can apart entering =
+    leads_nowhere (site c) s (Group c params from test k [] s)
+    (record { entering = entering; values = λ i d e t. absurd (let no : ⊥ = cc in no); kept = λ q g other. refl })
+leads_group c is params from test group k (d ∷ ds) s can apart entering =
     let count = can.count in
     let good = (and_parts (is_place c.slots d.place) (list_all (λ (e : Destination Location). is_place c.slots e.place) ds) can.places).0 in
-    let ahead = (and_parts (is_ahead k d.place) (covers_params (k + 1) ds) can.ahead).0 in
-    leads_so (site c) (argument_items c.layout k d.place) s (Took c s d.place (argument_in c s k)) (Entering c params (k + 1) (put d.place o numbers))
-    (leads_argument c is params k d.place numbers s (omega (arith, count)) can.few can.fits entering good)
-    (λ u f took.
-    entering_more c is params k numbers s d.place (argument_in c s k) o u good can.may.0 ahead (λ x e. argument_same c params k numbers s entering ∙ value x e) entering took)
+    leads_then (site c) (if test k d.place then argument_items c.layout k d.place else []) (arguments_items c.layout test (k + 1) ds) s
+    (One c params from test k d.place s) (Group c params from test k (d ∷ ds) s)
+    (leads_one c is params from test group k d.place s (omega (arith, count)) can.few can.fits good can.may.0 entering)
+    (λ u f one.
+    leads_so (site c) (arguments_items c.layout test (k + 1) ds) u (Group c params from test (k + 1) ds u) (Group c params from test k (d ∷ ds) s)
+    (leads_group c is params from test group (k + 1) ds u (can_take_more c params k d ds can) (apart_more d ds apart) one.entering)
+    (λ w g two. record {
+      entering = two.entering;
+      values = group_values c params from test k d ds s u w good apart one two;
+      kept = λ q h other.
+          two.kept q h (λ i e is t. other (suc i) e is (ap (λ n. test n e.place) (sym (one_more k i)) ∙ t))
+          ∙ one.kept q h (λ t. other zero d refl (ap (λ n. test n d.place) (sym (no_more k)) ∙ t));
+    }))
 
--- when all are taken
-entered : (c : Setting) (params k : ℕ) (numbers : Numbers) (u : State) → Entering c params k numbers u → Entering c params 8 numbers u
-entered c params k numbers u entering = record {
-  framed = entering.framed;
-  output = entering.output;
-  registers = λ i from few. absurd (let no : ⊥ = omega (arith, from, few) in no);
-  stack = entering.stack;
-  caller = entering.caller;
+-- ---- arguments in one another's registers
+
+is_held_range : (n : ℕ) → is_held n ≡ true → 9 < n → 17 < n
+is_held_range n h hi = grind (arith, nat_tests)
+
+entering_moved : (c : Setting) → IsSetting c → (params : ℕ) (args : List (Argument Location)) (s u : State) → Entering c params 0 nothing s → InRegisters c s args u
+    → Entering c params 8 nothing u
+entering_moved c is params args s u entering h =
+    let framed = entering.framed in
+    let bytes = h.bytes in
+    record {
+      framed = record {
+        pointer = h.low 2 (lit< tt) ∙ framed.pointer;
+        places = λ p v good known. absurd (none_is v known);
+        spots = record { known = λ x n k. ap (λ (m : ℕ → ℕ). m x) bytes ∙ framed.spots.known x n k; usable = framed.spots.usable };
+        clear = framed.clear;
+        reach = framed.reach;
+        saved = λ k r e. ap (λ (m : ℕ → ℕ). number_at m (save_at c k) 8) bytes ∙ framed.saved k r e;
+        thread = λ n held other out. by_test n held (nat_lt n 10) refl ∙ framed.thread n held other out;
+        others = λ x hi away. ap (λ (m : ℕ → ℕ). m x) bytes ∙ framed.others x hi away;
+      };
+      output = h.output ∙ entering.output;
+      registers = λ i lo hi. absurd (let no : ⊥ = omega (arith, lo, hi) in no);
+      stack = λ x above. ap (λ (m : ℕ → ℕ). m x) bytes ∙ entering.stack x above;
+      caller = λ some. h.high 30 (lit< tt) (λ e. absurd (omega (arith, e))) ∙ entering.caller some;
+    }
+  where
+    below : (n : ℕ) → is_held n ≡ true → n < 28
+    below n held = held_below n held
+
+    by_test : (n : ℕ) → is_held n ≡ true → (t : Bool) → nat_lt n 10 ≡ t → u.registers n ≡ s.registers n
+    by_test n held true e = h.low n (grind (arith, nat_tests))
+    by_test n held false e =
+        let small = below n held in
+        let from : 9 < n = grind (arith, nat_tests) in
+        h.high n (is_held_range n held from) (λ g. absurd (omega (arith, g, small)))
+
+-- places elsewhere keep what they have
+away_keeps : (c : Setting) → IsSetting c → (args : List (Argument Location)) (s u : State) → InRegisters c s args u → (p : Location) → is_place c.slots p ≡ true
+    → is_for_arguments p ≡ false → value_at c u p ≡ value_at c s p
+away_keeps c is args s u h (InRegister r) good away = by_range (nat_le 10 r) refl (nat_le r 17) refl away
+  where
+    hi : r ≤ 27
+    hi = (place_is c.slots r good).to_27
+
+    by_range : (p : Bool) → nat_le 10 r ≡ p → (q : Bool) → nat_le r 17 ≡ q → (p && q) ≡ false → u.registers r ≡ s.registers r
+    by_range true e true f k = absurd (let no : ⊥ = cc in no)
+    by_range true e false f k = h.high r (grind (arith, nat_tests)) (λ g. absurd (omega (arith, g, hi)))
+    by_range false e q f k = h.low r (grind (arith, nat_tests))
+away_keeps c is args s u h (Slot i) good away = ap (λ (m : ℕ → ℕ). number_at m (slot_at c i) 8) h.bytes
+
+-- which register it is
+record ArgumentPlace (p : Location) : Type 0 where
+  number : ℕ
+  few : number < 8
+  is : p ≡ InRegister (10 + number)
+
+argument_place : (p : Location) → is_for_arguments p ≡ true → ArgumentPlace p
+argument_place (InRegister r) h =
+    let parts = and_parts (nat_le 10 r) (nat_le r 17) h in
+    let lo = parts.0 in
+    let hi = parts.1 in
+    let from : 10 ≤ r = grind (arith, nat_tests) in
+    let to : r ≤ 17 = grind (arith, nat_tests) in
+    record { number = r - 10; few = omega (arith, from, to); is = ap InRegister (let same : r ≡ 10 + (r - 10) = omega (arith, from) in same) }
+argument_place (Slot i) h = absurd (let no : ⊥ = cc in no)
+
+-- an argument register that is a parameter's place takes its argument
+exchanged_value : (c : Setting) (params : ℕ) (ds : List (Destination Location)) (s u : State) → AllApart ds → InRegisters c s (sources 8 0 ds) u
+    → Entering c params 0 nothing s → (k : ℕ) (d : Destination Location) → slice_get ds k ≡ Some d → k < 8 → is_for_arguments d.place ≡ true
+    → value_at c u d.place ≡ c.start.registers (10 + k)
+exchanged_value c params ds s u apart h entering k d is few own =
+    let at = argument_place d.place own in
+    let i : ℕ = at.number in
+    let source_k : source_in i 0 ds ≡ 10 + k = source_is i 0 k ds d apart is at.is (omega (arith, few)) ∙ ap (λ n. 10 + n) (zero-add k) in
+    let found = source_at 8 0 i ds at.few ∙ ap (λ n. Some (source (source_in n 0 ds))) (zero-add i) in
+    ap (value_at c u) at.is
+    ∙ (h.in_registers i (source (source_in i 0 ds)) at.few found ∙ (ap s.registers source_k ∙ entering.registers k (omega arith) few))
+
+-- ---- all arguments
+
+-- these arguments are passed, from argument k on
+abbrev pub ArePassed : Setting → (k : ℕ) → List (Destination Location) → List ℕ → Type 0
+ArePassed c k [] xs = Unit {0}
+ArePassed c k (d ∷ ds) [] = Unit {0}
+ArePassed c k (d ∷ ds) (x ∷ xs) = (argument_in c c.start k ≡ held d.class x) × ArePassed c (k + 1) ds xs
+
+-- each place has its argument
+abbrev AllHold : Setting → State → (k : ℕ) → List (Destination Location) → Type 0
+AllHold c u k ds = (i : ℕ) (d : Destination Location) → slice_get ds i ≡ Some d → value_at c u d.place ≡ argument_in c c.start (k + i)
+
+-- so the numbers that the parameters are bound to are in their places
+bound_hold : (c : Setting) (u : State) (k : ℕ) (ds : List (Destination Location)) (xs : List ℕ) (numbers : Numbers) → AllHold c u k ds → ArePassed c k ds xs
+    → ((p : Location) (v : ℕ) → numbers p ≡ Some v → value_at c u p ≡ v) → (p : Location) (v : ℕ) → bound numbers ds xs p ≡ Some v → value_at c u p ≡ v
+bound_hold c u k [] xs numbers all passed before p v known = before p v known
+bound_hold c u k (d ∷ ds) [] numbers all passed before p v known = before p v known
+bound_hold c u k (d ∷ ds) (x ∷ xs) numbers all passed before p v known =
+    bound_hold c u (k + 1) ds xs (put d.place (Some (held d.class x)) numbers)
+    (λ i e is. all (suc i) e is ∙ ap (argument_in c c.start) (sym (one_more k i))) passed.1 (λ q y e. by_test q y (same_location q d.place) refl e) p v known
+  where
+    by_test : (q : Location) (y : ℕ) (t : Bool) → same_location q d.place ≡ t → (if t then Some (held d.class x) else numbers q) ≡ Some y → value_at c u q ≡ y
+    by_test q y true e f =
+        ap (value_at c u) (same_is q d.place e)
+        ∙ (all zero d refl ∙ (ap (argument_in c c.start) (sym (no_more k)) ∙ (passed.0 ∙ some_is (held d.class x) y f)))
+    by_test q y false e f = before q y f
+
+goes_away_group : IsGroup goes_away 0
+goes_away_group = record {
+  later = λ k p e. omega arith;
+  away = λ k p e i lo hi same.
+      let parts = and_parts (nat_lt k 8) (not (is_for_arguments p)) e in
+      absurd (is_not (is_for_arguments p) parts.1 (ap is_for_arguments same ∙ for_arguments i hi));
+}
+  where
+    is_not : (b : Bool) → not b ≡ true → b ≡ true → ⊥
+    is_not true h e = let no : ⊥ = cc in no
+    is_not false h e = let no : ⊥ = cc in no
+
+    for_arguments : (i : ℕ) → i < 8 → is_for_arguments (InRegister (10 + i)) ≡ true
+    for_arguments i hi = grind (arith, nat_tests)
+
+on_stack_group : IsGroup is_on_stack 8
+on_stack_group = record {
+  later = λ k p e. grind (arith, nat_tests);
+  away = λ k p e i lo hi same. absurd (let no : ⊥ = omega (arith, lo, hi) in no);
 }
 
-no_value : (a x : ℕ) → None ≡ Some x → a ≡ x
-no_value a x e = absurd (let no : ⊥ = cc in no)
+-- the places of two parameters differ
+eq_back : (a b : ℕ) → a ≡ b → nat_eq a b ≡ true
+eq_back a b e = grind (arith, nat_tests)
 
-some_is : (a b : ℕ) → Some a ≡ Some b → a ≡ b
-some_is a b e = cc
+same_back : (p q : Location) → p ≡ q → same_location p q ≡ true
+same_back p q e = ap (same_location p) (sym e) ∙ same_itself p
 
--- parameters without arguments take anything
-leads_missing : (c : Setting) → IsSetting c → (params k : ℕ) (ds : List (Destination Location)) (numbers : Numbers) (s : State) → CanTake c params k ds
-    → AllUnknown numbers ds → Entering c params k numbers s → Leads (site c) (arguments_items c.layout k ds) s (Entering c params 8 numbers)
-leads_missing c is params k [] numbers s can unknown entering = leads_nowhere (site c) s (Entering c params 8 numbers) (entered c params k numbers s entering)
-leads_missing c is params k (d ∷ ds) numbers s can unknown entering =
-    leads_then (site c) (argument_items c.layout k d.place) (arguments_items c.layout (k + 1) ds) s (Entering c params (k + 1) (put d.place None numbers))
-    (Entering c params 8 numbers)
-    (leads_next c is params k d ds numbers None s can (λ x e. no_value (argument_in c c.start k) x e) entering)
-    (λ u f more.
-    leads_missing c is params (k + 1) ds numbers u (can_take_more c params k d ds can) unknown.1
-    (entering_less c params (k + 1) (put d.place None numbers) numbers u (λ q v known. known_apart d.place numbers unknown.0 q v known) more))
+neither : (a b : Bool) → not (a || b) ≡ true → (a ≡ false) × (not b ≡ true)
+neither true b h = absurd (let no : ⊥ = cc in no)
+neither false b h = (refl, h)
 
-leads_arguments : (c : Setting) → IsSetting c → (params k : ℕ) (ds : List (Destination Location)) (xs : List ℕ) (numbers : Numbers) (s : State)
-    → CanTake c params k ds → are_distinct located ds ≡ true → AllUnknown numbers ds → ArePassed c k ds xs → Entering c params k numbers s
-    → Leads (site c) (arguments_items c.layout k ds) s (Entering c params 8 (bound numbers ds xs))
-leads_arguments c is params k [] xs numbers s can apart unknown passed entering = leads_nowhere (site c) s (Entering c params 8 numbers) (entered c params k numbers s entering)
-leads_arguments c is params k (d ∷ ds) [] numbers s can apart unknown passed entering =
-    leads_missing c is params k (d ∷ ds) numbers s can unknown entering
-leads_arguments c is params k (d ∷ ds) (x ∷ xs) numbers s can apart unknown passed entering =
-    let more : Numbers = put d.place (Some (held d.class x)) numbers in
-    let parts = and_parts (not (list_any (has_place d) ds)) (are_distinct located ds) apart in
-    leads_then (site c) (argument_items c.layout k d.place) (arguments_items c.layout (k + 1) ds) s (Entering c params (k + 1) more) (Entering c params 8 (bound more ds xs))
-    (leads_next c is params k d ds numbers (Some (held d.class x)) s can (λ y e. passed.0 ∙ some_is (held d.class x) y e) entering)
-    (λ u f now.
-    leads_arguments c is params (k + 1) ds xs more u (can_take_more c params k d ds can) parts.1
-    (still_unknown d ds numbers (Some (held d.class x)) parts.0 unknown.1) passed.1 now)
+none_has : (d : Destination Location) (ds : List (Destination Location)) (i : ℕ) (e : Destination Location) → not (list_any (λ (x : Destination Location). located.same d.place x.place) ds) ≡ true
+    → slice_get ds i ≡ Some e → d.place ≢ e.place
+none_has d [] i e h is = absurd (let no : ⊥ = cc in no)
+none_has d (x ∷ ds) zero e h is =
+    let parts = neither (same_location d.place x.place) (list_any (λ (y : Destination Location). located.same d.place y.place) ds) h in
+    λ g. absurd (two_ways (same_location d.place x.place) parts.0 (same_back d.place x.place (g ∙ ap (λ (y : Destination Location). y.place) (sym (same x e is)))))
+  where
+    same : (a b : Destination Location) → Some a ≡ Some b → a ≡ b
+    same a b e = cc
+
+    two_ways : (b : Bool) → b ≡ false → b ≡ true → ⊥
+    two_ways b f g = let no : ⊥ = cc in no
+none_has d (x ∷ ds) (suc i) e h is =
+    none_has d ds i e (neither (same_location d.place x.place) (list_any (λ (y : Destination Location). located.same d.place y.place) ds) h).1 is
+
+all_apart : (ds : List (Destination Location)) → are_distinct located ds ≡ true → AllApart ds
+all_apart [] h i j d e other is_d is_e = absurd (let no : ⊥ = cc in no)
+all_apart (x ∷ ds) h zero zero d e other is_d is_e = absurd (other refl)
+all_apart (x ∷ ds) h zero (suc j) d e other is_d is_e =
+    let parts = and_parts (not (list_any (λ (y : Destination Location). located.same x.place y.place) ds)) (are_distinct located ds) h in
+    λ g. none_has x ds j e parts.0 is_e (ap (λ (y : Destination Location). y.place) (same x d is_d) ∙ g)
+  where
+    same : (a b : Destination Location) → Some a ≡ Some b → a ≡ b
+    same a b e = cc
+all_apart (x ∷ ds) h (suc i) zero d e other is_d is_e =
+    let parts = and_parts (not (list_any (λ (y : Destination Location). located.same x.place y.place) ds)) (are_distinct located ds) h in
+    λ g. none_has x ds i d parts.0 is_d (ap (λ (y : Destination Location). y.place) (same x e is_e) ∙ sym g)
+  where
+    same : (a b : Destination Location) → Some a ≡ Some b → a ≡ b
+    same a b e = cc
+all_apart (x ∷ ds) h (suc i) (suc j) d e other is_d is_e =
+    all_apart ds (and_parts (not (list_any (λ (y : Destination Location). located.same x.place y.place) ds)) (are_distinct located ds) h).1 i j d e
+    (λ g. other (ap suc g)) is_d is_e
+
+-- after the three groups
+all_hold : (c : Setting) → IsSetting c → (params : ℕ) (ds : List (Destination Location)) (s t u w : State)
+    → list_all (λ (d : Destination Location). is_place c.slots d.place) ds ≡ true → AllApart ds
+    → Group c params 0 goes_away 0 ds s t → InRegisters c t (sources 8 0 ds) u → Group c params 8 is_on_stack 0 ds u w → AllHold c w 0 ds
+all_hold c is params ds s t u w places apart one two three i d is_d = by_stack (nat_le 8 i) refl
+  where
+    good : is_place c.slots d.place ≡ true
+    good = place_of c.slots ds i d places is_d
+
+    here : i ≡ 0 + i
+    here = sym (zero-add i)
+
+    -- no argument on the stack comes to it
+    stays : i < 8 → value_at c w d.place ≡ value_at c u d.place
+    stays few =
+        three.kept d.place good
+        (λ j e is_e t g.
+        let many : 8 ≤ 0 + j = grind (arith, nat_tests) in
+        absurd (apart j i e d (λ z. absurd (let no : ⊥ = omega (arith, many, few, z) in no)) is_e is_d g))
+
+    by_place : i < 8 → nat_lt i 8 ≡ true → (b : Bool) → is_for_arguments d.place ≡ b → value_at c u d.place ≡ c.start.registers (10 + i)
+    by_place few low true e = exchanged_value c params ds t u apart two one.entering i d is_d few e
+    by_place few low false e =
+        let passes : goes_away (0 + i) d.place ≡ true =
+        and_from (nat_lt (0 + i) 8) (not (is_for_arguments d.place)) (ap (λ n. nat_lt n 8) (zero-add i) ∙ low) (ap not e) in
+        away_keeps c is (sources 8 0 ds) t u two d.place good e
+        ∙ (one.values i d is_d passes
+        ∙ (ap (argument_in c c.start) (zero-add i) ∙ ap (λ b. if b then c.start.registers (10 + i) else number_at c.start.bytes (c.sp + 8 * (i - 8)) 8) low))
+
+    by_stack : (b : Bool) → nat_le 8 i ≡ b → value_at c w d.place ≡ argument_in c c.start (0 + i)
+    by_stack true e = three.values i d is_d (ap (nat_le 8) (zero-add i) ∙ e)
+    by_stack false e =
+        let few : i < 8 = grind (arith, nat_tests) in
+        let low : nat_lt i 8 ≡ true = grind (arith, nat_tests) in
+        stays few
+        ∙ (by_place few low (is_for_arguments d.place) refl
+        ∙ (sym (ap (λ b. if b then c.start.registers (10 + i) else number_at c.start.bytes (c.sp + 8 * (i - 8)) 8) low) ∙ ap (argument_in c c.start) here))
 
 -- ---- the caller's stack pointer
 
@@ -444,8 +633,31 @@ leads_pointer c is params numbers s entering = by_test (nat_lt 8 params) refl
 pub leads_entry : (c : Setting) → IsSetting c → (params : List (Destination Location)) (xs : List ℕ) (s : State) → CanTake c (length params) 0 params
     → are_distinct located params ≡ true → ArePassed c 0 params xs → Entering c 0 0 (λ p. None) s
     → Leads (site c) (entry_items c.layout params) s (Entering c (length params) 8 (bound (λ p. None) params xs))
-leads_entry c is params xs s can apart passed entering =
-    leads_then (site c) (pointer_items c.layout (length params)) (arguments_items c.layout 0 params) s (Entering c (length params) 0 (λ p. None))
-    (Entering c (length params) 8 (bound (λ p. None) params xs))
-    (leads_pointer c is (length params) (λ p. None) s entering)
-    (λ u f now. leads_arguments c is (length params) 0 params xs (λ p. None) u can apart (none_is_known params) passed now)
+leads_entry c is params xs s can distinct passed entering =
+    let n : ℕ = length params in
+    let apart = all_apart params distinct in
+    let all : List (Argument Location) = sources 8 0 params in
+    let done : State → Type 0 = Entering c n 8 (bound nothing params xs) in
+    leads_then (site c) (pointer_items c.layout n) (arguments_items c.layout goes_away 0 params ++ (passed_items c.layout all ++ arguments_items c.layout is_on_stack 0 params)) s
+    (Entering c n 0 nothing) done
+    (leads_pointer c is n nothing s entering)
+    (λ r f zeroth.
+    leads_then (site c) (arguments_items c.layout goes_away 0 params) (passed_items c.layout all ++ arguments_items c.layout is_on_stack 0 params) r
+    (Group c n 0 goes_away 0 params r) done
+    (leads_group c is n 0 goes_away goes_away_group 0 params r can apart zeroth)
+    (λ t g one.
+    leads_then (site c) (passed_items c.layout all) (arguments_items c.layout is_on_stack 0 params) t (InRegisters c t all) done
+    (leads_passed c is t all one.entering.framed.pointer (sources_stand c.slots 8 0 params (lit≤ tt)))
+    (λ u h two.
+    leads_so (site c) (arguments_items c.layout is_on_stack 0 params) u (Group c n 8 is_on_stack 0 params u) done
+    (leads_group c is n 8 is_on_stack on_stack_group 0 params u can apart (entering_moved c is n all t u one.entering two))
+    (λ w i three.
+    let hold = all_hold c is n params r t u w can.places apart one two three in
+    record {
+      framed = framed_with c nothing (bound nothing params xs) w (λ p v good known. bound_hold c w 0 params xs nothing hold passed (λ q x e. absurd (none_is x e)) p v known)
+          three.entering.framed;
+      output = three.entering.output;
+      registers = three.entering.registers;
+      stack = three.entering.stack;
+      caller = three.entering.caller;
+    }))))

@@ -1,7 +1,6 @@
 -- What the code of jumps does.
-use Rattle.std.proofs.Common.{◌≡◌, ℕ, ◌+◌, ◌%◌, ◌^◌, ◌<◌, ◌≤◌, Bool, true, false, List, [], ◌∷◌, ◌++◌, refl, sym, ◌∙◌, ap, subst, arith, lit<, mod-lt, append_assoc}
-use Rattle.std.specs.Prelude.{◌==◌, ◌&&◌, not, nat_eq, if◌then◌else◌, Some}
-use Rattle.std.proofs.lemmas.Int.{ints}
+use Rattle.std.proofs.Common.{◌≡◌, ℕ, ◌+◌, ◌%◌, ◌^◌, ◌≤◌, Bool, true, false, List, [], ◌∷◌, ◌++◌, refl, sym, ◌∙◌, ap, subst, arith, lit<, append_assoc}
+use Rattle.std.specs.Prelude.{◌&&◌, not, nat_eq, if◌then◌else◌, Some}
 use Rattle.std.proofs.lemmas.Bool.Decides.{nat_tests}
 use Rattle.il_ast.specs.declared.operation.Class.{Class}
 use Rattle.il_ast.specs.declared.operation.Condition.{Condition}
@@ -24,7 +23,6 @@ use Rattle.vcode.specs.declared.line.Comparison.{Comparison}
 use Rattle.vcode.specs.Named.{is_place, operand_keeps}
 use Rattle.flat_code.specs.Step.{taken as taken_as}
 use Rattle.abi_frames.specs.Calls.{passed}
-use Rattle.abi_frames.specs.Fields.{reg, word}
 use Rattle.abi_frames.specs.Emission.{word_into, operand_into, operand_source, goto_items, branch_when, inverted, ways_items, branch_items, result_items}
 use Rattle.abi_frames.specs.declared.layout.Layout.{Layout}
 use Rattle.abi_frames.proofs.Leading.{Site, StandAt, Leads, longest-append, Sets, in_register, same_in_register}

@@ -1,5 +1,5 @@
 -- The labelled code of a function keeps the invariants of such code.
-use Rattle.std.proofs.Common.{suc, zero, ◌/◌, ◌≡◌, ℕ, ◌+◌, ◌-◌, ◌*◌, ◌%◌, ◌^◌, ◌<◌, ◌≤◌, Bool, true, false, List, [], ◌∷◌, ◌++◌, refl, sym, ◌∙◌, ap, subst, arith, lit<, zero-add, append_assoc}
+use Rattle.std.proofs.Common.{suc, zero, ◌/◌, ◌≡◌, ℕ, ◌+◌, ◌-◌, ◌*◌, ◌%◌, ◌^◌, ◌<◌, ◌≤◌, Bool, true, false, List, [], ◌∷◌, ◌++◌, refl, sym, ◌∙◌, ap, subst, arith, lit<, lit≤, zero-add, append_assoc}
 use Rattle.std.specs.Prelude.{◌&&◌, not, nat_eq, nat_le, nat_lt, if◌then◌else◌, length, Option, Some, None}
 use Rattle.std.specs.List.{list_all}
 use Rattle.std.proofs.lemmas.Bool.{and_parts, and_from}
@@ -45,8 +45,12 @@ use Rattle.abi_frames.specs.Fields.{reg, low, high, amount, word_amount, add_low
 use Rattle.abi_frames.specs.Immediates.{opposite, next, right_form, left_form, compare_number, form_items}
 use Rattle.abi_frames.specs.declared.immediate.Form.{Form}
 use Rattle.abi_frames.specs.declared.immediate.Form.TheVariants.{Immediate as ByImmediate, AddWord, Shift as ByShift, ShiftWord, Compare as ByComparison}
-use Rattle.abi_frames.specs.Emission.{copy_at, copy_eight, copy_eights, copy_rest, far_load, load_slot, far_store, store_slot, slot_offset, into, fetch, source, word_into, target, deliver, set_items, compare_items, operation_items, operand_into, operand_source, on_registers, by_form, operate_by, operate_items, load_to, store_at, store_op, line_items, lines_items, move_pointer, lower_pointer, raise_pointer, save_all, restore_all, go_back, prologue, epilogue, result_items, goto_items, branch_when, inverted, ways_items, compared_into, compared_source, jump_items, blocks_items, pass_into, pass_items, pass_all, call_through, receive_items, call_items, address_at}
-use Rattle.abi_frames.specs.Functions.{caller_pointer, from_register, from_stack, argument_items, arguments_items, pointer_items, entry_items}
+use Rattle.abi_frames.specs.Emission.{copy_at, copy_eight, copy_eights, copy_rest, far_load, load_slot, far_store, store_slot, slot_offset, into, fetch, source, word_into, target, deliver, set_items, compare_items, operation_items, operand_into, operand_source, on_registers, by_form, operate_by, operate_items, load_to, store_at, store_op, line_items, lines_items, move_pointer, lower_pointer, raise_pointer, save_all, restore_all, go_back, prologue, epilogue, result_items, goto_items, branch_when, inverted, ways_items, compared_into, compared_source, jump_items, blocks_items, pass_into, stack_items, stack_all, register_items, register_all, passed_items, callee_items, callee_source, prepare_items, call_through, receive_items, call_items, address_at}
+use Rattle.abi_frames.specs.Moves.{is_read, earlier_at, move_up, moves_up, moved_up, all_move_up, all_moved_up}
+use Rattle.abi_frames.proofs.Passing.{in_place}
+use Rattle.abi_frames.proofs.Arranging.{is_earlier, all_stand}
+use Rattle.abi_frames.proofs.Sources.{sources_stand}
+use Rattle.abi_frames.specs.Functions.{caller_pointer, from_register, from_stack, argument_items, arguments_items, goes_away, is_on_stack, sources, pointer_items, entry_items}
 use Rattle.abi_frames.specs.Laws.{FramesAreLabelled}
 use Rattle.abi_frames.proofs.Leading.{longest-append}
 use Rattle.abi_frames.proofs.Activations.{place_is, can_save}
@@ -363,25 +367,86 @@ pass_into_plainly : (n : ℕ) (y : Layout) (slots d : ℕ) (k : Class) (a : Oper
 pass_into_plainly n y slots d L a some h known = into_plainly n y slots d a some h known
 pass_into_plainly n y slots d W a some h known = word_into_plainly n y slots d a some h known
 
-pass_plainly : (n : ℕ) (y : Layout) (slots k : ℕ) (a : Argument Location) → operand_keeps (is_place slots) a.value ≡ true → Plainly n (pass_items y k a)
-pass_plainly n y slots k a known = by_test (nat_lt k 8) refl
+stack_plainly : (n : ℕ) (y : Layout) (slots k : ℕ) (a : Argument Location) → in_place slots a ≡ true → Plainly n (stack_items y k a)
+stack_plainly n y slots k a known = by_test (nat_lt k 8)
   where
-    by_test : (b : Bool) → nat_lt k 8 ≡ b
-        → Plainly n (if b then pass_into y (10 + k) a.class a.value else pass_into y 28 a.class a.value ++ (store_8 28 2 (8 * (k - 8)) ∷ []))
-    by_test true e =
-        let few : k < 8 = grind (arith, nat_tests) in
-        pass_into_plainly n y slots (10 + k) a.class a.value (omega arith) (omega (arith, few)) known
-    by_test false e =
+    by_test : (b : Bool) → Plainly n (if b then [] else pass_into y 28 a.class a.value ++ (store_8 28 2 (8 * (k - 8)) ∷ []))
+    by_test true = plainly_nothing n
+    by_test false =
         plainly_then n (pass_into y 28 a.class a.value) (store_8 28 2 (8 * (k - 8)) ∷ [])
         (pass_into_plainly n y slots 28 a.class a.value (lit< tt) (lit< tt) known)
         (store_plainly n 28 2 (8 * (k - 8)) (nameable 28 (lit< tt)) (nameable 2 (lit< tt)))
 
-pass_all_plainly : (n : ℕ) (y : Layout) (slots k : ℕ) (args : List (Argument Location))
-    → list_all (λ (a : Argument Location). operand_keeps (is_place slots) a.value) args ≡ true → Plainly n (pass_all y k args)
-pass_all_plainly n y slots k [] known = plainly_nothing n
-pass_all_plainly n y slots k (a ∷ args) known =
-    let parts = and_parts (operand_keeps (is_place slots) a.value) (list_all (λ (b : Argument Location). operand_keeps (is_place slots) b.value) args) known in
-    plainly_then n (pass_items y k a) (pass_all y (k + 1) args) (pass_plainly n y slots k a parts.0) (pass_all_plainly n y slots (k + 1) args parts.1)
+stack_all_plainly : (n : ℕ) (y : Layout) (slots k : ℕ) (args : List (Argument Location)) → list_all (in_place slots) args ≡ true → Plainly n (stack_all y k args)
+stack_all_plainly n y slots k [] known = plainly_nothing n
+stack_all_plainly n y slots k (a ∷ args) known =
+    let parts = and_parts (in_place slots a) (list_all (in_place slots) args) known in
+    plainly_then n (stack_items y k a) (stack_all y (k + 1) args) (stack_plainly n y slots k a parts.0) (stack_all_plainly n y slots (k + 1) args parts.1)
+
+register_plainly : (n : ℕ) (y : Layout) (slots k : ℕ) (a : Argument Location) → in_place slots a ≡ true → Plainly n (register_items y k a)
+register_plainly n y slots k a known = by_test (nat_lt k 8) refl
+  where
+    by_test : (b : Bool) → nat_lt k 8 ≡ b → Plainly n (if b then pass_into y (10 + k) a.class a.value else [])
+    by_test true e =
+        let few : k < 8 = grind (arith, nat_tests) in
+        pass_into_plainly n y slots (10 + k) a.class a.value (omega arith) (omega (arith, few)) known
+    by_test false e = plainly_nothing n
+
+register_all_plainly : (n : ℕ) (y : Layout) (slots k : ℕ) (args : List (Argument Location)) → list_all (in_place slots) args ≡ true
+    → Plainly n (register_all y k args)
+register_all_plainly n y slots k [] known = plainly_nothing n
+register_all_plainly n y slots k (a ∷ args) known =
+    let parts = and_parts (in_place slots a) (list_all (in_place slots) args) known in
+    plainly_then n (register_items y k a) (register_all y (k + 1) args) (register_plainly n y slots k a parts.0)
+    (register_all_plainly n y slots (k + 1) args parts.1)
+
+move_up_plainly : (n k r : ℕ) (read : Bool) → k < 8 → r < 18 → Plainly n (move_up k r read)
+move_up_plainly n k r false few small = add_plainly n (10 + k) r 0 (nameable (10 + k) (omega (arith, few))) (nameable r (omega (arith, small)))
+move_up_plainly n k r true few small =
+    let to = nameable (10 + k) (omega (arith, few)) in
+    let from = nameable r (omega (arith, small)) in
+    plainly_then n (add_low 29 (10 + k) 0 ∷ []) (add_low (10 + k) r 0 ∷ add_low r 29 0 ∷ []) (add_plainly n 29 (10 + k) 0 (nameable 29 (lit< tt)) to)
+    (plainly_then n (add_low (10 + k) r 0 ∷ []) (add_low r 29 0 ∷ []) (add_plainly n (10 + k) r 0 to from)
+    (add_plainly n r 29 0 from (nameable 29 (lit< tt))))
+
+moves_plainly : (n k : ℕ) (args : List (Argument Location)) (o : Option ℕ) → earlier_at k args ≡ o → Plainly n (moves_up k args o)
+moves_plainly n k args None e = plainly_nothing n
+moves_plainly n k args (Some r) e =
+    let is = is_earlier k args r e in
+    let few = is.few in
+    let below = is.below in
+    move_up_plainly n k r (is_read (10 + k) args) few (omega (arith, below, few))
+
+all_moves_plainly : (n k : ℕ) (args : List (Argument Location)) → Plainly n (all_move_up k args)
+all_moves_plainly n zero args = plainly_nothing n
+all_moves_plainly n (suc k) args =
+    let o : Option ℕ = earlier_at k args in
+    plainly_then n (moves_up k args o) (all_move_up k (moved_up k args o)) (moves_plainly n k args o refl) (all_moves_plainly n k (moved_up k args o))
+
+passed_plainly : (n : ℕ) (y : Layout) (slots : ℕ) (args : List (Argument Location)) → list_all (in_place slots) args ≡ true → Plainly n (passed_items y args)
+passed_plainly n y slots args known =
+    plainly_then n (all_move_up (length args) args) (register_all y 0 (all_moved_up (length args) args)) (all_moves_plainly n (length args) args)
+    (register_all_plainly n y slots 0 (all_moved_up (length args) args) (all_stand slots (length args) args known))
+
+callee_plainly : (n : ℕ) (y : Layout) (slots : ℕ) (a : Operand Location) → operand_keeps (is_place slots) a ≡ true → Plainly n (callee_items y a)
+callee_plainly n y slots (At (InRegister r)) known = by_test (nat_le 10 r && nat_le r 17)
+  where
+    by_test : (b : Bool) → Plainly n (if b then add_low 28 r 0 ∷ [] else [])
+    by_test true = add_plainly n 28 r 0 (nameable 28 (lit< tt)) (place_nameable slots r known)
+    by_test false = plainly_nothing n
+callee_plainly n y slots (At (Slot i)) known = fetch_plainly n y 28 (At (Slot i)) (lit< tt) (lit< tt)
+callee_plainly n y slots (Number m) known = fetch_plainly n y 28 (Number m) (lit< tt) (lit< tt)
+callee_plainly n y slots (Name g) known = fetch_plainly n y 28 (Name g) (lit< tt) (lit< tt)
+
+callee_nameable : (slots : ℕ) (a : Operand Location) → operand_keeps (is_place slots) a ≡ true → Nameable (callee_source a)
+callee_nameable slots (At (InRegister r)) known = by_test (nat_le 10 r && nat_le r 17)
+  where
+    by_test : (b : Bool) → Nameable (if b then 28 else r)
+    by_test true = nameable 28 (lit< tt)
+    by_test false = place_nameable slots r known
+callee_nameable slots (At (Slot i)) known = source_nameable slots 28 (At (Slot i)) (lit< tt) known
+callee_nameable slots (Number m) known = source_nameable slots 28 (Number m) (lit< tt) known
+callee_nameable slots (Name g) known = source_nameable slots 28 (Name g) (lit< tt) known
 
 receive_plainly : (n : ℕ) (y : Layout) (slots : ℕ) (to : Option (Destination Location)) → wanted_keeps (is_place slots) to ≡ true → Plainly n (receive_items y to)
 receive_plainly n y slots None good = plainly_nothing n
@@ -391,13 +456,14 @@ call_plainly : (n : ℕ) (y : Layout) (slots : ℕ) (to : Option (Destination Lo
     → wanted_keeps (is_place slots) to ≡ true → operand_keeps (is_place slots) callee ≡ true
     → list_all (λ (a : Argument Location). operand_keeps (is_place slots) a.value) args ≡ true → Plainly n (call_items y to callee args)
 call_plainly n y slots to callee args good known known_args =
-    let there : List Item = call_through (source 28 callee) ∷ [] in
-    plainly_then n (pass_all y 0 args) (fetch y 28 callee ++ (there ++ receive_items y to)) (pass_all_plainly n y slots 0 args known_args)
-    (plainly_then n (fetch y 28 callee) (there ++ receive_items y to) (fetch_plainly n y 28 callee (lit< tt) (lit< tt))
+    let there : List Item = call_through (callee_source callee) ∷ [] in
+    plainly_then n (prepare_items y callee args) (there ++ receive_items y to)
+    (plainly_then n (stack_all y 0 args) (callee_items y callee ++ passed_items y args) (stack_all_plainly n y slots 0 args known_args)
+    (plainly_then n (callee_items y callee) (passed_items y args) (callee_plainly n y slots callee known) (passed_plainly n y slots args known_args)))
     (plainly_then n there (receive_items y to)
-    (one_of_two n (call_through (source 28 callee)) 1 (source 28 callee) (nameable 1 (lit< tt)) (source_nameable slots 28 callee (lit< tt) known) refl
+    (one_of_two n (call_through (callee_source callee)) 1 (callee_source callee) (nameable 1 (lit< tt)) (callee_nameable slots callee known) refl
     (λ l. refl) refl)
-    (receive_plainly n y slots to good)))
+    (receive_plainly n y slots to good))
 
 offset_plainly : (n d o : ℕ) → Nameable d → Plainly n (address_at d o)
 offset_plainly n d o h = by_test (nat_lt o 2048)
@@ -650,11 +716,7 @@ argument_plainly : (n : ℕ) (y : Layout) (slots k : ℕ) (p : Location) → is_
 argument_plainly n y slots k (InRegister r) good = by_test (nat_lt k 8) refl
   where
     by_test : (b : Bool) → nat_lt k 8 ≡ b → Plainly n (if b then from_register y k (InRegister r) else from_stack y k (InRegister r))
-    by_test true e = moved (nat_eq r (10 + k))
-      where
-        moved : (b : Bool) → Plainly n (if b then [] else add_low r (10 + k) 0 ∷ [])
-        moved true = plainly_nothing n
-        moved false = add_plainly n r (10 + k) 0 (place_nameable slots r good) (nameable (10 + k) (grind (arith, nat_tests)))
+    by_test true e = add_plainly n r (10 + k) 0 (place_nameable slots r good) (nameable (10 + k) (grind (arith, nat_tests)))
     by_test false e = load_plainly n r 30 (8 * (k - 8)) (place_nameable slots r good) (nameable 30 (lit< tt))
 argument_plainly n y slots k (Slot i) good = by_test (nat_lt k 8) refl
   where
@@ -665,13 +727,25 @@ argument_plainly n y slots k (Slot i) good = by_test (nat_lt k 8) refl
         (load_plainly n 28 30 (8 * (k - 8)) (nameable 28 (lit< tt)) (nameable 30 (lit< tt)))
         (store_slot_plainly n 28 (slot_offset y i) (nameable 28 (lit< tt)))
 
-arguments_plainly : (n : ℕ) (y : Layout) (slots k : ℕ) (ds : List (Destination Location)) → list_all (λ (d : Destination Location). is_place slots d.place) ds ≡ true
-    → Plainly n (arguments_items y k ds)
-arguments_plainly n y slots k [] known = plainly_nothing n
-arguments_plainly n y slots k (d ∷ ds) known =
+arguments_plainly : (n : ℕ) (y : Layout) (slots : ℕ) (test : ℕ → Location → Bool) (k : ℕ) (ds : List (Destination Location))
+    → list_all (λ (d : Destination Location). is_place slots d.place) ds ≡ true → Plainly n (arguments_items y test k ds)
+arguments_plainly n y slots test k [] known = plainly_nothing n
+arguments_plainly n y slots test k (d ∷ ds) known =
     let parts = and_parts (is_place slots d.place) (list_all (λ (e : Destination Location). is_place slots e.place) ds) known in
-    plainly_then n (argument_items y k d.place) (arguments_items y (k + 1) ds) (argument_plainly n y slots k d.place parts.0)
-    (arguments_plainly n y slots (k + 1) ds parts.1)
+    plainly_then n (if test k d.place then argument_items y k d.place else []) (arguments_items y test (k + 1) ds) (by_test (test k d.place) parts.0)
+    (arguments_plainly n y slots test (k + 1) ds parts.1)
+  where
+    by_test : (t : Bool) → is_place slots d.place ≡ true → Plainly n (if t then argument_items y k d.place else [])
+    by_test true good = argument_plainly n y slots k d.place good
+    by_test false good = plainly_nothing n
+
+entry_plainly : (n : ℕ) (y : Layout) (slots : ℕ) (ds : List (Destination Location)) → list_all (λ (d : Destination Location). is_place slots d.place) ds ≡ true
+    → Plainly n (arguments_items y goes_away 0 ds ++ (passed_items y (sources 8 0 ds) ++ arguments_items y is_on_stack 0 ds))
+entry_plainly n y slots ds known =
+    plainly_then n (arguments_items y goes_away 0 ds) (passed_items y (sources 8 0 ds) ++ arguments_items y is_on_stack 0 ds)
+    (arguments_plainly n y slots goes_away 0 ds known)
+    (plainly_then n (passed_items y (sources 8 0 ds)) (arguments_items y is_on_stack 0 ds)
+    (passed_plainly n y slots (sources 8 0 ds) (sources_stand slots 8 0 ds (lit≤ tt))) (arguments_plainly n y slots is_on_stack 0 ds known))
 
 pointer_plainly : (n : ℕ) (y : Layout) (params : ℕ) → Plainly n (pointer_items y params)
 pointer_plainly n y params = by_test (nat_lt 8 params)
@@ -688,7 +762,8 @@ begin_plainly : (n : ℕ) (y : Layout) (rs : List ℕ) (slots : ℕ) (params : L
     → Plainly n (prologue y rs ++ entry_items y params)
 begin_plainly n y rs slots params good known =
     plainly_then n (prologue y rs) (entry_items y params) (prologue_plainly n y rs good)
-    (plainly_then n (pointer_items y (length params)) (arguments_items y 0 params) (pointer_plainly n y (length params)) (arguments_plainly n y slots 0 params known))
+    (plainly_then n (pointer_items y (length params)) (arguments_items y goes_away 0 params ++ (passed_items y (sources 8 0 params) ++ arguments_items y is_on_stack 0 params))
+    (pointer_plainly n y (length params)) (entry_plainly n y slots params known))
 
 -- ---- functions
 

@@ -9,6 +9,7 @@ pub mod Sizes
 pub mod Branching
 pub mod JumpCode
 pub mod Passing
+pub mod Arranging
 pub mod Calling
 pub mod Pacing
 pub mod Simulation
@@ -21,6 +22,7 @@ pub mod Comparing
 pub mod FormNumbers
 pub mod Forms
 pub mod Reading
+pub mod Sources
 pub mod Entering
 pub mod Outgoing
 pub mod Accesses
@@ -30,3 +32,4 @@ pub mod Making
 pub mod Eights
 pub mod CopyCode
 pub mod Copying
+pub mod MovingUp

@@ -1,5 +1,5 @@
 -- The machine follows the code on bytes, line by line: what holds at a line, and that it holds at the next one, until the code is over.
-use Rattle.std.proofs.Common.{◌≡◌, ◌≢◌, ℕ, zero, suc, ◌+◌, ◌-◌, ◌*◌, ◌%◌, ◌^◌, ◌<◌, ◌≤◌, Bool, true, false, List, [], ◌∷◌, ◌++◌, refl, sym, ◌∙◌, ap, subst, arith, lit<, zero-add, append-nil}
+use Rattle.std.proofs.Common.{◌≡◌, ◌≢◌, ℕ, zero, suc, ◌+◌, ◌-◌, ◌*◌, ◌<◌, ◌≤◌, Bool, true, false, List, [], ◌∷◌, ◌++◌, refl, sym, ◌∙◌, ap, subst, arith, lit<, zero-add, append-nil}
 use Rattle.std.specs.Prelude.{◌&&◌, nat_eq, nat_lt, if◌then◌else◌, length, slice_get, Option, Some, None, Err}
 use Rattle.std.specs.Option.{option_map, option_and_then}
 use Rattle.std.specs.List.{list_all, list_any}
@@ -42,7 +42,7 @@ use Rattle.rv_isa.specs.Step.{load_size, load_value}
 use Rattle.rv_isa.specs.declared.instruction.LoadOp.{LoadOp}
 use Rattle.abi_frames.proofs.Instructions.{UsableFrom}
 use Rattle.abi_frames.proofs.Reading.{read_is}
-use Rattle.flat_code.specs.Step.{known_number, FlatState, Numbers, put, number_of, read, taken, computed, closed, is_in, sets, ticks, fails, goes_on, enters, compared, branches, returns, returns_as, flat_line, flat_jump, block_step, step_in, flat_step}
+use Rattle.flat_code.specs.Step.{known_number, FlatState, Numbers, put, number_of, taken, computed, closed, is_in, sets, ticks, fails, goes_on, enters, compared, branches, returns, returns_as, flat_line, flat_jump, block_step, step_in, flat_step}
 use Rattle.abi_frames.specs.Calls.{ResultIn, passed}
 use Rattle.abi_frames.specs.Performs.{AllPerform}
 use Rattle.abi_frames.specs.Layout.{most_in_lines}
@@ -88,7 +88,6 @@ ticked c f b turn w lines fs k u t a turns weight calls output =
       output = a.output ∙ ap (λ o. c.start.output ++ o) (sym output);
       known = a.known;
       jump_known = a.jump_known;
-      covered = a.covered;
       credit = a.credit + 32 * w;
       paid = a.paid;
       price = omega (arith, price, weight, calls);
@@ -365,7 +364,6 @@ enter c f is j r n go i fs k u a new log goes all = by_block (slice_get f.blocks
           output = a.output;
           known = stands.known;
           jump_known = stands.jump_known;
-          covered = stands.covered;
           credit = 0;
           paid = stands.paid;
           price = omega (arith, price);

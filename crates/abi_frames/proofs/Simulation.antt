@@ -27,7 +27,6 @@ use Rattle.flat_code.specs.Spots.{Spots}
 use Rattle.flat_code.specs.Flat.{FlatGiven, FlatAsked, FlatOutcome, FlatEnded, flat_after}
 use Rattle.flat_code.specs.Step.{FlatState, FlatEvent, Numbers, flat_step}
 use Rattle.abi_frames.specs.Performs.{Performs, AllPerform}
-use Rattle.abi_frames.specs.Covered.{covers_line}
 use Rattle.abi_frames.specs.Layout.{args_on_stack, most_in_lines, is_register, writes, saved_registers, falls_through}
 use Rattle.abi_frames.specs.Emission.{line_items, lines_items, jump_items, epilogue}
 use Rattle.rv_isa.specs.declared.labelled.Item.TheVariants.{Label}
@@ -45,7 +44,6 @@ pub record BlockStands (c : Setting) (b : Block Location) (i : ℕ) : Type 0 whe
   pub stands : StandAt (site c) ((lines_items c.layout 0 b.lines ++ jump_items c.layout (i + 1) b.jump) ++ (Label (i + 1) ∷ rest)) (c.label i)
   pub known : list_all (line_keeps (is_place c.slots)) b.lines ≡ true
   pub jump_known : jump_keeps (is_place c.slots) b.jump ≡ true
-  pub covered : list_all covers_line b.lines ≡ true
   pub paid : affords 0 b.jump b.lines ≡ true
   pub paced : sum_by turns_of b.lines ≤ 40000
   pub blocks : ℕ
@@ -84,10 +82,9 @@ pub record At (c : Setting) (f : Code Location) (b : Block Location) (lines : Li
   pub output : u.output ≡ c.start.output ++ fs.spent.output
   pub known : list_all (line_keeps (is_place c.slots)) lines ≡ true
   pub jump_known : jump_keeps (is_place c.slots) b.jump ≡ true
-  pub covered : list_all covers_line lines ≡ true
   pub credit : ℕ
   pub paid : affords credit b.jump lines ≡ true
-  pub price : k + credit + 64 ≤ allowed fs
+  pub price : k + credit + 24 ≤ allowed fs
   pub pace : fs.spent.turns + sum_by turns_of lines ≤ 40000 * k + standing f fs.block
   pub blocks : ℕ
   pub inside : leads_inside blocks b.jump ≡ true
@@ -107,7 +104,7 @@ pub record AtJump (c : Setting) (f : Code Location) (j : Jump Location) (fs : Fl
   pub paid : jump_cost j ≤ credit
   pub blocks : ℕ
   pub inside : leads_inside blocks j ≡ true
-  pub price : k + credit + 64 ≤ allowed fs
+  pub price : k + credit + 24 ≤ allowed fs
   pub pace : fs.spent.turns ≤ 40000 * k + standing f fs.block
 
 -- the machine is where it goes on after a jump; so many turns may have begun beside those that instructions pay for
@@ -117,7 +114,7 @@ pub record Landed (c : Setting) (to extra : ℕ) (fs : FlatState) (k : ℕ) (u :
   pub framed : Framed c fs.numbers fs.memory u
   pub comes : Comes c.start k u
   pub output : u.output ≡ c.start.output ++ fs.spent.output
-  pub price : k + 64 ≤ allowed fs
+  pub price : k + 24 ≤ allowed fs
   pub pace : fs.spent.turns ≤ 40000 * k + extra
 
 -- ---- what is to be shown
@@ -242,7 +239,6 @@ advance c f b l lines fs k u numbers memory used a calm takes pays m =
       output = m.holds.1 ∙ a.output;
       known = (and_parts (line_keeps (is_place c.slots) l) (list_all (line_keeps (is_place c.slots)) lines) a.known).1;
       jump_known = a.jump_known;
-      covered = (and_parts (covers_line l) (list_all covers_line lines) a.covered).1;
       credit = a.credit - line_cost l;
       paid = parts.1;
       price = omega (arith, enough, size, few, price);

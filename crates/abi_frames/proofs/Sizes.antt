@@ -1,9 +1,9 @@
 -- The code of a line is no longer than the line's cost, and so that of a function within its price.
-use Rattle.std.proofs.Common.{suc, zero, ◌/◌, ◌≡◌, ℕ, ◌+◌, ◌-◌, ◌*◌, ◌%◌, ◌^◌, ◌<◌, ◌≤◌, Bool, true, false, List, [], ◌∷◌, ◌++◌, refl, ap, arith, lit≤}
+use Rattle.std.proofs.Common.{suc, zero, ◌/◌, ◌≡◌, ℕ, ◌+◌, ◌-◌, ◌*◌, ◌%◌, ◌^◌, ◌<◌, ◌≤◌, Bool, true, false, List, [], ◌∷◌, ◌++◌, refl, ◌∙◌, ap, arith, lit≤}
 use Rattle.bits.specs.Words.{sign_extended}
-use Rattle.std.specs.Prelude.{◌&&◌, nat_eq, nat_le, nat_lt, if◌then◌else◌, length, Option, Some, None}
+use Rattle.std.specs.Prelude.{◌&&◌, not, nat_eq, nat_le, nat_lt, if◌then◌else◌, length, Option, Some, None}
 use Rattle.std.specs.List.{list_all, sum_by}
-use Rattle.std.proofs.lemmas.Bool.{and_parts}
+use Rattle.std.proofs.lemmas.Bool.{and_parts, and_from}
 use Rattle.std.proofs.lemmas.Bool.Decides.{nat_tests}
 use Rattle.il_ast.specs.declared.operation.Condition.{Condition}
 use Rattle.il_ast.specs.declared.operation.Condition.TheVariants.{Equal, NotEqual, SignedLessEqual, SignedLess, SignedGreaterEqual, SignedGreater, UnsignedLessEqual, UnsignedLess, UnsignedGreaterEqual, UnsignedGreater}
@@ -11,14 +11,13 @@ use Rattle.il_ast.specs.declared.operation.Class.{Class}
 use Rattle.il_ast.specs.declared.operation.Class.TheVariants.{W, L}
 use Rattle.il_ast.specs.declared.operation.Size.{Size}
 use Rattle.rv_isa.specs.Labels.{longest_size}
-use Rattle.rv_isa.specs.declared.instruction.BranchOp.TheVariants.{Beq, Bne}
 use Rattle.rv_isa.specs.declared.instruction.LoadOp.{LoadOp}
 use Rattle.rv_isa.specs.declared.instruction.LoadOp.TheVariants.{Lwu, Lhu, Lbu}
 use Rattle.rv_isa.specs.declared.instruction.StoreOp.{StoreOp}
 use Rattle.rv_isa.specs.declared.instruction.StoreOp.TheVariants.{Sb, Sh, Sw}
 use Rattle.rv_isa.specs.declared.labelled.Item.{Item}
 use Rattle.rv_isa.specs.declared.instruction.Instr.TheVariants.{Lui, Addiw}
-use Rattle.rv_isa.specs.declared.labelled.Item.TheVariants.{Plain, Label, Branch as BranchTo, Goto as GoTo}
+use Rattle.rv_isa.specs.declared.labelled.Item.TheVariants.{Plain, Label, Goto as GoTo}
 use Rattle.std.proofs.lemmas.List.Sums.{sum_by-cons}
 use Rattle.vcode.specs.declared.place.Location.{Location}
 use Rattle.vcode.specs.declared.place.Location.TheVariants.{Register as InRegister, Slot}
@@ -48,8 +47,11 @@ use Rattle.abi_frames.specs.declared.immediate.Form.{Form}
 use Rattle.abi_frames.specs.declared.immediate.Form.TheVariants.{Immediate as ByImmediate, AddWord, Shift as ByShift, ShiftWord, Compare as ByComparison}
 use Rattle.abi_frames.proofs.FormNumbers.{word_low, word_is_small}
 use Rattle.abi_frames.proofs.Branching.{branch_size}
-use Rattle.abi_frames.specs.Emission.{far_load, far_store, load_slot, store_slot, slot_offset, into, fetch, source, word_into, target, deliver, set_items, compare_items, operation_items, operand_into, operand_source, on_registers, by_form, operate_by, operate_items, load_to, load_items, store_at, store_op, store_items, line_items, lines_items, move_pointer, lower_pointer, raise_pointer, save_all, restore_all, go_back, prologue, epilogue, result_items, goto_items, branch_when, inverted, ways_items, compared_into, compared_source, jump_items, block_items, blocks_items, pass_into, pass_items, pass_all, call_through, receive_items, call_items, copy_at, copy_eight, copy_eights, copy_rest, blit_items, address_at, alloc_items}
-use Rattle.abi_frames.specs.Functions.{caller_pointer, from_register, from_stack, argument_items, arguments_items, pointer_items, entry_items, function_items}
+use Rattle.abi_frames.specs.Emission.{far_load, far_store, load_slot, store_slot, slot_offset, into, fetch, source, word_into, target, deliver, set_items, compare_items, operation_items, operand_into, operand_source, on_registers, by_form, operate_by, operate_items, load_to, load_items, store_at, store_op, store_items, line_items, lines_items, move_pointer, lower_pointer, raise_pointer, save_all, restore_all, go_back, prologue, epilogue, result_items, goto_items, branch_when, inverted, ways_items, compared_into, compared_source, jump_items, block_items, blocks_items, pass_into, stack_items, stack_all, register_items, register_all, passed_items, callee_items, callee_source, prepare_items, call_through, receive_items, call_items, copy_at, copy_eight, copy_eights, copy_rest, blit_items, address_at, alloc_items}
+use Rattle.abi_frames.specs.Moves.{operand_exchanged, argument_exchanged, exchange, is_read, settled, arrived, earlier_at, move_up, moves_up, moved_up, all_move_up, all_moved_up}
+use Rattle.abi_frames.proofs.MovingUp.{moved_length}
+use Rattle.abi_frames.proofs.Sources.{sources_length}
+use Rattle.abi_frames.specs.Functions.{caller_pointer, from_register, from_stack, argument_items, arguments_items, is_for_arguments, goes_away, is_on_stack, sources, pointer_items, entry_items, function_items}
 use Rattle.abi_frames.proofs.Leading.{longest-append}
 use Rattle.abi_frames.proofs.Outgoing.{slots_near}
 
@@ -306,25 +308,83 @@ pass_into_size y d W a =
     let most = operand_at_most_9 a in
     omega (arith, h, most)
 
-pass_size : (y : Layout) (k : ℕ) (a : Argument Location) → longest_size (pass_items y k a) ≤ 11
-pass_size y k a = by_test (nat_lt k 8)
+stack_size : (y : Layout) (k : ℕ) (a : Argument Location) → longest_size (stack_items y k a) ≤ 11
+stack_size y k a = by_test (nat_lt k 8)
   where
-    by_test : (b : Bool)
-        → longest_size
-        (if b then pass_into y (10 + k) a.class a.value else pass_into y 28 a.class a.value ++ (store_8 28 2 (8 * (k - 8)) ∷ [])) ≤ 11
-    by_test true = let h = pass_into_size y (10 + k) a.class a.value in omega (arith, h)
+    by_test : (b : Bool) → longest_size (if b then [] else pass_into y 28 a.class a.value ++ (store_8 28 2 (8 * (k - 8)) ∷ [])) ≤ 11
+    by_test true = lit≤ tt
     by_test false =
         let all = longest-append (pass_into y 28 a.class a.value) (store_8 28 2 (8 * (k - 8)) ∷ []) in
         let h = pass_into_size y 28 a.class a.value in
         omega (arith, all, h)
 
-pass_all_size : (y : Layout) (k : ℕ) (args : List (Argument Location)) → longest_size (pass_all y k args) ≤ 11 * length args
-pass_all_size y k [] = omega arith
-pass_all_size y k (a ∷ args) =
-    let all = longest-append (pass_items y k a) (pass_all y (k + 1) args) in
-    let one = pass_size y k a in
-    let rest = pass_all_size y (k + 1) args in
+stack_all_size : (y : Layout) (k : ℕ) (args : List (Argument Location)) → longest_size (stack_all y k args) ≤ 11 * length args
+stack_all_size y k [] = omega arith
+stack_all_size y k (a ∷ args) =
+    let all = longest-append (stack_items y k a) (stack_all y (k + 1) args) in
+    let one = stack_size y k a in
+    let rest = stack_all_size y (k + 1) args in
     omega (arith, all, one, rest)
+
+register_size : (y : Layout) (k : ℕ) (a : Argument Location) → longest_size (register_items y k a) ≤ 10
+register_size y k a = by_test (nat_lt k 8)
+  where
+    by_test : (b : Bool) → longest_size (if b then pass_into y (10 + k) a.class a.value else []) ≤ 10
+    by_test true = pass_into_size y (10 + k) a.class a.value
+    by_test false = lit≤ tt
+
+register_all_size : (y : Layout) (k : ℕ) (args : List (Argument Location)) → longest_size (register_all y k args) ≤ 10 * length args
+register_all_size y k [] = omega arith
+register_all_size y k (a ∷ args) =
+    let all = longest-append (register_items y k a) (register_all y (k + 1) args) in
+    let one = register_size y k a in
+    let rest = register_all_size y (k + 1) args in
+    omega (arith, all, one, rest)
+
+moves_size : (k : ℕ) (args : List (Argument Location)) (o : Option ℕ) → longest_size (moves_up k args o) ≤ 3
+moves_size k args None = lit≤ tt
+moves_size k args (Some r) = by_test (is_read (10 + k) args)
+  where
+    by_test : (b : Bool) → longest_size (move_up k r b) ≤ 3
+    by_test true = lit≤ tt
+    by_test false = lit≤ tt
+
+all_moves_size : (k : ℕ) (args : List (Argument Location)) → longest_size (all_move_up k args) ≤ 3 * k
+all_moves_size zero args = omega arith
+all_moves_size (suc k) args =
+    let o : Option ℕ = earlier_at k args in
+    let all = longest-append (moves_up k args o) (all_move_up k (moved_up k args o)) in
+    let one = moves_size k args o in
+    let rest = all_moves_size k (moved_up k args o) in
+    omega (arith, all, one, rest)
+
+passed_size : (y : Layout) (args : List (Argument Location)) → longest_size (passed_items y args) ≤ 13 * length args
+passed_size y args =
+    let now : List (Argument Location) = all_moved_up (length args) args in
+    let all = longest-append (all_move_up (length args) args) (register_all y 0 now) in
+    let one = all_moves_size (length args) args in
+    let two = register_all_size y 0 now in
+    let same = moved_length (length args) args in
+    omega (arith, all, one, two, same)
+
+callee_size : (y : Layout) (a : Operand Location) → longest_size (callee_items y a) ≤ 9
+callee_size y (At (InRegister r)) = by_test (nat_le 10 r && nat_le r 17)
+  where
+    by_test : (b : Bool) → longest_size (if b then add_low 28 r 0 ∷ [] else []) ≤ 9
+    by_test true = lit≤ tt
+    by_test false = lit≤ tt
+callee_size y (At (Slot i)) = let h = fetch_size y 28 (At (Slot i)) in omega (arith, h)
+callee_size y (Number n) = let h = fetch_size y 28 (Number n) in let most = operand_at_most_9 (Number n) in omega (arith, h, most)
+callee_size y (Name g) = let h = fetch_size y 28 (Name g) in omega (arith, h)
+
+prepare_size : (y : Layout) (callee : Operand Location) (args : List (Argument Location)) → longest_size (prepare_items y callee args) ≤ 9 + 24 * length args
+prepare_size y callee args =
+    let all = longest-append (stack_all y 0 args) (callee_items y callee ++ passed_items y args) in
+    let more = longest-append (callee_items y callee) (passed_items y args) in
+    let one = stack_all_size y 0 args in
+    let two = callee_size y callee in
+    let three = passed_size y args in
+    omega (arith, all, more, one, two, three)
 
 receive_size : (y : Layout) (to : Option (Destination Location)) → longest_size (receive_items y to) ≤ 6
 receive_size y None = lit≤ tt
@@ -332,25 +392,19 @@ receive_size y (Some d) = set_size y d.place (At (InRegister 10))
 
 -- the three parts of a call, and its jump
 pub call_parts : (y : Layout) (to : Option (Destination Location)) (callee : Operand Location) (args : List (Argument Location))
-    → longest_size (pass_all y 0 args ++ fetch y 28 callee) + 1 + longest_size (receive_items y to) ≤ 20 + 24 * length args
+    → longest_size (prepare_items y callee args) + 1 + longest_size (receive_items y to) ≤ 20 + 24 * length args
 call_parts y to callee args =
-    let all = longest-append (pass_all y 0 args) (fetch y 28 callee) in
-    let one = pass_all_size y 0 args in
-    let two = fetch_size y 28 callee in
-    let most = operand_at_most_9 callee in
-    let three = receive_size y to in
-    omega (arith, all, one, two, most, three)
+    let one = prepare_size y callee args in
+    let two = receive_size y to in
+    omega (arith, one, two)
 
 call_size : (y : Layout) (to : Option (Destination Location)) (callee : Operand Location) (args : List (Argument Location))
     → longest_size (call_items y to callee args) ≤ 20 + 24 * length args
 call_size y to callee args =
-    let more : List Item = (call_through (source 28 callee) ∷ []) ++ receive_items y to in
-    let one = longest-append (pass_all y 0 args) (fetch y 28 callee) in
-    let two = longest-append (pass_all y 0 args) (fetch y 28 callee ++ more) in
-    let three = longest-append (fetch y 28 callee) more in
-    let four = longest-append (call_through (source 28 callee) ∷ []) (receive_items y to) in
+    let one = longest-append (prepare_items y callee args) ((call_through (callee_source callee) ∷ []) ++ receive_items y to) in
+    let two = longest-append (call_through (callee_source callee) ∷ []) (receive_items y to) in
     let parts = call_parts y to callee args in
-    omega (arith, one, two, three, four, parts)
+    omega (arith, one, two, parts)
 
 address_size : (d o : ℕ) → longest_size (address_at d o) ≤ 3
 address_size d o = by_test (nat_lt o 2048)
@@ -597,12 +651,8 @@ epilogue_size y rs few =
 argument_size : (y : Layout) (k : ℕ) (p : Location) → y.slots < 1024 → is_near p ≡ true → longest_size (argument_items y k p) ≤ 2
 argument_size y k (InRegister r) few near = by_test (nat_lt k 8)
   where
-    moved : (b : Bool) → longest_size (if b then [] else add_low r (10 + k) 0 ∷ []) ≤ 2
-    moved true = lit≤ tt
-    moved false = lit≤ tt
-
     by_test : (b : Bool) → longest_size (if b then from_register y k (InRegister r) else from_stack y k (InRegister r)) ≤ 2
-    by_test true = moved (nat_eq r (10 + k))
+    by_test true = lit≤ tt
     by_test false = lit≤ tt
 argument_size y k (Slot i) few near = by_test (nat_lt k 8)
   where
@@ -615,15 +665,117 @@ argument_size y k (Slot i) few near = by_test (nat_lt k 8)
     by_test true = let one = near_size (10 + k) in omega (arith, one)
     by_test false = let one = near_size 28 in omega (arith, one)
 
-arguments_size : (y : Layout) (k : ℕ) (ds : List (Destination Location)) → y.slots < 1024 → are_near ds ≡ true
-    → longest_size (arguments_items y k ds) ≤ 2 * length ds
-arguments_size y k [] few near = omega arith
-arguments_size y k (d ∷ ds) few near =
+if_size : (y : Layout) (k : ℕ) (p : Location) (t : Bool) → y.slots < 1024 → is_near p ≡ true → longest_size (if t then argument_items y k p else []) ≤ 2
+if_size y k p true few near = argument_size y k p few near
+if_size y k p false few near = omega arith
+
+-- at most eight arguments go away
+away_size : (y : Layout) (k : ℕ) (ds : List (Destination Location)) → y.slots < 1024 → are_near ds ≡ true
+    → longest_size (arguments_items y goes_away k ds) ≤ 2 * (8 - k)
+away_size y k [] few near = omega arith
+away_size y k (d ∷ ds) few near =
     let parts = and_parts (is_near d.place) (are_near ds) near in
-    let one = argument_size y k d.place few parts.0 in
-    let rest = arguments_size y (k + 1) ds few parts.1 in
-    let all = longest-append (argument_items y k d.place) (arguments_items y (k + 1) ds) in
+    let rest = away_size y (k + 1) ds few parts.1 in
+    let all = longest-append (if goes_away k d.place then argument_items y k d.place else []) (arguments_items y goes_away (k + 1) ds) in
+    let one = first (nat_lt k 8) refl (not (is_for_arguments d.place)) parts.0 in
     omega (arith, one, rest, all)
+  where
+    first : (p : Bool) → nat_lt k 8 ≡ p → (q : Bool) → is_near d.place ≡ true → longest_size (if p && q then argument_items y k d.place else []) ≤ 2 * (8 - k) - 2 * (8 - (k + 1))
+    first true e true close = let low : k < 8 = grind (arith, nat_tests) in let h = argument_size y k d.place few close in omega (arith, h, low)
+    first true e false close = omega arith
+    first false e q close = omega arith
+
+stacked_size : (y : Layout) (k : ℕ) (ds : List (Destination Location)) → y.slots < 1024 → are_near ds ≡ true
+    → longest_size (arguments_items y is_on_stack k ds) ≤ 2 * length ds
+stacked_size y k [] few near = omega arith
+stacked_size y k (d ∷ ds) few near =
+    let parts = and_parts (is_near d.place) (are_near ds) near in
+    let one = if_size y k d.place (is_on_stack k d.place) few parts.0 in
+    let rest = stacked_size y (k + 1) ds few parts.1 in
+    let all = longest-append (if is_on_stack k d.place then argument_items y k d.place else []) (arguments_items y is_on_stack (k + 1) ds) in
+    omega (arith, one, rest, all)
+
+-- a value of 64 bits in a place
+abbrev is_held_long : Class → Operand Location → Bool
+is_held_long L (At p) = true
+is_held_long L (Number n) = false
+is_held_long L (Name g) = false
+is_held_long W a = false
+
+abbrev is_long : Argument Location → Bool
+is_long a = is_held_long a.class a.value
+
+long_size : (y : Layout) (d : ℕ) (k : Class) (a : Operand Location) → is_held_long k a ≡ true → longest_size (pass_into y d k a) ≤ 3
+long_size y d L (At p) h = into_size y d (At p)
+long_size y d L (Number n) h = absurd (let no : ⊥ = cc in no)
+long_size y d L (Name g) h = absurd (let no : ⊥ = cc in no)
+long_size y d W a h = absurd (let no : ⊥ = cc in no)
+
+longs_size : (y : Layout) (k : ℕ) (args : List (Argument Location)) → list_all is_long args ≡ true → longest_size (register_all y k args) ≤ 3 * length args
+longs_size y k [] h = omega arith
+longs_size y k (a ∷ args) h =
+    let parts = and_parts (is_long a) (list_all is_long args) h in
+    let all = longest-append (register_items y k a) (register_all y (k + 1) args) in
+    let one = by_test (nat_lt k 8) parts.0 in
+    let rest = longs_size y (k + 1) args parts.1 in
+    omega (arith, all, one, rest)
+  where
+    by_test : (b : Bool) → is_long a ≡ true → longest_size (if b then pass_into y (10 + k) a.class a.value else []) ≤ 3
+    by_test true long = long_size y (10 + k) a.class a.value long
+    by_test false long = lit≤ tt
+
+still_long : (a b : ℕ) (k : Class) (x : Operand Location) → is_held_long k (operand_exchanged a b x) ≡ is_held_long k x
+still_long a b L (At p) = refl
+still_long a b L (Number n) = refl
+still_long a b L (Name g) = refl
+still_long a b W x = refl
+
+longs_exchanged : (a b : ℕ) (args : List (Argument Location)) → list_all is_long args ≡ true → list_all is_long (exchange a b args) ≡ true
+longs_exchanged a b [] h = refl
+longs_exchanged a b (x ∷ args) h =
+    let parts = and_parts (is_long x) (list_all is_long args) h in
+    and_from (is_long (argument_exchanged a b x)) (list_all is_long (exchange a b args)) (still_long a b x.class x.value ∙ parts.0)
+    (longs_exchanged a b args parts.1)
+
+settled_long : (n : ℕ) (k : Class) (x : Operand Location) → is_held_long k x ≡ true → is_held_long k (At (InRegister n)) ≡ true
+settled_long n L x h = refl
+settled_long n W x h = absurd (let no : ⊥ = cc in no)
+
+longs_settled : (n k : ℕ) (args : List (Argument Location)) → list_all is_long args ≡ true → list_all is_long (settled n k args) ≡ true
+longs_settled n k [] h = refl
+longs_settled n zero (x ∷ args) h =
+    let parts = and_parts (is_long x) (list_all is_long args) h in
+    and_from (is_held_long x.class (At (InRegister n))) (list_all is_long args) (settled_long n x.class x.value parts.0) parts.1
+longs_settled n (suc k) (x ∷ args) h =
+    let parts = and_parts (is_long x) (list_all is_long args) h in
+    and_from (is_long x) (list_all is_long (settled n k args)) parts.0 (longs_settled n k args parts.1)
+
+longs_up : (k : ℕ) (args : List (Argument Location)) (o : Option ℕ) → list_all is_long args ≡ true → list_all is_long (moved_up k args o) ≡ true
+longs_up k args None h = h
+longs_up k args (Some r) h = by_read (is_read (10 + k) args)
+  where
+    by_read : (t : Bool) → list_all is_long (arrived k r t args) ≡ true
+    by_read true = longs_exchanged (10 + k) r args h
+    by_read false = longs_settled (10 + k) k args h
+
+longs_all_up : (k : ℕ) (args : List (Argument Location)) → list_all is_long args ≡ true → list_all is_long (all_moved_up k args) ≡ true
+longs_all_up zero args h = h
+longs_all_up (suc k) args h = longs_all_up k (moved_up k args (earlier_at k args)) (longs_up k args (earlier_at k args) h)
+
+sources_long : (count i : ℕ) (ds : List (Destination Location)) → list_all is_long (sources count i ds) ≡ true
+sources_long zero i ds = refl
+sources_long (suc n) i ds = sources_long n (i + 1) ds
+
+exchanges_size : (y : Layout) (ds : List (Destination Location)) → longest_size (passed_items y (sources 8 0 ds)) ≤ 48
+exchanges_size y ds =
+    let args : List (Argument Location) = sources 8 0 ds in
+    let now : List (Argument Location) = all_moved_up (length args) args in
+    let all = longest-append (all_move_up (length args) args) (register_all y 0 now) in
+    let one = all_moves_size (length args) args in
+    let two = longs_size y 0 now (longs_all_up (length args) args (sources_long 8 0 ds)) in
+    let same = moved_length (length args) args in
+    let eight = sources_length 8 0 ds in
+    omega (arith, all, one, two, same, eight)
 
 pointer_size : (y : Layout) (params : ℕ) → longest_size (pointer_items y params) ≤ 10
 pointer_size y params = by_test (nat_lt 8 params)
@@ -636,18 +788,23 @@ pointer_size y params = by_test (nat_lt 8 params)
         omega (arith, all, h)
 
 pub entry_size : (y : Layout) (params : List (Destination Location)) → y.slots < 1024 → length params ≤ 64 → are_near params ≡ true
-    → longest_size (entry_items y params) ≤ 138
+    → longest_size (entry_items y params) ≤ 202
 entry_size y params few at_most near =
-    let all = longest-append (pointer_items y (length params)) (arguments_items y 0 params) in
+    let exchanges : List Item = passed_items y (sources 8 0 params) in
+    let all = longest-append (pointer_items y (length params)) (arguments_items y goes_away 0 params ++ (exchanges ++ arguments_items y is_on_stack 0 params)) in
+    let more = longest-append (arguments_items y goes_away 0 params) (exchanges ++ arguments_items y is_on_stack 0 params) in
+    let last = longest-append exchanges (arguments_items y is_on_stack 0 params) in
     let one = pointer_size y (length params) in
-    let two = arguments_size y 0 params few near in
-    omega (arith, all, one, two, at_most)
+    let two = away_size y 0 params few near in
+    let three = exchanges_size y params in
+    let four = stacked_size y 0 params few near in
+    omega (arith, all, more, last, one, two, three, four, at_most)
 
 -- ---- functions
 
 pub function_size : (y : Layout) (rs : List ℕ) (params : List (Destination Location)) (blocks : List (Block Location)) → length rs ≤ 13 → y.slots < 1024
     → length params ≤ 64 → are_near params ≡ true → list_all is_paid blocks ≡ true
-    → longest_size (function_items y rs params blocks) ≤ 32 * sum_by block_weight blocks + 185
+    → longest_size (function_items y rs params blocks) ≤ 32 * sum_by block_weight blocks + 249
 function_size y rs params blocks saved few at_most near good =
     let body : List Item = blocks_items y 0 blocks ++ (Label y.leave ∷ epilogue y rs) in
     let all = longest-append (prologue y rs) (entry_items y params ++ body) in

@@ -30,7 +30,6 @@ use Rattle.abi_frames.proofs.Saving.{can_save_all, few_saved_registers, AllMayWr
 use Rattle.abi_frames.specs.declared.layout.Layout.{Layout}
 use Rattle.abi_frames.specs.Emission.{lines_items, jump_items, blocks_items, prologue, epilogue, lower_pointer, save_all}
 use Rattle.abi_frames.specs.Functions.{entry_items, frame_items}
-use Rattle.abi_frames.specs.Covered.{covers_block, covers_params}
 use Rattle.abi_frames.specs.Laws.{IsCode, FramesPerform}
 use Rattle.abi_frames.proofs.Leading.{Site, StandAt, Leads, leads_then, leads_so, longest-append}
 use Rattle.abi_frames.proofs.Activations.{Setting, IsSetting, site, bottom, can_save, held_below}
@@ -322,8 +321,6 @@ block_stands c f slots same same_area same_saves is b i e code =
     let keeps : block_keeps (is_place slots) b ≡ true = each (block_keeps (is_place slots)) f.blocks i b known.1 e in
     let keeps_here : block_keeps (is_place c.slots) b ≡ true = subst (λ n. block_keeps (is_place n) b ≡ true) (sym same) keeps in
     let parts = and_parts (list_all (line_keeps (is_place c.slots)) b.lines) (jump_keeps (is_place c.slots) b.jump) keeps_here in
-    let covered = and_parts (covers_params 0 f.params) (list_all covers_block f.blocks) is.covered in
-    let here = each covers_block f.blocks i b covered.1 e in
     let pays = each is_paid f.blocks i b is.regular.paid e in
     let inside = each (λ (d : Block Location). leads_inside (length f.blocks) d.jump) f.blocks i b is.regular.inside e in
     let within = block_within f.blocks i b e in
@@ -334,7 +331,6 @@ block_stands c f slots same same_area same_saves is b i e code =
       stands = code.stands;
       known = parts.0;
       jump_known = parts.1;
-      covered = here;
       paid = pays;
       paced = le_is (sum_by turns_of b.lines) 40000 paced;
       blocks = length f.blocks;
@@ -349,7 +345,6 @@ begins : (c : Setting) (f : Code Location) (slots at : ℕ) (j : FlatGiven) → 
     → Ready c.world at c.sp (classes f.params) (record j { memory = c.before }) c.start
     → Leads (site c) (prologue c.layout c.saved ++ entry_items c.layout f.params) c.start (Entering c (length f.params) 8 (bound (λ p. None) f.params j.args))
 begins c f slots at j good same same_saved is clear ready =
-    let covered = and_parts (covers_params 0 f.params) (list_all covers_block f.blocks) is.covered in
     let known = and_parts (list_all (λ (d : Destination Location). is_place slots d.place) f.params) (list_all (block_keeps (is_place slots)) f.blocks) is.known in
     let below = ready.below_top in
     let count = length-classes f.params in
@@ -358,7 +353,6 @@ begins c f slots at j good same same_saved is clear ready =
       few = le_is (length f.params) 64 is.regular.few_params;
       fits = omega (arith, below, count);
       places = subst (λ n. list_all (λ (d : Destination Location). is_place n d.place) f.params ≡ true) (sym same) known.0;
-      ahead = covered.0;
       may = subst (λ rs. AllMayWrite rs f.params) (sym same_saved) (all_params_may f slots known.0);
     } in
     leads_then (site c) (prologue c.layout c.saved) (entry_items c.layout f.params) c.start (Entering c 0 0 (λ p. None))
@@ -367,7 +361,7 @@ begins c f slots at j good same same_saved is clear ready =
     leads_entry c good f.params j.args u can is.apart
     (are_passed c 0 f.params j.args (λ i n a e k. ap (argument_in c c.start) (zero-add i) ∙ ready_passes c at (classes f.params) (record j { memory = c.before }) ready i n a e k)) now)
 
-begin_size : (f : Code Location) (slots : ℕ) → IsCode f slots → longest_size (prologue (layout f slots) (saved_registers f) ++ entry_items (layout f slots) f.params) ≤ 161
+begin_size : (f : Code Location) (slots : ℕ) → IsCode f slots → longest_size (prologue (layout f slots) (saved_registers f) ++ entry_items (layout f slots) f.params) ≤ 225
 begin_size f slots is =
     let y : Layout = layout f slots in
     let frame = frame_fits f slots is in

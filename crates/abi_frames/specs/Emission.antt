@@ -1,5 +1,5 @@
 -- The machine code of each line and jump. x2 is the stack pointer; x28 to x30 hold operands and addresses for a moment.
-use Rattle.std.specs.Prelude.{ℕ, zero, suc, ◌+◌, ◌-◌, ◌*◌, ◌/◌, ◌%◌, ◌^◌, ◌&&◌, nat_eq, nat_lt, if◌then◌else◌, List, [], ◌∷◌, ◌++◌, Option, Some, None}
+use Rattle.std.specs.Prelude.{ℕ, zero, suc, ◌+◌, ◌-◌, ◌*◌, ◌/◌, ◌%◌, ◌^◌, ◌&&◌, nat_eq, nat_lt, nat_le, if◌then◌else◌, List, [], ◌∷◌, ◌++◌, length, Option, Some, None}
 use Rattle.il_ast.specs.declared.operation.Class.{Class}
 use Rattle.il_ast.specs.declared.operation.Class.TheVariants.{W, L}
 use Rattle.il_ast.specs.declared.operation.Size.{Size}
@@ -34,6 +34,7 @@ use Rattle.vcode.specs.Regular.{alloc_bytes}
 use Rattle.abi_frames.specs.declared.layout.Layout.{Layout}
 use Rattle.abi_frames.specs.declared.immediate.Form.{Form}
 use Rattle.abi_frames.specs.Fields.{reg, low, add_low, extend, sum_to, load_8, store_8, constant, high, word, negate, is_zero, is_not_zero}
+use Rattle.abi_frames.specs.Moves.{all_move_up, all_moved_up}
 use Rattle.abi_frames.specs.Immediates.{right_form, left_form, form_items}
 
 -- ---- the frame: eight bytes at an offset from the stack pointer
@@ -172,17 +173,38 @@ abbrev pub pass_into : Layout → (d : ℕ) → Class → Operand Location → L
 pass_into y d L a = into y d a
 pass_into y d W a = word_into y d a
 
--- the k-th argument: the first eight go into x10 to x17, the others to the stack, eight bytes each from the stack pointer upward
-abbrev pub pass_items : Layout → (k : ℕ) → Argument Location → List Item
-pass_items y k a =
-    if nat_lt k 8
-    then pass_into y (10 + k) a.class a.value
-    else pass_into y 28 a.class a.value ++ (store_8 28 2 (8 * (k - 8)) ∷ [])
+-- the k-th argument, past the eighth: to the stack, eight bytes each from the stack pointer upward
+abbrev pub stack_items : Layout → (k : ℕ) → Argument Location → List Item
+stack_items y k a = if nat_lt k 8 then [] else pass_into y 28 a.class a.value ++ (store_8 28 2 (8 * (k - 8)) ∷ [])
 
--- arguments from the k-th on
-abbrev pub pass_all : Layout → (k : ℕ) → List (Argument Location) → List Item
-pass_all y k [] = []
-pass_all y k (a ∷ args) = pass_items y k a ++ pass_all y (k + 1) args
+abbrev pub stack_all : Layout → (k : ℕ) → List (Argument Location) → List Item
+stack_all y k [] = []
+stack_all y k (a ∷ args) = stack_items y k a ++ stack_all y (k + 1) args
+
+-- the first eight go into x10 to x17
+abbrev pub register_items : Layout → (k : ℕ) → Argument Location → List Item
+register_items y k a = if nat_lt k 8 then pass_into y (10 + k) a.class a.value else []
+
+abbrev pub register_all : Layout → (k : ℕ) → List (Argument Location) → List Item
+register_all y k [] = []
+register_all y k (a ∷ args) = register_items y k a ++ register_all y (k + 1) args
+
+-- arguments into x10 to x17, wherever they are
+abbrev pub passed_items : Layout → List (Argument Location) → List Item
+passed_items y args = all_move_up (length args) args ++ register_all y 0 (all_moved_up (length args) args)
+
+-- the address of the callee in a register in which no argument is passed
+abbrev pub callee_items : Layout → Operand Location → List Item
+callee_items y (At (InRegister r)) = if nat_le 10 r && nat_le r 17 then add_low 28 r 0 ∷ [] else []
+callee_items y a = fetch y 28 a
+
+abbrev pub callee_source : Operand Location → ℕ
+callee_source (At (InRegister r)) = if nat_le 10 r && nat_le r 17 then 28 else r
+callee_source a = source 28 a
+
+-- arguments on the stack, the callee's address, and arguments in registers
+abbrev pub prepare_items : Layout → (callee : Operand Location) → List (Argument Location) → List Item
+prepare_items y callee args = stack_all y 0 args ++ (callee_items y callee ++ passed_items y args)
 
 -- to the address in a register, with the address of the next instruction in x1
 abbrev pub call_through : ℕ → Item
@@ -194,8 +216,7 @@ receive_items y None = []
 receive_items y (Some d) = set_items y d.place (At (InRegister 10))
 
 abbrev pub call_items : Layout → Option (Destination Location) → (callee : Operand Location) → List (Argument Location) → List Item
-call_items y to callee args =
-    pass_all y 0 args ++ (fetch y 28 callee ++ ((call_through (source 28 callee) ∷ []) ++ receive_items y to))
+call_items y to callee args = prepare_items y callee args ++ ((call_through (callee_source callee) ∷ []) ++ receive_items y to)
 
 -- ---- each line
 

@@ -1,24 +1,27 @@
 -- The machine code of a whole function: the begin of its frame, what brings its arguments to the places of its parameters, its blocks, and the end of the frame.
-use Rattle.std.specs.Prelude.{ℕ, ◌+◌, ◌-◌, ◌*◌, nat_eq, nat_lt, if◌then◌else◌, List, [], ◌∷◌, ◌++◌, length}
+use Rattle.std.specs.Prelude.{ℕ, zero, suc, ◌+◌, ◌-◌, ◌*◌, Bool, false, not, ◌&&◌, nat_le, nat_lt, if◌then◌else◌, List, [], ◌∷◌, ◌++◌, length}
 use Rattle.rv_isa.specs.declared.labelled.Item.{Item}
 use Rattle.rv_isa.specs.declared.labelled.Item.TheVariants.{Label}
 use Rattle.vcode.specs.declared.place.Location.{Location}
 use Rattle.vcode.specs.declared.place.Location.TheVariants.{Register as InRegister, Slot}
 use Rattle.vcode.specs.declared.place.Destination.{Destination}
+use Rattle.vcode.specs.declared.place.Argument.{Argument}
+use Rattle.vcode.specs.declared.place.Operand.TheVariants.{At}
+use Rattle.il_ast.specs.declared.operation.Class.TheVariants.{L}
 use Rattle.vcode.specs.declared.code.Block.{Block}
 use Rattle.vcode.specs.declared.code.Code.{Code}
-use Rattle.abi_frames.specs.Layout.{layout, saved_registers}
+use Rattle.abi_frames.specs.Layout.{layout, saved_registers, is_register}
 use Rattle.abi_frames.specs.declared.layout.Layout.{Layout}
 use Rattle.abi_frames.specs.Fields.{add_low, sum_to, load_8, constant}
-use Rattle.abi_frames.specs.Emission.{store_slot, slot_offset, prologue, epilogue, blocks_items}
+use Rattle.abi_frames.specs.Emission.{passed_items, store_slot, slot_offset, prologue, epilogue, blocks_items}
 
 -- the caller's stack pointer into x30
 abbrev pub caller_pointer : Layout → List Item
 caller_pointer y = constant 30 y.size ++ (sum_to 30 30 2 ∷ [])
 
--- an argument that is passed in a register, into the place of its parameter
+-- an argument that is passed in a register, into a place in which none is
 abbrev pub from_register : Layout → (argument : ℕ) → Location → List Item
-from_register y k (InRegister r) = if nat_eq r (10 + k) then [] else add_low r (10 + k) 0 ∷ []
+from_register y k (InRegister r) = add_low r (10 + k) 0 ∷ []
 from_register y k (Slot i) = store_slot (10 + k) (slot_offset y i)
 
 -- one that is passed on the stack, in eight bytes from the caller's stack pointer upward
@@ -30,15 +33,46 @@ from_stack y k (Slot i) = load_8 28 30 (8 * (k - 8)) ∷ store_slot 28 (slot_off
 abbrev pub argument_items : Layout → (argument : ℕ) → Location → List Item
 argument_items y k p = if nat_lt k 8 then from_register y k p else from_stack y k p
 
-abbrev pub arguments_items : Layout → (argument : ℕ) → List (Destination Location) → List Item
-arguments_items y k [] = []
-arguments_items y k (d ∷ ds) = argument_items y k d.place ++ arguments_items y (k + 1) ds
+-- those arguments that pass the test
+abbrev pub arguments_items : Layout → (test : ℕ → Location → Bool) → (argument : ℕ) → List (Destination Location) → List Item
+arguments_items y test k [] = []
+arguments_items y test k (d ∷ ds) = (if test k d.place then argument_items y k d.place else []) ++ arguments_items y test (k + 1) ds
+
+-- a register in which an argument is passed
+abbrev pub is_for_arguments : Location → Bool
+is_for_arguments (InRegister r) = nat_le 10 r && nat_le r 17
+is_for_arguments (Slot i) = false
+
+-- passed in a register, to a place elsewhere
+abbrev pub goes_away : (argument : ℕ) → Location → Bool
+goes_away k p = nat_lt k 8 && not (is_for_arguments p)
+
+abbrev pub is_on_stack : (argument : ℕ) → Location → Bool
+is_on_stack k p = nat_le 8 k
+
+-- passed in a register, to the place x(10 + i)
+abbrev pub comes_to : (i argument : ℕ) → Location → Bool
+comes_to i k p = nat_lt k 8 && is_register (10 + i) p
+
+-- the register of the argument, of these from the k-th on, whose place is x(10 + i); else that register itself
+abbrev pub source_in : (i k : ℕ) → List (Destination Location) → ℕ
+source_in i k [] = 10 + i
+source_in i k (d ∷ ds) = if comes_to i k d.place then 10 + k else source_in i (k + 1) ds
+
+-- what so many registers from x(10 + i) on take, as arguments of a call would be
+abbrev pub sources : (count i : ℕ) → List (Destination Location) → List (Argument Location)
+sources zero i ds = []
+sources (suc n) i ds = record { class = L; value = At (InRegister (source_in i 0 ds)) } ∷ sources n (i + 1) ds
 
 abbrev pub pointer_items : Layout → (params : ℕ) → List Item
 pointer_items y n = if nat_lt 8 n then caller_pointer y else []
 
+-- arguments in registers to places elsewhere, then those to places in one another's registers, and last those on the stack
 abbrev pub entry_items : Layout → List (Destination Location) → List Item
-entry_items y params = pointer_items y (length params) ++ arguments_items y 0 params
+entry_items y params =
+    pointer_items y (length params)
+    ++ (arguments_items y goes_away 0 params
+    ++ (passed_items y (sources 8 0 params) ++ arguments_items y is_on_stack 0 params))
 
 abbrev pub function_items : Layout → (saved : List ℕ) → List (Destination Location) → List (Block Location) → List Item
 function_items y rs params blocks =

@@ -8,7 +8,6 @@ use Rattle.vcode.specs.Named.{keeps_places, is_place, are_near, are_distinct}
 use Rattle.vcode.specs.Regular.{IsRegular, code_weight}
 use Rattle.abi_frames.specs.Frames.{IsFrameOf}
 use Rattle.abi_frames.specs.Functions.{frame_items}
-use Rattle.abi_frames.specs.Covered.{is_covered}
 
 -- the code of a function, with places as location code has them
 pub record IsCode (f : Code Location) (slots : ℕ) : Type 0 where
@@ -17,7 +16,6 @@ pub record IsCode (f : Code Location) (slots : ℕ) : Type 0 where
   pub known : IsTrue (keeps_places (is_place slots) f)
   pub near : IsTrue (are_near f.params)
   pub apart : IsTrue (are_distinct located f.params)
-  pub covered : IsTrue (is_covered f)
   pub light : IsTrue (nat_le (code_weight f) 40000)
 
 -- its labelled code keeps the invariants of such code, within its price

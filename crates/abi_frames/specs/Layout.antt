@@ -1,6 +1,6 @@
 -- Where things stand in a function's frame. Upward from the stack pointer: arguments of calls past the eighth, saved registers, slots, and the area for blocks
 -- of memory, up to the stack pointer of the caller.
-use Rattle.std.specs.Prelude.{ℕ, ◌+◌, ◌-◌, ◌*◌, Bool, true, false, ◌||◌, nat_eq, nat_le, if◌then◌else◌, max, List, [], ◌∷◌, ◌++◌, length, Option, Some, None}
+use Rattle.std.specs.Prelude.{ℕ, ◌+◌, ◌-◌, ◌*◌, Bool, true, false, ◌||◌, nat_eq, nat_le, if◌then◌else◌, List, [], ◌∷◌, ◌++◌, length, Option, Some, None}
 use Rattle.std.specs.List.{list_any, sum_by}
 use Rattle.il_ast.specs.Cost.{round_16}
 use Rattle.vcode.specs.declared.place.Location.{Location}

@@ -4,9 +4,9 @@ pub mod Promise
 pub mod Layout
 pub mod Fields
 pub mod Immediates
+pub mod Moves
 pub mod Emission
 pub mod Functions
-pub mod Covered
 pub mod Laws
 pub mod Examples
 pub mod Frames

@@ -1,11 +1,12 @@
 //! The machine code of calls.
-ghost use Rattle.std.specs.Prelude.{◌≡◌, ◌-◌, ◌*◌, ◌^◌, ◌<◌, ◌≤◌, [], ◌∷◌, ◌++◌, length, OnOk};
+ghost use Rattle.std.specs.Prelude.{◌≡◌, ◌-◌, ◌*◌, ◌^◌, ◌<◌, ◌≤◌, [], ◌∷◌, ◌++◌, ◌&&◌, length, nat_le, OnOk};
 ghost use Rattle.abi_frames.specs.Fields.{store_8};
-ghost use Rattle.abi_frames.specs.Emission.{fetch, source, pass_into, pass_items, pass_all, call_through, receive_items, call_items};
+ghost use Rattle.abi_frames.specs.Emission.{fetch, source, pass_into, stack_all, register_all, passed_items, callee_items, callee_source, call_through, receive_items, call_items};
 
-use crate::fields::{low_part, register, store};
+use crate::fields::{add_immediate, low_part, register, store};
 use crate::layout::Layout;
 use crate::line::push_set;
+use crate::moves::push_moves_up;
 use crate::operand::{push_fetch, push_operand, push_word, source_of};
 use il_ast::operation::Class;
 use rv_isa::instruction::Instr;
@@ -44,37 +45,92 @@ fn push_stacked(
     Ok(())
 }
 
-// passes the argument of that number, from 0
-fn push_pass(
-    items: &mut Vec<Item>,
-    layout: &Layout,
-    number: usize,
-    argument: &Argument<Location>,
-) -> Result<(), AllocError>
-    requires slots { layout.now.slots < 2 ^ 16 }
-    requires few { number < 64 }
-    ensures { OnOk result (items.new.items ≡ items.old.items ++ pass_items layout.now number argument.now) }
-{
-    if number < 8 {
-        push_argument(items, layout, 10 + number as u8, argument)
-    } else {
-        push_stacked(items, layout, 8 * (number as u64 - 8), argument)
-    }
-}
-
-fn push_arguments(
+fn push_stack_arguments(
     items: &mut Vec<Item>,
     layout: &Layout,
     arguments: &[Argument<Location>],
 ) -> Result<(), AllocError>
     requires slots { layout.now.slots < 2 ^ 16 }
     requires few { length arguments.now ≤ 64 }
-    ensures { OnOk result (items.new.items ≡ items.old.items ++ pass_all layout.now 0 arguments.now) }
+    ensures { OnOk result (items.new.items ≡ items.old.items ++ stack_all layout.now 0 arguments.now) }
 {
     for (number, argument) in arguments.iter().enumerate() {
-        push_pass(items, layout, number, argument)?;
+        if number >= 8 {
+            push_stacked(items, layout, 8 * (number as u64 - 8), argument)?;
+        }
     }
     Ok(())
+}
+
+fn push_register_arguments(
+    items: &mut Vec<Item>,
+    layout: &Layout,
+    arguments: &[Argument<Location>],
+) -> Result<(), AllocError>
+    requires slots { layout.now.slots < 2 ^ 16 }
+    ensures { OnOk result (items.new.items ≡ items.old.items ++ register_all layout.now 0 arguments.now) }
+{
+    for (number, argument) in arguments.iter().enumerate() {
+        if number < 8 {
+            push_argument(items, layout, 10 + number as u8, argument)?;
+        }
+    }
+    Ok(())
+}
+
+/// Puts at the end what has the first eight of these arguments in x10 to x17, whichever of these registers they are in before.
+///
+/// # Errors
+///
+/// Only where memory was refused.
+pub(crate) fn push_passed(
+    items: &mut Vec<Item>,
+    layout: &Layout,
+    arguments: &[Argument<Location>],
+) -> Result<(), AllocError>
+    requires { layout.now.slots < 2 ^ 16 }
+    ensures { OnOk result (items.new.items ≡ items.old.items ++ passed_items layout.now arguments.now) }
+{
+    let now = push_moves_up(items, arguments)?;
+    push_register_arguments(items, layout, now.as_slice())
+}
+
+// a register in which an argument is passed
+fn is_for_arguments(number: u8) -> bool
+    ensures { result ≡ (nat_le 10 number && nat_le number 17) }
+{
+    10 <= number && number <= 17
+}
+
+// has the callee's address where no argument changes it
+fn push_callee(
+    items: &mut Vec<Item>,
+    layout: &Layout,
+    callee: &Operand<Location>,
+) -> Result<(), AllocError>
+    requires { layout.now.slots < 2 ^ 16 }
+    ensures { OnOk result (items.new.items ≡ items.old.items ++ callee_items layout.now callee.now) }
+{
+    match callee {
+        Operand::At(Location::Register(number)) => {
+            if is_for_arguments(*number) {
+                items.push(add_immediate(28, *number, 0))?;
+            }
+            Ok(())
+        }
+        Operand::At(Location::Slot(_)) | Operand::Number(_) | Operand::Name(_) => {
+            push_fetch(items, layout, 28, callee)
+        }
+    }
+}
+
+fn callee_source(callee: &Operand<Location>) -> u8
+    ensures { result ≡ callee_source callee.now }
+{
+    match callee {
+        Operand::At(Location::Register(number)) if is_for_arguments(*number) => 28,
+        _ => source_of(28, callee),
+    }
 }
 
 // to the address in a register
@@ -120,9 +176,10 @@ pub(crate) fn push_call(
     requires few { length arguments.now ≤ 64 }
     ensures { OnOk result (items.new.items ≡ items.old.items ++ call_items layout.now to.now callee.now arguments.now) }
 {
-    push_arguments(items, layout, arguments)?;
-    push_fetch(items, layout, 28, callee)?;
-    items.push(call_through(source_of(28, callee)))?;
+    push_stack_arguments(items, layout, arguments)?;
+    push_callee(items, layout, callee)?;
+    push_passed(items, layout, arguments)?;
+    items.push(call_through(callee_source(callee)))?;
     push_receive(items, layout, to)?;
     Ok(())
 }

@@ -1,6 +1,5 @@
 //! The code of calls.
 use crate::call::push_call;
-use crate::covered::covers_call;
 use crate::layout::Layout;
 use il_ast::operation::Class;
 use il_ast::symbol::Symbol;
@@ -50,23 +49,23 @@ fn a_word_and_a_long_are_passed_and_the_result_goes_to_a_slot(rt: HostRuntime) -
         &callee,
         arguments.as_slice(),
     )?;
-    // the word is extended into its register, the long is loaded, the address, the jump, the result
+    // the address, the word is extended into its register, the long is loaded, the jump, the result
     assert_eq!(rt; items.len(), 1 + 1 + 1 + 1 + 1);
     match items.get(0) {
+        Some(Item::Address { rd, global }) => {
+            assert!(rt; rd.number == 28 && *global == 7);
+        }
+        _ => assert!(rt; false),
+    }
+    match items.get(1) {
         Some(Item::Plain(Instr::Addiw { rd, rs1, .. })) => {
             assert!(rt; rd.number == 10 && rs1.number == 9);
         }
         _ => assert!(rt; false),
     }
-    match items.get(1) {
+    match items.get(2) {
         Some(Item::Plain(Instr::Load { rd, offset, .. })) => {
             assert!(rt; rd.number == 11 && offset.value == 120);
-        }
-        _ => assert!(rt; false),
-    }
-    match items.get(2) {
-        Some(Item::Address { rd, global }) => {
-            assert!(rt; rd.number == 28 && *global == 7);
         }
         _ => assert!(rt; false),
     }
@@ -111,15 +110,9 @@ fn the_last_two_of_ten_arguments_go_to_the_stack(rt: HostRuntime) -> Result<(), 
         argument(Class::W, Location::Slot(0)),
     ];
     push_call(&mut items, &OUTGOING, &None, &callee, arguments.as_slice())?;
-    // eight moves, a move and a store, a load and an extension and a store, the address, the jump
-    assert_eq!(rt; items.len(), 8 + 2 + 3 + 1 + 1);
-    match items.get(7) {
-        Some(Item::Plain(Instr::Imm { rd, rs1, .. })) => {
-            assert!(rt; rd.number == 17 && rs1.number == 25);
-        }
-        _ => assert!(rt; false),
-    }
-    match items.get(9) {
+    // a move and a store, a load and an extension and a store, the address, eight moves, the jump
+    assert_eq!(rt; items.len(), 2 + 3 + 1 + 8 + 1);
+    match items.get(1) {
         Some(
             Item::Plain(
                 Instr::Store {
@@ -134,7 +127,7 @@ fn the_last_two_of_ten_arguments_go_to_the_stack(rt: HostRuntime) -> Result<(), 
         }
         _ => assert!(rt; false),
     }
-    match items.get(12) {
+    match items.get(4) {
         Some(
             Item::Plain(
                 Instr::Store {
@@ -146,6 +139,12 @@ fn the_last_two_of_ten_arguments_go_to_the_stack(rt: HostRuntime) -> Result<(), 
             ),
         ) => {
             assert!(rt; rs1.number == 2 && rs2.number == 28 && offset.value == 8);
+        }
+        _ => assert!(rt; false),
+    }
+    match items.get(13) {
+        Some(Item::Plain(Instr::Imm { rd, rs1, .. })) => {
+            assert!(rt; rd.number == 17 && rs1.number == 25);
         }
         _ => assert!(rt; false),
     }
@@ -168,15 +167,70 @@ fn a_call_through_a_register_takes_one_instruction(rt: HostRuntime) -> Result<()
     Ok(())
 }
 
+fn value_of(values: &[u8], number: u8) -> u8 {
+    match values.get(usize::from(number)) {
+        Some(value) => *value,
+        None => 0,
+    }
+}
+
+// What the moves of a call, as of one through the register x10 with its arguments in these registers, leave in x10 and upward, and the address that it goes to, if
+// each register has its number before; and how many instructions it takes.
+fn called(rt: &HostRuntime, from: &[u8]) -> Result<(Vec<u8>, u8, usize), Fail> {
+    let mut arguments = Vec::new(rt.alloc());
+    for number in from {
+        arguments.push(long(Location::Register(*number)))?;
+    }
+    let mut items = Vec::new(rt.alloc());
+    let callee = Operand::At(Location::Register(10));
+    if arguments.len() <= 8 {
+        push_call(&mut items, &OUTGOING, &None, &callee, arguments.as_slice())?;
+    }
+    let mut values = Vec::new(rt.alloc());
+    for number in 0..32 {
+        values.push(number)?;
+    }
+    let mut target = 0;
+    for item in items.iter() {
+        match item {
+            Item::Plain(Instr::Imm { rd, rs1, .. }) => {
+                let value = value_of(values.as_slice(), rs1.number);
+                if let Some(register) = values.get_mut(usize::from(rd.number)) {
+                    *register = value;
+                }
+            }
+            Item::Plain(Instr::Jalr { rs1, .. }) => {
+                target = value_of(values.as_slice(), rs1.number);
+            }
+            _ => {}
+        }
+    }
+    let mut passed = Vec::new(rt.alloc());
+    for value in values.iter().skip(10).take(from.len()) {
+        passed.push(*value)?;
+    }
+    Ok((passed, target, items.len()))
+}
+
 #[test]
-fn arguments_can_be_moved_in_their_order(rt: HostRuntime) -> Result<(), Fail> {
-    let callee = Operand::Name(Symbol::at(0));
-    let good = [long(Location::Register(9)), long(Location::Slot(3))];
-    let own = [long(Location::Register(11)), long(Location::Register(11))];
-    let late = [long(Location::Register(11)), long(Location::Register(10))];
-    assert!(rt; covers_call(&callee, good.as_slice()));
-    assert!(rt; covers_call(&callee, own.as_slice()));
-    assert!(rt; !covers_call(&callee, late.as_slice()));
-    assert!(rt; !covers_call(&Operand::At(Location::Register(17)), good.as_slice()));
+fn arguments_change_places(rt: HostRuntime) -> Result<(), Fail> {
+    // a swap, cycles of three and of eight, chains either way, and one source twice
+    let cases: [(&[u8], usize); 8] = [
+        (&[11, 10], 3),
+        (&[11, 12, 10], 6),
+        (&[12, 10, 11], 6),
+        (&[11, 12, 13, 14, 15, 16, 17, 10], 21),
+        (&[9, 10, 11], 3),
+        (&[11, 12, 9], 3),
+        (&[10, 10, 10], 2),
+        (&[11, 10, 10], 4),
+    ];
+    for (from, moves) in cases {
+        let (passed, target, instructions) = called(&rt, from)?;
+        assert_eq!(rt; passed.as_slice(), from);
+        assert_eq!(rt; target, 10);
+        // the address moves first, and the jump stands last
+        assert!(rt; instructions == 1 + moves + 1);
+    }
     Ok(())
 }

@@ -1,15 +1,19 @@
 //! On entry: arguments come to the places of their parameters.
-ghost use Rattle.std.specs.Prelude.{◌≡◌, ◌+◌, ◌-◌, ◌*◌, ◌^◌, ◌<◌, ◌≤◌, [], ◌∷◌, ◌++◌, length, OnOk};
+ghost use Rattle.std.specs.Prelude.{◌≡◌, ◌+◌, ◌-◌, ◌*◌, ◌^◌, ◌<◌, ◌≤◌, [], ◌∷◌, ◌++◌, length, if◌then◌else◌, IsTrue, OnOk, IfOk};
 ghost use Rattle.vcode.specs.declared.place.Location.TheVariants.{Slot};
 ghost use Rattle.abi_frames.specs.Fields.{constant, sum_to};
-ghost use Rattle.abi_frames.specs.Functions.{caller_pointer, from_register, from_stack, argument_items, arguments_items, pointer_items, entry_items};
+ghost use Rattle.abi_frames.specs.Functions.{caller_pointer, from_register, from_stack, argument_items, arguments_items, is_for_arguments, goes_away, is_on_stack, comes_to, source_in, sources, pointer_items, entry_items};
+ghost use Rattle.abi_frames.specs.Emission.{passed_items};
 
+use crate::call::push_passed;
 use crate::fields::{add, add_immediate, load};
 use crate::layout::Layout;
 use crate::operand::{push_constant, push_into_slot};
+use crate::saved::is_register;
+use il_ast::operation::Class;
 use rv_isa::labelled::Item;
-use std::alloc::AllocError;
-use vcode::place::{Destination, Location};
+use std::alloc::{AllocError, Global};
+use vcode::place::{Argument, Destination, Location, Operand};
 
 // the caller's stack pointer into x30
 fn push_caller_pointer(items: &mut Vec<Item>, layout: &Layout) -> Result<(), AllocError>
@@ -32,9 +36,7 @@ fn push_from_register(
 {
     match place {
         Location::Register(number) => {
-            if *number != 10 + argument {
-                items.push(add_immediate(*number, 10 + argument, 0))?;
-            }
+            items.push(add_immediate(*number, 10 + argument, 0))?;
         }
         Location::Slot(slot) => push_into_slot(items, layout, 10 + argument, *slot)?,
     }
@@ -89,19 +91,121 @@ fn push_argument(
     }
 }
 
-fn push_arguments(
+// a register in which an argument is passed
+fn is_for_arguments(place: &Location) -> bool
+    ensures { result ≡ is_for_arguments place.now }
+{
+    match place {
+        Location::Register(number) => 10 <= *number && *number <= 17,
+        Location::Slot(_) => false,
+    }
+}
+
+// passed in a register, to a place elsewhere
+fn goes_away(argument: usize, place: &Location) -> bool
+    ensures { result ≡ goes_away argument place.now }
+{
+    argument < 8 && !is_for_arguments(place)
+}
+
+// arguments in registers, to places elsewhere
+fn push_away(
     items: &mut Vec<Item>,
     layout: &Layout,
     params: &[Destination<Location>],
 ) -> Result<(), AllocError>
     requires slots { layout.now.slots < 2 ^ 16 }
     requires few { length params.now ≤ 64 }
-    ensures { OnOk result (items.new.items ≡ items.old.items ++ arguments_items layout.now 0 params.now) }
+    ensures { OnOk result (items.new.items ≡ items.old.items ++ arguments_items layout.now goes_away 0 params.now) }
 {
     for (argument, parameter) in params.iter().enumerate() {
-        push_argument(items, layout, argument as u8, &parameter.place)?;
+        if goes_away(argument, &parameter.place) {
+            push_argument(items, layout, argument as u8, &parameter.place)?;
+        }
     }
     Ok(())
+}
+
+// an argument if it is on the stack
+fn push_if_stacked(
+    items: &mut Vec<Item>,
+    layout: &Layout,
+    argument: u8,
+    place: &Location,
+) -> Result<(), AllocError>
+    requires { layout.now.slots < 2 ^ 16 }
+    ensures { OnOk result (items.new.items ≡ items.old.items ++ (if is_on_stack argument place.now then argument_items layout.now argument place.now else [])) }
+{
+    if argument >= 8 {
+        push_from_stack(items, layout, argument, place)?;
+    }
+    Ok(())
+}
+
+fn push_stacked(
+    items: &mut Vec<Item>,
+    layout: &Layout,
+    params: &[Destination<Location>],
+) -> Result<(), AllocError>
+    requires slots { layout.now.slots < 2 ^ 16 }
+    requires few { length params.now ≤ 64 }
+    ensures { OnOk result (items.new.items ≡ items.old.items ++ arguments_items layout.now is_on_stack 0 params.now) }
+{
+    for (argument, parameter) in params.iter().enumerate() {
+        push_if_stacked(items, layout, argument as u8, &parameter.place)?;
+    }
+    Ok(())
+}
+
+// passed in a register, to the place of the argument register of that number
+fn comes_to(number: u8, argument: usize, place: &Location) -> bool
+    requires { number < 8 }
+    ensures value { result ≡ comes_to number argument place.now }
+    ensures few { IsTrue result → argument < 8 }
+{
+    argument < 8 && is_register(place, 10 + number)
+}
+
+// the register from which the one of that number, from x10 on, takes an argument
+fn source_in(number: u8, params: &[Destination<Location>]) -> u8
+    requires { number < 8 }
+    ensures { result ≡ source_in number 0 params.now }
+{
+    for (argument, parameter) in params.iter().enumerate() {
+        if comes_to(number, argument, &parameter.place) {
+            return 10 + argument as u8;
+        }
+    }
+    10 + number
+}
+
+fn sources(
+    alloc: Global,
+    params: &[Destination<Location>],
+) -> Result<Vec<Argument<Location>>, AllocError>
+    ensures { IfOk result (λ v. v.items ≡ sources 8 0 params.now) }
+{
+    let mut all = Vec::new(alloc);
+    for number in 0..8 {
+        all.push(Argument {
+            class: Class::L,
+            value: Operand::At(Location::Register(source_in(number, params))),
+        })?;
+    }
+    Ok(all)
+}
+
+// arguments in registers, to places in one another's
+fn push_exchanged(
+    items: &mut Vec<Item>,
+    layout: &Layout,
+    params: &[Destination<Location>],
+) -> Result<(), AllocError>
+    requires { layout.now.slots < 2 ^ 16 }
+    ensures { OnOk result (items.new.items ≡ items.old.items ++ passed_items layout.now (sources 8 0 params.now)) }
+{
+    let all = sources(*items.allocator(), params)?;
+    push_passed(items, layout, all.as_slice())
 }
 
 fn push_pointer(items: &mut Vec<Item>, layout: &Layout, params: usize) -> Result<(), AllocError>
@@ -124,6 +228,8 @@ pub(crate) fn push_entry(
     ensures { OnOk result (items.new.items ≡ items.old.items ++ entry_items layout.now params.now) }
 {
     push_pointer(items, layout, params.len())?;
-    push_arguments(items, layout, params)?;
+    push_away(items, layout, params)?;
+    push_exchanged(items, layout, params)?;
+    push_stacked(items, layout, params)?;
     Ok(())
 }

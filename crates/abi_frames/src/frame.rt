@@ -4,7 +4,6 @@ ghost use Rattle.rv_isa.specs.Labels.{longest_size};
 ghost use Rattle.std.specs.List.{list_all, sum_by};
 ghost use Rattle.vcode.specs.Regular.{area, alloc_bytes, passes_few, code_weight};
 ghost use Rattle.flat_code.specs.Step.{flat_begin, flat_step};
-ghost use Rattle.abi_frames.specs.Covered.{is_covered};
 ghost use Rattle.abi_frames.specs.Layout.{layout, saved_registers, frame_bound, frame_size};
 ghost use Rattle.abi_frames.specs.Emission.{lines_items, jump_items, epilogue, block_items, blocks_items};
 ghost use Rattle.abi_frames.specs.Functions.{entry_items, function_items, frame_items};
@@ -131,14 +130,13 @@ fn layout_of(function: &FlatFunc, saved: &[u8]) -> Layout
     }
 }
 
-/// The machine code of a function whose code is covered, with at most 32 words for each unit of its weight, and 256. Wherever it stands, it performs what the
+/// The machine code of a function, with at most 32 words for each unit of its weight, and 256. Wherever it stands, it performs what the
 /// function's code on bytes runs.
 ///
 /// # Errors
 ///
 /// Only where memory was refused.
 pub fn frame(alloc: Global, function: &FlatFunc) -> Result<LabelledCode, AllocError>
-    requires covered { IsTrue (is_covered function.now.located.code) }
     ensures promise { IfOk result (λ c. IsFrameOf function.now.located.code function.now.located.slots c.items) }
     ensures size { IfOk result (λ c. longest_size c.items ≤ 32 * code_weight function.now.located.code + 256) }
 {

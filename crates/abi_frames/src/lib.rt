@@ -17,11 +17,10 @@
 //! at most 32 instructions for each unit of weight and 256 for each call, with at most 40,000 turns between two instructions; and it takes no more stack than the
 //! language counts for the function. `specs/Layout.antt` says where things stand in a frame, `specs/Emission.antt` which instructions a line becomes.
 //!
-//! On entry each argument comes to the place of its parameter (`specs/Functions.antt`). A call passes its arguments one after another, by the convention, goes to
-//! the callee through a register, and brings the result from x10 to its place. Arguments past the eighth stand below the saved registers.
-//!
-//! So far frames are made for code that has no parameter, argument or callee in a register of arguments: `covered::covers` says for which
-//! (`specs/Covered.antt`).
+//! A call passes its arguments by the convention: those past the eighth below the saved registers, then the callee's address goes to a register that is not for
+//! arguments, and the first eight come to x10 to x17. One that stands in the register of an earlier one moves first, the last such before the others, and where
+//! what it overwrites is still to be read the two change places by way of x29 (`moves`, `specs/Moves.antt`); after that they are moved in their order. On entry
+//! arguments come to the places of their parameters in the same way (`specs/Functions.antt`).
 #![tactic(auto)]
 
 mod call;
@@ -29,7 +28,6 @@ mod call;
 mod call_tests;
 mod compare;
 mod copy;
-pub mod covered;
 mod ends;
 mod entry;
 mod fields;
@@ -45,6 +43,7 @@ pub mod layout;
 mod line;
 #[cfg(test)]
 mod memory_tests;
+mod moves;
 mod operand;
 mod room;
 mod saved;

@@ -8,7 +8,7 @@ use vcode::code::{Block, Code};
 use vcode::line::Line;
 use vcode::place::{Destination, Location};
 
-fn is_register(place: &Location, number: u8) -> bool
+pub(crate) fn is_register(place: &Location, number: u8) -> bool
     ensures { result ≡ is_register number place.now }
 {
     match place {

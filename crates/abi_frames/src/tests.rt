@@ -1,5 +1,4 @@
 //! The code of small functions.
-use crate::covered::{covers, covers_params};
 use crate::entry::push_entry;
 use crate::frame::frame;
 use crate::jump::push_jump;
@@ -36,7 +35,6 @@ fn an_empty_function_has_a_frame(rt: HostRuntime) -> Result<(), Fail> {
         },
         slots: 6,
     });
-    assert!(rt; covers(&function));
     let code = frame(rt.alloc(), &function)?;
     assert_eq!(rt; code.labels(), 1);
     // the stack pointer moves, the label, the stack pointer and the way back: no call is made, and x1 stays where it is
@@ -228,16 +226,44 @@ fn eight_arguments_need_no_pointer(rt: HostRuntime) -> Result<(), Fail> {
     Ok(())
 }
 
+// the registers that each move writes and reads
+fn moves(rt: &HostRuntime, items: &[Item]) -> Result<Vec<(u8, u8)>, Fail> {
+    let mut moves = Vec::new(rt.alloc());
+    for item in items {
+        if let Item::Plain(Instr::Imm { rd, rs1, .. }) = item {
+            moves.push((rd.number, rs1.number))?;
+        }
+    }
+    Ok(moves)
+}
+
 #[test]
-fn parameters_take_arguments_in_their_order(rt: HostRuntime) -> Result<(), Fail> {
-    let around = [
-        parameter(Location::Register(9)),
-        parameter(Location::Slot(10)),
+fn two_parameters_change_places(rt: HostRuntime) -> Result<(), Fail> {
+    let mut items = Vec::new(rt.alloc());
+    let params = [
+        parameter(Location::Register(11)),
+        parameter(Location::Register(10)),
         parameter(Location::Register(18)),
     ];
-    assert!(rt; covers_params(around.as_slice()));
-    assert!(rt; covers_params([parameter(Location::Register(10))].as_slice()));
-    assert!(rt; !covers_params([parameter(Location::Register(11))].as_slice()));
-    assert!(rt; !covers_params([parameter(Location::Register(17))].as_slice()));
+    push_entry(&mut items, &SMALL, params.as_slice())?;
+    let moves = moves(&rt, items.as_slice())?;
+    assert_eq!(rt;
+        moves.as_slice(),
+        [(18, 12), (29, 11), (11, 10), (10, 29)].as_slice()
+    );
+    Ok(())
+}
+
+#[test]
+fn a_parameter_stays_in_its_register(rt: HostRuntime) -> Result<(), Fail> {
+    let mut items = Vec::new(rt.alloc());
+    let params = [
+        parameter(Location::Register(12)),
+        parameter(Location::Register(11)),
+        parameter(Location::Register(13)),
+    ];
+    push_entry(&mut items, &SMALL, params.as_slice())?;
+    let moves = moves(&rt, items.as_slice())?;
+    assert_eq!(rt; moves.as_slice(), [(13, 12), (12, 10)].as_slice());
     Ok(())
 }

@@ -1,5 +1,4 @@
 pub mod TextLemmas
-pub mod SlotCode
 pub mod CodeLemmas
 pub mod PromotedFunctions
 pub mod ExecutableBytes

@@ -1,14 +1,12 @@
 //! The words of one function.
-ghost use Rattle.std.specs.Prelude.{◌+◌, ◌*◌, ◌≤◌, IfOk, IsTrue, length};
+ghost use Rattle.std.specs.Prelude.{◌+◌, ◌*◌, ◌≤◌, IfOk, length};
 ghost use Rattle.il_ast.specs.Cost.{weight};
 ghost use Rattle.il_ast.specs.Passes.{Keeps, IsCodeOf};
 ghost use Rattle.phi_copies.specs.Good.{IsGoodFunction};
 ghost use Rattle.vcode.specs.Coded.{virtual_code, location_code};
-ghost use Rattle.abi_frames.specs.Covered.{is_covered};
 ghost use Rattle.qbec.specs.Promoted.{StandPromoted};
 ghost use Rattle.qbec.specs.Words.{IsLocated, IsLaidOut};
 
-use abi_frames::covered::covers;
 use abi_frames::frame::frame;
 use alloc_check::accept::{Refused, accept};
 use alloc_check::spill_all::spill_all;
@@ -80,30 +78,22 @@ pub fn virtual_code_of(alloc: Global, func: &Func) -> Result<VFunc, AllocError>
     Ok(kept)
 }
 
-/// The function in location code, to be read on bytes, such as frames are made for: as the strategy has it where parameters and what calls take stand in no
-/// register that arguments are passed in, else with every register in a slot of its own.
+/// The function in location code, to be read on bytes, as the strategy has it.
 ///
 /// # Errors
 ///
 /// Only where memory was refused.
 pub fn located(alloc: Global, func: &Func, how: &mut dyn Strategy) -> Result<FlatFunc, AllocError>
     requires { IsGoodFunction func.now }
-    ensures located { IfOk result (λ f. IsLocated func.now f.located) }
-    ensures covered { IfOk result (λ f. IsTrue (is_covered f.located.code)) }
+    ensures { IfOk result (λ f. IsLocated func.now f.located) }
 {
     let function = virtual_code_of(alloc, func)?;
     let placed = allocated(alloc, &function, how)?;
-    let chosen = flat(placed);
-    if covers(&chosen) {
-        return Ok(chosen);
-    }
-    let spilled = spill_all(alloc, &function)?;
-    Ok(flat(spilled))
+    Ok(flat(placed))
 }
 
 /// The words of a function's machine code.
 pub fn laid_out(alloc: Global, function: &FlatFunc) -> Result<Code, AllocError>
-    requires { IsTrue (is_covered function.now.located.code) }
     ensures { IfOk result (λ c. IsLaidOut function.now.located c) }
 {
     let labelled = frame(alloc, function)?;

@@ -11,7 +11,6 @@ returns c = record {
     known = refl;
     near = refl;
     apart = refl;
-    covered = refl;
     light = refl;
   };
   takes_nine = record {
@@ -20,7 +19,6 @@ returns c = record {
     known = refl;
     near = refl;
     apart = refl;
-    covered = refl;
     light = refl;
   };
   makes_a_call = record {
@@ -29,7 +27,6 @@ returns c = record {
     known = refl;
     near = refl;
     apart = refl;
-    covered = refl;
     light = refl;
   };
   copies_bytes = record {
@@ -38,7 +35,6 @@ returns c = record {
     known = refl;
     near = refl;
     apart = refl;
-    covered = refl;
     light = refl;
   };
   size = refl;

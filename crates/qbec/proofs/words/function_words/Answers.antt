@@ -7,7 +7,7 @@ located-requires g c = still_good c.args.func.now c.in_ok-promoted.promoted c.in
 
 pub returns : goal.returns
 returns g c =
-    let l = c.in_ok-function.ensures.located in
+    let l = c.in_ok-function.ensures in
     let laid = c.in_ok-code.ensures in
     let few = laid.few in
     let light = l.is.weight in
