@@ -1,2 +1,4 @@
 pub mod Statuses
 pub mod Runs
+pub mod Refusals
+pub mod Parts

@@ -1,4 +1,6 @@
 //! `qbec build`.
+ghost use Rattle.std.specs.Prelude.{◌≡◌, IfOk};
+
 use crate::failure::Failure;
 use crate::files::{read, write};
 use qbec::compile::compile;
@@ -35,7 +37,9 @@ pub(crate) fn build<'a, D: Disk>(
     disk: &mut D,
     out: &'a str,
     paths: &[&'a str],
-) -> Result<u8, Failure<'a>> {
+) -> Result<u8, Failure<'a>>
+    ensures { IfOk result (λ status. status ≡ 0) }
+{
     let texts = read_all(alloc, disk, paths)?;
     let slices = slices(alloc, texts.as_slice())?;
     let bytes = compile(alloc, slices.as_slice(), how)?;

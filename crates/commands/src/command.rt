@@ -1,4 +1,8 @@
 //! What the user asks for, done.
+ghost use Rattle.std.specs.Prelude.{◌≡◌};
+ghost use Rattle.commands.specs.Parts.{IsShown};
+ghost use Rattle.commands.specs.Statuses.{status_of};
+
 use crate::build::build;
 use crate::disassemble::disassemble;
 use crate::failure::Failure;
@@ -12,14 +16,18 @@ use std::alloc::Global;
 use std::fmt::Write;
 
 /// Writes the line of a failure, and answers its status. That standard error fails changes nothing.
-fn report<E: Sink>(failure: Failure<'_>, err: &mut E) -> u8 {
+fn report<E: Sink>(failure: Failure<'_>, err: &mut E) -> u8
+    ensures { result ≡ status_of failure.entry }
+{
     let status = failure.status();
     let _ = write!(Message::new(err), "qbec: {failure}\n");
     status
 }
 
 /// Shows a text of the command line.
-fn show<O: Sink, E: Sink>(refusal: Refusal, out: &mut O, err: &mut E) -> u8 {
+fn show<O: Sink, E: Sink>(refusal: Refusal, out: &mut O, err: &mut E) -> u8
+    ensures { IsShown refusal result }
+{
     match refusal {
         Refusal::Help(text) => match write!(Message::new(out), "{text}") {
             Ok(()) => 0,

@@ -1,4 +1,7 @@
 //! `qbec dis`.
+ghost use Rattle.std.specs.Prelude.{◌≡◌, IfOk, IfErr};
+ghost use Rattle.commands.specs.Parts.{DisassemblyFails};
+
 use crate::failure::Failure;
 use crate::files::{put_out, read};
 use elf_file::read_image;
@@ -13,7 +16,10 @@ pub(crate) fn disassemble<'a, D: Disk, O: Sink>(
     disk: &mut D,
     out: &mut O,
     path: &'a str,
-) -> Result<u8, Failure<'a>> {
+) -> Result<u8, Failure<'a>>
+    ensures status { IfOk result (λ status. status ≡ 0) }
+    ensures fails { IfErr result (λ e. DisassemblyFails path.entry e) }
+{
     let bytes = read(disk, path)?;
     let file = read_image(alloc, bytes.as_slice())?;
     let lines = dis_lines(alloc, &file)?;

@@ -104,30 +104,56 @@ pub(crate) fn end_status<'a>(end: End) -> Result<u8, Failure<'a>>
 }
 
 impl From<AllocError> for Failure<'_> {
+    ghost use Rattle.std.specs.Prelude.{◌≡◌};
+    ghost use Rattle.commands.specs.declared.failure.Failure.TheVariants.{Memory};
+
+    ghost from_gives = { λ _ e. e ≡ Memory };
+
     fn from(_refused: AllocError) -> Self {
         Failure::Memory
     }
 }
 
 impl<T: Drop> From<AllocFailed<T>> for Failure<'_> {
+    ghost use Rattle.std.specs.Prelude.{◌≡◌};
+    ghost use Rattle.commands.specs.declared.failure.Failure.TheVariants.{Memory};
+
+    ghost from_gives = { λ _ e. e ≡ Memory };
+
     fn from(_refused: AllocFailed<T>) -> Self {
         Failure::Memory
     }
 }
 
 impl From<Refusal> for Failure<'_> {
+    ghost use Rattle.std.specs.Prelude.{◌≡◌};
+    ghost use Rattle.commands.specs.declared.failure.Failure.TheVariants.{Refused};
+
+    ghost from_gives = { λ r e. e ≡ Refused r };
+
     fn from(refusal: Refusal) -> Self {
         Failure::Refused(refusal)
     }
 }
 
 impl From<LoadError> for Failure<'_> {
+    ghost use Rattle.std.specs.Prelude.{◌≡◌};
+    ghost use Rattle.commands.specs.declared.failure.Failure.TheVariants.{Refused};
+    ghost use Rattle.commands.specs.declared.refusal.Refusal.TheVariants.{File};
+
+    ghost from_gives = { λ l e. e ≡ Refused (File l) };
+
     fn from(error: LoadError) -> Self {
         Failure::Refused(Refusal::File(error))
     }
 }
 
 impl From<StartError> for Failure<'_> {
+    ghost use Rattle.std.specs.Prelude.{◌≡◌};
+    ghost use Rattle.commands.specs.Refusals.{start_failure};
+
+    ghost from_gives = { λ s e. e ≡ start_failure s };
+
     fn from(error: StartError) -> Self {
         match error {
             StartError::Arguments => Failure::Refused(Refusal::Words),
@@ -137,6 +163,12 @@ impl From<StartError> for Failure<'_> {
 }
 
 impl From<RunError> for Failure<'_> {
+    ghost use Rattle.std.specs.Prelude.{◌≡◌};
+    ghost use Rattle.commands.specs.declared.failure.Failure.TheVariants.{Refused};
+    ghost use Rattle.commands.specs.Refusals.{run_refusal};
+
+    ghost from_gives = { λ r e. e ≡ Refused (run_refusal r) };
+
     fn from(error: RunError) -> Self {
         match error {
             RunError::Words => Failure::Refused(Refusal::Words),
@@ -146,6 +178,12 @@ impl From<RunError> for Failure<'_> {
 }
 
 impl From<CompileError> for Failure<'_> {
+    ghost use Rattle.std.specs.Prelude.{◌≡◌};
+    ghost use Rattle.commands.specs.declared.failure.Failure.TheVariants.{Refused};
+    ghost use Rattle.commands.specs.Refusals.{compile_refusal};
+
+    ghost from_gives = { λ c e. e ≡ Refused (compile_refusal c) };
+
     fn from(error: CompileError) -> Self {
         match error {
             CompileError::Text(error) => Failure::Refused(Refusal::from(error)),

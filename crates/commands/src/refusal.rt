@@ -1,4 +1,9 @@
 //! Why texts, a file or argument words are refused.
+ghost use Rattle.std.specs.Prelude.{◌≡◌, IfOk};
+ghost use Rattle.il_types.specs.RuleNumber.{rule_number};
+ghost use Rattle.commands.specs.declared.refusal.Refusal.TheVariants.{Rule};
+ghost use Rattle.commands.specs.Refusals.{IsLinkRefusal};
+
 use elf_file::LoadError;
 use il_types::rule::Fault;
 use itoa::Buffer;
@@ -65,11 +70,15 @@ pub struct Name {
 
 impl Name {
     /// The name of these bytes.
-    pub fn new(bytes: Vec<u8>) -> Name {
+    pub fn new(bytes: Vec<u8>) -> Name
+        ensures { result ≡ record { bytes = bytes } }
+    {
         Name { bytes }
     }
 
-    fn copied(alloc: Global, bytes: &[u8]) -> Result<Name, AllocError> {
+    fn copied(alloc: Global, bytes: &[u8]) -> Result<Name, AllocError>
+        ensures { IfOk result (λ name. name.bytes.items ≡ bytes.now) }
+    {
         let bytes = bytes.to_vec(alloc)?;
         Ok(Name { bytes })
     }
@@ -84,7 +93,9 @@ impl fmt::Display for Name {
     }
 }
 
-fn broken_rule(text: usize, fault: Fault) -> Refusal {
+fn broken_rule(text: usize, fault: Fault) -> Refusal
+    ensures { result ≡ Rule (rule_number fault.rule) (record { 0 = text }) (record { 0 = fault.line }) }
+{
     Refusal::Rule {
         rule: fault.rule.number(),
         text: Number(text),
@@ -93,6 +104,11 @@ fn broken_rule(text: usize, fault: Fault) -> Refusal {
 }
 
 impl From<TextError> for Refusal {
+    ghost use Rattle.std.specs.Prelude.{◌≡◌};
+    ghost use Rattle.commands.specs.Refusals.{text_refusal};
+
+    ghost from_gives = { λ t e. e ≡ text_refusal t };
+
     fn from(error: TextError) -> Refusal {
         match error {
             TextError::Syntax { text, line } => Refusal::Syntax {
@@ -107,7 +123,9 @@ impl From<TextError> for Refusal {
 }
 
 /// The refusal of texts that don't link.
-pub(crate) fn link_refusal(alloc: Global, error: LinkError<'_>) -> Refusal {
+pub(crate) fn link_refusal(alloc: Global, error: LinkError<'_>) -> Refusal
+    ensures { IsLinkRefusal error.entry result }
+{
     match error {
         LinkError::UnknownName(name) => match Name::copied(alloc, name) {
             Ok(name) => Refusal::UnknownName(name),

@@ -1,4 +1,7 @@
 //! `qbec run` and `qbec interp`.
+ghost use Rattle.std.specs.Prelude.{◌≡◌, map, IfOk, IfErr};
+ghost use Rattle.commands.specs.Parts.{RunsTo, MeansTo, RunFails, InterpretFails};
+
 use crate::failure::{Failure, end_status, stop_status};
 use crate::files::{put_out, read};
 use crate::runs::{interpret_text, run_file};
@@ -6,7 +9,9 @@ use shell::disk::Disk;
 use shell::sink::Sink;
 use std::alloc::{AllocError, Global};
 
-fn as_bytes<'a>(alloc: Global, words: &[&'a str]) -> Result<Vec<&'a [u8]>, AllocError> {
+fn as_bytes<'a>(alloc: Global, words: &[&'a str]) -> Result<Vec<&'a [u8]>, AllocError>
+    ensures { IfOk result (λ v. map (λ w. w.now) v.items ≡ map (λ w. w.now) words.now) }
+{
     let mut list = Vec::new(alloc);
     for word in words {
         list.push(word.as_bytes())?;
@@ -22,7 +27,10 @@ pub(crate) fn run<'a, D: Disk, O: Sink>(
     limit: u64,
     path: &'a str,
     words: &[&str],
-) -> Result<u8, Failure<'a>> {
+) -> Result<u8, Failure<'a>>
+    ensures runs { IfOk result (λ status. RunsTo (map (λ w. w.now) words.now) limit (O.held out.old) (O.held out.new) status) }
+    ensures fails { IfErr result (λ e. RunFails path.entry (map (λ w. w.now) words.now) limit (O.held out.old) (O.held out.new) e) }
+{
     let bytes = read(disk, path)?;
     let words = as_bytes(alloc, words)?;
     let (output, stop) = run_file(alloc, bytes.as_slice(), words.as_slice(), limit)?;
@@ -39,7 +47,10 @@ pub(crate) fn interpret<'a, D: Disk, O: Sink>(
     turns: u64,
     path: &'a str,
     words: &[&str],
-) -> Result<u8, Failure<'a>> {
+) -> Result<u8, Failure<'a>>
+    ensures means { IfOk result (λ status. MeansTo (map (λ w. w.now) words.now) turns (O.held out.old) (O.held out.new) status) }
+    ensures fails { IfErr result (λ e. InterpretFails path.entry (map (λ w. w.now) words.now) turns (O.held out.old) (O.held out.new) e) }
+{
     let text = read(disk, path)?;
     let words = as_bytes(alloc, words)?;
     let (output, end) = interpret_text(alloc, text.as_slice(), words.as_slice(), turns)?;

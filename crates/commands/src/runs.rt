@@ -1,7 +1,8 @@
 //! Runs of files and of texts.
-ghost use Rattle.std.specs.Prelude.{◌≡◌, ◌∷◌, [], map, IfOk, true};
+ghost use Rattle.std.specs.Prelude.{◌≡◌, ◌∷◌, [], map, IfOk, IfErr, true};
 ghost use Rattle.il_ast.specs.Meaning.{meaning};
 ghost use Rattle.commands.specs.Runs.{RunsFile, MeansText};
+ghost use Rattle.commands.specs.Refusals.{FileIsRefused, TextIsRefused};
 
 use crate::failure::Failure;
 use crate::refusal::{Refusal, link_refusal};
@@ -27,7 +28,8 @@ pub fn run_file<'a>(
     words: &[&[u8]],
     limit: u64,
 ) -> Result<(Vec<u8>, Stop), Failure<'a>>
-    ensures { IfOk result (λ r. RunsFile bytes.now (map (λ w. w.now) words.now) limit r.0.items r.1) }
+    ensures runs { IfOk result (λ r. RunsFile bytes.now (map (λ w. w.now) words.now) limit r.0.items r.1) }
+    ensures refused { IfErr result (λ e. FileIsRefused bytes.now (map (λ w. w.now) words.now) e) }
 {
     let file = match read_image(alloc, bytes) {
         Ok(file) => file,
@@ -50,7 +52,8 @@ pub fn interpret_text<'a>(
     words: &[&[u8]],
     turns: u64,
 ) -> Result<(Vec<u8>, End), Failure<'a>>
-    ensures { IfOk result (λ r. MeansText text.entry (map (λ w. w.now) words.now) turns r.0.items r.1) }
+    ensures means { IfOk result (λ r. MeansText text.entry (map (λ w. w.now) words.now) turns r.0.items r.1) }
+    ensures refused { IfErr result (λ e. TextIsRefused text.entry (map (λ w. w.now) words.now) e) }
 {
     let checked = match checked_texts(alloc, &[text]) {
         Ok(checked) => checked,
