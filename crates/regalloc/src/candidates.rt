@@ -29,11 +29,7 @@ pub(crate) struct Candidate {
     /// whether it has a value over a call
     pub(crate) over_call: bool,
 
-    /// the registers of arguments that it may stand in, by the numbers of their arguments
-    pub(crate) first: u8,
-    pub(crate) last: u8,
-
-    /// the one of them that saves moves
+    /// the register of arguments that saves moves, by the number of its argument
     pub(crate) hint: Option<u8>,
 }
 
@@ -78,8 +74,6 @@ fn candidate_of(group: &Group, number: usize, demands: &Demands) -> Candidate {
         weight: demand.weight,
         group: number,
         over_call: ranges.iter().any(|range| is_over_call(calls, *range)),
-        first: demand.first,
-        last: demand.last,
         hint: if 0 < demand.hint.weight {
             Some(demand.hint.argument)
         } else {

@@ -14,12 +14,7 @@ pub(crate) struct Demand {
 
     pub(crate) is_param: bool,
 
-    /// of the eight registers that arguments are passed in, the first and the last that it may stand in: what is passed to a call may not stand in the register of
-    /// an earlier argument, and a parameter not in that of a later one
-    pub(crate) first: u8,
-    pub(crate) last: u8,
-
-    /// the one of them that saves moves, as many as its weight
+    /// the one of the eight registers that arguments are passed in that saves moves, as many as its weight
     pub(crate) hint: Hint,
 }
 
@@ -36,8 +31,6 @@ impl Demand {
         Demand {
             weight: 0,
             is_param: false,
-            first: 0,
-            last: 7,
             hint: Hint {
                 argument: 0,
                 weight: 0,
@@ -50,8 +43,6 @@ impl Demand {
         Demand {
             weight: self.weight.saturating_add(other.weight),
             is_param: self.is_param || other.is_param,
-            first: self.first.max(other.first),
-            last: self.last.min(other.last),
             hint: self.hint.joined(other.hint),
         }
     }
@@ -116,13 +107,6 @@ fn add_hint(demands: &mut Demands, register: u32, argument: u8, weight: u64) {
     }
 }
 
-fn from_first(demands: &mut Demands, register: u32, first: u8) {
-    match demands.registers.get_mut(register as usize) {
-        Some(demand) => demand.first = demand.first.max(first),
-        None => {}
-    }
-}
-
 // The number of an argument, where 8 stands for all that are passed on the stack.
 fn number_of(k: usize) -> u8
     ensures { result ≤ 8 }
@@ -137,18 +121,9 @@ fn read(demands: &mut Demands, operand: &Operand<u32>, weight: u64) {
     }
 }
 
-// The address of a function to call may stand in no register of arguments.
-fn callee_of(demands: &mut Demands, operand: &Operand<u32>) {
-    match operand {
-        Operand::At(register) => from_first(demands, *register, 8),
-        _ => {}
-    }
-}
-
 fn pass(demands: &mut Demands, operand: &Operand<u32>, argument: u8, often: u64) {
     match operand {
         Operand::At(register) => {
-            from_first(demands, *register, argument);
             if argument < 8 {
                 add_hint(demands, *register, argument, often);
             }
@@ -167,7 +142,6 @@ fn param(demands: &mut Demands, register: u32, argument: u8) {
     match demands.registers.get_mut(register as usize) {
         Some(demand) => {
             demand.is_param = true;
-            demand.last = demand.last.min(argument);
         }
         None => {}
     }
@@ -254,7 +228,6 @@ fn line(demands: &mut Demands, line: &Line<u32>, often: u64) -> Result<(), Alloc
         Line::Blit { .. } => {}
         Line::Call { to, callee, args } => {
             read(demands, callee, weight);
-            callee_of(demands, callee);
             pass_args(demands, args.as_slice(), often);
             receive(demands, to, often);
         }

@@ -97,14 +97,7 @@ pub(crate) fn rooms(alloc: Global, count: usize, points: usize) -> Result<Vec<Ro
 
 // The first eight are those of arguments, the last argument's first; and the first eleven are not kept by callees.
 fn may_hold(k: usize, candidate: &Candidate) -> bool {
-    if 11 <= k {
-        return true;
-    }
-    !candidate.over_call && (8 <= k || may_hold_argument(7 - k, candidate))
-}
-
-fn may_hold_argument(argument: usize, candidate: &Candidate) -> bool {
-    usize::from(candidate.first) <= argument && argument <= usize::from(candidate.last)
+    11 <= k || !candidate.over_call
 }
 
 // A register that callees keep is saved and restored, once it is used: that takes two instructions.
