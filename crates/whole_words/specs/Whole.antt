@@ -92,8 +92,10 @@ with_copy marks l = l
 abbrev pub with_copies : List Bool → Block ℕ → Block ℕ
 with_copies marks b = record { lines = map (with_copy marks) b.lines; jump = b.jump }
 
--- the second is the first with these copies
-pub record IsCopied (marks : List Bool) (v w : VFunc) : Type 0 where
+-- the second is the first with copies in the place of extensions of such registers
+pub record IsCopied (v w : VFunc) : Type 0 where
+  pub marks : List Bool
+  pub closed : are_closed marks v.code ≡ true
   pub result : w.code.result ≡ v.code.result
   pub params : w.code.params ≡ v.code.params
   pub blocks : w.code.blocks ≡ map (with_copies marks) v.code.blocks

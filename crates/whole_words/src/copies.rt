@@ -13,7 +13,7 @@ use vcode::function::VFunc;
 fn with_copies(alloc: Global, function: &VFunc, marks: &[bool]) -> Result<VFunc, AllocError>
     requires { IsTrue (are_closed marks.now function.now.code) }
     ensures kept { IfOk result (λ w. Keeps (virtual_code function.now) (virtual_code w)) }
-    ensures copied { IfOk result (λ w. IsCopied marks.now function.now w) }
+    ensures copied { IfOk result (λ w. IsCopied function.now w) }
 {
     let params = params(alloc, function.code.params.as_slice())?;
     let blocks = blocks(alloc, marks, function.code.blocks.as_slice())?;
@@ -34,6 +34,7 @@ fn with_copies(alloc: Global, function: &VFunc, marks: &[bool]) -> Result<VFunc,
 /// Only where memory was refused.
 pub fn copy_whole_words(alloc: Global, function: &VFunc) -> Result<VFunc, AllocError>
     ensures kept { IfOk result (λ w. Keeps (virtual_code function.now) (virtual_code w)) }
+    ensures copied { IfOk result (λ w. IsCopied function.now w) }
 {
     let marks = whole_registers(alloc, &function.code, function.registers)?;
     let made = with_copies(alloc, function, marks.as_slice())?;

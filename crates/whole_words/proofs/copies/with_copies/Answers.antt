@@ -40,3 +40,14 @@ returns-clause-kept c =
       blocks = c.in_ok-blocks.ensures ∙ ap (map (with_copies c.args.marks.now)) c.as_slice-2.ensures;
       closed = c.requires;
     })
+
+pub returns-clause-copied : goal.returns-clause-copied
+returns-clause-copied c =
+    record {
+      marks = c.args.marks.now;
+      closed = c.requires;
+      result = refl;
+      params = c.in_ok-params.ensures ∙ c.as_slice.ensures;
+      blocks = c.in_ok-blocks.ensures ∙ ap (map (with_copies c.args.marks.now)) c.as_slice-2.ensures;
+      registers = refl;
+    }
