@@ -10,13 +10,15 @@ use Rattle.rv_isa.specs.Memory.{stored, each_of, allowed, can_write}
 use Rattle.rv_isa.specs.Arithmetic.{moved}
 use Rattle.rv_isa.specs.Step.{act, store, store_size}
 use Rattle.rv_isa.specs.Labelled.{Ground, Fixed}
+use Rattle.rv_isa.specs.declared.ranges.Immediate.{Immediate}
 use Rattle.rv_isa.specs.declared.permission.Permission.{Permission}
 use Rattle.rv_isa.specs.declared.instruction.Instr.TheVariants.{Store}
 use Rattle.rv_isa.specs.declared.instruction.StoreOp.{StoreOp}
 use Rattle.rv_isa.specs.declared.instruction.StoreOp.TheVariants.{Sb, Sh, Sw, Sd}
 use Rattle.rv_isa.proofs.MemoryLemmas.{updated_here, updated_elsewhere, each_from, stored_avoids}
-use Rattle.abi_frames.specs.Fields.{reg, low}
-use Rattle.abi_frames.specs.Emission.{store_at}
+use Rattle.vcode.specs.Addresses.{low}
+use Rattle.abi_frames.specs.Fields.{reg}
+use Rattle.abi_frames.specs.Emission.{store_from, store_at}
 use Rattle.abi_frames.proofs.Leading.{Site, Leads, leads_by, IsReg, register_reg, in_register}
 use Rattle.abi_frames.proofs.Instructions.{UsableFrom, not_code, code_not}
 
@@ -41,19 +43,19 @@ pub record Written (s : State) (a n v : ℕ) (u : State) : Type 0 where
   pub registers : (m : ℕ) → u.registers m ≡ s.registers m
   pub output : u.output ≡ s.output
 
-pub leads_store_any_in : (c : Site) (s : State) (op : StoreOp) (v base o a : ℕ) → Fixed c.ground s
-    → moved (in_register s base) (low o).value ≡ a → UsableFrom c.ground a (store_size op)
-    → Leads c (store_at op v base o ∷ []) s (Written s a (store_size op) (in_register s v))
-leads_store_any_in c s op v base o a fixed there usable =
+pub leads_store_any_in : (c : Site) (s : State) (op : StoreOp) (v base : ℕ) (offset : Immediate) (a : ℕ) → Fixed c.ground s
+    → moved (in_register s base) offset.value ≡ a → UsableFrom c.ground a (store_size op)
+    → Leads c (store_from op v base offset ∷ []) s (Written s a (store_size op) (in_register s v))
+leads_store_any_in c s op v base offset a fixed there usable =
     let n : ℕ = store_size op in
     let x : ℕ = in_register s v in
     let P : (ℕ → Permission) → Type 0 = λ p. allowed (λ x. (p x).writable) a n ≡ true in
     let writable : can_write s a n ≡ true = subst P (sym fixed.permissions) (n_writable c.ground a n (some_stored op) usable) in
     let t : State = record s { pc = (s.pc + 4) % 2 ^ 64; bytes = stored s.bytes a n x } in
-    let acts : act (Store op (reg base) (reg v) (low o)) s ≡ Ok t = ap (store s op x) there ∙ (rw writable refl) in
+    let acts : act (Store op (reg base) (reg v) offset) s ≡ Ok t = ap (store s op x) there ∙ (rw writable refl) in
     let p : ℕ → Bool = λ x. not (c.ground.allows x).executable in
     let each : each_of p a n ≡ true = each_from p a n (λ x lo hi. not_code (c.ground.allows x).executable (usable x lo hi).no_code) in
-    leads_by c s t (Store op (reg base) (reg v) (low o)) (Written s a n x) acts refl refl
+    leads_by c s t (Store op (reg base) (reg v) offset) (Written s a n x) acts refl refl
     (λ y h. stored_avoids p s.bytes a n x y each (code_not (c.ground.allows y).executable h))
     (record { bytes = refl; registers = λ m. refl; output = refl })
 
@@ -62,7 +64,7 @@ pub leads_store_any : (c : Site) (s : State) (op : StoreOp) (v base o a : ℕ) �
     → Leads c (store_at op v base o ∷ []) s (Written s a (store_size op) (s.registers v))
 leads_store_any c s op v base o a is is_base fixed there usable =
     subst (λ x. Leads c (store_at op v base o ∷ []) s (Written s a (store_size op) x)) (register_reg s v is)
-    (leads_store_any_in c s op v base o a fixed (ap (λ x. moved x (low o).value) (register_reg s base is_base) ∙ there) usable)
+    (leads_store_any_in c s op v base (low o) a fixed (ap (λ x. moved x (low o).value) (register_reg s base is_base) ∙ there) usable)
 
 -- ---- the bytes that are stored
 

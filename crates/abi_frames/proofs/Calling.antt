@@ -27,7 +27,8 @@ use Rattle.vcode.specs.Named.{is_place, operand_keeps}
 use Rattle.flat_code.specs.Spots.{Spot, Away, Known, Spots, SameReach}
 use Rattle.flat_code.specs.Step.{Numbers, kept, number_of, read_all, taken}
 use Rattle.abi_frames.specs.Calls.{Ready, Back, is_kept, passed}
-use Rattle.abi_frames.specs.Fields.{reg, low, add_low}
+use Rattle.vcode.specs.Addresses.{low}
+use Rattle.abi_frames.specs.Fields.{reg, add_low}
 use Rattle.abi_frames.specs.Emission.{fetch, source, stack_all, passed_items, callee_items, callee_source, prepare_items, call_through}
 use Rattle.abi_frames.proofs.ConstantNumbers.{near_moves}
 use Rattle.abi_frames.proofs.Leading.{Site, StandAt, Leads, leads_nowhere, leads_then, leads_so, Sets, IsReg, register_reg, stepped, in_register, in_register_small, same_in_register}

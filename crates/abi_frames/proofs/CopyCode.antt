@@ -1,14 +1,13 @@
 -- What the code that copies bytes does: between two ranges that have no address in common, or are the same.
 use Rattle.std.proofs.Common.{inl, inr, ◌≡◌, ◌≢◌, ℕ, zero, suc, ◌+◌, ◌-◌, ◌*◌, ◌/◌, ◌%◌, ◌^◌, ◌<◌, ◌≤◌, ◌⊎◌, Bool, true, false, List, [], ◌∷◌, ◌++◌, refl, sym, ◌∙◌, ap, subst, arith, lit<, append_assoc}
-use Rattle.std.specs.Prelude.{nat_lt, if◌then◌else◌, Ok}
+use Rattle.std.specs.Prelude.{nat_lt, if◌then◌else◌}
 use Rattle.std.specs.Int.{byte_at}
 use Rattle.std.proofs.lemmas.Bool.Decides.{nat_tests}
-use Rattle.rv_isa.specs.State.{State, register, put}
-use Rattle.rv_isa.specs.Memory.{number_at, stored, allowed, can_read}
+use Rattle.rv_isa.specs.State.{State}
+use Rattle.rv_isa.specs.Memory.{number_at, stored}
 use Rattle.rv_isa.specs.Arithmetic.{moved}
-use Rattle.rv_isa.specs.Step.{act, load, load_size, load_value, store_size}
+use Rattle.rv_isa.specs.Step.{load, load_size, load_value, store_size}
 use Rattle.rv_isa.specs.Labelled.{Ground, Fixed}
-use Rattle.rv_isa.specs.declared.permission.Permission.{Permission}
 use Rattle.rv_isa.specs.declared.instruction.Instr.TheVariants.{Load}
 use Rattle.rv_isa.specs.declared.instruction.LoadOp.{LoadOp}
 use Rattle.rv_isa.specs.declared.instruction.LoadOp.TheVariants.{Ld, Lwu, Lhu, Lbu}
@@ -20,11 +19,12 @@ use Rattle.rv_isa.proofs.MemoryLemmas.{stored_below, stored_above}
 use Rattle.vcode.specs.declared.place.Location.{Location}
 use Rattle.vcode.specs.declared.place.Operand.{Operand}
 use Rattle.vcode.specs.Named.{is_place, operand_keeps}
-use Rattle.abi_frames.specs.Fields.{reg, low, add_low}
+use Rattle.vcode.specs.Addresses.{low}
+use Rattle.abi_frames.specs.Fields.{reg, add_low}
 use Rattle.abi_frames.specs.Emission.{into, store_at, copy_at, copy_eight, copy_eights, copy_rest, blit_items}
 use Rattle.abi_frames.proofs.ConstantNumbers.{near_moves}
-use Rattle.abi_frames.proofs.Leading.{Site, Leads, leads_nowhere, leads_then, leads_so, leads_set, Sets, IsReg, register_reg}
-use Rattle.abi_frames.proofs.Instructions.{UsableFrom, n_readable, some_bytes, leads_add_low, is_28, is_29}
+use Rattle.abi_frames.proofs.Leading.{Site, Leads, leads_nowhere, leads_then, leads_so, Sets, IsReg, register_reg}
+use Rattle.abi_frames.proofs.Instructions.{leads_load_at, UsableFrom, leads_add_low, is_28, is_29}
 use Rattle.abi_frames.proofs.Activations.{Setting, IsSetting, site, bottom, operand_in}
 use Rattle.abi_frames.proofs.LineCode.{Scratched, leads_into, operand_same}
 use Rattle.abi_frames.proofs.Accesses.{Written, leads_store_any, stored_byte, byte_later}
@@ -95,13 +95,7 @@ leads_load_any : (c : Site) (s : State) (op : LoadOp) (d base o a : ℕ) → IsR
     → moved (s.registers base) (low o).value ≡ a → UsableFrom c.ground a (load_size op)
     → Leads c (Plain (Load op (reg d) (reg base) (low o)) ∷ []) s (Sets s d (load_value op (number_at s.bytes a (load_size op))))
 leads_load_any c s op d base o a is is_base fixed there usable =
-    let n : ℕ = load_size op in
-    let v : ℕ = load_value op (number_at s.bytes a n) in
-    let P : (ℕ → Permission) → Type 0 = λ p. allowed (λ x. (p x).readable) a n ≡ true in
-    let readable : can_read s a n ≡ true = subst P (sym fixed.permissions) (n_readable c.ground a n (some_bytes op) usable) in
-    let at : moved (register s (reg base)) (low o).value ≡ a = ap (λ x. moved x (low o).value) (register_reg s base is_base) ∙ there in
-    let acts : act (Load op (reg d) (reg base) (low o)) s ≡ Ok (put s (reg d) v) = ap (load s op (reg d)) at ∙ (rw readable refl) in
-    leads_set c s (Load op (reg d) (reg base) (low o)) d v v is acts refl
+    leads_load_at c s op d base (low o) a is fixed (ap (λ x. moved x (low o).value) (register_reg s base is_base) ∙ there) usable
 
 -- n bytes were copied; of the registers only x30 may have changed
 pub record Piece (s : State) (n from to : ℕ) (u : State) : Type 0 where

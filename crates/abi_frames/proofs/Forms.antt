@@ -27,7 +27,8 @@ use Rattle.vcode.specs.declared.line.Operation.{Operation}
 use Rattle.vcode.specs.declared.line.Operation.TheVariants.{Reg as RegOperation, RegW as RegWOperation, Compare}
 use Rattle.vcode.specs.Cost.{is_immediate}
 use Rattle.flat_code.specs.Step.{computed}
-use Rattle.abi_frames.specs.Fields.{reg, low, word, add_low, is_zero, is_not_zero}
+use Rattle.vcode.specs.Addresses.{low}
+use Rattle.abi_frames.specs.Fields.{reg, word, add_low, is_zero, is_not_zero}
 use Rattle.abi_frames.specs.Immediates.{opposite, next, form_if, immediate_form, sum_form, reg_form, regw_form, compares_with, comparison_form, number_form, turned, left_form, compare_number, form_items, is_power}
 use Rattle.abi_frames.specs.declared.immediate.Form.{Form}
 use Rattle.abi_frames.specs.declared.immediate.Form.TheVariants.{Immediate as ByImmediate, AddWord, Shift as ByShift, ShiftWord, Compare as ByComparison}

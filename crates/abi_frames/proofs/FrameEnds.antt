@@ -17,7 +17,8 @@ use Rattle.rv_isa.proofs.MemoryLemmas.{number_same, stored_below, stored_above, 
 use Rattle.rv_isa.proofs.RunLemmas.{comes_by_step, comes_then}
 use Rattle.vcode.specs.Cost.{is_immediate}
 use Rattle.abi_frames.specs.Calls.{is_kept}
-use Rattle.abi_frames.specs.Fields.{reg, low, add_low, sum_to, constant, load_8, store_8}
+use Rattle.vcode.specs.Addresses.{low}
+use Rattle.abi_frames.specs.Fields.{reg, add_low, sum_to, constant, load_8, store_8}
 use Rattle.abi_frames.specs.Emission.{move_pointer, lower_pointer, raise_pointer, save_all, restore_all, go_back, epilogue}
 use Rattle.abi_frames.proofs.ConstantNumbers.{immediate_adds, near_moves}
 use Rattle.abi_frames.proofs.Leading.{Site, StandAt, Leads, leads_nowhere, leads_then, leads_so, leads_fixed, longest-append, stepped, Sets, IsReg, register_reg}

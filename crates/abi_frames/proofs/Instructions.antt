@@ -9,6 +9,7 @@ use Rattle.rv_isa.specs.Memory.{number_at, stored, each_of, allowed, can_read, c
 use Rattle.rv_isa.specs.Arithmetic.{moved, upper_value, reg_value, regw_value, imm_value, addiw_value, shift_value, shiftw_value}
 use Rattle.rv_isa.specs.Step.{act, load, load_size, load_value, store}
 use Rattle.rv_isa.specs.Labelled.{Ground, Fixed, Stand, Stands}
+use Rattle.rv_isa.specs.declared.ranges.Immediate.{Immediate}
 use Rattle.rv_isa.specs.declared.permission.Permission.{Permission}
 use Rattle.rv_isa.specs.declared.ranges.UpperField.{UpperField}
 use Rattle.rv_isa.specs.declared.instruction.Instr.TheVariants.{Lui, Load, Store, Imm, Addiw, Shift, ShiftW, Reg, RegW}
@@ -28,10 +29,11 @@ use Rattle.rv_isa.specs.declared.labelled.Item.TheVariants.{Plain, Address}
 use Rattle.rv_isa.proofs.MemoryLemmas.{each_from, stored_avoids}
 use Rattle.vcode.specs.Cost.{is_immediate}
 use Rattle.abi_frames.specs.Calls.{IsUsable}
-use Rattle.abi_frames.specs.Fields.{reg, low, field, high, amount, word_amount, add_low, extend, sum_to, load_8, store_8, shift_11, long_constant, word, is_word, lower_part, word_constant, constant}
+use Rattle.vcode.specs.Addresses.{low}
+use Rattle.abi_frames.specs.Fields.{reg, field, high, amount, word_amount, add_low, extend, sum_to, load_8, store_8, shift_11, long_constant, word, is_word, lower_part, word_constant, constant}
 use Rattle.abi_frames.specs.Emission.{far_load, load_slot, far_store, store_slot}
 use Rattle.abi_frames.proofs.ConstantNumbers.{immediate_is, near_moves, far_moves, top_bits, part_1, part_2, part_3, part_4, word_made, upper_made}
-use Rattle.abi_frames.proofs.Leading.{Site, StandAt, Leads, leads_nowhere, leads_then, leads_so, leads_by, leads_set, leads_again, Sets, IsReg, register_reg, in_register, same_in_register, in_register_small}
+use Rattle.abi_frames.proofs.Leading.{Site, StandAt, Leads, leads_nowhere, leads_then, leads_so, leads_by, leads_set, leads_again, Sets, IsReg, register_reg, in_register, same_in_register}
 
 -- ---- registers alone
 
@@ -245,20 +247,17 @@ n_readable g a n some usable =
 pub same_address : (a : ℕ) → a < 2 ^ 64 → moved a (low 0).value ≡ a
 same_address a h = near_moves a 0 (lit< tt) ∙ omega (arith, h)
 
--- a load of any size, at a register's address
-pub leads_load_at : (c : Site) (s : State) (op : LoadOp) (d base a : ℕ) → IsReg d → Fixed c.ground s → in_register s base ≡ a
-    → UsableFrom c.ground a (load_size op)
-    → Leads c (Plain (Load op (reg d) (reg base) (low 0)) ∷ []) s (Sets s d (load_value op (number_at s.bytes a (load_size op))))
-leads_load_at c s op d base a is fixed there usable =
+-- a load of any size, at an offset from a register
+pub leads_load_at : (c : Site) (s : State) (op : LoadOp) (d base : ℕ) (offset : Immediate) (a : ℕ) → IsReg d → Fixed c.ground s
+    → moved (in_register s base) offset.value ≡ a → UsableFrom c.ground a (load_size op)
+    → Leads c (Plain (Load op (reg d) (reg base) offset) ∷ []) s (Sets s d (load_value op (number_at s.bytes a (load_size op))))
+leads_load_at c s op d base offset a is fixed there usable =
     let n : ℕ = load_size op in
     let v : ℕ = load_value op (number_at s.bytes a n) in
     let P : (ℕ → Permission) → Type 0 = λ p. allowed (λ x. (p x).readable) a n ≡ true in
     let readable : can_read s a n ≡ true = subst P (sym fixed.permissions) (n_readable c.ground a n (some_bytes op) usable) in
-    let word : a < 2 ^ 64 = subst (λ x. x < 2 ^ 64) there (in_register_small c.ground s base fixed) in
-    let at : moved (register s (reg base)) (low 0).value ≡ a =
-    ap (λ x. moved x (low 0).value) there ∙ same_address a word in
-    let acts : act (Load op (reg d) (reg base) (low 0)) s ≡ Ok (put s (reg d) v) = ap (load s op (reg d)) at ∙ (rw readable refl) in
-    leads_set c s (Load op (reg d) (reg base) (low 0)) d v v is acts refl
+    let acts : act (Load op (reg d) (reg base) offset) s ≡ Ok (put s (reg d) v) = ap (load s op (reg d)) there ∙ (rw readable refl) in
+    leads_set c s (Load op (reg d) (reg base) offset) d v v is acts refl
 
 -- eight bytes at `a` are those of v; of the registers only x29 may have changed
 pub record Writes (s : State) (a v : ℕ) (u : State) : Type 0 where

@@ -41,11 +41,12 @@ use Rattle.vcode.specs.Named.{is_place, operand_keeps, line_keeps, jump_keeps, b
 use Rattle.vcode.specs.Regular.{leads_inside, is_target, alloc_bytes, code_weight}
 use Rattle.abi_frames.specs.Layout.{layout, saved_registers}
 use Rattle.abi_frames.specs.declared.layout.Layout.{Layout}
-use Rattle.abi_frames.specs.Fields.{reg, low, high, amount, word_amount, add_low, extend, sum_to, load_8, store_8, long_constant, word, is_word, word_constant, constant, negate, is_zero, is_not_zero}
+use Rattle.vcode.specs.Addresses.{low}
+use Rattle.abi_frames.specs.Fields.{reg, high, amount, word_amount, add_low, extend, sum_to, load_8, store_8, long_constant, word, is_word, word_constant, constant, negate, is_zero, is_not_zero}
 use Rattle.abi_frames.specs.Immediates.{opposite, next, right_form, left_form, compare_number, form_items}
 use Rattle.abi_frames.specs.declared.immediate.Form.{Form}
 use Rattle.abi_frames.specs.declared.immediate.Form.TheVariants.{Immediate as ByImmediate, AddWord, Shift as ByShift, ShiftWord, Compare as ByComparison}
-use Rattle.abi_frames.specs.Emission.{copy_at, copy_eight, copy_eights, copy_rest, far_load, load_slot, far_store, store_slot, slot_offset, into, fetch, source, word_into, target, deliver, set_items, compare_items, operation_items, operand_into, operand_source, on_registers, by_form, operate_by, operate_items, load_to, store_at, store_op, line_items, lines_items, move_pointer, lower_pointer, raise_pointer, save_all, restore_all, go_back, prologue, epilogue, result_items, goto_items, branch_when, inverted, ways_items, compared_into, compared_source, jump_items, blocks_items, pass_into, stack_items, stack_all, register_items, register_all, passed_items, callee_items, callee_source, prepare_items, call_through, receive_items, call_items, address_at}
+use Rattle.abi_frames.specs.Emission.{copy_at, copy_eight, copy_eights, copy_rest, far_load, load_slot, far_store, store_slot, slot_offset, into, fetch, source, word_into, target, deliver, set_items, compare_items, operation_items, operand_into, operand_source, on_registers, by_form, operate_by, operate_items, load_to, store_from, store_op, line_items, lines_items, move_pointer, lower_pointer, raise_pointer, save_all, restore_all, go_back, prologue, epilogue, result_items, goto_items, branch_when, inverted, ways_items, compared_into, compared_source, jump_items, blocks_items, pass_into, stack_items, stack_all, register_items, register_all, passed_items, callee_items, callee_source, prepare_items, call_through, receive_items, call_items, address_at}
 use Rattle.abi_frames.specs.Moves.{is_read, earlier_at, move_up, moves_up, moved_up, all_move_up, all_moved_up}
 use Rattle.abi_frames.proofs.Passing.{in_place}
 use Rattle.abi_frames.proofs.Arranging.{is_earlier, all_stand}
@@ -498,20 +499,21 @@ line_plainly n y used slots (Operate to op a b) known =
     let operands = and_parts (operand_keeps (is_place slots) a) (operand_keeps (is_place slots) b) parts.1 in
     operate_plainly n y slots to op a b parts.0 operands.0 operands.1
 line_plainly n y used slots (Load to op at) known =
-    let parts = and_parts (is_place slots to) (operand_keeps (is_place slots) at) known in
-    plainly_then n (fetch y 28 at) ((load_to op (target to) (source 28 at) ∷ []) ++ deliver y to) (fetch_plainly n y 28 at (lit< tt) (lit< tt))
-    (plainly_then n (load_to op (target to) (source 28 at) ∷ []) (deliver y to)
-    (one_of_two n (load_to op (target to) (source 28 at)) (target to) (source 28 at) (target_nameable slots to parts.0)
-    (source_nameable slots 28 at (lit< tt) parts.1) refl (λ l. refl) refl)
+    let parts = and_parts (is_place slots to) (operand_keeps (is_place slots) at.base) known in
+    plainly_then n (fetch y 28 at.base) ((load_to op (target to) (source 28 at.base) at.offset ∷ []) ++ deliver y to) (fetch_plainly n y 28 at.base (lit< tt) (lit< tt))
+    (plainly_then n (load_to op (target to) (source 28 at.base) at.offset ∷ []) (deliver y to)
+    (one_of_two n (load_to op (target to) (source 28 at.base) at.offset) (target to) (source 28 at.base) (target_nameable slots to parts.0)
+    (source_nameable slots 28 at.base (lit< tt) parts.1) refl (λ l. refl) refl)
     (deliver_plainly n y to))
 line_plainly n y used slots (Store size a at) known =
-    let parts = and_parts (operand_keeps (is_place slots) a) (operand_keeps (is_place slots) at) known in
-    let made : List Item = store_at (store_op size) (source 28 a) (source 29 at) 0 ∷ [] in
-    plainly_then n (fetch y 28 a) (fetch y 29 at ++ made) (fetch_plainly n y 28 a (lit< tt) (lit< tt))
-    (plainly_then n (fetch y 29 at) made (fetch_plainly n y 29 at (lit< tt) (lit< tt))
-    (one_of_two n (store_at (store_op size) (source 28 a) (source 29 at) 0) (source 29 at) (source 28 a) (source_nameable slots 29 at (lit< tt) parts.1)
+    let parts = and_parts (operand_keeps (is_place slots) a) (operand_keeps (is_place slots) at.base) known in
+    let made : List Item = store_from (store_op size) (source 28 a) (source 29 at.base) at.offset ∷ [] in
+    plainly_then n (fetch y 28 a) (fetch y 29 at.base ++ made) (fetch_plainly n y 28 a (lit< tt) (lit< tt))
+    (plainly_then n (fetch y 29 at.base) made (fetch_plainly n y 29 at.base (lit< tt) (lit< tt))
+    (one_of_two n (store_from (store_op size) (source 28 a) (source 29 at.base) at.offset) (source 29 at.base) (source 28 a) (source_nameable slots 29 at.base (lit< tt) parts.1)
     (source_nameable slots 28 a (lit< tt) parts.0) refl (λ l. refl) refl))
-line_plainly n y used slots (Alloc to size) known =
+line_plainly n y used slots (Alloc None size) known = plainly_nothing n
+line_plainly n y used slots (Alloc (Some to) size) known =
     plainly_then n (address_at (target to) (y.area + used)) (deliver y to) (offset_plainly n (target to) (y.area + used) (target_nameable slots to known))
     (deliver_plainly n y to)
 line_plainly n y used slots (Blit from to count) known =

@@ -2,6 +2,7 @@ pub mod ConstantNumbers
 pub mod Leading
 pub mod Instructions
 pub mod Activations
+pub mod Addressing
 pub mod LineCode
 pub mod Saving
 pub mod FrameEnds

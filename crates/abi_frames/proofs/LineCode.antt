@@ -17,6 +17,7 @@ use Rattle.rv_isa.specs.declared.labelled.Item.{Item}
 use Rattle.vcode.specs.declared.place.Location.{Location}
 use Rattle.vcode.specs.declared.place.Location.TheVariants.{Register as InRegister, Slot}
 use Rattle.vcode.specs.declared.place.Operand.{Operand}
+use Rattle.vcode.specs.declared.place.Address.{Address}
 use Rattle.vcode.specs.declared.place.Operand.TheVariants.{At, Number, Name}
 use Rattle.vcode.specs.declared.line.Operation.{Operation}
 use Rattle.vcode.specs.declared.line.Operation.TheVariants.{Reg as RegOperation, RegW as RegWOperation, Compare}
@@ -27,6 +28,7 @@ use Rattle.abi_frames.specs.Emission.{load_to, load_items, slot_offset, load_slo
 use Rattle.abi_frames.proofs.ConstantNumbers.{near_moves}
 use Rattle.abi_frames.proofs.Leading.{Leads, leads_nowhere, leads_then, leads_so, leads_fixed, Sets, IsReg, register_reg, in_register, same_in_register, in_register_small}
 use Rattle.abi_frames.proofs.Instructions.{UsableFrom, leads_load_at, Writes, leads_extend, leads_add_low, leads_reg, leads_regw, leads_constant, leads_address, leads_load_slot, leads_store_slot_in, is_28, is_29}
+use Rattle.abi_frames.proofs.Addressing.{IsBased}
 use Rattle.abi_frames.proofs.Activations.{Setting, IsSetting, site, bottom, slot_at, operand_in, IsPlace, place_is, place_reg, slot_is, slot_in_frame, InPlace, OnStack, Assigned}
 
 -- ---- operands
@@ -390,24 +392,24 @@ leads_operate_line c is s to op a b pointer good known_a known_b = by_forms (rig
 
 -- ---- a load
 
-pub leads_load_line : (c : Setting) → IsSetting c → (s : State) (to : Location) (op : LoadOp) (at : Operand Location) → s.registers 2 ≡ bottom c
-    → is_place c.slots to ≡ true → operand_keeps (is_place c.slots) at ≡ true → UsableFrom c.world.memory_map (operand_in c s at) (load_size op)
-    → Leads (site c) (load_items c.layout to op at) s (Assigned c s to (load_value op (number_at s.bytes (operand_in c s at) (load_size op))))
-leads_load_line c is s to op at pointer good known usable =
-    let x : ℕ = operand_in c s at in
+pub leads_load_line : (c : Setting) → IsSetting c → (s : State) (to : Location) (op : LoadOp) (at : Address Location) (x : ℕ) → s.registers 2 ≡ bottom c
+    → is_place c.slots to ≡ true → operand_keeps (is_place c.slots) at.base ≡ true → IsBased c s at x → UsableFrom c.world.memory_map x (load_size op)
+    → Leads (site c) (load_items c.layout to op at) s (Assigned c s to (load_value op (number_at s.bytes x (load_size op))))
+leads_load_line c is s to op at x pointer good known based usable =
     let n : ℕ = load_size op in
-    let y : ℕ = source 28 at in
+    let y : ℕ = source 28 at.base in
     let v : ℕ = load_value op (number_at s.bytes x n) in
-    leads_then (site c) (fetch c.layout 28 at) ((load_to op (target to) y ∷ []) ++ deliver c.layout to) s (Fetched c s 28 at) (Assigned c s to v)
-    (leads_fetch c is s 28 at is_28 (λ e. absurd (omega (arith, e))) pointer known)
+    leads_then (site c) (fetch c.layout 28 at.base) ((load_to op (target to) y at.offset ∷ []) ++ deliver c.layout to) s (Fetched c s 28 at.base) (Assigned c s to v)
+    (leads_fetch c is s 28 at.base is_28 (λ e. absurd (omega (arith, e))) pointer known)
     (λ u f one.
-    let same = fetched_scratched c s 28 at u (omega arith) one in
+    let same = fetched_scratched c s 28 at.base u (omega arith) one in
+    let there = based (in_register u y) one.value (in_register_small c.world.memory_map u y f) in
     let w : ℕ = load_value op (number_at u.bytes x n) in
     let value : w ≡ v = ap (λ (m : ℕ → ℕ). load_value op (number_at m x n)) one.bytes in
-    leads_so (site c) ((load_to op (target to) y ∷ []) ++ deliver c.layout to) u (Assigned c u to w) (Assigned c s to v)
-    (leads_made c is u (λ d. load_to op d y ∷ []) w to (same.registers 2 (lit< tt) ∙ pointer) good
+    leads_so (site c) ((load_to op (target to) y at.offset ∷ []) ++ deliver c.layout to) u (Assigned c u to w) (Assigned c s to v)
+    (leads_made c is u (λ d. load_to op d y at.offset ∷ []) w to (same.registers 2 (lit< tt) ∙ pointer) good
     (λ d reg other.
-    leads_so (site c) (load_to op d y ∷ []) u (Sets u d w) (InPlace u d w)
-    (leads_load_at (site c) u op d y x reg f one.value usable)
+    leads_so (site c) (load_to op d y at.offset ∷ []) u (Sets u d w) (InPlace u d w)
+    (leads_load_at (site c) u op d y at.offset x reg f there usable)
     (λ t h two. set_register u d w t two)))
     (λ t h two. assigned_value c s to w v t value (assigned_from c s u to w t same two)))

@@ -1,6 +1,6 @@
 -- A block of memory is made: its address comes to its place, and its bytes, in the frame's area, may be accessed.
 use Rattle.std.proofs.Common.{◌≡◌, ◌≢◌, ℕ, ◌+◌, ◌-◌, ◌%◌, ◌^◌, ◌<◌, ◌≤◌, Bool, true, false, List, [], ◌∷◌, refl, ◌∙◌, arith}
-use Rattle.std.specs.Prelude.{nat_lt, if◌then◌else◌, Some}
+use Rattle.std.specs.Prelude.{nat_lt, if◌then◌else◌, Option, Some, None}
 use Rattle.std.specs.List.{list_all}
 use Rattle.std.proofs.lemmas.Bool.{and_parts}
 use Rattle.std.proofs.lemmas.Bool.Decides.{nat_tests}
@@ -19,12 +19,12 @@ use Rattle.vcode.specs.Named.{is_place, line_keeps}
 use Rattle.vcode.specs.Regular.{alloc_bytes}
 use Rattle.flat_code.specs.Spots.{Away, Open, Known, Spots}
 use Rattle.flat_code.specs.Flat.{FlatGiven, FlatOutcome}
-use Rattle.flat_code.specs.Step.{FlatState, Numbers, put, is_in, opened, goes_on}
+use Rattle.flat_code.specs.Step.{FlatState, Numbers, put, made_in, is_in, opened, goes_on}
 use Rattle.abi_frames.specs.Calls.{IsUsable}
 use Rattle.abi_frames.specs.Performs.{AllPerform}
 use Rattle.abi_frames.specs.Fields.{reg, high, add_low, sum_to}
 use Rattle.abi_frames.specs.Emission.{address_at, alloc_items, line_items}
-use Rattle.abi_frames.proofs.Leading.{Site, Leads, leads_so, leads_again, Sets, IsReg, register_reg}
+use Rattle.abi_frames.proofs.Leading.{Site, Leads, leads_nowhere, leads_so, leads_again, Sets, IsReg, register_reg}
 use Rattle.abi_frames.proofs.Instructions.{leads_add_low, near_address, far_address, high_part, is_2}
 use Rattle.abi_frames.proofs.Activations.{Setting, IsSetting, site, bottom, InPlace, Framed, Assigned, assigned, assigned_output}
 use Rattle.abi_frames.proofs.LineCode.{leads_made, set_register}
@@ -47,7 +47,7 @@ leads_address_at c s d b o is other pointer h small = by_test (nat_lt o 2048) re
         (λ u f one. leads_add_low c u d d o (u.registers d) (b + o) is (register_reg u d is) (far_address (u.registers d) b o one.value h small))
 
 leads_alloc_line : (c : Setting) → IsSetting c → (s : State) (used : ℕ) (to : Location) → s.registers 2 ≡ bottom c → is_place c.slots to ≡ true → used ≤ c.area
-    → Leads (site c) (alloc_items c.layout used to) s (Assigned c s to (bottom c + (c.layout.area + used)))
+    → Leads (site c) (alloc_items c.layout used (Some to)) s (Assigned c s to (bottom c + (c.layout.area + used)))
 leads_alloc_line c is s used to pointer good inside =
     let o : ℕ = c.layout.area + used in
     let v : ℕ = bottom c + o in
@@ -114,32 +114,32 @@ opened_framed c is numbers memory u used size room framed =
 
 -- ---- the line
 
-pub alloc_case : (c : Setting) (f : Code Location) → CodeStands c f → (j : FlatGiven) (r : FlatOutcome) (n : ℕ) → Follows c f j r n
+named_case : (c : Setting) (f : Code Location) → CodeStands c f → (j : FlatGiven) (r : FlatOutcome) (n : ℕ) → Follows c f j r n
     → (b : Block Location) (to : Location) (size : ℕ) (lines : List (Line Location)) (fs : FlatState) (k : ℕ) (u : State)
-    → At c f b (Alloc to size ∷ lines) fs k u → (log : Log)
+    → At c f b (Alloc (Some to) size ∷ lines) fs k u → (log : Log)
     → Then c f j r n log
     (goes_on
     (record fs {
-      numbers = put to (Some (c.sp - c.area + fs.used)) fs.numbers;
+      numbers = made_in (Some to) (c.sp - c.area + fs.used) fs.numbers;
       memory = opened fs.memory (c.sp - c.area + fs.used) size;
       used = fs.used + round_16 size;
     }))
     → AllPerform c.world (bottom c) log → Performed c f r
-alloc_case c f is j r n go b to size lines fs k u a log goes all =
+named_case c f is j r n go b to size lines fs k u a log goes all =
     let p : ℕ = c.sp - c.area + fs.used in
     let v : ℕ = bottom c + (c.layout.area + a.used) in
     let numbers : Numbers = put to (Some p) fs.numbers in
     let now : Spots = opened fs.memory p size in
-    let good : is_place c.slots to ≡ true = (and_parts (line_keeps (is_place c.slots) (Alloc to size)) (list_all (line_keeps (is_place c.slots)) lines) a.known).0 in
-    let may = may_write c f is b (Alloc to size) lines fs k u a to good (λ q. refl) in
+    let good : is_place c.slots to ≡ true = (and_parts (line_keeps (is_place c.slots) (Alloc (Some to) size)) (list_all (line_keeps (is_place c.slots)) lines) a.known).0 in
+    let may = may_write c f is b (Alloc (Some to) size) lines fs k u a to good (λ q. refl) in
     let same : fs.used ≡ a.used = a.used_is refl in
     let room = a.room in
-    let bytes = sum_by-cons alloc_bytes (Alloc to size) lines in
+    let bytes = sum_by-cons alloc_bytes (Alloc (Some to) size) lines in
     let blocks = is.setting.blocks in
     let above = is.setting.above in
     let value : v ≡ p = omega (arith, same, blocks, above) in
-    let m = reach c f b (Alloc to size) lines fs k u (λ t. Framed c numbers now t × (t.output ≡ u.output)) a
-    (leads_so (site c) (line_items c.layout a.used (Alloc to size)) u (Assigned c u to v) (λ t. Framed c numbers now t × (t.output ≡ u.output))
+    let m = reach c f b (Alloc (Some to) size) lines fs k u (λ t. Framed c numbers now t × (t.output ≡ u.output)) a
+    (leads_so (site c) (line_items c.layout a.used (Alloc (Some to) size)) u (Assigned c u to v) (λ t. Framed c numbers now t × (t.output ≡ u.output))
     (leads_alloc_line c is.setting u a.used to a.framed.pointer good (omega (arith, room, bytes)))
     (λ t fixed made. (
       opened_framed c is.setting numbers fs.memory t fs.used size (omega (arith, room, bytes, same))
@@ -147,7 +147,38 @@ alloc_case c f is j r n go b to size lines fs k u a log goes all =
       assigned_output c u to v t made,
     ))) in
     go b lines (record fs { next = fs.next + 1; numbers = numbers; memory = now; used = fs.used + round_16 size }) (k + m.steps) m.after
-    (advance c f b (Alloc to size) lines fs k u numbers now (fs.used + round_16 size) a refl refl a.paid m) log goes all
+    (advance c f b (Alloc (Some to) size) lines fs k u numbers now (fs.used + round_16 size) a refl refl a.paid m) log goes all
   where
     some_is : (p q : ℕ) → Some p ≡ Some q → p ≡ q
     some_is p q e = cc
+
+-- with no instruction
+unnamed_case : (c : Setting) (f : Code Location) → CodeStands c f → (j : FlatGiven) (r : FlatOutcome) (n : ℕ) → Follows c f j r n
+    → (b : Block Location) (size : ℕ) (lines : List (Line Location)) (fs : FlatState) (k : ℕ) (u : State)
+    → At c f b (Alloc None size ∷ lines) fs k u → (log : Log)
+    → Then c f j r n log (goes_on (record fs { memory = opened fs.memory (c.sp - c.area + fs.used) size; used = fs.used + round_16 size }))
+    → AllPerform c.world (bottom c) log → Performed c f r
+unnamed_case c f is j r n go b size lines fs k u a log goes all =
+    let now : Spots = opened fs.memory (c.sp - c.area + fs.used) size in
+    let same : fs.used ≡ a.used = a.used_is refl in
+    let room = a.room in
+    let bytes = sum_by-cons alloc_bytes (Alloc None size) lines in
+    let m = reach c f b (Alloc None size) lines fs k u (λ t. Framed c fs.numbers now t × (t.output ≡ u.output)) a
+    (leads_nowhere (site c) u (λ t. Framed c fs.numbers now t × (t.output ≡ u.output))
+    (opened_framed c is.setting fs.numbers fs.memory u fs.used size (omega (arith, room, bytes, same)) a.framed, refl)) in
+    go b lines (record fs { next = fs.next + 1; memory = now; used = fs.used + round_16 size }) (k + m.steps) m.after
+    (advance c f b (Alloc None size) lines fs k u fs.numbers now (fs.used + round_16 size) a refl refl a.paid m) log goes all
+
+pub alloc_case : (c : Setting) (f : Code Location) → CodeStands c f → (j : FlatGiven) (r : FlatOutcome) (n : ℕ) → Follows c f j r n
+    → (b : Block Location) (to : Option Location) (size : ℕ) (lines : List (Line Location)) (fs : FlatState) (k : ℕ) (u : State)
+    → At c f b (Alloc to size ∷ lines) fs k u → (log : Log)
+    → Then c f j r n log
+    (goes_on
+    (record fs {
+      numbers = made_in to (c.sp - c.area + fs.used) fs.numbers;
+      memory = opened fs.memory (c.sp - c.area + fs.used) size;
+      used = fs.used + round_16 size;
+    }))
+    → AllPerform c.world (bottom c) log → Performed c f r
+alloc_case c f is j r n go b None size lines fs k u a log goes all = unnamed_case c f is j r n go b size lines fs k u a log goes all
+alloc_case c f is j r n go b (Some to) size lines fs k u a log goes all = named_case c f is j r n go b to size lines fs k u a log goes all

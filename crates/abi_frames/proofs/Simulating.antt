@@ -23,6 +23,7 @@ use Rattle.rv_isa.proofs.RunLemmas.{comes_then}
 use Rattle.rv_isa.proofs.StepLemmas.{step_at}
 use Rattle.vcode.specs.declared.place.Location.{Location}
 use Rattle.vcode.specs.declared.place.Operand.{Operand}
+use Rattle.vcode.specs.declared.place.Address.{Address}
 use Rattle.vcode.specs.declared.line.Operation.{Operation}
 use Rattle.vcode.specs.declared.line.Line.{Line}
 use Rattle.vcode.specs.declared.line.Line.TheVariants.{Tick, Set, Operate, Load, Store, Alloc, Blit, Call}
@@ -40,14 +41,14 @@ use Rattle.flat_code.specs.Spots.{Away, Known, Spots}
 use Rattle.flat_code.specs.Flat.{FlatGiven, FlatOutcome, FlatReturned, FlatEnded}
 use Rattle.rv_isa.specs.Step.{load_size, load_value}
 use Rattle.rv_isa.specs.declared.instruction.LoadOp.{LoadOp}
-use Rattle.abi_frames.proofs.Instructions.{UsableFrom}
 use Rattle.abi_frames.proofs.Reading.{read_is}
-use Rattle.flat_code.specs.Step.{known_number, FlatState, Numbers, put, number_of, taken, computed, closed, is_in, sets, ticks, fails, goes_on, enters, compared, branches, returns, returns_as, flat_line, flat_jump, block_step, step_in, flat_step}
+use Rattle.flat_code.specs.Step.{known_number, FlatState, Numbers, put, number_of, taken, computed, closed, is_in, sets, ticks, fails, goes_on, enters, compared, branches, returns, returns_as, flat_line, flat_jump, block_step, step_in, flat_step, address_of}
 use Rattle.abi_frames.specs.Calls.{ResultIn, passed}
 use Rattle.abi_frames.specs.Performs.{AllPerform}
 use Rattle.abi_frames.specs.Layout.{most_in_lines}
 use Rattle.abi_frames.specs.Emission.{line_items, lines_items, jump_items, goto_items, result_items, epilogue}
 use Rattle.abi_frames.proofs.Leading.{Site, StandAt, Leads, leads_so, Sets}
+use Rattle.abi_frames.proofs.Addressing.{is_based}
 use Rattle.abi_frames.proofs.Activations.{Setting, site, bottom, save_at, operand_in, Framed, operand_known, Assigned, assigned, assigned_output, held_below, held_not_10}
 use Rattle.abi_frames.proofs.LineCode.{leads_set_line, leads_operate_line, leads_load_line}
 use Rattle.abi_frames.proofs.FrameEnds.{ends_frame}
@@ -204,25 +205,22 @@ operate_case c f is j r n go b to op x y lines fs k u a log all goes =
 
 -- a load
 loaded : (c : Setting) (f : Code Location) → CodeStands c f → (j : FlatGiven) (r : FlatOutcome) (n : ℕ) → Follows c f j r n
-    → (b : Block Location) (to : Location) (op : LoadOp) (x : Operand Location) (lines : List (Line Location)) (fs : FlatState) (k : ℕ) (u : State)
+    → (b : Block Location) (to : Location) (op : LoadOp) (x : Address Location) (lines : List (Line Location)) (fs : FlatState) (k : ℕ) (u : State)
     → At c f b (Load to op x ∷ lines) fs k u → (log : Log) → AllPerform c.world (bottom c) log
-    → (p v : ℕ) → number_of c.addresses fs.numbers x ≡ Some p → known_number fs.memory p (load_size op) ≡ Some v
+    → (p v : ℕ) → address_of c.addresses fs.numbers x ≡ Some p → known_number fs.memory p (load_size op) ≡ Some v
     → Then c f j r n log (goes_on (record fs { numbers = put to (Some (load_value op v)) fs.numbers })) → Performed c f r
 loaded c f is j r n go b to op x lines fs k u a log all p v is_x is_v goes =
     let numbers : Numbers = put to (Some (load_value op v)) fs.numbers in
-    let known = and_parts (is_place c.slots to) (operand_keeps (is_place c.slots) x)
+    let known = and_parts (is_place c.slots to) (operand_keeps (is_place c.slots) x.base)
     (and_parts (line_keeps (is_place c.slots) (Load to op x)) (list_all (line_keeps (is_place c.slots)) lines) a.known).0 in
-    let at_x : operand_in c u x ≡ p = operand_known c fs.numbers fs.memory u x p is.setting a.framed known.1 is_x in
+    let based = is_based c fs.numbers fs.memory u x p is.setting a.framed known.1 is_x in
     let read = read_is c.world.memory_map fs.memory u p (load_size op) v a.framed.spots is_v in
-    let usable : UsableFrom c.world.memory_map (operand_in c u x) (load_size op) =
-    subst (λ q. UsableFrom c.world.memory_map q (load_size op)) (sym at_x) read.usable in
-    let made_v : ℕ = load_value op (number_at u.bytes (operand_in c u x) (load_size op)) in
-    let value : made_v ≡ load_value op v =
-    ap (λ q. load_value op (number_at u.bytes q (load_size op))) at_x ∙ ap (load_value op) read.value in
+    let made_v : ℕ = load_value op (number_at u.bytes p (load_size op)) in
+    let value : made_v ≡ load_value op v = ap (load_value op) read.value in
     let may = may_write c f is b (Load to op x) lines fs k u a to known.0 (λ q. refl) in
     let m = reach c f b (Load to op x) lines fs k u (λ t. Framed c numbers fs.memory t × (t.output ≡ u.output)) a
     (leads_so (site c) (line_items c.layout a.used (Load to op x)) u (Assigned c u to made_v) (λ t. Framed c numbers fs.memory t × (t.output ≡ u.output))
-    (leads_load_line c is.setting u to op x a.framed.pointer known.0 known.1 usable)
+    (leads_load_line c is.setting u to op x p a.framed.pointer known.0 known.1 based read.usable)
     (λ t fixed made. (
       assigned c is.setting fs.numbers fs.memory u t to made_v (Some (load_value op v)) known.0 may a.framed made (λ q e. value ∙ some_is (load_value op v) q e),
       assigned_output c u to made_v t made,
@@ -234,19 +232,19 @@ loaded c f is j r n go b to op x lines fs k u a log all p v is_x is_v goes =
     some_is p q e = cc
 
 load_case : (c : Setting) (f : Code Location) → CodeStands c f → (j : FlatGiven) (r : FlatOutcome) (n : ℕ) → Follows c f j r n
-    → (b : Block Location) (to : Location) (op : LoadOp) (x : Operand Location) (lines : List (Line Location)) (fs : FlatState) (k : ℕ) (u : State)
+    → (b : Block Location) (to : Location) (op : LoadOp) (x : Address Location) (lines : List (Line Location)) (fs : FlatState) (k : ℕ) (u : State)
     → At c f b (Load to op x ∷ lines) fs k u → (log : Log) → AllPerform c.world (bottom c) log
     → Then c f j r n log
-    (sets fs to (option_and_then (λ p. option_map (load_value op) (known_number fs.memory p (load_size op))) (number_of c.addresses fs.numbers x)))
+    (sets fs to (option_and_then (λ p. option_map (load_value op) (known_number fs.memory p (load_size op))) (address_of c.addresses fs.numbers x)))
     → Performed c f r
-load_case c f is j r n go b to op x lines fs k u a log all goes = by_address (number_of c.addresses fs.numbers x) refl goes
+load_case c f is j r n go b to op x lines fs k u a log all goes = by_address (address_of c.addresses fs.numbers x) refl goes
   where
-    by_number : (p : ℕ) → number_of c.addresses fs.numbers x ≡ Some p → (o : Option ℕ) → known_number fs.memory p (load_size op) ≡ o
+    by_number : (p : ℕ) → address_of c.addresses fs.numbers x ≡ Some p → (o : Option ℕ) → known_number fs.memory p (load_size op) ≡ o
         → Then c f j r n log (sets fs to (option_map (load_value op) o)) → Performed c f r
     by_number p e None d e_goes = undefined c f fs.spent r e_goes.0
     by_number p e (Some v) d e_goes = loaded c f is j r n go b to op x lines fs k u a log all p v e d e_goes
 
-    by_address : (o : Option ℕ) → number_of c.addresses fs.numbers x ≡ o
+    by_address : (o : Option ℕ) → address_of c.addresses fs.numbers x ≡ o
         → Then c f j r n log (sets fs to (option_and_then (λ p. option_map (load_value op) (known_number fs.memory p (load_size op))) o)) → Performed c f r
     by_address None e e_goes = undefined c f fs.spent r e_goes.0
     by_address (Some p) e e_goes = by_number p e (known_number fs.memory p (load_size op)) refl e_goes

@@ -22,6 +22,7 @@ use Rattle.std.proofs.lemmas.List.Sums.{sum_by-cons}
 use Rattle.vcode.specs.declared.place.Location.{Location}
 use Rattle.vcode.specs.declared.place.Location.TheVariants.{Register as InRegister, Slot}
 use Rattle.vcode.specs.declared.place.Operand.{Operand}
+use Rattle.vcode.specs.declared.place.Address.{Address as MemoryAddress}
 use Rattle.vcode.specs.declared.place.Argument.{Argument}
 use Rattle.vcode.specs.declared.place.Destination.{Destination}
 use Rattle.vcode.specs.declared.place.Operand.TheVariants.{At, Number, Name}
@@ -41,13 +42,14 @@ use Rattle.abi_frames.specs.Layout.{layout, saved_registers}
 use Rattle.abi_frames.proofs.Saving.{few_saved_registers}
 use Rattle.abi_frames.specs.Laws.{FramesAreSmall}
 use Rattle.abi_frames.specs.declared.layout.Layout.{Layout}
-use Rattle.abi_frames.specs.Fields.{reg, low, high, add_low, extend, sum_to, load_8, store_8, long_constant, word, is_word, word_constant, constant, is_zero, is_not_zero}
+use Rattle.vcode.specs.Addresses.{low}
+use Rattle.abi_frames.specs.Fields.{reg, high, add_low, extend, sum_to, load_8, store_8, long_constant, word, is_word, word_constant, constant, is_zero, is_not_zero}
 use Rattle.abi_frames.specs.Immediates.{opposite, right_form, left_form, compare_number, form_items}
 use Rattle.abi_frames.specs.declared.immediate.Form.{Form}
 use Rattle.abi_frames.specs.declared.immediate.Form.TheVariants.{Immediate as ByImmediate, AddWord, Shift as ByShift, ShiftWord, Compare as ByComparison}
 use Rattle.abi_frames.proofs.FormNumbers.{word_low, word_is_small}
 use Rattle.abi_frames.proofs.Branching.{branch_size}
-use Rattle.abi_frames.specs.Emission.{far_load, far_store, load_slot, store_slot, slot_offset, into, fetch, source, word_into, target, deliver, set_items, compare_items, operation_items, operand_into, operand_source, on_registers, by_form, operate_by, operate_items, load_to, load_items, store_at, store_op, store_items, line_items, lines_items, move_pointer, lower_pointer, raise_pointer, save_all, restore_all, go_back, prologue, epilogue, result_items, goto_items, branch_when, inverted, ways_items, compared_into, compared_source, jump_items, block_items, blocks_items, pass_into, stack_items, stack_all, register_items, register_all, passed_items, callee_items, callee_source, prepare_items, call_through, receive_items, call_items, copy_at, copy_eight, copy_eights, copy_rest, blit_items, address_at, alloc_items}
+use Rattle.abi_frames.specs.Emission.{far_load, far_store, load_slot, store_slot, slot_offset, into, fetch, source, word_into, target, deliver, set_items, compare_items, operation_items, operand_into, operand_source, on_registers, by_form, operate_by, operate_items, load_to, load_items, store_from, store_op, store_items, line_items, lines_items, move_pointer, lower_pointer, raise_pointer, save_all, restore_all, go_back, prologue, epilogue, result_items, goto_items, branch_when, inverted, ways_items, compared_into, compared_source, jump_items, block_items, blocks_items, pass_into, stack_items, stack_all, register_items, register_all, passed_items, callee_items, callee_source, prepare_items, call_through, receive_items, call_items, copy_at, copy_eight, copy_eights, copy_rest, blit_items, address_at, alloc_items}
 use Rattle.abi_frames.specs.Moves.{operand_exchanged, argument_exchanged, exchange, is_read, settled, arrived, earlier_at, move_up, moves_up, moved_up, all_move_up, all_moved_up}
 use Rattle.abi_frames.proofs.MovingUp.{moved_length}
 use Rattle.abi_frames.proofs.Sources.{sources_length}
@@ -271,22 +273,22 @@ operate_size y to op a b = by_forms (right_form op b) (left_form op a)
     by_forms None (Some form) = let h = by_form_size y to op b a form in omega (arith, h)
     by_forms None None = on_registers_size y to op a b
 
-load_line_size : (y : Layout) (to : Location) (op : LoadOp) (at : Operand Location) → longest_size (load_items y to op at) ≤ operand_cost at + 1 + 3
+load_line_size : (y : Layout) (to : Location) (op : LoadOp) (at : MemoryAddress Location) → longest_size (load_items y to op at) ≤ operand_cost at.base + 1 + 3
 load_line_size y to op at =
-    let made : List Item = load_to op (target to) (source 28 at) ∷ [] in
-    let one = longest-append (fetch y 28 at) (made ++ deliver y to) in
+    let made : List Item = load_to op (target to) (source 28 at.base) at.offset ∷ [] in
+    let one = longest-append (fetch y 28 at.base) (made ++ deliver y to) in
     let two = longest-append made (deliver y to) in
-    let h = fetch_size y 28 at in
+    let h = fetch_size y 28 at.base in
     let k = deliver_size y to in
     omega (arith, one, two, h, k)
 
-store_line_size : (y : Layout) (size : Size) (a at : Operand Location) → longest_size (store_items y size a at) ≤ operand_cost a + operand_cost at + 1
+store_line_size : (y : Layout) (size : Size) (a : Operand Location) (at : MemoryAddress Location) → longest_size (store_items y size a at) ≤ operand_cost a + operand_cost at.base + 1
 store_line_size y size a at =
-    let made : List Item = store_at (store_op size) (source 28 a) (source 29 at) 0 ∷ [] in
-    let one = longest-append (fetch y 28 a) (fetch y 29 at ++ made) in
-    let two = longest-append (fetch y 29 at) made in
+    let made : List Item = store_from (store_op size) (source 28 a) (source 29 at.base) at.offset ∷ [] in
+    let one = longest-append (fetch y 28 a) (fetch y 29 at.base ++ made) in
+    let two = longest-append (fetch y 29 at.base) made in
     let h = fetch_size y 28 a in
-    let k = fetch_size y 29 at in
+    let k = fetch_size y 29 at.base in
     omega (arith, one, two, h, k)
 
 operand_at_most_9 : (a : Operand Location) → operand_cost a ≤ 9
@@ -413,8 +415,9 @@ address_size d o = by_test (nat_lt o 2048)
     by_test true = lit≤ tt
     by_test false = lit≤ tt
 
-alloc_size : (y : Layout) (used : ℕ) (to : Location) → longest_size (alloc_items y used to) ≤ 3 + 3
-alloc_size y used to =
+alloc_size : (y : Layout) (used : ℕ) (to : Option Location) → longest_size (alloc_items y used to) ≤ 3 + 3
+alloc_size y used None = lit≤ tt
+alloc_size y used (Some to) =
     let all = longest-append (address_at (target to) (y.area + used)) (deliver y to) in
     let h = address_size (target to) (y.area + used) in
     let k = deliver_size y to in

@@ -11,12 +11,12 @@ use Rattle.il_ast.specs.Values.{byte_count}
 use Rattle.il_ast.specs.Effect.{stored_class}
 use Rattle.rv_isa.specs.State.{State}
 use Rattle.rv_isa.specs.Memory.{stored}
-use Rattle.rv_isa.specs.Arithmetic.{moved}
 use Rattle.rv_isa.specs.Step.{store_size}
 use Rattle.rv_isa.specs.declared.labelled.Item.{Item}
 use Rattle.rv_isa.proofs.MemoryLemmas.{stored_below, stored_above}
 use Rattle.vcode.specs.declared.place.Location.{Location}
 use Rattle.vcode.specs.declared.place.Operand.{Operand}
+use Rattle.vcode.specs.declared.place.Address.{Address}
 use Rattle.vcode.specs.declared.line.Line.{Line}
 use Rattle.vcode.specs.declared.line.Line.TheVariants.{Store}
 use Rattle.vcode.specs.declared.code.Block.{Block}
@@ -24,13 +24,13 @@ use Rattle.vcode.specs.declared.code.Code.{Code}
 use Rattle.vcode.specs.Named.{is_place, operand_keeps, line_keeps}
 use Rattle.flat_code.specs.Spots.{Away, Known, Spots}
 use Rattle.flat_code.specs.Flat.{FlatGiven, FlatOutcome}
-use Rattle.flat_code.specs.Step.{all_there, is_in, with_number, stored as stored_spots, FlatState, number_of, read, taken, changes, goes_on}
+use Rattle.flat_code.specs.Step.{all_there, is_in, with_number, stored as stored_spots, FlatState, number_of, address_of, read, taken, changes, goes_on}
 use Rattle.abi_frames.specs.Calls.{HoldsSpots}
 use Rattle.abi_frames.specs.Performs.{AllPerform}
-use Rattle.abi_frames.specs.Fields.{low}
-use Rattle.abi_frames.specs.Emission.{fetch, source, store_at, store_op, store_items, line_items}
+use Rattle.abi_frames.specs.Emission.{fetch, source, store_from, store_op, store_items, line_items}
 use Rattle.abi_frames.proofs.Leading.{Leads, leads_then, leads_so, in_register, same_in_register, in_register_small}
-use Rattle.abi_frames.proofs.Instructions.{UsableFrom, is_28, is_29, same_address}
+use Rattle.abi_frames.proofs.Instructions.{UsableFrom, is_28, is_29}
+use Rattle.abi_frames.proofs.Addressing.{IsBased, is_based}
 use Rattle.abi_frames.proofs.Activations.{Setting, IsSetting, site, bottom, operand_in, Framed, operand_known}
 use Rattle.abi_frames.proofs.LineCode.{Fetched, leads_fetch, fetched_scratched, scratched_then, operand_same, source_small, source_not_29}
 use Rattle.abi_frames.proofs.Accesses.{Written, leads_store_any_in, stored_byte}
@@ -51,33 +51,30 @@ size_is Half = refl
 size_is Word = refl
 size_is Long = refl
 
-pub leads_store_line : (c : Setting) → IsSetting c → (s : State) (size : Size) (a at : Operand Location) → s.registers 2 ≡ bottom c
-    → operand_keeps (is_place c.slots) a ≡ true → operand_keeps (is_place c.slots) at ≡ true
-    → UsableFrom c.world.memory_map (operand_in c s at) (byte_count size)
-    → Leads (site c) (store_items c.layout size a at) s (Stored s (operand_in c s at) (byte_count size) (operand_in c s a))
-leads_store_line c is s size a at pointer known_a known_at usable =
-    let p : ℕ = operand_in c s at in
+pub leads_store_line : (c : Setting) → IsSetting c → (s : State) (size : Size) (a : Operand Location) (at : Address Location) (p : ℕ) → s.registers 2 ≡ bottom c
+    → operand_keeps (is_place c.slots) a ≡ true → operand_keeps (is_place c.slots) at.base ≡ true → IsBased c s at p
+    → UsableFrom c.world.memory_map p (byte_count size)
+    → Leads (site c) (store_items c.layout size a at) s (Stored s p (byte_count size) (operand_in c s a))
+leads_store_line c is s size a at p pointer known_a known_at based usable =
     let v : ℕ = operand_in c s a in
     let n : ℕ = byte_count size in
     let x : ℕ = source 28 a in
-    let y : ℕ = source 29 at in
-    let made : List Item = store_at (store_op size) x y 0 ∷ [] in
-    leads_then (site c) (fetch c.layout 28 a) (fetch c.layout 29 at ++ made) s (Fetched c s 28 a) (Stored s p n v)
+    let y : ℕ = source 29 at.base in
+    let made : List Item = store_from (store_op size) x y at.offset ∷ [] in
+    leads_then (site c) (fetch c.layout 28 a) (fetch c.layout 29 at.base ++ made) s (Fetched c s 28 a) (Stored s p n v)
     (leads_fetch c is s 28 a is_28 (λ e. absurd (omega (arith, e))) pointer known_a)
     (λ u f one.
     let same = fetched_scratched c s 28 a u (omega arith) one in
-    leads_then (site c) (fetch c.layout 29 at) made u (Fetched c u 29 at) (Stored s p n v)
-    (leads_fetch c is u 29 at is_29 (λ e. absurd (omega (arith, e))) (same.registers 2 (lit< tt) ∙ pointer) known_at)
+    leads_then (site c) (fetch c.layout 29 at.base) made u (Fetched c u 29 at.base) (Stored s p n v)
+    (leads_fetch c is u 29 at.base is_29 (λ e. absurd (omega (arith, e))) (same.registers 2 (lit< tt) ∙ pointer) known_at)
     (λ w g two.
-    let all = scratched_then s u w same (fetched_scratched c u 29 at w (omega arith) two) in
+    let all = scratched_then s u w same (fetched_scratched c u 29 at.base w (omega arith) two) in
     let value : in_register w x ≡ v =
     same_in_register u w x (source_small c.slots 28 a (lit< tt) known_a) (two.others x (source_not_29 c.slots a known_a)) ∙ one.value in
-    let place : in_register w y ≡ p = two.value ∙ operand_same c s u at known_at same in
-    let word : p < 2 ^ 64 = subst (λ q. q < 2 ^ 64) place (in_register_small c.world.memory_map w y g) in
+    let place = based (in_register w y) (two.value ∙ operand_same c s u at.base known_at same) (in_register_small c.world.memory_map w y g) in
     let there = subst (λ q. UsableFrom c.world.memory_map p q) (sym (size_is size)) usable in
     leads_so (site c) made w (Written w p (store_size (store_op size)) (in_register w x)) (Stored s p n v)
-    (leads_store_any_in (site c) w (store_op size) x y 0 p g
-    (ap (λ q. moved q (low 0).value) place ∙ same_address p word) there)
+    (leads_store_any_in (site c) w (store_op size) x y at.offset p g place there)
     (λ t h three. record {
       bytes = three.bytes ∙ (ap (λ q. stored w.bytes p q (in_register w x)) (size_is size) ∙ (ap (stored w.bytes p n) value ∙ ap (λ (m : ℕ → ℕ). stored m p n v) all.bytes));
       registers = λ m lo. three.registers m ∙ all.registers m lo;
@@ -143,51 +140,51 @@ stored_changes c memory s u a n v z holds there same h = record {
 -- ---- the line
 
 stores : (c : Setting) (f : Code Location) → CodeStands c f → (j : FlatGiven) (r : FlatOutcome) (n : ℕ) → Follows c f j r n
-    → (b : Block Location) (size : Size) (x y : Operand Location) (lines : List (Line Location)) (fs : FlatState) (k : ℕ) (u : State)
+    → (b : Block Location) (size : Size) (x : Operand Location) (y : Address Location) (lines : List (Line Location)) (fs : FlatState) (k : ℕ) (u : State)
     → (a : At c f b (Store size x y ∷ lines) fs k u) → (log : Log) → AllPerform c.world (bottom c) log
-    → (v p : ℕ) → number_of c.addresses fs.numbers x ≡ Some v → number_of c.addresses fs.numbers y ≡ Some p
+    → (v p : ℕ) → number_of c.addresses fs.numbers x ≡ Some v → address_of c.addresses fs.numbers y ≡ Some p
     → all_there fs.memory p (byte_count size) ≡ true
     → Then c f j r n log (goes_on (record fs { memory = with_number fs.memory p (byte_count size) (taken (stored_class size) v) })) → Performed c f r
 stores c f is j r n go b size x y lines fs k u a log all v p is_x is_y there goes =
     let m : ℕ = byte_count size in
     let now : Spots = with_number fs.memory p m (taken (stored_class size) v) in
-    let known = and_parts (operand_keeps (is_place c.slots) x) (operand_keeps (is_place c.slots) y)
+    let known = and_parts (operand_keeps (is_place c.slots) x) (operand_keeps (is_place c.slots) y.base)
     (and_parts (line_keeps (is_place c.slots) (Store size x y)) (list_all (line_keeps (is_place c.slots)) lines) a.known).0 in
     let at_x : operand_in c u x ≡ v = operand_known c fs.numbers fs.memory u x v is.setting a.framed known.0 is_x in
-    let at_y : operand_in c u y ≡ p = operand_known c fs.numbers fs.memory u y p is.setting a.framed known.1 is_y in
-    let usable = subst (λ q. UsableFrom c.world.memory_map q m) (sym at_y) (usable_from c.world.memory_map fs.memory u p m a.framed.spots there) in
+    let based = is_based c fs.numbers fs.memory u y p is.setting a.framed known.1 is_y in
+    let usable = usable_from c.world.memory_map fs.memory u p m a.framed.spots there in
     let reached = reach c f b (Store size x y) lines fs k u (λ t. Framed c fs.numbers now t × (t.output ≡ u.output)) a
-    (leads_so (site c) (line_items c.layout a.used (Store size x y)) u (Stored u (operand_in c u y) m (operand_in c u x))
-    (λ t. Framed c fs.numbers now t × (t.output ≡ u.output)) (leads_store_line c is.setting u size x y a.framed.pointer known.0 known.1 usable)
+    (leads_so (site c) (line_items c.layout a.used (Store size x y)) u (Stored u p m (operand_in c u x))
+    (λ t. Framed c fs.numbers now t × (t.output ≡ u.output)) (leads_store_line c is.setting u size x y p a.framed.pointer known.0 known.1 based usable)
     (λ t fixed made. (
       changed c is.setting fs.numbers fs.memory now u t a.framed
           (stored_changes c fs.memory u t p m v (taken (stored_class size) v) a.framed.spots there (byte_taken size v)
-          (subst (λ q. Stored u p m q t) at_x (subst (λ q. Stored u q m (operand_in c u x) t) at_y made))),
+          (subst (λ q. Stored u p m q t) at_x made)),
       made.output,
     ))) in
     go b lines (record fs { next = fs.next + 1; memory = now }) (k + reached.steps) reached.after
     (advance c f b (Store size x y) lines fs k u fs.numbers now fs.used a refl (nothing_taken fs.used) a.paid reached) log goes all
 
 pub store_case : (c : Setting) (f : Code Location) → CodeStands c f → (j : FlatGiven) (r : FlatOutcome) (n : ℕ) → Follows c f j r n
-    → (b : Block Location) (size : Size) (x y : Operand Location) (lines : List (Line Location)) (fs : FlatState) (k : ℕ) (u : State)
+    → (b : Block Location) (size : Size) (x : Operand Location) (y : Address Location) (lines : List (Line Location)) (fs : FlatState) (k : ℕ) (u : State)
     → At c f b (Store size x y ∷ lines) fs k u → (log : Log)
     → Then c f j r n log
     (changes fs
     (option_and_then
-    (λ v. option_and_then (λ p. stored_spots fs.memory p (byte_count size) v) (number_of c.addresses fs.numbers y))
+    (λ v. option_and_then (λ p. stored_spots fs.memory p (byte_count size) v) (address_of c.addresses fs.numbers y))
     (read c.addresses fs.numbers (stored_class size) x)))
     → AllPerform c.world (bottom c) log → Performed c f r
 store_case c f is j r n go b size x y lines fs k u a log goes all =
-    by_operands (number_of c.addresses fs.numbers x) refl (number_of c.addresses fs.numbers y) refl goes
+    by_operands (number_of c.addresses fs.numbers x) refl (address_of c.addresses fs.numbers y) refl goes
   where
-    by_test : (v p : ℕ) → number_of c.addresses fs.numbers x ≡ Some v → number_of c.addresses fs.numbers y ≡ Some p
+    by_test : (v p : ℕ) → number_of c.addresses fs.numbers x ≡ Some v → address_of c.addresses fs.numbers y ≡ Some p
         → (t : Bool) → all_there fs.memory p (byte_count size) ≡ t
         → Then c f j r n log (changes fs (if t then Some (with_number fs.memory p (byte_count size) (taken (stored_class size) v)) else None))
         → Performed c f r
     by_test v p e d false h e_goes = undefined c f fs.spent r e_goes.0
     by_test v p e d true h e_goes = stores c f is j r n go b size x y lines fs k u a log all v p e d h e_goes
 
-    by_operands : (o : Option ℕ) → number_of c.addresses fs.numbers x ≡ o → (q : Option ℕ) → number_of c.addresses fs.numbers y ≡ q
+    by_operands : (o : Option ℕ) → number_of c.addresses fs.numbers x ≡ o → (q : Option ℕ) → address_of c.addresses fs.numbers y ≡ q
         → Then c f j r n log
         (changes fs
         (option_and_then (λ v. option_and_then (λ p. stored_spots fs.memory p (byte_count size) v) q) (option_map (taken (stored_class size)) o)))

@@ -13,6 +13,7 @@ use Rattle.rv_isa.specs.declared.instruction.StoreOp.{StoreOp}
 use Rattle.rv_isa.specs.declared.instruction.StoreOp.TheVariants.{Sb, Sh, Sw, Sd}
 use Rattle.rv_isa.specs.declared.instruction.RegOp.TheVariants.{Sub, Slt, Sltu}
 use Rattle.rv_isa.specs.declared.instruction.BranchOp.TheVariants.{Beq, Bne, Blt, Bge, Bltu, Bgeu}
+use Rattle.rv_isa.specs.declared.ranges.Immediate.{Immediate}
 use Rattle.rv_isa.specs.declared.labelled.Item.{Item}
 use Rattle.rv_isa.specs.declared.labelled.Item.TheVariants.{Plain, Label, Branch as BranchTo, Goto as GoTo, Address}
 use Rattle.vcode.specs.declared.place.Location.{Location}
@@ -20,6 +21,7 @@ use Rattle.vcode.specs.declared.place.Location.TheVariants.{Register as InRegist
 use Rattle.vcode.specs.declared.place.Operand.{Operand}
 use Rattle.vcode.specs.declared.place.Operand.TheVariants.{At, Number, Name}
 use Rattle.vcode.specs.declared.place.Argument.{Argument}
+use Rattle.vcode.specs.declared.place.Address.{Address as MemoryAddress}
 use Rattle.vcode.specs.declared.place.Destination.{Destination}
 use Rattle.vcode.specs.declared.line.Operation.{Operation}
 use Rattle.vcode.specs.declared.line.Operation.TheVariants.{Reg as RegOperation, RegW as RegWOperation, Compare}
@@ -29,11 +31,12 @@ use Rattle.vcode.specs.declared.line.Comparison.{Comparison}
 use Rattle.vcode.specs.declared.line.Jump.{Jump}
 use Rattle.vcode.specs.declared.line.Jump.TheVariants.{Goto, Branch, Return, Halt}
 use Rattle.vcode.specs.declared.code.Block.{Block}
+use Rattle.vcode.specs.Addresses.{low}
 use Rattle.vcode.specs.Cost.{is_immediate}
 use Rattle.vcode.specs.Regular.{alloc_bytes}
 use Rattle.abi_frames.specs.declared.layout.Layout.{Layout}
 use Rattle.abi_frames.specs.declared.immediate.Form.{Form}
-use Rattle.abi_frames.specs.Fields.{reg, low, add_low, extend, sum_to, load_8, store_8, constant, high, word, negate, is_zero, is_not_zero}
+use Rattle.abi_frames.specs.Fields.{reg, add_low, extend, sum_to, load_8, store_8, constant, high, word, negate, is_zero, is_not_zero}
 use Rattle.abi_frames.specs.Moves.{all_move_up, all_moved_up}
 use Rattle.abi_frames.specs.Immediates.{right_form, left_form, form_items}
 
@@ -147,12 +150,15 @@ operate_by y to op a b None None = on_registers y to op a b
 abbrev pub operate_items : Layout → Location → Operation → (a b : Operand Location) → List Item
 operate_items y to op a b = operate_by y to op a b (right_form op b) (left_form op a)
 
-abbrev pub load_to : LoadOp → (d base : ℕ) → Item
-load_to op d base = Plain (Load op (reg d) (reg base) (low 0))
+-- a load and a store of this size at an offset from a register
+abbrev pub load_to : LoadOp → (d base : ℕ) → Immediate → Item
+load_to op d base offset = Plain (Load op (reg d) (reg base) offset)
 
--- a store of this size at an offset from a register
+abbrev pub store_from : StoreOp → (v base : ℕ) → Immediate → Item
+store_from op v base offset = Plain (Store op (reg base) (reg v) offset)
+
 abbrev pub store_at : StoreOp → (v base offset : ℕ) → Item
-store_at op v base offset = Plain (Store op (reg base) (reg v) (low offset))
+store_at op v base offset = store_from op v base (low offset)
 
 abbrev pub store_op : Size → StoreOp
 store_op Byte = Sb
@@ -160,11 +166,12 @@ store_op Half = Sh
 store_op Word = Sw
 store_op Long = Sd
 
-abbrev pub store_items : Layout → Size → (a at : Operand Location) → List Item
-store_items y size a at = fetch y 28 a ++ (fetch y 29 at ++ (store_at (store_op size) (source 28 a) (source 29 at) 0 ∷ []))
+abbrev pub store_items : Layout → Size → Operand Location → MemoryAddress Location → List Item
+store_items y size a at =
+    fetch y 28 a ++ (fetch y 29 at.base ++ (store_from (store_op size) (source 28 a) (source 29 at.base) at.offset ∷ []))
 
-abbrev pub load_items : Layout → Location → LoadOp → (at : Operand Location) → List Item
-load_items y to op at = fetch y 28 at ++ ((load_to op (target to) (source 28 at) ∷ []) ++ deliver y to)
+abbrev pub load_items : Layout → Location → LoadOp → MemoryAddress Location → List Item
+load_items y to op at = fetch y 28 at.base ++ ((load_to op (target to) (source 28 at.base) at.offset ∷ []) ++ deliver y to)
 
 -- ---- calls
 
@@ -246,9 +253,10 @@ abbrev pub address_at : (d offset : ℕ) → List Item
 address_at d offset =
     if nat_lt offset 2048 then add_low d 2 offset ∷ [] else Plain (Lui (reg d) (high offset)) ∷ sum_to d d 2 ∷ add_low d d offset ∷ []
 
--- the address of the next block of memory
-abbrev pub alloc_items : Layout → (used : ℕ) → Location → List Item
-alloc_items y used to = address_at (target to) (y.area + used) ++ deliver y to
+-- the address of the next block of memory, where a place takes it
+abbrev pub alloc_items : Layout → (used : ℕ) → Option Location → List Item
+alloc_items y used None = []
+alloc_items y used (Some to) = address_at (target to) (y.area + used) ++ deliver y to
 
 -- `used` bytes of the area for blocks of memory are taken by the lines before
 abbrev pub line_items : Layout → (used : ℕ) → Line Location → List Item

@@ -16,6 +16,7 @@ use Rattle.vcode.specs.declared.line.Operation.TheVariants.{Reg, Compare}
 use Rattle.vcode.specs.declared.line.Line.TheVariants.{Tick, Set, Operate, Call, Load, Store, Alloc, Blit}
 use Rattle.vcode.specs.declared.line.Jump.TheVariants.{Goto, Branch, Return}
 use Rattle.vcode.specs.declared.code.Code.{Code}
+use Rattle.vcode.specs.Addresses.{at_once}
 use Rattle.vcode.specs.ExampleCodes.{block, code, destination}
 use Rattle.abi_frames.specs.Laws.{IsCode}
 use Rattle.abi_frames.specs.Functions.{frame_items}
@@ -70,11 +71,11 @@ copier =
     code (Some L) []
     (block
     (Tick true 4
-    ∷ Alloc (Slot 0) 15
-    ∷ Alloc (Register 8) 15
-    ∷ Store Long (Number 7) (At (Slot 0))
+    ∷ Alloc (Some (Slot 0)) 15
+    ∷ Alloc (Some (Register 8)) 15
+    ∷ Store Long (Number 7) (at_once (At (Slot 0)))
     ∷ Blit (At (Slot 0)) (At (Register 8)) 15
-    ∷ Load (Register 9) Ld (At (Register 8))
+    ∷ Load (Register 9) Ld (at_once (At (Register 8)))
     ∷ [])
     (Return (Some (At (Register 9))))
     ∷ [])

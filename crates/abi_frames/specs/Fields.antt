@@ -2,10 +2,7 @@
 use Rattle.std.specs.Prelude.{ℕ, ◌+◌, ◌/◌, ◌%◌, ◌^◌, Bool, nat_eq, if◌then◌else◌, List, [], ◌∷◌, ◌++◌}
 use Rattle.std.proofs.Common.{lit<, mod-lt}
 use Rattle.bits.specs.Words.{sign_extended}
-use Rattle.rv_isa.specs.Formats.{signed}
-use Rattle.rv_isa.specs.Readings.{signed12_fits}
 use Rattle.rv_isa.specs.declared.ranges.Register.{Register}
-use Rattle.rv_isa.specs.declared.ranges.Immediate.{Immediate}
 use Rattle.rv_isa.specs.declared.ranges.UpperField.{UpperField}
 use Rattle.rv_isa.specs.declared.ranges.Amount.{Amount}
 use Rattle.rv_isa.specs.declared.ranges.WordAmount.{WordAmount}
@@ -17,16 +14,13 @@ use Rattle.rv_isa.specs.declared.instruction.ShiftOp.TheVariants.{Slli, Srli}
 use Rattle.rv_isa.specs.declared.instruction.RegOp.TheVariants.{Add, Sltu}
 use Rattle.rv_isa.specs.declared.labelled.Item.{Item}
 use Rattle.rv_isa.specs.declared.labelled.Item.TheVariants.{Plain}
+use Rattle.vcode.specs.Addresses.{low}
 use Rattle.vcode.specs.Cost.{is_immediate}
 
 -- ---- fields
 
 abbrev pub reg : ℕ → Register
 reg n = record { number = n % 32; in_range = mod-lt n (lit< tt) }
-
--- the low 12 bits, read with a sign
-abbrev pub low : ℕ → Immediate
-low n = record { value = signed 12 (n % 4096); in_range = signed12_fits (n % 4096) (mod-lt n (lit< tt)) }
 
 abbrev pub field : ℕ → UpperField
 field n = record { value = n % 2 ^ 20; in_range = mod-lt n (lit< tt) }

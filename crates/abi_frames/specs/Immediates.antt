@@ -22,7 +22,8 @@ use Rattle.vcode.specs.declared.place.Operand.TheVariants.{Number}
 use Rattle.vcode.specs.declared.line.Operation.{Operation}
 use Rattle.vcode.specs.declared.line.Operation.TheVariants.{Reg as RegOperation, RegW as RegWOperation, Compare}
 use Rattle.vcode.specs.Cost.{is_immediate}
-use Rattle.abi_frames.specs.Fields.{reg, low, amount, word_amount, word, add_low, negate, is_zero, is_not_zero}
+use Rattle.vcode.specs.Addresses.{low}
+use Rattle.abi_frames.specs.Fields.{reg, amount, word_amount, word, add_low, negate, is_zero, is_not_zero}
 use Rattle.abi_frames.specs.declared.immediate.Form.{Form}
 use Rattle.abi_frames.specs.declared.immediate.Form.TheVariants.{Immediate as ByImmediate, AddWord, Shift as ByShift, ShiftWord, Compare as ByComparison}
 

@@ -24,12 +24,17 @@ abbrev pub receives : (number : ℕ) → Option (Destination Location) → Bool
 receives n None = false
 receives n (Some d) = is_register n d.place
 
+-- a pointer to a block that is made goes to this register
+abbrev pub makes_in : (number : ℕ) → Option Location → Bool
+makes_in n None = false
+makes_in n (Some p) = is_register n p
+
 -- a line whose destination is this register
 abbrev pub writes : (number : ℕ) → Line Location → Bool
 writes n (Set to a) = is_register n to
 writes n (Operate to op a b) = is_register n to
 writes n (Load to op at) = is_register n to
-writes n (Alloc to size) = is_register n to
+writes n (Alloc to size) = makes_in n to
 writes n (Call to callee args) = receives n to
 writes n l = false
 

@@ -3,7 +3,7 @@ ghost use Rattle.std.specs.Prelude.{◌≡◌, ◌-◌, ◌*◌, ◌^◌, ◌<�
 ghost use Rattle.abi_frames.specs.Fields.{store_8};
 ghost use Rattle.abi_frames.specs.Emission.{fetch, source, pass_into, stack_all, register_all, passed_items, callee_items, callee_source, call_through, receive_items, call_items};
 
-use crate::fields::{add_immediate, low_part, register, store};
+use crate::fields::{add_immediate, register, store};
 use crate::layout::Layout;
 use crate::line::push_set;
 use crate::moves::push_moves_up;
@@ -12,7 +12,7 @@ use il_ast::operation::Class;
 use rv_isa::instruction::Instr;
 use rv_isa::labelled::Item;
 use std::alloc::AllocError;
-use vcode::place::{Argument, Destination, Location, Operand};
+use vcode::place::{Argument, Destination, Location, Operand, low_part};
 
 // has an argument in a register, a word sign-extended
 fn push_argument(

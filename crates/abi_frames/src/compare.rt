@@ -6,11 +6,12 @@ ghost use Rattle.rv_isa.specs.declared.instruction.Instr.TheVariants.{Reg};
 ghost use Rattle.abi_frames.specs.Fields.{reg, negate, is_zero, is_not_zero};
 ghost use Rattle.abi_frames.specs.Emission.{compare_items};
 
-use crate::fields::{low_part, register};
+use crate::fields::register;
 use il_ast::operation::Condition;
 use rv_isa::instruction::{ImmOp, Instr, RegOp};
 use rv_isa::labelled::Item;
 use std::alloc::AllocError;
+use vcode::place::low_part;
 
 fn on_registers(op: RegOp, to: u8, left: u8, right: u8) -> Item
     ensures { result ≡ Plain (Reg op (reg to) (reg left) (reg right)) }

@@ -3,12 +3,13 @@ ghost use Rattle.std.specs.Prelude.{◌≡◌, ◌+◌, ◌-◌, ◌*◌, ◌^�
 ghost use Rattle.abi_frames.specs.Fields.{constant, sum_to};
 ghost use Rattle.abi_frames.specs.Emission.{move_pointer, lower_pointer, raise_pointer, save_all, restore_all, prologue, epilogue, go_back};
 
-use crate::fields::{add, add_immediate, load, low_part, register, store};
+use crate::fields::{add, add_immediate, load, register, store};
 use crate::layout::Layout;
 use crate::operand::{has_12_bits, push_constant};
 use rv_isa::instruction::Instr;
 use rv_isa::labelled::Item;
 use std::alloc::AllocError;
+use vcode::place::low_part;
 
 fn push_far_move(items: &mut Vec<Item>, number: u64) -> Result<(), AllocError>
     ensures { OnOk result (items.new.items ≡ items.old.items ++ (constant 28 number ++ (sum_to 2 2 28 ∷ []))) }

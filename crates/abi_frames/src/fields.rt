@@ -1,15 +1,16 @@
 //! Instructions by numbers of registers.
 ghost use Rattle.std.specs.Prelude.{◌≡◌, ◌<◌};
-ghost use Rattle.rv_isa.specs.Formats.{signed};
 ghost use Rattle.rv_isa.specs.declared.labelled.Item.TheVariants.{Plain};
 ghost use Rattle.rv_isa.specs.declared.instruction.Instr.TheVariants.{Lui, Load, Shift, Addiw};
 ghost use Rattle.rv_isa.specs.declared.instruction.ShiftOp.TheVariants.{Srli};
-ghost use Rattle.abi_frames.specs.Fields.{reg, low, field, high, amount, word_amount, add_low, extend, sum_to, load_8, store_8, shift_11};
-ghost use Rattle.abi_frames.specs.Emission.{store_at};
+ghost use Rattle.vcode.specs.Addresses.{low};
+ghost use Rattle.abi_frames.specs.Fields.{reg, field, high, amount, word_amount, add_low, extend, sum_to, load_8, store_8, shift_11};
+ghost use Rattle.abi_frames.specs.Emission.{load_to, store_from, store_at};
 
 use rv_isa::instruction::{ImmOp, Instr, LoadOp, RegOp, ShiftOp, StoreOp};
 use rv_isa::labelled::Item;
 use rv_isa::ranges::{Amount, Immediate, Register, UpperField, WordAmount};
+use vcode::place::low_part;
 
 /// The register of that number, modulo 32.
 pub(crate) fn register(number: u8) -> Register
@@ -17,23 +18,6 @@ pub(crate) fn register(number: u8) -> Register
 {
     Register {
         number: number % 32,
-    }
-}
-
-fn signed_12(bits: u64) -> i16
-    requires { bits < 4096 }
-    ensures { result ≡ signed 12 bits }
-{
-    let part = bits as i16;
-    if part < 2048 { part } else { part - 4096 }
-}
-
-/// The low 12 bits of a number, read with a sign.
-pub(crate) fn low_part(number: u64) -> Immediate
-    ensures { result ≡ low number }
-{
-    Immediate {
-        value: signed_12(number % 4096),
     }
 }
 
@@ -105,16 +89,35 @@ pub(crate) fn load_at(op: LoadOp, to: u8, base: u8, offset: u64) -> Item
     })
 }
 
-/// A store at the low part of an offset from a register.
-pub(crate) fn store_at(op: StoreOp, value: u8, base: u8, offset: u64) -> Item
-    ensures { result ≡ store_at op value base offset }
+/// A load at an offset from a register.
+pub(crate) fn load_to(op: LoadOp, to: u8, base: u8, offset: Immediate) -> Item
+    ensures { result ≡ load_to op to base offset }
+{
+    Item::Plain(Instr::Load {
+        op,
+        rd: register(to),
+        rs1: register(base),
+        offset,
+    })
+}
+
+/// A store at an offset from a register.
+pub(crate) fn store_from(op: StoreOp, value: u8, base: u8, offset: Immediate) -> Item
+    ensures { result ≡ store_from op value base offset }
 {
     Item::Plain(Instr::Store {
         op,
         rs1: register(base),
         rs2: register(value),
-        offset: low_part(offset),
+        offset,
     })
+}
+
+/// A store at the low part of an offset from a register.
+pub(crate) fn store_at(op: StoreOp, value: u8, base: u8, offset: u64) -> Item
+    ensures { result ≡ store_at op value base offset }
+{
+    store_from(op, value, base, low_part(offset))
 }
 
 /// `sd`, at the low part of an offset from a register.

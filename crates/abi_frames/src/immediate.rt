@@ -3,18 +3,19 @@ ghost use Rattle.std.specs.Prelude.{◌≡◌, ◌≤◌, [], ◌∷◌, ◌++�
 ghost use Rattle.rv_isa.specs.declared.labelled.Item.TheVariants.{Plain};
 ghost use Rattle.rv_isa.specs.declared.instruction.Instr.TheVariants.{Imm};
 ghost use Rattle.il_ast.specs.declared.operation.Condition.TheVariants.{Equal, NotEqual};
-ghost use Rattle.abi_frames.specs.Fields.{reg, low, negate};
+ghost use Rattle.vcode.specs.Addresses.{low};
+ghost use Rattle.abi_frames.specs.Fields.{reg, negate};
 ghost use Rattle.abi_frames.specs.Immediates.{opposite, next, form_if, immediate_form, sum_form, is_power, product_form, word_product_form, reg_form, regw_form, compares_with, comparison_form, number_form, turned, swapped_reg, swapped_regw, swapped, right_form, left_form, compare_number, form_items};
 
 use crate::compare::{negation, test_of_nonzero, test_of_zero};
-use crate::fields::{add_immediate, amount, low_part, register, word_amount};
+use crate::fields::{add_immediate, amount, register, word_amount};
 use crate::operand::{has_12_bits, word};
 use il_ast::operation::{Class, Condition};
 use rv_isa::instruction::{ImmOp, Instr, RegOp, RegWOp, ShiftOp, ShiftWOp};
 use rv_isa::labelled::Item;
 use std::alloc::AllocError;
 use vcode::line::Operation;
-use vcode::place::{Location, Operand};
+use vcode::place::{Location, Operand, low_part};
 
 /// How an operation is done on a register and a number.
 #[derive(Clone, Copy)]

@@ -10,7 +10,7 @@ use rv_isa::labelled::Item;
 use std::alloc::{AllocError, Global};
 use std::test::Fail;
 use vcode::line::{Line, Operation};
-use vcode::place::{Location, Operand};
+use vcode::place::{Address, Location, Operand};
 
 const FRAME: Layout = Layout {
     saves: 0,
@@ -319,7 +319,7 @@ fn zero_is_stored_from_x0(rt: HostRuntime) -> Result<(), Fail> {
     let line = Line::Store {
         size: Size::Word,
         value: Operand::Number(0),
-        at: x5(),
+        at: Address::at_once(x5()),
     };
     let items = code_of(rt.alloc(), &line)?;
     assert_eq!(rt; items.len(), 1);

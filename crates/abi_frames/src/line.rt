@@ -3,12 +3,12 @@ ghost use Rattle.std.specs.Prelude.{◌≡◌, ◌^◌, ◌<◌, ◌≤◌, IsTr
 ghost use Rattle.std.specs.List.{list_all, sum_by};
 ghost use Rattle.vcode.specs.Regular.{alloc_bytes, passes_few};
 ghost use Rattle.vcode.specs.declared.place.Location.TheVariants.{Slot};
-ghost use Rattle.abi_frames.specs.Emission.{operation_items, operand_into, operand_source, on_registers, by_form, set_items, operate_items, load_to, load_items, store_op, store_items, alloc_items, line_items, lines_items};
+ghost use Rattle.abi_frames.specs.Emission.{operation_items, operand_into, operand_source, on_registers, by_form, set_items, operate_items, load_items, store_op, store_items, alloc_items, line_items, lines_items};
 
 use crate::call::push_call;
 use crate::compare::push_compare;
 use crate::copy::push_blit;
-use crate::fields::{low_part, register, store_at};
+use crate::fields::{load_to, register, store_from};
 use crate::immediate::{Form, left_form, push_form, right_form};
 use crate::layout::Layout;
 use crate::operand::{
@@ -21,7 +21,7 @@ use rv_isa::instruction::{Instr, LoadOp, StoreOp};
 use rv_isa::labelled::Item;
 use std::alloc::AllocError;
 use vcode::line::{Line, Operation};
-use vcode::place::{Location, Operand};
+use vcode::place::{Address, Location, Operand};
 
 fn push_set_slot(
     items: &mut Vec<Item>,
@@ -174,29 +174,18 @@ fn push_operate(
     }
 }
 
-fn load_from(op: LoadOp, to: u8, base: u8) -> Item
-    ensures { result ≡ load_to op to base }
-{
-    Item::Plain(Instr::Load {
-        op,
-        rd: register(to),
-        rs1: register(base),
-        offset: low_part(0),
-    })
-}
-
 fn push_load_line(
     items: &mut Vec<Item>,
     layout: &Layout,
     to: &Location,
     op: LoadOp,
-    at: &Operand<Location>,
+    at: &Address<Location>,
 ) -> Result<(), AllocError>
     requires { layout.now.slots < 2 ^ 16 }
     ensures { OnOk result (items.new.items ≡ items.old.items ++ load_items layout.now to.now op at.now) }
 {
-    push_fetch(items, layout, 28, at)?;
-    items.push(load_from(op, target_of(to), source_of(28, at)))?;
+    push_fetch(items, layout, 28, &at.base)?;
+    items.push(load_to(op, target_of(to), source_of(28, &at.base), at.offset))?;
     push_deliver(items, layout, to)?;
     Ok(())
 }
@@ -217,30 +206,37 @@ fn push_store_line(
     layout: &Layout,
     size: Size,
     value: &Operand<Location>,
-    at: &Operand<Location>,
+    at: &Address<Location>,
 ) -> Result<(), AllocError>
     requires { layout.now.slots < 2 ^ 16 }
     ensures { OnOk result (items.new.items ≡ items.old.items ++ store_items layout.now size value.now at.now) }
 {
     push_fetch(items, layout, 28, value)?;
-    push_fetch(items, layout, 29, at)?;
-    items.push(store_at(store_op(size), source_of(28, value), source_of(29, at), 0))?;
+    push_fetch(items, layout, 29, &at.base)?;
+    items.push(store_from(
+        store_op(size),
+        source_of(28, value),
+        source_of(29, &at.base),
+        at.offset,
+    ))?;
     Ok(())
 }
 
-// the address of a block of memory
+// the address of a block of memory, where a place takes it
 fn push_alloc(
     items: &mut Vec<Item>,
     layout: &Layout,
     used: u64,
-    to: &Location,
+    to: &Option<Location>,
 ) -> Result<(), AllocError>
     requires slots { layout.now.slots < 2 ^ 16 }
     requires near { layout.now.area + used < 2 ^ 40 }
     ensures { OnOk result (items.new.items ≡ items.old.items ++ alloc_items layout.now used to.now) }
 {
-    push_address_at(items, target_of(to), layout.area + used)?;
-    push_deliver(items, layout, to)?;
+    if let Some(to) = to {
+        push_address_at(items, target_of(to), layout.area + used)?;
+        push_deliver(items, layout, to)?;
+    }
     Ok(())
 }
 

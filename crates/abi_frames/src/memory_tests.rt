@@ -6,7 +6,7 @@ use rv_isa::instruction::{Instr, LoadOp, StoreOp};
 use rv_isa::labelled::Item;
 use std::test::Fail;
 use vcode::line::Line;
-use vcode::place::{Location, Operand};
+use vcode::place::{Address, Location, Operand};
 
 const SMALL: Layout = Layout {
     saves: 0,
@@ -24,7 +24,7 @@ fn a_half_is_stored(rt: HostRuntime) -> Result<(), Fail> {
     let line = Line::Store {
         size: Size::Half,
         value: Operand::At(Location::Slot(0)),
-        at: Operand::At(Location::Register(6)),
+        at: Address::at_once(Operand::At(Location::Register(6))),
     };
     push_line(&mut items, &SMALL, 0, &line)?;
     assert_eq!(rt; items.len(), 2);
@@ -53,15 +53,15 @@ fn blocks_of_memory_stand_one_after_another(rt: HostRuntime) -> Result<(), Fail>
     let mut items = Vec::new(rt.alloc());
     let lines = [
         Line::Alloc {
-            to: Location::Register(5),
+            to: Some(Location::Register(5)),
             size: 20,
         },
         Line::Alloc {
-            to: Location::Slot(2),
+            to: Some(Location::Slot(2)),
             size: 8,
         },
         Line::Alloc {
-            to: Location::Register(6),
+            to: Some(Location::Register(6)),
             size: 8,
         },
     ];
@@ -105,7 +105,7 @@ fn blocks_of_memory_stand_one_after_another(rt: HostRuntime) -> Result<(), Fail>
 fn a_far_block_of_memory_takes_more(rt: HostRuntime) -> Result<(), Fail> {
     let mut items = Vec::new(rt.alloc());
     let line = Line::Alloc {
-        to: Location::Slot(0),
+        to: Some(Location::Slot(0)),
         size: 16,
     };
     push_line(&mut items, &SMALL, 4096, &line)?;

@@ -1,7 +1,7 @@
 //! Which registers a function saves.
 ghost use Rattle.std.specs.Prelude.{◌≡◌, ◌++◌, ◌<◌, ◌≤◌, length, OnOk, IfOk};
 ghost use Rattle.std.specs.List.{list_any};
-ghost use Rattle.abi_frames.specs.Layout.{is_register, receives, writes, block_writes, is_written, written_of, is_call, block_calls, return_address, saved_registers};
+ghost use Rattle.abi_frames.specs.Layout.{is_register, receives, makes_in, writes, block_writes, is_written, written_of, is_call, block_calls, return_address, saved_registers};
 
 use std::alloc::{AllocError, Global};
 use vcode::code::{Block, Code};
@@ -26,14 +26,23 @@ fn receives(to: &Option<Destination<Location>>, number: u8) -> bool
     }
 }
 
+fn makes_in(to: &Option<Location>, number: u8) -> bool
+    ensures { result ≡ makes_in number to.now }
+{
+    match to {
+        None => false,
+        Some(place) => is_register(place, number),
+    }
+}
+
 fn writes(line: &Line<Location>, number: u8) -> bool
     ensures { result ≡ writes number line.now }
 {
     match line {
-        Line::Set { to, .. }
-        | Line::Operate { to, .. }
-        | Line::Load { to, .. }
-        | Line::Alloc { to, .. } => is_register(to, number),
+        Line::Set { to, .. } | Line::Operate { to, .. } | Line::Load { to, .. } => is_register(
+            to, number,
+        ),
+        Line::Alloc { to, .. } => makes_in(to, number),
         Line::Call { to, .. } => receives(to, number),
         Line::Tick { .. } | Line::Store { .. } | Line::Blit { .. } => false,
     }

@@ -10,7 +10,7 @@ use std::alloc::{AllocError, Global};
 use std::test::Fail;
 use vcode::code::{Block, Code};
 use vcode::line::{Jump, Line, Operation};
-use vcode::place::{Destination, Location, Operand};
+use vcode::place::{Address, Destination, Location, Operand};
 
 fn in_register(number: u8) -> Destination<Location> {
     Destination {
@@ -47,7 +47,7 @@ fn writer(alloc: Global) -> Result<Code<Location>, AllocError> {
     lines.push(Line::Load {
         to: Location::Register(20),
         op: LoadOp::Ld,
-        at: Operand::At(Location::Register(9)),
+        at: Address::at_once(Operand::At(Location::Register(9))),
     })?;
     lines.push(Line::Call {
         to: Some(in_register(22)),

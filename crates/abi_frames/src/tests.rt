@@ -13,7 +13,7 @@ use std::test::Fail;
 use vcode::code::Code;
 use vcode::function::LFunc;
 use vcode::line::{Jump, Line, Operation};
-use vcode::place::{Destination, Location, Operand};
+use vcode::place::{Address, Destination, Location, Operand};
 
 const SMALL: Layout = Layout {
     saves: 0,
@@ -102,7 +102,7 @@ fn a_byte_is_loaded(rt: HostRuntime) -> Result<(), Fail> {
     let line = Line::Load {
         to: Location::Register(7),
         op: LoadOp::Lbu,
-        at: Operand::At(Location::Register(6)),
+        at: Address::at_once(Operand::At(Location::Register(6))),
     };
     push_line(&mut items, &SMALL, 0, &line)?;
     assert_eq!(rt; items.len(), 1);

@@ -16,20 +16,23 @@ use Rattle.il_ast.proofs.Simulated.{lockstep_keeps}
 use Rattle.vcode.specs.declared.place.Location.{Location}
 use Rattle.vcode.specs.declared.place.Location.TheVariants.{Slot}
 use Rattle.vcode.specs.declared.place.Operand.{Operand}
+use Rattle.vcode.specs.declared.place.Address.{Address}
 use Rattle.vcode.specs.declared.place.Operand.TheVariants.{At, Number, Name}
 use Rattle.vcode.specs.declared.place.Destination.{Destination}
 use Rattle.vcode.specs.declared.place.Argument.{Argument}
 use Rattle.vcode.specs.declared.line.Line.{Line}
 use Rattle.vcode.specs.declared.line.Line.TheVariants.{Tick, Set, Operate, Load, Store, Alloc, Blit, Call}
-use Rattle.vcode.specs.declared.line.Operation.TheVariants.{Compare}
+use Rattle.rv_isa.specs.declared.instruction.RegOp.TheVariants.{Add}
+use Rattle.vcode.specs.declared.line.Operation.TheVariants.{Reg, Compare}
 use Rattle.vcode.specs.declared.line.Jump.{Jump}
 use Rattle.vcode.specs.declared.line.Jump.TheVariants.{Goto, Branch, Return, Halt}
 use Rattle.vcode.specs.declared.code.Block.{Block}
 use Rattle.vcode.specs.declared.code.Code.{Code}
+use Rattle.vcode.specs.Addresses.{distance}
 use Rattle.vcode.specs.Operations.{held, operate, loaded}
 use Rattle.vcode.specs.Places.{Values, unknown, put, assign, kept, virtual, located}
-use Rattle.vcode.specs.Step.{State, bound, begin, value_of, read, read_all, goes_on, sets, takes, changes, weighs, ticks, receives, resumes, calls, line_step, compared, branches, returns, jump_step, block_step, step_in, step}
-use Rattle.alloc_check.specs.Placed.{placed_operand, placed_argument, placed_destination, placed_line, placed_jump, placed_block, in_slots}
+use Rattle.vcode.specs.Step.{State, bound, begin, value_of, read, read_all, operated, address_of, goes_on, sets, takes, changes, weighs, ticks, receives, resumes, calls, line_step, compared, branches, returns, jump_step, block_step, step_in, step}
+use Rattle.alloc_check.specs.Placed.{placed_operand, placed_address, placed_argument, placed_destination, placed_line, placed_jump, placed_block, in_slots}
 use Rattle.alloc_check.specs.Kept.{RunsAlike}
 
 -- ---- states side by side
@@ -179,6 +182,14 @@ same_two {R} globals ev el a b act m =
     ap (λ (o : Option Value). option_and_then (λ u. option_and_then (λ v. act u v) o) (value_of globals el (placed_operand Slot a))) (same_value globals ev el b m)
     ∙ ap (λ (o : Option Value). option_and_then (λ u. option_and_then (λ v. act u v) (value_of globals ev b)) o) (same_value globals ev el a m)
 
+same_address : (globals : List Value) (m : Memory) (ev : Values ℕ) (el : Values Location) (at : Address ℕ) → Mirror ev el
+    → address_of globals m el (placed_address Slot at) ≡ address_of globals m ev at
+same_address globals m ev el at mirror =
+    ap (λ (o : Option Value). if nat_eq (distance at) 0 then o else operated m (Reg Add) (value_of globals el (placed_operand Slot at.base)) (value_of globals el (Number (distance at))))
+    (same_value globals ev el at.base mirror)
+    ∙ ap (λ (o : Option Value). if nat_eq (distance at) 0 then value_of globals ev at.base else o)
+    (same_two globals ev el at.base (Number (distance at)) (operate m (Reg Add)) mirror)
+
 line_goes : (globals : List Value) (i : Given) (s : State ℕ) (el : Values Location) (l : Line ℕ) → Mirror s.values el
     → Goes (line_step virtual globals i s l) (line_step located globals i (carry s el) (placed_line Slot l))
 unfolding line_step
@@ -192,18 +203,20 @@ line_goes globals i s el (Operate to op a b) m =
     (same_two globals s.values el a b (operate s.memory op) m) m
 line_goes globals i s el (Load to op at) m =
     sets_goes_by s el to
-    (option_and_then (loaded s.memory op) (value_of globals s.values at)) (option_and_then (loaded s.memory op) (value_of globals el (placed_operand Slot at)))
-    (ap (option_and_then (loaded s.memory op)) (same_value globals s.values el at m)) m
+    (option_and_then (loaded s.memory op) (address_of globals s.memory s.values at)) (option_and_then (loaded s.memory op) (address_of globals s.memory el (placed_address Slot at)))
+    (ap (option_and_then (loaded s.memory op)) (same_address globals s.memory s.values el at m)) m
 line_goes globals i s el (Store size a at) m =
     changes_goes_by s el
-    (option_and_then (λ v. option_and_then (λ p. store s.memory (byte_count size) p v) (value_of globals s.values at)) (read globals s.values (stored_class size) a))
-    (option_and_then (λ v. option_and_then (λ p. store s.memory (byte_count size) p v) (value_of globals el (placed_operand Slot at))) (read globals el (stored_class size) (placed_operand Slot a)))
+    (option_and_then (λ v. option_and_then (λ p. store s.memory (byte_count size) p v) (address_of globals s.memory s.values at)) (read globals s.values (stored_class size) a))
+    (option_and_then (λ v. option_and_then (λ p. store s.memory (byte_count size) p v) (address_of globals s.memory el (placed_address Slot at))) (read globals el (stored_class size) (placed_operand Slot a)))
     (ap (λ (o : Option Value). option_and_then (λ v. option_and_then (λ p. store s.memory (byte_count size) p v) o) (read globals el (stored_class size) (placed_operand Slot a)))
-    (same_value globals s.values el at m)
-    ∙ ap (λ (o : Option Value). option_and_then (λ v. option_and_then (λ p. store s.memory (byte_count size) p v) (value_of globals s.values at)) o)
+    (same_address globals s.memory s.values el at m)
+    ∙ ap (λ (o : Option Value). option_and_then (λ v. option_and_then (λ p. store s.memory (byte_count size) p v) (address_of globals s.memory s.values at)) o)
     (same_read globals s.values el (stored_class size) a m))
     m
-line_goes globals i s el (Alloc to size) m = (
+line_goes globals i s el (Alloc None size) m =
+    (carry (record s { next = s.next + 1; memory = fresh s.memory size; owned = s.owned ++ length s.memory ∷ [] }) el, refl, (el, refl, m))
+line_goes globals i s el (Alloc (Some to) size) m = (
   carry (record s { next = s.next + 1; values = put virtual to (Pointer (length s.memory) 0) s.values; memory = fresh s.memory size; owned = s.owned ++ length s.memory ∷ [] })
       (put located (Slot to) (Pointer (length s.memory) 0) el),
   refl,

@@ -72,10 +72,11 @@ line_named n es (Operate to op a b) h =
     let s = both_true (is_place n (place_by es to)) (operand_keeps (is_place n) (placed_operand (place_by es) a) && operand_keeps (is_place n) (placed_operand (place_by es) b)) h in
     ap (λ x. x && (operand_keeps (has es) a && operand_keeps (has es) b)) (place_named n es to s.0) ∙ two_named n es a b s.1
 line_named n es (Load to op at) h =
-    let s = both_true (is_place n (place_by es to)) (operand_keeps (is_place n) (placed_operand (place_by es) at)) h in
-    ap (λ b. b && operand_keeps (has es) at) (place_named n es to s.0) ∙ operand_named n es at s.1
-line_named n es (Store size a at) h = two_named n es a at h
-line_named n es (Alloc to size) h = place_named n es to h
+    let s = both_true (is_place n (place_by es to)) (operand_keeps (is_place n) (placed_operand (place_by es) at.base)) h in
+    ap (λ b. b && operand_keeps (has es) at.base) (place_named n es to s.0) ∙ operand_named n es at.base s.1
+line_named n es (Store size a at) h = two_named n es a at.base h
+line_named n es (Alloc None size) h = refl
+line_named n es (Alloc (Some r) size) h = place_named n es r h
 line_named n es (Blit from to count) h = two_named n es from to h
 line_named n es (Call to callee args) h =
     let s = both_true (wanted_keeps (is_place n) (option_map (placed_destination (place_by es)) to))

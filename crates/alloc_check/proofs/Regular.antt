@@ -193,7 +193,8 @@ slot_line n (Set to a) = simp slot_operand
 slot_line n (Operate to op a b) = simp slot_operand
 slot_line n (Load to op at) = simp slot_operand
 slot_line n (Store size a at) = simp slot_operand
-slot_line n (Alloc to size) = refl
+slot_line n (Alloc None size) = refl
+slot_line n (Alloc (Some r) size) = refl
 slot_line n (Blit from to count) = simp slot_operand
 slot_line n (Call to callee args) =
     ap (λ b. b && (operand_keeps (is_place n) (placed_operand Slot callee) && list_all (λ (a : Argument Location). operand_keeps (is_place n) a.value) (map (placed_argument Slot) args))) (slot_wanted n to)

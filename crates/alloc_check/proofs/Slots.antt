@@ -7,6 +7,7 @@ use Rattle.std.proofs.lemmas.Bool.Decides.{nat_tests}
 use Rattle.vcode.specs.declared.place.Location.{Location}
 use Rattle.vcode.specs.declared.place.Location.TheVariants.{Slot}
 use Rattle.vcode.specs.declared.place.Operand.{Operand}
+use Rattle.vcode.specs.declared.place.Address.{Address}
 use Rattle.vcode.specs.declared.place.Operand.TheVariants.{At, Number, Name}
 use Rattle.vcode.specs.declared.place.Destination.{Destination}
 use Rattle.vcode.specs.declared.place.Argument.{Argument}
@@ -23,7 +24,7 @@ use Rattle.certificates.specs.declared.certificate.Equality.{Equality}
 use Rattle.certificates.specs.declared.certificate.Transfer.{Transfer}
 use Rattle.certificates.specs.declared.certificate.Certificate.{Certificate}
 use Rattle.cfg_live.specs.Registers.{with_operand, with_args, line_reads, jump_reads}
-use Rattle.alloc_check.specs.Placed.{placed_operand, placed_argument, placed_destination, placed_line, placed_jump, placed_block, in_slots}
+use Rattle.alloc_check.specs.Placed.{placed_operand, placed_address, placed_argument, placed_destination, placed_line, placed_jump, placed_block, in_slots}
 use Rattle.alloc_check.specs.Owners.{Owners, nobody, other_than, own_put, own_also, own_kept, moved, known, owns, operand_held, args_held, all_hold, where_held, received, after_line}
 use Rattle.alloc_check.specs.Certified.{moves_at, starts_at, layout_at, transfers, next_point, jump_point, certified_lines, certified_blocks, certified_params, placed_by, jump_right, lines_right, blocks_right, own_params, is_param, params_placed, entry_right, is_sound}
 use Rattle.alloc_check.specs.Accepted.{exists_in, equalities_exist, names_once, is_whole, is_placed, is_accepted}
@@ -55,6 +56,9 @@ args_slot c p (a ∷ args) h =
     ap (λ (v : Operand Location). record { class = a.class; value = v } ∷ map (placed_argument (layout_at c p)) args) (operand_slot c p a.value s.0)
     ∙ ap (λ xs. placed_argument Slot a ∷ xs) (args_slot c p args s.1)
 
+address_slot : (c : Certificate) (p : ℕ) (at : Address ℕ) → operand_keeps (own_at c p) at.base ≡ true → placed_address (layout_at c p) at ≡ placed_address Slot at
+address_slot c p at h = ap (λ (a : Operand Location). record { base = a; offset = at.offset }) (operand_slot c p at.base h)
+
 line_slot : (c : Certificate) (p : ℕ) (l : Line ℕ) → line_keeps (own_at c p) l ≡ true → placed_line (layout_at c p) l ≡ placed_line Slot l
 line_slot c p (Tick turn w) h = refl
 line_slot c p (Set to a) h =
@@ -67,12 +71,13 @@ line_slot c p (Operate to op a b) h =
     ∙ ap (λ x. Operate (Slot to) op x (placed_operand (layout_at c p) b)) (operand_slot c p a t.0)
     ∙ ap (λ x. Operate (Slot to) op (placed_operand Slot a) x) (operand_slot c p b t.1)
 line_slot c p (Load to op at) h =
-    let s = both_true (own_at c p to) (operand_keeps (own_at c p) at) h in
-    ap (λ (q : Location). Load q op (placed_operand (layout_at c p) at)) (own_is c p to s.0) ∙ ap (λ x. Load (Slot to) op x) (operand_slot c p at s.1)
+    let s = both_true (own_at c p to) (operand_keeps (own_at c p) at.base) h in
+    ap (λ (q : Location). Load q op (placed_address (layout_at c p) at)) (own_is c p to s.0) ∙ ap (λ x. Load (Slot to) op x) (address_slot c p at s.1)
 line_slot c p (Store size a at) h =
-    let t = both_true (operand_keeps (own_at c p) a) (operand_keeps (own_at c p) at) h in
-    ap (λ x. Store size x (placed_operand (layout_at c p) at)) (operand_slot c p a t.0) ∙ ap (λ x. Store size (placed_operand Slot a) x) (operand_slot c p at t.1)
-line_slot c p (Alloc to size) h = ap (λ (q : Location). Alloc q size) (own_is c p to h)
+    let t = both_true (operand_keeps (own_at c p) a) (operand_keeps (own_at c p) at.base) h in
+    ap (λ x. Store size x (placed_address (layout_at c p) at)) (operand_slot c p a t.0) ∙ ap (λ x. Store size (placed_operand Slot a) x) (address_slot c p at t.1)
+line_slot c p (Alloc None size) h = refl
+line_slot c p (Alloc (Some r) size) h = ap (λ (q : Location). Alloc (Some q) size) (own_is c p r h)
 line_slot c p (Blit from to count) h =
     let t = both_true (operand_keeps (own_at c p) from) (operand_keeps (own_at c p) to) h in
     ap (λ x. Blit x (placed_operand (layout_at c p) to) count) (operand_slot c p from t.0) ∙ ap (λ x. Blit (placed_operand Slot from) x count) (operand_slot c p to t.1)
@@ -286,18 +291,20 @@ line_goes wanted c p own (Operate to op a b) at full reads flow =
     ap (λ x. x && operand_held own (layout_at c p) b) (operand_found wanted c p own a full t.0 h.0) ∙ operand_found wanted c p own b full t.1 h.1 in
     let o = goes_put wanted c p to own (operand_held own (layout_at c p) a && operand_held own (layout_at c p) b) found s.0 full flow in
     record { owners = o.0; finds = o.1.0; full = o.1.1 }
-line_goes wanted c p own (Load to op a) at full reads flow =
-    let s = both_true (own_at c p to) (operand_keeps (own_at c p) a) at in
-    let found = operand_found wanted c p own a full s.1 (sym (operand_in (wanted p) [] a) ∙ reads) in
-    let o = goes_put wanted c p to own (operand_held own (layout_at c p) a) found s.0 full flow in
+line_goes wanted c p own (Load to op x) at full reads flow =
+    let s = both_true (own_at c p to) (operand_keeps (own_at c p) x.base) at in
+    let found = operand_found wanted c p own x.base full s.1 (sym (operand_in (wanted p) [] x.base) ∙ reads) in
+    let o = goes_put wanted c p to own (operand_held own (layout_at c p) x.base) found s.0 full flow in
     record { owners = o.0; finds = o.1.0; full = o.1.1 }
-line_goes wanted c p own (Store size a b) at full reads flow =
-    let t = both_true (operand_keeps (own_at c p) a) (operand_keeps (own_at c p) b) at in
-    let h = both_true (operand_keeps (wanted p) a) (operand_keeps (wanted p) b) (sym (two_in (wanted p) a b) ∙ reads) in
-    let found : (operand_held own (layout_at c p) a && operand_held own (layout_at c p) b) ≡ true =
-    ap (λ x. x && operand_held own (layout_at c p) b) (operand_found wanted c p own a full t.0 h.0) ∙ operand_found wanted c p own b full t.1 h.1 in
+line_goes wanted c p own (Store size a x) at full reads flow =
+    let t = both_true (operand_keeps (own_at c p) a) (operand_keeps (own_at c p) x.base) at in
+    let h = both_true (operand_keeps (wanted p) a) (operand_keeps (wanted p) x.base) (sym (two_in (wanted p) a x.base) ∙ reads) in
+    let found : (operand_held own (layout_at c p) a && operand_held own (layout_at c p) x.base) ≡ true =
+    ap (λ b. b && operand_held own (layout_at c p) x.base) (operand_found wanted c p own a full t.0 h.0) ∙ operand_found wanted c p own x.base full t.1 h.1 in
     record { owners = own; finds = ap (λ x. where_held x own) found; full = λ r w. full r (or_false (wanted p r) (flow r w)) }
-line_goes wanted c p own (Alloc to size) at full reads flow =
+line_goes wanted c p own (Alloc None size) at full reads flow =
+    record { owners = own; finds = refl; full = λ r w. full r (or_false (wanted p r) (flow r w)) }
+line_goes wanted c p own (Alloc (Some to) size) at full reads flow =
     record { owners = own_put (layout_at c p to) to own; finds = refl; full = after_put wanted c p (p + 1) to own at full flow }
 line_goes wanted c p own (Blit a b count) at full reads flow =
     let t = both_true (operand_keeps (own_at c p) a) (operand_keeps (own_at c p) b) at in

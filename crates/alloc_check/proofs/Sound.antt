@@ -16,25 +16,28 @@ use Rattle.il_ast.specs.Simulation.{Leads, Matches, MatchesEvent, Simulates, Tog
 use Rattle.il_ast.proofs.Simulated.{simulation_keeps}
 use Rattle.vcode.specs.declared.place.Location.{Location}
 use Rattle.vcode.specs.declared.place.Operand.{Operand}
-use Rattle.vcode.specs.declared.place.Operand.TheVariants.{At}
+use Rattle.vcode.specs.declared.place.Address.{Address}
+use Rattle.vcode.specs.declared.place.Operand.TheVariants.{At, Number}
 use Rattle.vcode.specs.declared.place.Destination.{Destination}
 use Rattle.vcode.specs.declared.place.Argument.{Argument}
 use Rattle.vcode.specs.declared.line.Line.{Line}
 use Rattle.vcode.specs.declared.line.Line.TheVariants.{Tick, Set, Operate, Load, Store, Alloc, Blit, Call}
-use Rattle.vcode.specs.declared.line.Operation.TheVariants.{Compare}
+use Rattle.rv_isa.specs.declared.instruction.RegOp.TheVariants.{Add}
+use Rattle.vcode.specs.declared.line.Operation.TheVariants.{Reg, Compare}
 use Rattle.vcode.specs.declared.line.Jump.{Jump}
 use Rattle.vcode.specs.declared.line.Jump.TheVariants.{Goto, Branch, Return, Halt}
 use Rattle.vcode.specs.declared.code.Block.{Block}
 use Rattle.vcode.specs.declared.code.Code.{Code}
+use Rattle.vcode.specs.Addresses.{distance}
 use Rattle.vcode.specs.Operations.{held, operate, loaded}
 use Rattle.vcode.specs.Places.{Values, unknown, put, assign, kept, virtual, located}
-use Rattle.vcode.specs.Step.{State, bound, begin, value_of, read, read_all, goes_on, sets, changes, weighs, ticks, receives, resumes, calls, line_step, enters, compared, branches, returns, jump_step, step}
+use Rattle.vcode.specs.Step.{State, bound, begin, value_of, read, read_all, operated, address_of, goes_on, sets, changes, weighs, ticks, receives, resumes, calls, line_step, enters, compared, branches, returns, jump_step, step}
 use Rattle.vcode.proofs.Lists.{head_at, tail_at, nothing_at, same_some}
 use Rattle.vcode.proofs.Stepping.{step_line, step_jump, step_nowhere}
 use Rattle.certificates.specs.declared.certificate.Equality.{Equality}
 use Rattle.certificates.specs.declared.certificate.Transfer.{Transfer}
 use Rattle.certificates.specs.declared.certificate.Certificate.{Certificate}
-use Rattle.alloc_check.specs.Placed.{Layout, placed_operand, placed_argument, placed_destination, placed_line, placed_comparison, placed_jump}
+use Rattle.alloc_check.specs.Placed.{Layout, placed_operand, placed_address, placed_argument, placed_destination, placed_line, placed_comparison, placed_jump}
 use Rattle.alloc_check.specs.Kept.{RunsAlike}
 use Rattle.alloc_check.specs.Owners.{Owners, nobody, Agrees, own_put, own_move, own_kept, moved, known, owns, operand_held, args_held, all_hold, where_held, received, after_line}
 use Rattle.alloc_check.specs.Certified.{moves_at, starts_at, layout_at, transfers, certified_lines, jump_point, certified_block, certified_blocks, certified_params, placed_by, jump_right, lines_right, blocks_right, own_params, is_param, entry_right, params_placed, is_sound}
@@ -192,6 +195,18 @@ two_follow {R} globals own ev el f a b act h agrees =
     (operand_follows globals own ev el f a both.0 agrees)
     (λ u. follows_then (value_of globals el (placed_operand f b)) (value_of globals ev b) (λ v. act u v) (λ v. act u v) (operand_follows globals own ev el f b both.1 agrees) (λ v y e. e))
 
+address_follows : (globals : List Value) (m : Memory) (own : Owners) (ev : Values ℕ) (el : Values Location) (f : Layout) (at : Address ℕ) → operand_held own f at.base ≡ true → Agrees own ev el
+    → Follows (address_of globals m el (placed_address f at)) (address_of globals m ev at)
+address_follows globals m own ev el f at h agrees =
+    either (nat_eq (distance at) 0) (value_of globals el (placed_operand f at.base))
+    (operated m (Reg Add) (value_of globals el (placed_operand f at.base)) (value_of globals el (Number (distance at)))) (value_of globals ev at.base)
+    (operated m (Reg Add) (value_of globals ev at.base) (value_of globals ev (Number (distance at)))) (operand_follows globals own ev el f at.base h agrees)
+    (two_follow globals own ev el f at.base (Number (distance at)) (operate m (Reg Add)) (ap (λ b. b && true) h) agrees)
+  where
+    either : (b : Bool) (u v x y : Option Value) → Follows u x → Follows v y → Follows (if b then u else v) (if b then x else y)
+    either true u v x y h k = h
+    either false u v x y h k = k
+
 line_beside : (related : Relation) (globals : List Value) (i : Given) (s : State ℕ) (n : ℕ) (el : Values Location) (own o : Owners) (f : Layout) (l : Line ℕ) → Agrees own s.values el
     → after_line own f l ≡ Some o → Onward related s n o
     → Beside related (line_step virtual globals i s l) (line_step located globals i (carry s n el) (placed_line f l))
@@ -215,26 +230,30 @@ line_beside related globals i s n el own o f (Operate to op a b) agrees h on =
     (two_follow globals own s.values el f a b (operate s.memory op) found.0 agrees) agrees
     (onward_by related s n (own_put (f to) to own) o found.1 on)
 line_beside related globals i s n el own o f (Load to op at) agrees h on =
-    let found = held_is (operand_held own f at) (own_put (f to) to own) o h in
-    sets_beside related s n el own (f to) to (option_and_then (loaded s.memory op) (value_of globals s.values at)) (option_and_then (loaded s.memory op) (value_of globals el (placed_operand f at)))
-    (follows_then (value_of globals el (placed_operand f at)) (value_of globals s.values at) (loaded s.memory op) (loaded s.memory op) (operand_follows globals own s.values el f at found.0 agrees) (λ v y e. e))
+    let found = held_is (operand_held own f at.base) (own_put (f to) to own) o h in
+    sets_beside related s n el own (f to) to (option_and_then (loaded s.memory op) (address_of globals s.memory s.values at)) (option_and_then (loaded s.memory op) (address_of globals s.memory el (placed_address f at)))
+    (follows_then (address_of globals s.memory el (placed_address f at)) (address_of globals s.memory s.values at) (loaded s.memory op) (loaded s.memory op) (address_follows globals s.memory own s.values el f at found.0 agrees) (λ v y e. e))
     agrees
     (onward_by related s n (own_put (f to) to own) o found.1 on)
 line_beside related globals i s n el own o f (Store size a at) agrees h on =
-    let found = held_is (operand_held own f a && operand_held own f at) own o h in
-    let held_both = both_true (operand_held own f a) (operand_held own f at) found.0 in
+    let found = held_is (operand_held own f a && operand_held own f at.base) own o h in
+    let held_both = both_true (operand_held own f a) (operand_held own f at.base) found.0 in
     changes_beside related s n el own
-    (option_and_then (λ v. option_and_then (λ p. store s.memory (byte_count size) p v) (value_of globals s.values at)) (read globals s.values (stored_class size) a))
-    (option_and_then (λ v. option_and_then (λ p. store s.memory (byte_count size) p v) (value_of globals el (placed_operand f at))) (read globals el (stored_class size) (placed_operand f a)))
+    (option_and_then (λ v. option_and_then (λ p. store s.memory (byte_count size) p v) (address_of globals s.memory s.values at)) (read globals s.values (stored_class size) a))
+    (option_and_then (λ v. option_and_then (λ p. store s.memory (byte_count size) p v) (address_of globals s.memory el (placed_address f at))) (read globals el (stored_class size) (placed_operand f a)))
     (follows_then (read globals el (stored_class size) (placed_operand f a)) (read globals s.values (stored_class size) a)
-    (λ v. option_and_then (λ p. store s.memory (byte_count size) p v) (value_of globals s.values at))
-    (λ v. option_and_then (λ p. store s.memory (byte_count size) p v) (value_of globals el (placed_operand f at)))
+    (λ v. option_and_then (λ p. store s.memory (byte_count size) p v) (address_of globals s.memory s.values at))
+    (λ v. option_and_then (λ p. store s.memory (byte_count size) p v) (address_of globals s.memory el (placed_address f at)))
     (read_follows globals own s.values el f (stored_class size) a held_both.0 agrees)
-    (λ v. follows_then (value_of globals el (placed_operand f at)) (value_of globals s.values at) (λ p. store s.memory (byte_count size) p v) (λ p. store s.memory (byte_count size) p v)
-    (operand_follows globals own s.values el f at held_both.1 agrees) (λ p y e. e)))
+    (λ v. follows_then (address_of globals s.memory el (placed_address f at)) (address_of globals s.memory s.values at) (λ p. store s.memory (byte_count size) p v) (λ p. store s.memory (byte_count size) p v)
+    (address_follows globals s.memory own s.values el f at held_both.1 agrees) (λ p y e. e)))
     agrees
     (onward_by related s n own o found.1 on)
-line_beside related globals i s n el own o f (Alloc to size) agrees h on =
+line_beside related globals i s n el own o f (Alloc None size) agrees h on =
+    let same = (held_is true own o h).1 in
+    let u : State ℕ = record s { next = s.next + 1; memory = fresh s.memory size; owned = s.owned ++ length s.memory ∷ [] } in
+    (carry u (n + 1) el, refl, onward_by related s n own o same on u el refl refl agrees)
+line_beside related globals i s n el own o f (Alloc (Some to) size) agrees h on =
     let same = (held_is true (own_put (f to) to own) o h).1 in
     let v : Value = Pointer (length s.memory) 0 in
     let u : State ℕ = record s { next = s.next + 1; values = put virtual to v s.values; memory = fresh s.memory size; owned = s.owned ++ length s.memory ∷ [] } in (

@@ -281,9 +281,10 @@ pub names_below : (test : ℕ → Bool) (l : Line ℕ) → line_keeps test l ≡
 names_below test (Tick turn w) h = (refl, refl)
 names_below test (Set to a) h = let s = both_true (test to) (operand_keeps test a) h in (operand_in test [] a ∙ s.1, s.0)
 names_below test (Operate to op a b) h = let s = both_true (test to) (operand_keeps test a && operand_keeps test b) h in (two_in test a b ∙ s.1, s.0)
-names_below test (Load to op a) h = let s = both_true (test to) (operand_keeps test a) h in (operand_in test [] a ∙ s.1, s.0)
-names_below test (Store size a b) h = (two_in test a b ∙ h, refl)
-names_below test (Alloc to size) h = (refl, h)
+names_below test (Load to op at) h = let s = both_true (test to) (operand_keeps test at.base) h in (operand_in test [] at.base ∙ s.1, s.0)
+names_below test (Store size a at) h = (two_in test a at.base ∙ h, refl)
+names_below test (Alloc None size) h = (refl, refl)
+names_below test (Alloc (Some r) size) h = (refl, h)
 names_below test (Blit a b count) h = (two_in test a b ∙ h, refl)
 names_below test (Call None callee args) h =
     (args_in test (with_operand [] callee) args ∙ ap (λ b. b && list_all (λ (a : Argument ℕ). operand_keeps test a.value) args) (operand_in test [] callee) ∙ h, refl)
@@ -295,9 +296,10 @@ pub names_all : (test : ℕ → Bool) (l : Line ℕ) → list_all test (line_rea
 names_all test (Tick turn w) h e = refl
 names_all test (Set to a) h e = ap (λ b. b && operand_keeps test a) e ∙ sym (operand_in test [] a) ∙ h
 names_all test (Operate to op a b) h e = ap (λ x. x && (operand_keeps test a && operand_keeps test b)) e ∙ sym (two_in test a b) ∙ h
-names_all test (Load to op a) h e = ap (λ b. b && operand_keeps test a) e ∙ sym (operand_in test [] a) ∙ h
-names_all test (Store size a b) h e = sym (two_in test a b) ∙ h
-names_all test (Alloc to size) h e = e
+names_all test (Load to op at) h e = ap (λ b. b && operand_keeps test at.base) e ∙ sym (operand_in test [] at.base) ∙ h
+names_all test (Store size a at) h e = sym (two_in test a at.base) ∙ h
+names_all test (Alloc None size) h e = refl
+names_all test (Alloc (Some r) size) h e = e
 names_all test (Blit a b count) h e = sym (two_in test a b) ∙ h
 names_all test (Call None callee args) h e =
     sym (args_in test (with_operand [] callee) args ∙ ap (λ b. b && list_all (λ (a : Argument ℕ). operand_keeps test a.value) args) (operand_in test [] callee)) ∙ h

@@ -73,9 +73,11 @@ line_is n own f (Operate to op a b) e h =
     (both_true (is_place n (f to)) (operand_keeps (is_place n) (placed_operand f a) && operand_keeps (is_place n) (placed_operand f b)) h).0
     (both_true (nat_lt to n) (operand_keeps (is_below n) a && operand_keeps (is_below n) b) e).0
 line_is n own f (Load to op at) e h =
-    reads_put n (f to) to own (operand_held own f at) (both_true (is_place n (f to)) (operand_keeps (is_place n) (placed_operand f at)) h).0 (both_true (nat_lt to n) (operand_keeps (is_below n) at) e).0
+    reads_put n (f to) to own (operand_held own f at.base) (both_true (is_place n (f to)) (operand_keeps (is_place n) (placed_operand f at.base)) h).0
+    (both_true (nat_lt to n) (operand_keeps (is_below n) at.base) e).0
 line_is n own f (Store size a at) e h = refl
-line_is n own f (Alloc to size) e h = put_is n (f to) to own h e
+line_is n own f (Alloc None size) e h = refl
+line_is n own f (Alloc (Some r) size) e h = put_is n (f r) r own h e
 line_is n own f (Blit from to count) e h = refl
 line_is n own f (Call to callee args) e h =
     ap (after_reads (operand_held own f callee && args_held own f args))

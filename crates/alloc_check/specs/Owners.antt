@@ -78,12 +78,16 @@ abbrev pub received : Layout → Option (Destination ℕ) → Owners → Owners
 received f None own = own
 received f (Some d) own = own_put (f d.place) d.place own
 
+abbrev pub made : Layout → Option ℕ → Owners → Owners
+made f None own = own
+made f (Some r) own = own_put (f r) r own
+
 abbrev pub after_line : Owners → Layout → Line ℕ → Option Owners
 after_line own f (Tick turn w) = Some own
 after_line own f (Set to a) = where_held (operand_held own f a) (own_put (f to) to own)
 after_line own f (Operate to op a b) = where_held (operand_held own f a && operand_held own f b) (own_put (f to) to own)
-after_line own f (Load to op at) = where_held (operand_held own f at) (own_put (f to) to own)
-after_line own f (Store size a at) = where_held (operand_held own f a && operand_held own f at) own
-after_line own f (Alloc to size) = Some (own_put (f to) to own)
+after_line own f (Load to op at) = where_held (operand_held own f at.base) (own_put (f to) to own)
+after_line own f (Store size a at) = where_held (operand_held own f a && operand_held own f at.base) own
+after_line own f (Alloc to size) = Some (made f to own)
 after_line own f (Blit from to count) = where_held (operand_held own f from && operand_held own f to) own
 after_line own f (Call to callee args) = where_held (operand_held own f callee && args_held own f args) (received f to (own_kept own))

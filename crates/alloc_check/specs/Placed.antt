@@ -4,6 +4,7 @@ use Rattle.std.specs.Option.{option_map}
 use Rattle.vcode.specs.declared.place.Location.{Location}
 use Rattle.vcode.specs.declared.place.Location.TheVariants.{Slot}
 use Rattle.vcode.specs.declared.place.Operand.{Operand}
+use Rattle.vcode.specs.declared.place.Address.{Address}
 use Rattle.vcode.specs.declared.place.Operand.TheVariants.{At, Number, Name}
 use Rattle.vcode.specs.declared.place.Destination.{Destination}
 use Rattle.vcode.specs.declared.place.Argument.{Argument}
@@ -24,6 +25,9 @@ placed_operand f (At r) = At (f r)
 placed_operand f (Number n) = Number n
 placed_operand f (Name g) = Name g
 
+abbrev pub placed_address : Layout → Address ℕ → Address Location
+placed_address f at = record { base = placed_operand f at.base; offset = at.offset }
+
 abbrev pub placed_argument : Layout → Argument ℕ → Argument Location
 placed_argument f a = record { class = a.class; value = placed_operand f a.value }
 
@@ -34,9 +38,9 @@ abbrev pub placed_line : Layout → Line ℕ → Line Location
 placed_line f (Tick turn w) = Tick turn w
 placed_line f (Set to a) = Set (f to) (placed_operand f a)
 placed_line f (Operate to op a b) = Operate (f to) op (placed_operand f a) (placed_operand f b)
-placed_line f (Load to op at) = Load (f to) op (placed_operand f at)
-placed_line f (Store size a at) = Store size (placed_operand f a) (placed_operand f at)
-placed_line f (Alloc to size) = Alloc (f to) size
+placed_line f (Load to op at) = Load (f to) op (placed_address f at)
+placed_line f (Store size a at) = Store size (placed_operand f a) (placed_address f at)
+placed_line f (Alloc to size) = Alloc (option_map f to) size
 placed_line f (Blit from to count) = Blit (placed_operand f from) (placed_operand f to) count
 placed_line f (Call to callee args) = Call (option_map (placed_destination f) to) (placed_operand f callee) (map (placed_argument f) args)
 

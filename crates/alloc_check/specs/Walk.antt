@@ -43,13 +43,17 @@ abbrev pub receives_in : ℕ → Layout → Option (Destination ℕ) → Owners 
 receives_in n f None own = Some own
 receives_in n f (Some d) own = put_in n (f d.place) d.place own
 
+abbrev pub makes_in : ℕ → Layout → Option ℕ → Owners → Option Owners
+makes_in n f None own = Some own
+makes_in n f (Some r) own = put_in n (f r) r own
+
 abbrev pub line_in : ℕ → Owners → Layout → Line ℕ → Option Owners
 line_in n own f (Tick turn w) = Some own
 line_in n own f (Set to a) = after_reads (operand_held own f a) (put_in n (f to) to own)
 line_in n own f (Operate to op a b) = after_reads (operand_held own f a && operand_held own f b) (put_in n (f to) to own)
-line_in n own f (Load to op at) = after_reads (operand_held own f at) (put_in n (f to) to own)
-line_in n own f (Store size a at) = where_held (operand_held own f a && operand_held own f at) own
-line_in n own f (Alloc to size) = put_in n (f to) to own
+line_in n own f (Load to op at) = after_reads (operand_held own f at.base) (put_in n (f to) to own)
+line_in n own f (Store size a at) = where_held (operand_held own f a && operand_held own f at.base) own
+line_in n own f (Alloc to size) = makes_in n f to own
 line_in n own f (Blit from to count) = where_held (operand_held own f from && operand_held own f to) own
 line_in n own f (Call to callee args) = after_reads (operand_held own f callee && args_held own f args) (receives_in n f to (own_kept own))
 

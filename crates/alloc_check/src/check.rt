@@ -4,7 +4,7 @@ ghost use Rattle.alloc_check.specs.Owners.{owns, own_kept, operand_held, args_he
 ghost use Rattle.alloc_check.specs.Certified.{next_point, jump_point, place_by, jump_right, is_param};
 ghost use Rattle.alloc_check.specs.Accepted.{end_point};
 ghost use Rattle.alloc_check.specs.Table.{own_of, IsTable};
-ghost use Rattle.alloc_check.specs.Walk.{put_in, moved_in, known_in, receives_in, line_in, point_in, lines_in, jump_in, block_in, blocks_in, params_in, entry_holds, entry_in, sound_in};
+ghost use Rattle.alloc_check.specs.Walk.{put_in, moved_in, known_in, receives_in, makes_in, line_in, point_in, lines_in, jump_in, block_in, blocks_in, params_in, entry_holds, entry_in, sound_in};
 
 use crate::says::{moves_at, place_by, places_at, starts_at};
 use crate::table::Table;
@@ -85,6 +85,24 @@ fn call(
     }
 }
 
+fn make(
+    table: &mut Table,
+    registers: u32,
+    time: usize,
+    places: &[Equality],
+    to: &Option<u32>,
+) -> bool
+    requires table { IsTable registers time table.old }
+    requires room { time + 1 < 2 ^ 64 }
+    ensures own { where_held result (own_of table.new) ≡ makes_in registers (place_by places.now) to.now (own_of table.old) }
+    ensures table { IsTable registers (time + 1) table.new }
+{
+    match to {
+        Some(register) => put(table, registers, time, places, *register),
+        None => true,
+    }
+}
+
 fn line(
     table: &mut Table,
     registers: u32,
@@ -113,10 +131,12 @@ fn line(
                 && put(table, registers, time, places, *to)
         }
         Line::Load { to, at, .. } => {
-            held(table, places, at) && put(table, registers, time, places, *to)
+            held(table, places, &at.base) && put(table, registers, time, places, *to)
         }
-        Line::Store { value, at, .. } => held(table, places, value) && held(table, places, at),
-        Line::Alloc { to, .. } => put(table, registers, time, places, *to),
+        Line::Store { value, at, .. } => {
+            held(table, places, value) && held(table, places, &at.base)
+        }
+        Line::Alloc { to, .. } => make(table, registers, time, places, to),
         Line::Blit { from, to, .. } => held(table, places, from) && held(table, places, to),
         Line::Call { to, callee, args } => {
             held(table, places, callee)

@@ -2,7 +2,7 @@
 ghost use Rattle.std.specs.Prelude.{◌≡◌, ◌≤◌, ◌+◌, ◌^◌, IfSome, ◌<◌};
 ghost use Rattle.std.specs.List.{list_all, list_any};
 ghost use Rattle.vcode.specs.Cost.{is_paid};
-ghost use Rattle.vcode.specs.Named.{operand_keeps, wanted_keeps, line_keeps, jump_keeps, block_keeps, keeps_places, is_place, is_near, are_near, are_distinct};
+ghost use Rattle.vcode.specs.Named.{operand_keeps, wanted_keeps, made_keeps, line_keeps, jump_keeps, block_keeps, keeps_places, is_place, is_near, are_near, are_distinct};
 ghost use Rattle.vcode.specs.Places.{located, same_location};
 ghost use Rattle.alloc_check.specs.Accepted.{is_placed, exists_in, equalities_exist};
 
@@ -42,6 +42,15 @@ fn wanted(slots: u32, to: &Option<Destination<Location>>) -> bool
     }
 }
 
+fn made(slots: u32, to: &Option<Location>) -> bool
+    ensures { result ≡ made_keeps (is_place slots) to.now }
+{
+    match to {
+        Some(place) => is_place(slots, *place),
+        None => true,
+    }
+}
+
 fn args(slots: u32, args: &[Argument<Location>]) -> bool
     ensures { result ≡ list_all (λ a. operand_keeps (is_place slots) a.value) args.now }
 {
@@ -60,9 +69,9 @@ fn line(slots: u32, line: &Line<Location>) -> bool
             right,
             ..
         } => is_place(slots, *to) && operand(slots, left) && operand(slots, right),
-        Line::Load { to, at, .. } => is_place(slots, *to) && operand(slots, at),
-        Line::Store { value, at, .. } => operand(slots, value) && operand(slots, at),
-        Line::Alloc { to, .. } => is_place(slots, *to),
+        Line::Load { to, at, .. } => is_place(slots, *to) && operand(slots, &at.base),
+        Line::Store { value, at, .. } => operand(slots, value) && operand(slots, &at.base),
+        Line::Alloc { to, .. } => made(slots, to),
         Line::Blit { from, to, .. } => operand(slots, from) && operand(slots, to),
         Line::Call {
             to,

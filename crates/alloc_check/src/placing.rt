@@ -1,12 +1,12 @@
 //! Code with a place for each register.
 ghost use Rattle.std.specs.Prelude.{◌≡◌, ◌++◌, map, drop, OnOk, IfOk};
 ghost use Rattle.std.specs.Option.{option_map};
-ghost use Rattle.alloc_check.specs.Placed.{placed_operand, placed_argument, placed_destination, placed_line, placed_comparison, placed_jump};
+ghost use Rattle.alloc_check.specs.Placed.{placed_operand, placed_address, placed_argument, placed_destination, placed_line, placed_comparison, placed_jump};
 
 use il_ast::list::Seq;
 use std::alloc::{AllocError, Global};
 use vcode::line::{Comparison, Jump, Line};
-use vcode::place::{Argument, Destination, Location, Operand};
+use vcode::place::{Address, Argument, Destination, Location, Operand};
 
 /// Says where each virtual register is.
 pub trait Placing {
@@ -60,6 +60,24 @@ pub(crate) fn destination<P: Placing>(places: &P, to: &Destination<u32>) -> Dest
     Destination {
         place: places.place(to.place),
         class: to.class,
+    }
+}
+
+fn address<P: Placing>(places: &P, from: &Address<u32>) -> Address<Location>
+    ensures { result ≡ placed_address (P.layout places.now) from.now }
+{
+    Address {
+        base: operand(places, &from.base),
+        offset: from.offset,
+    }
+}
+
+fn made<P: Placing>(places: &P, to: &Option<u32>) -> Option<Location>
+    ensures { result ≡ option_map (P.layout places.now) to.now }
+{
+    match to {
+        Some(register) => Some(places.place(*register)),
+        None => None,
     }
 }
 
@@ -128,15 +146,15 @@ pub(crate) fn line<P: Placing>(
         Line::Load { to, op, at } => Line::Load {
             to: places.place(*to),
             op: *op,
-            at: operand(places, at),
+            at: address(places, at),
         },
         Line::Store { size, value, at } => Line::Store {
             size: *size,
             value: operand(places, value),
-            at: operand(places, at),
+            at: address(places, at),
         },
         Line::Alloc { to, size } => Line::Alloc {
-            to: places.place(*to),
+            to: made(places, to),
             size: *size,
         },
         Line::Blit { from, to, count } => Line::Blit {

@@ -22,8 +22,8 @@ abbrev pub line_reads : Line ℕ → List ℕ
 line_reads (Tick turn w) = []
 line_reads (Set to a) = with_operand [] a
 line_reads (Operate to op a b) = with_operand (with_operand [] a) b
-line_reads (Load to op at) = with_operand [] at
-line_reads (Store size a at) = with_operand (with_operand [] a) at
+line_reads (Load to op at) = with_operand [] at.base
+line_reads (Store size a at) = with_operand (with_operand [] a) at.base
 line_reads (Alloc to size) = []
 line_reads (Blit from to count) = with_operand (with_operand [] from) to
 line_reads (Call to callee args) = with_args (with_operand [] callee) args
@@ -38,7 +38,7 @@ line_writes (Set to a) = Some to
 line_writes (Operate to op a b) = Some to
 line_writes (Load to op at) = Some to
 line_writes (Store size a at) = None
-line_writes (Alloc to size) = Some to
+line_writes (Alloc to size) = to
 line_writes (Blit from to count) = None
 line_writes (Call to callee args) = place_of to
 

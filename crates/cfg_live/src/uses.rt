@@ -45,10 +45,10 @@ pub(crate) fn line_reads(alloc: Global, line: &Line<u32>) -> Result<Seq<u32>, Al
             push_operand(&mut reads, left)?;
             push_operand(&mut reads, right)?;
         }
-        Line::Load { at, .. } => push_operand(&mut reads, at)?,
+        Line::Load { at, .. } => push_operand(&mut reads, &at.base)?,
         Line::Store { value, at, .. } => {
             push_operand(&mut reads, value)?;
-            push_operand(&mut reads, at)?;
+            push_operand(&mut reads, &at.base)?;
         }
         Line::Alloc { .. } => {}
         Line::Blit { from, to, .. } => {
@@ -73,7 +73,7 @@ pub fn line_writes(line: &Line<u32>) -> Option<u32>
         Line::Operate { to, .. } => Some(*to),
         Line::Load { to, .. } => Some(*to),
         Line::Store { .. } => None,
-        Line::Alloc { to, .. } => Some(*to),
+        Line::Alloc { to, .. } => *to,
         Line::Blit { .. } => None,
         Line::Call { to, .. } => match to {
             Some(destination) => Some(destination.place),

@@ -87,8 +87,8 @@ line_low : (test : ℕ → Bool) (l : Line ℕ) (r : ℕ) → line_keeps test l 
 line_low test (Tick turn w) r keeps h = cc
 line_low test (Set to a) r keeps h = one_low test a r (both_true (test to) (operand_keeps test a) keeps).1 h
 line_low test (Operate to op a b) r keeps h = two_low test a b r (both_true (test to) (operand_keeps test a && operand_keeps test b) keeps).1 h
-line_low test (Load to op a) r keeps h = one_low test a r (both_true (test to) (operand_keeps test a) keeps).1 h
-line_low test (Store size a b) r keeps h = two_low test a b r keeps h
+line_low test (Load to op at) r keeps h = one_low test at.base r (both_true (test to) (operand_keeps test at.base) keeps).1 h
+line_low test (Store size a at) r keeps h = two_low test a at.base r keeps h
 line_low test (Alloc to size) r keeps h = cc
 line_low test (Blit a b count) r keeps h = two_low test a b r keeps h
 line_low test (Call None callee args) r keeps h = call_low test callee args r keeps h

@@ -9,6 +9,7 @@ use Rattle.rv_isa.specs.declared.instruction.LoadOp.{LoadOp}
 use Rattle.vcode.specs.declared.place.Operand.{Operand}
 use Rattle.vcode.specs.declared.place.Destination.{Destination}
 use Rattle.vcode.specs.declared.line.Operation.{Operation}
+use Rattle.vcode.specs.declared.place.Address.{Address}
 use Rattle.vcode.specs.declared.line.Line.{Line}
 use Rattle.vcode.specs.declared.line.Line.TheVariants.{Tick, Set, Operate, Load, Store, Alloc, Blit, Call}
 use Rattle.vcode.specs.declared.line.Jump.{Jump}
@@ -146,7 +147,7 @@ affords_kept j out (Call to callee args ∷ lines) credit h = (cheaper j (line_c
 -- ---- what dead lines have none of
 
 none_if_dead : (f : Line ℕ → ℕ) → ((to : ℕ) (a : Operand ℕ) → f (Set to a) ≡ 0) → ((to : ℕ) (op : Operation) (a b : Operand ℕ) → f (Operate to op a b) ≡ 0)
-    → ((to : ℕ) (op : LoadOp) (a : Operand ℕ) → f (Load to op a) ≡ 0) → Counts f
+    → ((to : ℕ) (op : LoadOp) (at : Address ℕ) → f (Load to op at) ≡ 0) → Counts f
 none_if_dead f set operate load w (Set to a) dead = set to a
 none_if_dead f set operate load w (Operate to op a b) dead = operate to op a b
 none_if_dead f set operate load w (Load to op a) dead = load to op a

@@ -17,6 +17,8 @@ use Rattle.il_ast.specs.Keeps.{Asked, Given, Fine, KeepsCode}
 use Rattle.il_ast.specs.Simulation.{Matches, MatchesEvent, Simulates, TogetherNext, Together}
 use Rattle.il_ast.proofs.Simulated.{simulation_keeps}
 use Rattle.vcode.specs.declared.place.Operand.{Operand}
+use Rattle.vcode.specs.declared.place.Address.{Address}
+use Rattle.rv_isa.specs.declared.instruction.RegOp.TheVariants.{Add}
 use Rattle.vcode.specs.declared.place.Operand.TheVariants.{At, Number, Name}
 use Rattle.vcode.specs.declared.place.Destination.{Destination}
 use Rattle.vcode.specs.declared.place.Argument.{Argument}
@@ -24,14 +26,15 @@ use Rattle.vcode.specs.declared.line.Line.{Line}
 use Rattle.vcode.specs.declared.line.Line.TheVariants.{Tick, Set, Operate, Load, Store, Alloc, Blit, Call}
 use Rattle.vcode.specs.declared.line.Jump.{Jump}
 use Rattle.vcode.specs.declared.line.Jump.TheVariants.{Goto, Branch, Return, Halt}
-use Rattle.vcode.specs.declared.line.Operation.TheVariants.{Compare}
+use Rattle.vcode.specs.declared.line.Operation.TheVariants.{Reg, Compare}
 use Rattle.vcode.specs.declared.code.Block.{Block}
 use Rattle.vcode.specs.declared.code.Code.{Code}
 use Rattle.vcode.specs.declared.function.VFunc.{VFunc}
+use Rattle.vcode.specs.Addresses.{distance}
 use Rattle.vcode.specs.Operations.{held, operate, loaded}
 use Rattle.vcode.specs.Places.{Values, put, assign, kept, virtual}
 use Rattle.vcode.specs.Coded.{classes_in}
-use Rattle.vcode.specs.Step.{State, begin, value_of, read, read_all, goes_on, sets, changes, weighs, ticks, receives, resumes, calls, line_step, enters, compared, branches, returns, jump_step, step}
+use Rattle.vcode.specs.Step.{State, begin, value_of, read, read_all, operated, address_of, goes_on, sets, changes, weighs, ticks, receives, resumes, calls, line_step, enters, compared, branches, returns, jump_step, step}
 use Rattle.vcode.proofs.Lists.{head_at, tail_at, nothing_at, same_some}
 use Rattle.vcode.proofs.Stepping.{step_line, step_jump, step_nowhere}
 use Rattle.cfg_live.specs.Registers.{with_operand, jump_reads}
@@ -61,6 +64,10 @@ first_agrees ev el a b h r e = h r (two_in a b r ∙ left_or (names_it a r) (nam
 
 second_agrees : (ev el : Values ℕ) (a b : Operand ℕ) → Agree (is_in (with_operand (with_operand [] a) b)) ev el → Agree (names_it b) ev el
 second_agrees ev el a b h r e = h r (two_in a b r ∙ or_right (names_it a r) (names_it b r) e)
+
+address_same : (globals : List Value) (m : Memory) (ev el : Values ℕ) (at : Address ℕ) → Agree (names_it at.base) ev el → address_of globals m el at ≡ address_of globals m ev at
+address_same globals m ev el at h =
+    ap (λ (x : Option Value). if nat_eq (distance at) 0 then x else operated m (Reg Add) x (value_of globals el (Number (distance at)))) (value_same globals ev el at.base h)
 
 two_same : {R : Type 0} (globals : List Value) (ev el : Values ℕ) (a b : Operand ℕ) (act : Value → Value → Option R) → Agree (is_in (with_operand (with_operand [] a) b)) ev el
     → option_and_then (λ u. option_and_then (λ v. act u v) (value_of globals el b)) (value_of globals el a)
@@ -218,23 +225,26 @@ line_beside related globals i s n el w (Operate to op a b) agrees on =
     (two_same globals s.values el a b (operate s.memory op) (reads_agree w (Operate to op a b) s.values el agrees))
     (above_agrees w (Operate to op a b) s.values el agrees) on
 line_beside related globals i s n el w (Load to op at) agrees on =
-    sets_beside related s n el w to (option_and_then (loaded s.memory op) (value_of globals s.values at)) (option_and_then (loaded s.memory op) (value_of globals el at))
-    (ap (option_and_then (loaded s.memory op)) (value_same globals s.values el at (one_agrees s.values el at (reads_agree w (Load to op at) s.values el agrees))))
+    sets_beside related s n el w to (option_and_then (loaded s.memory op) (address_of globals s.memory s.values at)) (option_and_then (loaded s.memory op) (address_of globals s.memory el at))
+    (ap (option_and_then (loaded s.memory op)) (address_same globals s.memory s.values el at (one_agrees s.values el at.base (reads_agree w (Load to op at) s.values el agrees))))
     (above_agrees w (Load to op at) s.values el agrees) on
 line_beside related globals i s n el w (Store size a at) agrees on =
     let all = reads_agree w (Store size a at) s.values el agrees in
     changes_beside related s n el w
-    (option_and_then (λ v. option_and_then (λ p. store s.memory (byte_count size) p v) (value_of globals s.values at)) (read globals s.values (stored_class size) a))
-    (option_and_then (λ v. option_and_then (λ p. store s.memory (byte_count size) p v) (value_of globals el at)) (read globals el (stored_class size) a))
+    (option_and_then (λ v. option_and_then (λ p. store s.memory (byte_count size) p v) (address_of globals s.memory s.values at)) (read globals s.values (stored_class size) a))
+    (option_and_then (λ v. option_and_then (λ p. store s.memory (byte_count size) p v) (address_of globals s.memory el at)) (read globals el (stored_class size) a))
     (ap (λ (x : Option Value). option_and_then (λ v. option_and_then (λ p. store s.memory (byte_count size) p v) x) (read globals el (stored_class size) a))
-    (value_same globals s.values el at (second_agrees s.values el a at all))
-    ∙ ap (λ (x : Option Value). option_and_then (λ v. option_and_then (λ p. store s.memory (byte_count size) p v) (value_of globals s.values at)) (option_and_then (in_place (stored_class size)) x))
-    (value_same globals s.values el a (first_agrees s.values el a at all)))
+    (address_same globals s.memory s.values el at (second_agrees s.values el a at.base all))
+    ∙ ap (λ (x : Option Value). option_and_then (λ v. option_and_then (λ p. store s.memory (byte_count size) p v) (address_of globals s.memory s.values at)) (option_and_then (in_place (stored_class size)) x))
+    (value_same globals s.values el a (first_agrees s.values el a at.base all)))
     (whole_agrees w s.values el (above_agrees w (Store size a at) s.values el agrees)) on
-line_beside related globals i s n el w (Alloc to size) agrees on =
+line_beside related globals i s n el w (Alloc None size) agrees on =
+    let u : State ℕ = record s { next = s.next + 1; memory = fresh s.memory size; owned = s.owned ++ length s.memory ∷ [] } in
+    (carry u (n + 1) el, refl, on u el refl refl (whole_agrees w s.values el (above_agrees w (Alloc None size) s.values el agrees)))
+line_beside related globals i s n el w (Alloc (Some to) size) agrees on =
     let v : Value = Pointer (length s.memory) 0 in
     let u : State ℕ = record s { next = s.next + 1; values = put virtual to v s.values; memory = fresh s.memory size; owned = s.owned ++ length s.memory ∷ [] } in
-    (carry u (n + 1) (put virtual to v el), refl, on u (put virtual to v el) refl refl (assign_agrees w s.values el to (Some v) (above_agrees w (Alloc to size) s.values el agrees)))
+    (carry u (n + 1) (put virtual to v el), refl, on u (put virtual to v el) refl refl (assign_agrees w s.values el to (Some v) (above_agrees w (Alloc (Some to) size) s.values el agrees)))
 line_beside related globals i s n el w (Blit from to count) agrees on =
     changes_beside related s n el w
     (option_and_then (λ p. option_and_then (λ q. copy s.memory count p q) (value_of globals s.values to)) (value_of globals s.values from))
@@ -278,7 +288,7 @@ dead_alone related step2 globals i s n el w (Operate to op a b) dead agrees stil
     sets_alone related step2 s n el w to
     (option_and_then (λ u. option_and_then (λ v. operate s.memory op u v) (value_of globals s.values b)) (value_of globals s.values a)) dead agrees still
 dead_alone related step2 globals i s n el w (Load to op at) dead agrees still =
-    sets_alone related step2 s n el w to (option_and_then (loaded s.memory op) (value_of globals s.values at)) dead agrees still
+    sets_alone related step2 s n el w to (option_and_then (loaded s.memory op) (address_of globals s.memory s.values at)) dead agrees still
 dead_alone related step2 globals i s n el w (Store size a at) dead agrees still = cc
 dead_alone related step2 globals i s n el w (Alloc to size) dead agrees still = cc
 dead_alone related step2 globals i s n el w (Blit from to count) dead agrees still = cc

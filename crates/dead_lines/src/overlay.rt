@@ -116,10 +116,10 @@ impl Overlay {
                 self.want_operand(left);
                 self.want_operand(right);
             }
-            Line::Load { at, .. } => self.want_operand(at),
+            Line::Load { at, .. } => self.want_operand(&at.base),
             Line::Store { value, at, .. } => {
                 self.want_operand(value);
-                self.want_operand(at);
+                self.want_operand(&at.base);
             }
             Line::Alloc { .. } => {}
             Line::Blit { from, to, .. } => {
@@ -142,7 +142,8 @@ impl Overlay {
             Line::Set { to, .. }
             | Line::Operate { to, .. }
             | Line::Load { to, .. }
-            | Line::Alloc { to, .. } => self.drop_wanted(*to),
+            | Line::Alloc { to: Some(to), .. } => self.drop_wanted(*to),
+            Line::Alloc { to: None, .. } => {}
             Line::Call { to: Some(to), .. } => self.drop_wanted(to.place),
             Line::Call { to: None, .. } => {}
             Line::Tick { .. } | Line::Store { .. } | Line::Blit { .. } => {}

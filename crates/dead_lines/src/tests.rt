@@ -8,7 +8,7 @@ use std::test::Fail;
 use vcode::code::{Block, Code};
 use vcode::function::VFunc;
 use vcode::line::{Jump, Line};
-use vcode::place::{Destination, Operand};
+use vcode::place::{Address, Destination, Operand};
 
 /// Copies its argument from register to register, 0 to 1 and 1 to 2, and returns it from register 0.
 fn copies(alloc: Global) -> Result<VFunc, AllocError> {
@@ -64,12 +64,12 @@ fn accesses(alloc: Global) -> Result<VFunc, AllocError> {
     first.push(Line::Load {
         to: 2,
         op: LoadOp::Ld,
-        at: Operand::At(0),
+        at: Address::at_once(Operand::At(0)),
     })?;
     first.push(Line::Store {
         size: Size::Byte,
         value: Operand::Number(0),
-        at: Operand::At(0),
+        at: Address::at_once(Operand::At(0)),
     })?;
     let mut second = Seq::new(alloc);
     second.push(Line::Tick {

@@ -1,8 +1,9 @@
 -- Each line on bytes goes beside the line on blocks.
-use Rattle.std.proofs.Common.{◌≡◌, ℕ, zero, suc, ◌+◌, ◌<◌, ◌≤◌, ◌^◌, ◌%◌, Bool, true, false, not, ◌&&◌, ◌||◌, List, [], ◌∷◌, drop, length, slice_get, Some, refl, sym, ◌∙◌, ap, subst, arith}
+use Rattle.std.proofs.Common.{◌≡◌, ℕ, zero, suc, ◌+◌, ◌<◌, ◌≤◌, ◌^◌, ◌%◌, Bool, true, false, not, ◌&&◌, ◌||◌, List, [], ◌∷◌, drop, length, slice_get, Option, Some, None, refl, sym, ◌∙◌, ap, subst, arith}
 use Rattle.std.specs.List.{sum_by, list_all, list_any}
 use Rattle.std.proofs.lemmas.List.Sums.{sum_by-cons}
 use Rattle.std.specs.Option.{option_map, option_and_then}
+use Rattle.il_ast.specs.declared.value.Value.{Value}
 use Rattle.il_ast.specs.declared.value.Value.TheVariants.{Pointer}
 use Rattle.il_ast.specs.Values.{byte_count}
 use Rattle.il_ast.specs.Memory.{store, copy}
@@ -10,23 +11,22 @@ use Rattle.il_ast.specs.Effect.{stored_class}
 use Rattle.il_ast.specs.Cost.{round_16}
 use Rattle.rv_isa.specs.Step.{load_size, load_value}
 use Rattle.vcode.specs.declared.place.Location.{Location}
-use Rattle.vcode.specs.declared.place.Operand.{Operand}
 use Rattle.vcode.specs.declared.line.Line.{Line}
 use Rattle.vcode.specs.declared.line.Line.TheVariants.{Tick, Set, Operate, Load, Store, Alloc, Blit, Call}
 use Rattle.vcode.specs.declared.code.Block.{Block}
-use Rattle.vcode.specs.Operations.{operate, loaded}
-use Rattle.vcode.specs.Places.{located}
+use Rattle.vcode.specs.Operations.{loaded}
+use Rattle.vcode.specs.Places.{Values, located}
 use Rattle.vcode.specs.Regular.{is_alloc, allocs_first, alloc_bytes, area}
-use Rattle.vcode.specs.Step.{State, value_of, read as value_read, read_all as values_read, line_step}
-use Rattle.flat_code.specs.Spots.{Bases, Shows}
-use Rattle.flat_code.specs.Step.{FlatState, put, number_of, read, read_all, computed, known_number, stored, copied, opened, flat_line}
-use Rattle.flat_code.proofs.Shown.{some_is, Follows, some_follows, follows_map, follows_then, put_follows, follow_grown, operand_follows, read_follows, all_follow}
+use Rattle.vcode.specs.Step.{State, value_of, read as value_read, read_all as values_read, operated as values_operated, address_of as value_address, made_in as value_made, line_step}
+use Rattle.flat_code.specs.Spots.{Bases, Entries, Shows}
+use Rattle.flat_code.specs.Step.{Numbers, FlatState, number_of, read, read_all, operated, address_of, made_in, known_number, stored, copied, opened, flat_line}
+use Rattle.flat_code.proofs.Shown.{some_is, AllFollow, some_follows, follows_then, put_follows, follow_grown, read_follows, all_follow}
 use Rattle.flat_code.proofs.Loading.{loaded_follows}
 use Rattle.flat_code.proofs.Storing.{stored_follows}
 use Rattle.flat_code.proofs.Copying.{copied_follows}
 use Rattle.flat_code.proofs.Making.{IsMade, makes}
 use Rattle.flat_code.proofs.Going.{Setting, ground, IsSetting, HasRoom, Related, Together, names_shown, sets_together, takes_together, changes_together, ticks_together, memory_then}
-use Rattle.flat_code.proofs.Operands.{operand_shown, operation_shown}
+use Rattle.flat_code.proofs.Operands.{operand_shown, operation_shown, address_shown}
 use Rattle.flat_code.proofs.Calling.{calls_together}
 
 -- ---- where the line stands
@@ -88,7 +88,7 @@ in_all test (y ∷ xs) (suc k) x all h = in_all test xs k x (right (test y) (lis
     right true t h = h
     right false t h = cc
 
-alloc_first : (blocks : List (Block Location)) (k i : ℕ) (b : Block Location) (to : Location) (size : ℕ) → allocs_first blocks ≡ true → slice_get blocks k ≡ Some b → slice_get b.lines i ≡ Some (Alloc to size) → k ≡ 0
+alloc_first : (blocks : List (Block Location)) (k i : ℕ) (b : Block Location) (to : Option Location) (size : ℕ) → allocs_first blocks ≡ true → slice_get blocks k ≡ Some b → slice_get b.lines i ≡ Some (Alloc to size) → k ≡ 0
 alloc_first blocks zero i b to size all block line = refl
 alloc_first [] (suc k) i b to size all block line = cc
 alloc_first (d ∷ blocks) (suc k) i b to size all block line =
@@ -99,7 +99,12 @@ alloc_first (d ∷ blocks) (suc k) i b to size all block line =
     false_true : false ≡ true → ⊥
     false_true h = cc
 
-made_together : (c : Setting) → IsSetting c → (p : Bases) (s : State Location) (t : FlatState) (to : Location) (size : ℕ) → Related c p s t → IsNext c s (Alloc to size)
+made_follows : (e : Entries) (p : Bases) (values : Values Location) (numbers : Numbers) (to : Option Location) (v : Value) (x : ℕ) → AllFollow e p values numbers → Shows e p v x
+    → AllFollow e p (value_made located to v values) (made_in to x numbers)
+made_follows e p values numbers None v x follow shown = follow
+made_follows e p values numbers (Some to) v x follow shown = put_follows e p values numbers to (Some v) (Some x) follow (some_follows e p v x shown)
+
+made_together : (c : Setting) → IsSetting c → (p : Bases) (s : State Location) (t : FlatState) (to : Option Location) (size : ℕ) → Related c p s t → IsNext c s (Alloc to size)
     → Together c p (line_step located c.names.globals c.given s (Alloc to size)) (flat_line c.names.addresses c.base c.shown t (Alloc to size))
 unfolding line_step flat_line
 made_together c is p s t to size r n =
@@ -107,7 +112,7 @@ made_together c is p s t to size r n =
     makes (ground c) is.grounded p s.memory s.owned t.memory t.used size r.held fits
     in
     let shown : Shows c.names.entries made.bases (Pointer (length s.memory) 0) (c.base + t.used) = (c.base + t.used, made.is, small (c.base + t.used) below) in (
-      record t { next = t.next + 1; numbers = put to (Some (c.base + t.used)) t.numbers; memory = opened t.memory (c.base + t.used) size; used = t.used + round_16 size },
+      record t { next = t.next + 1; numbers = made_in to (c.base + t.used) t.numbers; memory = opened t.memory (c.base + t.used) size; used = t.used + round_16 size },
       refl,
       (
         made.bases,
@@ -116,9 +121,8 @@ made_together c is p s t to size r n =
           block = r.block;
           next = ap (λ k. k + 1) r.next;
           spent = r.spent;
-          follow = put_follows c.names.entries made.bases s.values t.numbers to (Some (Pointer (length s.memory) 0)) (Some (c.base + t.used))
-              (follow_grown c.names.entries p made.bases made.grown s.values t.numbers r.follow)
-              (some_follows c.names.entries made.bases (Pointer (length s.memory) 0) (c.base + t.used) shown);
+          follow = made_follows c.names.entries made.bases s.values t.numbers to (Pointer (length s.memory) 0) (c.base + t.used)
+              (follow_grown c.names.entries p made.bases made.grown s.values t.numbers r.follow) shown;
           held = made.held;
           room = room_later c s (Alloc to size) t.used (t.used + round_16 size) n r.room refl;
         },
@@ -155,28 +159,28 @@ line_together c is p s t (Set to a) r n =
     (room_later c s (Set to a) t.used t.used n r.room (nothing_more t.used)) (operand_shown c is p s t r a)
 line_together c is p s t (Operate to op a b) r n =
     sets_together c p s t to
-    (option_and_then (λ u. option_and_then (λ v. operate s.memory op u v) (value_of c.names.globals s.values b)) (value_of c.names.globals s.values a))
-    (option_and_then (λ x. option_map (λ y. computed op x y) (number_of c.names.addresses t.numbers b)) (number_of c.names.addresses t.numbers a)) r
+    (values_operated s.memory op (value_of c.names.globals s.values a) (value_of c.names.globals s.values b))
+    (operated op (number_of c.names.addresses t.numbers a) (number_of c.names.addresses t.numbers b)) r
     (room_later c s (Operate to op a b) t.used t.used n r.room (nothing_more t.used))
     (operation_shown c is p s t r op a b)
 line_together c is p s t (Load to op at) r n =
-    sets_together c p s t to (option_and_then (loaded s.memory op) (value_of c.names.globals s.values at))
-    (option_and_then (λ x. option_map (load_value op) (known_number t.memory x (load_size op))) (number_of c.names.addresses t.numbers at)) r
+    sets_together c p s t to (option_and_then (loaded s.memory op) (value_address c.names.globals s.memory s.values at))
+    (option_and_then (λ x. option_map (load_value op) (known_number t.memory x (load_size op))) (address_of c.names.addresses t.numbers at)) r
     (room_later c s (Load to op at) t.used t.used n r.room (nothing_more t.used))
-    (follows_then c.names.entries p (value_of c.names.globals s.values at) (number_of c.names.addresses t.numbers at) (loaded s.memory op)
-    (λ x. option_map (load_value op) (known_number t.memory x (load_size op))) (operand_shown c is p s t r at)
+    (follows_then c.names.entries p (value_address c.names.globals s.memory s.values at) (address_of c.names.addresses t.numbers at) (loaded s.memory op)
+    (λ x. option_map (load_value op) (known_number t.memory x (load_size op))) (address_shown c is p s t r at)
     (λ v x h. loaded_follows c.names.entries p s.memory t.memory r.held.memory op v x h))
 line_together c is p s t (Store size a at) r n =
     changes_together c p s t
-    (option_and_then (λ v. option_and_then (λ u. store s.memory (byte_count size) u v) (value_of c.names.globals s.values at)) (value_read c.names.globals s.values (stored_class size) a))
-    (option_and_then (λ v. option_and_then (λ x. stored t.memory x (byte_count size) v) (number_of c.names.addresses t.numbers at)) (read c.names.addresses t.numbers (stored_class size) a)) r
+    (option_and_then (λ v. option_and_then (λ u. store s.memory (byte_count size) u v) (value_address c.names.globals s.memory s.values at)) (value_read c.names.globals s.values (stored_class size) a))
+    (option_and_then (λ v. option_and_then (λ x. stored t.memory x (byte_count size) v) (address_of c.names.addresses t.numbers at)) (read c.names.addresses t.numbers (stored_class size) a)) r
     (room_later c s (Store size a at) t.used t.used n r.room (nothing_more t.used))
     (memory_then c.names.entries p s.memory t.memory (value_read c.names.globals s.values (stored_class size) a) (read c.names.addresses t.numbers (stored_class size) a)
-    (λ v. option_and_then (λ u. store s.memory (byte_count size) u v) (value_of c.names.globals s.values at))
-    (λ v. option_and_then (λ x. stored t.memory x (byte_count size) v) (number_of c.names.addresses t.numbers at))
+    (λ v. option_and_then (λ u. store s.memory (byte_count size) u v) (value_address c.names.globals s.memory s.values at))
+    (λ v. option_and_then (λ x. stored t.memory x (byte_count size) v) (address_of c.names.addresses t.numbers at))
     (read_follows c.names.entries p c.names.globals c.names.addresses s.values t.numbers (names_shown c is p s t r) r.follow (stored_class size) a)
-    (λ v z k. memory_then c.names.entries p s.memory t.memory (value_of c.names.globals s.values at) (number_of c.names.addresses t.numbers at)
-    (λ u. store s.memory (byte_count size) u v) (λ x. stored t.memory x (byte_count size) z) (operand_shown c is p s t r at)
+    (λ v z k. memory_then c.names.entries p s.memory t.memory (value_address c.names.globals s.memory s.values at) (address_of c.names.addresses t.numbers at)
+    (λ u. store s.memory (byte_count size) u v) (λ x. stored t.memory x (byte_count size) z) (address_shown c is p s t r at)
     (λ u x h. stored_follows c.names.entries p s.memory t.memory is.grounded.known r.held.memory (byte_count size) u v x z h k)))
 line_together c is p s t (Alloc to size) r n = made_together c is p s t to size r n
 line_together c is p s t (Blit from to count) r n =

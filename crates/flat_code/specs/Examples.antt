@@ -13,6 +13,7 @@ use Rattle.vcode.specs.declared.place.Location.{Location}
 use Rattle.vcode.specs.declared.place.Location.TheVariants.{Register}
 use Rattle.vcode.specs.declared.place.Operand.TheVariants.{At, Number, Name}
 use Rattle.vcode.specs.declared.line.Operation.TheVariants.{Reg}
+use Rattle.vcode.specs.Addresses.{at_once}
 use Rattle.vcode.specs.declared.line.Line.TheVariants.{Tick, Operate, Load, Store, Alloc, Blit}
 use Rattle.vcode.specs.declared.code.Code.{Code}
 use Rattle.vcode.specs.ExampleCodes.{destination, straight}
@@ -57,24 +58,24 @@ b = Register 11
 -- a number is stored in a fresh block, and comes back
 abbrev pub keeps_number : Code Location
 keeps_number =
-    straight L [] (Tick true 2 ∷ Alloc a 8 ∷ Store Long (Number 7) (At a) ∷ Load b Ld (At a) ∷ []) (At b)
+    straight L [] (Tick true 2 ∷ Alloc (Some a) 8 ∷ Store Long (Number 7) (at_once (At a)) ∷ Load b Ld (at_once (At a)) ∷ []) (At b)
 
 abbrev pub reads_blank : Code Location
-reads_blank = straight L [] (Alloc a 8 ∷ Load b Ld (At a) ∷ []) (At b)
+reads_blank = straight L [] (Alloc (Some a) 8 ∷ Load b Ld (at_once (At a)) ∷ []) (At b)
 
 abbrev pub stores_past_the_end : Code Location
-stores_past_the_end = straight L [] (Alloc a 7 ∷ Store Long (Number 7) (At a) ∷ []) (Number 1)
+stores_past_the_end = straight L [] (Alloc (Some a) 7 ∷ Store Long (Number 7) (at_once (At a)) ∷ []) (Number 1)
 
 abbrev pub stores_bytes : Code Location
-stores_bytes = straight L [] (Alloc a 1 ∷ Store Byte (Number 511) (At a) ∷ Load b Lb (At a) ∷ []) (At b)
+stores_bytes = straight L [] (Alloc (Some a) 1 ∷ Store Byte (Number 511) (at_once (At a)) ∷ Load b Lb (at_once (At a)) ∷ []) (At b)
 
 abbrev pub blocks_apart : Code Location
-blocks_apart = straight L [] (Alloc a 17 ∷ Alloc b 1 ∷ Operate b (Reg Sub) (At b) (At a) ∷ []) (At b)
+blocks_apart = straight L [] (Alloc (Some a) 17 ∷ Alloc (Some b) 1 ∷ Operate b (Reg Sub) (At b) (At a) ∷ []) (At b)
 
 abbrev pub copies : Code Location
 copies =
     straight L []
-    (Alloc a 8 ∷ Alloc b 8 ∷ Store Long (Number 258) (At a) ∷ Blit (At a) (At b) 8 ∷ Load a Ld (At b) ∷ [])
+    (Alloc (Some a) 8 ∷ Alloc (Some b) 8 ∷ Store Long (Number 258) (at_once (At a)) ∷ Blit (At a) (At b) 8 ∷ Load a Ld (at_once (At b)) ∷ [])
     (At a)
 
 -- the argument, of this class, returned as a value of another
@@ -111,7 +112,7 @@ pub record Examples : Type 0 where
   pub low_byte_with_its_sign : Returns stores_bytes [] (Some (2 ^ 64 - 1))
   pub fresh_blocks_follow : Returns blocks_apart [] (Some 32)
   pub bytes_are_copied : Returns copies [] (Some 258)
-  pub first_block_at_the_base : Returns (straight L [] (Alloc a 8 ∷ []) (At a)) [] (Some 8192)
+  pub first_block_at_the_base : Returns (straight L [] (Alloc (Some a) 8 ∷ []) (At a)) [] (Some 8192)
   pub name_has_an_address : Returns (straight L [] [] (Name 0)) [] (Some 500)
   pub word_is_extended : Returns (passes W L) ((2 ^ 31) ∷ []) (Some (2 ^ 64 - 2 ^ 31))
   pub word_is_cut : Returns (passes L W) ((2 ^ 32 + 5) ∷ []) (Some 5)

@@ -14,6 +14,7 @@ use Rattle.il_ast.specs.Effect.{stored_class}
 use Rattle.il_ast.specs.Cost.{round_16}
 use Rattle.il_ast.specs.Run.{Spent, nothing, one_turn, both}
 use Rattle.il_ast.specs.Logged.{Next, On, Over, Event, Does, Calls}
+use Rattle.rv_isa.specs.declared.instruction.RegOp.TheVariants.{Add}
 use Rattle.rv_isa.specs.Arithmetic.{reg_value, regw_value}
 use Rattle.rv_isa.specs.Step.{load_size, load_value}
 use Rattle.vcode.specs.declared.place.Location.{Location}
@@ -21,6 +22,7 @@ use Rattle.vcode.specs.declared.place.Operand.{Operand}
 use Rattle.vcode.specs.declared.place.Operand.TheVariants.{At, Number, Name}
 use Rattle.vcode.specs.declared.place.Destination.{Destination}
 use Rattle.vcode.specs.declared.place.Argument.{Argument}
+use Rattle.vcode.specs.declared.place.Address.{Address}
 use Rattle.vcode.specs.declared.line.Operation.{Operation}
 use Rattle.vcode.specs.declared.line.Operation.TheVariants.{Reg, RegW, Compare}
 use Rattle.vcode.specs.declared.line.Line.{Line}
@@ -30,6 +32,7 @@ use Rattle.vcode.specs.declared.line.Jump.{Jump}
 use Rattle.vcode.specs.declared.line.Jump.TheVariants.{Goto, Branch, Return, Halt}
 use Rattle.vcode.specs.declared.code.Block.{Block}
 use Rattle.vcode.specs.declared.code.Code.{Code}
+use Rattle.vcode.specs.Addresses.{distance}
 use Rattle.vcode.specs.Places.{same_location, is_callers}
 use Rattle.vcode.specs.Regular.{area}
 use Rattle.vcode.specs.Step.{weighs}
@@ -155,6 +158,16 @@ read_all addresses numbers [] = Some []
 read_all addresses numbers (a ∷ args) =
     option_and_then (λ x. option_map (λ xs. x ∷ xs) (read_all addresses numbers args)) (read addresses numbers a.class a.value)
 
+-- what an operation gives for what two operands give
+abbrev pub operated : Operation → (a b : Option ℕ) → Option ℕ
+operated op a b = option_and_then (λ x. option_map (λ y. computed op x y) b) a
+
+-- the base as it is, or its sum with a distance that isn't 0
+abbrev pub address_of : List ℕ → Numbers → Address Location → Option ℕ
+address_of addresses numbers at =
+    if nat_eq (distance at) 0 then number_of addresses numbers at.base
+    else operated (Reg Add) (number_of addresses numbers at.base) (number_of addresses numbers (Number (distance at)))
+
 -- ---- lines
 
 abbrev pub FlatEvent : Type 0
@@ -206,24 +219,28 @@ calls j s to args at xs = fails s
 
 -- ---- a line
 
+-- the address of a block that was made, where a place takes it
+abbrev pub made_in : Option Location → ℕ → Numbers → Numbers
+made_in None x numbers = numbers
+made_in (Some p) x numbers = put p (Some x) numbers
+
 unfoldable pub flat_line : List ℕ → (base : ℕ) → FlatGiven → FlatState → Line Location → FlatEvent
 flat_line addresses base j s (Tick turn w) = ticks j s turn w
 flat_line addresses base j s (Set to a) = goes_on (record s { numbers = put to (number_of addresses s.numbers a) s.numbers })
 flat_line addresses base j s (Operate to op a b) =
-    sets s to
-    (option_and_then (λ x. option_map (λ y. computed op x y) (number_of addresses s.numbers b)) (number_of addresses s.numbers a))
+    sets s to (operated op (number_of addresses s.numbers a) (number_of addresses s.numbers b))
 flat_line addresses base j s (Load to op at) =
     sets s to
-    (option_and_then (λ x. option_map (load_value op) (known_number s.memory x (load_size op))) (number_of addresses s.numbers at))
+    (option_and_then (λ x. option_map (load_value op) (known_number s.memory x (load_size op))) (address_of addresses s.numbers at))
 flat_line addresses base j s (Store size a at) =
     changes s
     (option_and_then
-    (λ v. option_and_then (λ x. stored s.memory x (byte_count size) v) (number_of addresses s.numbers at))
+    (λ v. option_and_then (λ x. stored s.memory x (byte_count size) v) (address_of addresses s.numbers at))
     (read addresses s.numbers (stored_class size) a))
 flat_line addresses base j s (Alloc to size) =
     goes_on
     (record s {
-      numbers = put to (Some (base + s.used)) s.numbers;
+      numbers = made_in to (base + s.used) s.numbers;
       memory = opened s.memory (base + s.used) size;
       used = s.used + round_16 size;
     })

@@ -1,5 +1,5 @@
 -- Code that is put by what is known is regular, takes no more than the code did, and keeps it.
-use Rattle.std.proofs.Common.{◌≡◌, ℕ, suc, ◌+◌, ◌-◌, ◌*◌, ◌≤◌, Bool, true, false, not, ◌&&◌, ◌||◌, nat_eq, nat_lt, nat_le, if◌then◌else◌, List, [], ◌∷◌, map, length, fold, Option, Some, None, refl, sym, ◌∙◌, ap, arith}
+use Rattle.std.proofs.Common.{◌≡◌, ℕ, suc, ◌+◌, ◌-◌, ◌*◌, ◌%◌, ◌^◌, ◌≤◌, Bool, true, false, not, ◌&&◌, ◌||◌, nat_eq, nat_lt, nat_le, if◌then◌else◌, List, [], ◌∷◌, map, length, fold, Option, Some, None, refl, sym, ◌∙◌, ap, arith}
 use Rattle.std.specs.Prelude.{max}
 use Rattle.std.specs.Option.{option_map_or}
 use Rattle.std.specs.List.{list_all, list_any, sum_by}
@@ -8,6 +8,9 @@ use Rattle.il_ast.specs.declared.operation.Condition.{Condition}
 use Rattle.il_ast.specs.declared.operation.Condition.TheVariants.{Equal, NotEqual, SignedLessEqual, SignedLess, SignedGreaterEqual, SignedGreater, UnsignedLessEqual, UnsignedLess, UnsignedGreaterEqual, UnsignedGreater}
 use Rattle.il_ast.specs.Passes.{Keeps}
 use Rattle.vcode.specs.declared.place.Operand.{Operand}
+use Rattle.vcode.specs.declared.place.Address.{Address}
+use Rattle.vcode.specs.declared.line.Operation.{Operation}
+use Rattle.vcode.specs.Addresses.{distance, beyond}
 use Rattle.vcode.specs.declared.place.Operand.TheVariants.{At, Number, Name}
 use Rattle.vcode.specs.declared.place.Argument.{Argument}
 use Rattle.vcode.specs.declared.place.Destination.{Destination}
@@ -19,15 +22,15 @@ use Rattle.vcode.specs.declared.line.Jump.TheVariants.{Goto, Branch, Return, Hal
 use Rattle.vcode.specs.declared.code.Block.{Block}
 use Rattle.vcode.specs.declared.code.Code.{Code}
 use Rattle.vcode.specs.Coded.{classes_in, coded}
-use Rattle.vcode.specs.Cost.{operand_cost, line_cost, jump_cost, affords, is_paid}
+use Rattle.vcode.specs.Cost.{is_immediate, operand_cost, line_cost, jump_cost, affords, is_paid}
 use Rattle.vcode.specs.Named.{operand_keeps, wanted_keeps, line_keeps, jump_keeps, block_keeps, keeps_places, is_below}
 use Rattle.vcode.specs.Outgoing.{args_on_stack, most_in_lines, most_in_blocks}
 use Rattle.vcode.specs.Places.{virtual}
 use Rattle.vcode.specs.Regular.{is_target, leads_inside, is_alloc, allocs_first, alloc_bytes, area, turns_of, passes_few, weight_of, code_weight, IsRegular}
 use Rattle.forwarding.specs.declared.fact.Fact.{Fact}
-use Rattle.forwarding.specs.declared.fact.Fact.TheVariants.{Same, Test}
+use Rattle.forwarding.specs.declared.fact.Fact.TheVariants.{Same, Sum, Test}
 use Rattle.forwarding.specs.Facts.{Facts, operand_below, fact_below, kept_if, AreBelow}
-use Rattle.forwarding.specs.Forwarded.{is_short, copied, forward, Replacing, with_argument, with_line, with_comparison, test_of, tested_by, with_test, with_jump, writes_it, fact_of, leaves, after, AreForwarded, IsForwarded, AllForwarded}
+use Rattle.forwarding.specs.Forwarded.{is_short, copied, forward, regrouped, grouped, is_add, folded, operands_of, further, from_base, with_base, with_address, Replacing, with_argument, with_line, with_comparison, test_of, tested_by, with_test, with_jump, writes_it, fact_of, leaves, after, AreForwarded, IsForwarded, AllForwarded}
 use Rattle.forwarding.proofs.Writing.{both_true}
 use Rattle.forwarding.proofs.Running.{runs}
 
@@ -45,6 +48,7 @@ short_cost (Name g) r true e = absurd (let no : ⊥ = cc in no)
 fact_cost : (o : Option Fact) (r : ℕ) → operand_cost (option_map_or (copied (At r)) o (At r)) ≤ 3
 fact_cost None r = omega arith
 fact_cost (Some (Same b)) r = short_cost b r (is_short b) refl
+fact_cost (Some (Sum b n)) r = omega arith
 fact_cost (Some (Test c)) r = omega arith
 
 forward_cost : (fs : Facts) (a : Operand ℕ) → operand_cost (forward fs a) ≤ operand_cost a
@@ -61,6 +65,7 @@ short_low n r (Name g) true h low = refl
 fact_low : (n r : ℕ) (o : Option Fact) → ((f : Fact) → o ≡ Some f → fact_below n f ≡ true) → nat_lt r n ≡ true → operand_keeps (is_below n) (option_map_or (copied (At r)) o (At r)) ≡ true
 fact_low n r None h low = low
 fact_low n r (Some (Same b)) h low = short_low n r b (is_short b) (h (Same b) refl) low
+fact_low n r (Some (Sum b m)) h low = low
 fact_low n r (Some (Test c)) h low = low
 
 forward_low : (n : ℕ) (fs : Facts) → AreBelow n fs → (a : Operand ℕ) → operand_keeps (is_below n) a ≡ true → operand_keeps (is_below n) (forward fs a) ≡ true
@@ -74,12 +79,73 @@ args_count : (f : Replacing) (args : List (Argument ℕ)) → length (map (with_
 args_count f [] = refl
 args_count f (a ∷ args) = ap suc (args_count f args)
 
-line_costs : (fs : Facts) (l : Line ℕ) → line_cost (with_line (forward fs) l) ≤ line_cost l
+-- the number 1 costs no more than another
+least : (m : ℕ) → 1 ≤ (if is_immediate m then 1 else 9)
+least m = by (is_immediate m)
+  where
+    by : (c : Bool) → 1 ≤ (if c then 1 else 9)
+    by true = omega arith
+    by false = omega arith
+
+regrouped_cost : (o : Option Fact) (r m : ℕ) → operand_cost (regrouped o r m).0 + operand_cost (regrouped o r m).1 ≤ 3 + (if is_immediate m then 1 else 9)
+regrouped_cost None r m = omega arith
+regrouped_cost (Some (Same a)) r m = omega arith
+regrouped_cost (Some (Test c)) r m = omega arith
+regrouped_cost (Some (Sum (Number k) n)) r m = omega arith
+regrouped_cost (Some (Sum (Name g) n)) r m = omega arith
+regrouped_cost (Some (Sum (At b) n)) r m = by (is_immediate ((n + m) % 2 ^ 64)) refl
+  where
+    pair : Bool → Operand ℕ × Operand ℕ
+    pair c = if c then (At b, Number ((n + m) % 2 ^ 64)) else (At r, Number m)
+
+    by : (c : Bool) → is_immediate ((n + m) % 2 ^ 64) ≡ c → operand_cost (pair c).0 + operand_cost (pair c).1 ≤ 3 + (if is_immediate m then 1 else 9)
+    by true e =
+        let x : ℕ = if is_immediate ((n + m) % 2 ^ 64) then 1 else 9 in
+        let one : x ≡ 1 = ap (λ (b : Bool). if b then 1 else 9) e in let y = least m in omega (arith, one, y)
+    by false e = omega arith
+
+grouped_cost : (fs : Facts) (a b : Operand ℕ) → operand_cost (grouped fs a b).0 + operand_cost (grouped fs a b).1 ≤ operand_cost a + operand_cost b
+grouped_cost fs (At r) (Number m) = regrouped_cost (fs r) r m
+grouped_cost fs (At r) (At q) = omega arith
+grouped_cost fs (At r) (Name g) = omega arith
+grouped_cost fs (Number k) b = omega arith
+grouped_cost fs (Name g) b = omega arith
+
+folded_cost : (fs : Facts) (op : Operation) (a b : Operand ℕ) → operand_cost (folded fs op a b).0 + operand_cost (folded fs op a b).1 ≤ operand_cost a + operand_cost b
+folded_cost fs op a b = by (is_add op)
+  where
+    by : (c : Bool) → operand_cost (if c then grouped fs a b else (a, b)).0 + operand_cost (if c then grouped fs a b else (a, b)).1 ≤ operand_cost a + operand_cost b
+    by true = grouped_cost fs a b
+    by false = omega arith
+
+further_cost : (at : Address ℕ) (r : ℕ) → at.base ≡ At r → (o : Option Fact) → operand_cost (further at o).base ≤ operand_cost at.base
+further_cost at r e None = omega arith
+further_cost at r e (Some (Same a)) = omega arith
+further_cost at r e (Some (Test c)) = omega arith
+further_cost at r e (Some (Sum (Number k) n)) = omega arith
+further_cost at r e (Some (Sum (Name g) n)) = omega arith
+further_cost at r e (Some (Sum (At b) n)) = by (let d = (n + distance at) % 2 ^ 64 in not (nat_eq d 0) && is_immediate d)
+  where
+    by : (c : Bool) → operand_cost (if c then beyond (At b) ((n + distance at) % 2 ^ 64) else at).base ≤ operand_cost at.base
+    by true = let f : operand_cost at.base ≡ 3 = ap operand_cost e in omega (arith, f)
+    by false = omega arith
+
+from_base_cost : (fs : Facts) (at : Address ℕ) (a : Operand ℕ) → at.base ≡ a → operand_cost (from_base fs at a).base ≤ operand_cost at.base
+from_base_cost fs at (At r) e = further_cost at r e (fs r)
+from_base_cost fs at (Number n) e = omega arith
+from_base_cost fs at (Name g) e = omega arith
+
+address_cost : (fs : Facts) (at : Address ℕ) → operand_cost (with_address fs at).base ≤ operand_cost at.base
+address_cost fs at =
+    let x = forward_cost fs at.base in let y = from_base_cost fs (with_base (forward fs) at) (forward fs at.base) refl in omega (arith, x, y)
+
+line_costs : (fs : Facts) (l : Line ℕ) → line_cost (with_line fs l) ≤ line_cost l
 line_costs fs (Tick turn w) = omega arith
 line_costs fs (Set to a) = let x = forward_cost fs a in omega (arith, x)
-line_costs fs (Operate to op a b) = let x = forward_cost fs a in let y = forward_cost fs b in omega (arith, x, y)
-line_costs fs (Load to op a) = let x = forward_cost fs a in omega (arith, x)
-line_costs fs (Store size a b) = let x = forward_cost fs a in let y = forward_cost fs b in omega (arith, x, y)
+line_costs fs (Operate to op a b) =
+    let x = forward_cost fs a in let y = forward_cost fs b in let z = folded_cost fs op (forward fs a) (forward fs b) in omega (arith, x, y, z)
+line_costs fs (Load to op at) = let x = address_cost fs at in omega (arith, x)
+line_costs fs (Store size a at) = let x = forward_cost fs a in let y = address_cost fs at in omega (arith, x, y)
 line_costs fs (Alloc to size) = omega arith
 line_costs fs (Blit a b count) = let x = forward_cost fs a in let y = forward_cost fs b in omega (arith, x, y)
 line_costs fs (Call to callee args) = let e = args_count (forward fs) args in omega (arith, e)
@@ -98,16 +164,71 @@ two_low n fs below a b h =
     let s = both_true (operand_keeps (is_below n) a) (operand_keeps (is_below n) b) h in
     both_are (operand_keeps (is_below n) (forward fs a)) (operand_keeps (is_below n) (forward fs b)) (forward_low n fs below a s.0) (forward_low n fs below b s.1)
 
-line_low : (n : ℕ) (fs : Facts) → AreBelow n fs → (l : Line ℕ) → line_keeps (is_below n) l ≡ true → line_keeps (is_below n) (with_line (forward fs) l) ≡ true
+regrouped_low : (n : ℕ) (o : Option Fact) (r m : ℕ) → ((f : Fact) → o ≡ Some f → fact_below n f ≡ true) → nat_lt r n ≡ true
+    → (operand_keeps (is_below n) (regrouped o r m).0 && operand_keeps (is_below n) (regrouped o r m).1) ≡ true
+regrouped_low n None r m below low = ap (λ b. b && true) low
+regrouped_low n (Some (Same a)) r m below low = ap (λ b. b && true) low
+regrouped_low n (Some (Test c)) r m below low = ap (λ b. b && true) low
+regrouped_low n (Some (Sum (Number k) q)) r m below low = ap (λ b. b && true) low
+regrouped_low n (Some (Sum (Name g) q)) r m below low = ap (λ b. b && true) low
+regrouped_low n (Some (Sum (At b) q)) r m below low = by (is_immediate ((q + m) % 2 ^ 64))
+  where
+    pair : Bool → Operand ℕ × Operand ℕ
+    pair c = if c then (At b, Number ((q + m) % 2 ^ 64)) else (At r, Number m)
+
+    by : (c : Bool) → (operand_keeps (is_below n) (pair c).0 && operand_keeps (is_below n) (pair c).1) ≡ true
+    by true = ap (λ x. x && true) (below (Sum (At b) q) refl)
+    by false = ap (λ x. x && true) low
+
+grouped_low : (n : ℕ) (fs : Facts) → AreBelow n fs → (a b : Operand ℕ) → (operand_keeps (is_below n) a && operand_keeps (is_below n) b) ≡ true
+    → (operand_keeps (is_below n) (grouped fs a b).0 && operand_keeps (is_below n) (grouped fs a b).1) ≡ true
+grouped_low n fs below (At r) (Number m) h = regrouped_low n (fs r) r m (below r) (both_true (nat_lt r n) true h).0
+grouped_low n fs below (At r) (At q) h = h
+grouped_low n fs below (At r) (Name g) h = h
+grouped_low n fs below (Number k) b h = h
+grouped_low n fs below (Name g) b h = h
+
+folded_low : (n : ℕ) (fs : Facts) → AreBelow n fs → (op : Operation) (a b : Operand ℕ) → (operand_keeps (is_below n) a && operand_keeps (is_below n) b) ≡ true
+    → (operand_keeps (is_below n) (folded fs op a b).0 && operand_keeps (is_below n) (folded fs op a b).1) ≡ true
+folded_low n fs below op a b h = by (is_add op)
+  where
+    by : (c : Bool) → (operand_keeps (is_below n) (if c then grouped fs a b else (a, b)).0 && operand_keeps (is_below n) (if c then grouped fs a b else (a, b)).1) ≡ true
+    by true = grouped_low n fs below a b h
+    by false = h
+
+further_low : (n : ℕ) (at : Address ℕ) (o : Option Fact) → ((f : Fact) → o ≡ Some f → fact_below n f ≡ true) → operand_keeps (is_below n) at.base ≡ true → operand_keeps (is_below n) (further at o).base ≡ true
+further_low n at None below low = low
+further_low n at (Some (Same a)) below low = low
+further_low n at (Some (Test c)) below low = low
+further_low n at (Some (Sum (Number k) q)) below low = low
+further_low n at (Some (Sum (Name g) q)) below low = low
+further_low n at (Some (Sum (At b) q)) below low = by (let d = (q + distance at) % 2 ^ 64 in not (nat_eq d 0) && is_immediate d)
+  where
+    by : (c : Bool) → operand_keeps (is_below n) (if c then beyond (At b) ((q + distance at) % 2 ^ 64) else at).base ≡ true
+    by true = below (Sum (At b) q) refl
+    by false = low
+
+from_base_low : (n : ℕ) (fs : Facts) → AreBelow n fs → (at : Address ℕ) (a : Operand ℕ) → operand_keeps (is_below n) at.base ≡ true → operand_keeps (is_below n) (from_base fs at a).base ≡ true
+from_base_low n fs below at (At r) low = further_low n at (fs r) (below r) low
+from_base_low n fs below at (Number k) low = low
+from_base_low n fs below at (Name g) low = low
+
+address_low : (n : ℕ) (fs : Facts) → AreBelow n fs → (at : Address ℕ) → operand_keeps (is_below n) at.base ≡ true → operand_keeps (is_below n) (with_address fs at).base ≡ true
+address_low n fs below at low = from_base_low n fs below (with_base (forward fs) at) (forward fs at.base) (forward_low n fs below at.base low)
+
+line_low : (n : ℕ) (fs : Facts) → AreBelow n fs → (l : Line ℕ) → line_keeps (is_below n) l ≡ true → line_keeps (is_below n) (with_line fs l) ≡ true
 line_low n fs below (Tick turn w) h = refl
 line_low n fs below (Set to a) h =
     let s = both_true (is_below n to) (operand_keeps (is_below n) a) h in both_are (is_below n to) (operand_keeps (is_below n) (forward fs a)) s.0 (forward_low n fs below a s.1)
 line_low n fs below (Operate to op a b) h =
     let s = both_true (is_below n to) (operand_keeps (is_below n) a && operand_keeps (is_below n) b) h in
-    both_are (is_below n to) (operand_keeps (is_below n) (forward fs a) && operand_keeps (is_below n) (forward fs b)) s.0 (two_low n fs below a b s.1)
-line_low n fs below (Load to op a) h =
-    let s = both_true (is_below n to) (operand_keeps (is_below n) a) h in both_are (is_below n to) (operand_keeps (is_below n) (forward fs a)) s.0 (forward_low n fs below a s.1)
-line_low n fs below (Store size a b) h = two_low n fs below a b h
+    both_are (is_below n to) (operand_keeps (is_below n) (operands_of fs op a b).0 && operand_keeps (is_below n) (operands_of fs op a b).1) s.0
+    (folded_low n fs below op (forward fs a) (forward fs b) (two_low n fs below a b s.1))
+line_low n fs below (Load to op at) h =
+    let s = both_true (is_below n to) (operand_keeps (is_below n) at.base) h in both_are (is_below n to) (operand_keeps (is_below n) (with_address fs at).base) s.0 (address_low n fs below at s.1)
+line_low n fs below (Store size a at) h =
+    let s = both_true (operand_keeps (is_below n) a) (operand_keeps (is_below n) at.base) h in
+    both_are (operand_keeps (is_below n) (forward fs a)) (operand_keeps (is_below n) (with_address fs at).base) (forward_low n fs below a s.0) (address_low n fs below at s.1)
 line_low n fs below (Alloc to size) h = h
 line_low n fs below (Blit a b count) h = two_low n fs below a b h
 line_low n fs below (Call to callee args) h =
@@ -145,6 +266,7 @@ test_either lines good Equal on met otherwise (Some c) g h = chosen lines good (
 fact_test : (n : ℕ) (o : Option Fact) (c : Comparison ℕ) → ((f : Fact) → o ≡ Some f → fact_below n f ≡ true) → test_of o ≡ Some c → fact_below n (Test c) ≡ true
 fact_test n None c h e = absurd (let no : ⊥ = cc in no)
 fact_test n (Some (Same b)) c h e = absurd (let no : ⊥ = cc in no)
+fact_test n (Some (Sum b m)) c h e = absurd (let no : ⊥ = cc in no)
 fact_test n (Some (Test d)) c h e = let same : d ≡ c = cc in ap (λ (x : Comparison ℕ). fact_below n (Test x)) (sym same) ∙ h (Test d) refl
 
 if_test : (n : ℕ) (o : Option Fact) (c : Comparison ℕ) (b : Bool) → ((f : Fact) → o ≡ Some f → fact_below n f ≡ true) → (if b then test_of o else None) ≡ Some c → fact_below n (Test c) ≡ true
@@ -193,22 +315,22 @@ pays old new credit more j k lines lines2 cheap le rest h =
     both_are (nat_le new more) (affords (more - new) k lines2) (let a = s.0 in grind (arith, nat_tests)) (rest (credit - old) (more - new) (omega arith) s.1)
 
 line_paid : (fs : Facts) (l : Line ℕ) (credit more : ℕ) (j k : Jump ℕ) (lines lines2 : List (Line ℕ)) → credit ≤ more → ((c m : ℕ) → c ≤ m → affords c j lines ≡ true → affords m k lines2 ≡ true)
-    → affords credit j (l ∷ lines) ≡ true → affords more k (with_line (forward fs) l ∷ lines2) ≡ true
+    → affords credit j (l ∷ lines) ≡ true → affords more k (with_line fs l ∷ lines2) ≡ true
 line_paid fs (Tick turn w) credit more j k lines lines2 le rest h = rest (credit + 32 * w) (more + 32 * w) (omega arith) h
 line_paid fs (Set to a) credit more j k lines lines2 le rest h =
-    pays (line_cost (Set to a)) (line_cost (with_line (forward fs) (Set to a))) credit more j k lines lines2 (line_costs fs (Set to a)) le rest h
+    pays (line_cost (Set to a)) (line_cost (with_line fs (Set to a))) credit more j k lines lines2 (line_costs fs (Set to a)) le rest h
 line_paid fs (Operate to op a b) credit more j k lines lines2 le rest h =
-    pays (line_cost (Operate to op a b)) (line_cost (with_line (forward fs) (Operate to op a b))) credit more j k lines lines2 (line_costs fs (Operate to op a b)) le rest h
+    pays (line_cost (Operate to op a b)) (line_cost (with_line fs (Operate to op a b))) credit more j k lines lines2 (line_costs fs (Operate to op a b)) le rest h
 line_paid fs (Load to op a) credit more j k lines lines2 le rest h =
-    pays (line_cost (Load to op a)) (line_cost (with_line (forward fs) (Load to op a))) credit more j k lines lines2 (line_costs fs (Load to op a)) le rest h
+    pays (line_cost (Load to op a)) (line_cost (with_line fs (Load to op a))) credit more j k lines lines2 (line_costs fs (Load to op a)) le rest h
 line_paid fs (Store size a b) credit more j k lines lines2 le rest h =
-    pays (line_cost (Store size a b)) (line_cost (with_line (forward fs) (Store size a b))) credit more j k lines lines2 (line_costs fs (Store size a b)) le rest h
+    pays (line_cost (Store size a b)) (line_cost (with_line fs (Store size a b))) credit more j k lines lines2 (line_costs fs (Store size a b)) le rest h
 line_paid fs (Alloc to size) credit more j k lines lines2 le rest h =
     let l : Line ℕ = Alloc to size in pays (line_cost l) (line_cost l) credit more j k lines lines2 (omega arith) le rest h
 line_paid fs (Blit a b count) credit more j k lines lines2 le rest h =
-    pays (line_cost (Blit a b count)) (line_cost (with_line (forward fs) (Blit a b count))) credit more j k lines lines2 (line_costs fs (Blit a b count)) le rest h
+    pays (line_cost (Blit a b count)) (line_cost (with_line fs (Blit a b count))) credit more j k lines lines2 (line_costs fs (Blit a b count)) le rest h
 line_paid fs (Call to callee args) credit more j k lines lines2 le rest h =
-    pays (line_cost (Call to callee args)) (line_cost (with_line (forward fs) (Call to callee args))) credit more j k lines lines2 (line_costs fs (Call to callee args)) le rest h
+    pays (line_cost (Call to callee args)) (line_cost (with_line fs (Call to callee args))) credit more j k lines lines2 (line_costs fs (Call to callee args)) le rest h
 
 -- the new lines pay for any jump that costs no more than the old one
 lines_paid : (n : ℕ) (whole : List (Line ℕ)) (fs : Facts) (lines new : List (Line ℕ)) (j k next : Jump ℕ) → AreForwarded n whole fs lines new j k → jump_cost next ≤ jump_cost j → (credit more : ℕ) → credit ≤ more
@@ -248,68 +370,68 @@ block_paid n b c f paid =
 -- ---- measures of lines that stay
 
 abbrev Stays : {X : Type 0} → (Line ℕ → X) → Type 0
-Stays {X} g = (f : Replacing) (l : Line ℕ) → g (with_line f l) ≡ g l
+Stays {X} g = (fs : Facts) (l : Line ℕ) → g (with_line fs l) ≡ g l
 
 weight_stays : Stays weight_of
-weight_stays f (Tick turn w) = refl
-weight_stays f (Set to a) = refl
-weight_stays f (Operate to op a b) = refl
-weight_stays f (Load to op a) = refl
-weight_stays f (Store size a b) = refl
-weight_stays f (Alloc to size) = refl
-weight_stays f (Blit a b count) = refl
-weight_stays f (Call to callee args) = refl
+weight_stays fs (Tick turn w) = refl
+weight_stays fs (Set to a) = refl
+weight_stays fs (Operate to op a b) = refl
+weight_stays fs (Load to op a) = refl
+weight_stays fs (Store size a b) = refl
+weight_stays fs (Alloc to size) = refl
+weight_stays fs (Blit a b count) = refl
+weight_stays fs (Call to callee args) = refl
 
 bytes_stay : Stays alloc_bytes
-bytes_stay f (Tick turn w) = refl
-bytes_stay f (Set to a) = refl
-bytes_stay f (Operate to op a b) = refl
-bytes_stay f (Load to op a) = refl
-bytes_stay f (Store size a b) = refl
-bytes_stay f (Alloc to size) = refl
-bytes_stay f (Blit a b count) = refl
-bytes_stay f (Call to callee args) = refl
+bytes_stay fs (Tick turn w) = refl
+bytes_stay fs (Set to a) = refl
+bytes_stay fs (Operate to op a b) = refl
+bytes_stay fs (Load to op a) = refl
+bytes_stay fs (Store size a b) = refl
+bytes_stay fs (Alloc to size) = refl
+bytes_stay fs (Blit a b count) = refl
+bytes_stay fs (Call to callee args) = refl
 
 turns_stay : Stays turns_of
-turns_stay f (Tick true w) = refl
-turns_stay f (Tick false w) = refl
-turns_stay f (Set to a) = refl
-turns_stay f (Operate to op a b) = refl
-turns_stay f (Load to op a) = refl
-turns_stay f (Store size a b) = refl
-turns_stay f (Alloc to size) = refl
-turns_stay f (Blit a b count) = refl
-turns_stay f (Call to callee args) = refl
+turns_stay fs (Tick true w) = refl
+turns_stay fs (Tick false w) = refl
+turns_stay fs (Set to a) = refl
+turns_stay fs (Operate to op a b) = refl
+turns_stay fs (Load to op a) = refl
+turns_stay fs (Store size a b) = refl
+turns_stay fs (Alloc to size) = refl
+turns_stay fs (Blit a b count) = refl
+turns_stay fs (Call to callee args) = refl
 
 alloc_stays : Stays is_alloc
-alloc_stays f (Tick turn w) = refl
-alloc_stays f (Set to a) = refl
-alloc_stays f (Operate to op a b) = refl
-alloc_stays f (Load to op a) = refl
-alloc_stays f (Store size a b) = refl
-alloc_stays f (Alloc to size) = refl
-alloc_stays f (Blit a b count) = refl
-alloc_stays f (Call to callee args) = refl
+alloc_stays fs (Tick turn w) = refl
+alloc_stays fs (Set to a) = refl
+alloc_stays fs (Operate to op a b) = refl
+alloc_stays fs (Load to op a) = refl
+alloc_stays fs (Store size a b) = refl
+alloc_stays fs (Alloc to size) = refl
+alloc_stays fs (Blit a b count) = refl
+alloc_stays fs (Call to callee args) = refl
 
 few_stays : Stays passes_few
-few_stays f (Tick turn w) = refl
-few_stays f (Set to a) = refl
-few_stays f (Operate to op a b) = refl
-few_stays f (Load to op a) = refl
-few_stays f (Store size a b) = refl
-few_stays f (Alloc to size) = refl
-few_stays f (Blit a b count) = refl
-few_stays f (Call to callee args) = ap (λ n. nat_le n 64) (args_count f args)
+few_stays fs (Tick turn w) = refl
+few_stays fs (Set to a) = refl
+few_stays fs (Operate to op a b) = refl
+few_stays fs (Load to op a) = refl
+few_stays fs (Store size a b) = refl
+few_stays fs (Alloc to size) = refl
+few_stays fs (Blit a b count) = refl
+few_stays fs (Call to callee args) = ap (λ n. nat_le n 64) (args_count (forward fs) args)
 
 passed_stays : Stays args_on_stack
-passed_stays f (Tick turn w) = refl
-passed_stays f (Set to a) = refl
-passed_stays f (Operate to op a b) = refl
-passed_stays f (Load to op a) = refl
-passed_stays f (Store size a b) = refl
-passed_stays f (Alloc to size) = refl
-passed_stays f (Blit a b count) = refl
-passed_stays f (Call to callee args) = ap (λ n. n - 8) (args_count f args)
+passed_stays fs (Tick turn w) = refl
+passed_stays fs (Set to a) = refl
+passed_stays fs (Operate to op a b) = refl
+passed_stays fs (Load to op a) = refl
+passed_stays fs (Store size a b) = refl
+passed_stays fs (Alloc to size) = refl
+passed_stays fs (Blit a b count) = refl
+passed_stays fs (Call to callee args) = ap (λ n. n - 8) (args_count (forward fs) args)
 
 -- ---- lines side by side
 
@@ -318,13 +440,13 @@ abbrev Alike : (lines new : List (Line ℕ)) → Type 0
 Alike [] [] = Unit {0}
 Alike [] (m ∷ new) = ⊥
 Alike (l ∷ lines) [] = ⊥
-Alike (l ∷ lines) (m ∷ new) = ((f : Replacing) × (m ≡ with_line f l)) × Alike lines new
+Alike (l ∷ lines) (m ∷ new) = ((fs : Facts) × (m ≡ with_line fs l)) × Alike lines new
 
 alike : (n : ℕ) (whole : List (Line ℕ)) (fs : Facts) (lines new : List (Line ℕ)) (j k : Jump ℕ) → AreForwarded n whole fs lines new j k → Alike lines new
 alike n whole fs [] [] j k f = tt
 alike n whole fs [] (m ∷ new) j k f = absurd f
 alike n whole fs (l ∷ lines) [] j k f = absurd f
-alike n whole fs (l ∷ lines) (m ∷ new) j k f = ((forward fs, f.0), alike n whole (after n m fs) lines new j k f.1)
+alike n whole fs (l ∷ lines) (m ∷ new) j k f = ((fs, f.0), alike n whole (after n m fs) lines new j k f.1)
 
 sum_from : (g : Line ℕ → ℕ) → Stays g → (lines new : List (Line ℕ)) → Alike lines new → (a : ℕ) → fold (λ n l. n + g l) a new ≡ fold (λ n l. n + g l) a lines
 sum_from g same [] [] h a = refl

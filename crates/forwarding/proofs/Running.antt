@@ -1,7 +1,9 @@
 -- Code that is put by what is known runs as the code does, step by step in the same states, in which all that is known is true.
-use Rattle.std.proofs.Common.{◌≡◌, ℕ, zero, suc, ◌+◌, ◌-◌, ◌%◌, ◌^◌, Bool, true, false, not, ◌&&◌, ◌||◌, nat_eq, nat_lt, if◌then◌else◌, List, [], ◌∷◌, map, drop, length, Option, Some, None, slice_get, refl, sym, ◌∙◌, ap, subst, arith}
+use Rattle.std.proofs.Common.{◌≡◌, ℕ, zero, suc, ◌+◌, ◌-◌, ◌%◌, ◌^◌, ◌<◌, Bool, true, false, not, ◌&&◌, ◌||◌, nat_eq, nat_lt, if◌then◌else◌, List, [], ◌∷◌, map, drop, length, Option, Some, None, slice_get, refl, sym, ◌∙◌, ap, subst, arith}
 use Rattle.std.specs.Option.{option_map, option_and_then, option_map_or}
+use Rattle.std.proofs.lemmas.Bool.{and_parts}
 use Rattle.std.proofs.lemmas.Bool.Decides.{nat_tests}
+use Rattle.std.proofs.lemmas.Int.{ints}
 use Rattle.il_ast.specs.declared.operation.Class.{Class}
 use Rattle.il_ast.specs.declared.operation.Class.TheVariants.{W, L}
 use Rattle.il_ast.specs.declared.operation.Condition.{Condition}
@@ -20,6 +22,10 @@ use Rattle.il_ast.specs.Keeps.{Asked, Given, Fine, KeepsCode}
 use Rattle.il_ast.specs.Simulation.{TogetherNext, Together, Lockstep}
 use Rattle.il_ast.proofs.Simulated.{lockstep_keeps}
 use Rattle.vcode.specs.declared.place.Operand.{Operand}
+use Rattle.vcode.specs.declared.place.Address.{Address}
+use Rattle.rv_isa.specs.Arithmetic.{widened}
+use Rattle.rv_isa.specs.declared.instruction.RegOp.TheVariants.{Add, Sub, Sll, Slt, Sltu, Xor, Srl, Sra, Or, And, Mul, Mulh, Mulhsu, Mulhu, Div, Divu, Rem, Remu}
+use Rattle.vcode.specs.declared.line.Operation.{Operation}
 use Rattle.vcode.specs.declared.place.Operand.TheVariants.{At, Number, Name}
 use Rattle.vcode.specs.declared.place.Destination.{Destination}
 use Rattle.vcode.specs.declared.place.Argument.{Argument}
@@ -31,18 +37,19 @@ use Rattle.vcode.specs.declared.line.Jump.TheVariants.{Goto, Branch, Return, Hal
 use Rattle.vcode.specs.declared.line.Operation.TheVariants.{Reg, RegW, Compare}
 use Rattle.vcode.specs.declared.code.Block.{Block}
 use Rattle.vcode.specs.declared.code.Code.{Code}
-use Rattle.vcode.specs.Cost.{affords}
+use Rattle.vcode.specs.Cost.{is_immediate, affords}
+use Rattle.vcode.specs.Addresses.{low, distance, beyond}
 use Rattle.vcode.specs.Operations.{held, operate, loaded}
 use Rattle.vcode.specs.Places.{Values, put, assign, kept, virtual}
 use Rattle.vcode.specs.Coded.{classes_in}
-use Rattle.vcode.specs.Step.{State, begin, value_of, read, read_all, goes_on, sets, changes, weighs, ticks, receives, resumes, calls, line_step, compared, branches, returns, jump_step, step}
+use Rattle.vcode.specs.Step.{State, begin, value_of, read, read_all, operated, address_of, goes_on, sets, changes, weighs, ticks, receives, resumes, calls, line_step, compared, branches, returns, jump_step, step}
 use Rattle.vcode.proofs.Lists.{head_at, tail_at, nothing_at, same_some}
 use Rattle.vcode.proofs.Stepping.{step_line, step_jump, step_nowhere}
 use Rattle.cfg_live.specs.Registers.{line_writes}
 use Rattle.forwarding.specs.declared.fact.Fact.{Fact}
-use Rattle.forwarding.specs.declared.fact.Fact.TheVariants.{Same, Test}
-use Rattle.forwarding.specs.Facts.{Facts, names_it, fact_names, asks_memory, kept_if, fact_below, Truth, AreTrue}
-use Rattle.forwarding.specs.Forwarded.{is_short, copied, forward, Replacing, with_argument, with_line, with_comparison, test_of, tested_by, with_test, with_jump, changes_memory, writes_it, fact_of, leaves, after, AreForwarded, IsForwarded, AllForwarded}
+use Rattle.forwarding.specs.declared.fact.Fact.TheVariants.{Same, Sum, Test}
+use Rattle.forwarding.specs.Facts.{Facts, names_it, fact_names, asks_memory, kept_if, fact_below, summed, Truth, AreTrue}
+use Rattle.forwarding.specs.Forwarded.{is_short, copied, forward, regrouped, grouped, is_add, folded, further, from_base, with_base, with_address, sum_of, Replacing, with_argument, with_line, with_comparison, test_of, tested_by, with_test, with_jump, changes_memory, writes_it, fact_of, leaves, after, AreForwarded, IsForwarded, AllForwarded}
 
 -- ---- operands
 
@@ -53,6 +60,7 @@ short_same globals ev r b false h = refl
 fact_same : (globals : List Value) (s : State ℕ) (r : ℕ) (o : Option Fact) → ((f : Fact) → o ≡ Some f → Truth globals s r f) → value_of globals s.values (option_map_or (copied (At r)) o (At r)) ≡ s.values r
 fact_same globals s r None h = refl
 fact_same globals s r (Some (Same b)) h = short_same globals s.values r b (is_short b) (h (Same b) refl)
+fact_same globals s r (Some (Sum b n)) h = refl
 fact_same globals s r (Some (Test c)) h = refl
 
 operand_same : (globals : List Value) (s : State ℕ) (fs : Facts) → AreTrue globals s fs → (a : Operand ℕ) → value_of globals s.values (forward fs a) ≡ value_of globals s.values a
@@ -101,25 +109,179 @@ calls_same i s to f args (Some (Integer k)) vs = refl
 calls_same i s to f args (Some (Pointer b k)) vs = refl
 calls_same i s to f args None vs = refl
 
-line_same : (globals : List Value) (i : Given) (s : State ℕ) (f : Replacing) → SameValues globals s f → (l : Line ℕ) → line_step virtual globals i s (with_line f l) ≡ line_step virtual globals i s l
+-- ---- sums
+
+same_sums : (a n m : ℕ) → ((a + n % 2 ^ 64) % 2 ^ 64 + m % 2 ^ 64) % 2 ^ 64 ≡ (a + (n + m) % 2 ^ 64 % 2 ^ 64) % 2 ^ 64
+same_sums a n m = omega arith
+
+-- of a sum with a number and another number
+sum_twice : (memory : Memory) (o : Option Value) (n m : ℕ) → operated memory (Reg Add) (summed o n) (Some (Integer (m % 2 ^ 64))) ≡ operated memory (Reg Add) o (Some (Integer ((n + m) % 2 ^ 64 % 2 ^ 64)))
+unfolding operate
+sum_twice memory None n m = refl
+sum_twice memory (Some (Integer a)) n m = ap (λ k. Some (Integer k)) (same_sums a n m)
+sum_twice memory (Some (Pointer b o)) n m = ap (λ k. Some (Pointer b k)) (same_sums o n m)
+sum_twice memory (Some (Function g)) n m = refl
+
+-- a sum asks no memory
+no_memory : (memory : Memory) (o : Option Value) (n : ℕ) → operated memory (Reg Add) o (Some (Integer n)) ≡ operated [] (Reg Add) o (Some (Integer n))
+unfolding operate
+no_memory memory None n = refl
+no_memory memory (Some (Integer a)) n = refl
+no_memory memory (Some (Pointer b o)) n = refl
+no_memory memory (Some (Function g)) n = refl
+
+adds : (op : Operation) → is_add op ≡ true → op ≡ (let a : Operation = Reg Add in a)
+adds (Reg Add) h = refl
+adds (Reg Sub) h = cc
+adds (Reg Sll) h = cc
+adds (Reg Slt) h = cc
+adds (Reg Sltu) h = cc
+adds (Reg Xor) h = cc
+adds (Reg Srl) h = cc
+adds (Reg Sra) h = cc
+adds (Reg Or) h = cc
+adds (Reg And) h = cc
+adds (Reg Mul) h = cc
+adds (Reg Mulh) h = cc
+adds (Reg Mulhsu) h = cc
+adds (Reg Mulhu) h = cc
+adds (Reg Div) h = cc
+adds (Reg Divu) h = cc
+adds (Reg Rem) h = cc
+adds (Reg Remu) h = cc
+adds (RegW op) h = cc
+adds (Compare on k) h = cc
+
+-- the same sum by other operands
+abbrev SameSum : List Value → State ℕ → Operand ℕ × Operand ℕ → (a b : Operand ℕ) → Type 0
+SameSum globals s p a b =
+    operated s.memory (Reg Add) (value_of globals s.values p.0) (value_of globals s.values p.1) ≡ operated s.memory (Reg Add) (value_of globals s.values a) (value_of globals s.values b)
+
+regrouped_same : (globals : List Value) (s : State ℕ) (r m : ℕ) (o : Option Fact) → ((f : Fact) → o ≡ Some f → Truth globals s r f) → SameSum globals s (regrouped o r m) (At r) (Number m)
+regrouped_same globals s r m None h = refl
+regrouped_same globals s r m (Some (Same a)) h = refl
+regrouped_same globals s r m (Some (Test c)) h = refl
+regrouped_same globals s r m (Some (Sum (Number k) n)) h = refl
+regrouped_same globals s r m (Some (Sum (Name g) n)) h = refl
+regrouped_same globals s r m (Some (Sum (At b) n)) h = by (is_immediate ((n + m) % 2 ^ 64))
+  where
+    by : (c : Bool) → SameSum globals s (if c then (At b, Number ((n + m) % 2 ^ 64)) else (At r, Number m)) (At r) (Number m)
+    by true =
+        sym (ap (λ (x : Option Value). operated s.memory (Reg Add) x (Some (Integer (m % 2 ^ 64)))) (h (Sum (At b) n) refl) ∙ sum_twice s.memory (s.values b) n m)
+    by false = refl
+
+grouped_same : (globals : List Value) (s : State ℕ) (fs : Facts) → AreTrue globals s fs → (a b : Operand ℕ) → SameSum globals s (grouped fs a b) a b
+grouped_same globals s fs all (At r) (Number m) = regrouped_same globals s r m (fs r) (all r)
+grouped_same globals s fs all (At r) (At q) = refl
+grouped_same globals s fs all (At r) (Name g) = refl
+grouped_same globals s fs all (Number k) b = refl
+grouped_same globals s fs all (Name g) b = refl
+
+folded_same : (globals : List Value) (s : State ℕ) (fs : Facts) → AreTrue globals s fs → (op : Operation) (a b : Operand ℕ)
+    → operated s.memory op (value_of globals s.values (folded fs op a b).0) (value_of globals s.values (folded fs op a b).1) ≡ operated s.memory op (value_of globals s.values a) (value_of globals s.values b)
+folded_same globals s fs all op a b = by (is_add op) refl
+  where
+    pair : Bool → Operand ℕ × Operand ℕ
+    pair c = if c then grouped fs a b else (a, b)
+
+    by : (c : Bool) → is_add op ≡ c → operated s.memory op (value_of globals s.values (pair c).0) (value_of globals s.values (pair c).1) ≡ operated s.memory op (value_of globals s.values a) (value_of globals s.values b)
+    by true e =
+        subst
+        (λ (o : Operation). operated s.memory o (value_of globals s.values (grouped fs a b).0) (value_of globals s.values (grouped fs a b).1) ≡ operated s.memory o (value_of globals s.values a) (value_of globals s.values b))
+        (sym (adds op e)) (grouped_same globals s fs all a b)
+    by false e = refl
+
+-- ---- addresses
+
+base_same : (globals : List Value) (s : State ℕ) (f : Replacing) → SameValues globals s f → (at : Address ℕ)
+    → address_of globals s.memory s.values (with_base f at) ≡ address_of globals s.memory s.values at
+base_same globals s f same at =
+    ap (λ (x : Option Value). if nat_eq (distance at) 0 then x else operated s.memory (Reg Add) x (value_of globals s.values (Number (distance at)))) (same at.base)
+
+not_true_is : (b : Bool) → not b ≡ true → b ≡ false
+not_true_is true h = cc
+not_true_is false h = refl
+
+low_is : (d : ℕ) → d < 2 ^ 64 → is_immediate d ≡ true → widened (low d).value ≡ d
+low_is d small h = grind (arith, ints, nat_tests)
+
+-- an address at a distance d from a value
+abbrev reached : Memory → Option Value → ℕ → Option Value
+reached memory v d = if nat_eq d 0 then v else operated memory (Reg Add) v (Some (Integer (d % 2 ^ 64)))
+
+reached_by : (memory : Memory) (v : Option Value) (d : ℕ) (c : Bool) → nat_eq d 0 ≡ c → c ≡ false → reached memory v d ≡ operated memory (Reg Add) v (Some (Integer (d % 2 ^ 64)))
+reached_by memory v d false e h = ap (λ (b : Bool). if b then v else operated memory (Reg Add) v (Some (Integer (d % 2 ^ 64)))) e
+reached_by memory v d true e h = cc
+
+-- from a sum, at a distance
+sum_reached : (memory : Memory) (v : Option Value) (n d : ℕ) → reached memory (summed v n) d ≡ operated memory (Reg Add) v (Some (Integer ((n + d) % 2 ^ 64 % 2 ^ 64)))
+sum_reached memory v n d = by (nat_eq d 0) refl
+  where
+    by : (c : Bool) → nat_eq d 0 ≡ c → (if c then summed v n else operated memory (Reg Add) (summed v n) (Some (Integer (d % 2 ^ 64)))) ≡ operated memory (Reg Add) v (Some (Integer ((n + d) % 2 ^ 64 % 2 ^ 64)))
+    by false e = sum_twice memory v n d
+    by true e =
+        let zero_is : d ≡ 0 = grind (arith, nat_tests) in
+        let same : n % 2 ^ 64 ≡ (n + d) % 2 ^ 64 % 2 ^ 64 = omega (arith, zero_is) in
+        sym (no_memory memory v (n % 2 ^ 64)) ∙ ap (λ k. operated memory (Reg Add) v (Some (Integer k))) same
+
+further_same : (globals : List Value) (s : State ℕ) (at : Address ℕ) (r : ℕ) → at.base ≡ At r → (o : Option Fact) → ((f : Fact) → o ≡ Some f → Truth globals s r f)
+    → address_of globals s.memory s.values (further at o) ≡ address_of globals s.memory s.values at
+further_same globals s at r e None h = refl
+further_same globals s at r e (Some (Same a)) h = refl
+further_same globals s at r e (Some (Test c)) h = refl
+further_same globals s at r e (Some (Sum (Number k) n)) h = refl
+further_same globals s at r e (Some (Sum (Name g) n)) h = refl
+further_same globals s at r e (Some (Sum (At b) n)) h = by (not (nat_eq d 0) && is_immediate d) refl
+  where
+    d : ℕ
+    d = (n + distance at) % 2 ^ 64
+
+    small : d < 2 ^ 64
+    small = omega arith
+
+    by : (c : Bool) → (not (nat_eq d 0) && is_immediate d) ≡ c → address_of globals s.memory s.values (if c then beyond (At b) d else at) ≡ address_of globals s.memory s.values at
+    by false g = refl
+    by true g =
+        let parts = and_parts (not (nat_eq d 0)) (is_immediate d) g in
+        ap (reached s.memory (s.values b)) (low_is d small parts.1)
+        ∙ (reached_by s.memory (s.values b) d (nat_eq d 0) refl (not_true_is (nat_eq d 0) parts.0)
+        ∙ (sym (sum_reached s.memory (s.values b) n (distance at))
+        ∙ ap (λ (x : Option Value). reached s.memory x (distance at)) (sym (h (Sum (At b) n) refl) ∙ sym (ap (value_of globals s.values) e))))
+
+from_base_same : (globals : List Value) (s : State ℕ) (fs : Facts) → AreTrue globals s fs → (at : Address ℕ) (a : Operand ℕ) → at.base ≡ a
+    → address_of globals s.memory s.values (from_base fs at a) ≡ address_of globals s.memory s.values at
+from_base_same globals s fs all at (At r) e = further_same globals s at r e (fs r) (all r)
+from_base_same globals s fs all at (Number k) e = refl
+from_base_same globals s fs all at (Name g) e = refl
+
+address_same : (globals : List Value) (s : State ℕ) (fs : Facts) → AreTrue globals s fs → (at : Address ℕ)
+    → address_of globals s.memory s.values (with_address fs at) ≡ address_of globals s.memory s.values at
+address_same globals s fs all at =
+    from_base_same globals s fs all (with_base (forward fs) at) (forward fs at.base) refl ∙ base_same globals s (forward fs) (operand_same globals s fs all) at
+
+-- ---- each line
+
+line_same : (globals : List Value) (i : Given) (s : State ℕ) (fs : Facts) → AreTrue globals s fs → (l : Line ℕ) → line_step virtual globals i s (with_line fs l) ≡ line_step virtual globals i s l
 unfolding line_step
-line_same globals i s f same (Tick turn w) = refl
-line_same globals i s f same (Set to a) = ap (takes_to s to) (same a)
+line_same globals i s fs all (Tick turn w) = refl
+line_same globals i s fs all (Set to a) = ap (takes_to s to) (operand_same globals s fs all a)
   where
     takes_to : State ℕ → ℕ → Option Value → Event (State ℕ) Asked Outcome
     takes_to s to o = goes_on (record s { values = assign virtual to o s.values })
-line_same globals i s f same (Operate to op a b) = ap (sets virtual s to) (two_same globals s f same a b (operate s.memory op))
-line_same globals i s f same (Load to op at) = ap (λ (o : Option Value). sets virtual s to (option_and_then (loaded s.memory op) o)) (same at)
-line_same globals i s f same (Store size a at) =
+line_same globals i s fs all (Operate to op a b) =
+    ap (sets virtual s to)
+    (folded_same globals s fs all op (forward fs a) (forward fs b) ∙ two_same globals s (forward fs) (operand_same globals s fs all) a b (operate s.memory op))
+line_same globals i s fs all (Load to op at) = ap (λ (o : Option Value). sets virtual s to (option_and_then (loaded s.memory op) o)) (address_same globals s fs all at)
+line_same globals i s fs all (Store size a at) =
     ap (changes s)
-    (ap (λ (x : Option Value). option_and_then (λ v. option_and_then (λ p. store s.memory (byte_count size) p v) x) (read globals s.values (stored_class size) (f a))) (same at)
-    ∙ ap (λ (x : Option Value). option_and_then (λ v. option_and_then (λ p. store s.memory (byte_count size) p v) (value_of globals s.values at)) (option_and_then (in_place (stored_class size)) x)) (same a))
-line_same globals i s f same (Alloc to size) = refl
-line_same globals i s f same (Blit from to count) = ap (changes s) (two_same globals s f same from to (λ p q. copy s.memory count p q))
-line_same globals i s f same (Call to callee args) =
-    ap (λ (x : Option Value). calls virtual i s to (map (with_argument f) args) x (read_all globals s.values (map (with_argument f) args))) (same callee)
-    ∙ ap (calls virtual i s to (map (with_argument f) args) (value_of globals s.values callee)) (args_same globals s f same args)
-    ∙ calls_same i s to f args (value_of globals s.values callee) (read_all globals s.values args)
+    (ap (λ (x : Option Value). option_and_then (λ v. option_and_then (λ p. store s.memory (byte_count size) p v) x) (read globals s.values (stored_class size) (forward fs a))) (address_same globals s fs all at)
+    ∙ ap (λ (x : Option Value). option_and_then (λ v. option_and_then (λ p. store s.memory (byte_count size) p v) (address_of globals s.memory s.values at)) (option_and_then (in_place (stored_class size)) x)) (operand_same globals s fs all a))
+line_same globals i s fs all (Alloc to size) = refl
+line_same globals i s fs all (Blit from to count) = ap (changes s) (two_same globals s (forward fs) (operand_same globals s fs all) from to (λ p q. copy s.memory count p q))
+line_same globals i s fs all (Call to callee args) =
+    ap (λ (x : Option Value). calls virtual i s to (map (with_argument (forward fs)) args) x (read_all globals s.values (map (with_argument (forward fs)) args))) (operand_same globals s fs all callee)
+    ∙ ap (calls virtual i s to (map (with_argument (forward fs)) args) (value_of globals s.values callee)) (args_same globals s (forward fs) (operand_same globals s fs all) args)
+    ∙ calls_same i s to (forward fs) args (value_of globals s.values callee) (read_all globals s.values args)
 
 -- ---- a test of a comparison's result
 
@@ -210,6 +372,7 @@ compared_tests globals s on c t =
 fact_tests : (globals : List Value) (s : State ℕ) (r : ℕ) (o : Option Fact) (c : Comparison ℕ) → ((f : Fact) → o ≡ Some f → Truth globals s r f) → test_of o ≡ Some c → s.values r ≡ compared globals s c
 fact_tests globals s r None c h e = absurd (let no : ⊥ = cc in no)
 fact_tests globals s r (Some (Same b)) c h e = absurd (let no : ⊥ = cc in no)
+fact_tests globals s r (Some (Sum b n)) c h e = absurd (let no : ⊥ = cc in no)
 fact_tests globals s r (Some (Test d)) c h e = let same : d ≡ c = cc in h (Test d) refl ∙ ap (compared globals s) same
 
 zero_tests : (globals : List Value) (s : State ℕ) (fs : Facts) → AreTrue globals s fs → (r n : ℕ) (c : Comparison ℕ) (b : Bool) → nat_eq n 0 ≡ b → (if b then test_of (fs r) else None) ≡ Some c
@@ -432,6 +595,32 @@ compared_true globals s to c v r f e w h names =
     some_fact : (x y : Fact) → Some x ≡ Some y → x ≡ y
     some_fact x y e = cc
 
+sum_true : (globals : List Value) (s : State ℕ) (to : ℕ) (op : Operation) (a b : Operand ℕ) (v : Value) (r : ℕ) (f : Fact)
+    → operated s.memory op (value_of globals s.values a) (value_of globals s.values b) ≡ Some v → nat_eq to r ≡ true → (if is_add op then sum_of a b else None) ≡ Some f
+    → ((k : ℕ) → nat_eq to k ≡ true → fact_names f k ≡ false) → Truth globals (record s { next = s.next + 1; values = put virtual to v s.values }) r f
+sum_true globals s to op a b v r f e w h names = by_op (is_add op) refl h
+  where
+    ev : Values ℕ
+    ev = put virtual to v s.values
+
+    known : (q n : ℕ) → Sum (At q) n ≡ f → operated s.memory (Reg Add) (s.values q) (Some (Integer (n % 2 ^ 64))) ≡ Some v → Truth globals (record s { next = s.next + 1; values = ev }) r f
+    known q n is sum =
+        let unnamed : names_it (At q) to ≡ false = ap (λ (x : Fact). fact_names x to) is ∙ names to (is_same to) in
+        subst (λ (x : Fact). Truth globals (record s { next = s.next + 1; values = ev }) r x) is
+        (own_value s.values to (Some v) r w
+        ∙ (sym sum ∙ (no_memory s.memory (s.values q) (n % 2 ^ 64) ∙ ap (λ (x : Option Value). summed x n) (sym (still globals s.values to (Some v) (At q) unnamed)))))
+
+    by : (a b : Operand ℕ) → operated s.memory (Reg Add) (value_of globals s.values a) (value_of globals s.values b) ≡ Some v → sum_of a b ≡ Some f → Truth globals (record s { next = s.next + 1; values = ev }) r f
+    by (At q) (Number n) sum g = let is : Sum (At q) n ≡ f = cc in known q n is sum
+    by (At q) (At p) sum g = absurd (let no : ⊥ = cc in no)
+    by (At q) (Name p) sum g = absurd (let no : ⊥ = cc in no)
+    by (Number k) b sum g = absurd (let no : ⊥ = cc in no)
+    by (Name k) b sum g = absurd (let no : ⊥ = cc in no)
+
+    by_op : (c : Bool) → is_add op ≡ c → (if c then sum_of a b else None) ≡ Some f → Truth globals (record s { next = s.next + 1; values = ev }) r f
+    by_op true g k = by a b (subst (λ (o : Operation). operated s.memory o (value_of globals s.values a) (value_of globals s.values b) ≡ Some v) (adds op g) e) k
+    by_op false g k = absurd (let no : ⊥ = cc in no)
+
 line_moves : (globals : List Value) (i : Given) (s : State ℕ) (m : Line ℕ) → OnEvent (Moved globals m s) (line_step virtual globals i s m)
 unfolding line_step
 line_moves globals i s (Tick turn w) = ticks_move globals i s turn w
@@ -448,17 +637,25 @@ line_moves globals i s (Operate to (Compare on k) a b) =
     (λ v e r f w h names. compared_true globals s to (record { condition = on; class = k; left = a; right = b }) v r f e w h names)
 line_moves globals i s (Operate to (Reg op) a b) =
     sets_moves globals (Operate to (Reg op) a b) s to (option_and_then (λ u. option_and_then (λ v. operate s.memory (Reg op) u v) (value_of globals s.values b)) (value_of globals s.values a)) (λ r. refl)
-    (λ v e r f w h names. unknown_fact globals (record s { next = s.next + 1; values = put virtual to v s.values }) r f h)
+    (λ v e r f w h names. sum_true globals s to (Reg op) a b v r f e w h names)
 line_moves globals i s (Operate to (RegW op) a b) =
     sets_moves globals (Operate to (RegW op) a b) s to (option_and_then (λ u. option_and_then (λ v. operate s.memory (RegW op) u v) (value_of globals s.values b)) (value_of globals s.values a)) (λ r. refl)
     (λ v e r f w h names. unknown_fact globals (record s { next = s.next + 1; values = put virtual to v s.values }) r f h)
 line_moves globals i s (Load to op at) =
-    sets_moves globals (Load to op at) s to (option_and_then (loaded s.memory op) (value_of globals s.values at)) (λ r. refl)
+    sets_moves globals (Load to op at) s to (option_and_then (loaded s.memory op) (address_of globals s.memory s.values at)) (λ r. refl)
     (λ v e r f w h names. unknown_fact globals (record s { next = s.next + 1; values = put virtual to v s.values }) r f h)
 line_moves globals i s (Store size a at) =
     changes_moves globals (Store size a at) s
-    (option_and_then (λ v. option_and_then (λ p. store s.memory (byte_count size) p v) (value_of globals s.values at)) (read globals s.values (stored_class size) a)) refl refl
-line_moves globals i s (Alloc to size) =
+    (option_and_then (λ v. option_and_then (λ p. store s.memory (byte_count size) p v) (address_of globals s.memory s.values at)) (read globals s.values (stored_class size) a)) refl refl
+line_moves globals i s (Alloc None size) =
+    record {
+      block = refl;
+      next = refl;
+      values = λ r h. refl;
+      memory = λ h. absurd (let no : ⊥ = cc in no);
+      fact = λ r f w h names. absurd (let no : ⊥ = cc in no);
+    }
+line_moves globals i s (Alloc (Some to) size) =
     record {
       block = refl;
       next = refl;
@@ -485,6 +682,7 @@ value_kept globals m s u moved (Name g) h = refl
 truth_kept : (globals : List Value) (m : Line ℕ) (s u : State ℕ) → Moved globals m s u → (r : ℕ) (f : Fact) → writes_it m r ≡ false → ((k : ℕ) → writes_it m k ≡ true → fact_names f k ≡ false)
     → (asks_memory f ≡ true → u.memory ≡ s.memory) → Truth globals s r f → Truth globals u r f
 truth_kept globals m s u moved r (Same a) w names asks h = moved.values r w ∙ h ∙ sym (value_kept globals m s u moved a names)
+truth_kept globals m s u moved r (Sum a n) w names asks h = moved.values r w ∙ (h ∙ sym (ap (λ (x : Option Value). summed x n) (value_kept globals m s u moved a names)))
 truth_kept globals m s u moved r (Test c) w names asks h =
     let left = value_kept globals m s u moved c.left (λ k e. (first_false (names_it c.left k) (names_it c.right k) (names k e)).0) in
     let right = value_kept globals m s u moved c.right (λ k e. (first_false (names_it c.left k) (names_it c.right k) (names k e)).1) in
@@ -629,12 +827,12 @@ jump_beside n v w globals i s b c fs all result at found ahead ahead2 is facts =
     (event_more (λ u. u.next ≡ 0) (λ u. Related n v w globals u u) (λ u e. at_start n v w globals all u e) (jump_step globals v.result s b.jump) (jump_starts globals v.result s b.jump))
 
 line_beside : (n : ℕ) (v w : Code ℕ) (globals : List Value) (i : Given) (s : State ℕ) (b c : Block ℕ) (fs : Facts) (l m : Line ℕ) (left left2 : List (Line ℕ))
-    → slice_get v.blocks s.block ≡ Some b → slice_get w.blocks s.block ≡ Some c → drop s.next b.lines ≡ l ∷ left → drop s.next c.lines ≡ m ∷ left2 → m ≡ with_line (forward fs) l
+    → slice_get v.blocks s.block ≡ Some b → slice_get w.blocks s.block ≡ Some c → drop s.next b.lines ≡ l ∷ left → drop s.next c.lines ≡ m ∷ left2 → m ≡ with_line fs l
     → AreForwarded n c.lines (after n m fs) left left2 b.jump c.jump → AreTrue globals s fs → Beside n v w globals i s
 line_beside n v w globals i s b c fs l m left left2 at found ahead ahead2 is rest facts =
     one_event (Related n v w globals) (step virtual globals v i s) (step virtual globals w i s) (line_step virtual globals i s m)
     (step_line virtual globals v i s b l at (head_at b.lines s.next l left ahead)
-    ∙ sym (line_same globals i s (forward fs) (operand_same globals s fs facts) l) ∙ ap (line_step virtual globals i s) (sym is))
+    ∙ sym (line_same globals i s fs facts l) ∙ ap (line_step virtual globals i s) (sym is))
     (step_line virtual globals w i s c m found (head_at c.lines s.next m left2 ahead2))
     (event_more (Moved globals m s) (λ u. Related n v w globals u u) on (line_step virtual globals i s m) (line_moves globals i s m))
   where

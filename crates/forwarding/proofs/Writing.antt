@@ -5,7 +5,7 @@ use Rattle.std.proofs.lemmas.Bool.Decides.{nat_tests}
 use Rattle.vcode.specs.declared.place.Operand.{Operand}
 use Rattle.vcode.specs.declared.place.Operand.TheVariants.{At, Number, Name}
 use Rattle.forwarding.specs.declared.fact.Fact.{Fact}
-use Rattle.forwarding.specs.declared.fact.Fact.TheVariants.{Same, Test}
+use Rattle.forwarding.specs.declared.fact.Fact.TheVariants.{Same, Sum, Test}
 use Rattle.forwarding.specs.declared.fact.Known.{Known}
 use Rattle.forwarding.specs.declared.table.Table.{Table}
 use Rattle.forwarding.specs.Facts.{names_it, fact_names, asks_memory, operand_below, fact_below, kept_if}
@@ -86,6 +86,11 @@ none_since t is e r = by (cell t.cells.items r) refl
 
 stands_unasked : (written : List ℕ) (old new since : ℕ) → since < new → (f : Fact) → stands written new since f ≡ (stands written old since f && not (asks_memory f))
 stands_unasked written old new since before (Same a) = by (is_fresh written since a)
+  where
+    by : (b : Bool) → b ≡ (b && true)
+    by true = refl
+    by false = refl
+stands_unasked written old new since before (Sum a n) = by (is_fresh written since a)
   where
     by : (b : Bool) → b ≡ (b && true)
     by true = refl
@@ -199,6 +204,7 @@ each true true true y false q m = and_turned (y && not q) m
 stands_over : (written : List ℕ) (memory time since r : ℕ) → since < time → (f : Fact)
     → stands (slice_set written r time) memory since f ≡ (stands written memory since f && (fact_below (length written) f && not (fact_names f r)))
 stands_over written memory time since r before (Same a) = fresh_over written time since r before a
+stands_over written memory time since r before (Sum a n) = fresh_over written time since r before a
 stands_over written memory time since r before (Test c) =
     ap (λ b. b && (is_fresh (slice_set written r time) since c.right && nat_le memory since)) (fresh_over written time since r before c.left)
     ∙ ap (λ b. (is_fresh written since c.left && (operand_below (length written) c.left && not (names_it c.left r))) && (b && nat_le memory since)) (fresh_over written time since r before c.right)
@@ -233,6 +239,7 @@ fresh_now written time up (Name g) = refl
 
 stands_now : (written : List ℕ) (memory time : ℕ) → UpTo written time → memory ≤ time → (f : Fact) → stands written memory time f ≡ fact_below (length written) f
 stands_now written memory time up le (Same a) = fresh_now written time up a
+stands_now written memory time up le (Sum a n) = fresh_now written time up a
 stands_now written memory time up le (Test c) =
     ap (λ b. b && (is_fresh written time c.right && nat_le memory time)) (fresh_now written time up c.left)
     ∙ ap (λ b. operand_below (length written) c.left && (b && nat_le memory time)) (fresh_now written time up c.right)
@@ -374,6 +381,7 @@ operand_low written since (Name g) h = refl
 
 fact_low : (written : List ℕ) (memory since : ℕ) (f : Fact) → stands written memory since f ≡ true → fact_below (length written) f ≡ true
 fact_low written memory since (Same a) h = operand_low written since a h
+fact_low written memory since (Sum a n) h = operand_low written since a h
 fact_low written memory since (Test c) h =
     let s = both_true (is_fresh written since c.left) (is_fresh written since c.right && nat_le memory since) h in
     let u = both_true (is_fresh written since c.right) (nat_le memory since) s.1 in

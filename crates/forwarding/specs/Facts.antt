@@ -1,11 +1,14 @@
 -- What registers are known to hold.
-use Rattle.std.specs.Prelude.{◌≡◌, ℕ, Bool, true, false, ◌&&◌, ◌||◌, nat_eq, nat_lt, if◌then◌else◌, List, Option, Some, None}
+use Rattle.std.specs.Prelude.{◌≡◌, ℕ, Bool, true, false, ◌&&◌, ◌||◌, nat_eq, nat_lt, if◌then◌else◌, List, [], ◌%◌, ◌^◌, Option, Some, None}
 use Rattle.il_ast.specs.declared.value.Value.{Value}
+use Rattle.il_ast.specs.declared.value.Value.TheVariants.{Integer}
 use Rattle.vcode.specs.declared.place.Operand.{Operand}
 use Rattle.vcode.specs.declared.place.Operand.TheVariants.{At}
-use Rattle.vcode.specs.Step.{State, value_of, compared}
+use Rattle.rv_isa.specs.declared.instruction.RegOp.TheVariants.{Add}
+use Rattle.vcode.specs.declared.line.Operation.TheVariants.{Reg}
+use Rattle.vcode.specs.Step.{State, value_of, operated, compared}
 use Rattle.forwarding.specs.declared.fact.Fact.{Fact}
-use Rattle.forwarding.specs.declared.fact.Fact.TheVariants.{Same, Test}
+use Rattle.forwarding.specs.declared.fact.Fact.TheVariants.{Same, Sum, Test}
 
 -- what is known of each register
 abbrev pub Facts : Type 0
@@ -17,16 +20,23 @@ names_it a r = false
 
 abbrev pub fact_names : Fact → ℕ → Bool
 fact_names (Same a) r = names_it a r
+fact_names (Sum a n) r = names_it a r
 fact_names (Test c) r = names_it c.left r || names_it c.right r
 
 -- a comparison may be of pointers
 abbrev pub asks_memory : Fact → Bool
 asks_memory (Same a) = false
+asks_memory (Sum a n) = false
 asks_memory (Test c) = true
 
--- the register holds what the operand does, or what the comparison gives
+-- the sum of a value and a number, which asks no memory
+abbrev pub summed : Option Value → ℕ → Option Value
+summed o n = operated [] (Reg Add) o (Some (Integer (n % 2 ^ 64)))
+
+-- the register holds what the operand does, the sum of that and the number, or what the comparison gives
 abbrev pub Truth : List Value → State ℕ → ℕ → Fact → Type 0
 Truth globals s r (Same a) = s.values r ≡ value_of globals s.values a
+Truth globals s r (Sum a n) = s.values r ≡ summed (value_of globals s.values a) n
 Truth globals s r (Test c) = s.values r ≡ compared globals s c
 
 abbrev pub AreTrue : List Value → State ℕ → Facts → Type 0
@@ -44,6 +54,7 @@ operand_below n a = true
 
 abbrev pub fact_below : (n : ℕ) → Fact → Bool
 fact_below n (Same a) = operand_below n a
+fact_below n (Sum a m) = operand_below n a
 fact_below n (Test c) = operand_below n c.left && operand_below n c.right
 
 abbrev pub AreBelow : (n : ℕ) → Facts → Type 0

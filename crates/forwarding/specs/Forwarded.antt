@@ -1,14 +1,18 @@
 -- Code in which operands and branches are put by what is known of registers.
-use Rattle.std.specs.Prelude.{◌≡◌, ℕ, Bool, true, false, not, ◌&&◌, nat_eq, nat_lt, if◌then◌else◌, List, [], ◌∷◌, map, Option, Some, None}
+use Rattle.std.specs.Prelude.{◌≡◌, ℕ, ◌+◌, ◌%◌, ◌^◌, Bool, true, false, not, ◌&&◌, nat_eq, nat_lt, if◌then◌else◌, List, [], ◌∷◌, map, Option, Some, None}
 use Rattle.std.specs.Option.{option_map, option_map_or}
 use Rattle.il_ast.specs.declared.operation.Condition.{Condition}
 use Rattle.il_ast.specs.declared.operation.Condition.TheVariants.{Equal, NotEqual}
 use Rattle.vcode.specs.declared.place.Operand.{Operand}
+use Rattle.vcode.specs.declared.place.Address.{Address}
 use Rattle.vcode.specs.declared.place.Operand.TheVariants.{At, Number, Name}
 use Rattle.vcode.specs.declared.place.Argument.{Argument}
 use Rattle.vcode.specs.declared.line.Line.{Line}
 use Rattle.vcode.specs.declared.line.Line.TheVariants.{Tick, Set, Operate, Load, Store, Alloc, Blit, Call}
-use Rattle.vcode.specs.declared.line.Operation.TheVariants.{Compare}
+use Rattle.rv_isa.specs.declared.instruction.RegOp.TheVariants.{Add}
+use Rattle.vcode.specs.Addresses.{distance, beyond}
+use Rattle.vcode.specs.declared.line.Operation.{Operation}
+use Rattle.vcode.specs.declared.line.Operation.TheVariants.{Reg, Compare}
 use Rattle.vcode.specs.declared.line.Comparison.{Comparison}
 use Rattle.vcode.specs.declared.line.Jump.{Jump}
 use Rattle.vcode.specs.declared.line.Jump.TheVariants.{Goto, Branch, Return, Halt}
@@ -17,7 +21,7 @@ use Rattle.vcode.specs.declared.function.VFunc.{VFunc}
 use Rattle.vcode.specs.Cost.{is_immediate, affords}
 use Rattle.cfg_live.specs.Registers.{line_writes}
 use Rattle.forwarding.specs.declared.fact.Fact.{Fact}
-use Rattle.forwarding.specs.declared.fact.Fact.TheVariants.{Same, Test}
+use Rattle.forwarding.specs.declared.fact.Fact.TheVariants.{Same, Sum, Test}
 use Rattle.forwarding.specs.Facts.{Facts, fact_names, asks_memory, fact_below, kept_if}
 
 -- ---- operands
@@ -30,6 +34,7 @@ is_short (Name g) = false
 
 abbrev pub copied : Operand ℕ → Fact → Operand ℕ
 copied a (Same b) = if is_short b then b else a
+copied a (Sum b n) = a
 copied a (Test c) = a
 
 -- what an operand is known to be a copy of, in its place
@@ -45,15 +50,51 @@ Replacing = Operand ℕ → Operand ℕ
 abbrev pub with_argument : Replacing → Argument ℕ → Argument ℕ
 with_argument f a = record { class = a.class; value = f a.value }
 
-abbrev pub with_line : Replacing → Line ℕ → Line ℕ
-with_line f (Tick turn w) = Tick turn w
-with_line f (Set to a) = Set to (f a)
-with_line f (Operate to op a b) = Operate to op (f a) (f b)
-with_line f (Load to op at) = Load to op (f at)
-with_line f (Store size a at) = Store size (f a) (f at)
-with_line f (Alloc to size) = Alloc to size
-with_line f (Blit from to count) = Blit (f from) (f to) count
-with_line f (Call to callee args) = Call to (f callee) (map (with_argument f) args)
+-- the operands of a sum with a number of what is known to be one
+abbrev pub regrouped : Option Fact → (r m : ℕ) → Operand ℕ × Operand ℕ
+regrouped (Some (Sum (At b) n)) r m =
+    if is_immediate ((n + m) % 2 ^ 64) then (At b, Number ((n + m) % 2 ^ 64)) else (At r, Number m)
+regrouped o r m = (At r, Number m)
+
+abbrev pub grouped : Facts → (a b : Operand ℕ) → Operand ℕ × Operand ℕ
+grouped fs (At r) (Number m) = regrouped (fs r) r m
+grouped fs a b = (a, b)
+
+abbrev pub is_add : Operation → Bool
+is_add (Reg Add) = true
+is_add op = false
+
+abbrev pub folded : Facts → Operation → (a b : Operand ℕ) → Operand ℕ × Operand ℕ
+folded fs op a b = if is_add op then grouped fs a b else (a, b)
+
+abbrev pub operands_of : Facts → Operation → (a b : Operand ℕ) → Operand ℕ × Operand ℕ
+operands_of fs op a b = folded fs op (forward fs a) (forward fs b)
+
+-- an address from what its base is known to be a sum of, where the offset still fits and is not 0
+abbrev pub further : Address ℕ → Option Fact → Address ℕ
+further at (Some (Sum (At b) n)) =
+    let d = (n + distance at) % 2 ^ 64 in if not (nat_eq d 0) && is_immediate d then beyond (At b) d else at
+further at o = at
+
+abbrev pub from_base : Facts → Address ℕ → Operand ℕ → Address ℕ
+from_base fs at (At r) = further at (fs r)
+from_base fs at a = at
+
+abbrev pub with_base : Replacing → Address ℕ → Address ℕ
+with_base f at = record { base = f at.base; offset = at.offset }
+
+abbrev pub with_address : Facts → Address ℕ → Address ℕ
+with_address fs at = from_base fs (with_base (forward fs) at) (forward fs at.base)
+
+abbrev pub with_line : Facts → Line ℕ → Line ℕ
+with_line fs (Tick turn w) = Tick turn w
+with_line fs (Set to a) = Set to (forward fs a)
+with_line fs (Operate to op a b) = Operate to op (operands_of fs op a b).0 (operands_of fs op a b).1
+with_line fs (Load to op at) = Load to op (with_address fs at)
+with_line fs (Store size a at) = Store size (forward fs a) (with_address fs at)
+with_line fs (Alloc to size) = Alloc to size
+with_line fs (Blit from to count) = Blit (forward fs from) (forward fs to) count
+with_line fs (Call to callee args) = Call to (forward fs callee) (map (with_argument (forward fs)) args)
 
 -- ---- jumps
 
@@ -100,9 +141,15 @@ changes_memory l = false
 abbrev pub writes_it : Line ℕ → ℕ → Bool
 writes_it l r = option_map_or (λ k. nat_eq k r) (line_writes l) false
 
+-- a sum of a register and a number
+abbrev pub sum_of : (a b : Operand ℕ) → Option Fact
+sum_of (At r) (Number n) = Some (Sum (At r) n)
+sum_of a b = None
+
 -- what a line makes known of the register that it writes
 abbrev pub fact_of : Line ℕ → Option Fact
 fact_of (Set to a) = Some (Same a)
+fact_of (Operate to (Reg op) a b) = if is_add (Reg op) then sum_of a b else None
 fact_of (Operate to (Compare on k) a b) = Some (Test (record { condition = on; class = k; left = a; right = b }))
 fact_of l = None
 
@@ -121,7 +168,7 @@ abbrev pub AreForwarded : (n : ℕ) → (whole : List (Line ℕ)) → Facts → 
 AreForwarded n whole fs [] [] j k = k ≡ with_jump whole fs j
 AreForwarded n whole fs [] (m ∷ new) j k = ⊥
 AreForwarded n whole fs (l ∷ lines) [] j k = ⊥
-AreForwarded n whole fs (l ∷ lines) (m ∷ new) j k = (m ≡ with_line (forward fs) l) × AreForwarded n whole (after n m fs) lines new j k
+AreForwarded n whole fs (l ∷ lines) (m ∷ new) j k = (m ≡ with_line fs l) × AreForwarded n whole (after n m fs) lines new j k
 
 -- nothing is known where a block begins
 abbrev pub IsForwarded : (n : ℕ) → (b c : Block ℕ) → Type 0

@@ -4,7 +4,7 @@ use Rattle.std.specs.Option.{option_map_or}
 use Rattle.vcode.specs.declared.place.Operand.{Operand}
 use Rattle.vcode.specs.declared.place.Operand.TheVariants.{At}
 use Rattle.forwarding.specs.declared.fact.Fact.{Fact}
-use Rattle.forwarding.specs.declared.fact.Fact.TheVariants.{Same, Test}
+use Rattle.forwarding.specs.declared.fact.Fact.TheVariants.{Same, Sum, Test}
 use Rattle.forwarding.specs.declared.fact.Known.{Known}
 use Rattle.forwarding.specs.declared.table.Table.{Table}
 use Rattle.forwarding.specs.Facts.{Facts, fact_names, asks_memory, fact_below, kept_if}
@@ -19,6 +19,7 @@ is_fresh written since a = true
 
 abbrev pub stands : (written : List ℕ) → (memory since : ℕ) → Fact → Bool
 stands written memory since (Same a) = is_fresh written since a
+stands written memory since (Sum a n) = is_fresh written since a
 stands written memory since (Test c) = is_fresh written since c.left && (is_fresh written since c.right && nat_le memory since)
 
 abbrev pub counted : (written : List ℕ) → (memory begun : ℕ) → Option Known → Option Fact

@@ -7,6 +7,8 @@ use vcode::place::Operand;
 pub enum Fact {
     /// what the operand does
     Same(Operand<u32>),
+    /// what the operand does and this number give as a sum
+    Sum(Operand<u32>, u64),
     /// what the comparison gives
     Test(Comparison<u32>),
 }

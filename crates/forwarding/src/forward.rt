@@ -5,10 +5,10 @@ ghost use Rattle.vcode.specs.declared.line.Line.{Line as ALine};
 ghost use Rattle.vcode.specs.declared.line.Jump.{Jump as AJump};
 ghost use Rattle.vcode.specs.Coded.{virtual_code};
 ghost use Rattle.forwarding.specs.Table.{facts_of, IsTable};
-ghost use Rattle.forwarding.specs.Forwarded.{changes_memory, fact_of, after, AreForwarded, IsForwarded, AllForwarded, IsForwardedFrom};
+ghost use Rattle.forwarding.specs.Forwarded.{changes_memory, sum_of, fact_of, after, AreForwarded, IsForwarded, AllForwarded, IsForwardedFrom};
 
 use crate::fact::Fact;
-use crate::replace::{jump, line as forwarded};
+use crate::replace::{is_add, jump, line as forwarded};
 use crate::table::Table;
 use cfg_live::uses::line_writes;
 use il_ast::list::Seq;
@@ -16,7 +16,7 @@ use std::alloc::{AllocError, Global};
 use vcode::code::{Block, Code};
 use vcode::function::VFunc;
 use vcode::line::{Comparison, Line, Operation};
-use vcode::place::Destination;
+use vcode::place::{Destination, Operand};
 
 fn changes_memory(line: &Line<u32>) -> bool
     ensures { result ≡ changes_memory line.now }
@@ -24,6 +24,16 @@ fn changes_memory(line: &Line<u32>) -> bool
     match line {
         Line::Store { .. } | Line::Alloc { .. } | Line::Blit { .. } | Line::Call { .. } => true,
         _ => false,
+    }
+}
+
+// A sum of a register and a number.
+fn sum_of(left: Operand<u32>, right: Operand<u32>) -> Option<Fact>
+    ensures { result ≡ sum_of left right }
+{
+    match (left, right) {
+        (Operand::At(_), Operand::Number(number)) => Some(Fact::Sum(left, number)),
+        _ => None,
     }
 }
 
@@ -44,6 +54,18 @@ fn fact_of(line: &Line<u32>) -> Option<Fact>
             left: *left,
             right: *right,
         })),
+        Line::Operate {
+            operation: Operation::Reg(op),
+            left,
+            right,
+            ..
+        } => {
+            if is_add(Operation::Reg(*op)) {
+                sum_of(*left, *right)
+            } else {
+                None
+            }
+        }
         _ => None,
     }
 }

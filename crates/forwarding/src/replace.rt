@@ -3,18 +3,20 @@ ghost use Rattle.std.specs.Prelude.{◌≡◌, ◌++◌, ℕ, true, false, map, 
 ghost use Rattle.std.specs.Option.{option_map};
 ghost use Rattle.vcode.specs.declared.place.Operand.TheVariants.{At};
 ghost use Rattle.vcode.specs.declared.line.Jump.TheVariants.{Branch};
+ghost use Rattle.vcode.specs.Addresses.{distance};
 ghost use Rattle.vcode.specs.Cost.{is_immediate};
 ghost use Rattle.forwarding.specs.Table.{facts_of};
-ghost use Rattle.forwarding.specs.Forwarded.{is_short, forward, with_argument, with_line, with_comparison, tested_by, afforded, with_test, with_branch, with_jump};
+ghost use Rattle.forwarding.specs.Forwarded.{is_short, forward, with_argument, regrouped, grouped, is_add, operands_of, further, with_address, with_line, with_comparison, tested_by, afforded, with_test, with_branch, with_jump};
 
 use crate::fact::Fact;
 use crate::table::Table;
 use il_ast::list::Seq;
 use il_ast::operation::Condition;
+use rv_isa::instruction::RegOp;
 use std::alloc::{AllocError, Global};
 use vcode::cost::{affords, is_immediate};
-use vcode::line::{Comparison, Jump, Line};
-use vcode::place::{Argument, Operand};
+use vcode::line::{Comparison, Jump, Line, Operation};
+use vcode::place::{Address, Argument, Operand};
 
 fn is_short(operand: &Operand<u32>) -> bool
     ensures { result ≡ is_short operand.now }
@@ -60,6 +62,97 @@ fn argument(table: &Table, from: &Argument<u32>) -> Argument<u32>
     }
 }
 
+// A sum with a number of what is known to be one is a sum with a number.
+fn regrouped(known: Option<Fact>, register: u32, number: u64) -> (Operand<u32>, Operand<u32>)
+    ensures { result ≡ regrouped known register number }
+{
+    match known {
+        Some(Fact::Sum(Operand::At(base), first)) => {
+            let sum = first.wrapping_add(number);
+            if is_immediate(sum) {
+                (Operand::At(base), Operand::Number(sum))
+            } else {
+                (Operand::At(register), Operand::Number(number))
+            }
+        }
+        _ => (Operand::At(register), Operand::Number(number)),
+    }
+}
+
+fn grouped(table: &Table, left: Operand<u32>, right: Operand<u32>) -> (Operand<u32>, Operand<u32>)
+    ensures { result ≡ grouped (facts_of table.now) left right }
+{
+    match (left, right) {
+        (Operand::At(register), Operand::Number(number)) => {
+            regrouped(table.fact(register), register, number)
+        }
+        _ => (left, right),
+    }
+}
+
+/// Whether the operation adds 64 bits.
+pub(crate) fn is_add(operation: Operation) -> bool
+    ensures { result ≡ is_add operation }
+{
+    match operation {
+        Operation::Reg(RegOp::Add) => true,
+        _ => false,
+    }
+}
+
+fn operands(
+    table: &Table,
+    operation: Operation,
+    left: &Operand<u32>,
+    right: &Operand<u32>,
+) -> (Operand<u32>, Operand<u32>)
+    ensures { result ≡ operands_of (facts_of table.now) operation left.now right.now }
+{
+    let left = operand(table, left);
+    let right = operand(table, right);
+    if is_add(operation) {
+        grouped(table, left, right)
+    } else {
+        (left, right)
+    }
+}
+
+fn distance(at: &Address<u32>) -> u64
+    ensures { result ≡ distance at.now }
+{
+    i64::from(at.offset.value).cast_unsigned()
+}
+
+// An address from what its base is known to be a sum of, where the offset still fits.
+fn further(at: Address<u32>, known: Option<Fact>) -> Address<u32>
+    ensures { result ≡ further at known }
+{
+    match known {
+        Some(Fact::Sum(Operand::At(base), number)) => {
+            let sum = number.wrapping_add(distance(&at));
+            if sum != 0 && is_immediate(sum) {
+                Address::beyond(Operand::At(base), sum)
+            } else {
+                at
+            }
+        }
+        _ => at,
+    }
+}
+
+fn address(table: &Table, from: &Address<u32>) -> Address<u32>
+    ensures { result ≡ with_address (facts_of table.now) from.now }
+{
+    let at = Address {
+        base: operand(table, &from.base),
+        offset: from.offset,
+    };
+    match at.base {
+        Operand::At(register) => further(at, table.fact(register)),
+        _ => at,
+    }
+}
+
 fn push_arguments(
     table: &Table,
     to: &mut Seq<Argument<u32>>,
@@ -91,7 +184,7 @@ fn arguments(
 ///
 /// Only where memory was refused.
 pub(crate) fn line(alloc: Global, table: &Table, from: &Line<u32>) -> Result<Line<u32>, AllocError>
-    ensures { IfOk result (λ v. v ≡ with_line (forward (facts_of table.now)) from.now) }
+    ensures { IfOk result (λ v. v ≡ with_line (facts_of table.now) from.now) }
 {
     Ok(match from {
         Line::Tick { turn, weight } => Line::Tick {
@@ -107,21 +200,24 @@ pub(crate) fn line(alloc: Global, table: &Table, from: &Line<u32>) -> Result<Lin
             operation,
             left,
             right,
-        } => Line::Operate {
-            to: *to,
-            operation: *operation,
-            left: operand(table, left),
-            right: operand(table, right),
-        },
+        } => {
+            let (left, right) = operands(table, *operation, left, right);
+            Line::Operate {
+                to: *to,
+                operation: *operation,
+                left,
+                right,
+            }
+        }
         Line::Load { to, op, at } => Line::Load {
             to: *to,
             op: *op,
-            at: operand(table, at),
+            at: address(table, at),
         },
         Line::Store { size, value, at } => Line::Store {
             size: *size,
             value: operand(table, value),
-            at: operand(table, at),
+            at: address(table, at),
         },
         Line::Alloc { to, size } => Line::Alloc {
             to: *to,

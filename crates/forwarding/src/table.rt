@@ -35,7 +35,7 @@ fn fact_names(fact: &Fact, register: u32) -> bool
     ensures { result ≡ fact_names fact.now register }
 {
     match fact {
-        Fact::Same(operand) => names(operand, register),
+        Fact::Same(operand) | Fact::Sum(operand, _) => names(operand, register),
         Fact::Test(test) => names(&test.left, register) || names(&test.right, register),
     }
 }
@@ -121,7 +121,9 @@ impl Table {
         ensures { result ≡ stands self.now.written.items self.now.memory known.now.since known.now.fact }
     {
         match &known.fact {
-            Fact::Same(operand) => is_fresh(&self.written, known.since, operand),
+            Fact::Same(operand) | Fact::Sum(operand, _) => {
+                is_fresh(&self.written, known.since, operand)
+            }
             Fact::Test(test) => {
                 is_fresh(&self.written, known.since, &test.left)
                     && is_fresh(&self.written, known.since, &test.right)

@@ -2,13 +2,13 @@
 use crate::forward::forward;
 use il_ast::list::Seq;
 use il_ast::operation::{Class, Condition};
-use rv_isa::instruction::RegOp;
+use rv_isa::instruction::{LoadOp, RegOp};
 use std::alloc::{AllocError, Global};
 use std::test::Fail;
 use vcode::code::{Block, Code};
 use vcode::function::VFunc;
 use vcode::line::{Comparison, Jump, Line, Operation};
-use vcode::place::{Destination, Operand};
+use vcode::place::{Address, Destination, Operand};
 
 /// Copies its argument from register 0 to register 1, adds 5 to that, and returns the copy.
 fn copies(alloc: Global) -> Result<VFunc, AllocError> {
@@ -36,6 +36,50 @@ fn copies(alloc: Global) -> Result<VFunc, AllocError> {
     blocks.push(Block {
         lines,
         jump: Jump::Return(Some(Operand::At(1))),
+    })?;
+    Ok(VFunc {
+        code: Code {
+            result: Some(Class::L),
+            params,
+            blocks,
+        },
+        registers: 3,
+    })
+}
+
+/// Adds 8 to its argument in register 0, loads 40 bytes beyond the sum, and adds 2,000 to that.
+fn sums(alloc: Global) -> Result<VFunc, AllocError> {
+    let mut params = Seq::new(alloc);
+    params.push(Destination {
+        place: 0,
+        class: Class::L,
+    })?;
+    let mut lines = Seq::new(alloc);
+    lines.push(Line::Tick {
+        turn: true,
+        weight: 2,
+    })?;
+    lines.push(Line::Operate {
+        to: 1,
+        operation: Operation::Reg(RegOp::Add),
+        left: Operand::At(0),
+        right: Operand::Number(8),
+    })?;
+    lines.push(Line::Load {
+        to: 2,
+        op: LoadOp::Ld,
+        at: Address::beyond(Operand::At(1), 40),
+    })?;
+    lines.push(Line::Operate {
+        to: 2,
+        operation: Operation::Reg(RegOp::Add),
+        left: Operand::At(1),
+        right: Operand::Number(2000),
+    })?;
+    let mut blocks = Seq::new(alloc);
+    blocks.push(Block {
+        lines,
+        jump: Jump::Return(Some(Operand::At(2))),
     })?;
     Ok(VFunc {
         code: Code {
@@ -230,6 +274,30 @@ fn left_of(function: &VFunc, line: usize) -> Option<Operand<u32>> {
         },
         None => None,
     }
+}
+
+/// The address of the load at a line of the first block.
+fn address_of(function: &VFunc, line: usize) -> Option<Address<u32>> {
+    match function.code.blocks.as_slice().get(0) {
+        Some(block) => match block.lines.as_slice().get(line) {
+            Some(Line::Load { at, .. }) => Some(*at),
+            _ => None,
+        },
+        None => None,
+    }
+}
+
+#[test]
+fn sums_are_carried_into_addresses_and_sums(rt: HostRuntime) -> Result<(), Fail> {
+    let function = sums(rt.alloc())?;
+    let made = forward(rt.alloc(), &function)?;
+    assert_eq!(rt;
+        address_of(&made, 2),
+        Some(Address::beyond(Operand::At(0), 48))
+    );
+    assert_eq!(rt; left_of(&function, 3), Some(Operand::At(1)));
+    assert_eq!(rt; left_of(&made, 3), Some(Operand::At(0)));
+    Ok(())
 }
 
 #[test]

@@ -217,15 +217,15 @@ fn line(demands: &mut Demands, line: &Line<u32>, often: u64) -> Result<(), Alloc
             add(demands, *to, weight);
         }
         Line::Load { to, at, .. } => {
-            read(demands, at, weight);
+            read(demands, &at.base, weight);
             add(demands, *to, weight);
         }
         Line::Store { value, at, .. } => {
             read(demands, value, weight);
-            read(demands, at, weight);
+            read(demands, &at.base, weight);
         }
-        Line::Alloc { to, .. } => add(demands, *to, weight),
-        Line::Blit { .. } => {}
+        Line::Alloc { to: Some(to), .. } => add(demands, *to, weight),
+        Line::Alloc { to: None, .. } | Line::Blit { .. } => {}
         Line::Call { to, callee, args } => {
             read(demands, callee, weight);
             pass_args(demands, args.as_slice(), often);

@@ -32,6 +32,7 @@ use Rattle.vcode.specs.declared.place.Operand.TheVariants.{At, Number}
 use Rattle.vcode.specs.declared.line.Operation.TheVariants.{Reg, RegW, Compare as CompareValues}
 use Rattle.vcode.specs.declared.line.Comparison.{Comparison}
 use Rattle.vcode.specs.declared.line.Line.{Line}
+use Rattle.vcode.specs.Addresses.{at_once}
 use Rattle.vcode.specs.declared.line.Line.TheVariants.{Set, Operate, Load}
 use Rattle.vcode.specs.Operations.{held, reg_on_places, operate, loaded, extended as extended_load}
 use Rattle.vcode.specs.Step.{State, value_of}
@@ -439,10 +440,10 @@ same_size UnsignedHalf k = refl
 same_size SignedByte k = refl
 same_size UnsignedByte k = refl
 
-load_yields : (c : Setting) (t : State ℕ) (p : ℕ) (e : Extension) (k : Class) (a : Operand ℕ) (u x : Value) → Reads c.globals t.values a L u → option_and_then (widened e k) (load t.memory (extension_bytes e) u) ≡ Some x → Yields c t (Load p (load_of e k) a ∷ []) p (held k x)
+load_yields : (c : Setting) (t : State ℕ) (p : ℕ) (e : Extension) (k : Class) (a : Operand ℕ) (u x : Value) → Reads c.globals t.values a L u → option_and_then (widened e k) (load t.memory (extension_bytes e) u) ≡ Some x → Yields c t (Load p (load_of e k) (at_once a) ∷ []) p (held k x)
 unfolding loaded
 load_yields c t p e k a u x r h =
-    yields_one c t (Load p (load_of e k) a) p (held k x)
+    yields_one c t (Load p (load_of e k) (at_once a)) p (held k x)
     (load_line c t p (load_of e k) a u (held k x) (long_same c.globals t.values a u r)
     (ap (λ n. option_and_then (extended_load (load_of e k)) (load t.memory n u)) (same_size e k) ∙ by (load t.memory (extension_bytes e) u) h))
   where
@@ -455,10 +456,10 @@ all_loaded (Integer n) = refl
 all_loaded (Pointer b o) = refl
 all_loaded (Function f) = refl
 
-load_long_yields : (c : Setting) (t : State ℕ) (p : ℕ) (a : Operand ℕ) (u x : Value) → Reads c.globals t.values a L u → load t.memory 8 u ≡ Some x → Yields c t (Load p Ld a ∷ []) p x
+load_long_yields : (c : Setting) (t : State ℕ) (p : ℕ) (a : Operand ℕ) (u x : Value) → Reads c.globals t.values a L u → load t.memory 8 u ≡ Some x → Yields c t (Load p Ld (at_once a) ∷ []) p x
 unfolding loaded
 load_long_yields c t p a u x r h =
-    yields_one c t (Load p Ld a) p x
+    yields_one c t (Load p Ld (at_once a)) p x
     (load_line c t p Ld a u x (long_same c.globals t.values a u r) (ap (option_and_then (extended_load Ld)) h ∙ all_loaded x))
 
 negate_yields : (c : Setting) (t : State ℕ) (p : ℕ) (k : Class) (a : Operand ℕ) (u x : Value) → Reads c.globals t.values a k u → operate_one t.memory Neg k u ≡ Some x → Yields c t (negate_lines p k a) p (held k x)
@@ -487,7 +488,7 @@ unfolding operate_one
 unary_yields classes c t p Neg k a u x long r s h = negate_yields c t p k a u x r h
 unary_yields classes c t p Copy k a u x long r s h = subst (λ y. Yields c t (copy_lines classes p k a) p (held k y)) (some_value h) (copy_yields classes c t p k a u r s)
 unary_yields classes c t p (Extend e) k a u x long r s h = extend_yields classes c t p e k a u x long r s h
-unary_yields classes c t p LoadLong k a u x long r s h = subst (λ j. Yields c t (Load p Ld a ∷ []) p (held j x)) (sym long) (load_long_yields c t p a u x r h)
+unary_yields classes c t p LoadLong k a u x long r s h = subst (λ j. Yields c t (Load p Ld (at_once a) ∷ []) p (held j x)) (sym long) (load_long_yields c t p a u x r h)
 unary_yields classes c t p (LoadNarrow e) k a u x long r s h = load_yields c t p e k a u x r h
 
 -- ---- two operands

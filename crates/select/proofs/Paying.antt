@@ -34,6 +34,7 @@ use Rattle.vcode.specs.declared.line.Operation.TheVariants.{Reg, RegW, Compare}
 use Rattle.vcode.specs.declared.place.Operand.{Operand}
 use Rattle.vcode.specs.declared.place.Operand.TheVariants.{At, Number, Name}
 use Rattle.vcode.specs.declared.line.Line.{Line}
+use Rattle.vcode.specs.Addresses.{at_once}
 use Rattle.vcode.specs.declared.line.Line.TheVariants.{Tick, Set, Operate, Load, Store, Alloc, Blit, Call}
 use Rattle.vcode.specs.declared.line.Jump.{Jump}
 use Rattle.vcode.specs.Cost.{is_immediate, operand_cost, operation_cost, line_cost, branch_cost, jump_cost, affords}
@@ -198,7 +199,7 @@ extend_costs classes t UnsignedHalf a = let x = operand_few a in (tt, omega (ari
 extend_costs classes t SignedByte a = let x = operand_few a in (tt, omega (arith, x), (tt, omega (arith, x), tt))
 extend_costs classes t UnsignedByte a = operate_costs t (Reg AndReg) a (Number 255)
 
-load_costs : (t : ℕ) (op : LoadOp) (a : Operand ℕ) → Costs (Load t op a ∷ []) 32
+load_costs : (t : ℕ) (op : LoadOp) (a : Operand ℕ) → Costs (Load t op (at_once a) ∷ []) 32
 load_costs t op a = let x = operand_few a in (tt, omega (arith, x), tt)
 
 unary_costs : (classes : Classes) (t : ℕ) (op : UnaryOp) (k : Class) (a : Operand ℕ) → Costs (unary_lines classes t op k a) 32

@@ -25,6 +25,7 @@ use Rattle.phi_copies.specs.declared.ending.Ending.{Ending}
 use Rattle.phi_copies.specs.Good.{IsGoodFunction}
 use Rattle.phi_copies.specs.Lowered.{or_zero, target, phis_at, entry_copies, edge_with, edge, jump_edges, end_edges, block_edges, all_edges, past_edge, branch_target, jump_ending, end_ending, block_ending, all_endings, lowered, straight, straight_if}
 use Rattle.vcode.specs.declared.line.Line.{Line}
+use Rattle.vcode.specs.Addresses.{at_once}
 use Rattle.vcode.specs.declared.line.Line.TheVariants.{Tick, Alloc, Store, Blit, Call}
 use Rattle.vcode.specs.declared.code.Block.{Block as VirtualBlock}
 use Rattle.vcode.specs.Cost.{is_paid}
@@ -211,8 +212,8 @@ one_of m l = let all = sum_by-cons m l [] in omega (arith, all)
 inst_area : (classes : Classes) (x : Inst) → sum_by alloc_bytes (inst_lines classes x) ≡ inst_bytes x
 inst_area classes (Unary to op a) = no_area to.temp (operand_of a ∷ []) _ (unary_sets classes to.temp op to.class (operand_of a))
 inst_area classes (Binary to op a b) = no_area to.temp (operand_of a ∷ operand_of b ∷ []) (binary_lines classes to.temp op to.class (operand_of a) (operand_of b)) (binary_sets classes to.temp op to.class (operand_of a) (operand_of b))
-inst_area classes (AllocInst to alignment size) = one_of alloc_bytes (Alloc to.temp size)
-inst_area classes (StoreInst size a at) = one_of alloc_bytes (Store size (operand_of a) (operand_of at))
+inst_area classes (AllocInst to alignment size) = one_of alloc_bytes (Alloc (Some to.temp) size)
+inst_area classes (StoreInst size a at) = one_of alloc_bytes (Store size (operand_of a) (at_once (operand_of at)))
 inst_area classes (BlitInst from to count) = one_of alloc_bytes (Blit (operand_of from) (operand_of to) count)
 inst_area classes (CallInst to callee args) = one_of alloc_bytes (Call (option_map destination_of to) (operand_of callee) (map argument_of args))
 
@@ -279,8 +280,8 @@ area_is classes f =
 inst_turns : (classes : Classes) (x : Inst) → sum_by turns_of (inst_lines classes x) ≡ 0
 inst_turns classes (Unary to op a) = no_turn to.temp (operand_of a ∷ []) _ (unary_sets classes to.temp op to.class (operand_of a))
 inst_turns classes (Binary to op a b) = no_turn to.temp (operand_of a ∷ operand_of b ∷ []) (binary_lines classes to.temp op to.class (operand_of a) (operand_of b)) (binary_sets classes to.temp op to.class (operand_of a) (operand_of b))
-inst_turns classes (AllocInst to alignment size) = one_of turns_of (Alloc to.temp size)
-inst_turns classes (StoreInst size a at) = one_of turns_of (Store size (operand_of a) (operand_of at))
+inst_turns classes (AllocInst to alignment size) = one_of turns_of (Alloc (Some to.temp) size)
+inst_turns classes (StoreInst size a at) = one_of turns_of (Store size (operand_of a) (at_once (operand_of at)))
 inst_turns classes (BlitInst from to count) = one_of turns_of (Blit (operand_of from) (operand_of to) count)
 inst_turns classes (CallInst to callee args) = one_of turns_of (Call (option_map destination_of to) (operand_of callee) (map argument_of args))
 

@@ -28,6 +28,7 @@ use Rattle.phi_copies.specs.Endings.{Endings, State as Source, goes_on, resumes 
 use Rattle.vcode.specs.declared.place.Destination.{Destination}
 use Rattle.vcode.specs.declared.place.Argument.{Argument}
 use Rattle.vcode.specs.declared.line.Line.{Line}
+use Rattle.vcode.specs.Addresses.{at_once}
 use Rattle.vcode.specs.declared.line.Line.TheVariants.{Tick, Store, Blit, Call}
 use Rattle.vcode.specs.declared.code.Block.{Block as VirtualBlock}
 use Rattle.vcode.specs.Operations.{held}
@@ -259,7 +260,7 @@ store_matched w s values b line size a p here more holds fits = by (operand w.gl
     by_memory v q (Some m) e f g =
         let r = read_same w.globals values (operand_of a) (stored_class size) v (reads w.classes w.globals s.locals.temps values (stored_class size) a v fits.0 holds e) in
         let d = long_same w.globals values (operand_of p) q (reads w.classes w.globals s.locals.temps values L p q fits.1 holds f) in
-        memory_matched w s values b (lined line (StoreInst size a p)) (Store size (operand_of a) (operand_of p)) m here more holds refl
+        memory_matched w s values b (lined line (StoreInst size a p)) (Store size (operand_of a) (at_once (operand_of p))) m here more holds refl
         (ap (λ o. changes (ticked w s values 1) (option_and_then (λ y. option_and_then (λ z. store s.memory (byte_count size) z y) (value_of w.globals values (operand_of p))) o)) r
         ∙ ap (λ o. changes (ticked w s values 1) (option_and_then (λ z. store s.memory (byte_count size) z v) o)) d
         ∙ ap (changes (ticked w s values 1)) g)

@@ -40,7 +40,7 @@ Sets t xs [] = Unit {0}
 Sets t xs (Tick turn w ∷ ls) = ⊥
 Sets t xs (Set p a ∷ ls) = (p ≡ t) × In t xs a × Sets t xs ls
 Sets t xs (Operate p op a b ∷ ls) = (p ≡ t) × In t xs a × In t xs b × Sets t xs ls
-Sets t xs (Load p op a ∷ ls) = (p ≡ t) × In t xs a × Sets t xs ls
+Sets t xs (Load p op at ∷ ls) = (p ≡ t) × In t xs at.base × Sets t xs ls
 Sets t xs (Store size a at ∷ ls) = ⊥
 Sets t xs (Alloc p size ∷ ls) = ⊥
 Sets t xs (Blit from to count ∷ ls) = ⊥
@@ -198,8 +198,8 @@ sets_keep test t xs (Operate p op a b ∷ ls) h all s =
     and_both (test p && (operand_keeps test a && operand_keeps test b)) _
     (and_both (test p) (operand_keeps test a && operand_keeps test b) (ap test s.0 ∙ h) (and_both (operand_keeps test a) (operand_keeps test b) (in_keeps test t xs a h all s.1) (in_keeps test t xs b h all s.2)))
     (sets_keep test t xs ls h all s.3)
-sets_keep test t xs (Load p op a ∷ ls) h all s =
-    and_both (test p && operand_keeps test a) _ (and_both (test p) (operand_keeps test a) (ap test s.0 ∙ h) (in_keeps test t xs a h all s.1)) (sets_keep test t xs ls h all s.2)
+sets_keep test t xs (Load p op at ∷ ls) h all s =
+    and_both (test p && operand_keeps test at.base) _ (and_both (test p) (operand_keeps test at.base) (ap test s.0 ∙ h) (in_keeps test t xs at.base h all s.1)) (sets_keep test t xs ls h all s.2)
 sets_keep test t xs (Store size a at ∷ ls) h all s = absurd s
 sets_keep test t xs (Alloc p size ∷ ls) h all s = absurd s
 sets_keep test t xs (Blit from to count ∷ ls) h all s = absurd s

@@ -10,6 +10,7 @@ use Rattle.rv_isa.specs.declared.instruction.LoadOp.{LoadOp}
 use Rattle.vcode.specs.declared.place.Operand.{Operand}
 use Rattle.vcode.specs.declared.line.Operation.{Operation}
 use Rattle.vcode.specs.declared.line.Line.{Line}
+use Rattle.vcode.specs.Addresses.{at_once}
 use Rattle.vcode.specs.declared.line.Line.TheVariants.{Set, Operate, Load}
 use Rattle.vcode.specs.Operations.{held, operate, loaded}
 use Rattle.vcode.specs.Places.{Values, virtual, put}
@@ -63,7 +64,7 @@ operate_line c t p op a b u v x e f g =
     ∙ ap (λ o. sets virtual t p (option_and_then (λ z. operate t.memory op u z) o)) f
     ∙ ap (sets virtual t p) g
 
-pub load_line : (c : Setting) (t : State ℕ) (p : ℕ) (op : LoadOp) (at : Operand ℕ) (u x : Value) → value_of c.globals t.values at ≡ Some u → loaded t.memory op u ≡ Some x → line_step virtual c.globals c.given t (Load p op at) ≡ Does (On (set_to t p x))
+pub load_line : (c : Setting) (t : State ℕ) (p : ℕ) (op : LoadOp) (at : Operand ℕ) (u x : Value) → value_of c.globals t.values at ≡ Some u → loaded t.memory op u ≡ Some x → line_step virtual c.globals c.given t (Load p op (at_once at)) ≡ Does (On (set_to t p x))
 unfolding line_step
 load_line c t p op at u x e f = ap (λ o. sets virtual t p (option_and_then (loaded t.memory op) o)) e ∙ ap (sets virtual t p) f
 

@@ -1,6 +1,6 @@
 -- Virtual code for a function without phis, whose temporaries have these classes. A temporary becomes the virtual register of its number. A word stands
 -- sign-extended there, and what reads a word takes the low 32 bits, so that a long needs no conversion in a word's place, and a word none in a word's.
-use Rattle.std.specs.Prelude.{ℕ, ◌%◌, ◌^◌, Bool, true, false, ◌&&◌, List, [], ◌∷◌, ◌++◌, map}
+use Rattle.std.specs.Prelude.{ℕ, ◌%◌, ◌^◌, Bool, true, false, ◌&&◌, List, [], ◌∷◌, ◌++◌, map, Some}
 use Rattle.std.specs.Option.{option_map}
 use Rattle.bits.specs.Words.{sign_extended}
 use Rattle.il_ast.specs.declared.operation.Class.{Class}
@@ -42,6 +42,7 @@ use Rattle.vcode.specs.declared.place.Argument.{Argument}
 use Rattle.vcode.specs.declared.line.Operation.{Operation}
 use Rattle.vcode.specs.declared.line.Operation.TheVariants.{Reg, RegW, Compare as CompareValues}
 use Rattle.vcode.specs.declared.line.Line.{Line}
+use Rattle.vcode.specs.Addresses.{at_once}
 use Rattle.vcode.specs.declared.line.Line.TheVariants.{Tick, Set, Operate, Load, Store, Alloc, Blit, Call}
 use Rattle.vcode.specs.declared.line.Comparison.{Comparison}
 use Rattle.vcode.specs.declared.line.Jump.{Jump}
@@ -141,8 +142,8 @@ abbrev pub unary_lines : Classes → ℕ → UnaryOp → Class → Operand ℕ �
 unary_lines classes t Neg c a = negate_lines t c a
 unary_lines classes t Copy c a = copy_lines classes t c a
 unary_lines classes t (Extend e) c a = extend_lines classes t e a
-unary_lines classes t LoadLong c a = Load t Ld a ∷ []
-unary_lines classes t (LoadNarrow e) c a = Load t (load_of e c) a ∷ []
+unary_lines classes t LoadLong c a = Load t Ld (at_once a) ∷ []
+unary_lines classes t (LoadNarrow e) c a = Load t (load_of e c) (at_once a) ∷ []
 
 -- ---- two operands
 
@@ -195,8 +196,8 @@ binary_lines classes t op c a b = Operate t (operation_of op c) a b ∷ []
 abbrev pub inst_lines : Classes → Inst → List (Line ℕ)
 inst_lines classes (Unary to op a) = unary_lines classes to.temp op to.class (operand_of a)
 inst_lines classes (Binary to op a b) = binary_lines classes to.temp op to.class (operand_of a) (operand_of b)
-inst_lines classes (AllocInst to alignment size) = Alloc to.temp size ∷ []
-inst_lines classes (StoreInst size a at) = Store size (operand_of a) (operand_of at) ∷ []
+inst_lines classes (AllocInst to alignment size) = Alloc (Some to.temp) size ∷ []
+inst_lines classes (StoreInst size a at) = Store size (operand_of a) (at_once (operand_of at)) ∷ []
 inst_lines classes (BlitInst from to count) = Blit (operand_of from) (operand_of to) count ∷ []
 inst_lines classes (CallInst to callee args) = Call (option_map destination_of to) (operand_of callee) (map argument_of args) ∷ []
 

@@ -12,6 +12,7 @@ use il_ast::list::Seq;
 use il_ast::operation::Class;
 use std::alloc::{AllocError, Global};
 use vcode::line::Line;
+use vcode::place::Address;
 
 /// What an instruction weighs.
 fn weight(inst: &Inst) -> u32
@@ -59,13 +60,13 @@ fn push_inst(
             operand(*right),
         ),
         Inst::Alloc { to, size, .. } => lines.push(Line::Alloc {
-            to: register(to.temp),
+            to: Some(register(to.temp)),
             size: *size,
         }),
         Inst::Store { size, value, at } => lines.push(Line::Store {
             size: *size,
             value: operand(*value),
-            at: operand(*at),
+            at: Address::at_once(operand(*at)),
         }),
         Inst::Blit { from, to, count } => lines.push(Line::Blit {
             from: operand(*from),

@@ -15,7 +15,7 @@ use il_ast::operation::{BinaryOp, Class, Extension, UnaryOp};
 use rv_isa::instruction::{LoadOp, RegOp, RegWOp};
 use std::alloc::AllocError;
 use vcode::line::{Comparison, Line, Operation};
-use vcode::place::Operand;
+use vcode::place::{Address, Operand};
 
 /// The low 32 bits of an operand, sign-extended.
 fn as_word(to: u32, value: Operand<u32>) -> Line<u32>
@@ -157,12 +157,12 @@ pub(crate) fn push_unary(
         UnaryOp::LoadLong => lines.push(Line::Load {
             to,
             op: LoadOp::Ld,
-            at: value,
+            at: Address::at_once(value),
         }),
         UnaryOp::Load(extension) => lines.push(Line::Load {
             to,
             op: load_of(extension, class),
-            at: value,
+            at: Address::at_once(value),
         }),
     }
 }

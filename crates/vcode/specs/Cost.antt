@@ -35,8 +35,8 @@ abbrev pub line_cost : {P : Type 0} → Line P → ℕ
 line_cost (Tick turn w) = 0
 line_cost (Set to a) = operand_cost a + place_cost
 line_cost (Operate to op a b) = operand_cost a + operand_cost b + operation_cost op + place_cost
-line_cost (Load to op at) = operand_cost at + 1 + place_cost
-line_cost (Store size a at) = operand_cost a + operand_cost at + 1
+line_cost (Load to op at) = operand_cost at.base + 1 + place_cost
+line_cost (Store size a at) = operand_cost a + operand_cost at.base + 1
 line_cost (Alloc to size) = 3 + place_cost
 line_cost (Blit from to count) = operand_cost from + operand_cost to + 8 * ((count + 7) / 8)
 line_cost (Call to callee args) = 20 + 24 * length args

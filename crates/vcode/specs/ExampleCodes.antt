@@ -20,6 +20,7 @@ use Rattle.vcode.specs.declared.line.Jump.{Jump}
 use Rattle.vcode.specs.declared.line.Jump.TheVariants.{Goto, Branch, Return, Halt}
 use Rattle.vcode.specs.declared.code.Block.{Block}
 use Rattle.vcode.specs.declared.code.Code.{Code}
+use Rattle.vcode.specs.Addresses.{beyond, at_once}
 
 abbrev pub block : {P : Type 0} → List (Line P) → Jump P → Block P
 block lines jump = record { lines = lines; jump = jump }
@@ -95,24 +96,36 @@ keeping_virtual = straight L [] (Set 10 (Number 7) ∷ Call None (Name 0) [] ∷
 abbrev pub in_memory : List (Line ℕ) → Operand ℕ → Code ℕ
 in_memory lines a =
     straight L []
-    (Alloc 0 16
-    ∷ Store Word (Number (2 ^ 64 - 2)) (At 0)
+    (Alloc (Some 0) 16
+    ∷ Store Word (Number (2 ^ 64 - 2)) (at_once (At 0))
     ∷ Operate 1 (Reg Add) (At 0) (Number 8)
     ∷ Blit (At 0) (At 1) 4
     ∷ lines)
     a
 
 abbrev pub loads_word : Code ℕ
-loads_word = in_memory (Load 2 Lw (At 1) ∷ []) (At 2)
+loads_word = in_memory (Load 2 Lw (at_once (At 1)) ∷ []) (At 2)
 
 abbrev pub loads_byte : Code ℕ
-loads_byte = in_memory (Load 2 Lbu (At 1) ∷ []) (At 2)
+loads_byte = in_memory (Load 2 Lbu (at_once (At 1)) ∷ []) (At 2)
+
+-- the word at the middle, from the begin
+abbrev pub loads_beyond : ℕ → Code ℕ
+loads_beyond n = in_memory (Load 2 Lw (beyond (At 0) n) ∷ []) (At 2)
+
+-- the word before the middle
+abbrev pub loads_before : Code ℕ
+loads_before = in_memory (Load 2 Lw (beyond (At 1) (2 ^ 64 - 8)) ∷ []) (At 2)
+
+-- a block that no place points to
+abbrev pub makes_unnamed : Code ℕ
+makes_unnamed = straight L [] (Set 0 (Number 5) ∷ Alloc None 16 ∷ []) (At 0)
 
 -- the pointer is kept in memory and read again; its distance from the other
 abbrev pub keeps_pointer : Code ℕ
 keeps_pointer =
     straight L []
-    (Alloc 0 16 ∷ Operate 1 (Reg Add) (At 0) (Number 8) ∷ Store Long (At 1) (At 0) ∷ Load 2 Ld (At 0) ∷ Operate 3 (Reg Sub) (At 2) (At 0) ∷ [])
+    (Alloc (Some 0) 16 ∷ Operate 1 (Reg Add) (At 0) (Number 8) ∷ Store Long (At 1) (at_once (At 0)) ∷ Load 2 Ld (at_once (At 0)) ∷ Operate 3 (Reg Sub) (At 2) (At 0) ∷ [])
     (At 3)
 
 abbrev pub compares_pointers : Code ℕ

@@ -21,7 +21,7 @@ use Rattle.vcode.specs.Regular.{leads_inside, allocs_first, IsRegular, area}
 use Rattle.vcode.specs.Named.{keeps_places, is_below, is_place, are_near, are_distinct}
 use Rattle.vcode.specs.Cost.{is_paid}
 use Rattle.vcode.specs.Step.{begin, step}
-use Rattle.vcode.specs.ExampleCodes.{block, destination, not_zero, sum, word_as, long_as_word, is_nonzero, caller, keeping, keeping_virtual, loads_word, loads_byte, keeps_pointer, compares_pointers, compares_words, heavy, halts, leads_nowhere, straight}
+use Rattle.vcode.specs.ExampleCodes.{block, destination, not_zero, sum, word_as, long_as_word, is_nonzero, caller, keeping, keeping_virtual, loads_word, loads_byte, loads_beyond, loads_before, makes_unnamed, keeps_pointer, compares_pointers, compares_words, heavy, halts, leads_nowhere, straight}
 
 abbrev pub given : (turns : ℕ) → List Value → Given
 given t args = record { turns = t; room = 4096; args = args; memory = [] }
@@ -105,6 +105,11 @@ pub record Examples : Type 0 where
   pub virtual_is_kept : Goes virtual keeping_virtual (given 0 []) 20 (silent ∷ []) (integer (spends 0 0) 7 [])
   pub loaded_word : Gives loads_word [] (minus 2) (None ∷ [])
   pub loaded_byte : Gives loads_byte [] 254 (None ∷ [])
+  pub loaded_beyond : Gives (loads_beyond 8) [] (minus 2) (None ∷ [])
+  pub loaded_before : Gives loads_before [] (minus 2) (None ∷ [])
+  pub beyond_the_end : Goes virtual (loads_beyond 16) (given 0 []) 20 [] (Ended (spends 0 0) Undefined)
+  pub made_unnamed : Gives makes_unnamed [] 5 (None ∷ [])
+  pub unnamed_takes_16 : area makes_unnamed ≡ 16
   pub pointer_is_kept : Gives keeps_pointer [] 8 (None ∷ [])
   pub pointers_compare : Gives compares_pointers [] 1 (None ∷ [])
   pub words_compare : Gives compares_words (Integer (2 ^ 32 - 1) ∷ Integer (2 ^ 32) ∷ []) 1 []
@@ -124,7 +129,7 @@ pub record Examples : Type 0 where
   pub to_the_first : are_inside (Goto 0) ≡ false
   pub to_the_second : are_inside (Goto 1) ≡ true
   pub past_the_last : are_inside (Branch (not_zero (Number 0)) 1 3) ≡ false
-  pub blocks_of_memory : allocs_first {P = ℕ} (block [] (Goto 1) ∷ block (Alloc 0 8 ∷ []) HaltJump ∷ []) ≡ false
+  pub blocks_of_memory : allocs_first {P = ℕ} (block [] (Goto 1) ∷ block (Alloc (Some 0) 8 ∷ []) HaltJump ∷ []) ≡ false
   pub too_dear : is_paid {P = ℕ} (block (Tick true 1 ∷ Set 0 (Number 4096) ∷ Set 1 (Number 4096) ∷ Set 2 (Number 4096) ∷ []) HaltJump) ≡ false
   pub paid : is_paid {P = ℕ} (block (Tick true 1 ∷ Set 0 (Number 4096) ∷ Set 1 (Number 4096) ∷ Set 2 (Name 0) ∷ []) HaltJump) ≡ true
   pub paid_too_late : is_paid {P = ℕ} (block (Set 0 (Number 1) ∷ Tick true 1 ∷ []) HaltJump) ≡ false

@@ -1,3 +1,4 @@
+pub mod Addresses
 pub mod Operations
 pub mod Places
 pub mod Step

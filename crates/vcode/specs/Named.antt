@@ -23,13 +23,17 @@ abbrev pub wanted_keeps : {P : Type 0} → (P → Bool) → Option (Destination 
 wanted_keeps test None = true
 wanted_keeps test (Some d) = test d.place
 
+abbrev pub made_keeps : {P : Type 0} → (P → Bool) → Option P → Bool
+made_keeps test None = true
+made_keeps test (Some p) = test p
+
 abbrev pub line_keeps : {P : Type 0} → (P → Bool) → Line P → Bool
 line_keeps test (Tick turn w) = true
 line_keeps test (Set to a) = test to && operand_keeps test a
 line_keeps test (Operate to op a b) = test to && (operand_keeps test a && operand_keeps test b)
-line_keeps test (Load to op at) = test to && operand_keeps test at
-line_keeps test (Store size a at) = operand_keeps test a && operand_keeps test at
-line_keeps test (Alloc to size) = test to
+line_keeps test (Load to op at) = test to && operand_keeps test at.base
+line_keeps test (Store size a at) = operand_keeps test a && operand_keeps test at.base
+line_keeps test (Alloc to size) = made_keeps test to
 line_keeps test (Blit from to count) = operand_keeps test from && operand_keeps test to
 line_keeps test (Call to callee args) = wanted_keeps test to && (operand_keeps test callee && list_all (λ a. operand_keeps test a.value) args)
 

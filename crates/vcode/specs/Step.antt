@@ -17,14 +17,18 @@ use Rattle.vcode.specs.declared.place.Operand.{Operand}
 use Rattle.vcode.specs.declared.place.Operand.TheVariants.{At, Number, Name}
 use Rattle.vcode.specs.declared.place.Destination.{Destination}
 use Rattle.vcode.specs.declared.place.Argument.{Argument}
+use Rattle.vcode.specs.declared.place.Address.{Address}
 use Rattle.vcode.specs.declared.line.Line.{Line}
 use Rattle.vcode.specs.declared.line.Line.TheVariants.{Tick, Set, Operate, Load, Store, Alloc, Blit, Call}
-use Rattle.vcode.specs.declared.line.Operation.TheVariants.{Compare}
+use Rattle.rv_isa.specs.declared.instruction.RegOp.TheVariants.{Add}
+use Rattle.vcode.specs.declared.line.Operation.{Operation}
+use Rattle.vcode.specs.declared.line.Operation.TheVariants.{Reg, Compare}
 use Rattle.vcode.specs.declared.line.Comparison.{Comparison}
 use Rattle.vcode.specs.declared.line.Jump.{Jump}
 use Rattle.vcode.specs.declared.line.Jump.TheVariants.{Goto, Branch, Return, Halt}
 use Rattle.vcode.specs.declared.code.Block.{Block}
 use Rattle.vcode.specs.declared.code.Code.{Code}
+use Rattle.vcode.specs.Addresses.{distance}
 use Rattle.vcode.specs.Operations.{held, operate, loaded}
 use Rattle.vcode.specs.Places.{Places, Values, unknown, put, assign, kept}
 
@@ -71,6 +75,16 @@ abbrev pub read_all : {P : Type 0} → List Value → Values P → List (Argumen
 read_all globals values [] = Some []
 read_all globals values (a ∷ args) =
     option_and_then (λ v. option_map (λ vs. v ∷ vs) (read_all globals values args)) (read globals values a.class a.value)
+
+-- what an operation gives for what two operands give
+abbrev pub operated : Memory → Operation → (a b : Option Value) → Option Value
+operated m op a b = option_and_then (λ u. option_and_then (λ v. operate m op u v) b) a
+
+-- the base as it is, or its sum with a distance that isn't 0
+abbrev pub address_of : {P : Type 0} → List Value → Memory → Values P → Address P → Option Value
+address_of globals m values at =
+    if nat_eq (distance at) 0 then value_of globals values at.base
+    else operated m (Reg Add) (value_of globals values at.base) (value_of globals values (Number (distance at)))
 
 -- ---- lines
 
@@ -126,22 +140,26 @@ calls c i s to args f vs = fails s
 
 -- ---- a line
 
+-- a pointer to a block that was made, where a place takes it
+abbrev pub made_in : {P : Type 0} → Places P → Option P → Value → Values P → Values P
+made_in c None v values = values
+made_in c (Some p) v values = put c p v values
+
 unfoldable pub line_step : {P : Type 0} → Places P → List Value → Given → State P → Line P → Event (State P) Asked Outcome
 line_step c globals i s (Tick turn w) = ticks i s turn w
 line_step c globals i s (Set to a) = takes c s to (value_of globals s.values a)
 line_step c globals i s (Operate to op a b) =
-    sets c s to
-    (option_and_then (λ u. option_and_then (λ v. operate s.memory op u v) (value_of globals s.values b)) (value_of globals s.values a))
-line_step c globals i s (Load to op at) = sets c s to (option_and_then (loaded s.memory op) (value_of globals s.values at))
+    sets c s to (operated s.memory op (value_of globals s.values a) (value_of globals s.values b))
+line_step c globals i s (Load to op at) = sets c s to (option_and_then (loaded s.memory op) (address_of globals s.memory s.values at))
 line_step c globals i s (Store size a at) =
     changes s
     (option_and_then
-    (λ v. option_and_then (λ p. store s.memory (byte_count size) p v) (value_of globals s.values at))
+    (λ v. option_and_then (λ p. store s.memory (byte_count size) p v) (address_of globals s.memory s.values at))
     (read globals s.values (stored_class size) a))
 line_step c globals i s (Alloc to size) =
     goes_on
     (record s {
-      values = put c to (Pointer (length s.memory) 0) s.values;
+      values = made_in c to (Pointer (length s.memory) 0) s.values;
       memory = fresh s.memory size;
       owned = s.owned ++ length s.memory ∷ [];
     })

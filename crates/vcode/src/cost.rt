@@ -49,8 +49,8 @@ fn line_cost<P: Drop>(line: &Line<P>) -> u128
             right,
             ..
         } => operand_cost(left) + operand_cost(right) + operation_cost(*operation) + 3,
-        Line::Load { at, .. } => operand_cost(at) + 4,
-        Line::Store { value, at, .. } => operand_cost(value) + operand_cost(at) + 1,
+        Line::Load { at, .. } => operand_cost(&at.base) + 4,
+        Line::Store { value, at, .. } => operand_cost(value) + operand_cost(&at.base) + 1,
         Line::Alloc { .. } => 6,
         Line::Blit { from, to, count } => {
             operand_cost(from) + operand_cost(to) + 8 * ((u128::from(*count) + 7) / 8)

@@ -1,5 +1,5 @@
 //! Lines of code, and what ends a block.
-use crate::place::{Argument, Destination, Operand};
+use crate::place::{Address, Argument, Destination, Operand};
 use il_ast::list::Seq;
 use il_ast::operation::{Class, Condition, Size};
 use rv_isa::instruction::{LoadOp, RegOp, RegWOp};
@@ -38,16 +38,16 @@ pub enum Line<P> {
     Load {
         to: P,
         op: LoadOp,
-        at: Operand<P>,
+        at: Address<P>,
     },
     Store {
         size: Size,
         value: Operand<P>,
-        at: Operand<P>,
+        at: Address<P>,
     },
-    /// `to` takes a pointer to a fresh block of that many bytes, which lives until the return.
+    /// Makes a fresh block of that many bytes, which lives until the return; `to` takes a pointer to it.
     Alloc {
-        to: P,
+        to: Option<P>,
         size: u64,
     },
     /// Copies that many bytes.

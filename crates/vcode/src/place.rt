@@ -1,6 +1,11 @@
 //! Places of values, and operands.
+ghost use Rattle.std.specs.Prelude.{◌≡◌, ◌<◌};
+ghost use Rattle.rv_isa.specs.Formats.{signed};
+ghost use Rattle.vcode.specs.Addresses.{low, beyond, at_once};
+
 use il_ast::operation::Class;
 use il_ast::symbol::Symbol;
+use rv_isa::ranges::Immediate;
 
 /// Where location code has a value.
 #[derive(Clone, Copy, Debug, PartialEq, Eq)]
@@ -20,6 +25,49 @@ pub enum Operand<P> {
     Number(u64),
     /// the value of a global name
     Name(Symbol),
+}
+
+/// Where a load or a store reaches memory: that many bytes beyond the base.
+#[derive(Clone, Copy, Debug, PartialEq, Eq)]
+pub struct Address<P> {
+    pub base: Operand<P>,
+    pub offset: Immediate,
+}
+
+fn signed_12(bits: u64) -> i16
+    requires { bits < 4096 }
+    ensures { result ≡ signed 12 bits }
+{
+    let part = bits as i16;
+    if part < 2048 { part } else { part - 4096 }
+}
+
+/// The low 12 bits of a number, read with a sign.
+pub fn low_part(number: u64) -> Immediate
+    ensures { result ≡ low number }
+{
+    Immediate {
+        value: signed_12(number % 4096),
+    }
+}
+
+impl<P> Address<P> {
+    /// The address that the base holds.
+    pub fn at_once(base: Operand<P>) -> Address<P>
+        ensures { result ≡ at_once base }
+    {
+        Address::beyond(base, 0)
+    }
+
+    /// The address beyond the base by the low 12 bits of a number, read with a sign.
+    pub fn beyond(base: Operand<P>, number: u64) -> Address<P>
+        ensures { result ≡ beyond base number }
+    {
+        Address {
+            base,
+            offset: low_part(number),
+        }
+    }
 }
 
 /// A place that takes a value of this class: a parameter, or the result of a call.

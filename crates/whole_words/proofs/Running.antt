@@ -34,7 +34,7 @@ use Rattle.vcode.specs.declared.code.Code.{Code}
 use Rattle.vcode.specs.Operations.{held, operate, loaded}
 use Rattle.vcode.specs.Places.{Values, unknown, put, assign, kept, virtual}
 use Rattle.vcode.specs.Coded.{classes_in}
-use Rattle.vcode.specs.Step.{State, bound, begin, value_of, read, read_all, fails, goes_on, sets, takes, changes, ticks, receives, resumes, calls, line_step, compared, branches, returns, jump_step, block_step, step_in, step}
+use Rattle.vcode.specs.Step.{State, bound, begin, value_of, read, read_all, fails, goes_on, sets, takes, changes, ticks, receives, resumes, calls, line_step, compared, branches, returns, jump_step, block_step, step_in, step, address_of}
 use Rattle.whole_words.specs.Whole.{is_marked, is_whole, gives_whole, loads_whole, is_word, takes_whole, wants_whole, keeps_marks, are_closed, is_extension, with_copy, with_copies}
 use Rattle.whole_words.proofs.Values.{IfWhole, AreWhole, assign_whole, operand_whole, then_whole, operate_whole, load_whole, held_whole, extension_is}
 
@@ -123,11 +123,12 @@ line_whole marks globals i s (Operate to op a b) h all =
     (λ u x. then_whole (value_of globals s.values b) (λ v. operate s.memory op u v)
     (λ v y. operate_whole marks globals s.values s.memory op a b u v all (unless (is_marked marks to) (gives_whole marks op a b) h marked) x y)))
 line_whole marks globals i s (Load to op at) h all =
-    sets_whole marks s to (option_and_then (loaded s.memory op) (value_of globals s.values at)) all
-    (λ marked. then_whole (value_of globals s.values at) (loaded s.memory op) (λ v x. load_whole s.memory op v (unless (is_marked marks to) (loads_whole op) h marked)))
+    sets_whole marks s to (option_and_then (loaded s.memory op) (address_of globals s.memory s.values at)) all
+    (λ marked. then_whole (address_of globals s.memory s.values at) (loaded s.memory op) (λ v x. load_whole s.memory op v (unless (is_marked marks to) (loads_whole op) h marked)))
 line_whole marks globals i s (Store size a at) h all =
-    changes_whole marks s (option_and_then (λ v. option_and_then (λ p. store s.memory (byte_count size) p v) (value_of globals s.values at)) (read globals s.values (stored_class size) a)) all
-line_whole marks globals i s (Alloc to size) h all = assign_whole marks s.values to (Some (Pointer (length s.memory) 0)) all (λ marked. refl)
+    changes_whole marks s (option_and_then (λ v. option_and_then (λ p. store s.memory (byte_count size) p v) (address_of globals s.memory s.values at)) (read globals s.values (stored_class size) a)) all
+line_whole marks globals i s (Alloc None size) h all = all
+line_whole marks globals i s (Alloc (Some to) size) h all = assign_whole marks s.values to (Some (Pointer (length s.memory) 0)) all (λ marked. refl)
 line_whole marks globals i s (Blit from to count) h all =
     changes_whole marks s (option_and_then (λ p. option_and_then (λ q. copy s.memory count p q) (value_of globals s.values to)) (value_of globals s.values from)) all
 line_whole marks globals i s (Call to callee args) h all = calls_whole marks i s to args (value_of globals s.values callee) (read_all globals s.values args) h all
