@@ -4,6 +4,7 @@ use crate::line::{push_line, push_lines};
 use il_ast::operation::{Class, Size};
 use rv_isa::instruction::{Instr, LoadOp, StoreOp};
 use rv_isa::labelled::Item;
+use std::alloc::{AllocError, Global};
 use std::test::Fail;
 use vcode::line::Line;
 use vcode::place::{Address, Location, Operand};
@@ -171,5 +172,71 @@ fn no_bytes_are_copied_without_an_access(rt: HostRuntime) -> Result<(), Fail> {
     };
     push_line(&mut items, &SMALL, 0, &line)?;
     assert_eq!(rt; items.len(), 2);
+    Ok(())
+}
+
+fn offset_of(item: Option<&Item>) -> Option<i16> {
+    match item {
+        Some(Item::Plain(Instr::Load { offset, .. })) => Some(offset.value),
+        Some(Item::Plain(Instr::Store { offset, .. })) => Some(offset.value),
+        _ => None,
+    }
+}
+
+/// The offset of a load from a number beyond what a register holds, if that is one instruction.
+fn loaded_beyond(alloc: Global, number: u64) -> Result<Option<i16>, AllocError> {
+    let mut items = Vec::new(alloc);
+    let line = Line::Load {
+        to: Location::Register(7),
+        op: LoadOp::Lw,
+        at: Address::beyond(Operand::At(Location::Register(6)), number),
+    };
+    push_line(&mut items, &SMALL, 0, &line)?;
+    if items.len() == 1 {
+        Ok(offset_of(items.get(0)))
+    } else {
+        Ok(None)
+    }
+}
+
+#[test]
+fn the_offset_of_an_address_stands_in_the_instruction(rt: HostRuntime) -> Result<(), Fail> {
+    assert_eq!(rt; loaded_beyond(rt.alloc(), 0)?, Some(0));
+    assert_eq!(rt; loaded_beyond(rt.alloc(), 8)?, Some(8));
+    assert_eq!(rt; loaded_beyond(rt.alloc(), 2047)?, Some(2047));
+    assert_eq!(rt;
+        loaded_beyond(rt.alloc(), 0u64.wrapping_sub(2048))?,
+        Some(-2048)
+    );
+    let mut items = Vec::new(rt.alloc());
+    let line = Line::Store {
+        size: Size::Byte,
+        value: Operand::Number(0),
+        at: Address::beyond(Operand::At(Location::Slot(0)), 0u64.wrapping_sub(1)),
+    };
+    push_line(&mut items, &SMALL, 0, &line)?;
+    assert_eq!(rt; items.len(), 2);
+    assert_eq!(rt; offset_of(items.get(1)), Some(-1));
+    Ok(())
+}
+
+#[test]
+fn a_block_without_a_name_takes_no_instruction(rt: HostRuntime) -> Result<(), Fail> {
+    let mut items = Vec::new(rt.alloc());
+    let lines = [
+        Line::Alloc { to: None, size: 20 },
+        Line::Alloc {
+            to: Some(Location::Register(5)),
+            size: 8,
+        },
+    ];
+    push_lines(&mut items, &SMALL, lines.as_slice())?;
+    assert_eq!(rt; items.len(), 1);
+    match items.get(0) {
+        Some(Item::Plain(Instr::Imm { immediate, .. })) => {
+            assert_eq!(rt; immediate.value, 128 + 32);
+        }
+        _ => assert!(rt; false),
+    }
     Ok(())
 }
