@@ -8,7 +8,7 @@
 //! |---|---|---|
 //! | `machine` | `alu` (operations and a branch), `memory` (with a load and a store), `alu-paged`, `memory-paged` (over pages) | instructions |
 //! | `interpreter` | `alu`, `memory`, `calls` (a recursion 50,000 deep), `phis` (a block of 195 phis) | turns |
-//! | `front`, `compile` | `functions` (of six lines with a loop), `lines` (one function over 4,000 temporaries), `phi`, `bytes` (a datum) | functions, lines, blocks, bytes |
+//! | `front`, `compile` | `functions` (of six lines with a loop), `lines` (one function over 4,000 temporaries), `locals` (one function over 3,990 locals in memory), `phi`, `bytes` (a datum) | functions, lines, changes, blocks, bytes |
 //! | `text` | the same | the text itself is printed |
 //! | `liveness` | `live` (blocks in reverse), `ladder`, `nest` (loops in one another) | blocks of 40 points, over 4,000 registers |
 //! | `sets` | | a thousand joins of sets of numbers below it |
@@ -48,11 +48,12 @@ const LITTLE: [(&str, &str, u64); 8] = [
 ];
 
 /// The rows of the table.
-const TABLE: [(&str, &str, u64); 8] = [
+const TABLE: [(&str, &str, u64); 9] = [
     ("front", "lines", 36_000),
     ("front", "bytes", 4_000_000),
     ("compile", "functions", 10_000),
     ("compile", "lines", 36_000),
+    ("compile", "locals", 11_900),
     ("interpreter", "alu", 20_000_000),
     ("machine", "alu", 1_000_000_000),
     ("machine", "memory-paged", 1_000_000_000),
@@ -62,6 +63,7 @@ const TABLE: [(&str, &str, u64); 8] = [
 fn shape_of(kind: &str) -> Shape {
     match kind {
         "lines" => Shape::Lines,
+        "locals" => Shape::Locals,
         "phi" => Shape::Phi,
         "bytes" => Shape::Bytes,
         _ => Shape::Functions,

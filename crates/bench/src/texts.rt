@@ -8,6 +8,8 @@ pub enum Shape {
     Functions,
     /// one function of so many additions over 4,000 temporaries
     Lines,
+    /// one function that so many times loads, adds and stores one of 3,990 locals in memory
+    Locals,
     /// so many blocks before a phi that names them all
     Phi,
     /// a datum of so many bytes, of four characters each
@@ -20,6 +22,7 @@ pub fn text_of(alloc: Global, shape: Shape, size: u32) -> Result<String, AllocEr
     match shape {
         Shape::Functions => functions(&mut text, size)?,
         Shape::Lines => lines(&mut text, size)?,
+        Shape::Locals => locals(&mut text, size)?,
         Shape::Phi => phi(&mut text, size)?,
         Shape::Bytes => bytes(&mut text, size)?,
     }
@@ -45,6 +48,20 @@ fn lines(text: &mut String, count: u32) -> Result<(), AllocError> {
         writeln!(text, "\t%t{to} =w add %t{from}, {number}")?;
     }
     text.push_str("\tret %t0\n}\n")
+}
+
+fn locals(text: &mut String, count: u32) -> Result<(), AllocError> {
+    text.push_str("export function w $main() {\n@start\n")?;
+    for number in 0..3_990 {
+        writeln!(text, "\t%l{number} =l alloc4 4")?;
+    }
+    for number in 0..count {
+        let from = number % 3_990;
+        let to = (from + 1) % 3_990;
+        writeln!(text, "\t%t =w loadw %l{from}")?;
+        writeln!(text, "\t%t =w add %t, {number}\n\tstorew %t, %l{to}")?;
+    }
+    text.push_str("\tret 0\n}\n")
 }
 
 fn phi(text: &mut String, count: u32) -> Result<(), AllocError> {
