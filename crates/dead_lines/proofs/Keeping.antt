@@ -1,5 +1,5 @@
 -- Code without dead lines is regular, takes no more than the code did, and keeps it.
-use Rattle.std.proofs.Common.{◌≡◌, ℕ, ◌+◌, ◌-◌, ◌*◌, ◌≤◌, Bool, true, false, not, ◌&&◌, ◌||◌, nat_le, if◌then◌else◌, List, [], ◌∷◌, ◌++◌, length, fold, refl, sym, ◌∙◌, ap, suc, arith}
+use Rattle.std.proofs.Common.{◌≡◌, ℕ, ◌+◌, ◌-◌, ◌*◌, ◌≤◌, Bool, true, false, not, ◌&&◌, ◌||◌, nat_le, if◌then◌else◌, List, [], ◌∷◌, ◌++◌, length, Option, Some, None, fold, refl, sym, ◌∙◌, ap, suc, arith}
 use Rattle.std.specs.Prelude.{max}
 use Rattle.std.specs.List.{list_all, list_any, sum_by}
 use Rattle.std.proofs.lemmas.Bool.Decides.{nat_tests}
@@ -24,26 +24,42 @@ use Rattle.vcode.specs.Places.{virtual}
 use Rattle.vcode.specs.Regular.{leads_inside, is_alloc, allocs_first, alloc_bytes, area, turns_of, passes_few, weight_of, code_weight, IsRegular}
 use Rattle.cfg_live.specs.Points.{graph_of}
 use Rattle.cfg_live.specs.Rows.{holds, AreLive}
-use Rattle.dead_lines.specs.Without.{Wanted, is_dead, wanted_at, kept_lines, jump_point, kept_blocks, without_dead}
+use Rattle.dead_lines.specs.Without.{Wanted, is_dead, wanted_at, as_wanted, kept_lines, jump_point, kept_blocks, without_dead}
 use Rattle.dead_lines.proofs.Closed.{both_true}
 use Rattle.dead_lines.proofs.Running.{runs}
 
 -- ---- lines
 
+-- what doesn't ask where a block of memory has its address
+abbrev Unnamed : {X : Type 0} → (Line ℕ → X) → Type 0
+Unnamed f = (to : Option ℕ) (size : ℕ) → f (Alloc to size) ≡ f (Alloc None size)
+
+same_as_wanted : {X : Type 0} (f : Line ℕ → X) → Unnamed f → (w : Wanted) (l : Line ℕ) → f (as_wanted w l) ≡ f l
+same_as_wanted f un w (Tick turn x) = refl
+same_as_wanted f un w (Set to a) = refl
+same_as_wanted f un w (Operate to op a b) = refl
+same_as_wanted f un w (Load to op at) = refl
+same_as_wanted f un w (Store size a at) = refl
+same_as_wanted f un w (Alloc None size) = refl
+same_as_wanted f un w (Alloc (Some to) size) = un (if w to then Some to else None) size ∙ sym (un (Some to) size)
+same_as_wanted f un w (Blit a b count) = refl
+same_as_wanted f un w (Call to callee args) = refl
+
 -- a number that dead lines have none of
 abbrev Counts : (Line ℕ → ℕ) → Type 0
-Counts f = (w : Wanted) (l : Line ℕ) → is_dead w l ≡ true → f l ≡ 0
+Counts f = ((w : Wanted) (l : Line ℕ) → is_dead w l ≡ true → f l ≡ 0) × Unnamed f
 
-sum_by_kind : (f : Line ℕ → ℕ) (l : Line ℕ) (kept lines : List (Line ℕ)) (a : ℕ) (b : Bool) → (b ≡ true → f l ≡ 0)
-    → ((k : ℕ) → fold (λ n x. n + f x) k kept ≡ fold (λ n x. n + f x) k lines) → fold (λ n x. n + f x) a (if b then kept else l ∷ kept) ≡ fold (λ n x. n + f x) (a + f l) lines
-sum_by_kind f l kept lines a true none rest =
+sum_by_kind : (f : Line ℕ → ℕ) (l m : Line ℕ) (kept lines : List (Line ℕ)) (a : ℕ) (b : Bool) → (b ≡ true → f l ≡ 0) → f m ≡ f l
+    → ((k : ℕ) → fold (λ n x. n + f x) k kept ≡ fold (λ n x. n + f x) k lines) → fold (λ n x. n + f x) a (if b then kept else m ∷ kept) ≡ fold (λ n x. n + f x) (a + f l) lines
+sum_by_kind f l m kept lines a true none same rest =
     rest a ∙ ap (λ k. fold (λ n x. n + f x) k lines) (let z : f l ≡ 0 = none refl in let y : a ≡ a + f l = omega arith in y)
-sum_by_kind f l kept lines a false none rest = rest (a + f l)
+sum_by_kind f l m kept lines a false none same rest = rest (a + f m) ∙ ap (λ k. fold (λ n x. n + f x) (a + k) lines) same
 
 sum_from : (f : Line ℕ → ℕ) → Counts f → (out : Wanted) (lines : List (Line ℕ)) (a : ℕ) → fold (λ n l. n + f l) a (kept_lines out lines) ≡ fold (λ n l. n + f l) a lines
 sum_from f none out [] a = refl
 sum_from f none out (l ∷ lines) a =
-    sum_by_kind f l (kept_lines out lines) lines a (is_dead (wanted_at out lines) l) (none (wanted_at out lines) l) (sum_from f none out lines)
+    let w : Wanted = wanted_at out lines in
+    sum_by_kind f l (as_wanted w l) (kept_lines out lines) lines a (is_dead w l) (none.0 w l) (same_as_wanted f none.1 w l) (sum_from f none out lines)
 
 lines_sum : (f : Line ℕ → ℕ) → Counts f → (out : Wanted) (lines : List (Line ℕ)) → sum_by f (kept_lines out lines) ≡ sum_by f lines
 lines_sum f none out lines = sum_from f none out lines 0
@@ -52,11 +68,34 @@ all_by_kind : (test : Line ℕ → Bool) (l : Line ℕ) (kept : List (Line ℕ))
 all_by_kind test l kept true h rest = rest
 all_by_kind test l kept false h rest = ap (λ x. x && list_all test kept) h ∙ rest
 
-lines_all : (test : Line ℕ → Bool) (out : Wanted) (lines : List (Line ℕ)) → list_all test lines ≡ true → list_all test (kept_lines out lines) ≡ true
-lines_all test out [] h = refl
-lines_all test out (l ∷ lines) h =
+-- what a line keeps that loses its register
+abbrev Bears : (Line ℕ → Bool) → Type 0
+Bears test = (w : Wanted) (l : Line ℕ) → test l ≡ true → test (as_wanted w l) ≡ true
+
+lines_all : (test : Line ℕ → Bool) → Bears test → (out : Wanted) (lines : List (Line ℕ)) → list_all test lines ≡ true → list_all test (kept_lines out lines) ≡ true
+lines_all test bears out [] h = refl
+lines_all test bears out (l ∷ lines) h =
     let s = both_true (test l) (list_all test lines) h in
-    all_by_kind test l (kept_lines out lines) (is_dead (wanted_at out lines) l) s.0 (lines_all test out lines s.1)
+    let w : Wanted = wanted_at out lines in
+    all_by_kind test (as_wanted w l) (kept_lines out lines) (is_dead w l) (bears w l s.0) (lines_all test bears out lines s.1)
+
+keeps_as_wanted : (test : ℕ → Bool) → Bears (line_keeps test)
+keeps_as_wanted test w (Tick turn x) h = h
+keeps_as_wanted test w (Set to a) h = h
+keeps_as_wanted test w (Operate to op a b) h = h
+keeps_as_wanted test w (Load to op at) h = h
+keeps_as_wanted test w (Store size a at) h = h
+keeps_as_wanted test w (Alloc None size) h = h
+keeps_as_wanted test w (Alloc (Some to) size) h = by (w to)
+  where
+    by : (b : Bool) → line_keeps test (Alloc (if b then Some to else None) size) ≡ true
+    by true = h
+    by false = refl
+keeps_as_wanted test w (Blit a b count) h = h
+keeps_as_wanted test w (Call to callee args) h = h
+
+few_as_wanted : Bears passes_few
+few_as_wanted w l h = same_as_wanted passes_few (λ to size. refl) w l ∙ h
 
 not_either : (a b : Bool) → not (a || b) ≡ true → (not a ≡ true) × (not b ≡ true)
 not_either true b h = let z : false ≡ true = h in cc
@@ -71,19 +110,21 @@ none_by_kind : (test : Line ℕ → Bool) (l : Line ℕ) (kept : List (Line ℕ)
 none_by_kind test l kept true h rest = rest
 none_by_kind test l kept false h rest = neither (test l) (list_any test kept) h rest
 
-lines_none : (test : Line ℕ → Bool) (out : Wanted) (lines : List (Line ℕ)) → not (list_any test lines) ≡ true → not (list_any test (kept_lines out lines)) ≡ true
-lines_none test out [] h = refl
-lines_none test out (l ∷ lines) h =
+lines_none : (test : Line ℕ → Bool) → Unnamed test → (out : Wanted) (lines : List (Line ℕ)) → not (list_any test lines) ≡ true → not (list_any test (kept_lines out lines)) ≡ true
+lines_none test un out [] h = refl
+lines_none test un out (l ∷ lines) h =
     let s = not_either (test l) (list_any test lines) h in
-    none_by_kind test l (kept_lines out lines) (is_dead (wanted_at out lines) l) s.0 (lines_none test out lines s.1)
+    let w : Wanted = wanted_at out lines in
+    none_by_kind test (as_wanted w l) (kept_lines out lines) (is_dead w l) (ap not (same_as_wanted test un w l) ∙ s.0) (lines_none test un out lines s.1)
 
 most_kept : (out : Wanted) (lines : List (Line ℕ)) → most_in_lines (kept_lines out lines) ≤ most_in_lines lines
 most_kept out [] = omega arith
-most_kept out (l ∷ lines) = by (is_dead (wanted_at out lines) l) (most_kept out lines)
+most_kept out (l ∷ lines) = by (is_dead (wanted_at out lines) l) (as_wanted (wanted_at out lines) l) (same_as_wanted args_on_stack (λ to size. refl) (wanted_at out lines) l) (most_kept out lines)
   where
-    by : (b : Bool) → most_in_lines (kept_lines out lines) ≤ most_in_lines lines → most_in_lines (if b then kept_lines out lines else l ∷ kept_lines out lines) ≤ max (args_on_stack l) (most_in_lines lines)
-    by true rest = omega arith
-    by false rest = omega arith
+    by : (b : Bool) (m : Line ℕ) → args_on_stack m ≡ args_on_stack l → most_in_lines (kept_lines out lines) ≤ most_in_lines lines
+        → most_in_lines (if b then kept_lines out lines else m ∷ kept_lines out lines) ≤ max (args_on_stack l) (most_in_lines lines)
+    by true m same rest = omega arith
+    by false m same rest = omega arith
 
 -- ---- what is paid for
 
@@ -140,14 +181,15 @@ affords_kept j out (Load to op a ∷ lines) credit h =
     chosen (is_dead (wanted_at out lines) (Load to op a)) j credit (Load to op a) (kept_lines out lines)
     (cheaper j (line_cost (Load to op a)) credit lines (kept_lines out lines) (affords_kept j out lines) h)
 affords_kept j out (Store size a b ∷ lines) credit h = (cheaper j (line_cost (Store size a b)) credit lines (kept_lines out lines) (affords_kept j out lines) h).1
-affords_kept j out (Alloc to size ∷ lines) credit h = (cheaper j ((let l : Line ℕ = Alloc to size in line_cost l)) credit lines (kept_lines out lines) (affords_kept j out lines) h).1
+affords_kept j out (Alloc None size ∷ lines) credit h = (cheaper j ((let l : Line ℕ = Alloc None size in line_cost l)) credit lines (kept_lines out lines) (affords_kept j out lines) h).1
+affords_kept j out (Alloc (Some to) size ∷ lines) credit h = (cheaper j (line_cost (Alloc (Some to) size)) credit lines (kept_lines out lines) (affords_kept j out lines) h).1
 affords_kept j out (Blit a b count ∷ lines) credit h = (cheaper j (line_cost (Blit a b count)) credit lines (kept_lines out lines) (affords_kept j out lines) h).1
 affords_kept j out (Call to callee args ∷ lines) credit h = (cheaper j (line_cost (Call to callee args)) credit lines (kept_lines out lines) (affords_kept j out lines) h).1
 
 -- ---- what dead lines have none of
 
 none_if_dead : (f : Line ℕ → ℕ) → ((to : ℕ) (a : Operand ℕ) → f (Set to a) ≡ 0) → ((to : ℕ) (op : Operation) (a b : Operand ℕ) → f (Operate to op a b) ≡ 0)
-    → ((to : ℕ) (op : LoadOp) (at : Address ℕ) → f (Load to op at) ≡ 0) → Counts f
+    → ((to : ℕ) (op : LoadOp) (at : Address ℕ) → f (Load to op at) ≡ 0) → (w : Wanted) (l : Line ℕ) → is_dead w l ≡ true → f l ≡ 0
 none_if_dead f set operate load w (Set to a) dead = set to a
 none_if_dead f set operate load w (Operate to op a b) dead = operate to op a b
 none_if_dead f set operate load w (Load to op a) dead = load to op a
@@ -158,13 +200,13 @@ none_if_dead f set operate load w (Blit a b count) dead = cc
 none_if_dead f set operate load w (Call to callee args) dead = cc
 
 weightless : Counts weight_of
-weightless = none_if_dead weight_of (λ to a. refl) (λ to op a b. refl) (λ to op a. refl)
+weightless = (none_if_dead weight_of (λ to a. refl) (λ to op a b. refl) (λ to op a. refl), λ to size. refl)
 
 turnless : Counts turns_of
-turnless = none_if_dead turns_of (λ to a. refl) (λ to op a b. refl) (λ to op a. refl)
+turnless = (none_if_dead turns_of (λ to a. refl) (λ to op a b. refl) (λ to op a. refl), λ to size. refl)
 
 byteless : Counts alloc_bytes
-byteless = none_if_dead alloc_bytes (λ to a. refl) (λ to op a b. refl) (λ to op a. refl)
+byteless = (none_if_dead alloc_bytes (λ to a. refl) (λ to op a b. refl) (λ to op a. refl), λ to size. refl)
 
 -- ---- blocks
 
@@ -194,7 +236,7 @@ blocks_all test keeps rows p (b ∷ blocks) h =
 first_kept : (rows : List Bits) (p : ℕ) (blocks : List (Block ℕ)) → allocs_first blocks ≡ true → allocs_first (kept_blocks rows p blocks) ≡ true
 first_kept rows p [] h = refl
 first_kept rows p (b ∷ blocks) h =
-    blocks_all (λ (d : Block ℕ). not (list_any is_alloc d.lines)) (λ out d e. lines_none is_alloc out d.lines e) rows (jump_point p b.lines + 1) blocks h
+    blocks_all (λ (d : Block ℕ). not (list_any is_alloc d.lines)) (λ out d e. lines_none is_alloc (λ to size. refl) out d.lines e) rows (jump_point p b.lines + 1) blocks h
 
 most_in_kept : (rows : List Bits) (p : ℕ) (blocks : List (Block ℕ)) → most_in_blocks (kept_blocks rows p blocks) ≤ most_in_blocks blocks
 most_in_kept rows p [] = omega arith
@@ -217,7 +259,7 @@ places_kept rows v test h =
     ap (λ b. b && list_all (block_keeps test) (kept_blocks rows 0 v.blocks)) s.0
     ∙ blocks_all (block_keeps test)
     (λ out b e. let t = both_true (list_all (line_keeps test) b.lines) (jump_keeps test b.jump) e in
-    ap (λ x. x && jump_keeps test b.jump) (lines_all (line_keeps test) out b.lines t.0) ∙ t.1)
+    ap (λ x. x && jump_keeps test b.jump) (lines_all (line_keeps test) (keeps_as_wanted test) out b.lines t.0) ∙ t.1)
     rows 0 v.blocks s.1
 
 pub regular : (rows : List Bits) (v : Code ℕ) → IsRegular v → IsRegular (without_dead rows v)
@@ -232,7 +274,7 @@ regular rows v is =
       paid = blocks_all is_paid (λ out b e. affords_kept b.jump out b.lines 0 e) rows 0 v.blocks is.paid;
       paced =
           blocks_all (λ (b : Block ℕ). nat_le (sum_by turns_of b.lines) 40000) (λ out b e. ap (λ n. nat_le n 40000) (lines_sum turns_of turnless out b.lines) ∙ e) rows 0 v.blocks is.paced;
-      few_args = blocks_all (λ (b : Block ℕ). list_all passes_few b.lines) (λ out b e. lines_all passes_few out b.lines e) rows 0 v.blocks is.few_args;
+      few_args = blocks_all (λ (b : Block ℕ). list_all passes_few b.lines) (λ out b e. lines_all passes_few few_as_wanted out b.lines e) rows 0 v.blocks is.few_args;
     }
 
 -- the code with these parameters and blocks

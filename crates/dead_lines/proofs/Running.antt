@@ -40,7 +40,7 @@ use Rattle.vcode.proofs.Stepping.{step_line, step_jump, step_nowhere}
 use Rattle.cfg_live.specs.Registers.{with_operand, jump_reads}
 use Rattle.cfg_live.specs.Points.{with_start, jump_next, graph_of}
 use Rattle.cfg_live.specs.Rows.{holds, AreLive}
-use Rattle.dead_lines.specs.Without.{Wanted, is_dead, reads_it, writes_it, wanted_above, wanted_at, kept_lines, jump_point, kept_block, kept_blocks, without_dead}
+use Rattle.dead_lines.specs.Without.{Wanted, is_dead, reads_it, writes_it, wanted_above, wanted_at, as_wanted, kept_lines, jump_point, kept_block, kept_blocks, without_dead}
 use Rattle.dead_lines.specs.Overlaid.{names_it}
 use Rattle.dead_lines.proofs.Reading.{is_in, is_same, any_append, operand_in, two_in, call_in}
 use Rattle.dead_lines.proofs.Closed.{left_or, or_right, dead_unwritten, firsts_from, Stands, stands}
@@ -294,6 +294,33 @@ dead_alone related step2 globals i s n el w (Alloc to size) dead agrees still = 
 dead_alone related step2 globals i s n el w (Blit from to count) dead agrees still = cc
 dead_alone related step2 globals i s n el w (Call to callee args) dead agrees still = cc
 
+-- ---- a line that loses a register that isn't wanted
+
+made_beside : (related : Relation) (globals : List Value) (i : Given) (s : State ℕ) (n : ℕ) (el : Values ℕ) (w : Wanted) (to size : ℕ) (b : Bool) → w to ≡ b
+    → Agree (wanted_above w (Alloc (Some to) size)) s.values el → Onward related s n w
+    → Beside related (line_step virtual globals i s (Alloc (Some to) size)) (line_step virtual globals i (carry s n el) (Alloc (if b then Some to else None) size))
+unfolding line_step
+made_beside related globals i s n el w to size true is agrees on = line_beside related globals i s n el w (Alloc (Some to) size) agrees on
+made_beside related globals i s n el w to size false is agrees on =
+    let v : Value = Pointer (length s.memory) 0 in
+    let u : State ℕ = record s { next = s.next + 1; values = put virtual to v s.values; memory = fresh s.memory size; owned = s.owned ++ length s.memory ∷ [] } in
+    let dead : not (w to) ≡ true = ap not is in
+    let rest : Agree (but w to) s.values el = above_agrees w (Alloc (Some to) size) s.values el agrees in
+    let whole : Agree w s.values el = (λ r e. rest r (unless (w r) (nat_eq to r) e (dead_unwritten w (Set to (Number 0)) r dead e))) in
+    (carry u (n + 1) el, refl, on u el refl refl (wanted_stays w s.values el to (Some v) dead whole))
+
+wanted_beside : (related : Relation) (globals : List Value) (i : Given) (s : State ℕ) (n : ℕ) (el : Values ℕ) (w : Wanted) (l : Line ℕ) → Agree (wanted_above w l) s.values el → Onward related s n w
+    → Beside related (line_step virtual globals i s l) (line_step virtual globals i (carry s n el) (as_wanted w l))
+wanted_beside related globals i s n el w (Tick turn x) agrees on = line_beside related globals i s n el w (Tick turn x) agrees on
+wanted_beside related globals i s n el w (Set to a) agrees on = line_beside related globals i s n el w (Set to a) agrees on
+wanted_beside related globals i s n el w (Operate to op a b) agrees on = line_beside related globals i s n el w (Operate to op a b) agrees on
+wanted_beside related globals i s n el w (Load to op at) agrees on = line_beside related globals i s n el w (Load to op at) agrees on
+wanted_beside related globals i s n el w (Store size a at) agrees on = line_beside related globals i s n el w (Store size a at) agrees on
+wanted_beside related globals i s n el w (Alloc None size) agrees on = line_beside related globals i s n el w (Alloc None size) agrees on
+wanted_beside related globals i s n el w (Alloc (Some to) size) agrees on = made_beside related globals i s n el w to size (w to) refl agrees on
+wanted_beside related globals i s n el w (Blit from to count) agrees on = line_beside related globals i s n el w (Blit from to count) agrees on
+wanted_beside related globals i s n el w (Call to callee args) agrees on = line_beside related globals i s n el w (Call to callee args) agrees on
+
 -- ---- each jump
 
 -- a block is entered to which the jump may lead
@@ -442,7 +469,7 @@ dead_matched : (v : Code ℕ) (rows : List Bits) (globals : List Value) (i : Giv
 dead_matched v rows globals i s n el b l left h at ahead dead =
     let w : Wanted = wanted_at h.out left in
     let agrees : Agree w s.values el = λ r e. h.agrees r (ap (λ (c : Bool). (if c then w else wanted_above w l) r) dead ∙ e) in
-    let lines : drop n h.block.lines ≡ kept_lines h.out left = h.lines ∙ ap (λ (c : Bool). if c then kept_lines h.out left else l ∷ kept_lines h.out left) dead in
+    let lines : drop n h.block.lines ≡ kept_lines h.out left = h.lines ∙ ap (λ (c : Bool). if c then kept_lines h.out left else as_wanted w l ∷ kept_lines h.out left) dead in
     let first : step virtual globals v i s ≡ line_step virtual globals i s l = step_line virtual globals v i s b l at (head_at b.lines s.next l left ahead) in
     subst (λ (x : Event (State ℕ) Asked Outcome). MatchesEvent (Related v rows) Fine (step virtual globals (without_dead rows v) i) x (carry s n el)) (sym first)
     (dead_alone (Related v rows) (step virtual globals (without_dead rows v) i) globals i s n el w l dead agrees
@@ -454,13 +481,14 @@ line_matched : (v : Code ℕ) (rows : List Bits) (globals : List Value) (i : Giv
 line_matched v rows globals i s n el b l left h at ahead stays =
     let w : Wanted = wanted_at h.out left in
     let agrees : Agree (wanted_above w l) s.values el = λ r e. h.agrees r (ap (λ (c : Bool). (if c then w else wanted_above w l) r) stays ∙ e) in
-    let lines : drop n h.block.lines ≡ l ∷ kept_lines h.out left = h.lines ∙ ap (λ (c : Bool). if c then kept_lines h.out left else l ∷ kept_lines h.out left) stays in
+    let m : Line ℕ = as_wanted w l in
+    let lines : drop n h.block.lines ≡ m ∷ kept_lines h.out left = h.lines ∙ ap (λ (c : Bool). if c then kept_lines h.out left else m ∷ kept_lines h.out left) stays in
     let first : step virtual globals v i s ≡ line_step virtual globals i s l = step_line virtual globals v i s b l at (head_at b.lines s.next l left ahead) in
-    let second : step virtual globals (without_dead rows v) i (carry s n el) ≡ line_step virtual globals i (carry s n el) l =
-    step_line virtual globals (without_dead rows v) i (carry s n el) h.block l h.found (head_at h.block.lines n l (kept_lines h.out left) lines) in
-    let together : Together (Related v rows) Fine (line_step virtual globals i s l) (line_step virtual globals i (carry s n el) l) =
-    line_beside (Related v rows) globals i s n el w l agrees
-    (λ u el2 e f same. onward v rows s u n (n + 1) el el2 b l left h at ahead (tail_at h.block.lines n l (kept_lines h.out left) lines) e f same) in
+    let second : step virtual globals (without_dead rows v) i (carry s n el) ≡ line_step virtual globals i (carry s n el) m =
+    step_line virtual globals (without_dead rows v) i (carry s n el) h.block m h.found (head_at h.block.lines n m (kept_lines h.out left) lines) in
+    let together : Together (Related v rows) Fine (line_step virtual globals i s l) (line_step virtual globals i (carry s n el) m) =
+    wanted_beside (Related v rows) globals i s n el w l agrees
+    (λ u el2 e f same. onward v rows s u n (n + 1) el el2 b l left h at ahead (tail_at h.block.lines n m (kept_lines h.out left) lines) e f same) in
     event_together (Related v rows) (step virtual globals (without_dead rows v) i) (step virtual globals v i s) (carry s n el)
     (subst (λ (x : Event (State ℕ) Asked Outcome). Together (Related v rows) Fine x (step virtual globals (without_dead rows v) i (carry s n el))) (sym first)
     (subst (λ (x : Event (State ℕ) Asked Outcome). Together (Related v rows) Fine (line_step virtual globals i s l) x) (sym second) together))

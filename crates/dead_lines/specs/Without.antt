@@ -1,10 +1,11 @@
--- Code without its dead lines: those that do nothing but write a register that isn't wanted behind them.
+-- Code without its dead lines: those that do nothing but write a register that isn't wanted behind them. A block of memory stays, but loses a register that
+-- isn't wanted.
 use Rattle.std.specs.Prelude.{◌≡◌, ℕ, ◌+◌, Bool, false, not, ◌&&◌, ◌||◌, nat_eq, if◌then◌else◌, List, [], ◌∷◌, Option, Some, None}
 use Rattle.std.specs.List.{list_any}
 use Rattle.std.specs.Option.{option_map_or}
 use Rattle.bitset.specs.Bits.{Bits}
 use Rattle.vcode.specs.declared.line.Line.{Line}
-use Rattle.vcode.specs.declared.line.Line.TheVariants.{Set, Operate, Load}
+use Rattle.vcode.specs.declared.line.Line.TheVariants.{Set, Operate, Load, Alloc}
 use Rattle.vcode.specs.declared.code.Block.{Block}
 use Rattle.vcode.specs.declared.code.Code.{Code}
 use Rattle.vcode.specs.declared.function.VFunc.{VFunc}
@@ -42,9 +43,14 @@ abbrev pub wanted_at : Wanted → List (Line ℕ) → Wanted
 wanted_at out [] = out
 wanted_at out (l ∷ lines) = if is_dead (wanted_at out lines) l then wanted_at out lines else wanted_above (wanted_at out lines) l
 
+-- a block of memory whose address isn't wanted has no register for it
+abbrev pub as_wanted : Wanted → Line ℕ → Line ℕ
+as_wanted wanted (Alloc (Some to) size) = Alloc (if wanted to then Some to else None) size
+as_wanted wanted l = l
+
 abbrev pub kept_lines : Wanted → List (Line ℕ) → List (Line ℕ)
 kept_lines out [] = []
-kept_lines out (l ∷ lines) = if is_dead (wanted_at out lines) l then kept_lines out lines else l ∷ kept_lines out lines
+kept_lines out (l ∷ lines) = if is_dead (wanted_at out lines) l then kept_lines out lines else as_wanted (wanted_at out lines) l ∷ kept_lines out lines
 
 -- ---- blocks, of which each begins at a point of the function; a tick is no point
 

@@ -6,9 +6,10 @@ ghost use Rattle.bitset.specs.Bits.{is_member};
 ghost use Rattle.cfg_live.specs.Registers.{with_operand, line_reads, line_writes};
 ghost use Rattle.cfg_live.specs.Rows.{holds};
 ghost use Rattle.vcode.specs.Named.{operand_keeps, line_keeps, is_below};
-ghost use Rattle.dead_lines.specs.Without.{Wanted, only_writes, is_dead, reads_it, writes_it, wanted_above};
+ghost use Rattle.dead_lines.specs.Without.{Wanted, only_writes, is_dead, as_wanted, reads_it, writes_it, wanted_above};
 ghost use Rattle.dead_lines.specs.Overlaid.{over, names_it};
 
+use crate::copied;
 use bitset::BitSet;
 use cfg_live::sets::Live;
 use std::alloc::{AllocError, Global};
@@ -169,6 +170,32 @@ impl Overlay {
                 !self.wants(live, point, *to)
             }
             _ => false,
+        }
+    }
+
+    /// The line that stays for one behind which this is wanted: the same, but a block of memory without a register where that isn't wanted.
+    ///
+    /// # Errors
+    ///
+    /// Only where memory was refused.
+    pub(crate) fn as_wanted(
+        &self,
+        alloc: Global,
+        live: &Live,
+        point: usize,
+        line: &Line<u32>,
+    ) -> Result<Line<u32>, AllocError>
+        ensures { IfOk result (λ m. m ≡ as_wanted (over self.now.said self.now.wanted (holds live.now point)) line.now) }
+    {
+        match line {
+            Line::Alloc { to: Some(to), size } => {
+                let is_wanted = self.wants(live, point, *to);
+                Ok(Line::Alloc {
+                    to: if is_wanted { Some(*to) } else { None },
+                    size: *size,
+                })
+            }
+            _ => copied::line(alloc, line),
         }
     }
 }

@@ -8,7 +8,7 @@ ghost use Rattle.cfg_live.specs.Points.{graph_of};
 ghost use Rattle.cfg_live.specs.Rows.{holds, AreLive};
 ghost use Rattle.dead_lines.specs.Without.{kept_lines, kept_block, kept_blocks, end_point, without_dead, IsWithoutDead};
 
-use crate::copied::{line as copied, params as copied_params};
+use crate::copied::params;
 use crate::overlay::Overlay;
 use cfg_live::live::live_in;
 use cfg_live::numbering::jump_point;
@@ -37,8 +37,9 @@ fn kept_backward(
     for k in (0..lines.len()).rev() {
         let line = &lines[k];
         if !overlay.is_dead(live, point, line) {
+            let wanted = overlay.as_wanted(alloc, live, point, line)?;
             overlay.pass(line);
-            kept.push(copied(alloc, line)?)?;
+            kept.push(wanted)?;
         }
     }
     Ok(kept)
@@ -91,7 +92,7 @@ fn without_dead(alloc: Global, function: &VFunc, live: &Live) -> Result<VFunc, A
     ensures code { IfOk result (λ w. w.code ≡ without_dead live.now function.now.code) }
     ensures registers { IfOk result (λ w. w.registers ≡ function.now.registers) }
 {
-    let params = copied_params(alloc, function.code.params.as_slice())?;
+    let params = params(alloc, function.code.params.as_slice())?;
     let mut overlay = Overlay::new(alloc, function.registers)?;
     let mut blocks = Seq::new(alloc);
     push_blocks(
@@ -111,8 +112,8 @@ fn without_dead(alloc: Global, function: &VFunc, live: &Live) -> Result<VFunc, A
     })
 }
 
-/// The function without its dead lines: those that do nothing but write a register whose value isn't used any more. It takes about as long and as much memory
-/// as finding the live registers does.
+/// The function without its dead lines: those that do nothing but write a register whose value isn't used any more. Blocks of memory stay, but have no register
+/// where their address isn't used. It takes about as long and as much memory as finding the live registers does.
 ///
 /// # Errors
 ///

@@ -138,3 +138,63 @@ fn stores_and_what_is_used_stay(rt: HostRuntime) -> Result<(), Fail> {
     assert_eq!(rt; kinds(&again), [2, 2, 0, 1, 0]);
     Ok(())
 }
+
+/// Makes two blocks of memory, of which the second alone is used, and returns what it holds.
+fn blocks_of_memory(alloc: Global) -> Result<VFunc, AllocError> {
+    let mut lines = Seq::new(alloc);
+    lines.push(Line::Tick {
+        turn: true,
+        weight: 1,
+    })?;
+    lines.push(Line::Alloc {
+        to: Some(0),
+        size: 8,
+    })?;
+    lines.push(Line::Alloc {
+        to: Some(1),
+        size: 8,
+    })?;
+    lines.push(Line::Load {
+        to: 2,
+        op: LoadOp::Ld,
+        at: Address::at_once(Operand::At(1)),
+    })?;
+    let mut blocks = Seq::new(alloc);
+    blocks.push(Block {
+        lines,
+        jump: Jump::Return(Some(Operand::At(2))),
+    })?;
+    Ok(VFunc {
+        code: Code {
+            result: Some(Class::L),
+            params: Seq::new(alloc),
+            blocks,
+        },
+        registers: 3,
+    })
+}
+
+/// How many blocks of memory have a register, and how many have none.
+fn made(function: &VFunc) -> [usize; 2] {
+    let mut counts = [0usize; 2];
+    for block in function.code.blocks.as_slice() {
+        for line in block.lines.as_slice() {
+            match line {
+                Line::Alloc { to: Some(_), .. } => counts[0] = counts[0].saturating_add(1),
+                Line::Alloc { to: None, .. } => counts[1] = counts[1].saturating_add(1),
+                _ => {}
+            }
+        }
+    }
+    counts
+}
+
+#[test]
+fn blocks_of_memory_lose_registers_alone(rt: HostRuntime) -> Result<(), Fail> {
+    let function = blocks_of_memory(rt.alloc())?;
+    let kept = remove_dead_lines(rt.alloc(), &function)?;
+    assert_eq!(rt; made(&function), [2, 0]);
+    assert_eq!(rt; made(&kept), [1, 1]);
+    assert_eq!(rt; kinds(&kept), [1, 0, 1, 0, 2]);
+    Ok(())
+}

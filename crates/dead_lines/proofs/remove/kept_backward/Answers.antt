@@ -3,7 +3,7 @@ use Rattle.std.proofs.Math.Path.{fun_ext}
 use Rattle.std.proofs.Math.Seq.{drop-length}
 use Rattle.vcode.specs.declared.line.Line.{Line}
 use Rattle.cfg_live.specs.Rows.{holds}
-use Rattle.dead_lines.specs.Without.{Wanted, is_dead, wanted_at, kept_lines}
+use Rattle.dead_lines.specs.Without.{Wanted, is_dead, wanted_at, as_wanted, kept_lines}
 use Rattle.dead_lines.specs.Overlaid.{over}
 use Rattle.dead_lines.proofs.Walking.{lines_above, wanted_on}
 use Rattle.dead_lines.proofs.remove.kept_backward.Goals as goal
@@ -18,8 +18,8 @@ loop-k-init c =
       wanted = fun_ext (λ r. c.clear.ensures.over out r) ∙ sym (ap (wanted_at out) none);
     }
 
-pub loop-k-preserved-in_ok-push : goal.loop-k-preserved-in_ok-push
-loop-k-preserved-in_ok-push c =
+pub loop-k-preserved-in-Continue-branch-2 : goal.loop-k-preserved-in-Continue-branch-2
+loop-k-preserved-in-Continue-branch-2 c =
     let out : Wanted = holds c.args.live.now c.args.point in
     let lines = c.args.lines.now in
     let k = c.loop-k.k in
@@ -29,8 +29,8 @@ loop-k-preserved-in_ok-push c =
     record {
       length = c.pass.ensures.length ∙ c.loop-k.invariant.length;
       lines =
-          lines_above out lines k l c.loop-k.kept.items c.push.new.self.items c.loop-k-test.true c.loop-k.auto.k c.index-lines-k.is stays
-          (c.in_ok-push.ensures.items ∙ ap (λ (x : Line ℕ). c.loop-k.kept.items ++ x ∷ []) c.in_ok-line.ensures) c.loop-k.invariant.lines;
+          lines_above out lines k l c.in_ok-wanted.wanted c.loop-k.kept.items c.push.new.self.items c.loop-k-test.true c.loop-k.auto.k c.index-lines-k.is stays
+          (c.in_ok-wanted.ensures ∙ ap (λ (w : Wanted). as_wanted w l) c.loop-k.invariant.wanted) c.in_ok-push.ensures.items c.loop-k.invariant.lines;
       wanted =
           wanted_on out lines k l (over c.loop-k.overlay.said c.loop-k.overlay.wanted out) (over c.pass.new.self.said c.pass.new.self.wanted out) c.loop-k-test.true c.loop-k.auto.k
           c.index-lines-k.is stays c.loop-k.invariant.wanted (c.pass.ensures.over out);
