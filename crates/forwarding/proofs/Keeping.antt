@@ -32,6 +32,8 @@ use Rattle.forwarding.specs.declared.fact.Fact.TheVariants.{Same, Sum, Test}
 use Rattle.forwarding.specs.Facts.{Facts, operand_below, fact_below, kept_if, AreBelow}
 use Rattle.forwarding.specs.Forwarded.{is_short, copied, forward, regrouped, grouped, is_add, folded, operands_of, further, from_base, with_base, with_address, Replacing, with_argument, with_line, with_comparison, test_of, tested_by, with_test, with_jump, writes_it, fact_of, leaves, after, AreForwarded, IsForwarded, AllForwarded}
 use Rattle.forwarding.proofs.Writing.{both_true}
+use Rattle.forwarding.specs.Shortened.{shortened}
+use Rattle.forwarding.proofs.Shortening.{Unnumbered, unchanged, any_cheaper}
 use Rattle.forwarding.proofs.Running.{runs}
 
 both_are : (a b : Bool) → a ≡ true → b ≡ true → (a && b) ≡ true
@@ -315,12 +317,14 @@ pays old new credit more j k lines lines2 cheap le rest h =
     both_are (nat_le new more) (affords (more - new) k lines2) (let a = s.0 in grind (arith, nat_tests)) (rest (credit - old) (more - new) (omega arith) s.1)
 
 line_paid : (fs : Facts) (l : Line ℕ) (credit more : ℕ) (j k : Jump ℕ) (lines lines2 : List (Line ℕ)) → credit ≤ more → ((c m : ℕ) → c ≤ m → affords c j lines ≡ true → affords m k lines2 ≡ true)
-    → affords credit j (l ∷ lines) ≡ true → affords more k (with_line fs l ∷ lines2) ≡ true
+    → affords credit j (l ∷ lines) ≡ true → affords more k (shortened (with_line fs l) ∷ lines2) ≡ true
 line_paid fs (Tick turn w) credit more j k lines lines2 le rest h = rest (credit + 32 * w) (more + 32 * w) (omega arith) h
 line_paid fs (Set to a) credit more j k lines lines2 le rest h =
     pays (line_cost (Set to a)) (line_cost (with_line fs (Set to a))) credit more j k lines lines2 (line_costs fs (Set to a)) le rest h
 line_paid fs (Operate to op a b) credit more j k lines lines2 le rest h =
-    pays (line_cost (Operate to op a b)) (line_cost (with_line fs (Operate to op a b))) credit more j k lines lines2 (line_costs fs (Operate to op a b)) le rest h
+    any_cheaper (λ m. affords more k (m ∷ lines2) ≡ true) to op (operands_of fs op a b).0 (operands_of fs op a b).1
+    (λ new c cheap. let old = line_costs fs (Operate to op a b) in
+    pays (line_cost (Operate to op a b)) (line_cost (Operate to new (operands_of fs op a b).0 c)) credit more j k lines lines2 (omega (arith, cheap, old)) le rest h)
 line_paid fs (Load to op a) credit more j k lines lines2 le rest h =
     pays (line_cost (Load to op a)) (line_cost (with_line fs (Load to op a))) credit more j k lines lines2 (line_costs fs (Load to op a)) le rest h
 line_paid fs (Store size a b) credit more j k lines lines2 le rest h =
@@ -370,77 +374,101 @@ block_paid n b c f paid =
 -- ---- measures of lines that stay
 
 abbrev Stays : {X : Type 0} → (Line ℕ → X) → Type 0
-Stays {X} g = (fs : Facts) (l : Line ℕ) → g (with_line fs l) ≡ g l
+Stays {X} g = (fs : Facts) (l : Line ℕ) → g (shortened (with_line fs l)) ≡ g l
+
+abbrev Carried : {X : Type 0} → (Line ℕ → X) → Type 0
+Carried {X} g = (fs : Facts) (l : Line ℕ) → g (with_line fs l) ≡ g l
+
+stays : {X : Type 0} (g : Line ℕ → X) → Unnumbered g → Carried g → Stays g
+stays g un same fs l = unchanged g un (with_line fs l) ∙ same fs l
+
+weight_carried : Carried weight_of
+weight_carried fs (Tick turn w) = refl
+weight_carried fs (Set to a) = refl
+weight_carried fs (Operate to op a b) = refl
+weight_carried fs (Load to op a) = refl
+weight_carried fs (Store size a b) = refl
+weight_carried fs (Alloc to size) = refl
+weight_carried fs (Blit a b count) = refl
+weight_carried fs (Call to callee args) = refl
 
 weight_stays : Stays weight_of
-weight_stays fs (Tick turn w) = refl
-weight_stays fs (Set to a) = refl
-weight_stays fs (Operate to op a b) = refl
-weight_stays fs (Load to op a) = refl
-weight_stays fs (Store size a b) = refl
-weight_stays fs (Alloc to size) = refl
-weight_stays fs (Blit a b count) = refl
-weight_stays fs (Call to callee args) = refl
+weight_stays = stays weight_of (λ to op other a n m. refl) weight_carried
+
+bytes_carried : Carried alloc_bytes
+bytes_carried fs (Tick turn w) = refl
+bytes_carried fs (Set to a) = refl
+bytes_carried fs (Operate to op a b) = refl
+bytes_carried fs (Load to op a) = refl
+bytes_carried fs (Store size a b) = refl
+bytes_carried fs (Alloc to size) = refl
+bytes_carried fs (Blit a b count) = refl
+bytes_carried fs (Call to callee args) = refl
 
 bytes_stay : Stays alloc_bytes
-bytes_stay fs (Tick turn w) = refl
-bytes_stay fs (Set to a) = refl
-bytes_stay fs (Operate to op a b) = refl
-bytes_stay fs (Load to op a) = refl
-bytes_stay fs (Store size a b) = refl
-bytes_stay fs (Alloc to size) = refl
-bytes_stay fs (Blit a b count) = refl
-bytes_stay fs (Call to callee args) = refl
+bytes_stay = stays alloc_bytes (λ to op other a n m. refl) bytes_carried
+
+turns_carried : Carried turns_of
+turns_carried fs (Tick true w) = refl
+turns_carried fs (Tick false w) = refl
+turns_carried fs (Set to a) = refl
+turns_carried fs (Operate to op a b) = refl
+turns_carried fs (Load to op a) = refl
+turns_carried fs (Store size a b) = refl
+turns_carried fs (Alloc to size) = refl
+turns_carried fs (Blit a b count) = refl
+turns_carried fs (Call to callee args) = refl
 
 turns_stay : Stays turns_of
-turns_stay fs (Tick true w) = refl
-turns_stay fs (Tick false w) = refl
-turns_stay fs (Set to a) = refl
-turns_stay fs (Operate to op a b) = refl
-turns_stay fs (Load to op a) = refl
-turns_stay fs (Store size a b) = refl
-turns_stay fs (Alloc to size) = refl
-turns_stay fs (Blit a b count) = refl
-turns_stay fs (Call to callee args) = refl
+turns_stay = stays turns_of (λ to op other a n m. refl) turns_carried
+
+alloc_carried : Carried is_alloc
+alloc_carried fs (Tick turn w) = refl
+alloc_carried fs (Set to a) = refl
+alloc_carried fs (Operate to op a b) = refl
+alloc_carried fs (Load to op a) = refl
+alloc_carried fs (Store size a b) = refl
+alloc_carried fs (Alloc to size) = refl
+alloc_carried fs (Blit a b count) = refl
+alloc_carried fs (Call to callee args) = refl
 
 alloc_stays : Stays is_alloc
-alloc_stays fs (Tick turn w) = refl
-alloc_stays fs (Set to a) = refl
-alloc_stays fs (Operate to op a b) = refl
-alloc_stays fs (Load to op a) = refl
-alloc_stays fs (Store size a b) = refl
-alloc_stays fs (Alloc to size) = refl
-alloc_stays fs (Blit a b count) = refl
-alloc_stays fs (Call to callee args) = refl
+alloc_stays = stays is_alloc (λ to op other a n m. refl) alloc_carried
+
+few_carried : Carried passes_few
+few_carried fs (Tick turn w) = refl
+few_carried fs (Set to a) = refl
+few_carried fs (Operate to op a b) = refl
+few_carried fs (Load to op a) = refl
+few_carried fs (Store size a b) = refl
+few_carried fs (Alloc to size) = refl
+few_carried fs (Blit a b count) = refl
+few_carried fs (Call to callee args) = ap (λ n. nat_le n 64) (args_count (forward fs) args)
 
 few_stays : Stays passes_few
-few_stays fs (Tick turn w) = refl
-few_stays fs (Set to a) = refl
-few_stays fs (Operate to op a b) = refl
-few_stays fs (Load to op a) = refl
-few_stays fs (Store size a b) = refl
-few_stays fs (Alloc to size) = refl
-few_stays fs (Blit a b count) = refl
-few_stays fs (Call to callee args) = ap (λ n. nat_le n 64) (args_count (forward fs) args)
+few_stays = stays passes_few (λ to op other a n m. refl) few_carried
+
+passed_carried : Carried args_on_stack
+passed_carried fs (Tick turn w) = refl
+passed_carried fs (Set to a) = refl
+passed_carried fs (Operate to op a b) = refl
+passed_carried fs (Load to op a) = refl
+passed_carried fs (Store size a b) = refl
+passed_carried fs (Alloc to size) = refl
+passed_carried fs (Blit a b count) = refl
+passed_carried fs (Call to callee args) = ap (λ n. n - 8) (args_count (forward fs) args)
 
 passed_stays : Stays args_on_stack
-passed_stays fs (Tick turn w) = refl
-passed_stays fs (Set to a) = refl
-passed_stays fs (Operate to op a b) = refl
-passed_stays fs (Load to op a) = refl
-passed_stays fs (Store size a b) = refl
-passed_stays fs (Alloc to size) = refl
-passed_stays fs (Blit a b count) = refl
-passed_stays fs (Call to callee args) = ap (λ n. n - 8) (args_count (forward fs) args)
+passed_stays = stays args_on_stack (λ to op other a n m. refl) passed_carried
 
 -- ---- lines side by side
 
--- lines of the second that are those of the first with other operands
+-- lines of the second that are those of the first with other operands, in their short form
 abbrev Alike : (lines new : List (Line ℕ)) → Type 0
 Alike [] [] = Unit {0}
 Alike [] (m ∷ new) = ⊥
 Alike (l ∷ lines) [] = ⊥
-Alike (l ∷ lines) (m ∷ new) = ((fs : Facts) × (m ≡ with_line fs l)) × Alike lines new
+Alike (l ∷ lines) (m ∷ new) = ((fs : Facts) × (m ≡ shortened (with_line fs l))) × Alike lines new
 
 alike : (n : ℕ) (whole : List (Line ℕ)) (fs : Facts) (lines new : List (Line ℕ)) (j k : Jump ℕ) → AreForwarded n whole fs lines new j k → Alike lines new
 alike n whole fs [] [] j k f = tt
@@ -501,7 +529,7 @@ lines_low n whole fs (l ∷ lines) (m ∷ new) j k f below h =
     let rest = lines_low n whole (after n m fs) lines new j k f.1 (after_below n m fs) (both_are (list_all (line_keeps (is_below n)) lines) (jump_keeps (is_below n) j) t.1 s.1) in
     let u = both_true (list_all (line_keeps (is_below n)) new) (jump_keeps (is_below n) k) rest in
     both_are (line_keeps (is_below n) m && list_all (line_keeps (is_below n)) new) (jump_keeps (is_below n) k)
-    (both_are (line_keeps (is_below n) m) (list_all (line_keeps (is_below n)) new) (ap (line_keeps (is_below n)) f.0 ∙ line_low n fs below l t.0) u.0) u.1
+    (both_are (line_keeps (is_below n) m) (list_all (line_keeps (is_below n)) new) (ap (line_keeps (is_below n)) f.0 ∙ (unchanged (line_keeps (is_below n)) (λ to op new a p q. refl) (with_line fs l) ∙ line_low n fs below l t.0)) u.0) u.1
 
 inside_from : (n size : ℕ) (whole : List (Line ℕ)) (fs : Facts) (lines new : List (Line ℕ)) (j k : Jump ℕ) → AreForwarded n whole fs lines new j k → leads_inside size j ≡ true → leads_inside size k ≡ true
 inside_from n size whole fs [] [] j k f h = ap (leads_inside size) f ∙ jump_inside whole n size fs j h

@@ -1,4 +1,5 @@
 pub mod Writing
 pub mod Making
+pub mod Shortening
 pub mod Running
 pub mod Keeping

@@ -13,6 +13,7 @@ use Rattle.forwarding.specs.declared.fact.Fact.{Fact}
 use Rattle.forwarding.specs.declared.table.Table.{Table}
 use Rattle.forwarding.specs.Facts.{Facts, fact_names, asks_memory, fact_below, kept_if}
 use Rattle.forwarding.specs.Table.{facts_of, changed, over}
+use Rattle.forwarding.specs.Shortened.{shortened}
 use Rattle.forwarding.specs.Forwarded.{with_line, changes_memory, fact_of, after, AreForwarded, IsForwarded, AllForwarded}
 
 -- ---- what is known after a line
@@ -115,7 +116,7 @@ append_one [] x ys = refl
 append_one (z ∷ xs) x ys = ap (λ zs. z ∷ zs) (append_one xs x ys)
 
 pub lines_on : (n : ℕ) (whole : List (Line ℕ)) (t u : Table) (lines : List (Line ℕ)) (i : ℕ) (l m : Line ℕ) (rest : List (Line ℕ)) (j k : Jump ℕ) → i < length lines → l ≡ get_or lines i l
-    → m ≡ with_line (facts_of t) l → ((q : ℕ) → facts_of u q ≡ after n m (facts_of t) q) → AreForwarded n whole (facts_of u) (drop (i + 1) lines) rest j k
+    → m ≡ shortened (with_line (facts_of t) l) → ((q : ℕ) → facts_of u q ≡ after n m (facts_of t) q) → AreForwarded n whole (facts_of u) (drop (i + 1) lines) rest j k
     → AreForwarded n whole (facts_of t) (drop i lines) (m ∷ rest) j k
 lines_on n whole t u lines i l m rest j k low at is known h =
     subst (λ (xs : List (Line ℕ)). AreForwarded n whole (facts_of t) xs (m ∷ rest) j k) (sym (item_next lines i l low at))

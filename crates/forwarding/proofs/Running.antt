@@ -49,6 +49,8 @@ use Rattle.cfg_live.specs.Registers.{line_writes}
 use Rattle.forwarding.specs.declared.fact.Fact.{Fact}
 use Rattle.forwarding.specs.declared.fact.Fact.TheVariants.{Same, Sum, Test}
 use Rattle.forwarding.specs.Facts.{Facts, names_it, fact_names, asks_memory, kept_if, fact_below, summed, Truth, AreTrue}
+use Rattle.forwarding.specs.Shortened.{shortened}
+use Rattle.forwarding.proofs.Shortening.{shortened_step}
 use Rattle.forwarding.specs.Forwarded.{is_short, copied, forward, regrouped, grouped, is_add, folded, further, from_base, with_base, with_address, sum_of, Replacing, with_argument, with_line, with_comparison, test_of, tested_by, with_test, with_jump, changes_memory, writes_it, fact_of, leaves, after, AreForwarded, IsForwarded, AllForwarded}
 
 -- ---- operands
@@ -827,12 +829,12 @@ jump_beside n v w globals i s b c fs all result at found ahead ahead2 is facts =
     (event_more (λ u. u.next ≡ 0) (λ u. Related n v w globals u u) (λ u e. at_start n v w globals all u e) (jump_step globals v.result s b.jump) (jump_starts globals v.result s b.jump))
 
 line_beside : (n : ℕ) (v w : Code ℕ) (globals : List Value) (i : Given) (s : State ℕ) (b c : Block ℕ) (fs : Facts) (l m : Line ℕ) (left left2 : List (Line ℕ))
-    → slice_get v.blocks s.block ≡ Some b → slice_get w.blocks s.block ≡ Some c → drop s.next b.lines ≡ l ∷ left → drop s.next c.lines ≡ m ∷ left2 → m ≡ with_line fs l
+    → slice_get v.blocks s.block ≡ Some b → slice_get w.blocks s.block ≡ Some c → drop s.next b.lines ≡ l ∷ left → drop s.next c.lines ≡ m ∷ left2 → m ≡ shortened (with_line fs l)
     → AreForwarded n c.lines (after n m fs) left left2 b.jump c.jump → AreTrue globals s fs → Beside n v w globals i s
 line_beside n v w globals i s b c fs l m left left2 at found ahead ahead2 is rest facts =
     one_event (Related n v w globals) (step virtual globals v i s) (step virtual globals w i s) (line_step virtual globals i s m)
     (step_line virtual globals v i s b l at (head_at b.lines s.next l left ahead)
-    ∙ sym (line_same globals i s fs facts l) ∙ ap (line_step virtual globals i s) (sym is))
+    ∙ sym (shortened_step globals i s (with_line fs l) ∙ line_same globals i s fs facts l) ∙ ap (line_step virtual globals i s) (sym is))
     (step_line virtual globals w i s c m found (head_at c.lines s.next m left2 ahead2))
     (event_more (Moved globals m s) (λ u. Related n v w globals u u) on (line_step virtual globals i s m) (line_moves globals i s m))
   where

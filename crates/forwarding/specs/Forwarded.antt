@@ -23,6 +23,7 @@ use Rattle.cfg_live.specs.Registers.{line_writes}
 use Rattle.forwarding.specs.declared.fact.Fact.{Fact}
 use Rattle.forwarding.specs.declared.fact.Fact.TheVariants.{Same, Sum, Test}
 use Rattle.forwarding.specs.Facts.{Facts, fact_names, asks_memory, fact_below, kept_if}
+use Rattle.forwarding.specs.Shortened.{shortened}
 
 -- ---- operands
 
@@ -163,12 +164,12 @@ after n l fs r = kept_if (λ f. nat_lt r n && (fact_below n f && leaves l f)) (i
 
 -- ---- blocks
 
--- the lines and the jump, put by what is known, which is `fs` before them; `whole` is all lines of the new block
+-- the lines and the jump, put by what is known, which is `fs` before them, and the lines then in their short form; `whole` is all lines of the new block
 abbrev pub AreForwarded : (n : ℕ) → (whole : List (Line ℕ)) → Facts → (lines new : List (Line ℕ)) → (jump next : Jump ℕ) → Type 0
 AreForwarded n whole fs [] [] j k = k ≡ with_jump whole fs j
 AreForwarded n whole fs [] (m ∷ new) j k = ⊥
 AreForwarded n whole fs (l ∷ lines) [] j k = ⊥
-AreForwarded n whole fs (l ∷ lines) (m ∷ new) j k = (m ≡ with_line fs l) × AreForwarded n whole (after n m fs) lines new j k
+AreForwarded n whole fs (l ∷ lines) (m ∷ new) j k = (m ≡ shortened (with_line fs l)) × AreForwarded n whole (after n m fs) lines new j k
 
 -- nothing is known where a block begins
 abbrev pub IsForwarded : (n : ℕ) → (b c : Block ℕ) → Type 0

@@ -1,3 +1,4 @@
 pub mod Facts
 pub mod Table
+pub mod Shortened
 pub mod Forwarded

@@ -9,6 +9,7 @@ ghost use Rattle.forwarding.specs.Forwarded.{changes_memory, sum_of, fact_of, af
 
 use crate::fact::Fact;
 use crate::replace::{is_add, jump, line as forwarded};
+use crate::shorten::shortened;
 use crate::table::Table;
 use cfg_live::uses::line_writes;
 use il_ast::list::Seq;
@@ -100,7 +101,8 @@ fn forwarded_lines(
 {
     let mut made = Vec::new(alloc);
     for line in lines {
-        let put = forwarded(alloc, table, line)?;
+        let carried = forwarded(alloc, table, line)?;
+        let put = shortened(carried);
         pass(table, &put);
         made.push(put)?;
     }

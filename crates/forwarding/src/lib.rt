@@ -17,6 +17,7 @@
 pub mod fact;
 pub mod forward;
 mod replace;
+mod shorten;
 mod table;
 #[cfg(test)]
 mod tests;

@@ -1,8 +1,9 @@
 //! Small functions, and what is made of them.
 use crate::forward::forward;
+use crate::shorten::shortened;
 use il_ast::list::Seq;
 use il_ast::operation::{Class, Condition};
-use rv_isa::instruction::{LoadOp, RegOp};
+use rv_isa::instruction::{LoadOp, RegOp, RegWOp};
 use std::alloc::{AllocError, Global};
 use std::test::Fail;
 use vcode::code::{Block, Code};
@@ -360,5 +361,77 @@ fn branches_stay_where_the_block_cannot_pay(rt: HostRuntime) -> Result<(), Fail>
     let function = compared_arguments(rt.alloc())?;
     let made = forward(rt.alloc(), &function)?;
     assert_eq!(rt; jump_of(&made, 1), jump_of(&function, 1));
+    Ok(())
+}
+
+/// What an operation by a number is put as.
+fn put(operation: Operation, number: u64) -> Option<(Operation, Operand<u32>)> {
+    let line = shortened(Line::Operate {
+        to: 1,
+        operation,
+        left: Operand::At(0),
+        right: Operand::Number(number),
+    });
+    match line {
+        Line::Operate {
+            operation,
+            right,
+            ..
+        } => Some((operation, right)),
+        _ => None,
+    }
+}
+
+#[test]
+fn operations_by_powers_of_two_are_shifts_and_masks(rt: HostRuntime) -> Result<(), Fail> {
+    let shift = Operation::Reg(RegOp::Sll);
+    let mask = Operation::Reg(RegOp::And);
+    let top = 1u64 << 63;
+    assert_eq!(rt;
+        put(Operation::Reg(RegOp::Mul), 8),
+        Some((shift, Operand::Number(3)))
+    );
+    assert_eq!(rt;
+        put(Operation::Reg(RegOp::Mul), top),
+        Some((shift, Operand::Number(63)))
+    );
+    assert_eq!(rt;
+        put(Operation::Reg(RegOp::Divu), 1),
+        Some((Operation::Reg(RegOp::Srl), Operand::Number(0)))
+    );
+    assert_eq!(rt;
+        put(Operation::Reg(RegOp::Remu), 2048),
+        Some((mask, Operand::Number(2047)))
+    );
+    assert_eq!(rt;
+        put(Operation::RegW(RegWOp::Mulw), 256),
+        Some((Operation::RegW(RegWOp::Sllw), Operand::Number(8)))
+    );
+    assert_eq!(rt;
+        put(Operation::RegW(RegWOp::Divuw), 2),
+        Some((Operation::RegW(RegWOp::Srlw), Operand::Number(1)))
+    );
+    assert_eq!(rt;
+        put(Operation::RegW(RegWOp::Remuw), 32),
+        Some((mask, Operand::Number(31)))
+    );
+    Ok(())
+}
+
+/// Whether an operation by a number stays what it is.
+fn stays(operation: Operation, number: u64) -> bool {
+    put(operation, number) == Some((operation, Operand::Number(number)))
+}
+
+#[test]
+fn other_operations_stay(rt: HostRuntime) -> Result<(), Fail> {
+    assert!(rt; stays(Operation::Reg(RegOp::Mul), 0));
+    assert!(rt; stays(Operation::Reg(RegOp::Mul), 6));
+    assert!(rt; stays(Operation::Reg(RegOp::Mul), u64::MAX));
+    assert!(rt; stays(Operation::Reg(RegOp::Div), 8));
+    assert!(rt; stays(Operation::Reg(RegOp::Rem), 8));
+    assert!(rt; stays(Operation::Reg(RegOp::Remu), 4096));
+    assert!(rt; stays(Operation::RegW(RegWOp::Mulw), 1u64 << 32));
+    assert!(rt; stays(Operation::RegW(RegWOp::Divw), 2));
     Ok(())
 }

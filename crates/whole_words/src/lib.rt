@@ -13,3 +13,5 @@
 pub mod copies;
 mod lines;
 mod marks;
+#[cfg(test)]
+mod tests;
