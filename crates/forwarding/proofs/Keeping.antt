@@ -4,6 +4,8 @@ use Rattle.std.specs.Prelude.{max}
 use Rattle.std.specs.Option.{option_map_or}
 use Rattle.std.specs.List.{list_all, list_any, sum_by}
 use Rattle.std.proofs.lemmas.Bool.Decides.{nat_tests}
+use Rattle.il_ast.specs.declared.operation.Class.{Class}
+use Rattle.il_ast.specs.declared.operation.Class.TheVariants.{W, L}
 use Rattle.il_ast.specs.declared.operation.Condition.{Condition}
 use Rattle.il_ast.specs.declared.operation.Condition.TheVariants.{Equal, NotEqual, SignedLessEqual, SignedLess, SignedGreaterEqual, SignedGreater, UnsignedLessEqual, UnsignedLess, UnsignedGreaterEqual, UnsignedGreater}
 use Rattle.il_ast.specs.Passes.{Keeps}
@@ -22,7 +24,7 @@ use Rattle.vcode.specs.declared.line.Jump.TheVariants.{Goto, Branch, Return, Hal
 use Rattle.vcode.specs.declared.code.Block.{Block}
 use Rattle.vcode.specs.declared.code.Code.{Code}
 use Rattle.vcode.specs.Coded.{classes_in, coded}
-use Rattle.vcode.specs.Cost.{is_immediate, operand_cost, line_cost, jump_cost, affords, is_paid}
+use Rattle.vcode.specs.Cost.{is_immediate, operand_cost, line_cost, branch_cost, jump_cost, affords, is_paid}
 use Rattle.vcode.specs.Named.{operand_keeps, wanted_keeps, line_keeps, jump_keeps, block_keeps, keeps_places, is_below}
 use Rattle.vcode.specs.Outgoing.{args_on_stack, most_in_lines, most_in_blocks}
 use Rattle.vcode.specs.Places.{virtual}
@@ -30,7 +32,7 @@ use Rattle.vcode.specs.Regular.{is_target, leads_inside, is_alloc, allocs_first,
 use Rattle.forwarding.specs.declared.fact.Fact.{Fact}
 use Rattle.forwarding.specs.declared.fact.Fact.TheVariants.{Same, Sum, Test}
 use Rattle.forwarding.specs.Facts.{Facts, operand_below, fact_below, kept_if, AreBelow}
-use Rattle.forwarding.specs.Forwarded.{is_short, copied, forward, regrouped, grouped, is_add, folded, operands_of, further, from_base, with_base, with_address, Replacing, with_argument, with_line, with_comparison, test_of, tested_by, with_test, with_jump, writes_it, fact_of, leaves, after, AreForwarded, IsForwarded, AllForwarded}
+use Rattle.forwarding.specs.Forwarded.{is_short, copied, forward, regrouped, grouped, is_add, folded, operands_of, further, from_base, with_base, with_address, Replacing, with_argument, with_line, with_comparison, test_of, tested_by, with_test, with_branch, equality, decided, with_jump, writes_it, fact_of, leaves, after, AreForwarded, IsForwarded, AllForwarded}
 use Rattle.forwarding.proofs.Writing.{both_true}
 use Rattle.forwarding.specs.Shortened.{shortened}
 use Rattle.forwarding.proofs.Shortening.{Unnumbered, unchanged, any_cheaper}
@@ -265,6 +267,16 @@ test_either lines good UnsignedGreater on met otherwise o g h = g
 test_either lines good NotEqual on met otherwise (Some c) g h = chosen lines good (Branch on met otherwise) (Branch c met otherwise) (affords 0 (Branch c met otherwise) lines) refl g (h c refl).0
 test_either lines good Equal on met otherwise (Some c) g h = chosen lines good (Branch on met otherwise) (Branch c otherwise met) (affords 0 (Branch c otherwise met) lines) refl g (h c refl).1
 
+-- what holds of the branch and of the jumps to where it leads holds of the one that is chosen
+outcome_either : (good : Jump ℕ → Type 0) (o : Option Bool) (met otherwise : ℕ) (j : Jump ℕ) → good (Goto met) → good (Goto otherwise) → good j → good (decided o met otherwise j)
+outcome_either good None met otherwise j first second g = g
+outcome_either good (Some true) met otherwise j first second g = first
+outcome_either good (Some false) met otherwise j first second g = second
+
+some_branch_cost : (k : Class) → 2 ≤ branch_cost k
+some_branch_cost W = omega arith
+some_branch_cost L = omega arith
+
 fact_test : (n : ℕ) (o : Option Fact) (c : Comparison ℕ) → ((f : Fact) → o ≡ Some f → fact_below n f ≡ true) → test_of o ≡ Some c → fact_below n (Test c) ≡ true
 fact_test n None c h e = absurd (let no : ⊥ = cc in no)
 fact_test n (Some (Same b)) c h e = absurd (let no : ⊥ = cc in no)
@@ -291,9 +303,10 @@ jump_low : (lines : List (Line ℕ)) (n : ℕ) (fs : Facts) → AreBelow n fs �
 jump_low lines n fs below (Goto k) h = refl
 jump_low lines n fs below (Branch on met otherwise) h =
     let new : Comparison ℕ = with_comparison (forward fs) on in
-    test_either lines (λ k. jump_keeps (is_below n) k ≡ true) new.condition new met otherwise (tested_by fs new.left new.right) (two_low n fs below on.left on.right h)
+    outcome_either (λ k. jump_keeps (is_below n) k ≡ true) (equality new.condition new.class new.left new.right) met otherwise (with_branch lines fs new met otherwise) refl refl
+    (test_either lines (λ k. jump_keeps (is_below n) k ≡ true) new.condition new met otherwise (tested_by fs new.left new.right) (two_low n fs below on.left on.right h)
     (λ c e. let s = both_true (operand_below n c.left) (operand_below n c.right) (tested_low n fs below new.left new.right c e) in
-    let all = both_are (operand_keeps (is_below n) c.left) (operand_keeps (is_below n) c.right) (keeps_below n c.left s.0) (keeps_below n c.right s.1) in (λ paid. all, λ paid. all))
+    let all = both_are (operand_keeps (is_below n) c.left) (operand_keeps (is_below n) c.right) (keeps_below n c.left s.0) (keeps_below n c.right s.1) in (λ paid. all, λ paid. all)))
 jump_low lines n fs below (Return None) h = refl
 jump_low lines n fs below (Return (Some a)) h = forward_low n fs below a h
 jump_low lines n fs below Halt h = refl
@@ -303,8 +316,9 @@ jump_inside lines n m fs (Goto k) h = h
 jump_inside lines n m fs (Branch on met otherwise) h =
     let new : Comparison ℕ = with_comparison (forward fs) on in
     let s = both_true (is_target m met) (is_target m otherwise) h in
-    test_either lines (λ k. leads_inside m k ≡ true) new.condition new met otherwise (tested_by fs new.left new.right) h
-    (λ c e. (λ paid. h, λ paid. both_are (is_target m otherwise) (is_target m met) s.1 s.0))
+    outcome_either (λ k. leads_inside m k ≡ true) (equality new.condition new.class new.left new.right) met otherwise (with_branch lines fs new met otherwise) s.0 s.1
+    (test_either lines (λ k. leads_inside m k ≡ true) new.condition new met otherwise (tested_by fs new.left new.right) h
+    (λ c e. (λ paid. h, λ paid. both_are (is_target m otherwise) (is_target m met) s.1 s.0)))
 jump_inside lines n m fs (Return a) h = refl
 jump_inside lines n m fs Halt h = refl
 
@@ -352,8 +366,11 @@ jump_paid lines fs (Branch on met otherwise) h =
     let new : Comparison ℕ = with_comparison (forward fs) on in
     let x = forward_cost fs on.left in
     let y = forward_cost fs on.right in
-    test_either lines (λ k. affords 0 k lines ≡ true) new.condition new met otherwise (tested_by fs new.left new.right) (h (Branch new met otherwise) (omega (arith, x, y)))
-    (λ c e. (λ paid. paid, λ paid. paid))
+    let z = some_branch_cost on.class in
+    outcome_either (λ k. affords 0 k lines ≡ true) (equality new.condition new.class new.left new.right) met otherwise (with_branch lines fs new met otherwise)
+    (h (Goto met) (omega (arith, z))) (h (Goto otherwise) (omega (arith, z)))
+    (test_either lines (λ k. affords 0 k lines ≡ true) new.condition new met otherwise (tested_by fs new.left new.right) (h (Branch new met otherwise) (omega (arith, x, y)))
+    (λ c e. (λ paid. paid, λ paid. paid)))
 jump_paid lines fs (Return None) h = h (Return None) (omega arith)
 jump_paid lines fs (Return (Some a)) h = h (Return (Some (forward fs a))) (let x = forward_cost fs a in omega (arith, x))
 jump_paid lines fs Halt h = h Halt (omega arith)

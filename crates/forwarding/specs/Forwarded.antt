@@ -1,8 +1,10 @@
 -- Code in which operands and branches are put by what is known of registers.
 use Rattle.std.specs.Prelude.{◌≡◌, ℕ, ◌+◌, ◌%◌, ◌^◌, Bool, true, false, not, ◌&&◌, nat_eq, nat_lt, if◌then◌else◌, List, [], ◌∷◌, map, Option, Some, None}
 use Rattle.std.specs.Option.{option_map, option_map_or}
+use Rattle.il_ast.specs.declared.operation.Class.{Class}
 use Rattle.il_ast.specs.declared.operation.Condition.{Condition}
 use Rattle.il_ast.specs.declared.operation.Condition.TheVariants.{Equal, NotEqual}
+use Rattle.il_ast.specs.Values.{modulus}
 use Rattle.vcode.specs.declared.place.Operand.{Operand}
 use Rattle.vcode.specs.declared.place.Address.{Address}
 use Rattle.vcode.specs.declared.place.Operand.TheVariants.{At, Number, Name}
@@ -123,10 +125,24 @@ with_test lines k on met otherwise o = Branch on met otherwise
 abbrev pub with_branch : (lines : List (Line ℕ)) → Facts → Comparison ℕ → (met otherwise : ℕ) → Jump ℕ
 with_branch lines fs on met otherwise = with_test lines on.condition on met otherwise (tested_by fs on.left on.right)
 
+-- whether two numbers are equal in places of class k, or are not, where that is asked
+abbrev pub equality : Condition → Class → (left right : Operand ℕ) → Option Bool
+equality Equal k (Number a) (Number b) = Some (nat_eq (a % modulus k) (b % modulus k))
+equality NotEqual k (Number a) (Number b) = Some (not (nat_eq (a % modulus k) (b % modulus k)))
+equality on k a b = None
+
+-- a branch whose outcome is known is a jump
+abbrev pub decided : Option Bool → (met otherwise : ℕ) → Jump ℕ → Jump ℕ
+decided (Some t) met otherwise j = Goto (if t then met else otherwise)
+decided None met otherwise j = j
+
+abbrev pub with_outcome : (lines : List (Line ℕ)) → Facts → Comparison ℕ → (met otherwise : ℕ) → Jump ℕ
+with_outcome lines fs on met otherwise = decided (equality on.condition on.class on.left on.right) met otherwise (with_branch lines fs on met otherwise)
+
 -- the jump after all these lines
 abbrev pub with_jump : (lines : List (Line ℕ)) → Facts → Jump ℕ → Jump ℕ
 with_jump lines fs (Goto k) = Goto k
-with_jump lines fs (Branch on met otherwise) = with_branch lines fs (with_comparison (forward fs) on) met otherwise
+with_jump lines fs (Branch on met otherwise) = with_outcome lines fs (with_comparison (forward fs) on) met otherwise
 with_jump lines fs (Return a) = Return (option_map (forward fs) a)
 with_jump lines fs Halt = Halt
 

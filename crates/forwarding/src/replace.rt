@@ -1,17 +1,18 @@
 //! Lines and jumps, put by what is known of registers.
-ghost use Rattle.std.specs.Prelude.{◌≡◌, ◌++◌, ℕ, true, false, map, drop, length, OnOk, IfOk, Some, None};
+ghost use Rattle.std.specs.Prelude.{◌≡◌, ◌++◌, ◌%◌, ℕ, true, false, nat_eq, map, drop, length, OnOk, IfOk, Some, None};
 ghost use Rattle.std.specs.Option.{option_map};
 ghost use Rattle.vcode.specs.declared.place.Operand.TheVariants.{At};
 ghost use Rattle.vcode.specs.declared.line.Jump.TheVariants.{Branch};
 ghost use Rattle.vcode.specs.Addresses.{distance};
 ghost use Rattle.vcode.specs.Cost.{is_immediate};
 ghost use Rattle.forwarding.specs.Table.{facts_of};
-ghost use Rattle.forwarding.specs.Forwarded.{is_short, forward, with_argument, regrouped, grouped, is_add, operands_of, further, with_address, with_line, with_comparison, tested_by, afforded, with_test, with_branch, with_jump};
+ghost use Rattle.il_ast.specs.Values.{modulus};
+ghost use Rattle.forwarding.specs.Forwarded.{is_short, forward, with_argument, regrouped, grouped, is_add, operands_of, further, with_address, with_line, with_comparison, tested_by, afforded, with_test, with_branch, equality, with_outcome, with_jump};
 
 use crate::fact::Fact;
 use crate::table::Table;
 use il_ast::list::Seq;
-use il_ast::operation::Condition;
+use il_ast::operation::{Class, Condition};
 use rv_isa::instruction::RegOp;
 use std::alloc::{AllocError, Global};
 use vcode::cost::{affords, is_immediate};
@@ -312,14 +313,59 @@ fn branch(
     }
 }
 
-/// The jump after these lines with each operand put by what is known; where it tests the result of a comparison it is a branch on that, if the lines pay for it.
+fn are_equal(class: Class, left: u64, right: u64) -> bool
+    ensures { result ≡ nat_eq (left % modulus class) (right % modulus class) }
+{
+    match class {
+        Class::W => left % (1 << 32) == right % (1 << 32),
+        Class::L => left == right,
+    }
+}
+
+// Whether a comparison of two numbers by equality holds.
+fn equality(
+    condition: Condition,
+    class: Class,
+    left: Operand<u32>,
+    right: Operand<u32>,
+) -> Option<bool>
+    ensures { result ≡ equality condition class left right }
+{
+    match (condition, left, right) {
+        (Condition::Equal, Operand::Number(left), Operand::Number(right)) => {
+            Some(are_equal(class, left, right))
+        }
+        (Condition::NotEqual, Operand::Number(left), Operand::Number(right)) => {
+            Some(!are_equal(class, left, right))
+        }
+        _ => None,
+    }
+}
+
+fn outcome(
+    table: &Table,
+    lines: &[Line<u32>],
+    on: Comparison<u32>,
+    met: usize,
+    otherwise: usize,
+) -> Jump<u32>
+    ensures { result ≡ with_outcome lines.now (facts_of table.now) on met otherwise }
+{
+    match equality(on.condition, on.class, on.left, on.right) {
+        Some(holds) => Jump::Goto(if holds { met } else { otherwise }),
+        None => branch(table, lines, on, met, otherwise),
+    }
+}
+
+/// The jump after these lines with each operand put by what is known; where it tests the result of a comparison it is a branch on that, if the lines pay for it,
+/// and where it asks whether two numbers are equal it is a jump.
 pub(crate) fn jump(table: &Table, lines: &[Line<u32>], from: &Jump<u32>) -> Jump<u32>
     ensures { result ≡ with_jump lines.now (facts_of table.now) from.now }
 {
     match from {
         Jump::Goto(block) => Jump::Goto(*block),
         Jump::Branch { on, met, otherwise } => {
-            branch(table, lines, comparison(table, on), *met, *otherwise)
+            outcome(table, lines, comparison(table, on), *met, *otherwise)
         }
         Jump::Return(None) => Jump::Return(None),
         Jump::Return(Some(value)) => Jump::Return(Some(operand(table, value))),

@@ -435,3 +435,65 @@ fn other_operations_stay(rt: HostRuntime) -> Result<(), Fail> {
     assert!(rt; stays(Operation::RegW(RegWOp::Divw), 2));
     Ok(())
 }
+
+/// Copies a number to register 0 and branches on it as a word.
+fn known_branches(alloc: Global) -> Result<VFunc, AllocError> {
+    let mut first = Seq::new(alloc);
+    first.push(Line::Tick {
+        turn: true,
+        weight: 1,
+    })?;
+    first.push(Line::Set {
+        to: 0,
+        value: Operand::Number(7),
+    })?;
+    let mut last = Seq::new(alloc);
+    last.push(Line::Tick {
+        turn: true,
+        weight: 1,
+    })?;
+    let mut blocks = Seq::new(alloc);
+    blocks.push(Block {
+        lines: first,
+        jump: Jump::Branch {
+            on: Comparison {
+                condition: Condition::NotEqual,
+                class: Class::W,
+                left: Operand::At(0),
+                right: Operand::Number(0),
+            },
+            met: 0,
+            otherwise: 1,
+        },
+    })?;
+    blocks.push(Block {
+        lines: last,
+        jump: Jump::Branch {
+            on: Comparison {
+                condition: Condition::Equal,
+                class: Class::W,
+                left: Operand::Number(1),
+                right: Operand::Number(4_294_967_297),
+            },
+            met: 1,
+            otherwise: 0,
+        },
+    })?;
+    Ok(VFunc {
+        code: Code {
+            result: None,
+            params: Seq::new(alloc),
+            blocks,
+        },
+        registers: 1,
+    })
+}
+
+#[test]
+fn branches_on_numbers_are_jumps(rt: HostRuntime) -> Result<(), Fail> {
+    let function = known_branches(rt.alloc())?;
+    let made = forward(rt.alloc(), &function)?;
+    assert_eq!(rt; jump_of(&made, 0), Jump::Goto(0));
+    assert_eq!(rt; jump_of(&made, 1), Jump::Goto(1));
+    Ok(())
+}
