@@ -20,7 +20,7 @@ use Rattle.vcode.specs.Addresses.{low}
 use Rattle.abi_frames.specs.Fields.{reg}
 use Rattle.abi_frames.specs.Emission.{store_from, store_at}
 use Rattle.abi_frames.proofs.Leading.{Site, Leads, leads_by, IsReg, register_reg, in_register}
-use Rattle.abi_frames.proofs.Instructions.{UsableFrom, not_code, code_not}
+use Rattle.abi_frames.proofs.Instructions.{UsableFrom}
 
 -- ---- a store
 
@@ -53,10 +53,10 @@ leads_store_any_in c s op v base offset a fixed there usable =
     let writable : can_write s a n ≡ true = subst P (sym fixed.permissions) (n_writable c.ground a n (some_stored op) usable) in
     let t : State = record s { pc = (s.pc + 4) % 2 ^ 64; bytes = stored s.bytes a n x } in
     let acts : act (Store op (reg base) (reg v) offset) s ≡ Ok t = ap (store s op x) there ∙ (rw writable refl) in
-    let p : ℕ → Bool = λ x. not (c.ground.allows x).executable in
-    let each : each_of p a n ≡ true = each_from p a n (λ x lo hi. not_code (c.ground.allows x).executable (usable x lo hi).no_code) in
+    let p : ℕ → Bool = λ x. (c.ground.allows x).writable in
+    let each : each_of p a n ≡ true = each_from p a n (λ x lo hi. (usable x lo hi).writable) in
     leads_by c s t (Store op (reg base) (reg v) offset) (Written s a n x) acts refl refl
-    (λ y h. stored_avoids p s.bytes a n x y each (code_not (c.ground.allows y).executable h))
+    (λ y h. stored_avoids p s.bytes a n x y each h)
     (record { bytes = refl; registers = λ m. refl; output = refl })
 
 pub leads_store_any : (c : Site) (s : State) (op : StoreOp) (v base o a : ℕ) → IsReg v → IsReg base → Fixed c.ground s

@@ -265,12 +265,6 @@ pub record Writes (s : State) (a v : ℕ) (u : State) : Type 0 where
   pub registers : (n : ℕ) → n ≢ 29 → u.registers n ≡ s.registers n
   pub output : u.output ≡ s.output
 
-pub not_code : (b : Bool) → b ≡ false → not b ≡ true
-not_code b e = ap not e
-
-pub code_not : (b : Bool) → b ≡ true → not b ≡ false
-code_not b e = ap not e
-
 pub leads_store_in : (c : Site) (s : State) (v base o a : ℕ) → IsReg base → Fixed c.ground s → moved (s.registers base) (low o).value ≡ a
     → UsableFrom c.ground a 8 → Leads c (store_8 v base o ∷ []) s (Writes s a (in_register s v))
 leads_store_in c s v base o a is_base fixed there usable =
@@ -280,10 +274,10 @@ leads_store_in c s v base o a is_base fixed there usable =
     let at : moved (register s (reg base)) (low o).value ≡ a = ap (λ x. moved x (low o).value) (register_reg s base is_base) ∙ there in
     let t : State = record s { pc = (s.pc + 4) % 2 ^ 64; bytes = stored s.bytes a 8 x } in
     let acts : act (Store Sd (reg base) (reg v) (low o)) s ≡ Ok t = ap (store s Sd x) at ∙ (rw writable refl) in
-    let p : ℕ → Bool = λ x. not (c.ground.allows x).executable in
-    let each : each_of p a 8 ≡ true = each_from p a 8 (λ x lo hi. not_code (c.ground.allows x).executable (usable x lo hi).no_code) in
+    let p : ℕ → Bool = λ x. (c.ground.allows x).writable in
+    let each : each_of p a 8 ≡ true = each_from p a 8 (λ x lo hi. (usable x lo hi).writable) in
     leads_by c s t (Store Sd (reg base) (reg v) (low o)) (Writes s a x) acts refl refl
-    (λ y h. stored_avoids p s.bytes a 8 x y each (code_not (c.ground.allows y).executable h))
+    (λ y h. stored_avoids p s.bytes a 8 x y each h)
     (record { bytes = refl; registers = λ n other. refl; output = refl })
 
 pub leads_store : (c : Site) (s : State) (v base o a : ℕ) → IsReg v → IsReg base → Fixed c.ground s → moved (s.registers base) (low o).value ≡ a

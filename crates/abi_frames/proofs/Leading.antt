@@ -101,7 +101,7 @@ state_is c s fixed h = record { pc = h; registers = fixed.words; bytes = fixed.s
 
 -- the step of an instruction that stands there
 pub stepped : (c : Site) (s t : State) (i : Instr) → Fixed c.ground s → InstrAt c.ground s.pc i → act i s ≡ Ok t
-    → t.allows ≡ s.allows → ((a : ℕ) → (c.ground.allows a).executable ≡ true → t.bytes a ≡ s.bytes a) → (step s ≡ Ok t) × Fixed c.ground t
+    → t.allows ≡ s.allows → ((a : ℕ) → (c.ground.allows a).writable ≡ false → t.bytes a ≡ s.bytes a) → (step s ≡ Ok t) × Fixed c.ground t
 stepped c s t i fixed at acts permissions code =
     let inside = at.inside in
     let goes : step s ≡ Ok t = step_at c.ground s i fixed at ∙ acts in
@@ -116,7 +116,7 @@ stepped c s t i fixed at acts permissions code =
     )
 
 pub leads_by : (c : Site) (s t : State) (i : Instr) (P : State → Type 0) → act i s ≡ Ok t → t.pc ≡ (s.pc + 4) % 2 ^ 64
-    → t.allows ≡ s.allows → ((a : ℕ) → (c.ground.allows a).executable ≡ true → t.bytes a ≡ s.bytes a) → P t → Leads c (Plain i ∷ []) s P
+    → t.allows ≡ s.allows → ((a : ℕ) → (c.ground.allows a).writable ≡ false → t.bytes a ≡ s.bytes a) → P t → Leads c (Plain i ∷ []) s P
 unfolding Stand Stands
 leads_by c s t i P acts next permissions code holds = record {
   from = λ rest stands fixed.

@@ -1,5 +1,6 @@
 -- The machine code of each line and jump. x2 is the stack pointer; x28 to x30 hold operands and addresses for a moment.
 use Rattle.std.specs.Prelude.{ℕ, zero, suc, ◌+◌, ◌-◌, ◌*◌, ◌/◌, ◌%◌, ◌^◌, ◌&&◌, nat_eq, nat_lt, nat_le, if◌then◌else◌, List, [], ◌∷◌, ◌++◌, length, Option, Some, None}
+use Rattle.rv_isa.specs.declared.abi.TheConstants.{ZERO, RETURN_ADDRESS, STACK_POINTER, FIRST_ARGUMENT, LAST_ARGUMENT, ARGUMENT_REGISTERS, RESULT, FIRST_SCRATCH, SECOND_SCRATCH, THIRD_SCRATCH}
 use Rattle.il_ast.specs.declared.operation.Class.{Class}
 use Rattle.il_ast.specs.declared.operation.Class.TheVariants.{W, L}
 use Rattle.il_ast.specs.declared.operation.Size.{Size}
@@ -43,16 +44,16 @@ use Rattle.abi_frames.specs.Immediates.{right_form, left_form, form_items}
 -- ---- the frame: eight bytes at an offset from the stack pointer
 
 abbrev pub far_load : (d offset : ℕ) → List Item
-far_load d offset = Plain (Lui (reg d) (high offset)) ∷ sum_to d d 2 ∷ load_8 d d offset ∷ []
+far_load d offset = Plain (Lui (reg d) (high offset)) ∷ sum_to d d STACK_POINTER ∷ load_8 d d offset ∷ []
 
 abbrev pub load_slot : (d offset : ℕ) → List Item
-load_slot d offset = if nat_lt offset 2048 then load_8 d 2 offset ∷ [] else far_load d offset
+load_slot d offset = if nat_lt offset 2048 then load_8 d STACK_POINTER offset ∷ [] else far_load d offset
 
 abbrev pub far_store : (v offset : ℕ) → List Item
-far_store v offset = Plain (Lui (reg 29) (high offset)) ∷ sum_to 29 29 2 ∷ store_8 v 29 offset ∷ []
+far_store v offset = Plain (Lui (reg SECOND_SCRATCH) (high offset)) ∷ sum_to SECOND_SCRATCH SECOND_SCRATCH STACK_POINTER ∷ store_8 v SECOND_SCRATCH offset ∷ []
 
 abbrev pub store_slot : (v offset : ℕ) → List Item
-store_slot v offset = if nat_lt offset 2048 then store_8 v 2 offset ∷ [] else far_store v offset
+store_slot v offset = if nat_lt offset 2048 then store_8 v STACK_POINTER offset ∷ [] else far_store v offset
 
 -- ---- operands and destinations
 
@@ -76,7 +77,7 @@ fetch y d (Name g) = Address (reg d) g ∷ []
 abbrev pub source : ℕ → Operand Location → ℕ
 source d (At (InRegister r)) = r
 source d (At (Slot i)) = d
-source d (Number n) = if nat_eq n 0 then 0 else d
+source d (Number n) = if nat_eq n 0 then ZERO else d
 source d (Name g) = d
 
 -- its low 32 bits, sign-extended, into the register d
@@ -87,17 +88,17 @@ word_into y d a = fetch y d a ++ (extend d (source d a) ∷ [])
 -- the register in which a value for this place is made, and what brings it there from x28
 abbrev pub target : Location → ℕ
 target (InRegister r) = r
-target (Slot i) = 28
+target (Slot i) = FIRST_SCRATCH
 
 abbrev pub deliver : Layout → Location → List Item
 deliver y (InRegister r) = []
-deliver y (Slot i) = store_slot 28 (slot_offset y i)
+deliver y (Slot i) = store_slot FIRST_SCRATCH (slot_offset y i)
 
 -- ---- lines
 
 abbrev pub set_items : Layout → Location → Operand Location → List Item
 set_items y (InRegister r) a = into y r a
-set_items y (Slot i) a = fetch y 28 a ++ store_slot (source 28 a) (slot_offset y i)
+set_items y (Slot i) a = fetch y FIRST_SCRATCH a ++ store_slot (source FIRST_SCRATCH a) (slot_offset y i)
 
 -- a comparison of two registers by all 64 bits
 abbrev pub compare_items : Condition → (d a b : ℕ) → List Item
@@ -133,13 +134,13 @@ operand_source (RegWOperation op) d a = source d a
 
 abbrev pub on_registers : Layout → Location → Operation → (a b : Operand Location) → List Item
 on_registers y to op a b =
-    operand_into y op 28 a
-    ++ (operand_into y op 29 b
-    ++ (operation_items op (target to) (operand_source op 28 a) (operand_source op 29 b) ++ deliver y to))
+    operand_into y op FIRST_SCRATCH a
+    ++ (operand_into y op SECOND_SCRATCH b
+    ++ (operation_items op (target to) (operand_source op FIRST_SCRATCH a) (operand_source op SECOND_SCRATCH b) ++ deliver y to))
 
 -- with the other operand's number in the instruction
 abbrev pub by_form : Layout → Location → Operation → Operand Location → Form → List Item
-by_form y to op a form = operand_into y op 28 a ++ (form_items form (target to) (operand_source op 28 a) ++ deliver y to)
+by_form y to op a form = operand_into y op FIRST_SCRATCH a ++ (form_items form (target to) (operand_source op FIRST_SCRATCH a) ++ deliver y to)
 
 -- where the right operand gives a form, where the left one does, and else
 abbrev pub operate_by : Layout → Location → Operation → (a b : Operand Location) → (right left : Option Form) → List Item
@@ -168,10 +169,10 @@ store_op Long = Sd
 
 abbrev pub store_items : Layout → Size → Operand Location → MemoryAddress Location → List Item
 store_items y size a at =
-    fetch y 28 a ++ (fetch y 29 at.base ++ (store_from (store_op size) (source 28 a) (source 29 at.base) at.offset ∷ []))
+    fetch y FIRST_SCRATCH a ++ (fetch y SECOND_SCRATCH at.base ++ (store_from (store_op size) (source FIRST_SCRATCH a) (source SECOND_SCRATCH at.base) at.offset ∷ []))
 
 abbrev pub load_items : Layout → Location → LoadOp → MemoryAddress Location → List Item
-load_items y to op at = fetch y 28 at.base ++ ((load_to op (target to) (source 28 at.base) at.offset ∷ []) ++ deliver y to)
+load_items y to op at = fetch y FIRST_SCRATCH at.base ++ ((load_to op (target to) (source FIRST_SCRATCH at.base) at.offset ∷ []) ++ deliver y to)
 
 -- ---- calls
 
@@ -182,7 +183,7 @@ pass_into y d W a = word_into y d a
 
 -- the k-th argument, past the eighth: to the stack, eight bytes each from the stack pointer upward
 abbrev pub stack_items : Layout → (k : ℕ) → Argument Location → List Item
-stack_items y k a = if nat_lt k 8 then [] else pass_into y 28 a.class a.value ++ (store_8 28 2 (8 * (k - 8)) ∷ [])
+stack_items y k a = if nat_lt k ARGUMENT_REGISTERS then [] else pass_into y FIRST_SCRATCH a.class a.value ++ (store_8 FIRST_SCRATCH STACK_POINTER (8 * (k - ARGUMENT_REGISTERS)) ∷ [])
 
 abbrev pub stack_all : Layout → (k : ℕ) → List (Argument Location) → List Item
 stack_all y k [] = []
@@ -190,7 +191,7 @@ stack_all y k (a ∷ args) = stack_items y k a ++ stack_all y (k + 1) args
 
 -- the first eight go into x10 to x17
 abbrev pub register_items : Layout → (k : ℕ) → Argument Location → List Item
-register_items y k a = if nat_lt k 8 then pass_into y (10 + k) a.class a.value else []
+register_items y k a = if nat_lt k ARGUMENT_REGISTERS then pass_into y (FIRST_ARGUMENT + k) a.class a.value else []
 
 abbrev pub register_all : Layout → (k : ℕ) → List (Argument Location) → List Item
 register_all y k [] = []
@@ -202,12 +203,12 @@ passed_items y args = all_move_up (length args) args ++ register_all y 0 (all_mo
 
 -- the address of the callee in a register in which no argument is passed
 abbrev pub callee_items : Layout → Operand Location → List Item
-callee_items y (At (InRegister r)) = if nat_le 10 r && nat_le r 17 then add_low 28 r 0 ∷ [] else []
-callee_items y a = fetch y 28 a
+callee_items y (At (InRegister r)) = if nat_le FIRST_ARGUMENT r && nat_le r LAST_ARGUMENT then add_low FIRST_SCRATCH r 0 ∷ [] else []
+callee_items y a = fetch y FIRST_SCRATCH a
 
 abbrev pub callee_source : Operand Location → ℕ
-callee_source (At (InRegister r)) = if nat_le 10 r && nat_le r 17 then 28 else r
-callee_source a = source 28 a
+callee_source (At (InRegister r)) = if nat_le FIRST_ARGUMENT r && nat_le r LAST_ARGUMENT then FIRST_SCRATCH else r
+callee_source a = source FIRST_SCRATCH a
 
 -- arguments on the stack, the callee's address, and arguments in registers
 abbrev pub prepare_items : Layout → (callee : Operand Location) → List (Argument Location) → List Item
@@ -215,12 +216,12 @@ prepare_items y callee args = stack_all y 0 args ++ (callee_items y callee ++ pa
 
 -- to the address in a register, with the address of the next instruction in x1
 abbrev pub call_through : ℕ → Item
-call_through r = Plain (Jalr (reg 1) (reg r) (low 0))
+call_through r = Plain (Jalr (reg RETURN_ADDRESS) (reg r) (low 0))
 
 -- the result from x10 to its place
 abbrev pub receive_items : Layout → Option (Destination Location) → List Item
 receive_items y None = []
-receive_items y (Some d) = set_items y d.place (At (InRegister 10))
+receive_items y (Some d) = set_items y d.place (At (InRegister RESULT))
 
 abbrev pub call_items : Layout → Option (Destination Location) → (callee : Operand Location) → List (Argument Location) → List Item
 call_items y to callee args = prepare_items y callee args ++ ((call_through (callee_source callee) ∷ []) ++ receive_items y to)
@@ -229,10 +230,10 @@ call_items y to callee args = prepare_items y callee args ++ ((call_through (cal
 
 -- as many bytes as the load and the store take, at an offset from the addresses in x28 and x29
 abbrev pub copy_at : LoadOp → StoreOp → (offset : ℕ) → List Item
-copy_at load store o = Plain (Load load (reg 30) (reg 28) (low o)) ∷ store_at store 30 29 o ∷ []
+copy_at load store o = Plain (Load load (reg THIRD_SCRATCH) (reg FIRST_SCRATCH) (low o)) ∷ store_at store THIRD_SCRATCH SECOND_SCRATCH o ∷ []
 
 abbrev pub copy_eight : List Item
-copy_eight = copy_at Ld Sd 0 ++ (add_low 28 28 8 ∷ add_low 29 29 8 ∷ [])
+copy_eight = copy_at Ld Sd 0 ++ (add_low FIRST_SCRATCH FIRST_SCRATCH 8 ∷ add_low SECOND_SCRATCH SECOND_SCRATCH 8 ∷ [])
 
 -- so many times eight bytes
 abbrev pub copy_eights : ℕ → List Item
@@ -246,12 +247,12 @@ copy_rest n =
     ++ ((if nat_lt (n % 4) 2 then [] else copy_at Lhu Sh (n / 4 * 4)) ++ (if nat_lt (n % 2) 1 then [] else copy_at Lbu Sb (n / 2 * 2)))
 
 abbrev pub blit_items : Layout → (from to : Operand Location) → (count : ℕ) → List Item
-blit_items y from to count = into y 28 from ++ (into y 29 to ++ (copy_eights (count / 8) ++ copy_rest (count % 8)))
+blit_items y from to count = into y FIRST_SCRATCH from ++ (into y SECOND_SCRATCH to ++ (copy_eights (count / 8) ++ copy_rest (count % 8)))
 
 -- the address at an offset from the stack pointer, into the register d
 abbrev pub address_at : (d offset : ℕ) → List Item
 address_at d offset =
-    if nat_lt offset 2048 then add_low d 2 offset ∷ [] else Plain (Lui (reg d) (high offset)) ∷ sum_to d d 2 ∷ add_low d d offset ∷ []
+    if nat_lt offset 2048 then add_low d STACK_POINTER offset ∷ [] else Plain (Lui (reg d) (high offset)) ∷ sum_to d d STACK_POINTER ∷ add_low d d offset ∷ []
 
 -- the address of the next block of memory, where a place takes it
 abbrev pub alloc_items : Layout → (used : ℕ) → Option Location → List Item
@@ -276,7 +277,7 @@ lines_items y used (l ∷ lines) = line_items y used l ++ lines_items y (used + 
 -- ---- the begin and the end of a frame
 
 abbrev pub move_pointer : ℕ → List Item
-move_pointer n = if is_immediate n then add_low 2 2 n ∷ [] else constant 28 n ++ (sum_to 2 2 28 ∷ [])
+move_pointer n = if is_immediate n then add_low STACK_POINTER STACK_POINTER n ∷ [] else constant FIRST_SCRATCH n ++ (sum_to STACK_POINTER STACK_POINTER FIRST_SCRATCH ∷ [])
 
 -- by the size of the frame; for an empty one it stays where it is
 abbrev pub lower_pointer : ℕ → List Item
@@ -287,17 +288,17 @@ raise_pointer size = if nat_eq size 0 then [] else move_pointer size
 
 abbrev pub save_all : (offset : ℕ) → List ℕ → List Item
 save_all offset [] = []
-save_all offset (r ∷ rs) = store_8 r 2 offset ∷ save_all (offset + 8) rs
+save_all offset (r ∷ rs) = store_8 r STACK_POINTER offset ∷ save_all (offset + 8) rs
 
 abbrev pub restore_all : (offset : ℕ) → List ℕ → List Item
 restore_all offset [] = []
-restore_all offset (r ∷ rs) = load_8 r 2 offset ∷ restore_all (offset + 8) rs
+restore_all offset (r ∷ rs) = load_8 r STACK_POINTER offset ∷ restore_all (offset + 8) rs
 
 abbrev pub prologue : Layout → (saved : List ℕ) → List Item
 prologue y rs = lower_pointer y.size ++ save_all y.saves rs
 
 abbrev pub go_back : Item
-go_back = Plain (Jalr (reg 0) (reg 1) (low 0))
+go_back = Plain (Jalr (reg ZERO) (reg RETURN_ADDRESS) (low 0))
 
 abbrev pub epilogue : Layout → (saved : List ℕ) → List Item
 epilogue y rs = restore_all y.saves rs ++ (raise_pointer y.size ++ (go_back ∷ []))
@@ -306,8 +307,8 @@ epilogue y rs = restore_all y.saves rs ++ (raise_pointer y.size ++ (go_back ∷ 
 
 abbrev pub result_items : Layout → Option Class → Operand Location → List Item
 result_items y None a = []
-result_items y (Some L) a = into y 10 a
-result_items y (Some W) a = word_into y 10 a
+result_items y (Some L) a = into y RESULT a
+result_items y (Some W) a = word_into y RESULT a
 
 -- to the label l; nothing where it is the one that stands next, and code may fall through
 abbrev pub goto_items : Layout → (next l : ℕ) → List Item
@@ -355,9 +356,9 @@ compared_source c d a = operand_source (Compare c.condition c.class) d a
 
 abbrev pub branch_items : Layout → (next : ℕ) → Comparison Location → (met otherwise : ℕ) → List Item
 branch_items y next c met otherwise =
-    compared_into y c 28 c.left
-    ++ (compared_into y c 29 c.right
-    ++ ways_items y next c.condition (compared_source c 28 c.left) (compared_source c 29 c.right) met otherwise)
+    compared_into y c FIRST_SCRATCH c.left
+    ++ (compared_into y c SECOND_SCRATCH c.right
+    ++ ways_items y next c.condition (compared_source c FIRST_SCRATCH c.left) (compared_source c SECOND_SCRATCH c.right) met otherwise)
 
 abbrev pub return_items : Layout → (next : ℕ) → Option (Operand Location) → List Item
 return_items y next None = goto_items y next y.leave

@@ -2,6 +2,7 @@
 use Rattle.std.specs.Prelude.{ℕ, ◌+◌, ◌/◌, ◌%◌, ◌^◌, Bool, nat_eq, if◌then◌else◌, List, [], ◌∷◌, ◌++◌}
 use Rattle.std.proofs.Common.{lit<, mod-lt}
 use Rattle.bits.specs.Words.{sign_extended}
+use Rattle.rv_isa.specs.declared.abi.TheConstants.{ZERO}
 use Rattle.rv_isa.specs.declared.ranges.Register.{Register}
 use Rattle.rv_isa.specs.declared.ranges.UpperField.{UpperField}
 use Rattle.rv_isa.specs.declared.ranges.Amount.{Amount}
@@ -65,7 +66,7 @@ abbrev pub is_zero : (d a : ℕ) → Item
 is_zero d a = Plain (Imm Sltiu (reg d) (reg a) (low 1))
 
 abbrev pub is_not_zero : (d a : ℕ) → Item
-is_not_zero d a = Plain (Reg Sltu (reg d) (reg 0) (reg a))
+is_not_zero d a = Plain (Reg Sltu (reg d) (reg ZERO) (reg a))
 
 -- ---- numbers of 64 bits, as 20 bits and four times 11, none of which is read with a sign
 
@@ -102,6 +103,6 @@ word_constant d m = Plain (Lui (reg d) (high m)) ∷ lower_part d m
 -- the number into the register d
 abbrev pub constant : (d n : ℕ) → List Item
 constant d n =
-    if is_immediate n then add_low d 0 n ∷ []
+    if is_immediate n then add_low d ZERO n ∷ []
     else if is_word n then word_constant d (n % 2 ^ 32)
     else long_constant d (n % 2 ^ 64)

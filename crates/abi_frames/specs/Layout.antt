@@ -2,6 +2,7 @@
 -- of memory, up to the stack pointer of the caller.
 use Rattle.std.specs.Prelude.{ℕ, ◌+◌, ◌-◌, ◌*◌, Bool, true, false, ◌||◌, nat_eq, nat_le, if◌then◌else◌, List, [], ◌∷◌, ◌++◌, length, Option, Some, None}
 use Rattle.std.specs.List.{list_any, sum_by}
+use Rattle.rv_isa.specs.declared.abi.TheConstants.{RETURN_ADDRESS, SAVED}
 use Rattle.il_ast.specs.Cost.{round_16}
 use Rattle.vcode.specs.declared.place.Location.{Location}
 use Rattle.vcode.specs.declared.place.Location.TheVariants.{Register, Slot}
@@ -52,7 +53,7 @@ written_of f (r ∷ rs) = if is_written f r then r ∷ written_of f rs else writ
 
 -- the registers that a function keeps for its caller and may write: x8, x9, x18 to x27
 abbrev pub callee_saved : List ℕ
-callee_saved = 8 ∷ 9 ∷ 18 ∷ 19 ∷ 20 ∷ 21 ∷ 22 ∷ 23 ∷ 24 ∷ 25 ∷ 26 ∷ 27 ∷ []
+callee_saved = SAVED
 
 abbrev pub is_call : Line Location → Bool
 is_call (Call to callee args) = true
@@ -66,7 +67,7 @@ makes_call f = list_any block_calls f.blocks
 
 -- the return address, which a call writes
 abbrev pub return_address : Code Location → List ℕ
-return_address f = if makes_call f then 1 ∷ [] else []
+return_address f = if makes_call f then RETURN_ADDRESS ∷ [] else []
 
 -- where the code makes a call the return address, and those of them that it writes
 unfoldable pub saved_registers : Code Location → List ℕ

@@ -1,5 +1,6 @@
 //! The machine code of calls.
 ghost use Rattle.std.specs.Prelude.{◌≡◌, ◌-◌, ◌*◌, ◌^◌, ◌<◌, ◌≤◌, [], ◌∷◌, ◌++◌, ◌&&◌, length, nat_le, OnOk};
+ghost use Rattle.rv_isa.specs.declared.abi.TheConstants.{STACK_POINTER, FIRST_ARGUMENT, LAST_ARGUMENT, FIRST_SCRATCH};
 ghost use Rattle.abi_frames.specs.Fields.{store_8};
 ghost use Rattle.abi_frames.specs.Emission.{fetch, source, pass_into, stack_all, register_all, passed_items, callee_items, callee_source, call_through, receive_items, call_items};
 
@@ -9,6 +10,7 @@ use crate::line::push_set;
 use crate::moves::push_moves_up;
 use crate::operand::{push_fetch, push_operand, push_word, source_of};
 use il_ast::operation::Class;
+use rv_isa::abi;
 use rv_isa::instruction::Instr;
 use rv_isa::labelled::Item;
 use std::alloc::AllocError;
@@ -38,10 +40,10 @@ fn push_stacked(
     argument: &Argument<Location>,
 ) -> Result<(), AllocError>
     requires { layout.now.slots < 2 ^ 16 }
-    ensures { OnOk result (items.new.items ≡ items.old.items ++ (pass_into layout.now 28 argument.now.class argument.now.value ++ (store_8 28 2 offset ∷ []))) }
+    ensures { OnOk result (items.new.items ≡ items.old.items ++ (pass_into layout.now FIRST_SCRATCH argument.now.class argument.now.value ++ (store_8 FIRST_SCRATCH STACK_POINTER offset ∷ []))) }
 {
-    push_argument(items, layout, 28, argument)?;
-    items.push(store(28, 2, offset))?;
+    push_argument(items, layout, abi::FIRST_SCRATCH, argument)?;
+    items.push(store(abi::FIRST_SCRATCH, abi::STACK_POINTER, offset))?;
     Ok(())
 }
 
@@ -55,8 +57,9 @@ fn push_stack_arguments(
     ensures { OnOk result (items.new.items ≡ items.old.items ++ stack_all layout.now 0 arguments.now) }
 {
     for (number, argument) in arguments.iter().enumerate() {
-        if number >= 8 {
-            push_stacked(items, layout, 8 * (number as u64 - 8), argument)?;
+        if number >= usize::from(abi::ARGUMENT_REGISTERS) {
+            let above = number as u64 - u64::from(abi::ARGUMENT_REGISTERS);
+            push_stacked(items, layout, 8 * above, argument)?;
         }
     }
     Ok(())
@@ -71,8 +74,8 @@ fn push_register_arguments(
     ensures { OnOk result (items.new.items ≡ items.old.items ++ register_all layout.now 0 arguments.now) }
 {
     for (number, argument) in arguments.iter().enumerate() {
-        if number < 8 {
-            push_argument(items, layout, 10 + number as u8, argument)?;
+        if number < usize::from(abi::ARGUMENT_REGISTERS) {
+            push_argument(items, layout, abi::FIRST_ARGUMENT + number as u8, argument)?;
         }
     }
     Ok(())
@@ -97,9 +100,9 @@ pub(crate) fn push_passed(
 
 // a register in which an argument is passed
 fn is_for_arguments(number: u8) -> bool
-    ensures { result ≡ (nat_le 10 number && nat_le number 17) }
+    ensures { result ≡ (nat_le FIRST_ARGUMENT number && nat_le number LAST_ARGUMENT) }
 {
-    10 <= number && number <= 17
+    abi::FIRST_ARGUMENT <= number && number <= abi::LAST_ARGUMENT
 }
 
 // has the callee's address where no argument changes it
@@ -114,12 +117,12 @@ fn push_callee(
     match callee {
         Operand::At(Location::Register(number)) => {
             if is_for_arguments(*number) {
-                items.push(add_immediate(28, *number, 0))?;
+                items.push(add_immediate(abi::FIRST_SCRATCH, *number, 0))?;
             }
             Ok(())
         }
         Operand::At(Location::Slot(_)) | Operand::Number(_) | Operand::Name(_) => {
-            push_fetch(items, layout, 28, callee)
+            push_fetch(items, layout, abi::FIRST_SCRATCH, callee)
         }
     }
 }
@@ -128,8 +131,8 @@ fn callee_source(callee: &Operand<Location>) -> u8
     ensures { result ≡ callee_source callee.now }
 {
     match callee {
-        Operand::At(Location::Register(number)) if is_for_arguments(*number) => 28,
-        _ => source_of(28, callee),
+        Operand::At(Location::Register(number)) if is_for_arguments(*number) => abi::FIRST_SCRATCH,
+        _ => source_of(abi::FIRST_SCRATCH, callee),
     }
 }
 
@@ -138,7 +141,7 @@ fn call_through(number: u8) -> Item
     ensures { result ≡ call_through number }
 {
     Item::Plain(Instr::Jalr {
-        rd: register(1),
+        rd: register(abi::RETURN_ADDRESS),
         rs1: register(number),
         offset: low_part(0),
     })
@@ -158,7 +161,7 @@ fn push_receive(
             items,
             layout,
             &wanted.place,
-            &Operand::At(Location::Register(10)),
+            &Operand::At(Location::Register(abi::RESULT)),
         )?,
     }
     Ok(())

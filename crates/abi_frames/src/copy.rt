@@ -5,6 +5,7 @@ ghost use Rattle.abi_frames.specs.Emission.{copy_at, copy_eight, copy_eights, co
 use crate::fields::{add_immediate, load_at, store_at};
 use crate::layout::Layout;
 use crate::operand::push_operand;
+use rv_isa::abi;
 use rv_isa::instruction::{LoadOp, StoreOp};
 use rv_isa::labelled::Item;
 use std::alloc::AllocError;
@@ -19,8 +20,8 @@ fn push_copy(
 ) -> Result<(), AllocError>
     ensures { OnOk result (items.new.items ≡ items.old.items ++ copy_at load store offset) }
 {
-    items.push(load_at(load, 30, 28, offset))?;
-    items.push(store_at(store, 30, 29, offset))?;
+    items.push(load_at(load, abi::THIRD_SCRATCH, abi::FIRST_SCRATCH, offset))?;
+    items.push(store_at(store, abi::THIRD_SCRATCH, abi::SECOND_SCRATCH, offset))?;
     Ok(())
 }
 
@@ -28,8 +29,8 @@ fn push_eight(items: &mut Vec<Item>) -> Result<(), AllocError>
     ensures { OnOk result (items.new.items ≡ items.old.items ++ copy_eight) }
 {
     push_copy(items, LoadOp::Ld, StoreOp::Sd, 0)?;
-    items.push(add_immediate(28, 28, 8))?;
-    items.push(add_immediate(29, 29, 8))?;
+    items.push(add_immediate(abi::FIRST_SCRATCH, abi::FIRST_SCRATCH, 8))?;
+    items.push(add_immediate(abi::SECOND_SCRATCH, abi::SECOND_SCRATCH, 8))?;
     Ok(())
 }
 
@@ -70,8 +71,8 @@ pub(crate) fn push_blit(
     requires { layout.now.slots < 2 ^ 16 }
     ensures { OnOk result (items.new.items ≡ items.old.items ++ blit_items layout.now from.now to.now count) }
 {
-    push_operand(items, layout, 28, from)?;
-    push_operand(items, layout, 29, to)?;
+    push_operand(items, layout, abi::FIRST_SCRATCH, from)?;
+    push_operand(items, layout, abi::SECOND_SCRATCH, to)?;
     push_eights(items, count / 8)?;
     push_rest(items, count % 8)?;
     Ok(())

@@ -1,21 +1,23 @@
 //! The begin and the end of a frame.
 ghost use Rattle.std.specs.Prelude.{◌≡◌, ◌+◌, ◌-◌, ◌*◌, ◌^◌, ◌<◌, ◌≤◌, [], ◌∷◌, ◌++◌, length, OnOk};
+ghost use Rattle.rv_isa.specs.declared.abi.TheConstants.{STACK_POINTER, FIRST_SCRATCH};
 ghost use Rattle.abi_frames.specs.Fields.{constant, sum_to};
 ghost use Rattle.abi_frames.specs.Emission.{move_pointer, lower_pointer, raise_pointer, save_all, restore_all, prologue, epilogue, go_back};
 
 use crate::fields::{add, add_immediate, load, register, store};
 use crate::layout::Layout;
 use crate::operand::{has_12_bits, push_constant};
+use rv_isa::abi;
 use rv_isa::instruction::Instr;
 use rv_isa::labelled::Item;
 use std::alloc::AllocError;
 use vcode::place::low_part;
 
 fn push_far_move(items: &mut Vec<Item>, number: u64) -> Result<(), AllocError>
-    ensures { OnOk result (items.new.items ≡ items.old.items ++ (constant 28 number ++ (sum_to 2 2 28 ∷ []))) }
+    ensures { OnOk result (items.new.items ≡ items.old.items ++ (constant FIRST_SCRATCH number ++ (sum_to STACK_POINTER STACK_POINTER FIRST_SCRATCH ∷ []))) }
 {
-    push_constant(items, 28, number)?;
-    items.push(add(2, 2, 28))?;
+    push_constant(items, abi::FIRST_SCRATCH, number)?;
+    items.push(add(abi::STACK_POINTER, abi::STACK_POINTER, abi::FIRST_SCRATCH))?;
     Ok(())
 }
 
@@ -24,7 +26,7 @@ fn push_move_pointer(items: &mut Vec<Item>, number: u64) -> Result<(), AllocErro
     ensures { OnOk result (items.new.items ≡ items.old.items ++ move_pointer number) }
 {
     if has_12_bits(number) {
-        items.push(add_immediate(2, 2, number))?;
+        items.push(add_immediate(abi::STACK_POINTER, abi::STACK_POINTER, number))?;
     } else {
         push_far_move(items, number)?;
     }
@@ -55,7 +57,7 @@ fn push_saves(items: &mut Vec<Item>, from: u64, registers: &[u8]) -> Result<(), 
 {
     let mut offset = from;
     for number in registers {
-        items.push(store(*number, 2, offset))?;
+        items.push(store(*number, abi::STACK_POINTER, offset))?;
         offset += 8;
     }
     Ok(())
@@ -67,7 +69,7 @@ fn push_restores(items: &mut Vec<Item>, from: u64, registers: &[u8]) -> Result<(
 {
     let mut offset = from;
     for number in registers {
-        items.push(load(*number, 2, offset))?;
+        items.push(load(*number, abi::STACK_POINTER, offset))?;
         offset += 8;
     }
     Ok(())
@@ -100,8 +102,8 @@ fn push_way_back(items: &mut Vec<Item>, size: u64) -> Result<(), AllocError>
 {
     push_raising(items, size)?;
     items.push(Item::Plain(Instr::Jalr {
-        rd: register(0),
-        rs1: register(1),
+        rd: register(abi::ZERO),
+        rs1: register(abi::RETURN_ADDRESS),
         offset: low_part(0),
     }))?;
     Ok(())

@@ -1,5 +1,6 @@
 //! On entry: arguments come to the places of their parameters.
 ghost use Rattle.std.specs.Prelude.{◌≡◌, ◌+◌, ◌-◌, ◌*◌, ◌^◌, ◌<◌, ◌≤◌, [], ◌∷◌, ◌++◌, length, if◌then◌else◌, IsTrue, OnOk, IfOk};
+ghost use Rattle.rv_isa.specs.declared.abi.TheConstants.{ARGUMENT_REGISTERS};
 ghost use Rattle.vcode.specs.declared.place.Location.TheVariants.{Slot};
 ghost use Rattle.abi_frames.specs.Fields.{constant, sum_to};
 ghost use Rattle.abi_frames.specs.Functions.{caller_pointer, from_register, from_stack, argument_items, arguments_items, is_for_arguments, goes_away, is_on_stack, comes_to, source_in, sources, pointer_items, entry_items};
@@ -11,6 +12,7 @@ use crate::layout::Layout;
 use crate::operand::{push_constant, push_into_slot};
 use crate::saved::is_register;
 use il_ast::operation::Class;
+use rv_isa::abi;
 use rv_isa::labelled::Item;
 use std::alloc::{AllocError, Global};
 use vcode::place::{Argument, Destination, Location, Operand};
@@ -19,8 +21,8 @@ use vcode::place::{Argument, Destination, Location, Operand};
 fn push_caller_pointer(items: &mut Vec<Item>, layout: &Layout) -> Result<(), AllocError>
     ensures { OnOk result (items.new.items ≡ items.old.items ++ caller_pointer layout.now) }
 {
-    push_constant(items, 30, layout.size)?;
-    items.push(add(30, 30, 2))?;
+    push_constant(items, abi::THIRD_SCRATCH, layout.size)?;
+    items.push(add(abi::THIRD_SCRATCH, abi::THIRD_SCRATCH, abi::STACK_POINTER))?;
     Ok(())
 }
 
@@ -31,14 +33,19 @@ fn push_from_register(
     place: &Location,
 ) -> Result<(), AllocError>
     requires slots { layout.now.slots < 2 ^ 16 }
-    requires few { argument < 8 }
+    requires few { argument < ARGUMENT_REGISTERS }
     ensures { OnOk result (items.new.items ≡ items.old.items ++ from_register layout.now argument place.now) }
 {
     match place {
         Location::Register(number) => {
-            items.push(add_immediate(*number, 10 + argument, 0))?;
+            items.push(add_immediate(*number, abi::FIRST_ARGUMENT + argument, 0))?;
         }
-        Location::Slot(slot) => push_into_slot(items, layout, 10 + argument, *slot)?,
+        Location::Slot(slot) => push_into_slot(
+            items,
+            layout,
+            abi::FIRST_ARGUMENT + argument,
+            *slot,
+        )?,
     }
     Ok(())
 }
@@ -50,11 +57,15 @@ fn push_stack_to_slot(
     slot: u32,
 ) -> Result<(), AllocError>
     requires slots { layout.now.slots < 2 ^ 16 }
-    requires many { 8 ≤ argument }
+    requires many { ARGUMENT_REGISTERS ≤ argument }
     ensures { OnOk result (items.new.items ≡ items.old.items ++ from_stack layout.now argument (Slot slot)) }
 {
-    items.push(load(28, 30, 8 * u64::from(argument - 8)))?;
-    push_into_slot(items, layout, 28, slot)?;
+    items.push(load(
+        abi::FIRST_SCRATCH,
+        abi::THIRD_SCRATCH,
+        8 * u64::from(argument - abi::ARGUMENT_REGISTERS),
+    ))?;
+    push_into_slot(items, layout, abi::FIRST_SCRATCH, slot)?;
     Ok(())
 }
 
@@ -65,11 +76,15 @@ fn push_from_stack(
     place: &Location,
 ) -> Result<(), AllocError>
     requires slots { layout.now.slots < 2 ^ 16 }
-    requires many { 8 ≤ argument }
+    requires many { ARGUMENT_REGISTERS ≤ argument }
     ensures { OnOk result (items.new.items ≡ items.old.items ++ from_stack layout.now argument place.now) }
 {
     match place {
-        Location::Register(number) => items.push(load(*number, 30, 8 * u64::from(argument - 8)))?,
+        Location::Register(number) => items.push(load(
+            *number,
+            abi::THIRD_SCRATCH,
+            8 * u64::from(argument - abi::ARGUMENT_REGISTERS),
+        ))?,
         Location::Slot(slot) => push_stack_to_slot(items, layout, argument, *slot)?,
     }
     Ok(())
@@ -84,7 +99,7 @@ fn push_argument(
     requires { layout.now.slots < 2 ^ 16 }
     ensures { OnOk result (items.new.items ≡ items.old.items ++ argument_items layout.now argument place.now) }
 {
-    if argument < 8 {
+    if argument < abi::ARGUMENT_REGISTERS {
         push_from_register(items, layout, argument, place)
     } else {
         push_from_stack(items, layout, argument, place)
@@ -96,7 +111,8 @@ fn is_for_arguments(place: &Location) -> bool
     ensures { result ≡ is_for_arguments place.now }
 {
     match place {
-        Location::Register(number) => 10 <= *number && *number <= 17,
+        Location::Register(number) => abi::FIRST_ARGUMENT <= *number
+            && *number <= abi::LAST_ARGUMENT,
         Location::Slot(_) => false,
     }
 }
@@ -105,7 +121,7 @@ fn is_for_arguments(place: &Location) -> bool
 fn goes_away(argument: usize, place: &Location) -> bool
     ensures { result ≡ goes_away argument place.now }
 {
-    argument < 8 && !is_for_arguments(place)
+    argument < usize::from(abi::ARGUMENT_REGISTERS) && !is_for_arguments(place)
 }
 
 // arguments in registers, to places elsewhere
@@ -136,7 +152,7 @@ fn push_if_stacked(
     requires { layout.now.slots < 2 ^ 16 }
     ensures { OnOk result (items.new.items ≡ items.old.items ++ (if is_on_stack argument place.now then argument_items layout.now argument place.now else [])) }
 {
-    if argument >= 8 {
+    if argument >= abi::ARGUMENT_REGISTERS {
         push_from_stack(items, layout, argument, place)?;
     }
     Ok(())
@@ -159,34 +175,35 @@ fn push_stacked(
 
 // passed in a register, to the place of the argument register of that number
 fn comes_to(number: u8, argument: usize, place: &Location) -> bool
-    requires { number < 8 }
+    requires { number < ARGUMENT_REGISTERS }
     ensures value { result ≡ comes_to number argument place.now }
-    ensures few { IsTrue result → argument < 8 }
+    ensures few { IsTrue result → argument < ARGUMENT_REGISTERS }
 {
-    argument < 8 && is_register(place, 10 + number)
+    argument < usize::from(abi::ARGUMENT_REGISTERS)
+        && is_register(place, abi::FIRST_ARGUMENT + number)
 }
 
 // the register from which the one of that number, from x10 on, takes an argument
 fn source_in(number: u8, params: &[Destination<Location>]) -> u8
-    requires { number < 8 }
+    requires { number < ARGUMENT_REGISTERS }
     ensures { result ≡ source_in number 0 params.now }
 {
     for (argument, parameter) in params.iter().enumerate() {
         if comes_to(number, argument, &parameter.place) {
-            return 10 + argument as u8;
+            return abi::FIRST_ARGUMENT + argument as u8;
         }
     }
-    10 + number
+    abi::FIRST_ARGUMENT + number
 }
 
 fn sources(
     alloc: Global,
     params: &[Destination<Location>],
 ) -> Result<Vec<Argument<Location>>, AllocError>
-    ensures { IfOk result (λ v. v.items ≡ sources 8 0 params.now) }
+    ensures { IfOk result (λ v. v.items ≡ sources ARGUMENT_REGISTERS 0 params.now) }
 {
     let mut all = Vec::new(alloc);
-    for number in 0..8 {
+    for number in 0..abi::ARGUMENT_REGISTERS {
         all.push(Argument {
             class: Class::L,
             value: Operand::At(Location::Register(source_in(number, params))),
@@ -202,7 +219,7 @@ fn push_exchanged(
     params: &[Destination<Location>],
 ) -> Result<(), AllocError>
     requires { layout.now.slots < 2 ^ 16 }
-    ensures { OnOk result (items.new.items ≡ items.old.items ++ passed_items layout.now (sources 8 0 params.now)) }
+    ensures { OnOk result (items.new.items ≡ items.old.items ++ passed_items layout.now (sources ARGUMENT_REGISTERS 0 params.now)) }
 {
     let all = sources(*items.allocator(), params)?;
     push_passed(items, layout, all.as_slice())
@@ -211,7 +228,7 @@ fn push_exchanged(
 fn push_pointer(items: &mut Vec<Item>, layout: &Layout, params: usize) -> Result<(), AllocError>
     ensures { OnOk result (items.new.items ≡ items.old.items ++ pointer_items layout.now params) }
 {
-    if 8 < params {
+    if usize::from(abi::ARGUMENT_REGISTERS) < params {
         push_caller_pointer(items, layout)?;
     }
     Ok(())

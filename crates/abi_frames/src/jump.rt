@@ -9,6 +9,7 @@ use crate::layout::Layout;
 use crate::line::{operand_source, push_operand_for};
 use crate::operand::{push_operand, push_word};
 use il_ast::operation::{Class, Condition};
+use rv_isa::abi;
 use rv_isa::instruction::{BranchOp, Instr};
 use rv_isa::labelled::Item;
 use std::alloc::AllocError;
@@ -121,12 +122,12 @@ fn push_branch(
     ensures { OnOk result (items.new.items ≡ items.old.items ++ branch_items layout.now next on.now met otherwise) }
 {
     let operation = Operation::Compare(on.condition, on.class);
-    push_operand_for(items, layout, &operation, 28, &on.left)?;
-    push_operand_for(items, layout, &operation, 29, &on.right)?;
+    push_operand_for(items, layout, &operation, abi::FIRST_SCRATCH, &on.left)?;
+    push_operand_for(items, layout, &operation, abi::SECOND_SCRATCH, &on.right)?;
     let test = Test {
         condition: on.condition,
-        left: operand_source(&operation, 28, &on.left),
-        right: operand_source(&operation, 29, &on.right),
+        left: operand_source(&operation, abi::FIRST_SCRATCH, &on.left),
+        right: operand_source(&operation, abi::SECOND_SCRATCH, &on.right),
     };
     push_ways(items, layout, next, test, met, otherwise)
 }

@@ -17,6 +17,7 @@ use crate::operand::{
 };
 use crate::room::alloc_bytes;
 use il_ast::operation::{Class, Size};
+use rv_isa::abi;
 use rv_isa::instruction::{Instr, LoadOp, StoreOp};
 use rv_isa::labelled::Item;
 use std::alloc::AllocError;
@@ -32,8 +33,8 @@ fn push_set_slot(
     requires { layout.now.slots < 2 ^ 16 }
     ensures { OnOk result (items.new.items ≡ items.old.items ++ set_items layout.now (Slot slot) value.now) }
 {
-    push_fetch(items, layout, 28, value)?;
-    push_into_slot(items, layout, source_of(28, value), slot)
+    push_fetch(items, layout, abi::FIRST_SCRATCH, value)?;
+    push_into_slot(items, layout, source_of(abi::FIRST_SCRATCH, value), slot)
 }
 
 pub(crate) fn push_set(
@@ -120,14 +121,14 @@ fn push_on_registers(
     requires { layout.now.slots < 2 ^ 16 }
     ensures { OnOk result (items.new.items ≡ items.old.items ++ on_registers layout.now to.now operation.now left.now right.now) }
 {
-    push_operand_for(items, layout, operation, 28, left)?;
-    push_operand_for(items, layout, operation, 29, right)?;
+    push_operand_for(items, layout, operation, abi::FIRST_SCRATCH, left)?;
+    push_operand_for(items, layout, operation, abi::SECOND_SCRATCH, right)?;
     push_operation(
         items,
         operation,
         target_of(to),
-        operand_source(operation, 28, left),
-        operand_source(operation, 29, right),
+        operand_source(operation, abi::FIRST_SCRATCH, left),
+        operand_source(operation, abi::SECOND_SCRATCH, right),
     )?;
     push_deliver(items, layout, to)?;
     Ok(())
@@ -145,12 +146,12 @@ fn push_by_form(
     requires { layout.now.slots < 2 ^ 16 }
     ensures { OnOk result (items.new.items ≡ items.old.items ++ by_form layout.now to.now operation.now operand.now form) }
 {
-    push_operand_for(items, layout, operation, 28, operand)?;
+    push_operand_for(items, layout, operation, abi::FIRST_SCRATCH, operand)?;
     push_form(
         items,
         form,
         target_of(to),
-        operand_source(operation, 28, operand),
+        operand_source(operation, abi::FIRST_SCRATCH, operand),
     )?;
     push_deliver(items, layout, to)?;
     Ok(())
@@ -184,8 +185,13 @@ fn push_load_line(
     requires { layout.now.slots < 2 ^ 16 }
     ensures { OnOk result (items.new.items ≡ items.old.items ++ load_items layout.now to.now op at.now) }
 {
-    push_fetch(items, layout, 28, &at.base)?;
-    items.push(load_to(op, target_of(to), source_of(28, &at.base), at.offset))?;
+    push_fetch(items, layout, abi::FIRST_SCRATCH, &at.base)?;
+    items.push(load_to(
+        op,
+        target_of(to),
+        source_of(abi::FIRST_SCRATCH, &at.base),
+        at.offset,
+    ))?;
     push_deliver(items, layout, to)?;
     Ok(())
 }
@@ -211,12 +217,12 @@ fn push_store_line(
     requires { layout.now.slots < 2 ^ 16 }
     ensures { OnOk result (items.new.items ≡ items.old.items ++ store_items layout.now size value.now at.now) }
 {
-    push_fetch(items, layout, 28, value)?;
-    push_fetch(items, layout, 29, &at.base)?;
+    push_fetch(items, layout, abi::FIRST_SCRATCH, value)?;
+    push_fetch(items, layout, abi::SECOND_SCRATCH, &at.base)?;
     items.push(store_from(
         store_op(size),
-        source_of(28, value),
-        source_of(29, &at.base),
+        source_of(abi::FIRST_SCRATCH, value),
+        source_of(abi::SECOND_SCRATCH, &at.base),
         at.offset,
     ))?;
     Ok(())

@@ -1,8 +1,10 @@
 //! Arguments that stand in one another's registers.
 ghost use Rattle.std.specs.Prelude.{◌≡◌, ◌<◌, ◌≤◌, ◌++◌, length, OnOk, IfOk, MatchOption};
+ghost use Rattle.rv_isa.specs.declared.abi.TheConstants.{ARGUMENT_REGISTERS};
 ghost use Rattle.abi_frames.specs.Moves.{exchanged, operand_exchanged, argument_exchanged, exchange, is_in, is_read, earlier, earlier_at, settled, arrived, move_up, moves_up, moved_up, all_move_up, all_moved_up};
 
 use crate::fields::add_immediate;
+use rv_isa::abi;
 use rv_isa::labelled::Item;
 use std::alloc::AllocError;
 use vcode::place::{Argument, Location, Operand};
@@ -67,26 +69,27 @@ fn is_read(number: u8, arguments: &[Argument<Location>]) -> bool
 
 // the register of an earlier argument, in which the one of that number stands
 fn earlier(number: u8, operand: &Operand<Location>) -> Option<u8>
-    requires { number < 8 }
+    requires { number < ARGUMENT_REGISTERS }
     ensures { result ≡ earlier number operand.now }
 {
     match operand {
-        Operand::At(Location::Register(own)) if 10 <= *own && *own < 10 + number => Some(*own),
+        Operand::At(Location::Register(own))
+            if abi::FIRST_ARGUMENT <= *own && *own < abi::FIRST_ARGUMENT + number => Some(*own),
         _ => None,
     }
 }
 
 fn push_move_up(items: &mut Vec<Item>, number: u8, from: u8, read: bool) -> Result<(), AllocError>
-    requires { number < 8 }
+    requires { number < ARGUMENT_REGISTERS }
     ensures { OnOk result (items.new.items ≡ items.old.items ++ move_up number from read) }
 {
-    let to = 10 + number;
+    let to = abi::FIRST_ARGUMENT + number;
     if read {
-        items.push(add_immediate(29, to, 0))?;
+        items.push(add_immediate(abi::SECOND_SCRATCH, to, 0))?;
     }
     items.push(add_immediate(to, from, 0))?;
     if read {
-        items.push(add_immediate(from, 29, 0))?;
+        items.push(add_immediate(from, abi::SECOND_SCRATCH, 0))?;
     }
     Ok(())
 }
@@ -95,9 +98,9 @@ fn push_move_up(items: &mut Vec<Item>, number: u8, from: u8, read: bool) -> Resu
 fn earlier_at(number: usize, arguments: &[Argument<Location>]) -> Option<u8>
     requires { number < length arguments.now }
     ensures value { result ≡ earlier_at number arguments.now }
-    ensures few { MatchOption result (Unit {0}) (λ r. number < 8) }
+    ensures few { MatchOption result (Unit {0}) (λ r. number < ARGUMENT_REGISTERS) }
 {
-    if number < 8 {
+    if number < usize::from(abi::ARGUMENT_REGISTERS) {
         earlier(number as u8, &arguments[number].value)
     } else {
         None
@@ -119,11 +122,11 @@ fn arrived(
     read: bool,
     mut arguments: Vec<Argument<Location>>,
 ) -> Result<Vec<Argument<Location>>, AllocError>
-    requires few { number < 8 }
+    requires few { number < ARGUMENT_REGISTERS }
     requires inside { number < length arguments.items }
     ensures { IfOk result (λ v. v.items ≡ arrived number from read arguments.items) }
 {
-    let to = 10 + number as u8;
+    let to = abi::FIRST_ARGUMENT + number as u8;
     if read {
         return exchange(to, from, &arguments);
     }
@@ -147,7 +150,7 @@ pub(crate) fn push_moves_up(
     let mut now = Vec::from_slice(*items.allocator(), arguments)?;
     for number in (0..arguments.len()).rev() {
         if let Some(from) = earlier_at(number, now.as_slice()) {
-            let read = is_read(10 + number as u8, now.as_slice());
+            let read = is_read(abi::FIRST_ARGUMENT + number as u8, now.as_slice());
             push_move_up(items, number as u8, from, read)?;
             now = arrived(number, from, read, now)?;
         }

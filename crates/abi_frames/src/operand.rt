@@ -10,6 +10,7 @@ use crate::fields::{
     store, upper_field,
 };
 use crate::layout::Layout;
+use rv_isa::abi;
 use rv_isa::labelled::Item;
 use rv_isa::ranges::UpperField;
 use std::alloc::AllocError;
@@ -100,7 +101,7 @@ pub(crate) fn push_constant(items: &mut Vec<Item>, to: u8, number: u64) -> Resul
     ensures { OnOk result (items.new.items ≡ items.old.items ++ constant to number) }
 {
     if has_12_bits(number) {
-        items.push(add_immediate(to, 0, number))?;
+        items.push(add_immediate(to, abi::ZERO, number))?;
     } else {
         push_wide_constant(items, to, number)?;
     }
@@ -121,10 +122,10 @@ pub(crate) fn push_load(items: &mut Vec<Item>, to: u8, offset: u64) -> Result<()
     ensures { OnOk result (items.new.items ≡ items.old.items ++ load_slot to offset) }
 {
     if offset < 0x800 {
-        items.push(load(to, 2, offset))?;
+        items.push(load(to, abi::STACK_POINTER, offset))?;
     } else {
         items.push(load_upper(to, upper_part(offset)))?;
-        items.push(add(to, to, 2))?;
+        items.push(add(to, to, abi::STACK_POINTER))?;
         items.push(load(to, to, offset))?;
     }
     Ok(())
@@ -136,10 +137,10 @@ pub(crate) fn push_address_at(items: &mut Vec<Item>, to: u8, offset: u64) -> Res
     ensures { OnOk result (items.new.items ≡ items.old.items ++ address_at to offset) }
 {
     if offset < 0x800 {
-        items.push(add_immediate(to, 2, offset))?;
+        items.push(add_immediate(to, abi::STACK_POINTER, offset))?;
     } else {
         items.push(load_upper(to, upper_part(offset)))?;
-        items.push(add(to, to, 2))?;
+        items.push(add(to, to, abi::STACK_POINTER))?;
         items.push(add_immediate(to, to, offset))?;
     }
     Ok(())
@@ -151,11 +152,11 @@ pub(crate) fn push_store(items: &mut Vec<Item>, value: u8, offset: u64) -> Resul
     ensures { OnOk result (items.new.items ≡ items.old.items ++ store_slot value offset) }
 {
     if offset < 0x800 {
-        items.push(store(value, 2, offset))?;
+        items.push(store(value, abi::STACK_POINTER, offset))?;
     } else {
-        items.push(load_upper(29, upper_part(offset)))?;
-        items.push(add(29, 29, 2))?;
-        items.push(store(value, 29, offset))?;
+        items.push(load_upper(abi::SECOND_SCRATCH, upper_part(offset)))?;
+        items.push(add(abi::SECOND_SCRATCH, abi::SECOND_SCRATCH, abi::STACK_POINTER))?;
+        items.push(store(value, abi::SECOND_SCRATCH, offset))?;
     }
     Ok(())
 }
@@ -265,7 +266,7 @@ pub(crate) fn source_of(to: u8, operand: &Operand<Location>) -> u8
 {
     match operand {
         Operand::At(Location::Register(number)) => *number,
-        Operand::Number(0) => 0,
+        Operand::Number(0) => abi::ZERO,
         Operand::At(Location::Slot(_)) | Operand::Number(_) | Operand::Name(_) => to,
     }
 }
@@ -307,7 +308,7 @@ pub(crate) fn target_of(place: &Location) -> u8
 {
     match place {
         Location::Register(number) => *number,
-        Location::Slot(_) => 28,
+        Location::Slot(_) => abi::FIRST_SCRATCH,
     }
 }
 
@@ -322,7 +323,7 @@ pub(crate) fn push_deliver(
 {
     match place {
         Location::Register(_) => {}
-        Location::Slot(slot) => push_into_slot(items, layout, 28, *slot)?,
+        Location::Slot(slot) => push_into_slot(items, layout, abi::FIRST_SCRATCH, *slot)?,
     }
     Ok(())
 }

@@ -4,6 +4,7 @@ ghost use Rattle.std.specs.List.{sum_by};
 ghost use Rattle.vcode.specs.Regular.{alloc_bytes, area};
 ghost use Rattle.abi_frames.specs.Layout.{args_on_stack, most_in_lines, most_in_blocks, outgoing};
 
+use rv_isa::abi;
 use vcode::code::{Block, Code};
 use vcode::line::Line;
 use vcode::place::Location;
@@ -59,7 +60,9 @@ fn args_on_stack(line: &Line<Location>) -> u64
     ensures { result ≡ args_on_stack line.now }
 {
     match line {
-        Line::Call { args, .. } => (args.len() as u64).saturating_sub(8),
+        Line::Call { args, .. } => (args.len() as u64).saturating_sub(u64::from(
+            abi::ARGUMENT_REGISTERS,
+        )),
         Line::Tick { .. }
         | Line::Set { .. }
         | Line::Operate { .. }

@@ -3,6 +3,7 @@ ghost use Rattle.std.specs.Prelude.{◌≡◌, ◌++◌, ◌<◌, ◌≤◌, len
 ghost use Rattle.std.specs.List.{list_any};
 ghost use Rattle.abi_frames.specs.Layout.{is_register, receives, makes_in, writes, block_writes, is_written, written_of, is_call, block_calls, return_address, saved_registers};
 
+use rv_isa::abi;
 use std::alloc::{AllocError, Global};
 use vcode::code::{Block, Code};
 use vcode::line::Line;
@@ -155,7 +156,7 @@ fn push_return_address(saved: &mut Vec<u8>, code: &Code<Location>) -> Result<(),
     ensures { OnOk result (saved.new.items ≡ saved.old.items ++ return_address code.now) }
 {
     if blocks_call(code.blocks.as_slice()) {
-        saved.push(1)?;
+        saved.push(abi::RETURN_ADDRESS)?;
     }
     Ok(())
 }
@@ -166,10 +167,6 @@ pub(crate) fn saved_registers(alloc: Global, code: &Code<Location>) -> Result<Ve
 {
     let mut saved = Vec::new(alloc);
     push_return_address(&mut saved, code)?;
-    push_written(
-        &mut saved,
-        code,
-        [8, 9, 18, 19, 20, 21, 22, 23, 24, 25, 26, 27].as_slice(),
-    )?;
+    push_written(&mut saved, code, abi::SAVED.as_slice())?;
     Ok(saved)
 }

@@ -40,7 +40,7 @@ instr_at g at ws k i stand here =
     let aligned = stand.aligned in
     let inside = stand.inside in
     record {
-      fetched = stand.executable k (word i) here;
+      fetched = stand.fetched k (word i) here;
       decoded = ap instruction_of (stand.here k (word i) here) ∙ instruction_of-word i;
       aligned = omega arith;
       inside = omega arith;

@@ -5,27 +5,14 @@ use Rattle.bits.specs.Words.{upper_field, lower_field}
 use Rattle.rv_isa.specs.Formats.{part, joined, u_type, i_type, j_type, b_type}
 use Rattle.rv_isa.specs.Encoding.{word, branch_row, load_row, store_row, imm_row, shift_row, shiftw_row, reg_row, regw_row}
 use Rattle.rv_isa.specs.Labels.{longest}
+use Rattle.rv_isa.specs.declared.abi.TheConstants.{JUMP_SCRATCH, ZERO}
 use Rattle.rv_isa.specs.declared.ranges.Register.{Register}
 use Rattle.rv_isa.specs.declared.instruction.Instr.{Instr}
 use Rattle.rv_isa.specs.declared.instruction.Instr.TheVariants.{Lui, Auipc, Jal, Jalr, Branch as BranchBy, Load, Store, Imm, Addiw, Shift, ShiftW, Reg, RegW, Fence, Ecall, Ebreak}
 use Rattle.rv_isa.specs.declared.labelled.Item.{Item}
 use Rattle.rv_isa.specs.declared.labelled.Item.TheVariants.{Plain, Label, Branch, Goto, Address}
 use Rattle.rv_isa.specs.declared.instruction.BranchOp.{BranchOp}
-use Rattle.rv_isa.specs.declared.instruction.BranchOp.TheVariants.{Beq, Bne, Blt, Bge, Bltu, Bgeu}
-use Rattle.rv_isa.specs.declared.instruction.LoadOp.{LoadOp}
-use Rattle.rv_isa.specs.declared.instruction.LoadOp.TheVariants.{Lb, Lh, Lw, Ld, Lbu, Lhu, Lwu}
-use Rattle.rv_isa.specs.declared.instruction.StoreOp.{StoreOp}
-use Rattle.rv_isa.specs.declared.instruction.StoreOp.TheVariants.{Sb, Sh, Sw, Sd}
-use Rattle.rv_isa.specs.declared.instruction.ImmOp.{ImmOp}
-use Rattle.rv_isa.specs.declared.instruction.ImmOp.TheVariants.{Addi, Slti, Sltiu, Xori, Ori, Andi}
-use Rattle.rv_isa.specs.declared.instruction.ShiftOp.{ShiftOp}
-use Rattle.rv_isa.specs.declared.instruction.ShiftOp.TheVariants.{Slli, Srli, Srai}
-use Rattle.rv_isa.specs.declared.instruction.ShiftWOp.{ShiftWOp}
-use Rattle.rv_isa.specs.declared.instruction.ShiftWOp.TheVariants.{Slliw, Srliw, Sraiw}
-use Rattle.rv_isa.specs.declared.instruction.RegOp.{RegOp}
-use Rattle.rv_isa.specs.declared.instruction.RegOp.TheVariants.{Add, Sub, Sll, Slt, Sltu, Xor, Srl, Sra, Or, And, Mul, Mulh, Mulhsu, Mulhu, Div, Divu, Rem, Remu}
-use Rattle.rv_isa.specs.declared.instruction.RegWOp.{RegWOp}
-use Rattle.rv_isa.specs.declared.instruction.RegWOp.TheVariants.{Addw, Subw, Sllw, Srlw, Sraw, Mulw, Divw, Divuw, Remw, Remuw}
+use Rattle.rv_isa.proofs.RowRanges.{branch_row_fits, load_row_fits, store_row_fits, imm_row_fits, shift_row_fits, shiftw_row_fits, reg_row_fits, regw_row_fits}
 use Rattle.asm_layout.specs.declared.reach.Reach.{Reach}
 use Rattle.asm_layout.specs.declared.reach.Reach.TheVariants.{Short, Middle, Far}
 use Rattle.asm_layout.specs.Forms.{reach_of, distance, distance_word, inverse, jump_words, branch_words, address_words, item_words, words_with}
@@ -46,79 +33,6 @@ u_small opcode rd field a b =
     let r : part field 12 8 < 32 = part_small field 12 8 32 (lit< tt) refl in
     let s : part field 19 13 < 128 = part_small field 19 13 128 (lit< tt) refl in
     fields_small opcode rd (part field 2 0) (part field 7 3) (part field 12 8) (part field 19 13) a b p q r s
-
-branchop_small : (op : BranchOp) → branch_row op < 8
-branchop_small Beq = lit< tt
-branchop_small Bne = lit< tt
-branchop_small Blt = lit< tt
-branchop_small Bge = lit< tt
-branchop_small Bltu = lit< tt
-branchop_small Bgeu = lit< tt
-
-loadop_small : (op : LoadOp) → load_row op < 8
-loadop_small Lb = lit< tt
-loadop_small Lh = lit< tt
-loadop_small Lw = lit< tt
-loadop_small Ld = lit< tt
-loadop_small Lbu = lit< tt
-loadop_small Lhu = lit< tt
-loadop_small Lwu = lit< tt
-
-storeop_small : (op : StoreOp) → store_row op < 8
-storeop_small Sb = lit< tt
-storeop_small Sh = lit< tt
-storeop_small Sw = lit< tt
-storeop_small Sd = lit< tt
-
-immop_small : (op : ImmOp) → imm_row op < 8
-immop_small Addi = lit< tt
-immop_small Slti = lit< tt
-immop_small Sltiu = lit< tt
-immop_small Xori = lit< tt
-immop_small Ori = lit< tt
-immop_small Andi = lit< tt
-
-shiftop_small : (op : ShiftOp) → ((shift_row op).0 < 8) × ((shift_row op).1 < 64)
-shiftop_small Slli = (lit< tt, lit< tt)
-shiftop_small Srli = (lit< tt, lit< tt)
-shiftop_small Srai = (lit< tt, lit< tt)
-
-shiftwop_small : (op : ShiftWOp) → ((shiftw_row op).0 < 8) × ((shiftw_row op).1 < 128)
-shiftwop_small Slliw = (lit< tt, lit< tt)
-shiftwop_small Srliw = (lit< tt, lit< tt)
-shiftwop_small Sraiw = (lit< tt, lit< tt)
-
-regop_small : (op : RegOp) → ((reg_row op).0 < 8) × ((reg_row op).1 < 128)
-regop_small Add = (lit< tt, lit< tt)
-regop_small Sub = (lit< tt, lit< tt)
-regop_small Sll = (lit< tt, lit< tt)
-regop_small Slt = (lit< tt, lit< tt)
-regop_small Sltu = (lit< tt, lit< tt)
-regop_small Xor = (lit< tt, lit< tt)
-regop_small Srl = (lit< tt, lit< tt)
-regop_small Sra = (lit< tt, lit< tt)
-regop_small Or = (lit< tt, lit< tt)
-regop_small And = (lit< tt, lit< tt)
-regop_small Mul = (lit< tt, lit< tt)
-regop_small Mulh = (lit< tt, lit< tt)
-regop_small Mulhsu = (lit< tt, lit< tt)
-regop_small Mulhu = (lit< tt, lit< tt)
-regop_small Div = (lit< tt, lit< tt)
-regop_small Divu = (lit< tt, lit< tt)
-regop_small Rem = (lit< tt, lit< tt)
-regop_small Remu = (lit< tt, lit< tt)
-
-regwop_small : (op : RegWOp) → ((regw_row op).0 < 8) × ((regw_row op).1 < 128)
-regwop_small Addw = (lit< tt, lit< tt)
-regwop_small Subw = (lit< tt, lit< tt)
-regwop_small Sllw = (lit< tt, lit< tt)
-regwop_small Srlw = (lit< tt, lit< tt)
-regwop_small Sraw = (lit< tt, lit< tt)
-regwop_small Mulw = (lit< tt, lit< tt)
-regwop_small Divw = (lit< tt, lit< tt)
-regwop_small Divuw = (lit< tt, lit< tt)
-regwop_small Remw = (lit< tt, lit< tt)
-regwop_small Remuw = (lit< tt, lit< tt)
 
 -- ---- formats
 
@@ -167,25 +81,25 @@ word_small (Lui rd field) = u_small 0x37 rd.number field.value (lit< tt) rd.in_r
 word_small (Auipc rd field) = u_small 0x17 rd.number field.value (lit< tt) rd.in_range
 word_small (Jal rd offset) = j_small rd.number offset.value rd.in_range
 word_small (Jalr rd rs1 offset) = i_small 0x67 0 rd.number rs1.number offset.value (lit< tt) (lit< tt) rd.in_range rs1.in_range
-word_small (BranchBy op rs1 rs2 offset) = b_small (branch_row op) rs1.number rs2.number offset.value (branchop_small op) rs1.in_range rs2.in_range
-word_small (Load op rd rs1 offset) = i_small 0x03 (load_row op) rd.number rs1.number offset.value (lit< tt) (loadop_small op) rd.in_range rs1.in_range
-word_small (Store op rs1 rs2 offset) = s_with 0x23 (store_row op) rs1.number rs2.number _ (lit< tt) (storeop_small op) rs1.in_range rs2.in_range
-word_small (Imm op rd rs1 immediate) = i_small 0x13 (imm_row op) rd.number rs1.number immediate.value (lit< tt) (immop_small op) rd.in_range rs1.in_range
+word_small (BranchBy op rs1 rs2 offset) = b_small (branch_row op) rs1.number rs2.number offset.value (branch_row_fits op) rs1.in_range rs2.in_range
+word_small (Load op rd rs1 offset) = i_small 0x03 (load_row op) rd.number rs1.number offset.value (lit< tt) (load_row_fits op) rd.in_range rs1.in_range
+word_small (Store op rs1 rs2 offset) = s_with 0x23 (store_row op) rs1.number rs2.number _ (lit< tt) (store_row_fits op) rs1.in_range rs2.in_range
+word_small (Imm op rd rs1 immediate) = i_small 0x13 (imm_row op) rd.number rs1.number immediate.value (lit< tt) (imm_row_fits op) rd.in_range rs1.in_range
 word_small (Addiw rd rs1 immediate) = i_small 0x1b 0 rd.number rs1.number immediate.value (lit< tt) (lit< tt) rd.in_range rs1.in_range
 word_small (Shift op rd rs1 amount) =
-    let rows = shiftop_small op in
+    let rows = shift_row_fits op in
     let high = rows.1 in
     let p : part amount.value 5 5 < 2 = part_small amount.value 5 5 2 (lit< tt) refl in
     fields_small 0x13 rd.number (shift_row op).0 rs1.number (part amount.value 4 0) ((shift_row op).1 * 2 + part amount.value 5 5)
     (lit< tt) rd.in_range rows.0 rs1.in_range (part_small amount.value 4 0 32 (lit< tt) refl) (omega (arith, high, p))
 word_small (ShiftW op rd rs1 amount) =
-    let rows = shiftwop_small op in
+    let rows = shiftw_row_fits op in
     fields_small 0x1b rd.number (shiftw_row op).0 rs1.number amount.value (shiftw_row op).1 (lit< tt) rd.in_range rows.0 rs1.in_range amount.in_range rows.1
 word_small (Reg op rd rs1 rs2) =
-    let rows = regop_small op in
+    let rows = reg_row_fits op in
     fields_small 0x33 rd.number (reg_row op).0 rs1.number rs2.number (reg_row op).1 (lit< tt) rd.in_range rows.0 rs1.in_range rs2.in_range rows.1
 word_small (RegW op rd rs1 rs2) =
-    let rows = regwop_small op in
+    let rows = regw_row_fits op in
     fields_small 0x3b rd.number (regw_row op).0 rs1.number rs2.number (regw_row op).1 (lit< tt) rd.in_range rows.0 rs1.in_range rs2.in_range rows.1
 word_small Fence = lit< tt
 word_small Ecall = lit< tt
@@ -211,18 +125,18 @@ jump_words_small : (r : Reach) (here there : ℕ) → AreSmall (jump_words r her
 jump_words_small Short here there = (j_small 0 (distance here there) (lit< tt), tt)
 jump_words_small Middle here there = (j_small 0 (distance here there) (lit< tt), tt)
 jump_words_small Far here there = (
-  u_small 0x17 31 (upper_field (distance_word here there)) (lit< tt) (lit< tt),
-  (i_small 0x67 0 0 31 (lower_field (distance_word here there)) (lit< tt) (lit< tt) (lit< tt) (lit< tt), tt),
+  u_small 0x17 JUMP_SCRATCH (upper_field (distance_word here there)) (lit< tt) (lit< tt),
+  (i_small 0x67 0 ZERO JUMP_SCRATCH (lower_field (distance_word here there)) (lit< tt) (lit< tt) (lit< tt) (lit< tt), tt),
 )
 
 branch_words_small : (r : Reach) (op : BranchOp) (rs1 rs2 : Register) (here there : ℕ) → AreSmall (branch_words r op rs1 rs2 here there)
-branch_words_small Short op rs1 rs2 here there = (b_small (branch_row op) rs1.number rs2.number (distance here there) (branchop_small op) rs1.in_range rs2.in_range, tt)
+branch_words_small Short op rs1 rs2 here there = (b_small (branch_row op) rs1.number rs2.number (distance here there) (branch_row_fits op) rs1.in_range rs2.in_range, tt)
 branch_words_small Middle op rs1 rs2 here there = (
-  b_small (branch_row (inverse op)) rs1.number rs2.number (distance here (here + 2)) (branchop_small (inverse op)) rs1.in_range rs2.in_range,
+  b_small (branch_row (inverse op)) rs1.number rs2.number (distance here (here + 2)) (branch_row_fits (inverse op)) rs1.in_range rs2.in_range,
   jump_words_small Middle (here + 1) there,
 )
 branch_words_small Far op rs1 rs2 here there = (
-  b_small (branch_row (inverse op)) rs1.number rs2.number (distance here (here + 3)) (branchop_small (inverse op)) rs1.in_range rs2.in_range,
+  b_small (branch_row (inverse op)) rs1.number rs2.number (distance here (here + 3)) (branch_row_fits (inverse op)) rs1.in_range rs2.in_range,
   jump_words_small Far (here + 1) there,
 )
 

@@ -3,6 +3,7 @@
 -- A form is chosen by the places that items would have if all of them took their longest form. Real distances are never longer, so it fits.
 use Rattle.std.specs.Prelude.{ℕ, ◌+◌, ◌-◌, ◌*◌, ◌%◌, ◌^◌, ◌<◌, ◌≤◌, ◌&&◌, nat_le, if◌then◌else◌, ℤ, pos, ◌-ℤ◌, List, [], ◌∷◌, ◌++◌, length, slice_index, slice_set, replicate}
 use Rattle.bits.specs.Words.{upper_field, lower_field}
+use Rattle.rv_isa.specs.declared.abi.TheConstants.{ZERO, JUMP_SCRATCH}
 use Rattle.rv_isa.specs.Formats.{u_type, i_type, b_type, j_type}
 use Rattle.rv_isa.specs.Encoding.{branch_row, word}
 use Rattle.rv_isa.specs.Labels.{LabelledItems, longest}
@@ -86,10 +87,10 @@ abbrev pub distance_word : (here there : ℕ) → ℕ
 distance_word here there = (4 * there + (2 ^ 32 - 4 * here)) % 2 ^ 32
 
 abbrev pub jump_words : Reach → (here there : ℕ) → List ℕ
-jump_words Short here there = j_type 0x6f 0 (distance here there) ∷ []
-jump_words Middle here there = j_type 0x6f 0 (distance here there) ∷ []
+jump_words Short here there = j_type 0x6f ZERO (distance here there) ∷ []
+jump_words Middle here there = j_type 0x6f ZERO (distance here there) ∷ []
 jump_words Far here there =
-    u_type 0x17 31 (upper_field (distance_word here there)) ∷ i_type 0x67 0 0 31 (lower_field (distance_word here there)) ∷ []
+    u_type 0x17 JUMP_SCRATCH (upper_field (distance_word here there)) ∷ i_type 0x67 0 ZERO JUMP_SCRATCH (lower_field (distance_word here there)) ∷ []
 
 -- a jump of these forms fits; one may stand a word after the branch that it is for
 abbrev pub JumpFits : Reach → (here there : ℕ) → Type 0

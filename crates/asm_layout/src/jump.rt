@@ -1,6 +1,7 @@
 //! The words of jumps and branches.
 
 ghost use Rattle.std.specs.Prelude.{◌≡◌, ◌+◌, ◌*◌, ◌-◌, ◌%◌, ◌^◌, ◌<◌, ◌≤◌, ◌++◌, OnOk, pos};
+ghost use Rattle.rv_isa.specs.declared.abi.TheConstants.{JUMP_SCRATCH, ZERO};
 ghost use Rattle.rv_isa.specs.Encoding.{word, branch_row};
 ghost use Rattle.rv_isa.specs.Formats.{j_type, b_type, u_type, i_type};
 ghost use Rattle.bits.specs.Words.{upper_field, lower_field};
@@ -8,15 +9,18 @@ ghost use Rattle.asm_layout.specs.Forms.{inverse, distance, distance_word, jump_
 
 use crate::reach::Reach;
 use bits::split;
+use rv_isa::abi;
 use rv_isa::encode::encode;
 use rv_isa::instruction::{BranchOp, Instr};
 use rv_isa::ranges::{BranchOffset, Immediate, JumpOffset, Register, UpperField};
 use std::alloc::AllocError;
 
-const X0: Register = Register { number: 0 };
+const ZERO: Register = Register { number: abi::ZERO };
 
 /// The register that long jumps use.
-const X31: Register = Register { number: 31 };
+const SCRATCH: Register = Register {
+    number: abi::JUMP_SCRATCH,
+};
 
 fn inverse(op: BranchOp) -> BranchOp
     ensures { result ≡ inverse op }
@@ -55,10 +59,10 @@ fn near_jump(here: usize, there: usize) -> u32
     requires back { here ≤ there + 262144 }
     requires here { here ≤ 2 ^ 28 }
     requires there { there < 2 ^ 28 }
-    ensures { result ≡ j_type 0x6f 0 (distance here there) }
+    ensures { result ≡ j_type 0x6f ZERO (distance here there) }
 {
     encode(Instr::Jal {
-        rd: X0,
+        rd: ZERO,
         offset: JumpOffset {
             value: distance(here, there),
         },
@@ -85,10 +89,10 @@ fn near_branch(op: BranchOp, rs1: Register, rs2: Register, here: usize, there: u
 // The first word of a long jump: it leaves the upper half of the way in x31.
 #[tactic(auto, using(crate::proofs::Running::upper_fits))]
 fn far_first(distance: u32) -> u32
-    ensures { result ≡ u_type 0x17 31 (upper_field distance) }
+    ensures { result ≡ u_type 0x17 JUMP_SCRATCH (upper_field distance) }
 {
     encode(Instr::Auipc {
-        rd: X31,
+        rd: SCRATCH,
         field: UpperField {
             value: split(distance).upper,
         },
@@ -97,11 +101,11 @@ fn far_first(distance: u32) -> u32
 
 #[tactic(auto, using(crate::proofs::Running::lower_fits))]
 fn far_second(distance: u32) -> u32
-    ensures { result ≡ i_type 0x67 0 0 31 (lower_field distance) }
+    ensures { result ≡ i_type 0x67 0 ZERO JUMP_SCRATCH (lower_field distance) }
 {
     encode(Instr::Jalr {
-        rd: X0,
-        rs1: X31,
+        rd: ZERO,
+        rs1: SCRATCH,
         offset: Immediate {
             value: split(distance).lower as i16,
         },

@@ -24,7 +24,8 @@ use Rattle.rv_isa.specs.Step.{Exited, step}
 use Rattle.rv_isa.specs.Runs.{Stopped, runs, then_run}
 use Rattle.rv_isa.proofs.StepLemmas.{step_at}
 use Rattle.rv_isa.proofs.DecodingLaws.{instruction_of-word}
-use Rattle.rv_isa.specs.Start.{stack_top, stack_bottom, read_and_write}
+use Rattle.rv_isa.specs.Start.{stack_top, stack_bottom}
+use Rattle.rv_machine.specs.Mapped.{read_and_write}
 use Rattle.rv_isa.specs.Labelled.{Fixed, InstrAt}
 use Rattle.rv_isa.proofs.RunLemmas.{comes_here}
 use Rattle.flat_code.specs.Spots.{Away, Known, IsPlaced, ShowsCell, ShowsMemory}
@@ -48,7 +49,6 @@ usable x low high =
     record {
       readable = ap (λ p. p.readable) is;
       writable = ap (λ p. p.writable) is;
-      no_code = ap (λ p. p.executable) is;
       small = omega arith;
     }
 

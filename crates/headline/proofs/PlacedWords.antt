@@ -6,7 +6,7 @@ use Rattle.std.proofs.lemmas.Bool.Decides.{nat_tests}
 use Rattle.std.proofs.lemmas.List.{length-append}
 use Rattle.std.proofs.lemmas.Option.{slice_get_within, get_or_from_slice_get}
 use Rattle.rv_isa.specs.State.{State}
-use Rattle.rv_isa.specs.Memory.{number_at, each_of, allowed}
+use Rattle.rv_isa.specs.Memory.{number_at, each_of, allowed, is_code}
 use Rattle.rv_isa.specs.Labelled.{Ground}
 use Rattle.rv_isa.specs.Laid.{WordsStand}
 use Rattle.rv_isa.proofs.MemoryLemmas.{each_from}
@@ -49,14 +49,14 @@ word_number image x words s stands starts k w h =
     number_is s.bytes (code_start + 4 * k) w h.small
     (λ j lt. starts.bytes (code_start + 4 * k + j) (byte_at j (slice_index image.code k)) (stands.code k j h.within lt) ∙ ap (byte_at j) h.is)
 
-word_executable : (image : Contents) (x : Executable) (words : List (List ℕ)) (s : State) → IsImage image → Stands image x → Starts x words s → (k : ℕ) → k < length image.code → allowed (λ a. (s.allows a).executable) (code_start + 4 * k) 4 ≡ true
-word_executable image x words s good stands starts k within =
+word_code : (image : Contents) (x : Executable) (words : List (List ℕ)) (s : State) → IsImage image → Stands image x → Starts x words s → (k : ℕ) → k < length image.code → allowed (λ a. is_code (s.allows a)) (code_start + 4 * k) 4 ≡ true
+word_code image x words s good stands starts k within =
     let below = good.below_stack in
     let small : nat_le (code_start + 4 * k + 4) (2 ^ 64) ≡ true = grind (arith, nat_tests) in
-    let each : each_of (λ a. (s.allows a).executable) (code_start + 4 * k) 4 ≡ true =
-    each_from (λ a. (s.allows a).executable) (code_start + 4 * k) 4
-    (λ a low high. ap (λ p. p.executable) (starts.permissions a Execute (stands.code_flags a (omega (arith, low)) (omega (arith, high, within))))) in
-    both (nat_le (code_start + 4 * k + 4) (2 ^ 64)) (each_of (λ a. (s.allows a).executable) (code_start + 4 * k) 4) small each
+    let each : each_of (λ a. is_code (s.allows a)) (code_start + 4 * k) 4 ≡ true =
+    each_from (λ a. is_code (s.allows a)) (code_start + 4 * k) 4
+    (λ a low high. ap is_code (starts.permissions a Execute (stands.code_flags a (omega (arith, low)) (omega (arith, high, within))))) in
+    both (nat_le (code_start + 4 * k + 4) (2 ^ 64)) (each_of (λ a. is_code (s.allows a)) (code_start + 4 * k) 4) small each
   where
     both : (a b : Bool) → a ≡ true → b ≡ true → (a && b) ≡ true
     both a b h j = ap (λ x. x && b) h ∙ j
@@ -73,10 +73,10 @@ words_stand image x words s good stands starts pre mid post is =
       here =
           λ k w found.
           ap (λ a. number_at s.bytes a 4) (place k) ∙ word_number image x words s stands starts (length pre + k) w (has_word image good (length pre + k) w (found_in k w found));
-      executable =
+      fetched =
           λ k w found.
-          ap (λ a. allowed (λ b. (s.allows b).executable) a 4) (place k)
-          ∙ word_executable image x words s good stands starts (length pre + k) (has_word image good (length pre + k) w (found_in k w found)).within;
+          ap (λ a. allowed (λ b. is_code (s.allows b)) a 4) (place k)
+          ∙ word_code image x words s good stands starts (length pre + k) (has_word image good (length pre + k) w (found_in k w found)).within;
     }
   where
     place : (k : ℕ) → code_start + 4 * length pre + 4 * k ≡ code_start + 4 * (length pre + k)

@@ -6,7 +6,7 @@ use Rattle.il_ast.specs.declared.program.Program.{Program}
 use Rattle.il_ast.specs.declared.value.Callee.{Callee}
 use Rattle.il_ast.specs.Meaning.{main_args, params_of}
 use Rattle.rv_isa.specs.State.{State}
-use Rattle.rv_isa.specs.Start.{stack_top, stack_bottom, read_and_write}
+use Rattle.rv_isa.specs.Start.{stack_top, stack_bottom}
 use Rattle.elf_file.specs.Loaded.{Executable}
 use Rattle.rv_machine.specs.Start.{Starts}
 use Rattle.flat_code.specs.Spots.{AreEntries, AllShow}
@@ -19,11 +19,9 @@ use Rattle.headline.proofs.Executed.{program_is_executed}
 
 usable : (at : Places) (x : Executable) (words : List (List ℕ)) (s : State) → Starts x words s → (a : ℕ) → stack_bottom ≤ a → a < stack_top → IsUsable (setting_of at words s).world.memory_map a
 usable at x words s starts a low high =
-    let is : s.allows a ≡ read_and_write = starts.begins.usable a low (omega arith) in
     record {
-      readable = ap (λ p. p.readable) is;
-      writable = ap (λ p. p.writable) is;
-      no_code = ap (λ p. p.executable) is;
+      readable = starts.begins.readable a low (omega arith);
+      writable = starts.begins.writable a low (omega arith);
       small = omega arith;
     }
 

@@ -125,7 +125,7 @@ word_count x words s starts few =
 count_readable : (x : Executable) (words : List (List ℕ)) (s : State) → Starts x words s → can_read s stack_top 8 ≡ true
 count_readable x words s starts =
     each_from (λ a. (s.allows a).readable) stack_top 8
-    (λ a low high. let long = arguments_length words in ap (λ (q : Permission). q.readable) (starts.begins.usable a (omega (arith, low)) (omega (arith, high, long))))
+    (λ a low high. let long = arguments_length words in starts.begins.readable a (omega (arith, low)) (omega (arith, high, long)))
 
 -- ---- up to `main`
 
@@ -253,18 +253,15 @@ usable_at p at x words s starts there few short a (inl r) =
     record {
       readable = ap (λ (q : Permission). q.readable) is;
       writable = ap (λ (q : Permission). q.writable) is;
-      no_code = ap (λ (q : Permission). q.executable) is;
       small = omega (arith, below, high);
     }
 usable_at p at x words s starts there few short a (inr r) =
     let long = arguments_length words in
     let low = r.0 in
     let high = r.1 in
-    let is = starts.begins.usable a (omega (arith, low)) r.1 in
     record {
-      readable = ap (λ (q : Permission). q.readable) is;
-      writable = ap (λ (q : Permission). q.writable) is;
-      no_code = ap (λ (q : Permission). q.executable) is;
+      readable = starts.begins.readable a (omega (arith, low)) r.1;
+      writable = starts.begins.writable a (omega (arith, low)) r.1;
       small = omega (arith, high, long, few, short);
     }
 

@@ -8,7 +8,8 @@ use Rattle.il_ast.specs.Logged.{Event, Does, Over}
 use Rattle.il_ast.specs.Keeps.{Asked, Given}
 use Rattle.rv_isa.specs.declared.permission.Permission.{Permission}
 use Rattle.rv_isa.specs.State.{State}
-use Rattle.rv_isa.specs.Start.{stack_top, stack_bottom, read_and_write}
+use Rattle.rv_isa.specs.Start.{stack_top, stack_bottom}
+use Rattle.rv_machine.specs.Mapped.{read_and_write}
 use Rattle.flat_code.specs.Spots.{Spot, Away, Known}
 use Rattle.flat_code.specs.Flat.{FlatGiven, FlatAsked, FlatOutcome, FlatEnded}
 use Rattle.headline.specs.Knot.{Setting}

@@ -1,5 +1,6 @@
 -- The theorem of the whole, from every start of an executable: what its file, its functions, `write` and `exit`, and its start code owe.
 use Rattle.std.specs.Prelude.{◌≡◌, ℕ, ◌+◌, ◌%◌, ◌≤◌, List, [], ◌∷◌, length, slice_get, Some}
+use Rattle.rv_isa.specs.declared.abi.TheConstants.{RETURN_ADDRESS, RESULT}
 use Rattle.il_ast.specs.declared.operation.Class.TheVariants.{W}
 use Rattle.il_ast.specs.declared.function.Param.{Param}
 use Rattle.il_ast.specs.declared.program.Program.{Program}
@@ -39,7 +40,7 @@ pub record StartRuns (at : Places) (p : Program) (words : List (List ℕ)) (s : 
   pub ready : (turns : ℕ) → Ready (setting_of at words s).world main sp (main_call p words).classes
       (record { turns = turns; room = stack_room; args = main_numbers words (params_of (slice_get p.functions p.main)); memory = start_spots at words s }) called
   pub leaving : ℕ
-  pub leaves : (u : State) (n : ℕ) → Fixed (setting_of at words s).world.memory_map u → u.pc ≡ called.registers 1 → u.registers 10 ≡ passed W n → ExitsWith leaving n u
+  pub leaves : (u : State) (n : ℕ) → Fixed (setting_of at words s).world.memory_map u → u.pc ≡ called.registers RETURN_ADDRESS → u.registers RESULT ≡ passed W n → ExitsWith leaving n u
   pub price : steps + leaving ≤ 256
 
 abbrev pub ExecutableRuns : Type 0

@@ -1,6 +1,7 @@
 -- What the machine code of `write` and `exit` owes: what the two do on flat bytes.
 use Rattle.std.specs.Prelude.{◌≡◌, ℕ, zero, suc, ◌+◌, ◌-◌, ◌%◌, ◌^◌, nat_eq, if◌then◌else◌, List, [], ◌∷◌, Option, Some, None}
 use Rattle.std.specs.Option.{option_map, option_and_then}
+use Rattle.rv_isa.specs.declared.abi.TheConstants.{STANDARD_OUTPUT, BAD_DESCRIPTOR}
 use Rattle.il_ast.specs.declared.operation.Class.TheVariants.{W, L}
 use Rattle.il_ast.specs.declared.value.Callee.TheVariants.{SystemWrite, SystemExit}
 use Rattle.il_ast.specs.declared.value.End.TheVariants.{Exit, Undefined}
@@ -31,9 +32,9 @@ flat_put_out n f (Some bytes) = flat_answered bytes n f
 -- `write (w descriptor, l from, l count)`
 abbrev pub flat_write : Spots → List ℕ → FlatOutcome
 flat_write f (d ∷ from ∷ n ∷ []) =
-    if nat_eq (d % 2 ^ 32) 1
+    if nat_eq (d % 2 ^ 32) STANDARD_OUTPUT
     then (if nat_eq n 0 then flat_answered [] 0 f else flat_put_out n f (known_bytes f from n))
-    else flat_answered [] (2 ^ 64 - 9) f
+    else flat_answered [] BAD_DESCRIPTOR f
 flat_write f args = FlatEnded nothing Undefined
 
 -- `exit (w status)`

@@ -1,5 +1,6 @@
 -- What the start code of an executable owes: it calls `main`, and exits with what that returns.
 use Rattle.std.specs.Prelude.{◌≡◌, ℕ, ◌+◌, ◌%◌, ◌≤◌, List, [], Some}
+use Rattle.rv_isa.specs.declared.abi.TheConstants.{RETURN_ADDRESS, RESULT}
 use Rattle.il_ast.specs.declared.operation.Class.TheVariants.{W}
 use Rattle.il_ast.specs.declared.program.Program.{Program}
 use Rattle.il_ast.specs.declared.value.Callee.TheVariants.{Defined}
@@ -39,5 +40,5 @@ pub record CallsMain (c : Setting) (p : Program) (words : List (List ℕ)) (s : 
   pub output : called.output ≡ []
   pub ready : (turns : ℕ) → Ready c.world at sp (main_call p words).classes (record { turns = turns; room = stack_room; args = args; memory = memory }) called
   pub leaving : ℕ
-  pub leaves : (u : State) (n : ℕ) → Fixed c.world.memory_map u → u.pc ≡ called.registers 1 → u.registers 10 ≡ passed W n → ExitsWith leaving n u
+  pub leaves : (u : State) (n : ℕ) → Fixed c.world.memory_map u → u.pc ≡ called.registers RETURN_ADDRESS → u.registers RESULT ≡ passed W n → ExitsWith leaving n u
   pub price : steps + leaving ≤ 256

@@ -1,6 +1,7 @@
 -- A linked program: the words and bytes that an executable puts into memory, and where they stand.
 -- The addresses are this project's choice; the page is the 4096 bytes of p_align (ELF64, "Program Header").
 use Rattle.std.specs.Prelude.{◌≡◌, ℕ, ◌+◌, ◌*◌, ◌/◌, ◌%◌, ◌^◌, ◌<◌, ◌≤◌, List, length, slice_index}
+use Rattle.obj_link.specs.declared.image.TheConstants.{CODE_START, IMAGE_END}
 
 -- the words of the code, and the bytes of the data after it
 pub record Contents : Type 0 where
@@ -9,11 +10,11 @@ pub record Contents : Type 0 where
 
 -- where the code begins, which is also where the program starts
 abbrev pub code_start : ℕ
-code_start = 0x10000
+code_start = CODE_START
 
 -- the lowest address of the stack: nothing of an image stands at or above it
 abbrev pub image_end : ℕ
-image_end = 0x0f800000
+image_end = IMAGE_END
 
 -- the least multiple of a page that is at least n
 abbrev pub round_to_page : ℕ → ℕ

@@ -1,7 +1,8 @@
 -- The words with which every program begins: its start, and the predefined functions `write` and `exit`.
--- System calls have Linux's numbers for RISC-V, 64 and 93, in x17; x10 to x12 have their arguments, as they have a function's.
+-- A system call's arguments stand where a function's do.
 use Rattle.std.specs.Prelude.{ℕ, ◌+◌, List, [], ◌∷◌, pos}
 use Rattle.bits.specs.Words.{upper_field, lower_field}
+use Rattle.rv_isa.specs.declared.abi.TheConstants.{ZERO, RETURN_ADDRESS, STACK_POINTER, FIRST_TEMPORARY, FIRST_ARGUMENT, SECOND_ARGUMENT, SYSTEM_CALL, WRITE, EXIT}
 use Rattle.rv_isa.specs.Formats.{i_type, u_type}
 use Rattle.obj_link.specs.Image.{code_start}
 
@@ -21,21 +22,21 @@ system_call = 0x00000073
 -- that the program exits with.
 abbrev pub start_words : (main : ℕ) → List ℕ
 start_words main =
-    load_double 10 2 0
-    ∷ add_immediate 11 2 8
-    ∷ u_type 0x37 5 (upper_field main)
-    ∷ i_type 0x1b 0 5 5 (lower_field main)
-    ∷ jump_to 1 5
-    ∷ add_immediate 17 0 93
+    load_double FIRST_ARGUMENT STACK_POINTER 0
+    ∷ add_immediate SECOND_ARGUMENT STACK_POINTER 8
+    ∷ u_type 0x37 FIRST_TEMPORARY (upper_field main)
+    ∷ i_type 0x1b 0 FIRST_TEMPORARY FIRST_TEMPORARY (lower_field main)
+    ∷ jump_to RETURN_ADDRESS FIRST_TEMPORARY
+    ∷ add_immediate SYSTEM_CALL ZERO EXIT
     ∷ system_call
     ∷ []
 
 -- the system call does what `write` does, with the same arguments and the same result
 abbrev pub write_words : List ℕ
-write_words = add_immediate 17 0 64 ∷ system_call ∷ jump_to 0 1 ∷ []
+write_words = add_immediate SYSTEM_CALL ZERO WRITE ∷ system_call ∷ jump_to ZERO RETURN_ADDRESS ∷ []
 
 abbrev pub exit_words : List ℕ
-exit_words = add_immediate 17 0 93 ∷ system_call ∷ []
+exit_words = add_immediate SYSTEM_CALL ZERO EXIT ∷ system_call ∷ []
 
 -- where the two stand, and the first function of the program
 abbrev pub write_address : ℕ

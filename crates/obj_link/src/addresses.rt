@@ -7,6 +7,7 @@ ghost use Rattle.il_ast.specs.Cost.{round_16};
 ghost use Rattle.obj_link.specs.Natives.{write_address, exit_address};
 ghost use Rattle.obj_link.specs.Placed.{function_addresses, functions_end, object_addresses, objects_end, callee_address, target_address, meaning, EveryCode};
 
+use crate::image::CODE_START;
 use crate::limits::object_size;
 use il_ast::datum::DataDef;
 use il_ast::list::Seq;
@@ -23,11 +24,11 @@ pub struct Addresses {
 }
 
 /// Where `write` and `exit` stand, and the first function.
-pub const WRITE: u32 = 0x1001c;
+pub const WRITE: u32 = CODE_START as u32 + 28;
 
-pub const EXIT: u32 = 0x10028;
+pub const EXIT: u32 = CODE_START as u32 + 40;
 
-pub const FUNCTIONS: u32 = 0x10030;
+pub const FUNCTIONS: u32 = CODE_START as u32 + 48;
 
 /// The addresses of functions of these words, the first of which stands at `start`.
 #[tactic(auto, using(crate::proofs::AddressLemmas::functions_rise))]

@@ -1,13 +1,14 @@
 ghost use Rattle.std.specs.Prelude.{◌≡◌, ◌<◌};
 ghost use Rattle.obj_link.specs.Image.{IsImage, code_size, code_start, data_start, image_end};
 
+use rv_isa::abi;
 use std::marker::Model;
 
 /// The address of the first instruction, and the program's entry.
 pub const CODE_START: u64 = 0x10000;
 
 /// The first address above every image: the lowest of the stack.
-pub const IMAGE_END: u64 = 0x0f80_0000;
+pub const IMAGE_END: u64 = abi::STACK_BOTTOM;
 
 /// The size of a page in bytes: the data begins at a multiple of it.
 pub const PAGE: u64 = 4096;

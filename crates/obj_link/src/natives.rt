@@ -5,31 +5,48 @@ ghost use Rattle.rv_isa.specs.Formats.{i_type};
 ghost use Rattle.obj_link.specs.Natives.{start_words, write_words, exit_words, load_double, jump_to};
 
 use bits::split;
+use rv_isa::abi;
 use rv_isa::encode::encode;
 use rv_isa::instruction::{ImmOp, Instr, LoadOp};
 use rv_isa::ranges::{Immediate, Register, UpperField};
 use std::alloc::AllocError;
 
-const X0: Register = Register { number: 0 };
+const ZERO: Register = Register { number: abi::ZERO };
 
-const RETURN_ADDRESS: Register = Register { number: 1 };
+const RETURN_ADDRESS: Register = Register {
+    number: abi::RETURN_ADDRESS,
+};
 
-const STACK_POINTER: Register = Register { number: 2 };
+const STACK_POINTER: Register = Register {
+    number: abi::STACK_POINTER,
+};
 
-const X5: Register = Register { number: 5 };
+const TEMPORARY: Register = Register {
+    number: abi::FIRST_TEMPORARY,
+};
 
-const A0: Register = Register { number: 10 };
+const FIRST_ARGUMENT: Register = Register {
+    number: abi::FIRST_ARGUMENT,
+};
 
-const A1: Register = Register { number: 11 };
+const SECOND_ARGUMENT: Register = Register {
+    number: abi::SECOND_ARGUMENT,
+};
 
-const A7: Register = Register { number: 17 };
+const SYSTEM_CALL: Register = Register {
+    number: abi::SYSTEM_CALL,
+};
 
 /// The numbers of the system calls.
-const WRITE: Immediate = Immediate { value: 64 };
+const WRITE: Immediate = Immediate {
+    value: abi::WRITE as i16,
+};
 
-const EXIT: Immediate = Immediate { value: 93 };
+const EXIT: Immediate = Immediate {
+    value: abi::EXIT as i16,
+};
 
-const ZERO: Immediate = Immediate { value: 0 };
+const NOTHING: Immediate = Immediate { value: 0 };
 
 // `ld x10, 0(x2)`
 fn count_of_words() -> u32
@@ -37,9 +54,9 @@ fn count_of_words() -> u32
 {
     encode(Instr::Load {
         op: LoadOp::Ld,
-        rd: A0,
+        rd: FIRST_ARGUMENT,
         rs1: STACK_POINTER,
-        offset: ZERO,
+        offset: NOTHING,
     })
 }
 
@@ -60,7 +77,7 @@ fn jump_to(rd: Register, rs1: Register) -> u32
     encode(Instr::Jalr {
         rd,
         rs1,
-        offset: ZERO,
+        offset: NOTHING,
     })
 }
 
@@ -70,22 +87,22 @@ pub fn push_start(words: &mut Vec<u32>, main: u32) -> Result<(), AllocError>
 {
     let fields = split(main);
     words.push(count_of_words())?;
-    words.push(add_immediate(A1, STACK_POINTER, Immediate { value: 8 }))?;
+    words.push(add_immediate(SECOND_ARGUMENT, STACK_POINTER, Immediate { value: 8 }))?;
     words.push(encode(Instr::Lui {
-        rd: X5,
+        rd: TEMPORARY,
         field: UpperField {
             value: fields.upper,
         },
     }))?;
     words.push(encode(Instr::Addiw {
-        rd: X5,
-        rs1: X5,
+        rd: TEMPORARY,
+        rs1: TEMPORARY,
         immediate: Immediate {
             value: fields.lower as i16,
         },
     }))?;
-    words.push(jump_to(RETURN_ADDRESS, X5))?;
-    words.push(add_immediate(A7, X0, EXIT))?;
+    words.push(jump_to(RETURN_ADDRESS, TEMPORARY))?;
+    words.push(add_immediate(SYSTEM_CALL, ZERO, EXIT))?;
     words.push(encode(Instr::Ecall))?;
     Ok(())
 }
@@ -94,10 +111,10 @@ pub fn push_start(words: &mut Vec<u32>, main: u32) -> Result<(), AllocError>
 pub fn push_natives(words: &mut Vec<u32>) -> Result<(), AllocError>
     ensures { OnOk result (words.new.items ≡ words.old.items ++ (write_words ++ exit_words)) }
 {
-    words.push(add_immediate(A7, X0, WRITE))?;
+    words.push(add_immediate(SYSTEM_CALL, ZERO, WRITE))?;
     words.push(encode(Instr::Ecall))?;
-    words.push(jump_to(X0, RETURN_ADDRESS))?;
-    words.push(add_immediate(A7, X0, EXIT))?;
+    words.push(jump_to(ZERO, RETURN_ADDRESS))?;
+    words.push(add_immediate(SYSTEM_CALL, ZERO, EXIT))?;
     words.push(encode(Instr::Ecall))?;
     Ok(())
 }

@@ -13,7 +13,7 @@ use crate::addresses::{
 use crate::data_bytes::push_objects;
 use crate::error::LinkError;
 use crate::fill::push_functions;
-use crate::image::Image;
+use crate::image::{CODE_START, Image, PAGE};
 use crate::linked::Linked;
 use crate::natives::{push_natives, push_start};
 use il_ast::list::Seq;
@@ -21,9 +21,9 @@ use il_ast::value::Callee;
 use rv_isa::code::Code;
 use std::alloc::{AllocError, Global};
 
-const START: u32 = 0x10000;
+const START: u32 = CODE_START as u32;
 
-const PAGE_SIZE: u32 = 4096;
+const PAGE_SIZE: u32 = PAGE as u32;
 
 // Where the data begin.
 #[tactic(auto, using(crate::proofs::ImageLemmas::ends))]

@@ -4,6 +4,7 @@ use Rattle.std.specs.Prelude.{Some, None, ◌==◌, ◌↔◌, if◌then◌else�
 use Rattle.rv_isa.specs.Formats.{part, low_bits}
 use Rattle.rv_isa.specs.Encoding.{word, branch_row, load_row, store_row, imm_row, shift_row, shiftw_row, reg_row, regw_row}
 use Rattle.rv_isa.specs.Decoding.{candidate, instruction_of}
+use Rattle.rv_isa.proofs.RowRanges.{branch_row_fits, load_row_fits, store_row_fits, imm_row_fits, shift_row_fits, shiftw_row_fits, reg_row_fits, regw_row_fits}
 use Rattle.rv_isa.proofs.FieldLemmas.{reads_joined}
 use Rattle.rv_isa.proofs.DecodingLemmas.{lui_back, auipc_back, jal_back, jalr_back, branch_back, load_back, store_back, imm_back, addiw_back, shift_back, shiftw_back, reg_back, regw_back, fence_back, ecall_back, ebreak_back, low_bits_13_below, low_bits_21_below}
 use Rattle.rv_isa.specs.declared.instruction.Instr.{Instr}
@@ -24,81 +25,6 @@ use Rattle.rv_isa.specs.declared.instruction.RegOp.{RegOp}
 use Rattle.rv_isa.specs.declared.instruction.RegOp.TheVariants.{Add, Sub, Sll, Slt, Sltu, Xor, Srl, Sra, Or, And, Mul, Mulh, Mulhsu, Mulhu, Div, Divu, Rem, Remu}
 use Rattle.rv_isa.specs.declared.instruction.RegWOp.{RegWOp}
 use Rattle.rv_isa.specs.declared.instruction.RegWOp.TheVariants.{Addw, Subw, Sllw, Srlw, Sraw, Mulw, Divw, Divuw, Remw, Remuw}
-
--- ---- rows are in range
-
-branch_row_fits : (op : BranchOp) → branch_row op < 8
-branch_row_fits Beq = lit< tt
-branch_row_fits Bne = lit< tt
-branch_row_fits Blt = lit< tt
-branch_row_fits Bge = lit< tt
-branch_row_fits Bltu = lit< tt
-branch_row_fits Bgeu = lit< tt
-
-load_row_fits : (op : LoadOp) → load_row op < 8
-load_row_fits Lb = lit< tt
-load_row_fits Lh = lit< tt
-load_row_fits Lw = lit< tt
-load_row_fits Ld = lit< tt
-load_row_fits Lbu = lit< tt
-load_row_fits Lhu = lit< tt
-load_row_fits Lwu = lit< tt
-
-store_row_fits : (op : StoreOp) → store_row op < 8
-store_row_fits Sb = lit< tt
-store_row_fits Sh = lit< tt
-store_row_fits Sw = lit< tt
-store_row_fits Sd = lit< tt
-
-imm_row_fits : (op : ImmOp) → imm_row op < 8
-imm_row_fits Addi = lit< tt
-imm_row_fits Slti = lit< tt
-imm_row_fits Sltiu = lit< tt
-imm_row_fits Xori = lit< tt
-imm_row_fits Ori = lit< tt
-imm_row_fits Andi = lit< tt
-
-shift_row_fits : (op : ShiftOp) → ((shift_row op).0 < 8) × ((shift_row op).1 < 64)
-shift_row_fits Slli = (lit< tt, lit< tt)
-shift_row_fits Srli = (lit< tt, lit< tt)
-shift_row_fits Srai = (lit< tt, lit< tt)
-
-shiftw_row_fits : (op : ShiftWOp) → ((shiftw_row op).0 < 8) × ((shiftw_row op).1 < 128)
-shiftw_row_fits Slliw = (lit< tt, lit< tt)
-shiftw_row_fits Srliw = (lit< tt, lit< tt)
-shiftw_row_fits Sraiw = (lit< tt, lit< tt)
-
-reg_row_fits : (op : RegOp) → ((reg_row op).0 < 8) × ((reg_row op).1 < 128)
-reg_row_fits Add = (lit< tt, lit< tt)
-reg_row_fits Sub = (lit< tt, lit< tt)
-reg_row_fits Sll = (lit< tt, lit< tt)
-reg_row_fits Slt = (lit< tt, lit< tt)
-reg_row_fits Sltu = (lit< tt, lit< tt)
-reg_row_fits Xor = (lit< tt, lit< tt)
-reg_row_fits Srl = (lit< tt, lit< tt)
-reg_row_fits Sra = (lit< tt, lit< tt)
-reg_row_fits Or = (lit< tt, lit< tt)
-reg_row_fits And = (lit< tt, lit< tt)
-reg_row_fits Mul = (lit< tt, lit< tt)
-reg_row_fits Mulh = (lit< tt, lit< tt)
-reg_row_fits Mulhsu = (lit< tt, lit< tt)
-reg_row_fits Mulhu = (lit< tt, lit< tt)
-reg_row_fits Div = (lit< tt, lit< tt)
-reg_row_fits Divu = (lit< tt, lit< tt)
-reg_row_fits Rem = (lit< tt, lit< tt)
-reg_row_fits Remu = (lit< tt, lit< tt)
-
-regw_row_fits : (op : RegWOp) → ((regw_row op).0 < 8) × ((regw_row op).1 < 128)
-regw_row_fits Addw = (lit< tt, lit< tt)
-regw_row_fits Subw = (lit< tt, lit< tt)
-regw_row_fits Sllw = (lit< tt, lit< tt)
-regw_row_fits Srlw = (lit< tt, lit< tt)
-regw_row_fits Sraw = (lit< tt, lit< tt)
-regw_row_fits Mulw = (lit< tt, lit< tt)
-regw_row_fits Divw = (lit< tt, lit< tt)
-regw_row_fits Divuw = (lit< tt, lit< tt)
-regw_row_fits Remw = (lit< tt, lit< tt)
-regw_row_fits Remuw = (lit< tt, lit< tt)
 
 -- ---- `candidate` gives every instruction back
 

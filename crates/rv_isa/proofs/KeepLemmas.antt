@@ -6,6 +6,7 @@ use Rattle.rv_isa.specs.Memory.{can_read, bytes_at, can_write, can_execute, numb
 use Rattle.rv_isa.specs.Arithmetic.{reg_value, regw_value, imm_value, addiw_value, shift_value, shiftw_value, upper_value, taken, moved}
 use Rattle.rv_isa.specs.Decoding.{instruction_of}
 use Rattle.rv_isa.specs.Step.{Stop, Exited, Broken, Faulted, jump, branch, load, load_size, load_value, even_below, act, act_on, step, store_size, write_call, environment_call}
+use Rattle.rv_isa.specs.declared.abi.TheConstants.{STANDARD_OUTPUT, BAD_DESCRIPTOR, WRITE, EXIT, ZERO}
 use Rattle.rv_isa.specs.declared.fault.Fault.TheVariants.{UnknownInstruction, Fetch, SystemCall, Load as LoadFault, Store as StoreFault}
 use Rattle.rv_isa.specs.declared.ranges.Register.{Register}
 use Rattle.rv_isa.specs.declared.instruction.LoadOp.{LoadOp}
@@ -27,11 +28,11 @@ written_below true f g n m p q = p
 written_below false f g n m p q = q
 
 pub register_fits : (s : State) (r : Register) → IsState s → register s r < 2 ^ 64
-register_fits s r is = chosen_below (r.number == 0) 0 (s.registers r.number) (2 ^ 64) (lit< tt) (is.registers r.number)
+register_fits s r is = chosen_below (r.number == ZERO) 0 (s.registers r.number) (2 ^ 64) (lit< tt) (is.registers r.number)
 
 registers_fit : (s : State) (rd : Register) (v : ℕ) → IsState s → v < 2 ^ 64 → (n : ℕ) → written s.registers rd v n < 2 ^ 64
 registers_fit s rd v is h n =
-    written_below (rd.number == 0) s.registers (updated s.registers rd.number v) n (2 ^ 64) (is.registers n)
+    written_below (rd.number == ZERO) s.registers (updated s.registers rd.number v) n (2 ^ 64) (is.registers n)
     (updated_below s.registers rd.number v (2 ^ 64) h is.registers n)
 
 -- what is put in range leaves the state in range
@@ -86,20 +87,20 @@ write_then s t is h =
     let count = register s a2 in
     let u : State = record (put s a0 count) { output = s.output ++ bytes_at s.bytes at count } in
     let P : State → Type 0 = λ x. IsState x in
-    elim (either (register s a0 % 2 ^ 32 == 1) (if can_read s at count then Ok u else Err (Faulted LoadFault s.pc)) (going (put s a0 (2 ^ 64 - 9))) (Ok t) h) [
+    elim (either (register s a0 % 2 ^ 32 == STANDARD_OUTPUT) (if can_read s at count then Ok u else Err (Faulted LoadFault s.pc)) (going (put s a0 BAD_DESCRIPTOR)) (Ok t) h) [
       | inl here ↦
           let both = chosen (can_read s at count) u t (Faulted LoadFault s.pc) here in
           subst P both.1 (record { pc = mod-lt (s.pc + 4) (lit< tt); registers = registers_fit s a0 count is (register_fits s a2 is); bytes = is.bytes })
-      | inr elsewhere ↦ put_then s t a0 (2 ^ 64 - 9) is (lit< tt) elsewhere
+      | inr elsewhere ↦ put_then s t a0 BAD_DESCRIPTOR is (lit< tt) elsewhere
     ]
 
 call_then : (s t : State) → IsState s → environment_call s ≡ Ok t → IsState t
 call_then s t is h =
     let exited = Exited (register s a0 % 256) in
     let unknown = Faulted SystemCall s.pc in
-    elim (either (register s a7 == 64) (write_call s) (if register s a7 == 93 then refusing exited else refusing unknown) (Ok t) h) [
+    elim (either (register s a7 == WRITE) (write_call s) (if register s a7 == EXIT then refusing exited else refusing unknown) (Ok t) h) [
       | inl wrote ↦ write_then s t is wrote
-      | inr other ↦ elim (either (register s a7 == 93) (refusing exited) (refusing unknown) (Ok t) other) [
+      | inr other ↦ elim (either (register s a7 == EXIT) (refusing exited) (refusing unknown) (Ok t) other) [
         | inl ended ↦ absurd (stopped exited t ended)
         | inr refused ↦ absurd (stopped unknown t refused)
       ]

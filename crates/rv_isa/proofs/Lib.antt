@@ -8,3 +8,4 @@ pub mod StepLemmas
 pub mod StayLemmas
 pub mod RangeLemmas
 pub mod KeepLemmas
+pub mod RowRanges

@@ -3,25 +3,26 @@ use Rattle.std.proofs.Common.{◌≡◌, ℕ, true, refl, ap, sym, ◌∙◌, su
 use Rattle.std.specs.Prelude.{Some}
 use Rattle.std.proofs.lemmas.Bool.{and_parts}
 use Rattle.rv_isa.specs.State.{State}
-use Rattle.rv_isa.specs.Memory.{number_at, allowed, each_of}
+use Rattle.rv_isa.specs.Memory.{number_at, allowed, each_of, can_execute, is_code}
 use Rattle.rv_isa.specs.Decoding.{instruction_of}
 use Rattle.rv_isa.specs.Step.{step, act}
 use Rattle.rv_isa.specs.Labelled.{Ground, Fixed, InstrAt}
 use Rattle.rv_isa.specs.declared.permission.Permission.{Permission}
 use Rattle.rv_isa.specs.declared.instruction.Instr.{Instr}
-use Rattle.rv_isa.proofs.MemoryLemmas.{number_same, each_at}
+use Rattle.rv_isa.proofs.MemoryLemmas.{number_same, each_at, code_parts, code_executes}
 
--- the word at an address that can be executed is the ground's
-code_word : (g : Ground) (s : State) (a : ℕ) → Fixed g s → allowed (λ x. (g.allows x).executable) a 4 ≡ true
+-- the word of code at an address is the ground's
+code_word : (g : Ground) (s : State) (a : ℕ) → Fixed g s → allowed (λ x. is_code (g.allows x)) a 4 ≡ true
     → number_at s.bytes a 4 ≡ number_at g.code a 4
 code_word g s a fixed fetched =
-    let each : each_of (λ x. (g.allows x).executable) a 4 ≡ true = (and_parts _ _ fetched).1 in
-    number_same s.bytes g.code a 4 (λ x low high. fixed.code_here x (each_at (λ x. (g.allows x).executable) a 4 x each low high))
+    let each : each_of (λ x. is_code (g.allows x)) a 4 ≡ true = (and_parts _ _ fetched).1 in
+    number_same s.bytes g.code a 4
+    (λ x low high. fixed.code_here x (code_parts (g.allows x) (each_at (λ x. is_code (g.allows x)) a 4 x each low high)).1)
 
 pub step_at : (g : Ground) (s : State) (i : Instr) → Fixed g s → InstrAt g s.pc i → step s ≡ act i s
 unfolding step
 step_at g s i fixed at =
-    let P : (ℕ → Permission) → Type 0 = λ p. allowed (λ x. (p x).executable) s.pc 4 ≡ true in
-    let fetched : allowed (λ x. (s.allows x).executable) s.pc 4 ≡ true = subst P (sym fixed.permissions) at.fetched in
+    let P : (ℕ → Permission) → Type 0 = λ p. allowed (λ x. is_code (p x)) s.pc 4 ≡ true in
+    let fetched : can_execute s s.pc 4 ≡ true = code_executes s.allows s.pc 4 (subst P (sym fixed.permissions) at.fetched) in
     let decoded : instruction_of (number_at s.bytes s.pc 4) ≡ Some i = ap instruction_of (code_word g s s.pc fixed at.fetched) ∙ at.decoded in
     rw (fetched, decoded) refl

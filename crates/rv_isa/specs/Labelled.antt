@@ -1,18 +1,19 @@
 -- What it means that labelled code stands at an address. An item has no meaning of its own: it stands between two addresses where the machine,
 -- coming to the first, does what the item says, in a bounded number of instructions.
-use Rattle.std.specs.Prelude.{◌≡◌, ◌≢◌, ℕ, ◌+◌, ◌%◌, ◌^◌, ◌<◌, ◌≤◌, true, if◌then◌else◌, List, [], ◌∷◌, Some}
+use Rattle.std.specs.Prelude.{◌≡◌, ◌≢◌, ℕ, ◌+◌, ◌%◌, ◌^◌, ◌<◌, ◌≤◌, true, false, if◌then◌else◌, List, [], ◌∷◌, Some}
 use Rattle.rv_isa.specs.State.{State, register}
-use Rattle.rv_isa.specs.Memory.{number_at, allowed}
+use Rattle.rv_isa.specs.Memory.{number_at, allowed, is_code}
 use Rattle.rv_isa.specs.Arithmetic.{taken}
 use Rattle.rv_isa.specs.Decoding.{instruction_of}
 use Rattle.rv_isa.specs.Runs.{Comes}
+use Rattle.rv_isa.specs.declared.abi.TheConstants.{JUMP_SCRATCH}
 use Rattle.rv_isa.specs.declared.permission.Permission.{Permission}
 use Rattle.rv_isa.specs.declared.ranges.Register.{Register}
 use Rattle.rv_isa.specs.declared.instruction.Instr.{Instr}
 use Rattle.rv_isa.specs.declared.labelled.Item.{Item}
 use Rattle.rv_isa.specs.declared.labelled.Item.TheVariants.{Plain, Label, Branch, Goto, Address}
 
--- what stays while a program runs: the permissions, and the bytes that may be executed
+-- what stays while a program runs: the permissions, and the bytes that can't be written
 pub record Ground : Type 0 where
   pub allows : ℕ → Permission
   pub code : ℕ → ℕ
@@ -20,13 +21,13 @@ pub record Ground : Type 0 where
 -- the machine stands on this ground, and holds numbers in range
 pub record Fixed (g : Ground) (s : State) : Type 0 where
   pub permissions : s.allows ≡ g.allows
-  pub code_here : (a : ℕ) → (g.allows a).executable ≡ true → s.bytes a ≡ g.code a
+  pub code_here : (a : ℕ) → (g.allows a).writable ≡ false → s.bytes a ≡ g.code a
   pub words : (n : ℕ) → s.registers n < 2 ^ 64
   pub small : (a : ℕ) → s.bytes a < 256
 
--- the word of i stands at `a`, and can be executed
+-- the word of i stands at `a`, as code
 pub record InstrAt (g : Ground) (a : ℕ) (i : Instr) : Type 0 where
-  pub fetched : allowed (λ x. (g.allows x).executable) a 4 ≡ true
+  pub fetched : allowed (λ x. is_code (g.allows x)) a 4 ≡ true
   pub decoded : instruction_of (number_at g.code a 4) ≡ Some i
   pub aligned : a % 4 ≡ 0
   pub inside : a + 4 < 2 ^ 64
@@ -42,7 +43,7 @@ pub record Moves (g : Ground) (most to : ℕ) (s : State) : Type 0 where
   pub fixed : Fixed g after
   pub output : after.output ≡ s.output
   pub bytes : after.bytes ≡ s.bytes
-  pub registers : (n : ℕ) → n ≢ 31 → after.registers n ≡ s.registers n
+  pub registers : (n : ℕ) → n ≢ JUMP_SCRATCH → after.registers n ≡ s.registers n
 
 -- in 1 to `most` instructions the machine comes from s to the address `to`, with the value v in rd; all else stays
 pub record Gets (g : Ground) (most to : ℕ) (rd : Register) (v : ℕ) (s : State) : Type 0 where

@@ -1,6 +1,7 @@
 -- Labelled code: the labels, registers and sizes of its items, and what the code of a function keeps.
 use Rattle.std.specs.Prelude.{◌≡◌, ℕ, ◌+◌, ◌^◌, ◌<◌, Bool, true, false, not, ◌&&◌, nat_eq, nat_lt, if◌then◌else◌, IsTrue, List, [], ◌∷◌}
 use Rattle.std.specs.List.{list_all}
+use Rattle.rv_isa.specs.declared.abi.TheConstants.{JUMP_SCRATCH, ZERO}
 use Rattle.rv_isa.specs.declared.ranges.Register.{Register}
 use Rattle.rv_isa.specs.declared.instruction.Instr.{Instr}
 use Rattle.rv_isa.specs.declared.instruction.Instr.TheVariants.{Lui, Auipc, Jal, Jalr, Branch as BranchBy, Load, Store, Imm, Addiw, Shift, ShiftW, Reg, RegW, Fence, Ecall, Ebreak}
@@ -58,7 +59,7 @@ registers_of Ebreak = []
 
 -- x31 is reserved for long jumps
 abbrev pub is_not_x31 : Register → Bool
-is_not_x31 r = not (nat_eq r.number 31)
+is_not_x31 r = not (nat_eq r.number JUMP_SCRATCH)
 
 -- the item leaves x31 alone; an address goes into a register that can hold it
 abbrev pub has_good_registers : Item → Bool
@@ -66,7 +67,7 @@ has_good_registers (Plain i) = list_all is_not_x31 (registers_of i)
 has_good_registers (Label l) = true
 has_good_registers (Branch op rs1 rs2 l) = is_not_x31 rs1 && is_not_x31 rs2
 has_good_registers (Goto l) = true
-has_good_registers (Address rd n) = is_not_x31 rd && not (nat_eq rd.number 0)
+has_good_registers (Address rd n) = is_not_x31 rd && not (nat_eq rd.number ZERO)
 
 -- ---- sizes
 

@@ -2,17 +2,17 @@
 use Rattle.std.specs.Prelude.{◌≡◌, ℕ, ◌+◌, ◌*◌, ◌%◌, ◌^◌, ◌<◌, true, List, [], ◌∷◌, length, slice_get, slice_set, Some}
 use Rattle.bits.specs.Words.{upper_field, lower_field}
 use Rattle.rv_isa.specs.Formats.{u_type, i_type}
-use Rattle.rv_isa.specs.Memory.{number_at, allowed}
+use Rattle.rv_isa.specs.Memory.{number_at, allowed, is_code}
 use Rattle.rv_isa.specs.Labelled.{Ground, Stand}
 use Rattle.rv_isa.specs.declared.code.Hole.{Hole}
 use Rattle.rv_isa.specs.declared.labelled.Item.{Item}
 
--- these words stand from an address upward, and can be executed
+-- these words stand from an address upward, as code
 pub record WordsStand (g : Ground) (at : ℕ) (words : List ℕ) : Type 0 where
   pub aligned : at % 4 ≡ 0
   pub inside : at + 4 * length words < 2 ^ 64
   pub here : (k w : ℕ) → slice_get words k ≡ Some w → number_at g.code (at + 4 * k) 4 ≡ w
-  pub executable : (k w : ℕ) → slice_get words k ≡ Some w → allowed (λ a. (g.allows a).executable) (at + 4 * k) 4 ≡ true
+  pub fetched : (k w : ℕ) → slice_get words k ≡ Some w → allowed (λ a. is_code (g.allows a)) (at + 4 * k) 4 ≡ true
 
 -- `lui` and `addiw` make the address
 abbrev pub fill : (ℕ → ℕ) → List ℕ → Hole → List ℕ

@@ -1,16 +1,16 @@
 -- The start of a program, in the manner of Linux (System V psABI supplement, "Process Initialization"): what it finds in x2 and on the stack.
 -- Where its code and data stand is the executable file's to say.
-use Rattle.std.specs.Prelude.{◌≡◌, ℕ, ◌+◌, ◌*◌, ◌<◌, ◌≤◌, true, false, List, [], ◌∷◌, ◌++◌, length, replicate, slice_index}
+use Rattle.std.specs.Prelude.{◌≡◌, ℕ, ◌+◌, ◌*◌, ◌<◌, ◌≤◌, true, List, [], ◌∷◌, ◌++◌, length, replicate, slice_index}
 use Rattle.std.specs.Int.{w64, to_le_bytes}
 use Rattle.rv_isa.specs.State.{State, IsState}
-use Rattle.rv_isa.specs.declared.permission.Permission.{Permission}
+use Rattle.rv_isa.specs.declared.abi.TheConstants.{STACK_POINTER, STACK_TOP, STACK_BOTTOM}
 
 -- the stack pointer at the start: the stack is below it, the arguments from it upward
 abbrev pub stack_top : ℕ
-stack_top = 0x1000_0000
+stack_top = STACK_TOP
 
 abbrev pub stack_bottom : ℕ
-stack_bottom = 0x0f80_0000
+stack_bottom = STACK_BOTTOM
 
 -- the words one after another, each with a closing zero
 abbrev pub word_bytes : List (List ℕ) → List ℕ
@@ -28,14 +28,12 @@ unfoldable pub argument_bytes : List (List ℕ) → List ℕ
 argument_bytes words =
     to_le_bytes w64 (length words) ++ pointer_bytes (stack_top + 40 + 8 * length words) words ++ replicate 32 0 ++ word_bytes words
 
--- memory for the program's own use: it can be read and written, and not executed
-abbrev pub read_and_write : Permission
-read_and_write = record { readable = true; writable = true; executable = false }
-
--- a start with these words. The registers but x2 and the bytes of the stack hold anything
+-- a start with these words. The stack and the arguments can be read and written, and nothing more is asked of them: they may be executable or not.
+-- The registers but x2 and the bytes of the stack hold anything
 pub record StartsWith (words : List (List ℕ)) (s : State) : Type 0 where
   pub state : IsState s
-  pub stack_pointer : s.registers 2 ≡ stack_top
+  pub stack_pointer : s.registers STACK_POINTER ≡ stack_top
   pub arguments : (k : ℕ) → k < length (argument_bytes words) → s.bytes (stack_top + k) ≡ slice_index (argument_bytes words) k
-  pub usable : (a : ℕ) → stack_bottom ≤ a → a < stack_top + length (argument_bytes words) → s.allows a ≡ read_and_write
+  pub readable : (a : ℕ) → stack_bottom ≤ a → a < stack_top + length (argument_bytes words) → (s.allows a).readable ≡ true
+  pub writable : (a : ℕ) → stack_bottom ≤ a → a < stack_top + length (argument_bytes words) → (s.allows a).writable ≡ true
   pub silent : s.output ≡ []

@@ -5,6 +5,7 @@
 //! - [`instruction::Instr`] is an instruction, with operands of the types of [`ranges`]: each holds the numbers that its field can hold and
 //!   no others, so every `Instr` has a word.
 //! - [`encode::encode`] gives the word of an instruction: exactly its row of the encoding table, `specs/Encoding.antt`.
+//! - [`abi`] names the registers by their roles, the system calls and the bounds of the stack, for code and definitions alike.
 //! - [`decode::decode`] gives `Some(i)` exactly for the word that the table gives for i, so that no reserved bit is ignored, and `None` for any
 //!   other word.
 //! - [`text::text`] gives the text of an instruction, exactly that of `specs/Text.antt`. It alone takes memory, and fails only for want of it.
@@ -34,6 +35,7 @@
 //! The crate stands on `bits` and std. The formats, `specs/Formats.antt`, and the table follow the RISC-V unprivileged ISA manual.
 #![tactic(auto)]
 
+pub mod abi;
 pub mod code;
 pub mod decode;
 pub mod encode;

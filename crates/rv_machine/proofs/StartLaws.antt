@@ -9,9 +9,10 @@ use Rattle.std.proofs.Math.Bool.{and-false}
 use Rattle.rv_isa.specs.State.{updated}
 use Rattle.rv_isa.specs.Start.{argument_bytes, pointer_bytes, word_bytes, stack_top, stack_bottom}
 use Rattle.rv_isa.proofs.MemoryLemmas.{updated_here, updated_elsewhere}
+use Rattle.rv_isa.specs.declared.permission.Permission.{Permission}
 use Rattle.elf_file.specs.declared.flags.Flags.{Flags}
 use Rattle.elf_file.specs.Loaded.{Executable, Mapping, IsMapping, IsExecutable, holds, mapping_at, byte_in, byte_of}
-use Rattle.rv_machine.specs.Mapped.{stack_permission, start_byte, flags_or}
+use Rattle.rv_machine.specs.Mapped.{read_and_write, stack_permission, permission_in, start_byte, flags_or}
 use Rattle.rv_machine.specs.Words.{are_arguments}
 use Rattle.rv_machine.specs.Start.{filled, start_state, Starts, AreBytes, AreTexts}
 use Rattle.rv_machine.proofs.Arguments.{in_stack}
@@ -109,6 +110,10 @@ registers_small : (c : Bool) → (if c then stack_top else 0) < 2 ^ 64
 registers_small true = lit< tt
 registers_small false = lit< tt
 
+in_free_stack : (x : Executable) (n a : ℕ) → IsExecutable x → stack_bottom ≤ a → a < stack_top + n → permission_in x n a ≡ read_and_write
+in_free_stack x n a ex low high =
+    ap (λ (o : Option Mapping). flags_or (option_map (λ m. m.flags) o) (stack_permission n a)) (not_mapped x a ex low) ∙ in_stack n a low high
+
 pub machine_starts : (x : Executable) (words : List (List ℕ)) → IsExecutable x → x.entry < 2 ^ 64 → ((a b : ℕ) → byte_in x a ≡ Some b → b < 256)
     → are_arguments words ≡ true → AreTexts words → Starts x words (start_state x words)
 machine_starts x words ex entry small ok texts =
@@ -122,8 +127,8 @@ machine_starts x words ex entry small ok texts =
         };
         stack_pointer = refl;
         arguments = λ k h. filled_at (start_byte x) stack_top (argument_bytes words) k h;
-        usable = λ a low high.
-            ap (λ (o : Option Mapping). flags_or (option_map (λ m. m.flags) o) (stack_permission n a)) (not_mapped x a ex low) ∙ in_stack n a low high;
+        readable = λ a low high. ap (λ (p : Permission). p.readable) (in_free_stack x n a ex low high);
+        writable = λ a low high. ap (λ (p : Permission). p.writable) (in_free_stack x n a ex low high);
         silent = refl;
       };
       entry = refl;

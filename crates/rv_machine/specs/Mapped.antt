@@ -2,7 +2,7 @@
 use Rattle.std.specs.Prelude.{◌≡◌, ℕ, ◌+◌, ◌<◌, ◌^◌, Bool, true, false, ◌&&◌, ◌||◌, nat_le, nat_lt, if◌then◌else◌, Option, Some, None, unwrap_or}
 use Rattle.rv_isa.specs.declared.permission.Permission.{Permission}
 use Rattle.rv_isa.specs.Memory.{number_at, stored, allowed}
-use Rattle.rv_isa.specs.Start.{stack_bottom, stack_top, read_and_write}
+use Rattle.rv_isa.specs.Start.{stack_bottom, stack_top}
 use Rattle.elf_file.specs.declared.flags.Flags.{Flags}
 use Rattle.elf_file.specs.Flags.{is_readable, is_writable, is_executable}
 use Rattle.elf_file.specs.Loaded.{Executable, byte_in, flags_in}
@@ -13,6 +13,10 @@ is_mapped p = p.readable || p.writable || p.executable
 
 abbrev pub nothing_allowed : Permission
 nothing_allowed = record { readable = false; writable = false; executable = false }
+
+-- the stack and the arguments, which can't be executed here
+abbrev pub read_and_write : Permission
+read_and_write = record { readable = true; writable = true; executable = false }
 
 abbrev pub permission_of : Flags → Permission
 permission_of f = record { readable = is_readable f; writable = is_writable f; executable = is_executable f }

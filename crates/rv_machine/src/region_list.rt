@@ -6,14 +6,9 @@ ghost use Rattle.rv_machine.specs.Regions.{AllFull, IsStack, Shows, ShowsAll, re
 
 use crate::regions::{Region, filled, permission_of};
 use elf_file::{Loaded, Segment};
+use rv_isa::abi;
 use rv_isa::permission::Permission;
 use std::alloc::{AllocError, Global};
-
-/// The lowest address of the stack.
-const STACK_BOTTOM: u64 = 0x0f80_0000;
-
-/// How many bytes the stack has.
-const STACK_SIZE: u64 = 0x0080_0000;
 
 /// The region of a segment, with all its bytes where they are wanted `whole`.
 fn region_of(alloc: Global, segment: &Segment, whole: bool) -> Result<Region, AllocError>
@@ -40,10 +35,10 @@ fn stack_region(alloc: Global, arguments: u64, whole: bool) -> Result<Region, Al
     ensures shows { IfOk result (λ r. IsStack arguments r) }
     ensures full { whole ≡ true → IfOk result (λ r. length r.bytes.items ≡ r.size) }
 {
-    let size = STACK_SIZE + arguments;
+    let size = abi::STACK_SIZE + arguments;
     let bytes = filled(alloc, &[], if whole { size as usize } else { 0 })?;
     Ok(Region {
-        address: STACK_BOTTOM,
+        address: abi::STACK_BOTTOM,
         size,
         permission: Permission {
             readable: true,

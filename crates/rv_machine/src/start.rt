@@ -4,8 +4,9 @@ use crate::fill::set_all;
 use crate::machine::Machine;
 use crate::ram::Ram;
 use crate::registers::Registers;
-use crate::words::{STACK_TOP, are_arguments, argument_bytes};
+use crate::words::{are_arguments, argument_bytes};
 use elf_file::Loaded;
+use rv_isa::abi;
 use rv_isa::ranges::Register;
 use std::alloc::Global;
 
@@ -45,13 +46,18 @@ impl<R: Ram> Machine<R> {
         let Ok(mut ram) = R::of(alloc, file, count) else {
             return Err(StartError::Memory);
         };
-        match ram.ready(STACK_TOP, count) {
+        match ram.ready(abi::STACK_TOP, count) {
             Ok(()) => {}
             Err(_) => return Err(StartError::Memory),
         }
-        set_all(&mut ram, STACK_TOP, bytes);
+        set_all(&mut ram, abi::STACK_TOP, bytes);
         let mut registers = Registers::new();
-        registers.set(Register { number: 2 }, STACK_TOP);
+        registers.set(
+            Register {
+                number: abi::STACK_POINTER,
+            },
+            abi::STACK_TOP,
+        );
         Ok(Machine {
             pc: file.entry(),
             registers,

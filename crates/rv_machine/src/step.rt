@@ -8,31 +8,34 @@ use crate::arithmetic::{load_value, moved};
 use crate::machine::Machine;
 use crate::ram::Ram;
 use crate::stop::Stop;
+use rv_isa::abi;
 use rv_isa::decode::decode;
 use rv_isa::fault::Fault;
 use rv_isa::instruction::{Instr, LoadOp, StoreOp};
 use rv_isa::ranges::Register;
 use std::alloc::AllocError;
 
-const A0: Register = Register { number: 10 };
+const FIRST_ARGUMENT: Register = Register {
+    number: abi::FIRST_ARGUMENT,
+};
 
-const A1: Register = Register { number: 11 };
+const SECOND_ARGUMENT: Register = Register {
+    number: abi::SECOND_ARGUMENT,
+};
 
-const A2: Register = Register { number: 12 };
+const THIRD_ARGUMENT: Register = Register {
+    number: abi::THIRD_ARGUMENT,
+};
 
-const A7: Register = Register { number: 17 };
+const SYSTEM_CALL: Register = Register {
+    number: abi::SYSTEM_CALL,
+};
 
-/// The number of `write` in x17.
-const WRITE: u64 = 64;
+const WRITE: u64 = abi::WRITE as u64;
 
-/// The number of `exit` in x17.
-const EXIT: u64 = 93;
+const EXIT: u64 = abi::EXIT as u64;
 
-/// The descriptor of the output.
-const OUTPUT: u64 = 1;
-
-/// What `write` gives for another descriptor: -9, EBADF.
-const BAD_DESCRIPTOR: u64 = 0xffff_ffff_ffff_fff7;
+const OUTPUT: u64 = abi::STANDARD_OUTPUT as u64;
 
 /// How many bytes a load reads.
 fn load_size(op: LoadOp) -> u64
@@ -160,11 +163,11 @@ impl<R: Ram> Machine<R> {
         ensures gives { Gives (environment_call (view ⟦<R as Ram>⟧ self.old)) result (view ⟦<R as Ram>⟧ self.old) (view ⟦<R as Ram>⟧ self.new) }
         ensures memory { result ≡ Err Stop.Memory → MayWant R.refuses Instr.Ecall (view ⟦<R as Ram>⟧ self.old) }
     {
-        let call = self.register(A7);
+        let call = self.register(SYSTEM_CALL);
         if call == WRITE {
             self.write_call()
         } else if call == EXIT {
-            Err(Stop::Exit((self.register(A0) % 256) as u8))
+            Err(Stop::Exit((self.register(FIRST_ARGUMENT) % 256) as u8))
         } else {
             Err(Stop::Fault(Fault::SystemCall, self.pc))
         }
@@ -176,18 +179,18 @@ impl<R: Ram> Machine<R> {
         ensures descriptor { result ≡ Err Stop.Memory → register (view ⟦<R as Ram>⟧ self.old) a0 % 2 ^ 32 ≡ 1 }
         ensures count { result ≡ Err Stop.Memory → 0 < register (view ⟦<R as Ram>⟧ self.old) a2 }
     {
-        if self.register(A0) % 0x1_0000_0000 != OUTPUT {
-            self.put(A0, BAD_DESCRIPTOR);
+        if self.register(FIRST_ARGUMENT) % 0x1_0000_0000 != OUTPUT {
+            self.put(FIRST_ARGUMENT, abi::BAD_DESCRIPTOR);
             return Ok(());
         }
-        let at = self.register(A1);
-        let count = self.register(A2);
+        let at = self.register(SECOND_ARGUMENT);
+        let count = self.register(THIRD_ARGUMENT);
         if !allowed(&self.ram, Access::Read, at, count) {
             return Err(Stop::Fault(Fault::Load, self.pc));
         }
         match put_out(&self.ram, at, count, &mut self.output) {
             Ok(()) => {
-                self.put(A0, count);
+                self.put(FIRST_ARGUMENT, count);
                 Ok(())
             }
             Err(AllocError) => Err(Stop::Memory),

@@ -4,6 +4,7 @@ ghost use Rattle.std.specs.Prelude.{◌≡◌, ℕ, ◌+◌, ◌*◌, ◌<◌, �
 ghost use Rattle.rv_isa.specs.Start.{argument_bytes, pointer_bytes, stack_top, word_bytes};
 ghost use Rattle.rv_machine.specs.Words.{are_arguments, hold_no_zero, texts};
 
+use rv_isa::abi;
 use std::alloc::{AllocError, Global};
 
 /// The most argument words that a program is given.
@@ -11,9 +12,6 @@ pub const MOST_WORDS: usize = 1024;
 
 /// The most bytes that they have, each with its closing zero.
 pub const MOST_BYTES: usize = 65_536;
-
-/// The stack pointer at the start, and the address of the arguments.
-pub const STACK_TOP: u64 = 0x1000_0000;
 
 /// Whether a program can be given these words: there are at most [`MOST_WORDS`], with at most [`MOST_BYTES`] bytes, and none holds a zero.
 pub fn are_arguments(words: &[&[u8]]) -> bool
@@ -58,7 +56,7 @@ pub(crate) fn argument_bytes(alloc: Global, words: &[&[u8]]) -> Result<Vec<u8>, 
     let count = words.len() as u64;
     let mut bytes = Vec::new(alloc);
     bytes.extend_from_slice(&count.to_le_bytes())?;
-    push_pointers(words, STACK_TOP + 40 + 8 * count, &mut bytes)?;
+    push_pointers(words, abi::STACK_TOP + 40 + 8 * count, &mut bytes)?;
     bytes.extend_from_slice(&[0; 32])?;
     push_words(words, &mut bytes)?;
     Ok(bytes)

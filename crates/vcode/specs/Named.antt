@@ -1,6 +1,7 @@
 -- The places that a code names.
 use Rattle.std.specs.Prelude.{ℕ, Bool, true, not, ◌&&◌, nat_lt, nat_le, List, [], ◌∷◌, Option, Some, None}
 use Rattle.std.specs.List.{list_all, list_any}
+use Rattle.rv_isa.specs.declared.abi.TheConstants.{FIRST_TEMPORARY, LAST_SAVED}
 use Rattle.vcode.specs.declared.place.Operand.{Operand}
 use Rattle.vcode.specs.declared.place.Operand.TheVariants.{At}
 use Rattle.vcode.specs.declared.place.Destination.{Destination}
@@ -66,9 +67,9 @@ are_low params = list_all (λ (d : Destination ℕ). nat_lt d.place 128) params
 
 -- ---- registers and slots
 
--- x5 to x27; x28 to x31 are free for the instructions that a line becomes
+-- temporaries, arguments and saved registers; the scratch registers are free for the instructions that a line becomes
 abbrev pub is_place : (slots : ℕ) → Location → Bool
-is_place slots (Register r) = nat_le 5 r && nat_le r 27
+is_place slots (Register r) = nat_le FIRST_TEMPORARY r && nat_le r LAST_SAVED
 is_place slots (Slot s) = nat_lt s slots
 
 -- a parameter's slot is reached by one instruction

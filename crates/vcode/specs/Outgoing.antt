@@ -1,13 +1,14 @@
 -- How many arguments a code passes on the stack.
 use Rattle.std.specs.Prelude.{ℕ, ◌-◌, max, List, [], ◌∷◌, length}
+use Rattle.rv_isa.specs.declared.abi.TheConstants.{ARGUMENT_REGISTERS}
 use Rattle.vcode.specs.declared.line.Line.{Line}
 use Rattle.vcode.specs.declared.line.Line.TheVariants.{Call}
 use Rattle.vcode.specs.declared.code.Block.{Block}
 use Rattle.vcode.specs.declared.code.Code.{Code}
 
--- the arguments of a call that are passed on the stack: those past the eighth
+-- the arguments of a call that are passed on the stack: those that registers don't pass
 abbrev pub args_on_stack : {P : Type 0} → Line P → ℕ
-args_on_stack (Call to callee args) = length args - 8
+args_on_stack (Call to callee args) = length args - ARGUMENT_REGISTERS
 args_on_stack l = 0
 
 abbrev pub most_in_lines : {P : Type 0} → List (Line P) → ℕ

@@ -1,6 +1,7 @@
 -- Places: how they are told apart, and which ones a call makes unknown.
 use Rattle.std.specs.Prelude.{ℕ, Bool, false, ◌&&◌, ◌||◌, nat_eq, nat_le, if◌then◌else◌, Option, Some, None}
 use Rattle.il_ast.specs.declared.value.Value.{Value}
+use Rattle.rv_isa.specs.declared.abi.TheConstants.{RETURN_ADDRESS, FIRST_TEMPORARY, LAST_TEMPORARY, FIRST_ARGUMENT, LAST_ARGUMENT, FIRST_SCRATCH, JUMP_SCRATCH}
 use Rattle.vcode.specs.declared.place.Location.{Location}
 use Rattle.vcode.specs.declared.place.Location.TheVariants.{Register, Slot}
 
@@ -38,9 +39,12 @@ same_location (Register a) (Register b) = nat_eq a b
 same_location (Slot a) (Slot b) = nat_eq a b
 same_location p q = false
 
--- the caller's registers (RISC-V ELF psABI, "Integer Register Convention"): x1, x5 to x7, x10 to x17, x28 to x31
+-- the caller's registers (RISC-V ELF psABI, "Integer Register Convention"): the return address, temporaries, arguments and scratch
 abbrev pub is_callers : Location → Bool
-is_callers (Register r) = nat_eq r 1 || ((nat_le 5 r && nat_le r 7) || ((nat_le 10 r && nat_le r 17) || (nat_le 28 r && nat_le r 31)))
+is_callers (Register r) =
+    nat_eq r RETURN_ADDRESS
+    || ((nat_le FIRST_TEMPORARY r && nat_le r LAST_TEMPORARY)
+    || ((nat_le FIRST_ARGUMENT r && nat_le r LAST_ARGUMENT) || (nat_le FIRST_SCRATCH r && nat_le r JUMP_SCRATCH)))
 is_callers (Slot s) = false
 
 abbrev pub located : Places Location
