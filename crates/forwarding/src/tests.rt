@@ -372,12 +372,16 @@ fn put(operation: Operation, number: u64) -> Option<(Operation, Operand<u32>)> {
         left: Operand::At(0),
         right: Operand::Number(number),
     });
+    operation_in(&line)
+}
+
+fn operation_in(line: &Line<u32>) -> Option<(Operation, Operand<u32>)> {
     match line {
         Line::Operate {
             operation,
             right,
             ..
-        } => Some((operation, right)),
+        } => Some((*operation, *right)),
         _ => None,
     }
 }
@@ -447,6 +451,11 @@ fn known_branches(alloc: Global) -> Result<VFunc, AllocError> {
         to: 0,
         value: Operand::Number(7),
     })?;
+    let mut second = Seq::new(alloc);
+    second.push(Line::Tick {
+        turn: true,
+        weight: 1,
+    })?;
     let mut last = Seq::new(alloc);
     last.push(Line::Tick {
         turn: true,
@@ -462,12 +471,12 @@ fn known_branches(alloc: Global) -> Result<VFunc, AllocError> {
                 left: Operand::At(0),
                 right: Operand::Number(0),
             },
-            met: 0,
-            otherwise: 1,
+            met: 1,
+            otherwise: 2,
         },
     })?;
     blocks.push(Block {
-        lines: last,
+        lines: second,
         jump: Jump::Branch {
             on: Comparison {
                 condition: Condition::Equal,
@@ -475,9 +484,13 @@ fn known_branches(alloc: Global) -> Result<VFunc, AllocError> {
                 left: Operand::Number(1),
                 right: Operand::Number(4_294_967_297),
             },
-            met: 1,
-            otherwise: 0,
+            met: 2,
+            otherwise: 1,
         },
+    })?;
+    blocks.push(Block {
+        lines: last,
+        jump: Jump::Return(None),
     })?;
     Ok(VFunc {
         code: Code {
@@ -493,7 +506,7 @@ fn known_branches(alloc: Global) -> Result<VFunc, AllocError> {
 fn branches_on_numbers_are_jumps(rt: HostRuntime) -> Result<(), Fail> {
     let function = known_branches(rt.alloc())?;
     let made = forward(rt.alloc(), &function)?;
-    assert_eq!(rt; jump_of(&made, 0), Jump::Goto(0));
-    assert_eq!(rt; jump_of(&made, 1), Jump::Goto(1));
+    assert_eq!(rt; jump_of(&made, 0), Jump::Goto(1));
+    assert_eq!(rt; jump_of(&made, 1), Jump::Goto(2));
     Ok(())
 }
