@@ -1,6 +1,7 @@
 -- Whose value each place holds, as a table has it.
-use Rattle.std.specs.Prelude.{◌≡◌, ℕ, ◌≤◌, Bool, false, ◌&&◌, nat_lt, nat_le, if◌then◌else◌, List, length, slice_get, Option, Some, None}
+use Rattle.std.specs.Prelude.{◌≡◌, ℕ, ◌+◌, ◌≤◌, Bool, false, ◌&&◌, nat_lt, nat_le, if◌then◌else◌, List, length, slice_get, Option, Some, None}
 use Rattle.std.specs.Option.{option_map_or}
+use Rattle.rv_isa.specs.declared.abi.TheConstants.{LAST_SAVED}
 use Rattle.vcode.specs.declared.place.Location.{Location}
 use Rattle.vcode.specs.declared.place.Location.TheVariants.{Register, Slot}
 use Rattle.vcode.specs.Places.{same_location}
@@ -28,12 +29,12 @@ own_of t q = counted t.begun t.written.items (cell_at t q)
 
 -- the place has a cell in a table for so many virtual registers
 abbrev pub in_table : (registers : ℕ) → Location → Bool
-in_table registers (Register k) = nat_lt k 28
+in_table registers (Register k) = nat_le k LAST_SAVED
 in_table registers (Slot s) = nat_lt s registers
 
 -- a table for so many virtual registers, in which nothing is later than this
 pub record IsTable (registers time : ℕ) (t : Table) : Type 0 where
-  pub machine : length t.machine.items ≡ 28
+  pub machine : length t.machine.items ≡ LAST_SAVED + 1
   pub slots : length t.slots.items ≡ registers
   pub written : length t.written.items ≡ registers
   pub begun : t.begun ≤ time

@@ -9,6 +9,7 @@ ghost use Rattle.alloc_check.specs.Accepted.{is_placed, exists_in, equalities_ex
 use certificates::certificate::Equality;
 use il_ast::list::Seq;
 use il_ast::operation::Class;
+use rv_isa::abi;
 use vcode::code::{Block, Code};
 use vcode::cost::is_paid;
 use vcode::line::{Jump, Line, Operation};
@@ -18,7 +19,7 @@ fn is_place(slots: u32, place: Location) -> bool
     ensures { result ≡ is_place slots place }
 {
     match place {
-        Location::Register(number) => 5 <= number && number <= 27,
+        Location::Register(number) => abi::FIRST_TEMPORARY <= number && number <= abi::LAST_SAVED,
         Location::Slot(slot) => slot < slots,
     }
 }

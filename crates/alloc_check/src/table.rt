@@ -1,5 +1,6 @@
 //! Whose value each place holds, in a table: asking and writing take the same time however many places there are.
-ghost use Rattle.std.specs.Prelude.{◌≡◌, ◌<◌, ◌≤◌, ◌+◌, ◌^◌, ℕ, length, if◌then◌else◌, None, IfOk, IsTrue, slice_get};
+ghost use Rattle.std.specs.Prelude.{◌≡◌, ◌<◌, ◌≤◌, ◌+◌, ◌^◌, ℕ, length, if◌then◌else◌, None, IfOk, IsTrue, slice_get, nat_le, ◌&&◌};
+ghost use Rattle.rv_isa.specs.declared.abi.TheConstants.{LAST_SAVED};
 ghost use Rattle.vcode.specs.declared.place.Location.TheVariants.{Register};
 ghost use Rattle.vcode.specs.Places.{is_callers};
 ghost use Rattle.alloc_check.specs.Owners.{nobody, own_kept, where_held};
@@ -7,11 +8,12 @@ ghost use Rattle.alloc_check.specs.Table.{cell, cell_at, counts, own_of, in_tabl
 ghost use Rattle.alloc_check.specs.Walk.{put_in, move_in, also_in};
 
 use certificates::certificate::{Equality, Transfer};
+use rv_isa::abi;
 use std::alloc::{AllocError, Global};
 use vcode::place::Location;
 
-/// The registers that code may name are below this.
-const MACHINE: usize = 28;
+/// How many registers have a cell: those that code may name are below.
+const MACHINE: usize = abi::LAST_SAVED as usize + 1;
 
 /// A virtual register whose value came to a place at a time.
 #[derive(Clone, Copy)]
@@ -42,18 +44,24 @@ fn has_cell(registers: u32, place: Location) -> bool
     ensures { result ≡ in_table registers place }
 {
     match place {
-        Location::Register(number) => number < 28,
+        Location::Register(number) => number <= abi::LAST_SAVED,
         Location::Slot(slot) => slot < registers,
     }
+}
+
+fn is_between(first: u8, last: u8, register: usize) -> bool
+    ensures { result ≡ (nat_le first register && nat_le register last) }
+{
+    usize::from(first) <= register && register <= usize::from(last)
 }
 
 fn is_callers(register: usize) -> bool
     ensures { result ≡ is_callers (Register register) }
 {
-    register == 1
-        || (5 <= register && register <= 7)
-        || (10 <= register && register <= 17)
-        || (28 <= register && register <= 31)
+    register == usize::from(abi::RETURN_ADDRESS)
+        || is_between(abi::FIRST_TEMPORARY, abi::LAST_TEMPORARY, register)
+        || is_between(abi::FIRST_ARGUMENT, abi::LAST_ARGUMENT, register)
+        || is_between(abi::FIRST_SCRATCH, abi::JUMP_SCRATCH, register)
 }
 
 // What a register of the machine holds after a call.
@@ -144,7 +152,7 @@ impl Table {
 
     fn write(&mut self, registers: u32, place: Location, held: Option<Held>)
         requires inside { IsTrue (in_table registers place) }
-        requires machine { length self.old.machine.items ≡ 28 }
+        requires machine { length self.old.machine.items ≡ LAST_SAVED + 1 }
         requires slots { length self.old.slots.items ≡ registers }
         ensures { Rewrites place held self.old self.new }
     {
