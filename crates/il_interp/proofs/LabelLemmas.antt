@@ -1,13 +1,9 @@
 -- The phis of a linked program: each label has one argument.
-use Rattle.std.proofs.Common.{◌≡◌, ℕ, zero, suc, ◌+◌, ◌<◌, ◌≤◌, Bool, true, false, not, cond, nat_eq, nat_lt, ◌&&◌, ◌||◌, List, [], ◌∷◌, ◌++◌, length, get_or, refl, sym, ◌∙◌, ap, subst, arith}
-use Rattle.std.specs.Prelude.{slice_get, Option, Some, None}
-use Rattle.std.specs.List.{find, list_all, flat_map}
-use Rattle.std.proofs.lemmas.List.Recursion.{is_count_by}
-use Rattle.std.proofs.lemmas.Bool.Decides.{nat_tests}
+use Rattle.std.proofs.Common.{◌≡◌, ℕ, zero, suc, ◌+◌, Bool, true, false, List, [], ◌∷◌, ◌++◌, refl, sym, ◌∙◌, subst}
+use Rattle.std.specs.Prelude.{slice_get, Some, None}
+use Rattle.std.specs.List.{flat_map}
 use Rattle.std.proofs.lemmas.Bool.{false≢true}
 use Rattle.std.proofs.lemmas.Grind.{not_there}
-use Rattle.il_ast.specs.declared.block.PhiArg.{PhiArg}
-use Rattle.il_ast.specs.declared.block.Phi.{Phi}
 use Rattle.il_ast.specs.declared.block.Block.{Block}
 use Rattle.il_ast.specs.declared.function.Func.{Func}
 use Rattle.il_ast.specs.declared.text.Definition.{Definition}
@@ -15,119 +11,15 @@ use Rattle.il_ast.specs.declared.text.Definition.TheVariants.{Function, Object}
 use Rattle.il_ast.specs.declared.program.Placed.{Placed}
 use Rattle.il_types.specs.declared.checked.Checked.{Checked}
 use Rattle.il_types.specs.declared.rule.Rule.TheVariants.{PhiCoversPredecessors}
-use Rattle.il_types.specs.First.{when, or_else, first}
-use Rattle.il_types.specs.Locals.{names_from, is_predecessor, jumps_to, covers, phi_sites, first_repeated, uncovered_in, uncovered_phi}
+use Rattle.il_types.specs.First.{first}
+use Rattle.il_types.specs.Locals.{uncovered_phi}
 use Rattle.il_types.specs.Rules.{broken_in}
+use Rattle.il_types.specs.Arguments.{are_all_distinct}
+use Rattle.il_types.proofs.ArgumentLemmas.{none_first, block_distinct}
 use Rattle.obj_link.specs.declared.linked.Linked.{Linked}
 use Rattle.obj_link.specs.Names.{function_in, functions_from}
 use Rattle.obj_link.specs.Program.{IsProgram}
 use Rattle.obj_link.specs.ProgramOf.{program}
-use Rattle.il_interp.specs.Labels.{are_distinct, are_all_distinct}
-
-pub get_there : {A : Type 0} (xs : List A) (k : ℕ) (x : A) → k < length xs → x ≡ get_or xs k x → slice_get xs k ≡ Some x
-get_there [] k x lt at = absurd (omega arith)
-get_there (y ∷ xs) zero x lt at = ap Some (sym at)
-get_there (y ∷ xs) (suc k) x lt at = get_there xs k x (omega arith) at
-
--- ---- one phi
-
-abbrev names : ℕ → List PhiArg → ℕ
-names l [] = 0
-names l (a ∷ args) = cond (nat_eq a.from l) (1 + names l args) (names l args)
-
-names_is : (l : ℕ) (args : List PhiArg) → names l args ≡ names_from l args
-names_is l args = is_count_by (names l) (λ (a : PhiArg). nat_eq a.from l) refl (λ a rest. refl) args
-
-one_more : (b : Bool) (n : ℕ) → n ≤ cond b (1 + n) n
-one_more true n = omega arith
-one_more false n = omega arith
-
-is_named : (l : ℕ) (args : List PhiArg) (k : ℕ) (a : PhiArg) → slice_get args k ≡ Some a → nat_eq a.from l ≡ true → 1 ≤ names l args
-is_named l [] k a at here = absurd (let no : ⊥ = cc in no)
-is_named l (x ∷ args) zero a at here =
-    let same : x ≡ a = cc in
-    let yes' : nat_eq x.from l ≡ true = ap (λ (y : PhiArg). nat_eq y.from l) same ∙ here in
-    let e : cond (nat_eq x.from l) (1 + names l args) (names l args) ≡ 1 + names l args = ap (λ b. cond b (1 + names l args) (names l args)) yes' in
-    omega (arith, e)
-is_named l (x ∷ args) (suc k) a at here =
-    let later = is_named l args k a at here in
-    let more = one_more (nat_eq x.from l) (names l args) in
-    omega (arith, later, more)
-
-found_there : (l : ℕ) (args : List PhiArg) (k : ℕ) (a : PhiArg) → names l args ≡ 1 → slice_get args k ≡ Some a → nat_eq a.from l ≡ true → find (λ (x : PhiArg). nat_eq x.from l) args ≡ Some a
-found_there l [] k a one at here = absurd (let no : ⊥ = cc in no)
-found_there l (x ∷ args) zero a one at here =
-    let same : x ≡ a = cc in
-    let yes' : nat_eq x.from l ≡ true = ap (λ (y : PhiArg). nat_eq y.from l) same ∙ here in
-    ap (λ b. cond b (Some x) (find (λ (y : PhiArg). nat_eq y.from l) args)) yes' ∙ ap Some same
-found_there l (x ∷ args) (suc k) a one at here = by (λ h. found_there l args k a h at here) (nat_eq x.from l) refl
-  where
-    by : (names l args ≡ 1 → find (λ (y : PhiArg). nat_eq y.from l) args ≡ Some a) → (b : Bool) → nat_eq x.from l ≡ b → find (λ (y : PhiArg). nat_eq y.from l) (x ∷ args) ≡ Some a
-    by rest true e =
-        let two : cond (nat_eq x.from l) (1 + names l args) (names l args) ≡ 1 + names l args = ap (λ b. cond b (1 + names l args) (names l args)) e in
-        let later = is_named l args k a at here in
-        absurd (omega (arith, one, two, later))
-    by rest false e =
-        let still : cond (nat_eq x.from l) (1 + names l args) (names l args) ≡ names l args = ap (λ b. cond b (1 + names l args) (names l args)) e in
-        ap (λ b. cond b (Some x) (find (λ (y : PhiArg). nat_eq y.from l) args)) e ∙ rest (sym still ∙ one)
-
-both_true : (a b : Bool) → (a && b) ≡ true → (a ≡ true) × (b ≡ true)
-both_true true b h = (refl, h)
-both_true false b h = absurd (let no : ⊥ = cc in no)
-
-pub all_at : {A : Type 0} (p : A → Bool) (xs : List A) (k : ℕ) (x : A) → list_all p xs ≡ true → slice_get xs k ≡ Some x → p x ≡ true
-all_at p [] k x h at = absurd (let no : ⊥ = cc in no)
-all_at p (y ∷ xs) zero x h at = let same : y ≡ x = cc in ap p (sym same) ∙ (both_true (p y) (list_all p xs) h).0
-all_at p (y ∷ xs) (suc k) x h at = all_at p xs k x (both_true (p y) (list_all p xs) h).1 at
-
--- an argument with the label is the one that a search finds
-pub found_at : (args : List PhiArg) (k : ℕ) (a : PhiArg) (l : ℕ) → are_distinct args ≡ true → slice_get args k ≡ Some a → nat_eq a.from l ≡ true → find (λ (x : PhiArg). nat_eq x.from l) args ≡ Some a
-found_at args k a l distinct at here =
-    let once : nat_eq (names_from a.from args) 1 ≡ true = all_at (λ (x : PhiArg). nat_eq (names_from x.from args) 1) args k a distinct at in
-    let same : a.from ≡ l = grind (arith, nat_tests) in
-    let one : names_from a.from args ≡ 1 = grind (arith, nat_tests) in
-    found_there l args k a (names_is l args ∙ (ap (λ m. names_from m args) (sym same) ∙ one)) at here
-
--- ---- the phis of a block of a function that breaks no rule
-
-none_first : (a b : Option ℕ) → or_else a b ≡ None → (a ≡ None) × (b ≡ None)
-none_first None b h = (refl, h)
-none_first (Some n) b h = absurd (let no : ⊥ = cc in no)
-
-none_at : {A : Type 0} (g : A → Option ℕ) (xs : List A) (k : ℕ) (x : A) → first g xs ≡ None → slice_get xs k ≡ Some x → g x ≡ None
-none_at g [] k x h at = absurd (let no : ⊥ = cc in no)
-none_at g (y ∷ xs) zero x h at = let same : y ≡ x = cc in ap g (sym same) ∙ (none_first (g y) (first g xs) h).0
-none_at g (y ∷ xs) (suc k) x h at = none_at g xs k x (none_first (g y) (first g xs) h).1 at
-
-kept : (b : Bool) (line : ℕ) → when (not b) line ≡ None → b ≡ true
-kept true line h = refl
-kept false line h = absurd (let no : ⊥ = cc in no)
-
-weaker : {A : Type 0} (p q : A → Bool) (xs : List A) → list_all (λ x. p x && q x) xs ≡ true → list_all p xs ≡ true
-weaker p q [] h = refl
-weaker p q (x ∷ xs) h =
-    let both = both_true (p x && q x) (list_all (λ y. p y && q y) xs) h in
-    ap (λ b. b && list_all p xs) (both_true (p x) (q x) both.0).0 ∙ weaker p q xs both.1
-
-all_by_none : {A : Type 0} (g : A → Option ℕ) (p : A → Bool) → ((x : A) → g x ≡ None → p x ≡ true) → (xs : List A) → first g xs ≡ None → list_all p xs ≡ true
-all_by_none g p each [] h = refl
-all_by_none g p each (x ∷ xs) h =
-    let both = none_first (g x) (first g xs) h in
-    ap (λ b. b && list_all p xs) (each x both.0) ∙ all_by_none g p each xs both.1
-
-block_distinct : (f : Func) → uncovered_phi f ≡ None → (n : ℕ) (b : Block) → slice_get f.blocks n ≡ Some b → are_all_distinct b.phis ≡ true
-block_distinct f good n b at =
-    let right : uncovered_in f.blocks b ≡ None = none_at (uncovered_in f.blocks) f.blocks n b good at in
-    let covered = (none_first (first_repeated (phi_sites b.phis)) (first (λ (p : Phi). when (not (covers f.blocks b.label p.args)) p.line) b.phis) right).1 in
-    all_by_none (λ (p : Phi). when (not (covers f.blocks b.label p.args)) p.line) (λ (p : Phi). are_distinct p.args) each b.phis covered
-  where
-    each : (p : Phi) → when (not (covers f.blocks b.label p.args)) p.line ≡ None → are_distinct p.args ≡ true
-    each p h =
-        weaker (λ (a : PhiArg). nat_eq (names_from a.from p.args) 1) (λ (a : PhiArg). is_predecessor f.blocks b.label a.from) p.args
-        (both_true (list_all (λ (a : PhiArg). nat_eq (names_from a.from p.args) 1 && is_predecessor f.blocks b.label a.from) p.args)
-        (list_all (λ (x : Block). not (jumps_to b.label x.jump) || nat_lt 0 (names_from x.label p.args)) f.blocks) (kept (covers f.blocks b.label p.args) p.line h)).0
-
--- ---- all functions
 
 abbrev AllCovered : List (Placed Func) → Type 0
 AllCovered [] = Unit {0}

@@ -8,4 +8,3 @@ pub mod Prepared
 pub mod Room
 pub mod Words
 pub mod Begun
-pub mod Labels

@@ -1,18 +1,15 @@
 -- What is worked out before a run: the room that functions need, and the places of their labels.
 use Rattle.std.specs.Prelude.{ℕ, List, map, slice_get, Option}
-use Rattle.std.specs.Option.{option_flatten, option_and_then}
+use Rattle.std.specs.Option.{option_and_then}
 use Rattle.il_ast.specs.declared.function.Func.{Func}
 use Rattle.il_ast.specs.declared.program.Placed.{Placed}
 use Rattle.il_ast.specs.Cost.{need}
 use Rattle.il_ast.specs.Effect.{place_of}
 use Rattle.il_types.specs.Capped.{capped}
+use Rattle.il_types.specs.Places.{place_in}
 
 abbrev pub needs_of : List (Placed Func) → List ℕ
 needs_of functions = map (λ (f : Placed Func). capped (need f.item)) functions
-
--- a table of places, by label
-abbrev pub place_in : List (Option ℕ) → ℕ → Option ℕ
-place_in table l = option_flatten (slice_get table l)
 
 -- tables of places, by function and label
 abbrev pub placed : List (List (Option ℕ)) → ℕ → ℕ → Option ℕ

@@ -9,7 +9,7 @@ ghost use Rattle.il_ast.specs.Effect.{branch_to, phi_value, phi_values, with_phi
 ghost use Rattle.il_ast.specs.Meaning.{end_of};
 ghost use Rattle.obj_link.specs.Shown.{shown};
 ghost use Rattle.obj_link.specs.ProgramOf.{program};
-ghost use Rattle.il_interp.specs.Labels.{are_distinct, are_all_distinct};
+ghost use Rattle.il_types.specs.Arguments.{are_distinct, are_all_distinct};
 ghost use Rattle.il_interp.specs.Prepared.{program_of};
 ghost use Rattle.il_interp.specs.Machine.{env_of, locals_of, received, return_to, react, stepped};
 
@@ -28,35 +28,17 @@ use il_ast::operation::Class;
 use il_ast::program::Placed;
 use il_ast::value::{End, Value};
 use il_mem::memory::BlockMemory;
+use il_types::arguments::{argument_at, search};
 use obj_link::linked::Linked;
 use std::alloc::AllocError;
 
-/// The first argument for the block come from.
-fn search(args: &[PhiArg], from: Label) -> Option<PhiArg>
-    ensures { result ≡ find (λ (a : PhiArgOf). nat_eq a.from from) args.now }
-{
-    for arg in args {
-        if arg.from.number() == from.number() {
-            return Some(*arg);
-        }
-    }
-    None
-}
-
 /// The argument of a phi for the block come from. It is the one at `place`, where that has the label.
-#[tactic(auto, using(crate::proofs::LabelLemmas::found_at))]
 fn argument(args: &[PhiArg], from: Label, place: usize) -> Option<PhiArg>
     requires { are_distinct args.now ≡ true }
     ensures { result ≡ find (λ (a : PhiArgOf). nat_eq a.from from) args.now }
 {
-    match args.get(place) {
-        Some(arg) => {
-            if arg.from.number() == from.number() {
-                Some(*arg)
-            } else {
-                search(args, from)
-            }
-        }
+    match argument_at(args, from, place) {
+        Some(arg) => Some(arg),
         None => search(args, from),
     }
 }

@@ -1,22 +1,21 @@
 //! What is worked out once, before a run.
-ghost use Rattle.std.specs.Prelude.{◌≡◌, ℕ, ◌+◌, ◌<◌, length, map, cond, nat_eq, slice_get, Some, None, IfOk, OnOk};
-ghost use Rattle.std.specs.Option.{option_or, option_map};
+ghost use Rattle.std.specs.Prelude.{◌≡◌, ℕ, map, slice_get, IfOk};
+ghost use Rattle.std.specs.Option.{option_map};
 ghost use Rattle.il_ast.specs.Cost.{need};
-ghost use Rattle.il_ast.specs.Effect.{place_of};
 ghost use Rattle.il_types.specs.Capped.{capped};
 ghost use Rattle.obj_link.specs.Shown.{shown};
-ghost use Rattle.il_interp.specs.Places.{needs_of, place_in, placed, places_of};
+ghost use Rattle.il_interp.specs.Places.{needs_of, placed, places_of};
 ghost use Rattle.il_interp.specs.Prepared.{program_of};
 ghost use Rattle.il_ast.specs.declared.function.Func.{Func as FuncOf};
 ghost use Rattle.il_ast.specs.declared.program.Placed.{Placed as PlacedOf};
 
 use crate::edges::{Edges, edges_of};
 use crate::prepared::Prepared;
-use il_ast::block::Block;
 use il_ast::function::Func;
 use il_ast::list::Seq;
 use il_ast::program::Placed;
 use il_types::cost::capped_need;
+use il_types::places::block_places;
 use obj_link::linked::Linked;
 use std::alloc::{AllocError, Global};
 
@@ -54,30 +53,6 @@ fn places(alloc: Global, functions: &[Placed<&Func>]) -> Result<Vec<Seq<Option<u
         tables.push(Seq::from_vec(table))?;
     }
     Ok(tables)
-}
-
-/// Where the block of each label stands.
-fn block_places(alloc: Global, blocks: &[Block]) -> Result<Vec<Option<usize>>, AllocError>
-    ensures { IfOk result (λ table. (l : ℕ) → place_in table.items l ≡ place_of blocks.now l) }
-{
-    let mut table = Vec::new(alloc);
-    for (place, block) in blocks.iter().enumerate() {
-        set_place(&mut table, block.label.number(), place)?;
-    }
-    Ok(table)
-}
-
-/// Gives a label its place, unless it has one.
-fn set_place(table: &mut Vec<Option<usize>>, label: usize, place: usize) -> Result<(), AllocError>
-    ensures { OnOk result ((l : ℕ) → place_in table.new.items l ≡ option_or (place_in table.old.items l) (cond (nat_eq label l) (Some place) None)) }
-{
-    while table.len() <= label {
-        table.push(None)?;
-    }
-    if table[label].is_none() {
-        table[label] = Some(place);
-    }
-    Ok(())
 }
 
 /// The edges from the blocks of each function.

@@ -3,3 +3,5 @@ pub mod FirstLemmas
 pub mod CoveringLemmas
 pub mod FaultLemmas
 pub mod TallyLemmas
+pub mod ArgumentLemmas
+pub mod PlaceTable

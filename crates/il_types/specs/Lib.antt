@@ -11,3 +11,5 @@ pub mod RuleNumber
 pub mod Rules
 pub mod Faults
 pub mod Refusals
+pub mod Arguments
+pub mod Places

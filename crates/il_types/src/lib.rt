@@ -10,11 +10,14 @@
 //! of the tree alone; the code uses tables. `cost` has what a function weighs and how much stack it
 //! needs, as `il_ast` defines them.
 //!
+//! `places` has the place of each label's block, and `arguments` the argument of a phi for a label, for whoever runs or lowers a good text.
+//!
 //! Each rule goes over a function once, with marks by number; that of phis has a row of predecessors for
 //! each label, and tallies that it clears behind itself. The crate stands on `il_ast` for the tree and on
 //! `thiserror` for the texts of refusals.
 #![tactic(auto)]
 
+pub mod arguments;
 pub mod check;
 pub mod checked;
 pub mod cost;
@@ -29,6 +32,7 @@ mod marks;
 mod objects;
 mod operands;
 mod phis;
+pub mod places;
 mod predecessors;
 mod repeats;
 pub mod rule;

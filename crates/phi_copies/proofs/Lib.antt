@@ -1,4 +1,4 @@
-pub mod ArgumentLemmas
+pub mod GoodPhis
 pub mod Placing
 pub mod Progress
 pub mod Paths

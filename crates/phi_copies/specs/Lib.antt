@@ -1,4 +1,3 @@
-pub mod Arguments
 pub mod Endings
 pub mod Good
 pub mod Keeping

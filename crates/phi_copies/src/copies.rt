@@ -2,7 +2,7 @@
 ghost use Rattle.std.specs.Prelude.{◌≡◌, ℕ, ◌+◌, ◌≤◌, length, nat_eq, true, Some, IfOk, IfSome, OnOk, ◌++◌};
 ghost use Rattle.std.specs.List.{find};
 ghost use Rattle.il_ast.specs.declared.block.PhiArg.{PhiArg as PhiArgOf};
-ghost use Rattle.phi_copies.specs.Arguments.{are_distinct, are_all_distinct};
+ghost use Rattle.il_types.specs.Arguments.{are_distinct, are_all_distinct};
 ghost use Rattle.phi_copies.specs.Lowered.{source, reads, writes, copies_of, entry_copies};
 
 use crate::ending::Assignment;
@@ -12,37 +12,8 @@ use il_ast::label::Label;
 use il_ast::list::Seq;
 use il_ast::operand::{Dest, Val};
 use il_ast::temp::Temp;
+use il_types::arguments::{argument_at, search};
 use std::alloc::{AllocError, Global};
-
-/// The first argument for the block of a label.
-fn search(args: &[PhiArg], from: Label) -> Option<PhiArg>
-    ensures { result ≡ find (λ (a : PhiArgOf). nat_eq a.from from) args.now }
-{
-    for arg in args {
-        if arg.from.number() == from.number() {
-            return Some(*arg);
-        }
-    }
-    None
-}
-
-/// The argument at a place, where that is the one for the block of a label.
-#[tactic(auto, using(crate::proofs::ArgumentLemmas::found_at))]
-fn argument_at(args: &[PhiArg], from: Label, place: usize) -> Option<PhiArg>
-    requires { are_distinct args.now ≡ true }
-    ensures { IfSome result (λ arg. find (λ (a : PhiArgOf). nat_eq a.from from) args.now ≡ Some arg) }
-{
-    match args.get(place) {
-        Some(arg) => {
-            if arg.from.number() == from.number() {
-                Some(*arg)
-            } else {
-                None
-            }
-        }
-        None => None,
-    }
-}
 
 /// The argument of a phi for the block of a label. It is looked for at two places first.
 fn argument(args: &[PhiArg], from: Label, place: usize, other: usize) -> Option<PhiArg>
@@ -143,7 +114,7 @@ fn copies_of(
 
 /// The copies where the block at a place is entered from the block of a label.
 
-#[tactic(auto, using(crate::proofs::ArgumentLemmas::good_distinct, crate::proofs::EntryNumbers::entry_small, crate::proofs::EntryNumbers::entry_found, crate::proofs::EntryNumbers::entry_unnumbered))]
+#[tactic(auto, using(crate::proofs::GoodPhis::good_distinct, crate::proofs::EntryNumbers::entry_small, crate::proofs::EntryNumbers::entry_found, crate::proofs::EntryNumbers::entry_unnumbered))]
 pub fn entry_copies(
     alloc: Global,
     map: &Map<'_>,

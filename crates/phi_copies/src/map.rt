@@ -1,16 +1,17 @@
 //! What is worked out once for a function.
-ghost use Rattle.std.specs.Prelude.{◌≡◌, ℕ, length, cond, nat_eq, slice_get, Some, None, IfOk, OnOk};
-ghost use Rattle.std.specs.Option.{option_or};
+ghost use Rattle.std.specs.Prelude.{◌≡◌, ℕ, length, slice_get, IfOk};
 ghost use Rattle.il_ast.specs.Effect.{place_of};
 ghost use Rattle.phi_copies.specs.Good.{IsGoodFunction};
 ghost use Rattle.phi_copies.specs.Lowered.{target, phis_at};
-ghost use Rattle.phi_copies.specs.Map.{place_in, first_numbers};
+ghost use Rattle.il_types.specs.Places.{place_in};
+ghost use Rattle.phi_copies.specs.Map.{first_numbers};
 ghost use Rattle.std.proofs.Props.{props};
 
 use crate::arguments::argument_places;
-use il_ast::block::{Block, Phi};
+use il_ast::block::Phi;
 use il_ast::function::Func;
 use il_ast::label::Label;
+use il_types::places::block_places;
 use std::alloc::{AllocError, Global};
 
 /// A function, with the place of each label's block and the number of the first temporary for each block's phis; and where to look for the arguments of phis for
@@ -40,30 +41,6 @@ pub fn map_of<'a>(alloc: Global, func: &'a Func) -> Result<Map<'a>, AllocError>
         firsts,
         arguments,
     })
-}
-
-/// Where the block of each label stands.
-fn block_places(alloc: Global, blocks: &[Block]) -> Result<Vec<Option<usize>>, AllocError>
-    ensures { IfOk result (λ table. (l : ℕ) → place_in table.items l ≡ place_of blocks.now l) }
-{
-    let mut table = Vec::new(alloc);
-    for (place, block) in blocks.iter().enumerate() {
-        set_place(&mut table, block.label.number(), place)?;
-    }
-    Ok(table)
-}
-
-/// Gives a label its place, unless it has one.
-fn set_place(table: &mut Vec<Option<usize>>, label: usize, place: usize) -> Result<(), AllocError>
-    ensures { OnOk result ((l : ℕ) → place_in table.new.items l ≡ option_or (place_in table.old.items l) (cond (nat_eq label l) (Some place) None)) }
-{
-    while table.len() <= label {
-        table.push(None)?;
-    }
-    if table[label].is_none() {
-        table[label] = Some(place);
-    }
-    Ok(())
 }
 
 /// The number of the first temporary for each block's phis.

@@ -2,8 +2,9 @@ use Rattle.std.proofs.Common.{◌≡◌, ◌∙◌, ap, sym, List}
 use Rattle.std.specs.Prelude.{slice_get, Some}
 use Rattle.il_ast.specs.declared.block.Block.{Block}
 use Rattle.obj_link.specs.Shown.{shown}
-use Rattle.il_interp.specs.Labels.{are_all_distinct}
-use Rattle.il_interp.proofs.LabelLemmas.{get_there, program_distinct}
+use Rattle.il_types.specs.Arguments.{are_all_distinct}
+use Rattle.il_types.proofs.ArgumentLemmas.{get_there}
+use Rattle.il_interp.proofs.LabelLemmas.{program_distinct}
 use Rattle.il_interp.proofs.jump.enter.Goals as goal
 
 pub read_phis-requires : goal.read_phis-requires

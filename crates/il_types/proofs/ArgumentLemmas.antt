@@ -1,19 +1,17 @@
--- The phis of a function of a good text: each label has one argument.
+-- The arguments of phis: in a function that breaks no rule each label has one, and so any argument with the label is the one.
 use Rattle.std.proofs.Common.{◌≡◌, ℕ, zero, suc, ◌+◌, ◌<◌, ◌≤◌, Bool, true, false, not, cond, nat_eq, nat_lt, ◌&&◌, ◌||◌, List, [], ◌∷◌, length, get_or, refl, sym, ◌∙◌, ap, arith}
 use Rattle.std.specs.Prelude.{slice_get, Option, Some, None}
 use Rattle.std.specs.List.{find, list_all}
 use Rattle.std.proofs.lemmas.List.Recursion.{is_count_by}
+use Rattle.std.proofs.lemmas.Bool.{and_parts}
 use Rattle.std.proofs.lemmas.Bool.Decides.{nat_tests}
 use Rattle.il_ast.specs.declared.block.PhiArg.{PhiArg}
 use Rattle.il_ast.specs.declared.block.Phi.{Phi}
 use Rattle.il_ast.specs.declared.block.Block.{Block}
 use Rattle.il_ast.specs.declared.function.Func.{Func}
-use Rattle.il_types.specs.declared.rule.Rule.TheVariants.{PhiCoversPredecessors}
 use Rattle.il_types.specs.First.{when, or_else, first}
 use Rattle.il_types.specs.Locals.{names_from, is_predecessor, jumps_to, covers, phi_sites, first_repeated, uncovered_in, uncovered_phi}
-use Rattle.phi_copies.specs.Good.{IsGoodFunction}
-use Rattle.phi_copies.specs.Arguments.{are_distinct, are_all_distinct}
-use Rattle.phi_copies.specs.Lowered.{phis_of, phis_at}
+use Rattle.il_types.specs.Arguments.{are_distinct, are_all_distinct}
 
 pub get_there : {A : Type 0} (xs : List A) (k : ℕ) (x : A) → k < length xs → x ≡ get_or xs k x → slice_get xs k ≡ Some x
 get_there [] k x lt at = absurd (omega arith)
@@ -62,14 +60,10 @@ found_there l (x ∷ args) (suc k) a one at here = by (λ h. found_there l args 
         let still : cond (nat_eq x.from l) (1 + names l args) (names l args) ≡ names l args = ap (λ b. cond b (1 + names l args) (names l args)) e in
         ap (λ b. cond b (Some x) (find (λ (y : PhiArg). nat_eq y.from l) args)) e ∙ rest (sym still ∙ one)
 
-both_true : (a b : Bool) → (a && b) ≡ true → (a ≡ true) × (b ≡ true)
-both_true true b h = (refl, h)
-both_true false b h = absurd (let no : ⊥ = cc in no)
-
 pub all_at : {A : Type 0} (p : A → Bool) (xs : List A) (k : ℕ) (x : A) → list_all p xs ≡ true → slice_get xs k ≡ Some x → p x ≡ true
 all_at p [] k x h at = absurd (let no : ⊥ = cc in no)
-all_at p (y ∷ xs) zero x h at = let same : y ≡ x = cc in ap p (sym same) ∙ (both_true (p y) (list_all p xs) h).0
-all_at p (y ∷ xs) (suc k) x h at = all_at p xs k x (both_true (p y) (list_all p xs) h).1 at
+all_at p (y ∷ xs) zero x h at = let same : y ≡ x = cc in ap p (sym same) ∙ (and_parts (p y) (list_all p xs) h).0
+all_at p (y ∷ xs) (suc k) x h at = all_at p xs k x (and_parts (p y) (list_all p xs) h).1 at
 
 -- an argument with the label is the one that a search finds
 pub found_at : (args : List PhiArg) (k : ℕ) (a : PhiArg) (l : ℕ) → are_distinct args ≡ true → slice_get args k ≡ Some a → nat_eq a.from l ≡ true → find (λ (x : PhiArg). nat_eq x.from l) args ≡ Some a
@@ -81,11 +75,11 @@ found_at args k a l distinct at here =
 
 -- ---- the phis of a block of a function that breaks no rule
 
-none_first : (a b : Option ℕ) → or_else a b ≡ None → (a ≡ None) × (b ≡ None)
+pub none_first : (a b : Option ℕ) → or_else a b ≡ None → (a ≡ None) × (b ≡ None)
 none_first None b h = (refl, h)
 none_first (Some n) b h = absurd (let no : ⊥ = cc in no)
 
-none_at : {A : Type 0} (g : A → Option ℕ) (xs : List A) (k : ℕ) (x : A) → first g xs ≡ None → slice_get xs k ≡ Some x → g x ≡ None
+pub none_at : {A : Type 0} (g : A → Option ℕ) (xs : List A) (k : ℕ) (x : A) → first g xs ≡ None → slice_get xs k ≡ Some x → g x ≡ None
 none_at g [] k x h at = absurd (let no : ⊥ = cc in no)
 none_at g (y ∷ xs) zero x h at = let same : y ≡ x = cc in ap g (sym same) ∙ (none_first (g y) (first g xs) h).0
 none_at g (y ∷ xs) (suc k) x h at = none_at g xs k x (none_first (g y) (first g xs) h).1 at
@@ -97,8 +91,8 @@ kept false line h = absurd (let no : ⊥ = cc in no)
 weaker : {A : Type 0} (p q : A → Bool) (xs : List A) → list_all (λ x. p x && q x) xs ≡ true → list_all p xs ≡ true
 weaker p q [] h = refl
 weaker p q (x ∷ xs) h =
-    let both = both_true (p x && q x) (list_all (λ y. p y && q y) xs) h in
-    ap (λ b. b && list_all p xs) (both_true (p x) (q x) both.0).0 ∙ weaker p q xs both.1
+    let both = and_parts (p x && q x) (list_all (λ y. p y && q y) xs) h in
+    ap (λ b. b && list_all p xs) (and_parts (p x) (q x) both.0).0 ∙ weaker p q xs both.1
 
 all_by_none : {A : Type 0} (g : A → Option ℕ) (p : A → Bool) → ((x : A) → g x ≡ None → p x ≡ true) → (xs : List A) → first g xs ≡ None → list_all p xs ≡ true
 all_by_none g p each [] h = refl
@@ -106,7 +100,7 @@ all_by_none g p each (x ∷ xs) h =
     let both = none_first (g x) (first g xs) h in
     ap (λ b. b && list_all p xs) (each x both.0) ∙ all_by_none g p each xs both.1
 
-block_distinct : (f : Func) → uncovered_phi f ≡ None → (n : ℕ) (b : Block) → slice_get f.blocks n ≡ Some b → are_all_distinct b.phis ≡ true
+pub block_distinct : (f : Func) → uncovered_phi f ≡ None → (n : ℕ) (b : Block) → slice_get f.blocks n ≡ Some b → are_all_distinct b.phis ≡ true
 block_distinct f good n b at =
     let right : uncovered_in f.blocks b ≡ None = none_at (uncovered_in f.blocks) f.blocks n b good at in
     let covered = (none_first (first_repeated (phi_sites b.phis)) (first (λ (p : Phi). when (not (covers f.blocks b.label p.args)) p.line) b.phis) right).1 in
@@ -115,13 +109,5 @@ block_distinct f good n b at =
     each : (p : Phi) → when (not (covers f.blocks b.label p.args)) p.line ≡ None → are_distinct p.args ≡ true
     each p h =
         weaker (λ (a : PhiArg). nat_eq (names_from a.from p.args) 1) (λ (a : PhiArg). is_predecessor f.blocks b.label a.from) p.args
-        (both_true (list_all (λ (a : PhiArg). nat_eq (names_from a.from p.args) 1 && is_predecessor f.blocks b.label a.from) p.args)
+        (and_parts (list_all (λ (a : PhiArg). nat_eq (names_from a.from p.args) 1 && is_predecessor f.blocks b.label a.from) p.args)
         (list_all (λ (x : Block). not (jumps_to b.label x.jump) || nat_lt 0 (names_from x.label p.args)) f.blocks) (kept (covers f.blocks b.label p.args) p.line h)).0
-
--- the phis of the block at a place
-pub good_distinct : (f : Func) (k : ℕ) → IsGoodFunction f → are_all_distinct (phis_at f.blocks k) ≡ true
-good_distinct f k good = by (slice_get f.blocks k) refl
-  where
-    by : (b : Option Block) → slice_get f.blocks k ≡ b → are_all_distinct (phis_of b) ≡ true
-    by None e = refl
-    by (Some b) e = block_distinct f (good.rules PhiCoversPredecessors) k b e

@@ -1,6 +1,6 @@
 use Rattle.std.proofs.Common.{◌≡◌, ℕ, ◌+◌, ◌-◌, length}
-use Rattle.phi_copies.specs.Map.{place_in}
-use Rattle.phi_copies.proofs.map.set_place.Given as goal
+use Rattle.il_types.specs.Places.{place_in}
+use Rattle.il_types.proofs.places.set_place.Given as goal
 
 abbrev pub invariant-loop-table : goal.invariant-loop-table
 invariant-loop-table l = (j : ℕ) → place_in l.table.items j ≡ place_in l.fn.table.items j

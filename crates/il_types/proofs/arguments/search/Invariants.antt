@@ -1,7 +1,7 @@
 use Rattle.std.proofs.Common.{◌≡◌, drop, nat_eq}
 use Rattle.std.specs.List.{find}
 use Rattle.il_ast.specs.declared.block.PhiArg.{PhiArg}
-use Rattle.il_interp.proofs.jump.search.Given as goal
+use Rattle.il_types.proofs.arguments.search.Given as goal
 
 abbrev pub invariant-loop-arg : goal.invariant-loop-arg
 invariant-loop-arg l = find (λ (a : PhiArg). nat_eq a.from l.from) (drop l.arg-index l.args) ≡ find (λ (a : PhiArg). nat_eq a.from l.from) l.args

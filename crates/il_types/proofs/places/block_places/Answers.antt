@@ -1,9 +1,9 @@
 use Rattle.std.proofs.Common.{◌∙◌, sym, ap, cond, nat_eq}
 use Rattle.std.specs.Prelude.{Some, None}
 use Rattle.std.specs.Option.{option_or}
-use Rattle.il_interp.specs.Places.{place_in}
-use Rattle.il_interp.proofs.PlaceLemmas.{places_further}
-use Rattle.il_interp.proofs.prepare.block_places.Goals as goal
+use Rattle.il_types.specs.Places.{place_in}
+use Rattle.il_types.proofs.PlaceTable.{places_further}
+use Rattle.il_types.proofs.places.block_places.Goals as goal
 
 pub loop-place-preserved : goal.loop-place-preserved
 loop-place-preserved c =
