@@ -30,7 +30,7 @@ pub record RanFile (words : List (List ℕ)) (limit : ℕ) (old new : Option (Li
   pub went : Went old new output
 
 pub record RanText (words : List (List ℕ)) (turns : ℕ) (old new : Option (List ℕ)) (ending : End) : Type 0 where
-  pub text : Bor (List ℕ)
+  pub text : List ℕ
   pub output : List ℕ
   pub means : MeansText text words turns output ending
   pub went : Went old new output
@@ -50,7 +50,7 @@ RunFails path words limit old new f =
 
 abbrev pub InterpretFails : Bor (List ℕ) → (words : List (List ℕ)) (turns : ℕ) (old new : Option (List ℕ)) → Failure → Type 0
 InterpretFails path words turns old new f =
-    (IsUnread path f × (new ≡ old)) ⊎ ((text : Bor (List ℕ)) × TextIsRefused text words f × (new ≡ old))
+    (IsUnread path f × (new ≡ old)) ⊎ ((text : List ℕ) × TextIsRefused text words f × (new ≡ old))
     ⊎ ((ending : End) × RanText words turns old new ending × (end_status ending ≡ Err f)) ⊎ (f ≡ Output)
 
 -- a disassembly where the file is unread or refused, there was no memory, or standard output failed

@@ -1,22 +1,19 @@
 -- Which failure each refusal becomes, and what a failure says of a file or of a text.
 use Rattle.std.specs.Prelude.{◌≡◌, ◌⊎◌, ℕ, false, List, [], ◌∷◌}
-use Rattle.std.specs.Borrow.{Bor}
 use Rattle.il_ast.specs.declared.program.Program.{Program}
 use Rattle.il_types.specs.RuleNumber.{rule_number}
 use Rattle.il_interp.specs.declared.error.RunError.{RunError}
 use Rattle.il_interp.specs.declared.error.RunError.TheVariants.{Words as WordsRefused, Memory as NotRun}
 use Rattle.il_interp.specs.Begun.{Refuses as RefusesWords}
-use Rattle.obj_link.specs.declared.error.LinkError.{LinkError}
 use Rattle.elf_file.specs.Conditions.{Loads, Refuses as RefusesFile}
 use Rattle.elf_file.specs.Loaded.{Executable}
 use Rattle.rv_machine.specs.Words.{are_arguments}
 use Rattle.rv_machine.specs.declared.start.StartError.{StartError}
 use Rattle.rv_machine.specs.declared.start.StartError.TheVariants.{Arguments, Memory as NotStarted}
-use Rattle.qbec.specs.declared.texts.TextError.{TextError}
-use Rattle.qbec.specs.declared.texts.TextError.TheVariants.{Syntax as TextSyntax, Rule as TextRule, Limit as TextLimit, Memory as TextMemory}
-use Rattle.qbec.specs.declared.compile.CompileError.{CompileError}
-use Rattle.qbec.specs.declared.compile.CompileError.TheVariants.{Text, UnknownName as Unknown, ExportedTwice as Twice, NoMain as NotMain, Limit as TooMuch, Memory as NotCompiled}
-use Rattle.qbec.specs.Compile.{AreProgram, Refuses as RefusesTexts, SaysAsMuch}
+use Rattle.qbec.specs.declared.error.CompileError.{CompileError}
+use Rattle.qbec.specs.declared.error.CompileError.TheVariants.{Syntax as NoText, Rule as Broken, UnknownName as Unknown, ExportedTwice as Twice, NoMain as NotMain, Limit as TooMuch, Memory as NotCompiled}
+use Rattle.qbec.specs.Texts.{AreProgram}
+use Rattle.qbec.specs.Refusals.{Refuses as RefusesTexts}
 use Rattle.commands.specs.declared.refusal.Refusal.{Refusal}
 use Rattle.commands.specs.declared.refusal.Refusal.TheVariants.{Syntax, Rule, UnknownName, ExportedTwice, NoMain, Limit, Memory, Words, File}
 use Rattle.commands.specs.declared.failure.Failure.{Failure}
@@ -24,14 +21,9 @@ use Rattle.commands.specs.declared.failure.Failure.TheVariants.{Memory as WantsM
 
 -- ---- which refusal it is
 
-abbrev pub text_refusal : TextError → Refusal
-text_refusal (TextSyntax text line) = Syntax (record { 0 = text }) (record { 0 = line })
-text_refusal (TextRule text fault) = Rule (rule_number fault.rule) (record { 0 = text }) (record { 0 = fault.line })
-text_refusal TextLimit = Limit
-text_refusal TextMemory = Memory
-
 abbrev pub compile_refusal : CompileError → Refusal
-compile_refusal (Text e) = text_refusal e
+compile_refusal (NoText text line) = Syntax (record { 0 = text }) (record { 0 = line })
+compile_refusal (Broken text fault) = Rule (rule_number fault.rule) (record { 0 = text }) (record { 0 = fault.line })
 compile_refusal (Unknown name) = UnknownName (record { bytes = name })
 compile_refusal (Twice name) = ExportedTwice (record { bytes = name })
 compile_refusal NotMain = NoMain
@@ -48,10 +40,6 @@ abbrev pub start_failure : StartError → Failure
 start_failure Arguments = Refused Words
 start_failure NotStarted = WantsMemory
 
--- the refusal that compiling the texts would have, or that memory for its name was refused
-abbrev pub IsLinkRefusal : LinkError → Refusal → Type 0
-IsLinkRefusal e r = (c : CompileError) × SaysAsMuch e c × (r ≡ compile_refusal c)
-
 -- ---- what it says
 
 -- of a file that was not run: it is none, or the words pass a limit, or there was no memory for the machine
@@ -62,7 +50,7 @@ FileIsRefused bytes words WantsMemory = (x : Executable) × Loads bytes x
 FileIsRefused bytes words f = ⊥
 
 -- of a text that was not interpreted: it is refused as compiling it is, or it is a program and the words are refused
-unfoldable pub TextIsRefused : Bor (List ℕ) → (words : List (List ℕ)) → Failure → Type 0
+unfoldable pub TextIsRefused : List ℕ → (words : List (List ℕ)) → Failure → Type 0
 TextIsRefused text words f =
     ((e : CompileError) × RefusesTexts e (text ∷ []) × (f ≡ Refused (compile_refusal e)))
     ⊎ ((e : RunError) × (p : Program) × AreProgram (text ∷ []) p × RefusesWords e words × (f ≡ Refused (run_refusal e)))

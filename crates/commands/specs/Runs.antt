@@ -1,6 +1,5 @@
 -- What runs of files and of texts answer.
 use Rattle.std.specs.Prelude.{◌≡◌, ℕ, true, List, [], ◌∷◌}
-use Rattle.std.specs.Borrow.{Bor}
 use Rattle.il_ast.specs.declared.program.Program.{Program}
 use Rattle.il_ast.specs.declared.value.End.{End}
 use Rattle.il_ast.specs.Meaning.{meaning}
@@ -9,7 +8,7 @@ use Rattle.elf_file.specs.Loaded.{Executable}
 use Rattle.rv_machine.specs.declared.stop.Stop.{Stop}
 use Rattle.rv_machine.specs.Runs.{RunEnds}
 use Rattle.rv_machine.specs.Start.{start_state}
-use Rattle.qbec.specs.Compile.{AreProgram}
+use Rattle.qbec.specs.Texts.{AreProgram}
 
 -- the bytes load as a file, which the machine runs so, from its start with these words; or it stops for want of memory
 pub record RunsFile (bytes : List ℕ) (words : List (List ℕ)) (limit : ℕ) (output : List ℕ) (stop : Stop) : Type 0 where
@@ -18,7 +17,7 @@ pub record RunsFile (bytes : List ℕ) (words : List (List ℕ)) (limit : ℕ) (
   pub ends : RunEnds true limit (start_state file words) output stop
 
 -- the text is a program, which means this output and this end
-pub record MeansText (text : Bor (List ℕ)) (words : List (List ℕ)) (turns : ℕ) (output : List ℕ) (ending : End) : Type 0 where
+pub record MeansText (text : List ℕ) (words : List (List ℕ)) (turns : ℕ) (output : List ℕ) (ending : End) : Type 0 where
   pub program : Program
   pub is : AreProgram (text ∷ []) program
   pub means : meaning program words turns ≡ record { output = output; ending = ending }

@@ -2,11 +2,11 @@
 ghost use Rattle.std.specs.Prelude.{◌≡◌};
 ghost use Rattle.commands.specs.Statuses.{fault_number, status_of, stop_status, end_status};
 
-use crate::refusal::{Name, Refusal};
+use crate::refusal::Refusal;
 use elf_file::LoadError;
 use il_ast::value::End;
 use il_interp::error::RunError;
-use qbec::compile::CompileError;
+use qbec::error::CompileError;
 use rv_isa::fault::Fault;
 use rv_machine::start::StartError;
 use rv_machine::stop::Stop;
@@ -185,17 +185,6 @@ impl From<CompileError> for Failure<'_> {
     ghost from_gives = { λ c e. e ≡ Refused (compile_refusal c) };
 
     fn from(error: CompileError) -> Self {
-        match error {
-            CompileError::Text(error) => Failure::Refused(Refusal::from(error)),
-            CompileError::UnknownName(name) => {
-                Failure::Refused(Refusal::UnknownName(Name::new(name)))
-            }
-            CompileError::ExportedTwice(name) => {
-                Failure::Refused(Refusal::ExportedTwice(Name::new(name)))
-            }
-            CompileError::NoMain => Failure::Refused(Refusal::NoMain),
-            CompileError::Limit => Failure::Refused(Refusal::Limit),
-            CompileError::Memory => Failure::Refused(Refusal::Memory),
-        }
+        Failure::Refused(Refusal::from(error))
     }
 }

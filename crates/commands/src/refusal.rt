@@ -1,15 +1,12 @@
 //! Why texts, a file or argument words are refused.
-ghost use Rattle.std.specs.Prelude.{◌≡◌, IfOk};
+ghost use Rattle.std.specs.Prelude.{◌≡◌};
 ghost use Rattle.il_types.specs.RuleNumber.{rule_number};
 ghost use Rattle.commands.specs.declared.refusal.Refusal.TheVariants.{Rule};
-ghost use Rattle.commands.specs.Refusals.{IsLinkRefusal};
 
 use elf_file::LoadError;
 use il_types::rule::Fault;
 use itoa::Buffer;
-use obj_link::error::LinkError;
-use qbec::texts::TextError;
-use std::alloc::{AllocError, Global};
+use qbec::error::CompileError;
 use std::fmt;
 
 /// Why texts, a file or argument words are refused. Shown, it is the refusal's number and what belongs to it.
@@ -75,13 +72,6 @@ impl Name {
     {
         Name { bytes }
     }
-
-    fn copied(alloc: Global, bytes: &[u8]) -> Result<Name, AllocError>
-        ensures { IfOk result (λ name. name.bytes.items ≡ bytes.now) }
-    {
-        let bytes = bytes.to_vec(alloc)?;
-        Ok(Name { bytes })
-    }
 }
 
 impl fmt::Display for Name {
@@ -103,40 +93,24 @@ fn broken_rule(text: usize, fault: Fault) -> Refusal
     }
 }
 
-impl From<TextError> for Refusal {
+impl From<CompileError> for Refusal {
     ghost use Rattle.std.specs.Prelude.{◌≡◌};
-    ghost use Rattle.commands.specs.Refusals.{text_refusal};
+    ghost use Rattle.commands.specs.Refusals.{compile_refusal};
 
-    ghost from_gives = { λ t e. e ≡ text_refusal t };
+    ghost from_gives = { λ c e. e ≡ compile_refusal c };
 
-    fn from(error: TextError) -> Refusal {
+    fn from(error: CompileError) -> Refusal {
         match error {
-            TextError::Syntax { text, line } => Refusal::Syntax {
+            CompileError::Syntax { text, line } => Refusal::Syntax {
                 text: Number(text),
                 line: Number(line),
             },
-            TextError::Rule { text, fault } => broken_rule(text, fault),
-            TextError::Limit => Refusal::Limit,
-            TextError::Memory => Refusal::Memory,
+            CompileError::Rule { text, fault } => broken_rule(text, fault),
+            CompileError::UnknownName(name) => Refusal::UnknownName(Name::new(name)),
+            CompileError::ExportedTwice(name) => Refusal::ExportedTwice(Name::new(name)),
+            CompileError::NoMain => Refusal::NoMain,
+            CompileError::Limit => Refusal::Limit,
+            CompileError::Memory => Refusal::Memory,
         }
-    }
-}
-
-/// The refusal of texts that don't link.
-pub(crate) fn link_refusal(alloc: Global, error: LinkError<'_>) -> Refusal
-    ensures { IsLinkRefusal error.entry result }
-{
-    match error {
-        LinkError::UnknownName(name) => match Name::copied(alloc, name) {
-            Ok(name) => Refusal::UnknownName(name),
-            Err(_) => Refusal::Memory,
-        },
-        LinkError::ExportedTwice(name) => match Name::copied(alloc, name) {
-            Ok(name) => Refusal::ExportedTwice(name),
-            Err(_) => Refusal::Memory,
-        },
-        LinkError::NoMain => Refusal::NoMain,
-        LinkError::Limit => Refusal::Limit,
-        LinkError::Memory => Refusal::Memory,
     }
 }

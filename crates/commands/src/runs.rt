@@ -5,11 +5,11 @@ ghost use Rattle.commands.specs.Runs.{RunsFile, MeansText};
 ghost use Rattle.commands.specs.Refusals.{FileIsRefused, TextIsRefused};
 
 use crate::failure::Failure;
-use crate::refusal::{Refusal, link_refusal};
 use elf_file::read_image;
 use il_ast::value::End;
 use il_interp::interpret::interpret;
 use obj_link::resolve::resolve;
+use qbec::error::link_refusal;
 use qbec::texts::checked_texts;
 use rv_machine::machine::Machine;
 use rv_machine::page_ram::PageRam;
@@ -52,12 +52,12 @@ pub fn interpret_text<'a>(
     words: &[&[u8]],
     turns: u64,
 ) -> Result<(Vec<u8>, End), Failure<'a>>
-    ensures means { IfOk result (λ r. MeansText text.entry (map (λ w. w.now) words.now) turns r.0.items r.1) }
-    ensures refused { IfErr result (λ e. TextIsRefused text.entry (map (λ w. w.now) words.now) e) }
+    ensures means { IfOk result (λ r. MeansText text.now (map (λ w. w.now) words.now) turns r.0.items r.1) }
+    ensures refused { IfErr result (λ e. TextIsRefused text.now (map (λ w. w.now) words.now) e) }
 {
     let checked = match checked_texts(alloc, &[text]) {
         Ok(checked) => checked,
-        Err(error) => return Err(Failure::from(Refusal::from(error))),
+        Err(error) => return Err(Failure::from(error)),
     };
     let linked = match resolve(alloc, checked.as_slice()) {
         Ok(linked) => linked,

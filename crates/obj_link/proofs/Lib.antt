@@ -2,6 +2,7 @@ pub mod NameLemmas
 pub mod ExportLemmas
 pub mod TargetLemmas
 pub mod OwnLemmas
+pub mod MainLemmas
 pub mod ProgramLemmas
 pub mod ThereLemmas
 pub mod AddressLemmas

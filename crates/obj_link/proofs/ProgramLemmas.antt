@@ -14,12 +14,13 @@ use Rattle.obj_link.specs.declared.error.LinkError.{LinkError}
 use Rattle.obj_link.specs.declared.error.LinkError.TheVariants.{UnknownName, ExportedTwice, NoMain, Limit, Memory}
 use Rattle.obj_link.specs.Shown.{shown}
 use Rattle.obj_link.specs.Names.{functions_of, objects_of, names_of, names_of_functions, names_of_objects, visible, meaning_of, symbols_by, targets_by, targets_of}
-use Rattle.obj_link.specs.Main.{main_in}
+use Rattle.obj_link.specs.Main.{main_in, ExportsMain}
 use Rattle.obj_link.specs.Limits.{within_limits}
 use Rattle.obj_link.specs.Refusals.{symbol_at, IsUnknown, Refuses}
 use Rattle.obj_link.specs.Joined.{IsJoined}
 use Rattle.obj_link.specs.Linked.{program_with}
 use Rattle.obj_link.specs.Program.{IsProgram}
+use Rattle.obj_link.proofs.MainLemmas.{exported_main, main_is}
 
 -- ---- the same meanings
 
@@ -68,7 +69,7 @@ text_unknown meaning t (x ∷ xs) (suc i) s name at none =
     none_after None = refl
     none_after (Some t) = refl
 
-unknown_none : (texts : List Checked) (name : List ℕ) → IsUnknown (meaning_of texts) texts name → targets_of texts ≡ None
+pub unknown_none : (texts : List Checked) (name : List ℕ) → IsUnknown (meaning_of texts) texts name → targets_of texts ≡ None
 unknown_none texts name h =
     text_unknown (meaning_of texts) 0 texts h.0 h.1 name h.2 (let e : 0 + h.0 ≡ h.0 = omega arith in ap (λ k. meaning_of texts k h.1 name) e ∙ h.3)
 
@@ -77,7 +78,7 @@ unknown_none texts name h =
 pub refuted : (e : LinkError) (texts : List Checked) (p : Program) → Refuses e texts → IsProgram texts p → e ≡ Memory
 refuted (UnknownName name) texts p h g = let none = unknown_none texts name.now h in let some = g.targets in cc
 refuted (ExportedTwice name) texts p h g = absurd (omega (arith, h, g.once name.now))
-refuted NoMain texts p h g = let some = g.main in cc
+refuted NoMain texts p h g = let main = main_is texts p.main g.main in absurd (h (p.main, main.0, main.1, main.2))
 refuted Limit texts p h g = let yes = g.limits in cc
 refuted Memory texts p h g = refl
 
@@ -121,3 +122,9 @@ begun texts given functions sliced again given_objects objects sliced_objects ta
     (ap (map shown) a ∙ f) (ap (map shown) c ∙ o) j
     (sym (l ∙ (ap (λ fs. within_limits texts (map shown fs) (map shown sliced_objects)) b ∙ ap (λ os. within_limits texts (map shown functions) (map shown os)) d)))
     (sym (m ∙ ap (λ fs. main_in (map shown fs) named) b2))
+
+-- where the name `main` means no function of either form, none is exported
+pub no_main : (texts : List Checked) (given functions again : List (Placed (Bor Func))) (targets : List (List Target)) (named : Option Target) → functions ≡ given → again ≡ functions → map shown given ≡ functions_of texts → IsJoined texts (names_of texts) targets named → None ≡ main_in (map shown again) named → ExportsMain texts → ⊥
+no_main texts given functions again targets named a b f j none =
+    let whole : map shown again ≡ functions_of texts = ap (map shown) (b ∙ a) ∙ f in
+    exported_main texts (j.once (codes "main")) (ap (main_in (functions_of texts)) (sym j.main_is) ∙ (ap (λ fs. main_in fs named) (sym whole) ∙ sym none))

@@ -7,7 +7,7 @@ use Rattle.il_ast.specs.declared.program.Target.{Target}
 use Rattle.il_ast.specs.declared.program.Target.TheVariants.{Code, Object}
 use Rattle.il_ast.specs.declared.value.Callee.TheVariants.{Defined, SystemWrite, SystemExit}
 use Rattle.il_types.specs.declared.checked.Checked.{Checked}
-use Rattle.obj_link.specs.Main.{is_main}
+use Rattle.obj_link.specs.Main.{is_main, IsMain}
 use Rattle.rv_isa.specs.Words.{Words}
 use Rattle.obj_link.specs.Program.{IsProgram}
 use Rattle.obj_link.specs.Placed.{AreCodes, FitsBelow}
@@ -32,6 +32,10 @@ pub record HasWhatNamesMean (texts : List Checked) (p : Program) : Type 0 where
   pub targets : (t s : ℕ) (targets : List Target) (target : Target) → slice_get p.targets t ≡ Some targets → slice_get targets s ≡ Some target → IsThere (length p.functions) (length p.objects) target
   -- `main` is a function of one of the two forms
   pub main : (f : Placed Func) × (slice_get p.functions p.main ≡ Some f) × (is_main f.item ≡ true)
+
+-- a program begins with a function that is exported as `main`, in one of the two forms
+abbrev pub ProgramsExportMain : Type 0
+ProgramsExportMain = (texts : List Checked) (p : Program) → IsProgram texts p → (f : Placed Func) × (slice_get p.functions p.main ≡ Some f) × IsMain texts f
 
 abbrev pub ProgramsHaveWhatNamesMean : Type 0
 ProgramsHaveWhatNamesMean = (texts : List Checked) (p : Program) → IsProgram texts p → HasWhatNamesMean texts p

@@ -1,5 +1,5 @@
 -- The function that a program begins with.
-use Rattle.std.specs.Prelude.{ℕ, Bool, true, false, ◌&&◌, if◌then◌else◌, List, [], ◌∷◌, slice_get, Option, Some, None, codes}
+use Rattle.std.specs.Prelude.{◌≡◌, ℕ, Bool, true, false, ◌&&◌, if◌then◌else◌, List, [], ◌∷◌, slice_get, Option, Some, None, codes}
 use Rattle.il_ast.specs.declared.operation.Class.{Class}
 use Rattle.il_ast.specs.declared.operation.Class.TheVariants.{W, L}
 use Rattle.il_ast.specs.declared.function.Param.{Param}
@@ -10,7 +10,7 @@ use Rattle.il_ast.specs.declared.program.Target.TheVariants.{Code, Object}
 use Rattle.il_ast.specs.declared.value.Callee.TheVariants.{Defined, SystemWrite, SystemExit}
 use Rattle.il_ast.specs.Values.{same_class}
 use Rattle.il_types.specs.declared.checked.Checked.{Checked}
-use Rattle.obj_link.specs.Names.{functions_of, names_of, visible}
+use Rattle.obj_link.specs.Names.{functions_of, names_of, symbol_name, visible}
 
 -- no parameters, or the number of the argument words and the list of them
 abbrev pub takes_words : List Param → Bool
@@ -41,3 +41,13 @@ main_in functions None = None
 
 abbrev pub main_of : List Checked → Option ℕ
 main_of texts = main_in (functions_of texts) (visible texts (names_of texts) (codes "main"))
+
+-- the function is exported as `main`, in one of the two forms
+pub record IsMain (texts : List Checked) (f : Placed Func) : Type 0 where
+  pub exported : f.item.exported ≡ true
+  pub name : symbol_name texts f.text f.item.name ≡ codes "main"
+  pub form : is_main f.item ≡ true
+
+-- some function of the texts is
+abbrev pub ExportsMain : List Checked → Type 0
+ExportsMain texts = (k : ℕ) × (f : Placed Func) × (slice_get (functions_of texts) k ≡ Some f) × IsMain texts f

@@ -7,7 +7,7 @@ use Rattle.obj_link.specs.declared.names.GlobalName.{GlobalName}
 use Rattle.obj_link.specs.declared.error.LinkError.{LinkError}
 use Rattle.obj_link.specs.declared.error.LinkError.TheVariants.{UnknownName, ExportedTwice, NoMain, Limit, Memory}
 use Rattle.obj_link.specs.Names.{times_exported, meaning_of, names_of, functions_of, objects_of}
-use Rattle.obj_link.specs.Main.{main_of}
+use Rattle.obj_link.specs.Main.{ExportsMain}
 use Rattle.obj_link.specs.Limits.{within_limits}
 
 -- a name is exported more than once, or memory was refused
@@ -45,6 +45,6 @@ RefusesNames Memory meaning texts = Unit {0}
 abbrev pub Refuses : LinkError → List Checked → Type 0
 Refuses (UnknownName name) texts = IsUnknown (meaning_of texts) texts name.now
 Refuses (ExportedTwice name) texts = 1 < times_exported texts (names_of texts) name.now
-Refuses NoMain texts = main_of texts ≡ None
+Refuses NoMain texts = ExportsMain texts → ⊥
 Refuses Limit texts = within_limits texts (functions_of texts) (objects_of texts) ≡ false
 Refuses Memory texts = Unit {0}

@@ -1,5 +1,5 @@
 //! The laws of linking, each as the contract of a function that does nothing.
-ghost use Rattle.obj_link.specs.Laws.{AtMostOneProgram, ProgramsFit, ProgramsHaveWhatNamesMean};
+ghost use Rattle.obj_link.specs.Laws.{AtMostOneProgram, ProgramsExportMain, ProgramsFit, ProgramsHaveWhatNamesMean};
 
 /// Texts are at most one program.
 pub fn at_most_one_program()
@@ -10,6 +10,11 @@ pub fn at_most_one_program()
 /// predefined function; and `main` is the number of a function of one of the two forms.
 pub fn programs_have_what_names_mean()
     ensures { ProgramsHaveWhatNamesMean }
+{}
+
+/// A program begins with a function that is exported as `main` in one of the two forms, so that texts without such a function are no program.
+pub fn programs_export_main()
+    ensures { ProgramsExportMain }
 {}
 
 /// A program fits below the stack where each function has at most 32 words for each unit of its weight and 256 more.

@@ -1,23 +1,12 @@
 //! Programs compiled, and the machine's runs of their files.
-use crate::interpreted::{name_told, text_told};
+use crate::interpreted::refusal_told;
 use crate::told::{Told, stop_told};
 use elf_file::read_image;
-use qbec::compile::{CompileError, compile};
+use qbec::compile::compile;
 use regalloc::strategy::Strategy;
 use rv_machine::machine::Machine;
 use rv_machine::ram::Ram;
 use std::alloc::{AllocError, Global};
-
-fn refusal_told(alloc: Global, error: CompileError) -> Result<String, AllocError> {
-    match error {
-        CompileError::Text(why) => text_told(alloc, why),
-        CompileError::UnknownName(name) => name_told(alloc, "E3", name.as_slice()),
-        CompileError::ExportedTwice(name) => name_told(alloc, "E4", name.as_slice()),
-        CompileError::NoMain => String::from_str(alloc, "E5"),
-        CompileError::Limit => String::from_str(alloc, "E6"),
-        CompileError::Memory => String::from_str(alloc, "E7"),
-    }
-}
 
 /// The executable of texts, or why there is none.
 #[derive(Drop)]

@@ -3,39 +3,32 @@ use crate::measures::{needs_of, weights_of};
 use crate::told::{Told, end_told};
 use il_interp::interpret::interpret;
 use il_types::checked::Checked;
-use obj_link::error::LinkError;
 use obj_link::resolve::resolve;
-use qbec::texts::{TextError, checked_texts};
+use qbec::error::{CompileError, link_refusal};
+use qbec::texts::checked_texts;
 use std::alloc::{AllocError, Global};
 use std::str;
 
-/// What a refused text is told.
-pub fn text_told(alloc: Global, error: TextError) -> Result<String, AllocError> {
-    match error {
-        TextError::Syntax { text, line } => format!(in alloc; "E1 text {text} line {line}"),
-        TextError::Rule { text, fault } => {
-            let rule = fault.rule.number();
-            let line = fault.line;
-            format!(in alloc; "E2 C{rule} text {text} line {line}")
-        }
-        TextError::Limit => String::from_str(alloc, "E6"),
-        TextError::Memory => String::from_str(alloc, "E7"),
-    }
-}
-
 /// A refusal that names a name.
-pub fn name_told(alloc: Global, number: &str, name: &[u8]) -> Result<String, AllocError> {
+fn name_told(alloc: Global, number: &str, name: &[u8]) -> Result<String, AllocError> {
     let name = str::from_utf8(name).unwrap_or("bytes");
     format!(in alloc; "{number} ${name}")
 }
 
-fn link_told(alloc: Global, error: LinkError<'_>) -> Result<String, AllocError> {
+/// What refused texts are told.
+pub fn refusal_told(alloc: Global, error: CompileError) -> Result<String, AllocError> {
     match error {
-        LinkError::UnknownName(name) => name_told(alloc, "E3", name),
-        LinkError::ExportedTwice(name) => name_told(alloc, "E4", name),
-        LinkError::NoMain => String::from_str(alloc, "E5"),
-        LinkError::Limit => String::from_str(alloc, "E6"),
-        LinkError::Memory => String::from_str(alloc, "E7"),
+        CompileError::Syntax { text, line } => format!(in alloc; "E1 text {text} line {line}"),
+        CompileError::Rule { text, fault } => {
+            let rule = fault.rule.number();
+            let line = fault.line;
+            format!(in alloc; "E2 C{rule} text {text} line {line}")
+        }
+        CompileError::UnknownName(name) => name_told(alloc, "E3", name.as_slice()),
+        CompileError::ExportedTwice(name) => name_told(alloc, "E4", name.as_slice()),
+        CompileError::NoMain => String::from_str(alloc, "E5"),
+        CompileError::Limit => String::from_str(alloc, "E6"),
+        CompileError::Memory => String::from_str(alloc, "E7"),
     }
 }
 
@@ -48,7 +41,7 @@ fn linked_told(
     let linked = match resolve(alloc, texts) {
         Ok(linked) => linked,
         Err(error) => {
-            let why = link_told(alloc, error)?;
+            let why = refusal_told(alloc, link_refusal(alloc, error))?;
             return Told::unrun(alloc, why.as_str());
         }
     };
@@ -74,7 +67,7 @@ pub fn interpreted(
     match checked_texts(alloc, texts) {
         Ok(checked) => linked_told(alloc, checked.as_slice(), words, turns),
         Err(error) => {
-            let why = text_told(alloc, error)?;
+            let why = refusal_told(alloc, error)?;
             Told::unrun(alloc, why.as_str())
         }
     }

@@ -13,13 +13,14 @@ use Rattle.elf_file.specs.Conditions.{Loads}
 use Rattle.elf_file.specs.File.{executable_of}
 use Rattle.elf_file.specs.Loaded.{Executable}
 use Rattle.elf_file.specs.Stands.{Stands}
+use Rattle.elf_file.proofs.Reading.{Loads-unique}
 use Rattle.rv_machine.specs.Start.{Starts}
 use Rattle.promote.proofs.Programs.{outcome_stays}
 use Rattle.headline.specs.Headline.{Executes}
 use Rattle.headline.proofs.DataPlaced.{programs_have_names, stands_well}
 use Rattle.headline.proofs.CompiledRuns.{compiled_runs}
 use Rattle.qbec.specs.Codes.{AreWords}
-use Rattle.qbec.specs.Compile.{IsFile}
+use Rattle.qbec.specs.Compile.{IsExecutableOf, IsFile}
 use Rattle.qbec.specs.Promoted.{with_functions}
 use Rattle.qbec.proofs.PromotedFunctions.{compiled, one_each, is_promoted, names_are_there, same_contents}
 use Rattle.qbec.proofs.ExecutableBytes.{has_bytes}
@@ -48,10 +49,16 @@ is_file texts p codes image bytes is words made good loads stands =
     record {
       file = executable_of image;
       loads = loads;
-      codes = codes;
-      stands = subst (λ i. Stands i (executable_of image)) made stands;
-      runs =
-          λ ws s starts few short.
-          runs_promoted texts p codes (executable_of image) ws s is words (subst IsImage made good)
-          (subst (λ i. Stands i (executable_of image)) made stands) starts few short;
+      every = λ x loaded. subst (IsExecutableOf p) (Loads-unique bytes (executable_of image) x loads loaded) here;
     }
+  where
+    here : IsExecutableOf p (executable_of image)
+    here =
+        record {
+          codes = codes;
+          stands = subst (λ i. Stands i (executable_of image)) made stands;
+          runs =
+              λ ws s starts few short.
+              runs_promoted texts p codes (executable_of image) ws s is words (subst IsImage made good)
+              (subst (λ i. Stands i (executable_of image)) made stands) starts few short;
+        }

@@ -1,4 +1,5 @@
 pub mod TextLemmas
+pub mod ProgramLemmas
 pub mod CodeLemmas
 pub mod PromotedFunctions
 pub mod ExecutableBytes

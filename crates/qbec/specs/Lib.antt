@@ -1,4 +1,6 @@
 pub mod Texts
+pub mod Refusals
+pub mod Laws
 pub mod Words
 pub mod Promoted
 pub mod Codes

@@ -11,7 +11,7 @@ returns-in-Err-clause-only c =
 
 pub returns-in-Err-clause-says : goal.returns-in-Err-clause-says
 returns-in-Err-clause-says c =
-    text_refused c.args.texts.now c.loop-k.k _ c.loop-k.checked.items _ c.loop-k-test.true c.loop-k.invariant c.in-Err.ensures.says
+    text_refused c.args.texts.now c.loop-k.k _ _ c.loop-k-test.true c.in-Err.ensures.says
 
 pub loop-k-preserved : goal.loop-k-preserved
 loop-k-preserved c =

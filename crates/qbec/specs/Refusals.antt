@@ -1,0 +1,84 @@
+-- What a refusal says of texts.
+use Rattle.std.specs.Prelude.{◌≡◌, ◌⊎◌, ◌<◌, ◌≤◌, ℕ, ◌+◌, false, List, Some, slice_get}
+use Rattle.il_ast.specs.declared.text.Text.{Text}
+use Rattle.il_lex.specs.Line.{lines_in}
+use Rattle.il_reader.specs.Reads.{Reads}
+use Rattle.il_reader.specs.declared.error.ReadError.{ReadError}
+use Rattle.il_reader.specs.declared.error.ReadError.TheVariants.{Syntax as NotRead, Memory as ReadMemory}
+use Rattle.il_types.specs.declared.checked.Checked.{Checked}
+use Rattle.il_types.specs.declared.rule.Fault.{Fault}
+use Rattle.il_types.specs.Rules.{broken, within_limits as is_within}
+use Rattle.il_types.specs.declared.error.CheckError.{CheckError}
+use Rattle.il_types.specs.declared.error.CheckError.TheVariants.{Rule as Broken, Limit as Passed, Memory as CheckMemory}
+use Rattle.obj_link.specs.Names.{times_exported, meaning_of, names_of, functions_of, objects_of}
+use Rattle.obj_link.specs.Main.{ExportsMain}
+use Rattle.obj_link.specs.Limits.{within_limits}
+use Rattle.obj_link.specs.Refusals.{IsUnknown}
+use Rattle.obj_link.specs.declared.error.LinkError.{LinkError}
+use Rattle.obj_link.specs.declared.error.LinkError.TheVariants.{UnknownName as LinkUnknown, ExportedTwice as LinkTwice, NoMain as LinkNoMain, Limit as LinkLimit}
+use Rattle.qbec.specs.declared.error.CompileError.{CompileError}
+use Rattle.qbec.specs.declared.error.CompileError.TheVariants.{Syntax, Rule, UnknownName, ExportedTwice, NoMain, Limit, Memory}
+use Rattle.qbec.specs.Texts.{AreTexts}
+
+-- ---- one text
+
+-- the text is not in the grammar; a line is named, which is one of its lines or the next
+abbrev pub IsNoText : (line : ℕ) → List ℕ → Type 0
+IsNoText line bytes = (1 ≤ line) × (line ≤ lines_in bytes + 1) × ((t : Text) → Reads bytes t → ⊥)
+
+-- it breaks the rule, at the line
+abbrev pub Breaks : Fault → List ℕ → Type 0
+Breaks fault bytes = (t : Text) × Reads bytes t × (broken fault.rule t ≡ Some fault.line)
+
+-- it passes a limit of one text
+abbrev pub PassesLimit : List ℕ → Type 0
+PassesLimit bytes = (t : Text) × Reads bytes t × (is_within t ≡ false)
+
+-- the text with this number is refused so
+abbrev pub RefusesText : CompileError → (number : ℕ) → List ℕ → Type 0
+RefusesText (Syntax text line) number bytes = (text ≡ number) × IsNoText line bytes
+RefusesText (Rule text fault) number bytes = (text ≡ number) × Breaks fault bytes
+RefusesText Limit number bytes = PassesLimit bytes
+RefusesText Memory number bytes = Unit {0}
+RefusesText e number bytes = ⊥
+
+-- ---- all texts
+
+-- one of the texts is so, which are numbered from 1
+abbrev pub OfText : (texts : List (List ℕ)) (number : ℕ) (P : List ℕ → Type 0) → Type 0
+OfText texts number P = (k : ℕ) × (bytes : List ℕ) × (number ≡ k + 1) × (slice_get texts k ≡ Some bytes) × P bytes
+
+-- each of the texts is in the grammar and keeps its rules and limits, and together they are so
+abbrev pub OfAll : (texts : List (List ℕ)) (P : List Checked → Type 0) → Type 0
+OfAll texts P = (checked : List Checked) × AreTexts texts checked × P checked
+
+-- what a refusal says of texts: nothing where memory was refused
+abbrev pub Refuses : CompileError → List (List ℕ) → Type 0
+Refuses (Syntax text line) texts = OfText texts text (IsNoText line)
+Refuses (Rule text fault) texts = OfText texts text (Breaks fault)
+Refuses (UnknownName name) texts = OfAll texts (λ checked. IsUnknown (meaning_of checked) checked name.items)
+Refuses (ExportedTwice name) texts = OfAll texts (λ checked. 1 < times_exported checked (names_of checked) name.items)
+Refuses NoMain texts = OfAll texts (λ checked. ExportsMain checked → ⊥)
+Refuses Limit texts = ((number : ℕ) × OfText texts number PassesLimit) ⊎ OfAll texts (λ checked. within_limits checked (functions_of checked) (objects_of checked) ≡ false)
+Refuses Memory texts = Unit {0}
+
+-- ---- which refusal it is
+
+-- why reading and checking refuse the text with this number
+abbrev pub read_refusal : (number : ℕ) → ReadError → CompileError
+read_refusal number (NotRead line) = Syntax number line
+read_refusal number ReadMemory = Memory
+
+abbrev pub check_refusal : (number : ℕ) → CheckError → CompileError
+check_refusal number (Broken fault) = Rule number fault
+check_refusal number Passed = Limit
+check_refusal number CheckMemory = Memory
+
+-- the refusal says what linking says, with the name, or that memory was refused
+abbrev pub SaysAsMuch : LinkError → CompileError → Type 0
+SaysAsMuch (LinkUnknown name) (UnknownName copy) = copy.items ≡ name.now
+SaysAsMuch (LinkTwice name) (ExportedTwice copy) = copy.items ≡ name.now
+SaysAsMuch LinkNoMain NoMain = Unit {0}
+SaysAsMuch LinkLimit Limit = Unit {0}
+SaysAsMuch e Memory = Unit {0}
+SaysAsMuch e r = ⊥

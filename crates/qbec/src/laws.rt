@@ -1,0 +1,12 @@
+//! The laws of programs as bytes, each as the contract of a function that does nothing.
+ghost use Rattle.qbec.specs.Laws.{AtMostOneProgram, RefusalsAreOfNoProgram};
+
+/// Texts, as bytes, are at most one program.
+pub fn at_most_one_program()
+    ensures { AtMostOneProgram }
+{}
+
+/// What any refusal but that of memory says is true of no program.
+pub fn refusals_are_of_no_program()
+    ensures { RefusalsAreOfNoProgram }
+{}
