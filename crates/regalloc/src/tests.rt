@@ -2,7 +2,7 @@
 ghost use Rattle.std.specs.Prelude.{◌<◌};
 
 use crate::linear_scan::{LinearScan, scanned};
-use certificates::certificate::Equality;
+use certificates::certificate::{Equality, Transfer};
 use certificates::strategy::Strategy;
 use cfg_live::live::live;
 use il_ast::list::Seq;
@@ -134,21 +134,138 @@ fn calling(alloc: Global) -> Result<VFunc, AllocError> {
     })
 }
 
-/// What is read often stands in a register that callees keep; for what is only returned, saving and restoring one would not pay.
+/// Where callees' registers would have to be saved and restored, a parameter is put into its slot once and loaded for all that comes behind the call.
 #[test]
-fn values_over_a_call_stand_where_callees_keep_them(rt: HostRuntime) -> Result<(), Fail> {
+fn values_over_a_call_are_loaded_behind_it(rt: HostRuntime) -> Result<(), Fail> {
     let alloc = rt.alloc();
     let function = calling(alloc)?;
     let live = live(alloc, &function)?;
     let certificate = scanned(alloc, &function, &live)?;
-    let [x8, x10] = [Location::Register(8), Location::Register(10)];
-    let params = [x8, Location::Slot(0)];
-    assert_eq!(rt; certificate.params.as_slice(), params.as_slice());
+    let [zero, one] = [Location::Slot(0), Location::Slot(1)];
+    let [x10, x17] = [Location::Register(10), Location::Register(17)];
+    assert_eq!(rt; certificate.params.as_slice(), [zero, one].as_slice());
     assert_eq!(rt; certificate.places.len(), 4);
+    assert_eq!(rt; certificate.moves.len(), 4);
+    assert_eq!(rt;
+        certificate.moves.as_slice()[1].as_slice(),
+        [Transfer {
+            from: zero,
+            to: x17,
+        }]
+        .as_slice()
+    );
     assert_eq!(rt;
         certificate.places.as_slice()[2].as_slice(),
-        [at(0, x8), at(2, x10)].as_slice()
+        [at(0, x17), at(2, x10)].as_slice()
     );
+    Ok(())
+}
+
+/// Compares the number 5, register 0, with itself and passes what comes of that, register 1, to a call so many times; at last compares the result, register 2,
+/// with the number.
+fn holding_over(alloc: Global, calls: u32) -> Result<VFunc, AllocError> {
+    let mut lines = Seq::new(alloc);
+    lines.push(Line::Tick {
+        turn: true,
+        weight: 10,
+    })?;
+    lines.push(Line::Set {
+        to: 0,
+        value: Operand::Number(5),
+    })?;
+    for _ in 0..calls {
+        lines.push(Line::Tick {
+            turn: true,
+            weight: 10,
+        })?;
+        lines.push(compared(1, 0, 0))?;
+        lines.push(called(alloc, 2, 1)?)?;
+    }
+    lines.push(compared(1, 2, 0))?;
+    let mut blocks = Seq::new(alloc);
+    blocks.push(Block {
+        lines,
+        jump: Jump::Return(Some(Operand::At(1))),
+    })?;
+    Ok(VFunc {
+        code: Code {
+            result: Some(Class::L),
+            params: Seq::new(alloc),
+            blocks,
+        },
+        registers: 3,
+    })
+}
+
+fn compared(to: u32, left: u32, right: u32) -> Line<u32> {
+    Line::Operate {
+        to,
+        operation: Operation::Compare(Condition::Equal, Class::L),
+        left: Operand::At(left),
+        right: Operand::At(right),
+    }
+}
+
+fn called(alloc: Global, to: u32, argument: u32) -> Result<Line<u32>, AllocError> {
+    let mut args = Seq::new(alloc);
+    args.push(Argument {
+        class: Class::L,
+        value: Operand::At(argument),
+    })?;
+    Ok(Line::Call {
+        to: Some(Destination {
+            place: to,
+            class: Class::L,
+        }),
+        callee: Operand::Number(1),
+        args,
+    })
+}
+
+/// A value that is wanted once behind a call stands in a register of the machine before it, and is saved to its slot when it is made; the slot is read behind the call.
+#[test]
+fn a_value_is_cut_at_a_call(rt: HostRuntime) -> Result<(), Fail> {
+    let alloc = rt.alloc();
+    let function = holding_over(alloc, 1)?;
+    let live = live(alloc, &function)?;
+    let certificate = scanned(alloc, &function, &live)?;
+    let [x10, x17, slot] = [Location::Register(10), Location::Register(17), Location::Slot(0)];
+    assert_eq!(rt; certificate.places.len(), 5);
+    assert_eq!(rt; certificate.moves.len(), 5);
+    assert_eq!(rt;
+        certificate.moves.as_slice()[1].as_slice(),
+        [Transfer {
+            from: x17,
+            to: slot,
+        }]
+        .as_slice()
+    );
+    assert_eq!(rt;
+        certificate.places.as_slice()[1].as_slice(),
+        [at(0, x17), at(1, x10)].as_slice()
+    );
+    assert_eq!(rt;
+        certificate.places.as_slice()[3].as_slice(),
+        [at(2, x10), at(0, slot), at(1, x10)].as_slice()
+    );
+    Ok(())
+}
+
+/// Over several calls it costs less to save and restore a register that callees keep.
+#[test]
+fn a_value_over_several_calls_stands_where_callees_keep_it(rt: HostRuntime) -> Result<(), Fail> {
+    let alloc = rt.alloc();
+    let function = holding_over(alloc, 3)?;
+    let live = live(alloc, &function)?;
+    let certificate = scanned(alloc, &function, &live)?;
+    let x8 = Location::Register(8);
+    assert_eq!(rt; certificate.places.len(), 9);
+    for place in certificate.places.as_slice()[0].as_slice() {
+        assert_eq!(rt; *place, at(0, x8));
+    }
+    for moves in certificate.moves.as_slice() {
+        assert_eq!(rt; moves.len(), 0);
+    }
     Ok(())
 }
 
