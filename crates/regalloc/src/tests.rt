@@ -229,7 +229,11 @@ fn a_value_is_cut_at_a_call(rt: HostRuntime) -> Result<(), Fail> {
     let function = holding_over(alloc, 1)?;
     let live = live(alloc, &function)?;
     let certificate = scanned(alloc, &function, &live)?;
-    let [x10, x17, slot] = [Location::Register(10), Location::Register(17), Location::Slot(0)];
+    let [x10, x17, slot] = [
+        Location::Register(10),
+        Location::Register(17),
+        Location::Slot(0),
+    ];
     assert_eq!(rt; certificate.places.len(), 5);
     assert_eq!(rt; certificate.moves.len(), 5);
     assert_eq!(rt;

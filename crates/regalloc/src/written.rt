@@ -155,7 +155,7 @@ fn push_places(
 ) -> Result<(), AllocError>
     requires list { list_all (is_place registers) list.now ≡ true }
     requires placed { list_all (are_placed registers) places.old ≡ true }
-    ensures { list_all (are_placed registers) places.new ≡ true }
+    ensures { OnOk result (list_all (are_placed registers) places.new ≡ true) }
 {
     let mut first = 0usize;
     for (point, uses) in points.iter().enumerate() {
@@ -253,7 +253,7 @@ fn push_moves(
 ) -> Result<(), AllocError>
     requires list { list_all (is_place registers) list.now ≡ true }
     requires between { list_all (are_between registers) lists.old ≡ true }
-    ensures { list_all (are_between registers) lists.new ≡ true }
+    ensures { OnOk result (list_all (are_between registers) lists.new ≡ true) }
 {
     let mut first = 0usize;
     for (point, _uses) in points.iter().enumerate() {
@@ -360,7 +360,7 @@ fn push_starts(
 ) -> Result<(), AllocError>
     requires list { list_all (is_place registers) list.now ≡ true }
     requires placed { list_all (are_placed registers) starts.old ≡ true }
-    ensures { list_all (are_placed registers) starts.new ≡ true }
+    ensures { OnOk result (list_all (are_placed registers) starts.new ≡ true) }
 {
     let mut first = 0usize;
     for (block, stretch) in text.stretches.iter().enumerate() {
@@ -408,7 +408,7 @@ fn push_params(
 ) -> Result<(), AllocError>
     requires list { list_all (is_place registers) list.now ≡ true }
     requires placed { list_all (is_place registers) params.old ≡ true }
-    ensures { list_all (is_place registers) params.new ≡ true }
+    ensures { OnOk result (list_all (is_place registers) params.new ≡ true) }
 {
     for param in from {
         match param_place(list, registers, entries, param.place) {
