@@ -7,7 +7,7 @@ use certificates::strategy::Strategy;
 use cfg_live::live::live;
 use il_ast::list::Seq;
 use il_ast::operation::Class;
-use rv_isa::instruction::RegOp;
+use rv_isa::instruction::{RegOp, RegWOp};
 use std::alloc::{AllocError, Global};
 use std::test::Fail;
 use vcode::code::{Block, Code};
@@ -287,6 +287,115 @@ fn a_value_may_be_moved_out_of_the_way_of_a_call(rt: HostRuntime) -> Result<(), 
         }
         Err(_) => assert!(rt; false, "refused"),
     }
+    Ok(())
+}
+
+fn sum(to: u32, left: u32, right: Operand<u32>) -> Line<u32> {
+    Line::Operate {
+        to,
+        operation: Operation::RegW(RegWOp::Addw),
+        left: Operand::At(left),
+        right,
+    }
+}
+
+/// Puts 5 into register 0, passes the sum of that and 1, register 1, to a call, and returns the sum of the result, register 2, and register 0.
+fn holding(alloc: Global) -> Result<VFunc, AllocError> {
+    let mut args = Seq::new(alloc);
+    args.push(Argument {
+        class: Class::W,
+        value: Operand::At(1),
+    })?;
+    let mut lines = Seq::new(alloc);
+    lines.push(Line::Tick {
+        turn: true,
+        weight: 10,
+    })?;
+    lines.push(Line::Set {
+        to: 0,
+        value: Operand::Number(5),
+    })?;
+    lines.push(sum(1, 0, Operand::Number(1)))?;
+    lines.push(Line::Call {
+        to: Some(Destination {
+            place: 2,
+            class: Class::W,
+        }),
+        callee: Operand::Number(1),
+        args,
+    })?;
+    lines.push(sum(3, 2, Operand::At(0)))?;
+    let mut blocks = Seq::new(alloc);
+    blocks.push(Block {
+        lines,
+        jump: Jump::Return(Some(Operand::At(3))),
+    })?;
+    Ok(VFunc {
+        code: Code {
+            result: Some(Class::W),
+            params: Seq::new(alloc),
+            blocks,
+        },
+        registers: 4,
+    })
+}
+
+/// The certificate for `holding` that has register 0 in x5 before the call, with these moves right before that, and in this place behind it.
+fn held(
+    alloc: Global,
+    before_call: &[Transfer],
+    behind: Location,
+) -> Result<Certificate, AllocError> {
+    let at = |register: u32, place: Location| Equality { register, place };
+    let [x5, x10] = [Location::Register(5), Location::Register(10)];
+    let mut starts = Seq::new(alloc);
+    starts.push(Seq::new(alloc))?;
+    let mut moves = Seq::new(alloc);
+    for before in [&[] as &[Transfer], &[], before_call, &[], &[]] {
+        moves.push(list(alloc, before)?)?;
+    }
+    let mut places = Seq::new(alloc);
+    places.push(list(alloc, &[at(0, x5)])?)?;
+    places.push(list(alloc, &[at(0, x5), at(1, x10)])?)?;
+    places.push(list(alloc, &[at(1, x10), at(2, x10)])?)?;
+    places.push(list(alloc, &[at(2, x10), at(0, behind), at(3, x10)])?)?;
+    places.push(list(alloc, &[at(3, x10)])?)?;
+    Ok(Certificate {
+        params: Seq::new(alloc),
+        starts,
+        moves,
+        places,
+    })
+}
+
+#[test]
+fn a_value_may_stand_in_a_slot_over_a_call_alone(rt: HostRuntime) -> Result<(), Fail> {
+    let alloc = rt.alloc();
+    let function = holding(alloc)?;
+    let [x5, slot] = [Location::Register(5), Location::Slot(0)];
+    let aside = [moving(x5, slot)];
+    let moved = held(alloc, aside.as_slice(), slot)?;
+    match accept(alloc, &function, &moved) {
+        Ok(made) => {
+            assert_eq!(rt; lines_of(&made.code).len(), 6);
+            assert!(rt;
+                matches!(
+                    lines_of(&made.code).get(3),
+                    Some(Line::Set {
+                        to: Location::Slot(0),
+                        value: Operand::At(Location::Register(5)),
+                    })
+                )
+            );
+        }
+        Err(_) => assert!(rt; false, "refused"),
+    }
+    // not moved
+    let still = held(alloc, &[], slot)?;
+    assert!(rt; matches!(accept(alloc, &function, &still), Err(Refused::No)));
+    // read from where it was before the call
+    let lost = held(alloc, aside.as_slice(), x5)?;
+    assert!(rt; matches!(accept(alloc, &function, &lost), Err(Refused::No)));
     Ok(())
 }
 

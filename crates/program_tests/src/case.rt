@@ -24,6 +24,8 @@ pub struct Case {
     pub is_tried: bool,
     /// its bytes by the two strategies of the compiler differ
     pub differs: bool,
+    /// linear scan cuts a register of it
+    pub is_cut: bool,
     /// it is large: it is compiled once
     pub is_large: bool,
 }
@@ -44,6 +46,7 @@ impl Case {
             additions: 0,
             is_tried: false,
             differs: false,
+            is_cut: false,
             is_large: false,
         })
     }

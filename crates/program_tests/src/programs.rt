@@ -151,6 +151,7 @@ fn check_compiled(
         Compiled::Refused(why) => report.fail("compile", "a file", why.as_str())?,
     }
     report.holds("each certificate is accepted", how.refused == 0)?;
+    report.holds("a value is moved", 0 < how.moves || !case.is_cut)?;
     let functions = functions_of(alloc, texts)?;
     report.holds("once for each function", how.asked == functions)
 }

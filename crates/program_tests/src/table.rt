@@ -14,7 +14,7 @@
 //! | `output HEX`, `prints`, `zeros N` | the output: in hexadecimal; the lines up to one that is a dot; N bytes 0 |
 //! | `limit N`, `turns N`, `price N`, `needs N N ..`, `weighs N N ..` | turns and instructions given; turns and price of the run; measures of the functions |
 //! | `additions N` | at least so many instructions of its file add |
-//! | `tried`, `differs`, `large` | strategies of every kind are tried; the bytes by both strategies differ; it is compiled once |
+//! | `tried`, `differs`, `cut`, `large` | strategies of every kind are tried; the bytes by both strategies differ; linear scan moves a value; it is compiled once |
 use crate::case::Case;
 use crate::made::push_made;
 use std::alloc::{AllocError, Global};
@@ -149,6 +149,7 @@ fn take_of(alloc: Global, case: &mut Case, key: &str, rest: &str) -> Result<(), 
         "additions" => case.additions = number(rest) as usize,
         "tried" => case.is_tried = true,
         "differs" => case.differs = true,
+        "cut" => case.is_cut = true,
         "large" => case.is_large = true,
         _ => take_words(alloc, case, key, rest)?,
     }

@@ -7,13 +7,14 @@ use regalloc::strategy::Strategy;
 use std::alloc::Global;
 use vcode::function::VFunc;
 
-/// Linear scan, which counts how often it is asked and how many of its answers aren't accepted.
+/// Linear scan, which counts how often it is asked, how many of its answers aren't accepted, and the moves of all of them.
 #[derive(Drop)]
 pub struct Watched {
     alloc: Global,
     scan: LinearScan,
     pub asked: u64,
     pub refused: u64,
+    pub moves: u64,
 }
 
 impl Watched {
@@ -23,14 +24,24 @@ impl Watched {
             scan: LinearScan::new(alloc),
             asked: 0,
             refused: 0,
+            moves: 0,
         }
     }
+}
+
+fn move_count(certificate: &Certificate) -> u64 {
+    let mut count = 0u64;
+    for moves in certificate.moves.as_slice() {
+        count = count.saturating_add(moves.len() as u64);
+    }
+    count
 }
 
 impl Strategy for Watched {
     fn choose(&mut self, function: &VFunc, live: &Live) -> Option<Certificate> {
         self.asked = self.asked.saturating_add(1);
         let certificate = self.scan.choose(function, live)?;
+        self.moves = self.moves.saturating_add(move_count(&certificate));
         if accept(self.alloc, function, &certificate).is_err() {
             self.refused = self.refused.saturating_add(1);
         }

@@ -1,16 +1,21 @@
--- Where linear scan may have a register: in a register of the machine or in a slot, as location code may.
-use Rattle.std.specs.Prelude.{◌≡◌, ℕ, true, List, length}
+-- Certificates that name no place but those that there are, in registers of the machine and in slots.
+use Rattle.std.specs.Prelude.{◌≡◌, ℕ, Bool, true, ◌&&◌, List}
 use Rattle.std.specs.List.{list_all}
-use Rattle.bitset.specs.Bits.{Bits}
-use Rattle.vcode.specs.declared.place.Location.{Location}
-use Rattle.vcode.specs.declared.code.Code.{Code}
 use Rattle.vcode.specs.Named.{is_place}
+use Rattle.certificates.specs.declared.certificate.Equality.{Equality}
+use Rattle.certificates.specs.declared.certificate.Transfer.{Transfer}
 use Rattle.certificates.specs.declared.certificate.Certificate.{Certificate}
-use Rattle.certificates.specs.Listed.{listed}
 
--- the certificate gives each register one place, with as many slots as registers
-pub record IsScanned (v : Code ℕ) (registers : ℕ) (rows : List Bits) (c : Certificate) : Type 0 where
-  pub list : List Location
-  pub long : length list ≡ registers
-  pub places : list_all (is_place registers) list ≡ true
-  pub is : c ≡ listed v registers rows list
+-- each register at a place that there is, with as many slots as registers
+abbrev pub are_placed : (registers : ℕ) → List Equality → Bool
+are_placed registers es = list_all (λ (e : Equality). is_place registers e.place) es
+
+-- moves between such places
+abbrev pub are_between : (registers : ℕ) → List Transfer → Bool
+are_between registers ms = list_all (λ (m : Transfer). is_place registers m.from && is_place registers m.to) ms
+
+pub record IsScanned (registers : ℕ) (c : Certificate) : Type 0 where
+  pub params : list_all (is_place registers) c.params ≡ true
+  pub starts : list_all (are_placed registers) c.starts ≡ true
+  pub moves : list_all (are_between registers) c.moves ≡ true
+  pub places : list_all (are_placed registers) c.places ≡ true

@@ -5,6 +5,7 @@ use crate::lifetimes::Lifetime;
 use crate::linear_scan::is_unplaced;
 use crate::positions::Range;
 use crate::slots::Wish;
+use crate::text::Text;
 use std::alloc::{AllocError, Global};
 use vcode::place::Location;
 
@@ -13,6 +14,8 @@ use vcode::place::Location;
 pub(crate) struct Facts {
     /// how many points it has
     pub(crate) points: usize,
+
+    pub(crate) text: Text,
 
     /// the lifetime of each register
     pub(crate) lifetimes: Vec<Lifetime>,
@@ -57,8 +60,8 @@ fn calls_before(calls: &[usize], point: usize) -> usize {
     calls.get(point).copied().unwrap_or(0)
 }
 
-// Whether the positions right before and right after some call are both in the range.
-fn is_over_call(calls: &[usize], range: Range) -> bool {
+/// Whether the positions right before and right after some call are both in the range. `calls` has for each point how many calls stand before it.
+pub(crate) fn is_over_call(calls: &[usize], range: Range) -> bool {
     let first = range.start.saturating_add(1) / 2;
     let end = range.end.saturating_add(1) / 2;
     calls_before(calls, first) < calls_before(calls, end)

@@ -1,6 +1,7 @@
 //! How often each register is used, and by what.
 ghost use Rattle.std.specs.Prelude.{◌≤◌};
 
+use crate::accesses::{Access, Accesses, Kind, sorted};
 use std::alloc::{AllocError, Global};
 use vcode::code::{Block, Code};
 use vcode::line::{Jump, Line};
@@ -72,16 +73,26 @@ pub(crate) struct Copying {
     pub(crate) from: u32,
 }
 
-/// The demands of all registers, the copies between them, and for each point how many calls stand before it.
+/// The demands of all registers, the copies between them, for each point how many calls stand before it, and all accesses.
 #[derive(Drop)]
 pub(crate) struct Demands {
     pub(crate) registers: Vec<Demand>,
     pub(crate) copies: Vec<Copying>,
     pub(crate) calls: Vec<usize>,
+    pub(crate) accesses: Accesses,
 }
 
-// How often a block is run that lies in so many loops, if each goes round ten times.
-fn frequency(depth: u32) -> u64 {
+// What is found on the way through the text.
+#[derive(Drop)]
+struct Counting {
+    registers: Vec<Demand>,
+    copies: Vec<Copying>,
+    calls: Vec<usize>,
+    accesses: Vec<Access>,
+}
+
+/// How often a block is run that lies in so many loops, if each goes round ten times.
+pub(crate) fn frequency(depth: u32) -> u64 {
     match depth {
         0 => 1,
         1 => 10,
@@ -92,16 +103,36 @@ fn frequency(depth: u32) -> u64 {
     }
 }
 
-fn add(demands: &mut Demands, register: u32, weight: u64) {
-    match demands.registers.get_mut(register as usize) {
+fn push_access(
+    counting: &mut Counting,
+    register: u32,
+    kind: Kind,
+    weight: u64,
+    through: u64,
+) -> Result<(), AllocError> {
+    // there is an item for each point so far, and one before them
+    let point = counting.calls.len().saturating_sub(1);
+    counting.accesses.push(Access {
+        register,
+        point,
+        kind,
+        weight,
+        through,
+    })?;
+    Ok(())
+}
+
+fn add(counting: &mut Counting, register: u32, kind: Kind, weight: u64) -> Result<(), AllocError> {
+    match counting.registers.get_mut(register as usize) {
         Some(demand) => demand.weight = demand.weight.saturating_add(weight),
         None => {}
     }
+    push_access(counting, register, kind, weight, 0)
 }
 
 // It goes through the register of this argument, so often.
-fn add_hint(demands: &mut Demands, register: u32, argument: u8, weight: u64) {
-    match demands.registers.get_mut(register as usize) {
+fn add_hint(counting: &mut Counting, register: u32, argument: u8, weight: u64) {
+    match counting.registers.get_mut(register as usize) {
         Some(demand) => demand.hint = demand.hint.joined(Hint { argument, weight }),
         None => {}
     }
@@ -114,125 +145,148 @@ fn number_of(k: usize) -> u8
     if k < 8 { k as u8 } else { 8 }
 }
 
-fn read(demands: &mut Demands, operand: &Operand<u32>, weight: u64) {
+fn read(counting: &mut Counting, operand: &Operand<u32>, weight: u64) -> Result<(), AllocError> {
     match operand {
-        Operand::At(register) => add(demands, *register, weight),
-        _ => {}
+        Operand::At(register) => add(counting, *register, Kind::Read, weight),
+        _ => Ok(()),
     }
 }
 
-fn pass(demands: &mut Demands, operand: &Operand<u32>, argument: u8, often: u64) {
+// What is read to where any place reaches it as well as another.
+fn pass(
+    counting: &mut Counting,
+    operand: &Operand<u32>,
+    argument: u8,
+    often: u64,
+) -> Result<(), AllocError> {
     match operand {
         Operand::At(register) => {
             if argument < 8 {
-                add_hint(demands, *register, argument, often);
+                add_hint(counting, *register, argument, often);
             }
+            push_access(counting, *register, Kind::Read, 0, 0)
         }
-        _ => {}
+        _ => Ok(()),
     }
 }
 
-fn pass_args(demands: &mut Demands, args: &[Argument<u32>], often: u64) {
+fn pass_args(
+    counting: &mut Counting,
+    args: &[Argument<u32>],
+    often: u64,
+) -> Result<(), AllocError> {
     for (k, arg) in args.iter().enumerate() {
-        pass(demands, &arg.value, number_of(k), often);
+        pass(counting, &arg.value, number_of(k), often)?;
     }
+    Ok(())
 }
 
-fn param(demands: &mut Demands, register: u32, argument: u8) {
-    match demands.registers.get_mut(register as usize) {
+fn param(counting: &mut Counting, register: u32, argument: u8) -> Result<(), AllocError> {
+    match counting.registers.get_mut(register as usize) {
         Some(demand) => {
             demand.is_param = true;
         }
         None => {}
     }
     if argument < 8 {
-        add_hint(demands, register, argument, 1);
+        add_hint(counting, register, argument, 1);
+        push_access(counting, register, Kind::Entry, 0, 2)
+    } else {
+        push_access(counting, register, Kind::Entry, 2, 0)
     }
 }
 
-fn params(demands: &mut Demands, params: &[Destination<u32>]) {
+fn params(counting: &mut Counting, params: &[Destination<u32>]) -> Result<(), AllocError> {
     for (k, from) in params.iter().enumerate() {
-        param(demands, from.place, number_of(k));
+        param(counting, from.place, number_of(k))?;
     }
+    Ok(())
 }
 
 // Results are where the first argument is.
-fn receive(demands: &mut Demands, to: &Option<Destination<u32>>, often: u64) {
+fn receive(
+    counting: &mut Counting,
+    to: &Option<Destination<u32>>,
+    often: u64,
+) -> Result<(), AllocError> {
     match to {
-        Some(destination) => add_hint(demands, destination.place, 0, often),
-        None => {}
+        Some(destination) => {
+            add_hint(counting, destination.place, 0, often);
+            let through = often.saturating_mul(2);
+            push_access(counting, destination.place, Kind::Write, 0, through)
+        }
+        None => Ok(()),
     }
 }
 
-fn jump(demands: &mut Demands, jump: &Jump<u32>, weight: u64) {
+fn jump(counting: &mut Counting, jump: &Jump<u32>, often: u64) -> Result<(), AllocError> {
     match jump {
         Jump::Branch { on, .. } => {
-            read(demands, &on.left, weight);
-            read(demands, &on.right, weight);
+            read(counting, &on.left, often.saturating_mul(2))?;
+            read(counting, &on.right, often.saturating_mul(2))
         }
-        Jump::Return(Some(Operand::At(register))) => add_hint(demands, *register, 0, weight / 2),
-        _ => {}
+        Jump::Return(Some(value)) => pass(counting, value, 0, often),
+        _ => Ok(()),
     }
 }
 
 // A copy takes one instruction where either is in a register of the machine, and none where both are in the same.
 fn copy(
-    demands: &mut Demands,
+    counting: &mut Counting,
     to: u32,
     value: &Operand<u32>,
     often: u64,
 ) -> Result<(), AllocError> {
     match value {
         Operand::At(from) => {
-            add(demands, to, often);
-            add(demands, *from, often);
-            demands.copies.push(Copying {
+            add(counting, *from, Kind::Read, often)?;
+            add(counting, to, Kind::Write, often)?;
+            counting.copies.push(Copying {
                 weight: often,
                 to,
                 from: *from,
             })?;
             Ok(())
         }
-        _ => {
-            add(demands, to, often.saturating_mul(2));
-            Ok(())
-        }
+        _ => add(counting, to, Kind::Write, often.saturating_mul(2)),
     }
 }
 
 // What a call takes and gives, and what is copied in memory, takes one instruction to or from a register as well as a slot.
-fn line(demands: &mut Demands, line: &Line<u32>, often: u64) -> Result<(), AllocError> {
+fn line(counting: &mut Counting, line: &Line<u32>, often: u64) -> Result<(), AllocError> {
     let weight = often.saturating_mul(2);
     match line {
-        Line::Tick { .. } => {}
-        Line::Set { to, value } => copy(demands, *to, value, often)?,
+        Line::Tick { .. } | Line::Alloc { to: None, .. } => Ok(()),
+        Line::Set { to, value } => copy(counting, *to, value, often),
         Line::Operate {
             to,
             left,
             right,
             ..
         } => {
-            read(demands, left, weight);
-            read(demands, right, weight);
-            add(demands, *to, weight);
+            read(counting, left, weight)?;
+            read(counting, right, weight)?;
+            add(counting, *to, Kind::Write, weight)
         }
         Line::Load { to, at, .. } => {
-            read(demands, &at.base, weight);
-            add(demands, *to, weight);
+            read(counting, &at.base, weight)?;
+            add(counting, *to, Kind::Write, weight)
         }
         Line::Store { value, at, .. } => {
-            read(demands, value, weight);
-            read(demands, &at.base, weight);
+            read(counting, value, weight)?;
+            read(counting, &at.base, weight)
         }
-        Line::Alloc { to: Some(to), .. } => add(demands, *to, weight),
-        Line::Alloc { to: None, .. } | Line::Blit { .. } => {}
+        Line::Alloc { to: Some(to), .. } => add(counting, *to, Kind::Write, weight),
+        Line::Blit { from, to, .. } => {
+            read(counting, from, 0)?;
+            read(counting, to, 0)
+        }
         Line::Call { to, callee, args } => {
-            read(demands, callee, weight);
-            pass_args(demands, args.as_slice(), often);
-            receive(demands, to, often);
+            read(counting, callee, weight)?;
+            pass_args(counting, args.as_slice(), often)?;
+            receive(counting, to, often)
         }
     }
-    Ok(())
 }
 
 // Counts the calls before the point behind one.
@@ -258,27 +312,28 @@ fn push_line(calls: &mut Vec<usize>, line: &Line<u32>) -> Result<(), AllocError>
     }
 }
 
-fn lines(demands: &mut Demands, lines: &[Line<u32>], often: u64) -> Result<(), AllocError> {
+fn lines(counting: &mut Counting, lines: &[Line<u32>], often: u64) -> Result<(), AllocError> {
     for from in lines {
-        line(demands, from, often)?;
-        push_line(&mut demands.calls, from)?;
+        line(counting, from, often)?;
+        push_line(&mut counting.calls, from)?;
     }
     Ok(())
 }
 
-fn block(demands: &mut Demands, block: &Block<u32>, depth: u32) -> Result<(), AllocError> {
-    let often = frequency(depth);
-    lines(demands, block.lines.as_slice(), often)?;
-    jump(demands, &block.jump, often.saturating_mul(2));
-    push_point(&mut demands.calls, false)
+fn block(counting: &mut Counting, block: &Block<u32>, often: u64) -> Result<(), AllocError> {
+    lines(counting, block.lines.as_slice(), often)?;
+    jump(counting, &block.jump, often)?;
+    push_point(&mut counting.calls, false)
 }
 
-fn blocks(demands: &mut Demands, blocks: &[Block<u32>], depths: &[u32]) -> Result<(), AllocError> {
+fn blocks(
+    counting: &mut Counting,
+    blocks: &[Block<u32>],
+    depths: &[u32],
+) -> Result<(), AllocError> {
     for (k, from) in blocks.iter().enumerate() {
-        match depths.get(k) {
-            Some(depth) => block(demands, from, *depth)?,
-            None => block(demands, from, 0)?,
-        }
+        let depth = depths.get(k).copied().unwrap_or(0);
+        block(counting, from, frequency(depth))?;
     }
     Ok(())
 }
@@ -298,12 +353,19 @@ pub(crate) fn demands_of(
     list.resize(registers as usize, Demand::none())?;
     let mut calls = Vec::new(alloc);
     calls.push(0)?;
-    let mut demands = Demands {
+    let mut counting = Counting {
         registers: list,
         copies: Vec::new(alloc),
         calls,
+        accesses: Vec::new(alloc),
     };
-    params(&mut demands, code.params.as_slice());
-    blocks(&mut demands, code.blocks.as_slice(), depths)?;
-    Ok(demands)
+    params(&mut counting, code.params.as_slice())?;
+    blocks(&mut counting, code.blocks.as_slice(), depths)?;
+    let accesses = sorted(alloc, counting.accesses, registers)?;
+    Ok(Demands {
+        registers: counting.registers,
+        copies: counting.copies,
+        calls: counting.calls,
+        accesses,
+    })
 }

@@ -1,26 +1,37 @@
 //! # Register allocation by linear scan
 //!
 //! [`linear_scan::LinearScan`] gives registers of the machine to those virtual registers that are used most often for their length, and shared slots to the
-//! others. Its contract says that each register has one place that there is (`specs/Scanned`); that no two registers meet in a place is for the checker to see,
-//! which stands on `certificates` and knows nothing of this crate.
+//! others. Those it cuts: in parts of their lifetimes they stand in registers of the machine, and certificates move them there and to their slots. Its contract
+//! says that a certificate names places that there are (`specs/Scanned`); that no two registers meet in a place, and that moves are right, is for the checker to
+//! see, which stands on `certificates` and knows nothing of this crate.
 //!
-//! `lifetimes` says where registers have values, `loops` how deep in loops blocks lie, `demands` what registers are used for. `groups` joins registers that
-//! are copied to one another; `candidates` puts groups in order, `rooms` has the registers of the machine, and `slots` shares slots.
+//! `text` has the blocks, `lifetimes` says where registers have values, `accesses` where they are read and written, `loops` how deep in loops blocks lie,
+//! `demands` what registers are used for. `groups` joins registers that are copied to one another; `candidates` puts groups in order, `rooms` has the registers of
+//! the machine, and `slots` shares slots. `nodes` has the parts of a lifetime, `regions` what parts go together and save, `credit` which moves are paid for;
+//! `cutting` decides, `cuts` says what that comes to at each point, and `written` writes the certificate.
 //!
 //! What the crate `certificates` has is here by the same names.
 #![tactic(auto)]
 
+mod accesses;
 mod candidates;
+mod credit;
+mod cuts;
+mod cutting;
 mod demands;
 mod groups;
 mod lifetimes;
 pub mod linear_scan;
 mod loops;
+mod nodes;
 mod positions;
+mod regions;
 mod rooms;
 mod slots;
 #[cfg(test)]
 mod tests;
+mod text;
 mod width;
+mod written;
 
 pub use certificates::{certificate, list, spill_all, strategy};

@@ -6,15 +6,18 @@ ghost use Rattle.vcode.specs.Named.{is_place};
 ghost use Rattle.regalloc.specs.Scanned.{IsScanned};
 
 use crate::candidates::{Candidate, Facts, candidates, singles, wishes};
+use crate::cuts::Cuts;
+use crate::cutting::{Cutter, cut_all, should_keep};
 use crate::demands::demands_of;
 use crate::groups::{Group, groups_of};
 use crate::lifetimes::lifetimes;
 use crate::loops::depths;
-use crate::rooms::{Room, room_for, rooms};
+use crate::rooms::{Choice, Room, room_for, rooms};
 use crate::slots::{Wish, shared_slots};
+use crate::text::text_of;
 use crate::width::is_wide;
+use crate::written::written;
 use certificates::certificate::Certificate;
-use certificates::list::certificate_of;
 use certificates::spill_all::slots;
 use certificates::strategy::Strategy;
 use cfg_live::points::graph;
@@ -40,7 +43,8 @@ impl LinearScan {
 // How many registers of the machine there are: x5 to x27. Those come first that callees need not keep, and of these x17 to x10.
 const MACHINE: usize = 23;
 
-fn machine_register(registers: u32, k: u8) -> Location
+/// The k-th of them.
+pub(crate) fn machine_register(registers: u32, k: u8) -> Location
     requires { k < 23 }
     ensures { is_place registers result ≡ true }
 {
@@ -95,40 +99,74 @@ fn take_room(rooms: &mut [Room], k: usize, group: &Group) {
     }
 }
 
+// What registers of the machine are given by.
+#[derive(Clone, Copy)]
+struct Ground<'a> {
+    facts: &'a Facts,
+    live: &'a Live,
+    groups: &'a [Group],
+}
+
+// The register of the machine for a candidate; none where cutting it costs less.
+fn choice(
+    alloc: Global,
+    rooms: &[Room],
+    cutter: &mut Cutter,
+    ground: Ground,
+    candidate: &Candidate,
+    group: &Group,
+) -> Result<Option<usize>, AllocError> {
+    match room_for(rooms, candidate, group.ranges.as_slice()) {
+        Some(Choice::Free(k)) => Ok(Some(k)),
+        Some(Choice::Unused(k)) if 4 < candidate.weight => {
+            let members = group.members.as_slice();
+            let keeps = should_keep(alloc, cutter, ground.facts, ground.live, members)?;
+            Ok(if keeps { Some(k) } else { None })
+        }
+        _ => Ok(None),
+    }
+}
+
 fn place(
+    alloc: Global,
     list: &mut [Location],
     registers: u32,
     rooms: &mut [Room],
-    groups: &[Group],
+    cutter: &mut Cutter,
+    ground: Ground,
     candidate: &Candidate,
-)
+) -> Result<(), AllocError>
     requires { list_all (is_place registers) list.old ≡ true }
     ensures places { list_all (is_place registers) list.new ≡ true }
     ensures long { length list.new ≡ length list.old }
 {
-    match groups.get(candidate.group) {
-        Some(group) => match room_for(rooms, candidate, group.ranges.as_slice()) {
+    match ground.groups.get(candidate.group) {
+        Some(group) => match choice(alloc, rooms, cutter, ground, candidate, group)? {
             Some(k) => take(list, registers, rooms, k, group),
             None => {}
         },
         None => {}
     }
+    Ok(())
 }
 
 fn place_all(
+    alloc: Global,
     list: &mut [Location],
     registers: u32,
     rooms: &mut [Room],
-    groups: &[Group],
+    cutter: &mut Cutter,
+    ground: Ground,
     candidates: &[Candidate],
-)
+) -> Result<(), AllocError>
     requires { list_all (is_place registers) list.old ≡ true }
     ensures places { list_all (is_place registers) list.new ≡ true }
     ensures long { length list.new ≡ length list.old }
 {
     for candidate in candidates {
-        place(list, registers, rooms, groups, candidate);
+        place(alloc, list, registers, rooms, cutter, ground, candidate)?;
     }
+    Ok(())
 }
 
 // Those that have no register of the machine yet stand in the slot.
@@ -187,40 +225,67 @@ fn give_slots(
     }
 }
 
-// Registers of the machine for groups, then for single registers of those that got none, and slots for what is left.
+// Registers of the machine for groups, then for single registers of those that got none, and slots for what is left; that is cut where it can be.
 fn place_in(
     alloc: Global,
     list: &mut [Location],
-    registers: u32,
+    function: &VFunc,
+    live: &Live,
     groups: &[Group],
     facts: &Facts,
-) -> Result<(), AllocError>
-    requires { list_all (is_place registers) list.old ≡ true }
-    ensures places { list_all (is_place registers) list.new ≡ true }
+) -> Result<Cuts, AllocError>
+    requires { list_all (is_place function.now.registers) list.old ≡ true }
+    ensures places { list_all (is_place function.now.registers) list.new ≡ true }
     ensures long { length list.new ≡ length list.old }
 {
-    let mut rooms = rooms(alloc, MACHINE, facts.points)?;
+    let registers = function.registers;
+    let mut all = rooms(alloc, MACHINE, facts.points)?;
+    let rooms = all.as_mut_slice();
+    let mut cutter = Cutter::new(alloc, function, facts)?;
     let first = candidates(alloc, groups, facts)?;
+    let ground = Ground {
+        facts,
+        live,
+        groups,
+    };
     place_all(
+        alloc,
         list,
         registers,
-        rooms.as_mut_slice(),
-        groups,
+        rooms,
+        &mut cutter,
+        ground,
         first.as_slice(),
-    );
+    )?;
     let singles = singles(alloc, groups, list, facts)?;
     let second = candidates(alloc, singles.as_slice(), facts)?;
+    let single = Ground {
+        groups: singles.as_slice(),
+        ..ground
+    };
     place_all(
+        alloc,
         list,
         registers,
-        rooms.as_mut_slice(),
-        singles.as_slice(),
+        rooms,
+        &mut cutter,
+        single,
         second.as_slice(),
-    );
+    )?;
     let wishes = wishes(alloc, groups, list, facts)?;
     let slots = shared_slots(alloc, groups, wishes.as_slice())?;
     give_slots(list, registers, groups, wishes.as_slice(), slots.as_slice());
-    Ok(())
+    cut_all(
+        alloc,
+        &mut cutter,
+        rooms,
+        list,
+        facts,
+        live,
+        singles.as_slice(),
+        second.as_slice(),
+    )?;
+    cutter.finish()
 }
 
 // What is to be known of the function.
@@ -228,10 +293,12 @@ fn facts(alloc: Global, function: &VFunc, live: &Live) -> Result<Facts, AllocErr
     let graph = graph(alloc, function)?;
     let points = graph.uses.as_slice();
     let lifetimes = lifetimes(alloc, function, live, points)?;
-    let depths = depths(alloc, function.code.blocks.as_slice())?;
+    let blocks = function.code.blocks.as_slice();
+    let depths = depths(alloc, blocks)?;
     let demands = demands_of(alloc, &function.code, function.registers, depths.as_slice())?;
     Ok(Facts {
         points: points.len(),
+        text: text_of(alloc, blocks, depths.as_slice())?,
         lifetimes,
         demands,
     })
@@ -247,10 +314,13 @@ fn all_in_slots(alloc: Global, registers: u32) -> Result<Vec<Location>, AllocErr
     Ok(list)
 }
 
-// A place for each register.
-fn places(alloc: Global, function: &VFunc, live: &Live) -> Result<Vec<Location>, AllocError>
-    ensures places { IfOk result (λ v. list_all (is_place function.now.registers) v.items ≡ true) }
-    ensures long { IfOk result (λ v. length v.items ≡ function.now.registers) }
+/// The certificate that linear scan has for the function.
+///
+/// # Errors
+///
+/// Only where memory was refused.
+pub fn scanned(alloc: Global, function: &VFunc, live: &Live) -> Result<Certificate, AllocError>
+    ensures { IfOk result (λ c. IsScanned function.now.registers c) }
 {
     let mut facts = facts(alloc, function, live)?;
     let groups = groups_of(
@@ -260,31 +330,14 @@ fn places(alloc: Global, function: &VFunc, live: &Live) -> Result<Vec<Location>,
         &mut facts.demands,
     )?;
     let mut list = all_in_slots(alloc, function.registers)?;
-    place_in(
-        alloc,
-        list.as_mut_slice(),
-        function.registers,
-        groups.groups.as_slice(),
-        &facts,
-    )?;
-    Ok(list)
-}
-
-/// The certificate that gives each register the place that linear scan has for it.
-///
-/// # Errors
-///
-/// Only where memory was refused.
-pub fn scanned(alloc: Global, function: &VFunc, live: &Live) -> Result<Certificate, AllocError>
-    ensures { IfOk result (λ c. IsScanned function.now.code function.now.registers live.now c) }
-{
-    let list = places(alloc, function, live)?;
-    certificate_of(alloc, function, live, &list)
+    let groups = groups.groups.as_slice();
+    let cuts = place_in(alloc, list.as_mut_slice(), function, live, groups, &facts)?;
+    written(alloc, function, live, &facts.text, list.as_slice(), &cuts)
 }
 
 impl Strategy for LinearScan {
     fn choose(&mut self, function: &VFunc, live: &Live) -> Option<Certificate>
-        ensures { IfSome result (λ c. IsScanned function.now.code function.now.registers live.now c) }
+        ensures { IfSome result (λ c. IsScanned function.now.registers c) }
     {
         if is_wide(function, live) {
             return None;

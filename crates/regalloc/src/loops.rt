@@ -34,8 +34,8 @@ struct Search {
     back: Vec<Edge>,
 }
 
-// The k-th block that the jump may lead to.
-fn target(jump: &Jump<u32>, k: usize) -> Option<usize> {
+/// The k-th block that the jump may lead to.
+pub(crate) fn target(jump: &Jump<u32>, k: usize) -> Option<usize> {
     match (jump, k) {
         (Jump::Goto(block), 0) => Some(*block),
         (Jump::Branch { met, .. }, 0) => Some(*met),
@@ -134,8 +134,12 @@ fn push_targets(edges: &mut [Vec<usize>], blocks: &[Block<u32>]) -> Result<(), A
     Ok(())
 }
 
-// The blocks that lead to each block.
-fn sources(alloc: Global, blocks: &[Block<u32>]) -> Result<Vec<Vec<usize>>, AllocError> {
+/// The blocks that lead to each block.
+///
+/// # Errors
+///
+/// Only where memory was refused.
+pub(crate) fn sources(alloc: Global, blocks: &[Block<u32>]) -> Result<Vec<Vec<usize>>, AllocError> {
     let mut edges = Vec::new(alloc);
     for _ in 0..blocks.len() {
         edges.push(Vec::new(alloc))?;

@@ -1,6 +1,7 @@
 //! Which positions each register of the machine is free at.
 use crate::candidates::Candidate;
 use crate::positions::Range;
+use crate::regions::Balance;
 use std::alloc::{AllocError, Global};
 
 /// The positions at which a register of the machine is taken, one bit each.
@@ -100,14 +101,14 @@ fn may_hold(k: usize, candidate: &Candidate) -> bool {
     11 <= k || !candidate.over_call
 }
 
-// A register that callees keep is saved and restored, once it is used: that takes two instructions.
-fn pays(candidate: &Candidate) -> bool {
-    4 < candidate.weight
+// The register that saves moves, by the number of its argument.
+fn hinted(hint: u8) -> usize {
+    7usize.saturating_sub(usize::from(hint))
 }
 
 // The register that the candidate would save moves in, if it may stand there.
 fn room_by_hint(rooms: &[Room], candidate: &Candidate, ranges: &[Range]) -> Option<usize> {
-    let k = 7usize.saturating_sub(usize::from(candidate.hint?));
+    let k = hinted(candidate.hint?);
     let room = rooms.get(k)?;
     if may_hold(k, candidate) && room.is_free(ranges) {
         Some(k)
@@ -116,23 +117,70 @@ fn room_by_hint(rooms: &[Room], candidate: &Candidate, ranges: &[Range]) -> Opti
     }
 }
 
-/// The register that the candidate would save moves in, or else the first one that is free for the ranges of the candidate, one that needs no saving if there is one;
-/// else none, or one that pays for that.
-pub(crate) fn room_for(rooms: &[Room], candidate: &Candidate, ranges: &[Range]) -> Option<usize> {
+/// A register that is free.
+#[derive(Clone, Copy, Debug, PartialEq, Eq)]
+pub(crate) enum Choice {
+    /// it costs nothing
+    Free(usize),
+
+    /// it costs the two instructions that save and restore it
+    Unused(usize),
+}
+
+/// The register that the candidate would save moves in, or else the first one that is free for the ranges of the candidate, one that needs no saving if there is one.
+pub(crate) fn room_for(rooms: &[Room], candidate: &Candidate, ranges: &[Range]) -> Option<Choice> {
     match room_by_hint(rooms, candidate, ranges) {
-        Some(k) => return Some(k),
+        Some(k) => return Some(Choice::Free(k)),
         None => {}
     }
     let mut unused = None;
     for (k, room) in rooms.iter().enumerate() {
         if may_hold(k, candidate) && room.is_free(ranges) {
             if k < 11 || room.is_used {
-                return Some(k);
+                return Some(Choice::Free(k));
             }
             if unused.is_none() {
+                unused = Some(Choice::Unused(k));
+            }
+        }
+    }
+    unused
+}
+
+// The register that the value comes in, if it is free.
+fn part_by_hint(rooms: &[Room], hint: Option<u8>, ranges: &[Range]) -> Option<usize> {
+    let k = hinted(hint?);
+    if rooms.get(k)?.is_free(ranges) {
+        Some(k)
+    } else {
+        None
+    }
+}
+
+/// A register for a part of a lifetime, over no call: the one that the value comes in, or another that is free at these positions and saves something.
+pub(crate) fn room_for_part(
+    rooms: &[Room],
+    hint: Option<u8>,
+    balance: Balance,
+    ranges: &[Range],
+) -> Option<usize> {
+    match part_by_hint(rooms, hint, ranges) {
+        Some(k) => return Some(k),
+        None => {}
+    }
+    if balance.net() == 0 {
+        return None;
+    }
+    let mut unused = None;
+    for (k, room) in rooms.iter().enumerate() {
+        if room.is_free(ranges) {
+            if k < 11 || room.is_used {
+                return Some(k);
+            }
+            if unused.is_none() && 4 < balance.net() {
                 unused = Some(k);
             }
         }
     }
-    if pays(candidate) { unused } else { None }
+    unused
 }

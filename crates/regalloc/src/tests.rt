@@ -2,7 +2,7 @@
 ghost use Rattle.std.specs.Prelude.{◌<◌};
 
 use crate::linear_scan::{LinearScan, scanned};
-use certificates::certificate::Equality;
+use certificates::certificate::{Equality, Transfer};
 use certificates::strategy::Strategy;
 use cfg_live::live::live;
 use il_ast::list::Seq;
@@ -134,20 +134,29 @@ fn calling(alloc: Global) -> Result<VFunc, AllocError> {
     })
 }
 
-/// What is read often stands in a register that callees keep; for what is only returned, saving and restoring one would not pay.
+/// Where callees' registers would have to be saved and restored, a parameter is put into its slot once and loaded for all that comes behind the call.
 #[test]
-fn values_over_a_call_stand_where_callees_keep_them(rt: HostRuntime) -> Result<(), Fail> {
+fn values_over_a_call_are_loaded_behind_it(rt: HostRuntime) -> Result<(), Fail> {
     let alloc = rt.alloc();
     let function = calling(alloc)?;
     let live = live(alloc, &function)?;
     let certificate = scanned(alloc, &function, &live)?;
-    let [x8, x10] = [Location::Register(8), Location::Register(10)];
-    let params = [x8, Location::Slot(0)];
-    assert_eq!(rt; certificate.params.as_slice(), params.as_slice());
+    let [zero, one] = [Location::Slot(0), Location::Slot(1)];
+    let [x10, x17] = [Location::Register(10), Location::Register(17)];
+    assert_eq!(rt; certificate.params.as_slice(), [zero, one].as_slice());
     assert_eq!(rt; certificate.places.len(), 4);
+    assert_eq!(rt; certificate.moves.len(), 4);
+    assert_eq!(rt;
+        certificate.moves.as_slice()[1].as_slice(),
+        [Transfer {
+            from: zero,
+            to: x17,
+        }]
+        .as_slice()
+    );
     assert_eq!(rt;
         certificate.places.as_slice()[2].as_slice(),
-        [at(0, x8), at(2, x10)].as_slice()
+        [at(0, x17), at(2, x10)].as_slice()
     );
     Ok(())
 }

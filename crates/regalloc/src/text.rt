@@ -1,0 +1,111 @@
+//! The blocks of a function: where they stand in its text, how often they run, and which lead to which.
+use crate::demands::frequency;
+use crate::lifetimes::jump_point;
+use crate::loops::{sources, target};
+use std::alloc::{AllocError, Global};
+use vcode::code::Block;
+
+/// A block in the text.
+#[derive(Clone, Copy, Debug, PartialEq, Eq)]
+pub(crate) struct Stretch {
+    /// its first point
+    pub(crate) first: usize,
+
+    /// the point of its jump, the last one
+    pub(crate) jump: usize,
+
+    /// in how many loops it lies
+    pub(crate) depth: u32,
+
+    /// the blocks that it may lead to
+    pub(crate) next: Option<usize>,
+    pub(crate) other: Option<usize>,
+}
+
+/// All blocks of a function.
+#[derive(Drop)]
+pub(crate) struct Text {
+    pub(crate) stretches: Vec<Stretch>,
+
+    /// the blocks that lead to each block
+    sources: Vec<Vec<usize>>,
+
+    /// the block of each point
+    block_of: Vec<usize>,
+}
+
+impl Text {
+    /// The block with that number, if there is one.
+    pub(crate) fn stretch(&self, block: usize) -> Option<Stretch> {
+        self.stretches.get(block).copied()
+    }
+
+    /// The blocks that lead to this one.
+    pub(crate) fn sources(&self, block: usize) -> &[usize] {
+        match self.sources.get(block) {
+            Some(sources) => sources.as_slice(),
+            None => &[],
+        }
+    }
+
+    /// The number of the block with this point; 0 where there is no such point.
+    pub(crate) fn block_of(&self, point: usize) -> usize {
+        self.block_of.get(point).copied().unwrap_or(0)
+    }
+
+    /// How often the block runs, where one that lies in no loop runs once.
+    pub(crate) fn often(&self, block: usize) -> u64 {
+        match self.stretch(block) {
+            Some(stretch) => frequency(stretch.depth),
+            None => 1,
+        }
+    }
+}
+
+fn stretches(
+    alloc: Global,
+    blocks: &[Block<u32>],
+    depths: &[u32],
+) -> Result<Vec<Stretch>, AllocError> {
+    let mut stretches = Vec::new(alloc);
+    let mut first = 0usize;
+    for (number, block) in blocks.iter().enumerate() {
+        let jump = jump_point(first, block.lines.as_slice());
+        stretches.push(Stretch {
+            first,
+            jump,
+            depth: depths.get(number).copied().unwrap_or(0),
+            next: target(&block.jump, 0),
+            other: target(&block.jump, 1),
+        })?;
+        first = jump.saturating_add(1);
+    }
+    Ok(stretches)
+}
+
+fn push_block(block_of: &mut Vec<usize>, block: usize, stretch: Stretch) -> Result<(), AllocError> {
+    block_of.resize(stretch.jump.saturating_add(1), block)?;
+    Ok(())
+}
+
+/// The blocks, which lie in so many loops each.
+///
+/// # Errors
+///
+/// Only where memory was refused.
+pub(crate) fn text_of(
+    alloc: Global,
+    blocks: &[Block<u32>],
+    depths: &[u32],
+) -> Result<Text, AllocError> {
+    let stretches = stretches(alloc, blocks, depths)?;
+    let mut block_of = Vec::new(alloc);
+    for (number, stretch) in stretches.iter().enumerate() {
+        push_block(&mut block_of, number, *stretch)?;
+    }
+    Ok(Text {
+        stretches,
+        sources: sources(alloc, blocks)?,
+        block_of,
+    })
+}

@@ -1,0 +1,471 @@
+//! The certificate of places and cuts.
+ghost use Rattle.std.specs.Prelude.{◌≡◌, ◌<◌, true, OnOk, IfOk, IfSome};
+ghost use Rattle.std.specs.List.{list_all};
+ghost use Rattle.vcode.specs.Named.{is_place};
+ghost use Rattle.regalloc.specs.Scanned.{are_placed, are_between, IsScanned};
+
+use crate::accesses::{part, rest};
+use crate::cuts::{Begin, Cuts, Entry, Move, Stay, Way};
+use crate::linear_scan::machine_register;
+use crate::text::Text;
+use certificates::certificate::{Certificate, Equality, Transfer};
+use cfg_live::points::graph;
+use cfg_live::sets::Live;
+use cfg_live::uses::Uses;
+use il_ast::list::Seq;
+use std::alloc::{AllocError, Global};
+use vcode::function::VFunc;
+use vcode::place::{Destination, Location};
+
+fn room_place(registers: u32, room: usize) -> Option<Location>
+    ensures { IfSome result (λ q. is_place registers q ≡ true) }
+{
+    if room < 23 {
+        Some(machine_register(registers, room as u8))
+    } else {
+        None
+    }
+}
+
+fn own_place(list: &[Location], registers: u32, register: u32) -> Option<Location>
+    requires { list_all (is_place registers) list.now ≡ true }
+    ensures { IfSome result (λ q. is_place registers q ≡ true) }
+{
+    list.get(register as usize).copied()
+}
+
+fn push_at(
+    equalities: &mut Seq<Equality>,
+    registers: u32,
+    register: u32,
+    place: Option<Location>,
+) -> Result<(), AllocError>
+    requires place { IfSome place (λ q. is_place registers q ≡ true) }
+    requires placed { are_placed registers equalities.old ≡ true }
+    ensures { are_placed registers equalities.new ≡ true }
+{
+    match place {
+        Some(place) => equalities.push(Equality { register, place }),
+        None => Ok(()),
+    }
+}
+
+// ---- points
+
+// Where the register is at a point with these stays.
+fn place_at(list: &[Location], registers: u32, stays: &[Stay], register: u32) -> Option<Location>
+    requires { list_all (is_place registers) list.now ≡ true }
+    ensures { IfSome result (λ q. is_place registers q ≡ true) }
+{
+    for stay in stays {
+        if stay.register == register {
+            return room_place(registers, stay.room);
+        }
+    }
+    own_place(list, registers, register)
+}
+
+fn has(equalities: &[Equality], register: u32) -> bool {
+    equalities
+        .iter()
+        .any(|equality| equality.register == register)
+}
+
+// Adds it once.
+fn push_once(
+    equalities: &mut Seq<Equality>,
+    list: &[Location],
+    registers: u32,
+    stays: &[Stay],
+    register: u32,
+) -> Result<(), AllocError>
+    requires list { list_all (is_place registers) list.now ≡ true }
+    requires placed { are_placed registers equalities.old ≡ true }
+    ensures { are_placed registers equalities.new ≡ true }
+{
+    if has(equalities.as_slice(), register) {
+        return Ok(());
+    }
+    let place = place_at(list, registers, stays, register);
+    push_at(equalities, registers, register, place)
+}
+
+fn push_reads(
+    equalities: &mut Seq<Equality>,
+    list: &[Location],
+    registers: u32,
+    stays: &[Stay],
+    reads: &[u32],
+) -> Result<(), AllocError>
+    requires list { list_all (is_place registers) list.now ≡ true }
+    requires placed { are_placed registers equalities.old ≡ true }
+    ensures { are_placed registers equalities.new ≡ true }
+{
+    for register in reads {
+        push_once(equalities, list, registers, stays, *register)?;
+    }
+    Ok(())
+}
+
+// The places of the registers that a point names, each once.
+fn places_of(
+    alloc: Global,
+    list: &[Location],
+    registers: u32,
+    stays: &[Stay],
+    uses: &Uses,
+) -> Result<Seq<Equality>, AllocError>
+    requires { list_all (is_place registers) list.now ≡ true }
+    ensures { IfOk result (λ es. are_placed registers es ≡ true) }
+{
+    let mut equalities = Seq::new(alloc);
+    push_reads(
+        &mut equalities,
+        list,
+        registers,
+        stays,
+        uses.reads.as_slice(),
+    )?;
+    match uses.writes {
+        Some(register) => push_once(&mut equalities, list, registers, stays, register)?,
+        None => {}
+    }
+    Ok(equalities)
+}
+
+// The number behind the stays at a point, the first of which has this number.
+fn stays_end(stays: &[Stay], first: usize, point: usize) -> usize {
+    let mut end = first;
+    for stay in rest(stays, first) {
+        if stay.point != point {
+            break;
+        }
+        end = end.saturating_add(1);
+    }
+    end
+}
+
+fn push_places(
+    alloc: Global,
+    places: &mut Seq<Seq<Equality>>,
+    list: &[Location],
+    registers: u32,
+    stays: &[Stay],
+    points: &[Uses],
+) -> Result<(), AllocError>
+    requires list { list_all (is_place registers) list.now ≡ true }
+    requires placed { list_all (are_placed registers) places.old ≡ true }
+    ensures { OnOk result (list_all (are_placed registers) places.new ≡ true) }
+{
+    let mut first = 0usize;
+    for (point, uses) in points.iter().enumerate() {
+        let end = stays_end(stays, first, point);
+        let named = places_of(alloc, list, registers, part(stays, first, end), uses)?;
+        places.push(named)?;
+        first = end;
+    }
+    Ok(())
+}
+
+// ---- moves
+
+fn push_transfer(
+    transfers: &mut Seq<Transfer>,
+    registers: u32,
+    way: Way,
+    slot: Location,
+    machine: Location,
+) -> Result<(), AllocError>
+    requires slot { is_place registers slot ≡ true }
+    requires machine { is_place registers machine ≡ true }
+    requires between { are_between registers transfers.old ≡ true }
+    ensures { are_between registers transfers.new ≡ true }
+{
+    match way {
+        Way::Save => transfers.push(Transfer {
+            from: machine,
+            to: slot,
+        }),
+        Way::Load => transfers.push(Transfer {
+            from: slot,
+            to: machine,
+        }),
+    }
+}
+
+fn push_move(
+    transfers: &mut Seq<Transfer>,
+    list: &[Location],
+    registers: u32,
+    one: &Move,
+) -> Result<(), AllocError>
+    requires list { list_all (is_place registers) list.now ≡ true }
+    requires between { are_between registers transfers.old ≡ true }
+    ensures { are_between registers transfers.new ≡ true }
+{
+    let slot = own_place(list, registers, one.register);
+    let machine = room_place(registers, one.room);
+    match (slot, machine) {
+        (Some(slot), Some(machine)) => push_transfer(transfers, registers, one.way, slot, machine),
+        _ => Ok(()),
+    }
+}
+
+// The moves before a point, each once.
+fn moves_of(
+    alloc: Global,
+    list: &[Location],
+    registers: u32,
+    moves: &[Move],
+) -> Result<Seq<Transfer>, AllocError>
+    requires { list_all (is_place registers) list.now ≡ true }
+    ensures { IfOk result (λ ms. are_between registers ms ≡ true) }
+{
+    let mut transfers = Seq::new(alloc);
+    let mut last: Option<Move> = None;
+    for one in moves {
+        if last != Some(*one) {
+            push_move(&mut transfers, list, registers, one)?;
+        }
+        last = Some(*one);
+    }
+    Ok(transfers)
+}
+
+fn moves_end(moves: &[Move], first: usize, point: usize) -> usize {
+    let mut end = first;
+    for one in rest(moves, first) {
+        if one.point != point {
+            break;
+        }
+        end = end.saturating_add(1);
+    }
+    end
+}
+
+fn push_moves(
+    alloc: Global,
+    lists: &mut Seq<Seq<Transfer>>,
+    list: &[Location],
+    registers: u32,
+    moves: &[Move],
+    points: &[Uses],
+) -> Result<(), AllocError>
+    requires list { list_all (is_place registers) list.now ≡ true }
+    requires between { list_all (are_between registers) lists.old ≡ true }
+    ensures { OnOk result (list_all (are_between registers) lists.new ≡ true) }
+{
+    let mut first = 0usize;
+    for (point, _uses) in points.iter().enumerate() {
+        let end = moves_end(moves, first, point);
+        let transfers = moves_of(alloc, list, registers, part(moves, first, end))?;
+        lists.push(transfers)?;
+        first = end;
+    }
+    Ok(())
+}
+
+// ---- starts of blocks
+
+// The first of these registers, if it is that one and the block is this one.
+fn begin_at(begins: &[Begin], first: usize, block: usize, register: u32) -> Option<Begin> {
+    let begin = begins.get(first).copied()?;
+    if begin.block == block && begin.register == register {
+        Some(begin)
+    } else {
+        None
+    }
+}
+
+// The number of the first one that comes neither before the block nor before the register in it.
+fn begins_from(begins: &[Begin], first: usize, block: usize, register: u32) -> usize {
+    let mut from = first;
+    for begin in rest(begins, first) {
+        if block < begin.block || (begin.block == block && register <= begin.register) {
+            break;
+        }
+        from = from.saturating_add(1);
+    }
+    from
+}
+
+// A register that is live, where it is.
+fn push_live(
+    equalities: &mut Seq<Equality>,
+    list: &[Location],
+    registers: u32,
+    register: u32,
+    begin: Option<Begin>,
+) -> Result<(), AllocError>
+    requires list { list_all (is_place registers) list.now ≡ true }
+    requires placed { are_placed registers equalities.old ≡ true }
+    ensures { are_placed registers equalities.new ≡ true }
+{
+    match begin {
+        Some(begin) => {
+            push_at(
+                equalities,
+                registers,
+                register,
+                room_place(registers, begin.room),
+            )?;
+            if !begin.is_saved {
+                return Ok(());
+            }
+        }
+        None => {}
+    }
+    push_at(
+        equalities,
+        registers,
+        register,
+        own_place(list, registers, register),
+    )
+}
+
+// What is live where the block begins; answers the number behind the begins that belong to it.
+fn push_start(
+    equalities: &mut Seq<Equality>,
+    list: &[Location],
+    registers: u32,
+    begins: &[Begin],
+    first: usize,
+    live: &Live,
+    block: usize,
+    point: usize,
+) -> Result<usize, AllocError>
+    requires list { list_all (is_place registers) list.now ≡ true }
+    requires placed { are_placed registers equalities.old ≡ true }
+    ensures { are_placed registers equalities.new ≡ true }
+{
+    let mut from = first;
+    for register in 0..registers {
+        if live.holds(point, register) {
+            from = begins_from(begins, from, block, register);
+            let begin = begin_at(begins, from, block, register);
+            push_live(equalities, list, registers, register, begin)?;
+        }
+    }
+    Ok(from)
+}
+
+fn push_starts(
+    alloc: Global,
+    starts: &mut Seq<Seq<Equality>>,
+    list: &[Location],
+    registers: u32,
+    begins: &[Begin],
+    live: &Live,
+    text: &Text,
+) -> Result<(), AllocError>
+    requires list { list_all (is_place registers) list.now ≡ true }
+    requires placed { list_all (are_placed registers) starts.old ≡ true }
+    ensures { OnOk result (list_all (are_placed registers) starts.new ≡ true) }
+{
+    let mut first = 0usize;
+    for (block, stretch) in text.stretches.iter().enumerate() {
+        let mut equalities = Seq::new(alloc);
+        first = push_start(
+            &mut equalities,
+            list,
+            registers,
+            begins,
+            first,
+            live,
+            block,
+            stretch.first,
+        )?;
+        starts.push(equalities)?;
+    }
+    Ok(())
+}
+
+// ---- parameters
+
+fn param_place(
+    list: &[Location],
+    registers: u32,
+    entries: &[Entry],
+    register: u32,
+) -> Option<Location>
+    requires { list_all (is_place registers) list.now ≡ true }
+    ensures { IfSome result (λ q. is_place registers q ≡ true) }
+{
+    for entry in entries {
+        if entry.register == register {
+            return room_place(registers, entry.room);
+        }
+    }
+    own_place(list, registers, register)
+}
+
+fn push_params(
+    params: &mut Seq<Location>,
+    list: &[Location],
+    registers: u32,
+    entries: &[Entry],
+    from: &[Destination<u32>],
+) -> Result<(), AllocError>
+    requires list { list_all (is_place registers) list.now ≡ true }
+    requires placed { list_all (is_place registers) params.old ≡ true }
+    ensures { OnOk result (list_all (is_place registers) params.new ≡ true) }
+{
+    for param in from {
+        match param_place(list, registers, entries, param.place) {
+            Some(place) => params.push(place)?,
+            None => {}
+        }
+    }
+    Ok(())
+}
+
+/// The certificate that has each register at its place, but where it is cut, with the moves for that; where a block begins it names the live registers alone.
+///
+/// # Errors
+///
+/// Only where memory was refused.
+pub(crate) fn written(
+    alloc: Global,
+    function: &VFunc,
+    live: &Live,
+    text: &Text,
+    list: &[Location],
+    cuts: &Cuts,
+) -> Result<Certificate, AllocError>
+    requires { list_all (is_place function.now.registers) list.now ≡ true }
+    ensures { IfOk result (λ c. IsScanned function.now.registers c) }
+{
+    let registers = function.registers;
+    let mut params = Seq::new(alloc);
+    let from = function.code.params.as_slice();
+    push_params(&mut params, list, registers, cuts.entries.as_slice(), from)?;
+    let mut starts = Seq::new(alloc);
+    let begins = cuts.begins.as_slice();
+    push_starts(alloc, &mut starts, list, registers, begins, live, text)?;
+    let graph = graph(alloc, function)?;
+    let points = graph.uses.as_slice();
+    let mut moves = Seq::new(alloc);
+    push_moves(
+        alloc,
+        &mut moves,
+        list,
+        registers,
+        cuts.moves.as_slice(),
+        points,
+    )?;
+    let mut places = Seq::new(alloc);
+    push_places(
+        alloc,
+        &mut places,
+        list,
+        registers,
+        cuts.stays.as_slice(),
+        points,
+    )?;
+    Ok(Certificate {
+        params,
+        starts,
+        moves,
+        places,
+    })
+}
