@@ -290,15 +290,6 @@ fn a_value_may_be_moved_out_of_the_way_of_a_call(rt: HostRuntime) -> Result<(), 
     Ok(())
 }
 
-fn sum(to: u32, left: u32, right: Operand<u32>) -> Line<u32> {
-    Line::Operate {
-        to,
-        operation: Operation::RegW(RegWOp::Addw),
-        left: Operand::At(left),
-        right,
-    }
-}
-
 /// Puts 5 into register 0, passes the sum of that and 1, register 1, to a call, and returns the sum of the result, register 2, and register 0.
 fn holding(alloc: Global) -> Result<VFunc, AllocError> {
     let mut args = Seq::new(alloc);
@@ -315,7 +306,12 @@ fn holding(alloc: Global) -> Result<VFunc, AllocError> {
         to: 0,
         value: Operand::Number(5),
     })?;
-    lines.push(sum(1, 0, Operand::Number(1)))?;
+    lines.push(Line::Operate {
+        to: 1,
+        operation: Operation::RegW(RegWOp::Addw),
+        left: Operand::At(0),
+        right: Operand::Number(1),
+    })?;
     lines.push(Line::Call {
         to: Some(Destination {
             place: 2,
@@ -324,7 +320,12 @@ fn holding(alloc: Global) -> Result<VFunc, AllocError> {
         callee: Operand::Number(1),
         args,
     })?;
-    lines.push(sum(3, 2, Operand::At(0)))?;
+    lines.push(Line::Operate {
+        to: 3,
+        operation: Operation::RegW(RegWOp::Addw),
+        left: Operand::At(2),
+        right: Operand::At(0),
+    })?;
     let mut blocks = Seq::new(alloc);
     blocks.push(Block {
         lines,
