@@ -12,7 +12,6 @@
 //! The crate stands on `vcode` for code, on `cfg_live` for live registers and on `bitset` for sets.
 #![tactic(auto)]
 
-mod copied;
 mod overlay;
 pub mod remove;
 #[cfg(test)]

@@ -9,7 +9,6 @@ ghost use Rattle.vcode.specs.Named.{operand_keeps, line_keeps, is_below};
 ghost use Rattle.dead_lines.specs.Without.{Wanted, only_writes, is_dead, as_wanted, reads_it, writes_it, wanted_above};
 ghost use Rattle.dead_lines.specs.Overlaid.{over, names_it};
 
-use crate::copied;
 use bitset::BitSet;
 use cfg_live::sets::Live;
 use std::alloc::{AllocError, Global};
@@ -195,7 +194,7 @@ impl Overlay {
                     size: *size,
                 })
             }
-            _ => copied::line(alloc, line),
+            _ => line.try_clone(alloc),
         }
     }
 }

@@ -8,7 +8,6 @@ ghost use Rattle.cfg_live.specs.Points.{graph_of};
 ghost use Rattle.cfg_live.specs.Rows.{holds, AreLive};
 ghost use Rattle.dead_lines.specs.Without.{kept_lines, kept_block, kept_blocks, end_point, without_dead, IsWithoutDead};
 
-use crate::copied::params;
 use crate::overlay::Overlay;
 use cfg_live::live::live_in;
 use cfg_live::numbering::jump_point;
@@ -92,7 +91,7 @@ fn without_dead(alloc: Global, function: &VFunc, live: &Live) -> Result<VFunc, A
     ensures code { IfOk result (λ w. w.code ≡ without_dead live.now function.now.code) }
     ensures registers { IfOk result (λ w. w.registers ≡ function.now.registers) }
 {
-    let params = params(alloc, function.code.params.as_slice())?;
+    let params = function.code.params.try_clone(alloc)?;
     let mut overlay = Overlay::new(alloc, function.registers)?;
     let mut blocks = Seq::new(alloc);
     push_blocks(

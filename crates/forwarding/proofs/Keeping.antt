@@ -32,10 +32,10 @@ use Rattle.vcode.specs.Regular.{is_target, leads_inside, is_alloc, allocs_first,
 use Rattle.forwarding.specs.declared.fact.Fact.{Fact}
 use Rattle.forwarding.specs.declared.fact.Fact.TheVariants.{Same, Sum, Test}
 use Rattle.forwarding.specs.Facts.{Facts, operand_below, fact_below, kept_if, AreBelow}
-use Rattle.forwarding.specs.Forwarded.{is_short, copied, forward, regrouped, grouped, is_add, folded, operands_of, further, from_base, with_base, with_address, Replacing, with_argument, with_line, with_comparison, test_of, tested_by, with_test, with_branch, equality, decided, with_jump, writes_it, fact_of, leaves, after, AreForwarded, IsForwarded, AllForwarded}
+use Rattle.forwarding.specs.Forwarded.{is_short, copied, forward, regrouped, grouped, is_add, folded, operands_of, further, from_base, with_base, with_address, Replacing, with_argument, with_line, with_comparison, test_of, tested_by, with_test, with_branch, numbers_hold, decided, with_jump, writes_it, fact_of, leaves, after, AreForwarded, IsForwarded, AllForwarded}
 use Rattle.forwarding.proofs.Writing.{both_true}
 use Rattle.forwarding.specs.Shortened.{shortened}
-use Rattle.forwarding.proofs.Shortening.{Unnumbered, unchanged, any_cheaper}
+use Rattle.forwarding.proofs.Computing.{Unshortened, unchanged, any_cheaper}
 use Rattle.forwarding.proofs.Running.{runs}
 
 both_are : (a b : Bool) → a ≡ true → b ≡ true → (a && b) ≡ true
@@ -303,7 +303,7 @@ jump_low : (lines : List (Line ℕ)) (n : ℕ) (fs : Facts) → AreBelow n fs �
 jump_low lines n fs below (Goto k) h = refl
 jump_low lines n fs below (Branch on met otherwise) h =
     let new : Comparison ℕ = with_comparison (forward fs) on in
-    outcome_either (λ k. jump_keeps (is_below n) k ≡ true) (equality new.condition new.class new.left new.right) met otherwise (with_branch lines fs new met otherwise) refl refl
+    outcome_either (λ k. jump_keeps (is_below n) k ≡ true) (numbers_hold new.condition new.class new.left new.right) met otherwise (with_branch lines fs new met otherwise) refl refl
     (test_either lines (λ k. jump_keeps (is_below n) k ≡ true) new.condition new met otherwise (tested_by fs new.left new.right) (two_low n fs below on.left on.right h)
     (λ c e. let s = both_true (operand_below n c.left) (operand_below n c.right) (tested_low n fs below new.left new.right c e) in
     let all = both_are (operand_keeps (is_below n) c.left) (operand_keeps (is_below n) c.right) (keeps_below n c.left s.0) (keeps_below n c.right s.1) in (λ paid. all, λ paid. all)))
@@ -316,7 +316,7 @@ jump_inside lines n m fs (Goto k) h = h
 jump_inside lines n m fs (Branch on met otherwise) h =
     let new : Comparison ℕ = with_comparison (forward fs) on in
     let s = both_true (is_target m met) (is_target m otherwise) h in
-    outcome_either (λ k. leads_inside m k ≡ true) (equality new.condition new.class new.left new.right) met otherwise (with_branch lines fs new met otherwise) s.0 s.1
+    outcome_either (λ k. leads_inside m k ≡ true) (numbers_hold new.condition new.class new.left new.right) met otherwise (with_branch lines fs new met otherwise) s.0 s.1
     (test_either lines (λ k. leads_inside m k ≡ true) new.condition new met otherwise (tested_by fs new.left new.right) h
     (λ c e. (λ paid. h, λ paid. both_are (is_target m otherwise) (is_target m met) s.1 s.0)))
 jump_inside lines n m fs (Return a) h = refl
@@ -339,6 +339,8 @@ line_paid fs (Operate to op a b) credit more j k lines lines2 le rest h =
     any_cheaper (λ m. affords more k (m ∷ lines2) ≡ true) to op (operands_of fs op a b).0 (operands_of fs op a b).1
     (λ new c cheap. let old = line_costs fs (Operate to op a b) in
     pays (line_cost (Operate to op a b)) (line_cost (Operate to new (operands_of fs op a b).0 c)) credit more j k lines lines2 (omega (arith, cheap, old)) le rest h)
+    (λ n cheap. let old = line_costs fs (Operate to op a b) in
+    pays (line_cost (Operate to op a b)) (line_cost (let m : Line ℕ = Set to (Number n) in m)) credit more j k lines lines2 (omega (arith, cheap, old)) le rest h)
 line_paid fs (Load to op a) credit more j k lines lines2 le rest h =
     pays (line_cost (Load to op a)) (line_cost (with_line fs (Load to op a))) credit more j k lines lines2 (line_costs fs (Load to op a)) le rest h
 line_paid fs (Store size a b) credit more j k lines lines2 le rest h =
@@ -367,7 +369,7 @@ jump_paid lines fs (Branch on met otherwise) h =
     let x = forward_cost fs on.left in
     let y = forward_cost fs on.right in
     let z = some_branch_cost on.class in
-    outcome_either (λ k. affords 0 k lines ≡ true) (equality new.condition new.class new.left new.right) met otherwise (with_branch lines fs new met otherwise)
+    outcome_either (λ k. affords 0 k lines ≡ true) (numbers_hold new.condition new.class new.left new.right) met otherwise (with_branch lines fs new met otherwise)
     (h (Goto met) (omega (arith, z))) (h (Goto otherwise) (omega (arith, z)))
     (test_either lines (λ k. affords 0 k lines ≡ true) new.condition new met otherwise (tested_by fs new.left new.right) (h (Branch new met otherwise) (omega (arith, x, y)))
     (λ c e. (λ paid. paid, λ paid. paid)))
@@ -396,7 +398,7 @@ Stays {X} g = (fs : Facts) (l : Line ℕ) → g (shortened (with_line fs l)) ≡
 abbrev Carried : {X : Type 0} → (Line ℕ → X) → Type 0
 Carried {X} g = (fs : Facts) (l : Line ℕ) → g (with_line fs l) ≡ g l
 
-stays : {X : Type 0} (g : Line ℕ → X) → Unnumbered g → Carried g → Stays g
+stays : {X : Type 0} (g : Line ℕ → X) → Unshortened g → Carried g → Stays g
 stays g un same fs l = unchanged g un (with_line fs l) ∙ same fs l
 
 weight_carried : Carried weight_of
@@ -410,7 +412,7 @@ weight_carried fs (Blit a b count) = refl
 weight_carried fs (Call to callee args) = refl
 
 weight_stays : Stays weight_of
-weight_stays = stays weight_of (λ to op other a n m. refl) weight_carried
+weight_stays = stays weight_of (λ to op other a n m. refl, λ to op a b n. refl) weight_carried
 
 bytes_carried : Carried alloc_bytes
 bytes_carried fs (Tick turn w) = refl
@@ -423,7 +425,7 @@ bytes_carried fs (Blit a b count) = refl
 bytes_carried fs (Call to callee args) = refl
 
 bytes_stay : Stays alloc_bytes
-bytes_stay = stays alloc_bytes (λ to op other a n m. refl) bytes_carried
+bytes_stay = stays alloc_bytes (λ to op other a n m. refl, λ to op a b n. refl) bytes_carried
 
 turns_carried : Carried turns_of
 turns_carried fs (Tick true w) = refl
@@ -437,7 +439,7 @@ turns_carried fs (Blit a b count) = refl
 turns_carried fs (Call to callee args) = refl
 
 turns_stay : Stays turns_of
-turns_stay = stays turns_of (λ to op other a n m. refl) turns_carried
+turns_stay = stays turns_of (λ to op other a n m. refl, λ to op a b n. refl) turns_carried
 
 alloc_carried : Carried is_alloc
 alloc_carried fs (Tick turn w) = refl
@@ -450,7 +452,7 @@ alloc_carried fs (Blit a b count) = refl
 alloc_carried fs (Call to callee args) = refl
 
 alloc_stays : Stays is_alloc
-alloc_stays = stays is_alloc (λ to op other a n m. refl) alloc_carried
+alloc_stays = stays is_alloc (λ to op other a n m. refl, λ to op a b n. refl) alloc_carried
 
 few_carried : Carried passes_few
 few_carried fs (Tick turn w) = refl
@@ -463,7 +465,7 @@ few_carried fs (Blit a b count) = refl
 few_carried fs (Call to callee args) = ap (λ n. nat_le n 64) (args_count (forward fs) args)
 
 few_stays : Stays passes_few
-few_stays = stays passes_few (λ to op other a n m. refl) few_carried
+few_stays = stays passes_few (λ to op other a n m. refl, λ to op a b n. refl) few_carried
 
 passed_carried : Carried args_on_stack
 passed_carried fs (Tick turn w) = refl
@@ -476,7 +478,7 @@ passed_carried fs (Blit a b count) = refl
 passed_carried fs (Call to callee args) = ap (λ n. n - 8) (args_count (forward fs) args)
 
 passed_stays : Stays args_on_stack
-passed_stays = stays args_on_stack (λ to op other a n m. refl) passed_carried
+passed_stays = stays args_on_stack (λ to op other a n m. refl, λ to op a b n. refl) passed_carried
 
 -- ---- lines side by side
 
@@ -546,7 +548,7 @@ lines_low n whole fs (l ∷ lines) (m ∷ new) j k f below h =
     let rest = lines_low n whole (after n m fs) lines new j k f.1 (after_below n m fs) (both_are (list_all (line_keeps (is_below n)) lines) (jump_keeps (is_below n) j) t.1 s.1) in
     let u = both_true (list_all (line_keeps (is_below n)) new) (jump_keeps (is_below n) k) rest in
     both_are (line_keeps (is_below n) m && list_all (line_keeps (is_below n)) new) (jump_keeps (is_below n) k)
-    (both_are (line_keeps (is_below n) m) (list_all (line_keeps (is_below n)) new) (ap (line_keeps (is_below n)) f.0 ∙ (unchanged (line_keeps (is_below n)) (λ to op new a p q. refl) (with_line fs l) ∙ line_low n fs below l t.0)) u.0) u.1
+    (both_are (line_keeps (is_below n) m) (list_all (line_keeps (is_below n)) new) (ap (line_keeps (is_below n)) f.0 ∙ (unchanged (line_keeps (is_below n)) (λ to op new a p q. refl, λ to op a b p. refl) (with_line fs l) ∙ line_low n fs below l t.0)) u.0) u.1
 
 inside_from : (n size : ℕ) (whole : List (Line ℕ)) (fs : Facts) (lines new : List (Line ℕ)) (j k : Jump ℕ) → AreForwarded n whole fs lines new j k → leads_inside size j ≡ true → leads_inside size k ≡ true
 inside_from n size whole fs [] [] j k f h = ap (leads_inside size) f ∙ jump_inside whole n size fs j h

@@ -50,8 +50,8 @@ use Rattle.forwarding.specs.declared.fact.Fact.{Fact}
 use Rattle.forwarding.specs.declared.fact.Fact.TheVariants.{Same, Sum, Test}
 use Rattle.forwarding.specs.Facts.{Facts, names_it, fact_names, asks_memory, kept_if, fact_below, summed, Truth, AreTrue}
 use Rattle.forwarding.specs.Shortened.{shortened}
-use Rattle.forwarding.proofs.Shortening.{shortened_step}
-use Rattle.forwarding.specs.Forwarded.{is_short, copied, forward, regrouped, grouped, is_add, folded, further, from_base, with_base, with_address, sum_of, Replacing, with_argument, with_line, with_comparison, test_of, tested_by, with_test, with_branch, equality, decided, with_jump, changes_memory, writes_it, fact_of, leaves, after, AreForwarded, IsForwarded, AllForwarded}
+use Rattle.forwarding.proofs.Computing.{numbers_compared, shortened_step}
+use Rattle.forwarding.specs.Forwarded.{is_short, copied, forward, regrouped, grouped, is_add, folded, further, from_base, with_base, with_address, sum_of, Replacing, with_argument, with_line, with_comparison, test_of, tested_by, with_test, with_branch, numbers_hold, decided, with_jump, changes_memory, writes_it, fact_of, leaves, after, AreForwarded, IsForwarded, AllForwarded}
 
 -- ---- operands
 
@@ -426,42 +426,13 @@ test_same whole globals result s on UnsignedGreater met otherwise o e t = refl
 
 -- ---- two numbers that are compared
 
-low_word : (n : ℕ) → n % 2 ^ 64 % 2 ^ 32 ≡ n % 2 ^ 32
-low_word n = omega arith
-
-equal_numbers : (m : Memory) (k : Class) (a b : ℕ) → operate m (Compare Equal k) (Integer (a % 2 ^ 64)) (Integer (b % 2 ^ 64)) ≡ Some (Integer (truth (nat_eq (a % modulus k) (b % modulus k))))
-unfolding operate operate_two
-equal_numbers m W a b =
-    ap (λ n. Some (Integer (truth (nat_eq n (b % 2 ^ 64 % 2 ^ 32))))) (low_word a) ∙ ap (λ n. Some (Integer (truth (nat_eq (a % 2 ^ 32) n)))) (low_word b)
-equal_numbers m L a b = refl
-
-unequal_numbers : (m : Memory) (k : Class) (a b : ℕ)
-    → operate m (Compare NotEqual k) (Integer (a % 2 ^ 64)) (Integer (b % 2 ^ 64)) ≡ Some (Integer (truth (not (nat_eq (a % modulus k) (b % modulus k)))))
-unfolding operate operate_two
-unequal_numbers m W a b =
-    ap (λ n. Some (Integer (truth (not (nat_eq n (b % 2 ^ 64 % 2 ^ 32)))))) (low_word a) ∙ ap (λ n. Some (Integer (truth (not (nat_eq (a % 2 ^ 32) n))))) (low_word b)
-unequal_numbers m L a b = refl
-
-known_outcome : (globals : List Value) (s : State ℕ) (on : Condition) (k : Class) (a b : Operand ℕ) (t : Bool) → equality on k a b ≡ Some t
+known_outcome : (globals : List Value) (s : State ℕ) (on : Condition) (k : Class) (a b : Operand ℕ) (t : Bool) → numbers_hold on k a b ≡ Some t
     → compared globals s (record { condition = on; class = k; left = a; right = b }) ≡ Some (Integer (truth t))
-known_outcome globals s Equal k (Number a) (Number b) t h = equal_numbers s.memory k a b ∙ ap (option_map (λ x. Integer (truth x))) h
-known_outcome globals s Equal k (Number a) (At r) t h = absurd (let no : ⊥ = cc in no)
-known_outcome globals s Equal k (Number a) (Name g) t h = absurd (let no : ⊥ = cc in no)
-known_outcome globals s Equal k (At r) b t h = absurd (let no : ⊥ = cc in no)
-known_outcome globals s Equal k (Name g) b t h = absurd (let no : ⊥ = cc in no)
-known_outcome globals s NotEqual k (Number a) (Number b) t h = unequal_numbers s.memory k a b ∙ ap (option_map (λ x. Integer (truth x))) h
-known_outcome globals s NotEqual k (Number a) (At r) t h = absurd (let no : ⊥ = cc in no)
-known_outcome globals s NotEqual k (Number a) (Name g) t h = absurd (let no : ⊥ = cc in no)
-known_outcome globals s NotEqual k (At r) b t h = absurd (let no : ⊥ = cc in no)
-known_outcome globals s NotEqual k (Name g) b t h = absurd (let no : ⊥ = cc in no)
-known_outcome globals s SignedLessEqual k a b t h = absurd (let no : ⊥ = cc in no)
-known_outcome globals s SignedLess k a b t h = absurd (let no : ⊥ = cc in no)
-known_outcome globals s SignedGreaterEqual k a b t h = absurd (let no : ⊥ = cc in no)
-known_outcome globals s SignedGreater k a b t h = absurd (let no : ⊥ = cc in no)
-known_outcome globals s UnsignedLessEqual k a b t h = absurd (let no : ⊥ = cc in no)
-known_outcome globals s UnsignedLess k a b t h = absurd (let no : ⊥ = cc in no)
-known_outcome globals s UnsignedGreaterEqual k a b t h = absurd (let no : ⊥ = cc in no)
-known_outcome globals s UnsignedGreater k a b t h = absurd (let no : ⊥ = cc in no)
+known_outcome globals s on k (Number a) (Number b) t h = numbers_compared s.memory on k a b ∙ ap (option_map (λ x. Integer (truth x))) h
+known_outcome globals s on k (Number a) (At r) t h = absurd (let no : ⊥ = cc in no)
+known_outcome globals s on k (Number a) (Name g) t h = absurd (let no : ⊥ = cc in no)
+known_outcome globals s on k (At r) b t h = absurd (let no : ⊥ = cc in no)
+known_outcome globals s on k (Name g) b t h = absurd (let no : ⊥ = cc in no)
 
 goes_by : (globals : List Value) (result : Option Class) (s : State ℕ) (met otherwise : ℕ) (t : Bool)
     → jump_step globals result s (Goto (if t then met else otherwise)) ≡ branches s met otherwise (Some (Integer (truth t)))
@@ -469,7 +440,7 @@ unfolding jump_step
 goes_by globals result s met otherwise true = refl
 goes_by globals result s met otherwise false = refl
 
-outcome_same : (globals : List Value) (result : Option Class) (s : State ℕ) (on : Comparison ℕ) (met otherwise : ℕ) (j : Jump ℕ) (o : Option Bool) → equality on.condition on.class on.left on.right ≡ o
+outcome_same : (globals : List Value) (result : Option Class) (s : State ℕ) (on : Comparison ℕ) (met otherwise : ℕ) (j : Jump ℕ) (o : Option Bool) → numbers_hold on.condition on.class on.left on.right ≡ o
     → SameJump globals result s (Branch on met otherwise) j → SameJump globals result s (Branch on met otherwise) (decided o met otherwise j)
 unfolding jump_step
 outcome_same globals result s on met otherwise j None e h = h
@@ -481,7 +452,7 @@ unfolding jump_step
 jump_same whole globals result s fs all (Goto k) = refl
 jump_same whole globals result s fs all (Branch on met otherwise) =
     let new : Comparison ℕ = with_comparison (forward fs) on in
-    outcome_same globals result s new met otherwise (with_branch whole fs new met otherwise) (equality new.condition new.class new.left new.right) refl
+    outcome_same globals result s new met otherwise (with_branch whole fs new met otherwise) (numbers_hold new.condition new.class new.left new.right) refl
     (test_same whole globals result s new new.condition met otherwise (tested_by fs new.left new.right) refl
     (λ c e. let t = tests globals s fs all new.left new.right c e in record { right = t.0; left = t.1 }))
     ∙ ap (branches s met otherwise) (two_same globals s (forward fs) (operand_same globals s fs all) on.left on.right (operate s.memory (Compare on.condition on.class)))

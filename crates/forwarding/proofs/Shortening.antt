@@ -32,7 +32,7 @@ use Rattle.vcode.specs.Named.{operand_keeps, line_keeps}
 use Rattle.vcode.specs.Operations.{operate}
 use Rattle.vcode.specs.Places.{virtual}
 use Rattle.vcode.specs.Step.{State, value_of, sets, line_step}
-use Rattle.forwarding.specs.Shortened.{exponent, if_below, by_power, with_operation, shortened}
+use Rattle.forwarding.specs.Shortened.{exponent, if_below, by_power, with_operation, by_shift}
 
 -- ---- powers
 
@@ -223,11 +223,11 @@ least_cost n = by (is_immediate n)
     by false = omega arith
 
 -- what holds of every operation of no higher cost with the same place and left operand holds of the one that is put
-pub any_cheaper : (good : Line ℕ → Type 0) (to : ℕ) (op : Operation) (a b : Operand ℕ)
-    → ((new : Operation) (c : Operand ℕ) → line_cost (Operate to new a c) ≤ line_cost (Operate to op a b) → good (Operate to new a c)) → good (shortened (Operate to op a b))
-any_cheaper good to op a (At r) h = h op (At r) (omega arith)
-any_cheaper good to op a (Name g) h = h op (Name g) (omega arith)
-any_cheaper good to op a (Number n) h = by (option_and_then (by_power op) (exponent n)) refl
+pub shift_cheaper : (good : Line ℕ → Type 0) (to : ℕ) (op : Operation) (a b : Operand ℕ)
+    → ((new : Operation) (c : Operand ℕ) → line_cost (Operate to new a c) ≤ line_cost (Operate to op a b) → good (Operate to new a c)) → good (by_shift (Operate to op a b))
+shift_cheaper good to op a (At r) h = h op (At r) (omega arith)
+shift_cheaper good to op a (Name g) h = h op (Name g) (omega arith)
+shift_cheaper good to op a (Number n) h = by (option_and_then (by_power op) (exponent n)) refl
   where
     by : (o : Option (Operation × ℕ)) → option_and_then (by_power op) (exponent n) ≡ o → good (with_operation to op a n o)
     by None e = h op (Number n) (omega arith)
@@ -242,31 +242,31 @@ any_cheaper good to op a (Number n) h = by (option_and_then (by_power op) (expon
 abbrev pub Unnumbered : {X : Type 0} → (Line ℕ → X) → Type 0
 Unnumbered g = (to : ℕ) (op new : Operation) (a : Operand ℕ) (n m : ℕ) → g (Operate to new a (Number m)) ≡ g (Operate to op a (Number n))
 
-pub unchanged : {X : Type 0} (g : Line ℕ → X) → Unnumbered g → (l : Line ℕ) → g (shortened l) ≡ g l
-unchanged g un (Tick turn w) = refl
-unchanged g un (Set to a) = refl
-unchanged g un (Operate to op a (At r)) = refl
-unchanged g un (Operate to op a (Name s)) = refl
-unchanged g un (Operate to op a (Number n)) = by (option_and_then (by_power op) (exponent n))
+pub shift_unchanged : {X : Type 0} (g : Line ℕ → X) → Unnumbered g → (l : Line ℕ) → g (by_shift l) ≡ g l
+shift_unchanged g un (Tick turn w) = refl
+shift_unchanged g un (Set to a) = refl
+shift_unchanged g un (Operate to op a (At r)) = refl
+shift_unchanged g un (Operate to op a (Name s)) = refl
+shift_unchanged g un (Operate to op a (Number n)) = by (option_and_then (by_power op) (exponent n))
   where
     by : (o : Option (Operation × ℕ)) → g (with_operation to op a n o) ≡ g (Operate to op a (Number n))
     by None = refl
     by (Some p) = un to op p.0 a n p.1
-unchanged g un (Load to op at) = refl
-unchanged g un (Store size a at) = refl
-unchanged g un (Alloc to size) = refl
-unchanged g un (Blit a b count) = refl
-unchanged g un (Call to callee args) = refl
+shift_unchanged g un (Load to op at) = refl
+shift_unchanged g un (Store size a at) = refl
+shift_unchanged g un (Alloc to size) = refl
+shift_unchanged g un (Blit a b count) = refl
+shift_unchanged g un (Call to callee args) = refl
 
 -- ---- a step
 
-pub shortened_step : (globals : List Value) (i : Given) (s : State ℕ) (l : Line ℕ) → line_step virtual globals i s (shortened l) ≡ line_step virtual globals i s l
+pub shift_step : (globals : List Value) (i : Given) (s : State ℕ) (l : Line ℕ) → line_step virtual globals i s (by_shift l) ≡ line_step virtual globals i s l
 unfolding line_step
-shortened_step globals i s (Tick turn w) = refl
-shortened_step globals i s (Set to a) = refl
-shortened_step globals i s (Operate to op a (At r)) = refl
-shortened_step globals i s (Operate to op a (Name g)) = refl
-shortened_step globals i s (Operate to op a (Number n)) = by (option_and_then (by_power op) (exponent n)) refl
+shift_step globals i s (Tick turn w) = refl
+shift_step globals i s (Set to a) = refl
+shift_step globals i s (Operate to op a (At r)) = refl
+shift_step globals i s (Operate to op a (Name g)) = refl
+shift_step globals i s (Operate to op a (Number n)) = by (option_and_then (by_power op) (exponent n)) refl
   where
     given : Operation → ℕ → Event (State ℕ) Asked Outcome
     given o m = sets virtual s to (option_and_then (λ u. operate s.memory o u (Integer (m % 2 ^ 64))) (value_of globals s.values a))
@@ -282,8 +282,8 @@ shortened_step globals i s (Operate to op a (Number n)) = by (option_and_then (b
         let f = found op n (exponent n) p refl e in
         let as_power : SameGiven p.0 op n p.1 = subst (λ m. SameGiven p.0 op m p.1) (sym f.1.0.is) f.1.1.same in
         ap (sets virtual s to) (same_of op p.0 p.1 (as_power s.memory) (value_of globals s.values a))
-shortened_step globals i s (Load to op at) = refl
-shortened_step globals i s (Store size a at) = refl
-shortened_step globals i s (Alloc to size) = refl
-shortened_step globals i s (Blit a b count) = refl
-shortened_step globals i s (Call to callee args) = refl
+shift_step globals i s (Load to op at) = refl
+shift_step globals i s (Store size a at) = refl
+shift_step globals i s (Alloc to size) = refl
+shift_step globals i s (Blit a b count) = refl
+shift_step globals i s (Call to callee args) = refl

@@ -5,6 +5,7 @@ use Rattle.il_ast.specs.declared.operation.Class.{Class}
 use Rattle.il_ast.specs.declared.operation.Condition.{Condition}
 use Rattle.il_ast.specs.declared.operation.Condition.TheVariants.{Equal, NotEqual}
 use Rattle.il_ast.specs.Values.{modulus}
+use Rattle.il_ast.specs.Operations.{holds}
 use Rattle.vcode.specs.declared.place.Operand.{Operand}
 use Rattle.vcode.specs.declared.place.Address.{Address}
 use Rattle.vcode.specs.declared.place.Operand.TheVariants.{At, Number, Name}
@@ -125,11 +126,10 @@ with_test lines k on met otherwise o = Branch on met otherwise
 abbrev pub with_branch : (lines : List (Line ℕ)) → Facts → Comparison ℕ → (met otherwise : ℕ) → Jump ℕ
 with_branch lines fs on met otherwise = with_test lines on.condition on met otherwise (tested_by fs on.left on.right)
 
--- whether two numbers are equal in places of class k, or are not, where that is asked
-abbrev pub equality : Condition → Class → (left right : Operand ℕ) → Option Bool
-equality Equal k (Number a) (Number b) = Some (nat_eq (a % modulus k) (b % modulus k))
-equality NotEqual k (Number a) (Number b) = Some (not (nat_eq (a % modulus k) (b % modulus k)))
-equality on k a b = None
+-- whether a comparison of two numbers, each read in a place of class k, holds
+abbrev pub numbers_hold : Condition → Class → (left right : Operand ℕ) → Option Bool
+numbers_hold on k (Number a) (Number b) = Some (holds on k (a % modulus k) (b % modulus k))
+numbers_hold on k a b = None
 
 -- a branch whose outcome is known is a jump
 abbrev pub decided : Option Bool → (met otherwise : ℕ) → Jump ℕ → Jump ℕ
@@ -137,7 +137,7 @@ decided (Some t) met otherwise j = Goto (if t then met else otherwise)
 decided None met otherwise j = j
 
 abbrev pub with_outcome : (lines : List (Line ℕ)) → Facts → Comparison ℕ → (met otherwise : ℕ) → Jump ℕ
-with_outcome lines fs on met otherwise = decided (equality on.condition on.class on.left on.right) met otherwise (with_branch lines fs on met otherwise)
+with_outcome lines fs on met otherwise = decided (numbers_hold on.condition on.class on.left on.right) met otherwise (with_branch lines fs on met otherwise)
 
 -- the jump after all these lines
 abbrev pub with_jump : (lines : List (Line ℕ)) → Facts → Jump ℕ → Jump ℕ

@@ -147,15 +147,10 @@ fn forwarded_blocks(
     Ok(Seq::from_vec(made))
 }
 
-fn params(alloc: Global, params: &[Destination<u32>]) -> Result<Seq<Destination<u32>>, AllocError>
-    ensures { IfOk result (λ v. v ≡ params.now) }
-{
-    let items = params.to_vec(alloc)?;
-    Ok(Seq::from_vec(items))
-}
-
-/// The function with operands that are known copies replaced by what they are copies of, and branches on results of comparisons put as branches on the
-/// comparisons, as long as neither side is written and the ticks of the block pay for it, block by block. It takes time and memory as the text is long.
+/// The function with operands that are known copies replaced by what they are copies of; with sums and addresses of known sums with numbers put as one sum or
+/// address; with operations on numbers and by powers of two in their short forms; with branches on results of comparisons put as branches on the comparisons, where
+/// the ticks of the block pay for it; and with branches on two numbers put as jumps: block by block, each fact as long as no line makes it false. It takes time and
+/// memory as the text is long.
 ///
 /// # Errors
 ///
@@ -164,7 +159,7 @@ pub fn forward(alloc: Global, function: &VFunc) -> Result<VFunc, AllocError>
     ensures kept { IfOk result (λ w. Keeps (virtual_code function.now) (virtual_code w)) }
     ensures forwarded { IfOk result (λ w. IsForwardedFrom function.now w) }
 {
-    let params = params(alloc, function.code.params.as_slice())?;
+    let params = function.code.params.try_clone(alloc)?;
     let mut table = Table::new(alloc, function.registers)?;
     let blocks = forwarded_blocks(alloc, &mut table, function.code.blocks.as_slice())?;
     Ok(VFunc {

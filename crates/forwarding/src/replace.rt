@@ -6,11 +6,11 @@ ghost use Rattle.vcode.specs.declared.line.Jump.TheVariants.{Branch};
 ghost use Rattle.vcode.specs.Addresses.{distance};
 ghost use Rattle.vcode.specs.Cost.{is_immediate};
 ghost use Rattle.forwarding.specs.Table.{facts_of};
-ghost use Rattle.il_ast.specs.Values.{modulus};
-ghost use Rattle.forwarding.specs.Forwarded.{is_short, forward, with_argument, regrouped, grouped, is_add, operands_of, further, with_address, with_line, with_comparison, tested_by, afforded, with_test, with_branch, equality, with_outcome, with_jump};
+ghost use Rattle.forwarding.specs.Forwarded.{is_short, forward, with_argument, regrouped, grouped, is_add, operands_of, further, with_address, with_line, with_comparison, tested_by, afforded, with_test, with_branch, numbers_hold, with_outcome, with_jump};
 
 use crate::fact::Fact;
 use crate::table::Table;
+use il_ast::condition::numbers_hold;
 use il_ast::list::Seq;
 use il_ast::operation::{Class, Condition};
 use rv_isa::instruction::RegOp;
@@ -313,30 +313,18 @@ fn branch(
     }
 }
 
-fn are_equal(class: Class, left: u64, right: u64) -> bool
-    ensures { result ≡ nat_eq (left % modulus class) (right % modulus class) }
-{
-    match class {
-        Class::W => left % (1 << 32) == right % (1 << 32),
-        Class::L => left == right,
-    }
-}
-
-// Whether a comparison of two numbers by equality holds.
-fn equality(
+// Whether a comparison of two numbers holds.
+fn numbers_compared(
     condition: Condition,
     class: Class,
     left: Operand<u32>,
     right: Operand<u32>,
 ) -> Option<bool>
-    ensures { result ≡ equality condition class left right }
+    ensures { result ≡ numbers_hold condition class left right }
 {
-    match (condition, left, right) {
-        (Condition::Equal, Operand::Number(left), Operand::Number(right)) => {
-            Some(are_equal(class, left, right))
-        }
-        (Condition::NotEqual, Operand::Number(left), Operand::Number(right)) => {
-            Some(!are_equal(class, left, right))
+    match (left, right) {
+        (Operand::Number(left), Operand::Number(right)) => {
+            Some(numbers_hold(condition, class, left, right))
         }
         _ => None,
     }
@@ -351,14 +339,14 @@ fn outcome(
 ) -> Jump<u32>
     ensures { result ≡ with_outcome lines.now (facts_of table.now) on met otherwise }
 {
-    match equality(on.condition, on.class, on.left, on.right) {
+    match numbers_compared(on.condition, on.class, on.left, on.right) {
         Some(holds) => Jump::Goto(if holds { met } else { otherwise }),
         None => branch(table, lines, on, met, otherwise),
     }
 }
 
 /// The jump after these lines with each operand put by what is known; where it tests the result of a comparison it is a branch on that, if the lines pay for it,
-/// and where it asks whether two numbers are equal it is a jump.
+/// and where it compares two numbers it is a jump.
 pub(crate) fn jump(table: &Table, lines: &[Line<u32>], from: &Jump<u32>) -> Jump<u32>
     ensures { result ≡ with_jump lines.now (facts_of table.now) from.now }
 {

@@ -1,12 +1,67 @@
-//! Operations by powers of two.
+//! Short forms of operations on numbers and by powers of two.
 ghost use Rattle.std.specs.Prelude.{◌≡◌, ◌<◌, ◌-◌, ◌^◌};
 ghost use Rattle.rv_isa.specs.declared.instruction.RegOp.TheVariants.{And};
 ghost use Rattle.vcode.specs.declared.line.Operation.TheVariants.{Reg};
-ghost use Rattle.forwarding.specs.Shortened.{exponent, if_below, by_power, with_operation, shortened};
+ghost use Rattle.forwarding.specs.Shortened.{result_of, with_result, computed, exponent, if_below, by_power, with_operation, by_shift, shortened};
 
+use il_ast::condition::numbers_hold;
+use rv_isa::arithmetic::{reg_value, regw_value};
 use rv_isa::instruction::{RegOp, RegWOp};
+use vcode::cost::line_cost;
 use vcode::line::{Line, Operation};
 use vcode::place::Operand;
+
+// What an operation gives of two numbers.
+fn result_of(operation: Operation, left: u64, right: u64) -> u64
+    ensures { result ≡ result_of operation left right }
+{
+    match operation {
+        Operation::Reg(op) => reg_value(op, left, right),
+        Operation::RegW(op) => regw_value(op, left, right),
+        Operation::Compare(on, class) => u64::from(numbers_hold(on, class, left, right)),
+    }
+}
+
+// The number in place of the operation that gives it, where that costs no more.
+fn with_result(to: u32, operation: Operation, left: u64, right: u64, number: u64) -> Line<u32>
+    ensures { result ≡ with_result to operation left right number }
+{
+    let old = Line::Operate {
+        to,
+        operation,
+        left: Operand::Number(left),
+        right: Operand::Number(right),
+    };
+    let new = Line::Set {
+        to,
+        value: Operand::Number(number),
+    };
+    if line_cost(&new) <= line_cost(&old) {
+        new
+    } else {
+        old
+    }
+}
+
+fn computed(line: Line<u32>) -> Line<u32>
+    ensures { result ≡ computed line }
+{
+    match line {
+        Line::Operate {
+            to,
+            operation,
+            left: Operand::Number(left),
+            right: Operand::Number(right),
+        } => with_result(
+            to,
+            operation,
+            left,
+            right,
+            result_of(operation, left, right),
+        ),
+        other => other,
+    }
+}
 
 // The k of which the number is 2^k.
 fn exponent(number: u64) -> Option<u32>
@@ -80,9 +135,9 @@ fn with_operation(
     }
 }
 
-/// The line itself, or a shift or a mask in place of a multiplication, an unsigned division or a remainder by a power of two.
-pub(crate) fn shortened(line: Line<u32>) -> Line<u32>
-    ensures { result ≡ shortened line }
+// A shift or a mask in place of a multiplication, an unsigned division or a remainder by a power of two.
+fn by_shift(line: Line<u32>) -> Line<u32>
+    ensures { result ≡ by_shift line }
 {
     match line {
         Line::Operate {
@@ -99,4 +154,12 @@ pub(crate) fn shortened(line: Line<u32>) -> Line<u32>
         }
         other => other,
     }
+}
+
+/// The line itself, or its short form: an operation on two numbers as the number that it gives, where that costs no more, and a multiplication, an unsigned
+/// division or a remainder by a power of two as a shift or a mask.
+pub(crate) fn shortened(line: Line<u32>) -> Line<u32>
+    ensures { result ≡ shortened line }
+{
+    by_shift(computed(line))
 }

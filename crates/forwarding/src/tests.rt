@@ -440,7 +440,52 @@ fn other_operations_stay(rt: HostRuntime) -> Result<(), Fail> {
     Ok(())
 }
 
-/// Copies a number to register 0 and branches on it as a word.
+/// The number that an operation on two is put as.
+fn put_on_numbers(operation: Operation, left: u64, right: u64) -> Option<u64> {
+    let line = shortened(Line::Operate {
+        to: 1,
+        operation,
+        left: Operand::Number(left),
+        right: Operand::Number(right),
+    });
+    number_in(&line)
+}
+
+fn number_in(line: &Line<u32>) -> Option<u64> {
+    match line {
+        Line::Set {
+            value: Operand::Number(number),
+            ..
+        } => Some(*number),
+        _ => None,
+    }
+}
+
+#[test]
+fn operations_on_two_numbers_are_numbers(rt: HostRuntime) -> Result<(), Fail> {
+    let add = Operation::Reg(RegOp::Add);
+    let divide = Operation::Reg(RegOp::Div);
+    let multiply_words = Operation::RegW(RegWOp::Mulw);
+    let less_word = Operation::Compare(Condition::SignedLess, Class::W);
+    let less_long = Operation::Compare(Condition::SignedLess, Class::L);
+    assert_eq!(rt; put_on_numbers(add, 2000, 47), Some(2047));
+    assert_eq!(rt; put_on_numbers(add, 1, u64::MAX), Some(0));
+    assert_eq!(rt; put_on_numbers(add, 1 << 40, 1 << 40), Some(1 << 41));
+    assert_eq!(rt; put_on_numbers(divide, 7, u64::MAX), Some(u64::MAX - 6));
+    assert_eq!(rt; put_on_numbers(divide, 7, 0), Some(u64::MAX));
+    assert_eq!(rt; put_on_numbers(multiply_words, 65_536, 65_536), Some(0));
+    assert_eq!(rt; put_on_numbers(less_word, 0xffff_ffff, 0), Some(1));
+    assert_eq!(rt; put_on_numbers(less_long, 0xffff_ffff, 0), Some(0));
+    Ok(())
+}
+
+#[test]
+fn operations_on_numbers_stay_where_the_number_costs_more(rt: HostRuntime) -> Result<(), Fail> {
+    assert_eq!(rt; put_on_numbers(Operation::Reg(RegOp::Add), 2000, 48), None);
+    Ok(())
+}
+
+/// Copies a number to register 0 and branches on it as a word; then on other numbers.
 fn known_branches(alloc: Global) -> Result<VFunc, AllocError> {
     let mut first = Seq::new(alloc);
     first.push(Line::Tick {
@@ -490,7 +535,16 @@ fn known_branches(alloc: Global) -> Result<VFunc, AllocError> {
     })?;
     blocks.push(Block {
         lines: last,
-        jump: Jump::Return(None),
+        jump: Jump::Branch {
+            on: Comparison {
+                condition: Condition::SignedLess,
+                class: Class::W,
+                left: Operand::Number(0xffff_ffff),
+                right: Operand::Number(0),
+            },
+            met: 1,
+            otherwise: 2,
+        },
     })?;
     Ok(VFunc {
         code: Code {
@@ -508,5 +562,6 @@ fn branches_on_numbers_are_jumps(rt: HostRuntime) -> Result<(), Fail> {
     let made = forward(rt.alloc(), &function)?;
     assert_eq!(rt; jump_of(&made, 0), Jump::Goto(1));
     assert_eq!(rt; jump_of(&made, 1), Jump::Goto(2));
+    assert_eq!(rt; jump_of(&made, 2), Jump::Goto(1));
     Ok(())
 }

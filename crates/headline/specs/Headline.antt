@@ -20,7 +20,7 @@ pub record StopsSo (p : Program) (words : List (List ℕ)) (n : ℕ) (s : State)
   pub output : last.output ≡ (meaning p words n).output
   pub price : steps ≤ price_at p words n
 
--- the machine hasn't stopped, has the program's output, and has done at most the price; at most 40,000 turns begin between two instructions
+-- the machine hasn't stopped, has the program's output, and has done at most the price; at most 40,000 turns begin for each instruction
 pub record GoesOnSo (p : Program) (words : List (List ℕ)) (n : ℕ) (s : State) : Type 0 where
   pub steps : ℕ
   pub now : State

@@ -11,6 +11,7 @@
 #![tactic(auto)]
 
 pub mod block;
+pub mod condition;
 pub mod datum;
 pub mod few;
 pub mod function;

@@ -1,5 +1,5 @@
 //! A list that a contract sees as the list of its items.
-ghost use Rattle.std.specs.Prelude.{◌≡◌, [], ◌∷◌, ◌++◌, length, OnOk, OnErr};
+ghost use Rattle.std.specs.Prelude.{◌≡◌, [], ◌∷◌, ◌++◌, length, IfOk, OnOk, OnErr};
 
 use std::alloc::{AllocError, Global};
 use std::marker::Model;
@@ -56,6 +56,23 @@ impl<T: Drop> Seq<T> {
     {
         self.items.push(item)?;
         Ok(())
+    }
+}
+
+impl<T: Copy> Seq<T> {
+    /// The same items in a list of its own.
+    ///
+    /// # Errors
+    ///
+    /// Only where memory was refused.
+    pub fn try_clone(&self, alloc: Global) -> Result<Seq<T>, AllocError>
+        ensures { IfOk result (λ v. v ≡ self.now) }
+    {
+        let mut items = Vec::with_capacity(alloc, self.items.len())?;
+        for item in self.items.as_slice() {
+            items.push(*item)?;
+        }
+        Ok(Seq { items })
     }
 }
 

@@ -2,10 +2,10 @@
 ghost use Rattle.std.specs.Prelude.{◌≡◌, false};
 ghost use Rattle.il_ast.specs.declared.operation.Class.TheVariants.{W, L};
 ghost use Rattle.il_ast.specs.declared.operation.BinaryOp.TheVariants.{Div, Rem, Sar, Shr, Shl};
-ghost use Rattle.il_ast.specs.Operations.{holds, on_integers, extended};
+ghost use Rattle.il_ast.specs.Operations.{on_integers, extended};
 ghost use Rattle.il_interp.specs.Comparison.{is_comparison};
 
-use il_ast::operation::{BinaryOp, Condition, Extension};
+use il_ast::operation::{BinaryOp, Extension};
 
 /// The operation on two words, where it is no comparison.
 pub fn on_words(op: BinaryOp, a: u32, b: u32) -> Option<u32>
@@ -88,42 +88,6 @@ fn long_rem(a: u64, b: u64) -> Option<u64>
         None
     } else {
         Some((a.cast_signed() % b.cast_signed()).cast_unsigned())
-    }
-}
-
-/// Whether a condition holds of two words.
-pub fn words_hold(on: Condition, a: u32, b: u32) -> bool
-    ensures { result ≡ holds on W a b }
-{
-    match on {
-        Condition::Equal => a == b,
-        Condition::NotEqual => a != b,
-        Condition::SignedLessEqual => a.cast_signed() <= b.cast_signed(),
-        Condition::SignedLess => a.cast_signed() < b.cast_signed(),
-        Condition::SignedGreaterEqual => a.cast_signed() >= b.cast_signed(),
-        Condition::SignedGreater => a.cast_signed() > b.cast_signed(),
-        Condition::UnsignedLessEqual => a <= b,
-        Condition::UnsignedLess => a < b,
-        Condition::UnsignedGreaterEqual => a >= b,
-        Condition::UnsignedGreater => a > b,
-    }
-}
-
-/// Whether a condition holds of two longs.
-pub fn longs_hold(on: Condition, a: u64, b: u64) -> bool
-    ensures { result ≡ holds on L a b }
-{
-    match on {
-        Condition::Equal => a == b,
-        Condition::NotEqual => a != b,
-        Condition::SignedLessEqual => a.cast_signed() <= b.cast_signed(),
-        Condition::SignedLess => a.cast_signed() < b.cast_signed(),
-        Condition::SignedGreaterEqual => a.cast_signed() >= b.cast_signed(),
-        Condition::SignedGreater => a.cast_signed() > b.cast_signed(),
-        Condition::UnsignedLessEqual => a <= b,
-        Condition::UnsignedLess => a < b,
-        Condition::UnsignedGreaterEqual => a >= b,
-        Condition::UnsignedGreater => a > b,
     }
 }
 

@@ -7,8 +7,9 @@ ghost use Rattle.il_ast.specs.Operations.{operand_class, left_class, right_class
 ghost use Rattle.il_interp.specs.Negated.{negated};
 ghost use Rattle.il_interp.specs.Operands.{FitsPlace};
 
-use crate::integers::{longs_hold, on_longs, on_words, to_long, to_word, words_hold};
+use crate::integers::{on_longs, on_words, to_long, to_word};
 use crate::places::on_places;
+use il_ast::condition::{longs_hold, words_hold};
 use il_ast::operation::{BinaryOp, Class, Extension, Size, UnaryOp};
 use il_ast::value::Value;
 use il_mem::memory::BlockMemory;

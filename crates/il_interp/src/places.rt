@@ -5,7 +5,7 @@ ghost use Rattle.il_ast.specs.Memory.{Memory};
 ghost use Rattle.il_ast.specs.Values.{same_callee};
 ghost use Rattle.il_ast.specs.Operations.{where_different, on_offsets, on_functions, reaches, lies_in, compare_pointers, compare_with_zero, compare_places, on_places};
 
-use crate::integers::longs_hold;
+use il_ast::condition::longs_hold;
 use il_ast::operation::{BinaryOp, Condition};
 use il_ast::value::{Callee, Value};
 use il_mem::memory::BlockMemory;

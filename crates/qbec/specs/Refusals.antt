@@ -15,7 +15,7 @@ use Rattle.obj_link.specs.Main.{ExportsMain}
 use Rattle.obj_link.specs.Limits.{within_limits}
 use Rattle.obj_link.specs.Refusals.{IsUnknown}
 use Rattle.obj_link.specs.declared.error.LinkError.{LinkError}
-use Rattle.obj_link.specs.declared.error.LinkError.TheVariants.{UnknownName as LinkUnknown, ExportedTwice as LinkTwice, NoMain as LinkNoMain, Limit as LinkLimit}
+use Rattle.obj_link.specs.declared.error.LinkError.TheVariants.{UnknownName as LinkUnknown, ExportedTwice as LinkTwice, NoMain as LinkNoMain, Limit as LinkLimit, Memory as LinkMemory}
 use Rattle.qbec.specs.declared.error.CompileError.{CompileError}
 use Rattle.qbec.specs.declared.error.CompileError.TheVariants.{Syntax, Rule, UnknownName, ExportedTwice, NoMain, Limit, Memory}
 use Rattle.qbec.specs.Texts.{AreTexts}
@@ -74,11 +74,13 @@ check_refusal number (Broken fault) = Rule number fault
 check_refusal number Passed = Limit
 check_refusal number CheckMemory = Memory
 
--- the refusal says what linking says, with the name, or that memory was refused
+-- the refusal says what linking says, with a copy of the name where it has one, or that memory for that was refused
 abbrev pub SaysAsMuch : LinkError → CompileError → Type 0
 SaysAsMuch (LinkUnknown name) (UnknownName copy) = copy.items ≡ name.now
 SaysAsMuch (LinkTwice name) (ExportedTwice copy) = copy.items ≡ name.now
+SaysAsMuch (LinkUnknown name) Memory = Unit {0}
+SaysAsMuch (LinkTwice name) Memory = Unit {0}
 SaysAsMuch LinkNoMain NoMain = Unit {0}
 SaysAsMuch LinkLimit Limit = Unit {0}
-SaysAsMuch e Memory = Unit {0}
+SaysAsMuch LinkMemory Memory = Unit {0}
 SaysAsMuch e r = ⊥

@@ -60,8 +60,8 @@ pub fn allocated(
     }
 }
 
-/// The function in virtual code: selected, with extensions of whole words as copies, with copies and comparisons carried forward, and without dead lines. A pass
-/// on virtual code has its place here.
+/// The function in virtual code: selected, with extensions of whole words as copies, with what is known of registers carried forward, and without dead lines. A
+/// pass on virtual code has its place here.
 ///
 /// # Errors
 ///

@@ -26,7 +26,7 @@ use std::alloc::{AllocError, Global};
 use vcode::function::VFunc;
 use vcode::place::Location;
 
-/// Answers one place for each register: one of x5 to x27, or a slot; none where memory is refused, or where so many registers are live in so many blocks that the
+/// Answers for each register one of x5 to x27 or a slot, or several of them one after another, with moves where it changes its place; no places where memory is refused, or where so many registers are live in so many blocks that the
 /// certificate might be far longer than the function.
 #[derive(Drop)]
 pub struct LinearScan {

@@ -7,5 +7,6 @@ pub mod Same
 pub mod StepLemmas
 pub mod StayLemmas
 pub mod RangeLemmas
+pub mod HighHalf
 pub mod KeepLemmas
 pub mod RowRanges

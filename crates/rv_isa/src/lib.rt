@@ -36,6 +36,7 @@
 #![tactic(auto)]
 
 pub mod abi;
+pub mod arithmetic;
 pub mod code;
 pub mod decode;
 pub mod encode;

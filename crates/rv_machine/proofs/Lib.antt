@@ -1,6 +1,5 @@
 pub mod Arguments
 pub mod AtOnce
-pub mod HighHalf
 pub mod MappedSpans
 pub mod Spans
 pub mod StepLaws

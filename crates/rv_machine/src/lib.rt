@@ -27,7 +27,6 @@
 #![tactic(auto)]
 
 mod access;
-mod arithmetic;
 mod at_once;
 mod decoded;
 mod fill;

@@ -4,11 +4,11 @@ ghost use Rattle.std.specs.Prelude.{◌≡◌, ◌<◌, ◌≤◌};
 ghost use Rattle.rv_isa.specs.Step.{load_size, store_size};
 
 use crate::access::{Access, allowed, number, put_out, set_bytes};
-use crate::arithmetic::{load_value, moved};
 use crate::machine::Machine;
 use crate::ram::Ram;
 use crate::stop::Stop;
 use rv_isa::abi;
+use rv_isa::arithmetic::{load_value, moved};
 use rv_isa::decode::decode;
 use rv_isa::fault::Fault;
 use rv_isa::instruction::{Instr, LoadOp, StoreOp};

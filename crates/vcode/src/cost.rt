@@ -37,7 +37,8 @@ fn operation_cost(operation: Operation) -> u128
     }
 }
 
-fn line_cost<P: Drop>(line: &Line<P>) -> u128
+/// At most how many instructions of the machine the line becomes, wherever its places are.
+pub fn line_cost<P: Drop>(line: &Line<P>) -> u128
     ensures { result ≡ line_cost line.now }
 {
     match line {

@@ -1,8 +1,11 @@
 //! Lines of code, and what ends a block.
+ghost use Rattle.std.specs.Prelude.{◌≡◌, IfOk};
+
 use crate::place::{Address, Argument, Destination, Operand};
 use il_ast::list::Seq;
 use il_ast::operation::{Class, Condition, Size};
 use rv_isa::instruction::{LoadOp, RegOp, RegWOp};
+use std::alloc::{AllocError, Global};
 
 /// An operation on two operands.
 #[derive(Clone, Copy, Debug, PartialEq, Eq)]
@@ -61,6 +64,63 @@ pub enum Line<P> {
         callee: Operand<P>,
         args: Seq<Argument<P>>,
     },
+}
+
+impl<P: Copy> Line<P> {
+    /// The same line.
+    ///
+    /// # Errors
+    ///
+    /// Only where memory was refused.
+    pub fn try_clone(&self, alloc: Global) -> Result<Line<P>, AllocError>
+        ensures { IfOk result (λ v. v ≡ self.now) }
+    {
+        Ok(match self {
+            Line::Tick { turn, weight } => Line::Tick {
+                turn: *turn,
+                weight: *weight,
+            },
+            Line::Set { to, value } => Line::Set {
+                to: *to,
+                value: *value,
+            },
+            Line::Operate {
+                to,
+                operation,
+                left,
+                right,
+            } => Line::Operate {
+                to: *to,
+                operation: *operation,
+                left: *left,
+                right: *right,
+            },
+            Line::Load { to, op, at } => Line::Load {
+                to: *to,
+                op: *op,
+                at: *at,
+            },
+            Line::Store { size, value, at } => Line::Store {
+                size: *size,
+                value: *value,
+                at: *at,
+            },
+            Line::Alloc { to, size } => Line::Alloc {
+                to: *to,
+                size: *size,
+            },
+            Line::Blit { from, to, count } => Line::Blit {
+                from: *from,
+                to: *to,
+                count: *count,
+            },
+            Line::Call { to, callee, args } => Line::Call {
+                to: *to,
+                callee: *callee,
+                args: args.try_clone(alloc)?,
+            },
+        })
+    }
 }
 
 /// A comparison of two values of a class, as the source makes it.

@@ -4,7 +4,7 @@ ghost use Rattle.il_ast.specs.Passes.{Keeps};
 ghost use Rattle.vcode.specs.Coded.{virtual_code};
 ghost use Rattle.whole_words.specs.Whole.{are_closed, IsCopied};
 
-use crate::lines::{blocks, params};
+use crate::lines::blocks;
 use crate::marks::whole_registers;
 use std::alloc::{AllocError, Global};
 use vcode::code::Code;
@@ -15,7 +15,7 @@ fn with_copies(alloc: Global, function: &VFunc, marks: &[bool]) -> Result<VFunc,
     ensures kept { IfOk result (λ w. Keeps (virtual_code function.now) (virtual_code w)) }
     ensures copied { IfOk result (λ w. IsCopied function.now w) }
 {
-    let params = params(alloc, function.code.params.as_slice())?;
+    let params = function.code.params.try_clone(alloc)?;
     let blocks = blocks(alloc, marks, function.code.blocks.as_slice())?;
     Ok(VFunc {
         code: Code {

@@ -8,7 +8,7 @@ use rv_isa::instruction::RegWOp;
 use std::alloc::{AllocError, Global};
 use vcode::code::Block;
 use vcode::line::{Line, Operation};
-use vcode::place::{Argument, Destination, Operand};
+use vcode::place::Operand;
 
 // Whether the operation extends a word that stands whole.
 fn is_extension(
@@ -31,36 +31,10 @@ fn is_extension(
     }
 }
 
-fn arguments(alloc: Global, args: &[Argument<u32>]) -> Result<Seq<Argument<u32>>, AllocError>
-    ensures { IfOk result (λ v. v ≡ args.now) }
-{
-    let items = args.to_vec(alloc)?;
-    Ok(Seq::from_vec(items))
-}
-
-/// The same parameters.
-pub fn params(
-    alloc: Global,
-    params: &[Destination<u32>],
-) -> Result<Seq<Destination<u32>>, AllocError>
-    ensures { IfOk result (λ v. v ≡ params.now) }
-{
-    let items = params.to_vec(alloc)?;
-    Ok(Seq::from_vec(items))
-}
-
 fn line(alloc: Global, marks: &[bool], from: &Line<u32>) -> Result<Line<u32>, AllocError>
     ensures { IfOk result (λ v. v ≡ with_copy marks.now from.now) }
 {
-    Ok(match from {
-        Line::Tick { turn, weight } => Line::Tick {
-            turn: *turn,
-            weight: *weight,
-        },
-        Line::Set { to, value } => Line::Set {
-            to: *to,
-            value: *value,
-        },
+    match from {
         Line::Operate {
             to,
             operation,
@@ -68,44 +42,16 @@ fn line(alloc: Global, marks: &[bool], from: &Line<u32>) -> Result<Line<u32>, Al
             right,
         } => {
             if is_extension(marks, *operation, *left, *right) {
-                Line::Set {
+                Ok(Line::Set {
                     to: *to,
                     value: *left,
-                }
+                })
             } else {
-                Line::Operate {
-                    to: *to,
-                    operation: *operation,
-                    left: *left,
-                    right: *right,
-                }
+                from.try_clone(alloc)
             }
         }
-        Line::Load { to, op, at } => Line::Load {
-            to: *to,
-            op: *op,
-            at: *at,
-        },
-        Line::Store { size, value, at } => Line::Store {
-            size: *size,
-            value: *value,
-            at: *at,
-        },
-        Line::Alloc { to, size } => Line::Alloc {
-            to: *to,
-            size: *size,
-        },
-        Line::Blit { from, to, count } => Line::Blit {
-            from: *from,
-            to: *to,
-            count: *count,
-        },
-        Line::Call { to, callee, args } => Line::Call {
-            to: *to,
-            callee: *callee,
-            args: arguments(alloc, args.as_slice())?,
-        },
-    })
+        _ => from.try_clone(alloc),
+    }
 }
 
 fn lines(alloc: Global, marks: &[bool], from: &[Line<u32>]) -> Result<Seq<Line<u32>>, AllocError>

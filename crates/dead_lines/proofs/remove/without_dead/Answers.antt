@@ -16,8 +16,8 @@ invariant_of-result c =
     let rows = c.args.live.now in
     let new : Code ℕ = record { result = v.code.result; params = c.in_ok-params.params; blocks = c.push_blocks.new.kept } in
     let is : without_dead rows v.code ≡ new =
-    made rows v.code c.in_ok-params.params c.push_blocks.new.kept c.new-blocks.result c.as_slice-2.result.now (c.in_ok-params.ensures ∙ c.as_slice.ensures) c.in_ok-push_blocks.ensures c.new-blocks.ensures
-    c.as_slice-2.ensures in
+    made rows v.code c.in_ok-params.params c.push_blocks.new.kept c.new-blocks.result c.as_slice.result.now c.in_ok-params.ensures c.in_ok-push_blocks.ensures c.new-blocks.ensures
+    c.as_slice.ensures in
     record {
       few = v.few;
       regular = subst (λ (f : Code ℕ). IsRegular f) is (regular rows v.code v.regular);
@@ -33,6 +33,6 @@ returns-clause-kept c =
     let rows = c.args.live.now in
     let new : Code ℕ = record { result = v.code.result; params = c.in_ok-params.params; blocks = c.push_blocks.new.kept } in
     let is : without_dead rows v.code ≡ new =
-    made rows v.code c.in_ok-params.params c.push_blocks.new.kept c.new-blocks.result c.as_slice-2.result.now (c.in_ok-params.ensures ∙ c.as_slice.ensures) c.in_ok-push_blocks.ensures c.new-blocks.ensures
-    c.as_slice-2.ensures in
+    made rows v.code c.in_ok-params.params c.push_blocks.new.kept c.new-blocks.result c.as_slice.result.now c.in_ok-params.ensures c.in_ok-push_blocks.ensures c.new-blocks.ensures
+    c.as_slice.ensures in
     subst (λ (f : Code ℕ). Keeps (virtual_code v) (coded virtual f v.registers)) is (keeps v rows v.registers c.requires.live)

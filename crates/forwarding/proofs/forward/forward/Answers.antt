@@ -13,10 +13,10 @@ pub invariant_of-result : goal.invariant_of-result
 invariant_of-result c =
     let v = c.args.function.now in
     let w : Code ℕ = record { result = v.code.result; params = c.in_ok-params.params; blocks = c.in_ok-blocks.blocks } in
-    let same : w.params ≡ v.code.params = c.in_ok-params.ensures ∙ c.as_slice.ensures in
+    let same : w.params ≡ v.code.params = c.in_ok-params.ensures in
     let all : AllForwarded v.registers v.code.blocks w.blocks =
     subst (λ n. AllForwarded n v.code.blocks w.blocks) c.in_ok-table.ensures.count
-    (subst (λ (xs : List (Block ℕ)). AllForwarded (length c.in_ok-table.table.written.items) xs w.blocks) c.as_slice-2.ensures c.in_ok-blocks.ensures) in
+    (subst (λ (xs : List (Block ℕ)). AllForwarded (length c.in_ok-table.table.written.items) xs w.blocks) c.as_slice.ensures c.in_ok-blocks.ensures) in
     record {
       few = v.few;
       regular = regular v.registers v.code w all same v.regular;
@@ -30,8 +30,8 @@ pub returns-clause-kept : goal.returns-clause-kept
 returns-clause-kept c =
     let v = c.args.function.now in
     let w : Code ℕ = record { result = v.code.result; params = c.in_ok-params.params; blocks = c.in_ok-blocks.blocks } in
-    let same : w.params ≡ v.code.params = c.in_ok-params.ensures ∙ c.as_slice.ensures in
+    let same : w.params ≡ v.code.params = c.in_ok-params.ensures in
     let all : AllForwarded v.registers v.code.blocks w.blocks =
     subst (λ n. AllForwarded n v.code.blocks w.blocks) c.in_ok-table.ensures.count
-    (subst (λ (xs : List (Block ℕ)). AllForwarded (length c.in_ok-table.table.written.items) xs w.blocks) c.as_slice-2.ensures c.in_ok-blocks.ensures) in
+    (subst (λ (xs : List (Block ℕ)). AllForwarded (length c.in_ok-table.table.written.items) xs w.blocks) c.as_slice.ensures c.in_ok-blocks.ensures) in
     keeps v.registers v.registers v.code w all refl same

@@ -12,11 +12,11 @@ pub invariant_of-result : goal.invariant_of-result
 invariant_of-result c =
     let v = c.args.function.now in
     let w : Code ℕ = record { result = v.code.result; params = c.in_ok-params.params; blocks = c.in_ok-blocks.blocks } in
-    let same : w.params ≡ v.code.params = c.in_ok-params.ensures ∙ c.as_slice.ensures in
+    let same : w.params ≡ v.code.params = c.in_ok-params.ensures in
     let all : Copied c.args.marks.now v.code w = record {
       result = refl;
       params = same;
-      blocks = c.in_ok-blocks.ensures ∙ ap (map (with_copies c.args.marks.now)) c.as_slice-2.ensures;
+      blocks = c.in_ok-blocks.ensures ∙ ap (map (with_copies c.args.marks.now)) c.as_slice.ensures;
       closed = c.requires;
     }
     in
@@ -36,8 +36,8 @@ returns-clause-kept c =
     keeps c.args.marks.now v.registers v.code w
     (record {
       result = refl;
-      params = c.in_ok-params.ensures ∙ c.as_slice.ensures;
-      blocks = c.in_ok-blocks.ensures ∙ ap (map (with_copies c.args.marks.now)) c.as_slice-2.ensures;
+      params = c.in_ok-params.ensures;
+      blocks = c.in_ok-blocks.ensures ∙ ap (map (with_copies c.args.marks.now)) c.as_slice.ensures;
       closed = c.requires;
     })
 
@@ -47,7 +47,7 @@ returns-clause-copied c =
       marks = c.args.marks.now;
       closed = c.requires;
       result = refl;
-      params = c.in_ok-params.ensures ∙ c.as_slice.ensures;
-      blocks = c.in_ok-blocks.ensures ∙ ap (map (with_copies c.args.marks.now)) c.as_slice-2.ensures;
+      params = c.in_ok-params.ensures;
+      blocks = c.in_ok-blocks.ensures ∙ ap (map (with_copies c.args.marks.now)) c.as_slice.ensures;
       registers = refl;
     }

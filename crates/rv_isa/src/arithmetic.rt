@@ -1,4 +1,4 @@
-//! What the operations compute.
+//! What the operations compute (Unprivileged ISA manual, "Integer Computational Instructions" and "M Extension"): exactly `specs/Arithmetic.antt`.
 
 ghost use Rattle.std.specs.Prelude.{◌≡◌, ◌<◌, ◌^◌, ◌*ℤ◌, pos};
 ghost use Rattle.std.specs.Int.{w32, w64, cast_unsigned, int_shr};
@@ -19,13 +19,13 @@ ghost use Rattle.rv_isa.specs.Arithmetic.{
 };
 ghost use Rattle.rv_isa.specs.Step.{load_size, load_value};
 
+use crate::instruction::{BranchOp, ImmOp, LoadOp, RegOp, RegWOp, ShiftOp, ShiftWOp};
+use crate::ranges::UpperField;
 use bits::{low32, sext32};
-use rv_isa::instruction::{BranchOp, ImmOp, LoadOp, RegOp, RegWOp, ShiftOp, ShiftWOp};
-use rv_isa::ranges::UpperField;
 
 /// An operation on two registers.
 #[inline(always)]
-pub(crate) fn reg_value(op: RegOp, a: u64, b: u64) -> u64
+pub fn reg_value(op: RegOp, a: u64, b: u64) -> u64
     ensures { result ≡ reg_value op a b }
 {
     match op {
@@ -90,7 +90,7 @@ fn high_of_signed_by_unsigned(a: i64, b: u64) -> u64
 
 /// An operation of 32 bits on two registers.
 #[inline(always)]
-pub(crate) fn regw_value(op: RegWOp, a: u64, b: u64) -> u64
+pub fn regw_value(op: RegWOp, a: u64, b: u64) -> u64
     ensures { result ≡ regw_value op a b }
 {
     sext32(word_value(op, low32(a), low32(b)))
@@ -140,7 +140,7 @@ fn word_remainder(a: u32, b: u32) -> u32
 
 /// An immediate as a word of 64 bits, by its sign.
 #[inline(always)]
-pub(crate) fn widened(z: i32) -> u64
+pub fn widened(z: i32) -> u64
     ensures { result ≡ widened z }
 {
     i64::from(z).cast_unsigned()
@@ -148,7 +148,7 @@ pub(crate) fn widened(z: i32) -> u64
 
 /// An operation on a register and an immediate.
 #[inline(always)]
-pub(crate) fn imm_value(op: ImmOp, a: u64, z: i16) -> u64
+pub fn imm_value(op: ImmOp, a: u64, z: i16) -> u64
     ensures { result ≡ imm_value op a z }
 {
     let b = widened(i32::from(z));
@@ -163,14 +163,14 @@ pub(crate) fn imm_value(op: ImmOp, a: u64, z: i16) -> u64
 }
 
 #[inline(always)]
-pub(crate) fn addiw_value(a: u64, z: i16) -> u64
+pub fn addiw_value(a: u64, z: i16) -> u64
     ensures { result ≡ addiw_value a z }
 {
     sext32(low32(a.wrapping_add(widened(i32::from(z)))))
 }
 
 #[inline(always)]
-pub(crate) fn shift_value(op: ShiftOp, a: u64, amount: u8) -> u64
+pub fn shift_value(op: ShiftOp, a: u64, amount: u8) -> u64
     ensures { result ≡ shift_value op a amount }
 {
     let amount = u64::from(amount);
@@ -182,7 +182,7 @@ pub(crate) fn shift_value(op: ShiftOp, a: u64, amount: u8) -> u64
 }
 
 #[inline(always)]
-pub(crate) fn shiftw_value(op: ShiftWOp, a: u64, amount: u8) -> u64
+pub fn shiftw_value(op: ShiftWOp, a: u64, amount: u8) -> u64
     ensures { result ≡ shiftw_value op a amount }
 {
     let amount = u64::from(amount);
@@ -195,7 +195,7 @@ pub(crate) fn shiftw_value(op: ShiftWOp, a: u64, amount: u8) -> u64
 
 /// What `lui` loads.
 #[inline(always)]
-pub(crate) fn upper_value(field: UpperField) -> u64
+pub fn upper_value(field: UpperField) -> u64
     ensures { result ≡ upper_value field }
 {
     sext32(field.value * 0x1000)
@@ -203,7 +203,7 @@ pub(crate) fn upper_value(field: UpperField) -> u64
 
 /// Whether a branch is taken.
 #[inline(always)]
-pub(crate) fn taken(op: BranchOp, a: u64, b: u64) -> bool
+pub fn taken(op: BranchOp, a: u64, b: u64) -> bool
     ensures { result ≡ taken op a b }
 {
     match op {
@@ -218,7 +218,7 @@ pub(crate) fn taken(op: BranchOp, a: u64, b: u64) -> bool
 
 /// An address and a signed offset.
 #[inline(always)]
-pub(crate) fn moved(at: u64, offset: i32) -> u64
+pub fn moved(at: u64, offset: i32) -> u64
     ensures { result ≡ moved at offset }
 {
     at.wrapping_add(widened(offset))
@@ -226,7 +226,7 @@ pub(crate) fn moved(at: u64, offset: i32) -> u64
 
 /// The loaded number, of as many bytes as the load reads, as a word of 64 bits.
 #[inline(always)]
-pub(crate) fn load_value(op: LoadOp, n: u64) -> u64
+pub fn load_value(op: LoadOp, n: u64) -> u64
     requires { n < 256 ^ load_size op }
     ensures { result ≡ load_value op n }
 {

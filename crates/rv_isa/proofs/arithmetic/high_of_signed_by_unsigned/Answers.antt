@@ -1,8 +1,8 @@
 use Rattle.std.proofs.Common.{◌≡◌, ◌<◌, ◌^◌, FitsSigned, ◌∙◌, pos}
 use Rattle.std.specs.Int.{w64}
 use Rattle.std.proofs.lemmas.Int.{to_z-of_z}
-use Rattle.rv_machine.proofs.HighHalf.{high_half, signed_by_unsigned, wide_signed, wide_unsigned}
-use Rattle.rv_machine.proofs.arithmetic.high_of_signed_by_unsigned.Goals as goal
+use Rattle.rv_isa.proofs.HighHalf.{high_half, signed_by_unsigned, wide_signed, wide_unsigned}
+use Rattle.rv_isa.proofs.arithmetic.high_of_signed_by_unsigned.Goals as goal
 
 pub returns : goal.returns
 returns c =

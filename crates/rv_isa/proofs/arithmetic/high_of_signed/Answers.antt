@@ -1,8 +1,8 @@
 use Rattle.std.proofs.Common.{◌≡◌, FitsSigned, ◌∙◌}
 use Rattle.std.specs.Int.{w64}
 use Rattle.std.proofs.lemmas.Int.{to_z-of_z}
-use Rattle.rv_machine.proofs.HighHalf.{high_half, signed_by_signed, wide_signed}
-use Rattle.rv_machine.proofs.arithmetic.high_of_signed.Goals as goal
+use Rattle.rv_isa.proofs.HighHalf.{high_half, signed_by_signed, wide_signed}
+use Rattle.rv_isa.proofs.arithmetic.high_of_signed.Goals as goal
 
 pub returns : goal.returns
 returns c =
