@@ -12,7 +12,7 @@ use Rattle.il_ast.specs.declared.operation.BinaryOp.TheVariants.{Compare as Comp
 use Rattle.il_ast.specs.declared.value.Value.{Value}
 use Rattle.il_ast.specs.declared.value.Value.TheVariants.{Integer, Pointer, Function}
 use Rattle.il_ast.specs.declared.value.End.TheVariants.{Turns}
-use Rattle.il_ast.specs.Values.{byte_count, in_place, modulus}
+use Rattle.il_ast.specs.Values.{byte_count, in_place}
 use Rattle.il_ast.specs.Memory.{Memory, store, copy}
 use Rattle.il_ast.specs.Operations.{holds, truth, compare_places, operate_two}
 use Rattle.il_ast.specs.Effect.{stored_class}

@@ -1,5 +1,5 @@
 -- A shift or a mask does what the operation by a power of two does, at no higher cost.
-use Rattle.std.proofs.Common.{◌≡◌, ℕ, ◌+◌, ◌-◌, ◌*◌, ◌/◌, ◌%◌, ◌^◌, ◌<◌, ◌≤◌, ◌==◌, Bool, true, false, ◌&&◌, ◌||◌, nat_eq, nat_lt, nat_le, if◌then◌else◌, List, Option, Some, None, refl, sym, ◌∙◌, ap, subst, arith}
+use Rattle.std.proofs.Common.{◌≡◌, ℕ, ◌+◌, ◌-◌, ◌*◌, ◌/◌, ◌%◌, ◌^◌, ◌<◌, ◌≤◌, ◌==◌, Bool, true, false, ◌&&◌, nat_eq, nat_lt, if◌then◌else◌, List, Option, Some, None, refl, sym, ◌∙◌, ap, subst, arith}
 use Rattle.std.specs.Option.{option_and_then}
 use Rattle.std.specs.Prelude.{bit_and}
 use Rattle.std.specs.Int.{w64, trailing_zeros}
@@ -16,10 +16,8 @@ use Rattle.il_ast.specs.Memory.{Memory}
 use Rattle.il_ast.specs.Run.{Outcome}
 use Rattle.il_ast.specs.Logged.{Event}
 use Rattle.il_ast.specs.Keeps.{Asked, Given}
-use Rattle.rv_isa.specs.Arithmetic.{reg_value, regw_value, unsigned_quotient, unsigned_remainder}
-use Rattle.rv_isa.specs.declared.instruction.RegOp.{RegOp}
+use Rattle.rv_isa.specs.Arithmetic.{unsigned_quotient, unsigned_remainder}
 use Rattle.rv_isa.specs.declared.instruction.RegOp.TheVariants.{Add, Sub, Sll, Slt, Sltu, Xor, Srl, Sra, Or, And, Mul, Mulh, Mulhsu, Mulhu, Div, Divu, Rem, Remu}
-use Rattle.rv_isa.specs.declared.instruction.RegWOp.{RegWOp}
 use Rattle.rv_isa.specs.declared.instruction.RegWOp.TheVariants.{Addw, Subw, Sllw, Srlw, Sraw, Mulw, Divw, Divuw, Remw, Remuw}
 use Rattle.vcode.specs.declared.place.Operand.{Operand}
 use Rattle.vcode.specs.declared.place.Operand.TheVariants.{At, Number, Name}
@@ -28,7 +26,6 @@ use Rattle.vcode.specs.declared.line.Operation.TheVariants.{Reg, RegW, Compare}
 use Rattle.vcode.specs.declared.line.Line.{Line}
 use Rattle.vcode.specs.declared.line.Line.TheVariants.{Tick, Set, Operate, Load, Store, Alloc, Blit, Call}
 use Rattle.vcode.specs.Cost.{is_immediate, operand_cost, operation_cost, line_cost}
-use Rattle.vcode.specs.Named.{operand_keeps, line_keeps}
 use Rattle.vcode.specs.Operations.{operate}
 use Rattle.vcode.specs.Places.{virtual}
 use Rattle.vcode.specs.Step.{State, value_of, sets, line_step}

@@ -5,9 +5,7 @@ use Rattle.std.specs.Int.{w64, trailing_zeros}
 use Rattle.il_ast.specs.Values.{modulus}
 use Rattle.il_ast.specs.Operations.{holds, truth}
 use Rattle.rv_isa.specs.Arithmetic.{reg_value, regw_value}
-use Rattle.rv_isa.specs.declared.instruction.RegOp.{RegOp}
 use Rattle.rv_isa.specs.declared.instruction.RegOp.TheVariants.{Sll, Srl, And, Mul, Divu, Remu}
-use Rattle.rv_isa.specs.declared.instruction.RegWOp.{RegWOp}
 use Rattle.rv_isa.specs.declared.instruction.RegWOp.TheVariants.{Sllw, Srlw, Mulw, Divuw, Remuw}
 use Rattle.vcode.specs.declared.place.Operand.{Operand}
 use Rattle.vcode.specs.declared.place.Operand.TheVariants.{Number}
