@@ -2,3 +2,4 @@ pub mod Statuses
 pub mod Runs
 pub mod Refusals
 pub mod Parts
+pub mod Commands

@@ -1,5 +1,6 @@
 //! `qbec build`.
-ghost use Rattle.std.specs.Prelude.{◌≡◌, IfOk};
+ghost use Rattle.std.specs.Prelude.{◌≡◌, map, IfOk, OnOk, IfErr};
+ghost use Rattle.commands.specs.Parts.{AllHold, CannotRead, IsBuilt, BuildFails};
 
 use crate::failure::Failure;
 use crate::files::{read, write};
@@ -13,7 +14,12 @@ fn read_all<'a, D: Disk>(
     alloc: Global,
     disk: &mut D,
     paths: &[&'a str],
-) -> Result<Vec<Vec<u8>>, Failure<'a>> {
+) -> Result<Vec<Vec<u8>>, Failure<'a>>
+    ensures held { IfOk result (λ v. AllHold (D.files disk.old) (map (λ p. p.now) paths.now) (map (λ t. t.items) v.items)) }
+    ensures files { D.files disk.new ≡ D.files disk.old }
+    ensures clean { OnOk result (D.faults disk.new ≡ D.faults disk.old) }
+    ensures fails { IfErr result (λ e. CannotRead (D.faults disk.old) (D.faults disk.new) e) }
+{
     let mut texts = Vec::new(alloc);
     for path in paths {
         let bytes = read(disk, *path)?;
@@ -22,7 +28,9 @@ fn read_all<'a, D: Disk>(
     Ok(texts)
 }
 
-fn slices(alloc: Global, texts: &[Vec<u8>]) -> Result<Vec<&[u8]>, AllocError> {
+fn slices(alloc: Global, texts: &[Vec<u8>]) -> Result<Vec<&[u8]>, AllocError>
+    ensures { IfOk result (λ v. map (λ t. t.now) v.items ≡ map (λ t. t.items) texts.now) }
+{
     let mut slices = Vec::new(alloc);
     for text in texts {
         slices.push(text.as_slice())?;
@@ -38,7 +46,10 @@ pub(crate) fn build<'a, D: Disk>(
     out: &'a str,
     paths: &[&'a str],
 ) -> Result<u8, Failure<'a>>
-    ensures { IfOk result (λ status. status ≡ 0) }
+    ensures status { IfOk result (λ status. status ≡ 0) }
+    ensures built { OnOk result (IsBuilt (D.files disk.old) (D.files disk.new) (map (λ p. p.now) paths.now) out.now) }
+    ensures clean { OnOk result (D.faults disk.new ≡ D.faults disk.old) }
+    ensures fails { IfErr result (λ e. BuildFails (D.files disk.old) (D.files disk.new) (D.faults disk.old) (D.faults disk.new) (map (λ p. p.now) paths.now) out.entry e) }
 {
     let texts = read_all(alloc, disk, paths)?;
     let slices = slices(alloc, texts.as_slice())?;

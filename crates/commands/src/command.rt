@@ -1,5 +1,6 @@
 //! What the user asks for, done.
-ghost use Rattle.std.specs.Prelude.{◌≡◌};
+ghost use Rattle.std.specs.Prelude.{◌≡◌, IfOk, OnOk, IfErr};
+ghost use Rattle.commands.specs.Commands.{Done, Fails, Ends};
 ghost use Rattle.commands.specs.Parts.{IsShown};
 ghost use Rattle.commands.specs.Statuses.{status_of};
 
@@ -47,7 +48,11 @@ fn perform<'a, D: Disk, O: Sink>(
     how: &mut dyn Strategy,
     disk: &mut D,
     out: &mut O,
-) -> Result<u8, Failure<'a>> {
+) -> Result<u8, Failure<'a>>
+    ensures done { IfOk result (λ status. Done command.now (D.files disk.old) (D.files disk.new) (O.held out.old) (O.held out.new) status) }
+    ensures clean { OnOk result (D.faults disk.new ≡ D.faults disk.old) }
+    ensures fails { IfErr result (λ e. Fails command.now (D.files disk.old) (D.files disk.new) (D.faults disk.old) (D.faults disk.new) (O.held out.old) (O.held out.new) e) }
+{
     match command {
         Command::Build { out: target, files } => {
             build(alloc, how, disk, *target, files.as_slice())
@@ -73,7 +78,7 @@ fn perform<'a, D: Disk, O: Sink>(
 ///
 /// A program's output goes to `out`. The status is the program's own, or 0 of `build` and `dis`. Where something ends otherwise, one line goes to `err`: `qbec: `
 /// and the text of the [`Failure`], whose status is answered. Where `out` fails, that is the failure. Help goes to `out`, with status 0; other texts of the
-/// command line go to `err`, with status 126. All of this is shown by tests.
+/// command line go to `err`, with status 126. Which words ask for what, and what goes to `err`, is shown by tests.
 ///
 /// Failures are found in this order: the command line; the files in order, at the first that can't be read; refusals of the texts or of the executable file; the
 /// argument words; the run; writing.
@@ -84,7 +89,9 @@ pub fn command<D: Disk, O: Sink, E: Sink>(
     disk: &mut D,
     out: &mut O,
     err: &mut E,
-) -> u8 {
+) -> u8
+    ensures { Ends (D.files disk.old) (D.files disk.new) (D.faults disk.old) (D.faults disk.new) (O.held out.old) (O.held out.new) result }
+{
     match command_of(alloc, words) {
         Ok(command) => match perform(alloc, &command, how, disk, out) {
             Ok(status) => status,

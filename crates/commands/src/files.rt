@@ -1,5 +1,6 @@
 //! Files and standard output, with the failures that they meet.
-ghost use Rattle.std.specs.Prelude.{◌≡◌, OnOk, OnErr, IfErr};
+ghost use Rattle.std.specs.Prelude.{◌≡◌, IfOk, OnOk, OnErr, IfErr};
+ghost use Rattle.shell.specs.Disk.{Holds, Spares};
 ghost use Rattle.shell.specs.Sink.{Went, HasFailed};
 ghost use Rattle.commands.specs.declared.failure.Failure.TheVariants.{Output};
 ghost use Rattle.commands.specs.Parts.{IsUnread, IsUnwritten};
@@ -11,7 +12,10 @@ use shell::write_exe::write_exe;
 
 /// All bytes of a file.
 pub(crate) fn read<'a, D: Disk>(disk: &mut D, path: &'a str) -> Result<Vec<u8>, Failure<'a>>
-    ensures { IfErr result (λ e. IsUnread path.entry e) }
+    ensures holds { IfOk result (λ v. Holds (D.files disk.old) path.now v.items) }
+    ensures same { D.files disk.new ≡ D.files disk.old }
+    ensures clean { OnOk result (D.faults disk.new ≡ D.faults disk.old) }
+    ensures fault { IfErr result (λ e. IsUnread (D.faults disk.old) (D.faults disk.new) path.entry e) }
 {
     match disk.read(path) {
         Ok(bytes) => Ok(bytes),
@@ -26,7 +30,10 @@ pub(crate) fn write<'a, D: Disk>(
     path: &'a str,
     bytes: &[u8],
 ) -> Result<(), Failure<'a>>
-    ensures { IfErr result (λ e. IsUnwritten path.entry e) }
+    ensures holds { OnOk result (Holds (D.files disk.new) path.now bytes.now) }
+    ensures spares { Spares (D.files disk.old) (D.files disk.new) path.now }
+    ensures clean { OnOk result (D.faults disk.new ≡ D.faults disk.old) }
+    ensures fault { IfErr result (λ e. IsUnwritten (D.faults disk.old) (D.faults disk.new) path.entry e) }
 {
     match disk.write(path, bytes) {
         Ok(()) => Ok(()),

@@ -1,5 +1,5 @@
 //! `qbec run` and `qbec interp`.
-ghost use Rattle.std.specs.Prelude.{◌≡◌, map, IfOk, IfErr};
+ghost use Rattle.std.specs.Prelude.{◌≡◌, map, IfOk, OnOk, IfErr};
 ghost use Rattle.commands.specs.Parts.{RunsTo, MeansTo, RunFails, InterpretFails};
 
 use crate::failure::{Failure, end_status, stop_status};
@@ -28,8 +28,10 @@ pub(crate) fn run<'a, D: Disk, O: Sink>(
     path: &'a str,
     words: &[&str],
 ) -> Result<u8, Failure<'a>>
-    ensures runs { IfOk result (λ status. RunsTo (map (λ w. w.now) words.now) limit (O.held out.old) (O.held out.new) status) }
-    ensures fails { IfErr result (λ e. RunFails path.entry (map (λ w. w.now) words.now) limit (O.held out.old) (O.held out.new) e) }
+    ensures runs { IfOk result (λ status. RunsTo (D.files disk.old) path.now (map (λ w. w.now) words.now) limit (O.held out.old) (O.held out.new) status) }
+    ensures fails { IfErr result (λ e. RunFails (D.files disk.old) (D.faults disk.old) (D.faults disk.new) path.entry (map (λ w. w.now) words.now) limit (O.held out.old) (O.held out.new) e) }
+    ensures files { D.files disk.new ≡ D.files disk.old }
+    ensures clean { OnOk result (D.faults disk.new ≡ D.faults disk.old) }
 {
     let bytes = read(disk, path)?;
     let words = as_bytes(alloc, words)?;
@@ -48,8 +50,10 @@ pub(crate) fn interpret<'a, D: Disk, O: Sink>(
     path: &'a str,
     words: &[&str],
 ) -> Result<u8, Failure<'a>>
-    ensures means { IfOk result (λ status. MeansTo (map (λ w. w.now) words.now) turns (O.held out.old) (O.held out.new) status) }
-    ensures fails { IfErr result (λ e. InterpretFails path.entry (map (λ w. w.now) words.now) turns (O.held out.old) (O.held out.new) e) }
+    ensures means { IfOk result (λ status. MeansTo (D.files disk.old) path.now (map (λ w. w.now) words.now) turns (O.held out.old) (O.held out.new) status) }
+    ensures fails { IfErr result (λ e. InterpretFails (D.files disk.old) (D.faults disk.old) (D.faults disk.new) path.entry (map (λ w. w.now) words.now) turns (O.held out.old) (O.held out.new) e) }
+    ensures files { D.files disk.new ≡ D.files disk.old }
+    ensures clean { OnOk result (D.faults disk.new ≡ D.faults disk.old) }
 {
     let text = read(disk, path)?;
     let words = as_bytes(alloc, words)?;

@@ -1,4 +1,6 @@
 //! Each command over files and streams in memory. Its lines and statuses are tested with the programs, in `program_tests`.
+ghost use Rattle.std.specs.Prelude.{◌≡◌};
+
 use crate::command::command;
 use regalloc::linear_scan::LinearScan;
 use shell::disk::{Disk, FileFault};
@@ -19,6 +21,7 @@ struct File {
 struct Files {
     alloc: Global,
     files: Vec<File>,
+    faults: u64,
 }
 
 impl Files {
@@ -26,10 +29,13 @@ impl Files {
         Files {
             alloc,
             files: Vec::new(alloc),
+            faults: 0,
         }
     }
 
-    fn store(&mut self, path: &str, bytes: &[u8]) -> Result<(), AllocError> {
+    fn store(&mut self, path: &str, bytes: &[u8]) -> Result<(), AllocError>
+        ensures { self.new.faults ≡ self.old.faults }
+    {
         let path = String::from_str(self.alloc, path)?;
         let bytes = bytes.to_vec(self.alloc)?;
         self.files.push(File { path, bytes })?;
@@ -46,20 +52,33 @@ impl Files {
 }
 
 impl Disk for Files {
+    ghost use Rattle.std.specs.Prelude.{None};
+
+    ghost files = { λ s. None };
+
+    ghost faults = { λ s. s.faults };
+
     fn read(&mut self, path: &str) -> Result<Vec<u8>, FileFault> {
-        match self.find(path) {
+        let answer = match self.find(path) {
             Some(file) => match file.bytes.as_slice().to_vec(self.alloc) {
                 Ok(bytes) => Ok(bytes),
                 Err(_) => Err(FileFault::Memory),
             },
             None => Err(FileFault::Device),
+        };
+        if answer.is_err() {
+            self.faults = self.faults.saturating_add(1);
         }
+        answer
     }
 
     fn write(&mut self, path: &str, bytes: &[u8]) -> Result<(), FileFault> {
         match self.store(path, bytes) {
             Ok(()) => Ok(()),
-            Err(_) => Err(FileFault::Memory),
+            Err(_) => {
+                self.faults = self.faults.saturating_add(1);
+                Err(FileFault::Memory)
+            }
         }
     }
 }

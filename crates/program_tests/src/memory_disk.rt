@@ -1,4 +1,6 @@
 //! Files in memory.
+ghost use Rattle.std.specs.Prelude.{◌≡◌};
+
 use shell::disk::{Disk, FileFault};
 use std::alloc::{AllocError, Global};
 
@@ -15,6 +17,7 @@ pub struct MemoryDisk {
     alloc: Global,
     files: Vec<File>,
     pub fault: FileFault,
+    faults: u64,
 }
 
 impl MemoryDisk {
@@ -23,11 +26,14 @@ impl MemoryDisk {
             alloc,
             files: Vec::new(alloc),
             fault: FileFault::Device,
+            faults: 0,
         }
     }
 
     /// Keeps a file of these bytes.
-    pub fn store(&mut self, path: &str, bytes: &[u8]) -> Result<(), AllocError> {
+    pub fn store(&mut self, path: &str, bytes: &[u8]) -> Result<(), AllocError>
+        ensures { self.new.faults ≡ self.old.faults }
+    {
         let path = String::from_str(self.alloc, path)?;
         let bytes = bytes.to_vec(self.alloc)?;
         self.files.push(File { path, bytes })?;
@@ -43,10 +49,8 @@ impl MemoryDisk {
         }
         None
     }
-}
 
-impl Disk for MemoryDisk {
-    fn read(&mut self, path: &str) -> Result<Vec<u8>, FileFault> {
+    fn read_file(&self, path: &str) -> Result<Vec<u8>, FileFault> {
         if path == "broken" {
             return Err(self.fault);
         }
@@ -59,7 +63,9 @@ impl Disk for MemoryDisk {
         }
     }
 
-    fn write(&mut self, path: &str, bytes: &[u8]) -> Result<(), FileFault> {
+    fn write_file(&mut self, path: &str, bytes: &[u8]) -> Result<(), FileFault>
+        ensures { self.new.faults ≡ self.old.faults }
+    {
         if path == "broken" {
             return Err(self.fault);
         }
@@ -67,5 +73,29 @@ impl Disk for MemoryDisk {
             Ok(()) => Ok(()),
             Err(_) => Err(FileFault::Memory),
         }
+    }
+}
+
+impl Disk for MemoryDisk {
+    ghost use Rattle.std.specs.Prelude.{None};
+
+    ghost files = { λ s. None };
+
+    ghost faults = { λ s. s.faults };
+
+    fn read(&mut self, path: &str) -> Result<Vec<u8>, FileFault> {
+        let answer = self.read_file(path);
+        if answer.is_err() {
+            self.faults = self.faults.saturating_add(1);
+        }
+        answer
+    }
+
+    fn write(&mut self, path: &str, bytes: &[u8]) -> Result<(), FileFault> {
+        let answer = self.write_file(path, bytes);
+        if answer.is_err() {
+            self.faults = self.faults.saturating_add(1);
+        }
+        answer
     }
 }

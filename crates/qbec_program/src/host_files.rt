@@ -7,15 +7,16 @@ use std::os::unix::fs::PermissionsExt;
 use std::rt::Files;
 use std::{fs, io};
 
-/// The files of the system.
+/// The files of the system, and how many calls failed.
 #[derive(Drop)]
 pub(crate) struct HostFiles<'r, R> {
     rt: &'r R,
+    faults: u64,
 }
 
 impl<'r, R> HostFiles<'r, R> {
     pub(crate) fn new(rt: &'r R) -> HostFiles<'r, R> {
-        HostFiles { rt }
+        HostFiles { rt, faults: 0 }
     }
 }
 
@@ -38,28 +39,50 @@ fn make_executable<R: Files>(rt: &R, path: &str) -> io::Result<()> {
     Ok(())
 }
 
-impl<R: Files + AllocGlobal> Disk for HostFiles<'_, R> {
-    fn read(&mut self, path: &str) -> Result<Vec<u8>, FileFault> {
-        match fs::read(self.rt, path) {
-            Ok(bytes) => Ok(bytes),
-            Err(error) => Err(fault_of(&error)),
+fn read_file<R: Files + AllocGlobal>(rt: &R, path: &str) -> Result<Vec<u8>, FileFault> {
+    match fs::read(rt, path) {
+        Ok(bytes) => Ok(bytes),
+        Err(error) => Err(fault_of(&error)),
+    }
+}
+
+fn write_file<R: Files + AllocGlobal>(rt: &R, path: &str, bytes: &[u8]) -> Result<(), FileFault> {
+    match fs::create(rt, path) {
+        Ok(file) => {
+            let mut stream = Stream::new(file);
+            match write_exe(bytes, &mut stream) {
+                Ok(()) => {
+                    // The file is whole; on a file system that has no such permissions it can be executed or not as it is.
+                    let _ = make_executable(rt, path);
+                    Ok(())
+                }
+                Err(_) => Err(FileFault::Device),
+            }
         }
+        Err(error) => Err(fault_of(&error)),
+    }
+}
+
+impl<R: Files + AllocGlobal> Disk for HostFiles<'_, R> {
+    ghost use Rattle.std.specs.Prelude.{None};
+
+    ghost files = { λ s. None };
+
+    ghost faults = { λ s. s.faults };
+
+    fn read(&mut self, path: &str) -> Result<Vec<u8>, FileFault> {
+        let answer = read_file(self.rt, path);
+        if answer.is_err() {
+            self.faults = self.faults.saturating_add(1);
+        }
+        answer
     }
 
     fn write(&mut self, path: &str, bytes: &[u8]) -> Result<(), FileFault> {
-        match fs::create(self.rt, path) {
-            Ok(file) => {
-                let mut stream = Stream::new(file);
-                match write_exe(bytes, &mut stream) {
-                    Ok(()) => {
-                        // The file is whole; on a file system that has no such permissions it can be executed or not as it is.
-                        let _ = make_executable(self.rt, path);
-                        Ok(())
-                    }
-                    Err(_) => Err(FileFault::Device),
-                }
-            }
-            Err(error) => Err(fault_of(&error)),
+        let answer = write_file(self.rt, path, bytes);
+        if answer.is_err() {
+            self.faults = self.faults.saturating_add(1);
         }
+        answer
     }
 }

@@ -1,0 +1,29 @@
+-- What files hold, and how often a disk failed.
+use Rattle.std.specs.Prelude.{◌≡◌, ℕ, ◌+◌, nat_lt, if◌then◌else◌, List, Option, Some, None, Result, Ok, Err}
+use Rattle.shell.specs.declared.disk.FileFault.{FileFault}
+use Rattle.shell.specs.Sink.{most_faults}
+
+-- the bytes of the file at each path, where there is one
+abbrev pub Files : Type 0
+Files = List ℕ → Option (List ℕ)
+
+-- the file at this path has these bytes, where the disk tells what its files hold
+abbrev pub Holds : (told : Option Files) → (path bytes : List ℕ) → Type 0
+Holds None path bytes = Unit {0}
+Holds (Some files) path bytes = files path ≡ Some bytes
+
+-- no file changed but the one at this path, where the disk tells
+abbrev pub Spares : (old new : Option Files) → (path : List ℕ) → Type 0
+Spares None None path = Unit {0}
+Spares None (Some new) path = ⊥
+Spares (Some old) None path = ⊥
+Spares (Some old) (Some new) path = (other : List ℕ) → (other ≡ path → ⊥) → new other ≡ old other
+
+-- how many calls failed, after one more that did
+abbrev pub one_more : ℕ → ℕ
+one_more faults = if nat_lt faults most_faults then faults + 1 else faults
+
+-- how many calls failed, after this one
+abbrev pub counted : {X : Type 0} → ℕ → Result X FileFault → ℕ
+counted faults (Ok answer) = faults
+counted faults (Err fault) = one_more faults
