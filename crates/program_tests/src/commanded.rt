@@ -1,5 +1,5 @@
 //! The commands, over files and streams in memory.
-use crate::memory_disk::MemoryDisk;
+use crate::broken_disk::BrokenDisk;
 use commands::command::command;
 use regalloc::linear_scan::LinearScan;
 use shell::memory::MemorySink;
@@ -26,7 +26,7 @@ impl Done {
 /// Does what the words ask for, with these streams.
 pub fn perform_with(
     alloc: Global,
-    disk: &mut MemoryDisk,
+    disk: &mut BrokenDisk,
     words: &[&str],
     mut out: MemorySink,
     mut err: MemorySink,
@@ -45,7 +45,7 @@ pub fn perform_with(
 }
 
 /// Does what the words ask for, with streams that take everything.
-pub fn perform(alloc: Global, disk: &mut MemoryDisk, words: &[&str]) -> Result<Done, AllocError> {
+pub fn perform(alloc: Global, disk: &mut BrokenDisk, words: &[&str]) -> Result<Done, AllocError> {
     let out = MemorySink::new(alloc, 1 << 30, 0);
     let err = MemorySink::new(alloc, 1, 0);
     perform_with(alloc, disk, words, out, err)
@@ -54,7 +54,7 @@ pub fn perform(alloc: Global, disk: &mut MemoryDisk, words: &[&str]) -> Result<D
 /// The same for words between spaces.
 pub fn perform_words(
     alloc: Global,
-    disk: &mut MemoryDisk,
+    disk: &mut BrokenDisk,
     words: &str,
 ) -> Result<Done, AllocError> {
     let words: Vec<&str> = words.split(' ').collect(alloc)?;

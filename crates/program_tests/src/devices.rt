@@ -1,6 +1,6 @@
 //! Disks and streams that fail, and lines for want of memory.
+use crate::broken_disk::BrokenDisk;
 use crate::commanded::{perform_with, perform_words};
-use crate::memory_disk::MemoryDisk;
 use crate::report::Report;
 use commands::failure::Failure;
 use commands::refusal::Refusal;
@@ -36,8 +36,8 @@ const ON_MEMORY: [(&str, &str); 5] = [
 ];
 
 /// The files `halts` and `seven`, and `made`, an executable of the first.
-pub fn disk_of(alloc: Global) -> Result<MemoryDisk, AllocError> {
-    let mut disk = MemoryDisk::new(alloc);
+pub fn disk_of(alloc: Global) -> Result<BrokenDisk, AllocError> {
+    let mut disk = BrokenDisk::new(alloc);
     disk.store("halts", HALTS.as_bytes())?;
     disk.store("seven", SEVEN.as_bytes())?;
     let _ = perform_words(alloc, &mut disk, "build -o made halts")?;

@@ -1,10 +1,10 @@
 //! Executable files that are cut or changed: each is refused by its number.
 //!
 //! A line of `files.cases` is an offset, the bytes that are put there in hexadecimal, and the refusals that are true of the file then, with `|` between.
+use crate::broken_disk::BrokenDisk;
 use crate::case::{Case, slices};
 use crate::commanded::perform_words;
 use crate::compiled::{Compiled, compile_with};
-use crate::memory_disk::MemoryDisk;
 use crate::report::Report;
 use crate::table::bytes_of;
 use regalloc::spill_all::SpillAll;
@@ -14,7 +14,7 @@ use std::{fs, io, str};
 
 // The line of `verb` for a file of these bytes.
 fn line_for(alloc: Global, verb: &str, bytes: &[u8]) -> Result<String, AllocError> {
-    let mut disk = MemoryDisk::new(alloc);
+    let mut disk = BrokenDisk::new(alloc);
     disk.store("file", bytes)?;
     let words = format!(in alloc; "{verb} file")?;
     let said = perform_words(alloc, &mut disk, words.as_str())?;

@@ -6,6 +6,7 @@
 #![tactic(auto)]
 
 mod branches;
+mod broken_disk;
 mod case;
 mod commanded;
 mod compiled;
@@ -16,7 +17,6 @@ mod interpreted;
 mod lines;
 mod made;
 mod measures;
-mod memory_disk;
 mod prefixes;
 mod programs;
 mod random;

@@ -1,9 +1,9 @@
 //! A program of the table, in every way.
+use crate::broken_disk::BrokenDisk;
 use crate::case::{Case, slices, words_as_bytes};
 use crate::commanded::{Done, perform, perform_words};
 use crate::compiled::{Compiled, compile_with, ran};
 use crate::interpreted::{interpreted, measured};
-use crate::memory_disk::MemoryDisk;
 use crate::report::Report;
 use crate::told::Told;
 use crate::watched::Watched;
@@ -183,7 +183,7 @@ fn check_done(case: &Case, what: &str, done: &Done, report: &mut Report) -> Resu
 
 fn check_commands(case: &Case, report: &mut Report) -> Result<(), AllocError> {
     let alloc = report.alloc;
-    let mut disk = MemoryDisk::new(alloc);
+    let mut disk = BrokenDisk::new(alloc);
     let mut build = String::from_str(alloc, "build -o out")?;
     for (k, text) in case.texts.iter().enumerate() {
         let path = format!(in alloc; "text{k}")?;
@@ -210,7 +210,7 @@ fn check_commands(case: &Case, report: &mut Report) -> Result<(), AllocError> {
 // `interp` or `run` of a file, with the case's words.
 fn run_words<'x>(
     case: &'x Case,
-    disk: &mut MemoryDisk,
+    disk: &mut BrokenDisk,
     verb: &'x str,
     limit: u64,
     path: &'x str,
@@ -228,7 +228,7 @@ fn run_words<'x>(
 // The additions of a long loop stand in the code, and in no table that it builds on the stack.
 fn check_additions(
     case: &Case,
-    disk: &mut MemoryDisk,
+    disk: &mut BrokenDisk,
     report: &mut Report,
 ) -> Result<(), AllocError> {
     if case.additions == 0 {
@@ -247,7 +247,7 @@ fn check_additions(
 
 fn check_build(
     case: &Case,
-    disk: &mut MemoryDisk,
+    disk: &mut BrokenDisk,
     build: &str,
     report: &mut Report,
 ) -> Result<(), AllocError> {

@@ -1,3 +1,4 @@
 pub mod Sink
 pub mod Disk
+pub mod MemoryDisk
 pub mod Lines

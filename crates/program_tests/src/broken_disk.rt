@@ -1,0 +1,64 @@
+//! Files in memory, of which one is broken.
+use shell::disk::{Disk, FileFault};
+use shell::memory_disk::MemoryDisk;
+use std::alloc::{AllocError, Global};
+
+/// Files in memory. The path `broken` meets `fault`.
+#[derive(Drop)]
+pub struct BrokenDisk {
+    files: MemoryDisk,
+    pub fault: FileFault,
+    faults: u64,
+}
+
+impl BrokenDisk {
+    pub fn new(alloc: Global) -> BrokenDisk {
+        BrokenDisk {
+            files: MemoryDisk::new(alloc),
+            fault: FileFault::Device,
+            faults: 0,
+        }
+    }
+
+    /// Keeps a file of these bytes.
+    pub fn store(&mut self, path: &str, bytes: &[u8]) -> Result<(), AllocError> {
+        self.files.store(path, bytes)
+    }
+
+    /// The bytes of the file at the path.
+    pub fn find(&self, path: &str) -> Option<&[u8]> {
+        self.files.find(path)
+    }
+}
+
+impl Disk for BrokenDisk {
+    ghost use Rattle.std.specs.Prelude.{None};
+
+    ghost files = { λ s. None };
+
+    ghost faults = { λ s. s.faults };
+
+    fn read(&mut self, path: &str) -> Result<Vec<u8>, FileFault> {
+        let answer = if path == "broken" {
+            Err(self.fault)
+        } else {
+            self.files.read(path)
+        };
+        if answer.is_err() {
+            self.faults = self.faults.saturating_add(1);
+        }
+        answer
+    }
+
+    fn write(&mut self, path: &str, bytes: &[u8]) -> Result<(), FileFault> {
+        let answer = if path == "broken" {
+            Err(self.fault)
+        } else {
+            self.files.write(path, bytes)
+        };
+        if answer.is_err() {
+            self.faults = self.faults.saturating_add(1);
+        }
+        answer
+    }
+}
