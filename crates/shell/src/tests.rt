@@ -1,6 +1,8 @@
 //! Sinks that take little, and the lines of small files.
 use crate::dis_lines::dis_lines;
+use crate::disk::Disk;
 use crate::memory::MemorySink;
+use crate::memory_disk::MemoryDisk;
 use crate::message::Message;
 use crate::write_exe::{WriteFault, write_exe};
 use elf_file::read_image;
@@ -93,5 +95,18 @@ fn lines_of_code(rt: HostRuntime) -> Result<(), Fail> {
     );
     assert_eq!(rt; shown(rt.alloc(), 1, b"\x13", 4)?.as_str(), "");
     assert_eq!(rt; shown(rt.alloc(), 1, b"\x13", 3)?.as_str(), "L5");
+    Ok(())
+}
+
+#[test]
+fn files_in_memory_hold_what_was_written_last(rt: HostRuntime) -> Result<(), Fail> {
+    let mut disk = MemoryDisk::new(rt.alloc());
+    assert!(rt; disk.read("text").is_err());
+    assert!(rt; disk.write("text", b"first").is_ok());
+    assert!(rt; disk.write("other", b"second").is_ok());
+    assert!(rt; disk.write("text", b"third").is_ok());
+    assert_eq!(rt; disk.find("text"), Some(b"third".as_slice()));
+    assert_eq!(rt; disk.find("other"), Some(b"second".as_slice()));
+    assert_eq!(rt; disk.faults, 1);
     Ok(())
 }
