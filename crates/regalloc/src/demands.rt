@@ -2,6 +2,7 @@
 ghost use Rattle.std.specs.Prelude.{◌≤◌};
 
 use crate::accesses::{Access, Accesses, Kind, sorted};
+use loops::depths::frequency;
 use std::alloc::{AllocError, Global};
 use vcode::code::{Block, Code};
 use vcode::line::{Jump, Line};
@@ -89,18 +90,6 @@ struct Counting {
     copies: Vec<Copying>,
     calls: Vec<usize>,
     accesses: Vec<Access>,
-}
-
-/// How often a block is run that lies in so many loops, if each goes round ten times.
-pub(crate) fn frequency(depth: u32) -> u64 {
-    match depth {
-        0 => 1,
-        1 => 10,
-        2 => 100,
-        3 => 1000,
-        4 => 10000,
-        _ => 100000,
-    }
 }
 
 fn push_access(

@@ -5,8 +5,8 @@
 //! says that a certificate names places that there are (`specs/Scanned`); that no two registers meet in a place, and that moves are right, is for the checker to
 //! see, which stands on `certificates` and knows nothing of this crate.
 //!
-//! `text` has the blocks, `lifetimes` says where registers have values, `accesses` where they are read and written, `loops` how deep in loops blocks lie,
-//! `demands` what registers are used for. `groups` joins registers that are copied to one another; `candidates` puts groups in order, `rooms` has the registers of
+//! `text` has the blocks, `lifetimes` says where registers have values, `accesses` where they are read and written, `demands` what registers are used for, by
+//! how deep in loops (the crate `loops`) that is. `groups` joins registers that are copied to one another; `candidates` puts groups in order, `rooms` has the registers of
 //! the machine, and `slots` shares slots. `nodes` has the parts of a lifetime, `regions` what parts go together and save, `credit` which moves are paid for;
 //! `cutting` decides, `cuts` says what that comes to at each point, and `written` writes the certificate.
 //!
@@ -22,7 +22,6 @@ mod demands;
 mod groups;
 mod lifetimes;
 pub mod linear_scan;
-mod loops;
 mod nodes;
 mod positions;
 mod regions;

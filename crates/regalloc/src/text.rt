@@ -1,7 +1,6 @@
 //! The blocks of a function: where they stand in its text, how often they run, and which lead to which.
-use crate::demands::frequency;
 use crate::lifetimes::jump_point;
-use crate::loops::{sources, target};
+use loops::depths::{frequency, sources, target};
 use std::alloc::{AllocError, Global};
 use vcode::code::Block;
 

@@ -1,4 +1,7 @@
 //! In how many loops each block lies.
+ghost use Rattle.std.specs.Prelude.{◌≡◌, ◌<◌, ◌≤◌, slice_get};
+ghost use Rattle.loops.specs.Targets.{targets};
+
 use std::alloc::{AllocError, Global};
 use vcode::code::Block;
 use vcode::line::Jump;
@@ -34,8 +37,10 @@ struct Search {
     back: Vec<Edge>,
 }
 
-/// The k-th block that the jump may lead to.
-pub(crate) fn target(jump: &Jump<u32>, k: usize) -> Option<usize> {
+/// The k-th block that the jump may lead to, from 0.
+pub fn target(jump: &Jump<u32>, k: usize) -> Option<usize>
+    ensures { result ≡ slice_get (targets jump.now) k }
+{
     match (jump, k) {
         (Jump::Goto(block), 0) => Some(*block),
         (Jump::Branch { met, .. }, 0) => Some(*met),
@@ -139,7 +144,7 @@ fn push_targets(edges: &mut [Vec<usize>], blocks: &[Block<u32>]) -> Result<(), A
 /// # Errors
 ///
 /// Only where memory was refused.
-pub(crate) fn sources(alloc: Global, blocks: &[Block<u32>]) -> Result<Vec<Vec<usize>>, AllocError> {
+pub fn sources(alloc: Global, blocks: &[Block<u32>]) -> Result<Vec<Vec<usize>>, AllocError> {
     let mut edges = Vec::new(alloc);
     for _ in 0..blocks.len() {
         edges.push(Vec::new(alloc))?;
@@ -217,7 +222,7 @@ const STEPS_A_BLOCK: usize = 64;
 /// # Errors
 ///
 /// Only where memory was refused.
-pub(crate) fn depths(alloc: Global, blocks: &[Block<u32>]) -> Result<Vec<u32>, AllocError> {
+pub fn depths(alloc: Global, blocks: &[Block<u32>]) -> Result<Vec<u32>, AllocError> {
     let mut nests = Vec::new(alloc);
     nests.resize(
         blocks.len(),
@@ -236,4 +241,19 @@ pub(crate) fn depths(alloc: Global, blocks: &[Block<u32>]) -> Result<Vec<u32>, A
         depths.push(nest.depth)?;
     }
     Ok(depths)
+}
+
+/// How often a block is run that lies in so many loops, if each goes round ten times.
+pub fn frequency(depth: u32) -> u64
+    ensures some { 0 < result }
+    ensures few { result ≤ 100000 }
+{
+    match depth {
+        0 => 1,
+        1 => 10,
+        2 => 100,
+        3 => 1000,
+        4 => 10000,
+        _ => 100000,
+    }
 }
