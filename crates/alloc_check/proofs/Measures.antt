@@ -1,6 +1,6 @@
 -- Location code that a certificate makes, and code with every register in a slot, keeps the virtual code: it has the same parameters and result, weighs and takes the
 -- same, and runs alike.
-use Rattle.std.proofs.Common.{◌≡◌, ℕ, ◌+◌, ◌-◌, Bool, true, false, ◌&&◌, List, [], ◌∷◌, ◌++◌, map, refl, ◌∙◌, ap, arith}
+use Rattle.std.proofs.Common.{◌≡◌, ℕ, ◌+◌, ◌-◌, ◌≤◌, Bool, true, false, ◌&&◌, List, [], ◌∷◌, ◌++◌, map, refl, ◌∙◌, ap, arith}
 use Rattle.std.specs.Prelude.{max}
 use Rattle.std.specs.List.{sum_by}
 use Rattle.il_ast.specs.declared.operation.Class.{Class}
@@ -114,4 +114,18 @@ in_slots_keeps v n =
       outgoing = omega (arith, passed);
       places = omega arith;
       runs = slots_keep v;
+    }
+
+-- ---- fewer slots
+
+pub fewer_slots : (v : Code ℕ) (l : Code Location) (n m : ℕ) → m ≤ n → Keeps (coded virtual v n) (coded located l n) → Keeps (coded virtual v n) (coded located l m)
+fewer_slots v l n m few is =
+    record {
+      params = is.params;
+      result = is.result;
+      weight = is.weight;
+      area = is.area;
+      outgoing = is.outgoing;
+      places = few;
+      runs = is.runs;
     }

@@ -1,15 +1,17 @@
 //! Which certificates are taken for code.
-ghost use Rattle.std.specs.Prelude.{◌≡◌, ◌<◌, ◌^◌, ◌&&◌, true, false, IfOk, IfErr};
+ghost use Rattle.std.specs.Prelude.{◌≡◌, ◌≤◌, ◌<◌, ◌-◌, ◌^◌, ◌&&◌, true, false, IfOk, IfErr};
 ghost use Rattle.alloc_check.specs.declared.accept.Refused.TheVariants.{No};
 ghost use Rattle.alloc_check.specs.Certified.{placed_by};
 ghost use Rattle.alloc_check.specs.Accepted.{end_point, is_whole, is_accepted};
 ghost use Rattle.il_ast.specs.Passes.{Keeps};
 ghost use Rattle.vcode.specs.Coded.{virtual_code, location_code};
+ghost use Rattle.vcode.specs.Named.{keeps_places, is_place};
 ghost use Rattle.alloc_check.specs.Walk.{sound_in};
 
 use crate::certified::certified;
 use crate::check::is_sound;
 use crate::fits::is_placed;
+use crate::frame_slots::fewest_slots;
 use crate::whole::is_whole;
 use certificates::certificate::Certificate;
 use std::alloc::{AllocError, Global};
@@ -47,8 +49,8 @@ fn is_right(alloc: Global, function: &VFunc, certificate: &Certificate) -> Resul
     Ok(right)
 }
 
-/// The function with the places and the moves of a certificate, if that is accepted. It has as many slots as the function has registers, and goes as the
-/// virtual code does.
+/// The function with the places and the moves of a certificate, if that is accepted. It has the fewest slots that its places ask for, at most as many as the
+/// function has registers, and goes as the virtual code does.
 ///
 /// # Errors
 ///
@@ -57,7 +59,8 @@ fn is_right(alloc: Global, function: &VFunc, certificate: &Certificate) -> Resul
 /// was refused.
 pub fn accept(alloc: Global, function: &VFunc, certificate: &Certificate) -> Result<LFunc, Refused>
     ensures code { IfOk result (λ l. l.code ≡ placed_by function.now.code certificate.now) }
-    ensures slots { IfOk result (λ l. l.slots ≡ function.now.registers) }
+    ensures slots { IfOk result (λ l. l.slots ≤ function.now.registers) }
+    ensures fewest { IfOk result (λ l. 0 < l.slots → keeps_places (is_place (l.slots - 1)) l.code ≡ false) }
     ensures kept { IfOk result (λ l. Keeps (virtual_code function.now) (location_code l)) }
     ensures yes { IfOk result (λ l. is_accepted function.now certificate.now ≡ true) }
     ensures no { IfErr result (λ e. e ≡ No → is_accepted function.now certificate.now ≡ false) }
@@ -70,8 +73,6 @@ pub fn accept(alloc: Global, function: &VFunc, certificate: &Certificate) -> Res
     if !is_placed(function.registers, &code) {
         return Err(Refused::No);
     }
-    Ok(LFunc {
-        code,
-        slots: function.registers,
-    })
+    let slots = fewest_slots(function.registers, &code);
+    Ok(LFunc { code, slots })
 }

@@ -118,7 +118,8 @@ fn params(slots: u32, params: &[Destination<Location>]) -> bool
     params.iter().all(|param| is_place(slots, param.place))
 }
 
-fn names_places(slots: u32, code: &Code<Location>) -> bool
+/// Whether all places that the code names exist, with so many slots.
+pub(crate) fn names_places(slots: u32, code: &Code<Location>) -> bool
     ensures { result ≡ keeps_places (is_place slots) code.now }
 {
     params(slots, code.params.as_slice()) && blocks(slots, code.blocks.as_slice())

@@ -25,6 +25,7 @@ mod accept_tests;
 mod certified;
 mod check;
 mod fits;
+mod frame_slots;
 pub mod laws;
 pub mod placing;
 mod points;

@@ -1,4 +1,4 @@
-use Rattle.std.proofs.Common.{◌≡◌, true, sym, ◌∙◌, ap, subst}
+use Rattle.std.proofs.Common.{◌≡◌, true, sym, ◌∙◌, ap, subst, arith}
 use Rattle.std.specs.Prelude.{IsTrue, nat_le}
 use Rattle.il_ast.specs.Passes.{Keeps}
 use Rattle.vcode.specs.declared.place.Location.{Location}
@@ -11,7 +11,7 @@ use Rattle.alloc_check.specs.Certified.{placed_by}
 use Rattle.alloc_check.specs.Accepted.{is_placed, is_accepted}
 use Rattle.alloc_check.proofs.Accepts.{parts, refused, accepted, accepted_sound}
 use Rattle.alloc_check.proofs.Certifies.{to_true, certified_regular, weighs_same}
-use Rattle.alloc_check.proofs.Measures.{certified_keeps}
+use Rattle.alloc_check.proofs.Measures.{certified_keeps, fewer_slots}
 use Rattle.alloc_check.proofs.accept.accept.Goals as goal
 
 pub returns-then-not-right-clause-no : goal.returns-then-not-right-clause-no
@@ -28,10 +28,10 @@ invariant_of-result c =
     let placed : is_placed v.registers (placed_by v.code d) ≡ true = ap (is_placed v.registers) e ∙ sym c.is_placed.ensures ∙ c.if-not-is_placed.false in
     let p = parts v.registers (placed_by v.code d) placed in
     record {
-      few = v.few;
+      few = (let most = v.few in let fewer = c.fewest_slots-slots.ensures.few in omega (arith, most, fewer));
       regular = subst (λ (l : Code Location). IsRegular l) e (certified_regular v.code d v.regular p.paid);
       light = subst (λ n. IsTrue (nat_le n 40000)) (sym (ap (λ (l : Code Location). code_weight l) c.in_ok-code.ensures ∙ weighs_same v.code d)) v.light;
-      known = subst (λ (l : Code Location). IsTrue (keeps_places (is_place v.registers) l)) e (to_true (keeps_places (is_place v.registers) (placed_by v.code d)) p.places);
+      known = to_true (keeps_places (is_place c.fewest_slots-slots.result) c.in_ok-code.code) c.fewest_slots-slots.ensures.enough;
       near = subst (λ (l : Code Location). IsTrue (are_near l.params)) e (to_true (are_near (placed_by v.code d).params) p.near);
       apart = subst (λ (l : Code Location). IsTrue (are_distinct located l.params)) e (to_true (are_distinct located (placed_by v.code d).params) p.apart);
     }
@@ -48,5 +48,6 @@ returns-clause-kept c =
     let d = c.args.certificate.now in
     let yes_it_is : is_accepted v d ≡ true =
     accepted v d (sym c.in_ok-right.ensures.right ∙ c.if-not-right.false) (ap (is_placed v.registers) (sym c.in_ok-code.ensures) ∙ sym c.is_placed.ensures ∙ c.if-not-is_placed.false) in
-    subst (λ (l : Code Location). Keeps (virtual_code v) (coded located l v.registers)) (sym c.in_ok-code.ensures)
-    (certified_keeps v.code d v.registers (accepted_sound v d yes_it_is))
+    fewer_slots v.code c.in_ok-code.code v.registers c.fewest_slots-slots.result c.fewest_slots-slots.ensures.few
+    (subst (λ (l : Code Location). Keeps (virtual_code v) (coded located l v.registers)) (sym c.in_ok-code.ensures)
+    (certified_keeps v.code d v.registers (accepted_sound v d yes_it_is)))
