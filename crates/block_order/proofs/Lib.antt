@@ -1,0 +1,4 @@
+pub mod Placing
+pub mod Running
+pub mod Summing
+pub mod Keeping
