@@ -47,13 +47,13 @@ none_below k h = grind (arith, nat_tests)
 one_less : (k n : ℕ) → nat_lt (suc k) (suc n) ≡ true → nat_lt k n ≡ true
 one_less k n h = one_more_below k n ∙ h
 
-passes_at : (test : Block ℕ → Bool) (blocks : List (Block ℕ)) (k : ℕ) → list_all test blocks ≡ true → nat_lt k (length blocks) ≡ true → test (block_at blocks k) ≡ true
+pub passes_at : (test : Block ℕ → Bool) (blocks : List (Block ℕ)) (k : ℕ) → list_all test blocks ≡ true → nat_lt k (length blocks) ≡ true → test (block_at blocks k) ≡ true
 passes_at test [] k all low = absurd (none_below k low)
 passes_at test (b ∷ blocks) zero all low = (both_true (test b) (list_all test blocks) all).0
 passes_at test (b ∷ blocks) (suc k) all low =
     passes_at test blocks k (both_true (test b) (list_all test blocks) all).1 (one_less k (length blocks) low)
 
-all_from : (p q : ℕ → Bool) → ((k : ℕ) → p k ≡ true → q k ≡ true) → (order : Order) → list_all p order ≡ true → list_all q order ≡ true
+pub all_from : (p q : ℕ → Bool) → ((k : ℕ) → p k ≡ true → q k ≡ true) → (order : Order) → list_all p order ≡ true → list_all q order ≡ true
 all_from p q gives [] h = refl
 all_from p q gives (k ∷ order) h =
     let s = both_true (p k) (list_all p order) h in both_are (q k) (list_all q order) (gives k s.0) (all_from p q gives order s.1)

@@ -2,3 +2,4 @@ pub mod Placing
 pub mod Running
 pub mod Summing
 pub mod Keeping
+pub mod Standing

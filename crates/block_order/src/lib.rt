@@ -13,5 +13,6 @@
 #![tactic(auto)]
 
 mod blocks;
+mod chains;
 pub mod order;
 mod places;

@@ -1,12 +1,13 @@
 //! Functions with their blocks in another order.
-ghost use Rattle.std.specs.Prelude.{◌≡◌, ◌&&◌, ℕ, true, false, length, IfOk, IfSome, MatchOption, IsTrue};
-ghost use Rattle.std.specs.List.{list_all};
+ghost use Rattle.std.specs.Prelude.{◌≡◌, true, false, IfOk, IfSome, MatchOption, IsTrue};
+ghost use Rattle.std.specs.List.{range_with_len};
 ghost use Rattle.il_ast.specs.Passes.{Keeps};
 ghost use Rattle.vcode.specs.Coded.{virtual_code};
 ghost use Rattle.block_order.specs.Ordered.{in_order, is_order, IsOrdered};
 ghost use Rattle.block_order.specs.Placed.{ArePlaces};
 
 use crate::blocks::blocks_in_order;
+use crate::chains::chained;
 use crate::places::{begins, is_closed, places};
 use std::alloc::{AllocError, Global};
 use vcode::code::Code;
@@ -82,5 +83,45 @@ pub fn in_order(
     match places_in_order(alloc, function, order)? {
         Some(places) => Ok(Some(ordered(alloc, function, order, places.as_slice())?)),
         None => Ok(None),
+    }
+}
+
+// The numbers below the limit.
+fn numbers(alloc: Global, limit: usize) -> Result<Vec<usize>, AllocError>
+    ensures { IfOk result (λ v. v.items ≡ range_with_len 0 limit) }
+{
+    let mut numbers = Vec::with_capacity(alloc, limit)?;
+    for number in 0..limit {
+        numbers.push(number)?;
+    }
+    Ok(numbers)
+}
+
+// The function with all its blocks in the order in which they stand.
+fn as_they_stand(alloc: Global, function: &VFunc) -> Result<VFunc, AllocError>
+    ensures kept { IfOk result (λ w. Keeps (virtual_code function.now) (virtual_code w)) }
+    ensures ordered { IfOk result (λ w. IsOrdered function.now w) }
+{
+    let order = numbers(alloc, function.code.blocks.len())?;
+    match in_order(alloc, function, order.as_slice())? {
+        Some(made) => Ok(made),
+        None => unreachable!(),
+    }
+}
+
+/// The function with its blocks in an order in which fewer jumps are taken, by a guess at what runs often, and without those to which nothing leads. It takes time
+/// and memory as the text is long, and as finding the depths of loops does.
+///
+/// # Errors
+///
+/// Only where memory was refused.
+pub fn order_blocks(alloc: Global, function: &VFunc) -> Result<VFunc, AllocError>
+    ensures kept { IfOk result (λ w. Keeps (virtual_code function.now) (virtual_code w)) }
+    ensures ordered { IfOk result (λ w. IsOrdered function.now w) }
+{
+    let order = chained(alloc, function.code.blocks.as_slice())?;
+    match in_order(alloc, function, order.as_slice())? {
+        Some(made) => Ok(made),
+        None => as_they_stand(alloc, function),
     }
 }
