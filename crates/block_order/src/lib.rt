@@ -16,3 +16,5 @@ mod blocks;
 mod chains;
 pub mod order;
 mod places;
+#[cfg(test)]
+mod tests;
