@@ -1,0 +1,5 @@
+pub mod Placing
+pub mod Running
+pub mod Summing
+pub mod Keeping
+pub mod Standing

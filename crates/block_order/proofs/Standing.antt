@@ -1,0 +1,77 @@
+-- The blocks as they stand are in an order.
+use Rattle.std.proofs.Common.{◌≡◌, ℕ, zero, suc, ◌+◌, ◌<◌, ◌≤◌, Bool, true, false, not, ◌&&◌, ◌||◌, nat_eq, nat_lt, [], ◌∷◌, ◌++◌, length, refl, ap, ◌∙◌, arith}
+use Rattle.std.specs.List.{list_all, range_with_len}
+use Rattle.std.proofs.lemmas.Bool.Decides.{nat_tests}
+use Rattle.vcode.specs.declared.line.Jump.{Jump}
+use Rattle.vcode.specs.declared.line.Jump.TheVariants.{Goto, Branch, Return, Halt}
+use Rattle.vcode.specs.declared.code.Block.{Block}
+use Rattle.vcode.specs.declared.code.Code.{Code}
+use Rattle.vcode.specs.Regular.{is_target, leads_inside}
+use Rattle.block_order.specs.Ordered.{is_named, block_at, begins, names_once, leads_within, is_order}
+use Rattle.block_order.proofs.Placing.{both_true, both_are, is_below, below_is}
+use Rattle.block_order.proofs.Keeping.{passes_at, all_from}
+
+past : (a k : ℕ) → a ≤ k → nat_eq a k ≡ false → a + 1 ≤ k
+past a k low e = grind (arith, nat_tests)
+
+not_same : (a k : ℕ) → k < a → nat_eq a k ≡ false
+not_same a k h = grind (arith, nat_tests)
+
+named_within : (n a k : ℕ) → a ≤ k → k < a + n → is_named (range_with_len a n) k ≡ true
+named_within zero a k low high = absurd (omega arith)
+named_within (suc n) a k low high = by (nat_eq a k) refl (λ more. named_within n (a + 1) k more (omega arith))
+  where
+    by : (b : Bool) → nat_eq a k ≡ b → (a + 1 ≤ k → is_named (range_with_len (a + 1) n) k ≡ true) → (b || is_named (range_with_len (a + 1) n) k) ≡ true
+    by true e rest = refl
+    by false e rest = rest (past a k low e)
+
+unnamed_before : (n a k : ℕ) → k < a → is_named (range_with_len a n) k ≡ false
+unnamed_before zero a k low = refl
+unnamed_before (suc n) a k low =
+    ap (λ b. b || is_named (range_with_len (a + 1) n) k) (not_same a k low) ∙ unnamed_before n (a + 1) k (omega arith)
+
+once : (n a : ℕ) → names_once (range_with_len a n) ≡ true
+once zero a = refl
+once (suc n) a =
+    both_are (not (is_named (range_with_len (a + 1) n) a)) (names_once (range_with_len (a + 1) n)) (ap not (unnamed_before n (a + 1) a (omega arith))) (once n (a + 1))
+
+there : (m n a : ℕ) → a + n ≤ m → list_all (λ k. nat_lt k m) (range_with_len a n) ≡ true
+there m zero a h = refl
+there m (suc n) a h =
+    both_are (nat_lt a m) (list_all (λ k. nat_lt k m) (range_with_len (a + 1) n)) (below_is a m (omega arith)) (there m n (a + 1) (omega arith))
+
+first : (n : ℕ) → begins n (range_with_len 0 n) ≡ true
+first zero = refl
+first (suc n) = refl
+
+target_named : (n k : ℕ) → is_target n k ≡ true → is_named (range_with_len 0 n) k ≡ true
+target_named n k h =
+    let low = is_below k n (both_true (nat_lt 0 k) (nat_lt k n) h).1 in named_within n 0 k (omega arith) (omega arith)
+
+jump_named : (n : ℕ) (j : Jump ℕ) → leads_inside n j ≡ true → leads_within (range_with_len 0 n) j ≡ true
+jump_named n (Goto k) h = target_named n k h
+jump_named n (Branch on met otherwise) h =
+    let s = both_true (is_target n met) (is_target n otherwise) h in
+    both_are (is_named (range_with_len 0 n) met) (is_named (range_with_len 0 n) otherwise) (target_named n met s.0) (target_named n otherwise s.1)
+jump_named n (Return a) h = refl
+jump_named n Halt h = refl
+
+pub as_they_stand : (f : Code ℕ) → list_all (λ (b : Block ℕ). leads_inside (length f.blocks) b.jump) f.blocks ≡ true → is_order (range_with_len 0 (length f.blocks)) f ≡ true
+as_they_stand f inside =
+    let n = length f.blocks in
+    let order = range_with_len 0 n in
+    let all = there n n 0 (omega arith) in
+    both_are (begins n order) ((names_once order && list_all (λ k. nat_lt k n) order) && list_all (λ k. leads_within order (block_at f.blocks k).jump) order) (first n)
+    (both_are (names_once order && list_all (λ k. nat_lt k n) order) (list_all (λ k. leads_within order (block_at f.blocks k).jump) order)
+    (both_are (names_once order) (list_all (λ k. nat_lt k n) order) (once n 0) all)
+    (all_from (λ k. nat_lt k n) (λ k. leads_within order (block_at f.blocks k).jump)
+    (λ k low. jump_named n (block_at f.blocks k).jump (passes_at (λ (b : Block ℕ). leads_inside n b.jump) f.blocks k inside low)) order all))
+
+-- ---- numbers from one on
+
+range_suc : (n a j : ℕ) → a + n ≡ j → range_with_len a (suc n) ≡ range_with_len a n ++ j ∷ []
+range_suc zero a j e = ap (λ k. k ∷ []) (let same : a ≡ j = omega arith in same)
+range_suc (suc n) a j e = ap (λ xs. a ∷ xs) (range_suc n (a + 1) j (omega arith))
+
+pub range_more : (n : ℕ) → range_with_len 0 (n + 1) ≡ range_with_len 0 n ++ n ∷ []
+range_more n = ap (range_with_len 0) (let same : n + 1 ≡ suc n = omega arith in same) ∙ range_suc n 0 n (omega arith)
