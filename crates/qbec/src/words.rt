@@ -11,6 +11,7 @@ use abi_frames::frame::frame;
 use alloc_check::accept::{Refused, accept};
 use alloc_check::spill_all::spill_all;
 use asm_layout::layout::layout;
+use block_order::order::order_blocks;
 use certificates::certificate::Certificate;
 use certificates::strategy::Strategy;
 use cfg_live::live::live;
@@ -60,8 +61,8 @@ pub fn allocated(
     }
 }
 
-/// The function in virtual code: selected, with extensions of whole words as copies, with what is known of registers carried forward, and without dead lines. A
-/// pass on virtual code has its place here.
+/// The function in virtual code: selected, with extensions of whole words as copies, with what is known of registers carried forward, without dead lines,
+/// and with its blocks in an order that saves jumps. A pass on virtual code has its place here.
 ///
 /// # Errors
 ///
@@ -75,7 +76,8 @@ pub fn virtual_code_of(alloc: Global, func: &Func) -> Result<VFunc, AllocError>
     let copied = copy_whole_words(alloc, &selected)?;
     let forwarded = forward(alloc, &copied)?;
     let kept = remove_dead_lines(alloc, &forwarded)?;
-    Ok(kept)
+    let ordered = order_blocks(alloc, &kept)?;
+    Ok(ordered)
 }
 
 /// The function in location code, to be read on bytes, as the strategy has it.

@@ -12,5 +12,6 @@ returns c =
     let u = virtual_code c.in_ok-copied.copied in
     let w = virtual_code c.in_ok-forwarded.forwarded in
     let first = subst (λ (f : Func). IsCodeOf f v) c.in_ok-lowered.ensures.same c.in_ok-selected.ensures.is in
-    passes_stay f w (virtual_code c.in_ok-kept.kept) (passes_stay f u w (passes_stay f v u first c.in_ok-copied.ensures.kept) c.in_ok-forwarded.ensures.kept)
-    c.in_ok-kept.ensures.kept
+    let x = virtual_code c.in_ok-kept.kept in
+    let last = passes_stay f w x (passes_stay f u w (passes_stay f v u first c.in_ok-copied.ensures.kept) c.in_ok-forwarded.ensures.kept) c.in_ok-kept.ensures.kept in
+    passes_stay f x (virtual_code c.in_ok-ordered.ordered) last c.in_ok-ordered.ensures.kept
