@@ -210,7 +210,7 @@ fn moving(from: Location, to: Location) -> Transfer {
 fn registers_that_calls_keep_are_accepted(rt: HostRuntime) -> Result<(), Fail> {
     match answer(rt.alloc(), kept(), &[], &[])? {
         Ok(made) => {
-            assert_eq!(rt; made.slots, 3);
+            assert_eq!(rt; made.slots, 0);
             assert_eq!(rt; param_of(&made.code), Some(Location::Register(9)));
             assert_eq!(rt; lines_of(&made.code).len(), 3);
             assert!(rt;
