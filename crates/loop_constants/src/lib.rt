@@ -1,0 +1,7 @@
+//! # Constants of loops in registers
+#![tactic(auto)]
+
+pub mod hold;
+pub mod plan;
+mod replace;
+mod right;
