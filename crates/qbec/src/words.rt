@@ -19,6 +19,7 @@ use dead_lines::remove::remove_dead_lines;
 use flat_code::function::{FlatFunc, flat};
 use forwarding::forward::forward;
 use il_ast::function::Func;
+use loop_constants::hold::hold_constants;
 use phi_copies::lower::lower;
 use promote::promote::promote;
 use rv_isa::code::Code;
@@ -62,7 +63,7 @@ pub fn allocated(
 }
 
 /// The function in virtual code: selected, with extensions of whole words as copies, with what is known of registers carried forward, without dead lines,
-/// and with its blocks in an order that saves jumps. A pass on virtual code has its place here.
+/// with constants of loops in registers, and with its blocks in an order that saves jumps. A pass on virtual code has its place here.
 ///
 /// # Errors
 ///
@@ -76,7 +77,8 @@ pub fn virtual_code_of(alloc: Global, func: &Func) -> Result<VFunc, AllocError>
     let copied = copy_whole_words(alloc, &selected)?;
     let forwarded = forward(alloc, &copied)?;
     let kept = remove_dead_lines(alloc, &forwarded)?;
-    let ordered = order_blocks(alloc, &kept)?;
+    let held = hold_constants(alloc, &kept)?;
+    let ordered = order_blocks(alloc, &held)?;
     Ok(ordered)
 }
 

@@ -2,7 +2,7 @@
 use crate::accesses::{Access, Kind, part};
 use crate::nodes::{Node, Nodes};
 use crate::positions::{Range, right_after, right_before};
-use crate::text::Text;
+use crate::text::{Stretch, Text};
 use cfg_live::sets::Live;
 use std::alloc::{AllocError, Global};
 
@@ -356,7 +356,7 @@ fn exit_of(view: View, nodes: &Nodes, leader: usize, from: usize, to: Option<usi
         Exit::Gone
     } else if is_met(view, nodes, leader, block) {
         Exit::Met
-    } else if view.text.often(block) < view.text.often(from)
+    } else if view.text.often(block) <= view.text.often(from)
         && is_left_for(view, nodes, leader, block)
     {
         Exit::Landing
@@ -365,13 +365,44 @@ fn exit_of(view: View, nodes: &Nodes, leader: usize, from: usize, to: Option<usi
     }
 }
 
-/// How the value leaves the part's block, where that leads to.
+// Whether some way on needs no slot.
+fn spares_one(exits: [Exit; 2], stretch: Stretch) -> bool {
+    let next = exits[0] == Exit::Gone || exits[0] == Exit::Met;
+    let other = exits[1] == Exit::Gone || exits[1] == Exit::Met;
+    next || (other && stretch.other.is_some())
+}
+
+// A block that runs as often is no place to save the value.
+fn before(view: View, exit: Exit, from: usize, to: Option<usize>) -> Exit {
+    match (exit, to) {
+        (Exit::Landing, Some(block)) => {
+            if view.text.often(block) < view.text.often(from) {
+                Exit::Landing
+            } else {
+                Exit::Slot
+            }
+        }
+        _ => exit,
+    }
+}
+
+/// How the value leaves the part's block, where that leads to. Where it would be saved on every way on, it is saved once before them, but for ways that are
+/// taken less often.
 pub(crate) fn exits(view: View, nodes: &Nodes, leader: usize, node: &Node) -> [Exit; 2] {
     match view.text.stretch(node.block) {
-        Some(stretch) if node.leaves => [
-            exit_of(view, nodes, leader, node.block, stretch.next),
-            exit_of(view, nodes, leader, node.block, stretch.other),
-        ],
+        Some(stretch) if node.leaves => {
+            let from = node.block;
+            let next = exit_of(view, nodes, leader, from, stretch.next);
+            let other = exit_of(view, nodes, leader, from, stretch.other);
+            if spares_one([next, other], stretch) {
+                [next, other]
+            } else {
+                [
+                    before(view, next, from, stretch.next),
+                    before(view, other, from, stretch.other),
+                ]
+            }
+        }
         _ => [Exit::Gone, Exit::Gone],
     }
 }

@@ -1,0 +1,197 @@
+//! Which constants are worth a register.
+use crate::free::free_registers;
+use crate::plan::Plan;
+use crate::regions::{Region, Regions, regions_of};
+use crate::saving::cost;
+use crate::uses::{Key, Use, uses_of};
+use loops::depths::{depths, target};
+use std::alloc::{AllocError, Global};
+use vcode::code::Block;
+use vcode::function::VFunc;
+
+// More of them would leave too few registers of the machine for what changes.
+const MOST: usize = 6;
+
+// A constant that is worth a register. The one that saves most is the last.
+#[derive(Clone, Copy, Debug, PartialEq, Eq, PartialOrd, Ord)]
+struct Choice {
+    gain: i64,
+    key: Key,
+}
+
+// What it saves to hold a constant in a region, less what it costs to set it in front. A region with calls takes a register that is saved: twice as much is asked.
+fn net(one: &Use, region: &Region) -> i64 {
+    let price = cost(one.key.constant()).saturating_mul(i64::from(region.entries));
+    let gain = if region.has_calls {
+        one.gain / 2
+    } else {
+        one.gain
+    };
+    gain.saturating_sub(price)
+}
+
+// The uses that are worth it, with what they save.
+fn worthy(alloc: Global, uses: &[Use], regions: &Regions) -> Result<Vec<Use>, AllocError> {
+    let mut worthy = Vec::new(alloc);
+    for one in uses {
+        if let Some(region) = regions.list.get(one.region) {
+            let gain = net(one, region);
+            if 0 < gain {
+                worthy.push(Use {
+                    key: one.key,
+                    region: one.region,
+                    gain,
+                })?;
+            }
+        }
+    }
+    Ok(worthy)
+}
+
+// Each constant of these, in order of what it saves in all regions.
+fn choices(alloc: Global, worthy: &[Use]) -> Result<Vec<Choice>, AllocError> {
+    let mut choices: Vec<Choice> = Vec::new(alloc);
+    for one in worthy {
+        match choices.last_mut() {
+            Some(last) if last.key == one.key => last.gain = last.gain.saturating_add(one.gain),
+            _ => choices.push(Choice {
+                gain: one.gain,
+                key: one.key,
+            })?,
+        }
+    }
+    choices.sort()?;
+    Ok(choices)
+}
+
+// By number, the regions in which it is worth it to hold the constant.
+fn held_regions(
+    alloc: Global,
+    worthy: &[Use],
+    key: Key,
+    count: usize,
+) -> Result<Vec<bool>, AllocError> {
+    let mut held = Vec::new(alloc);
+    held.resize(count, false)?;
+    for one in worthy {
+        if one.key == key {
+            match held.get_mut(one.region) {
+                Some(mark) => *mark = true,
+                None => {}
+            }
+        }
+    }
+    Ok(held)
+}
+
+fn leads_in(holds: &[bool], to: Option<usize>) -> bool {
+    match to {
+        Some(to) => holds.get(to).copied().unwrap_or(false),
+        None => false,
+    }
+}
+
+fn holding(
+    alloc: Global,
+    blocks: &[Block<u32>],
+    regions: &Regions,
+    held: &[bool],
+) -> Result<Vec<bool>, AllocError> {
+    let mut holds = Vec::new(alloc);
+    for number in 0..blocks.len() {
+        let region = regions.number(number);
+        holds.push(held.get(region).copied().unwrap_or(false))?;
+    }
+    Ok(holds)
+}
+
+// The blocks that lead from elsewhere to one that holds it.
+fn setting(alloc: Global, blocks: &[Block<u32>], holds: &[bool]) -> Result<Vec<bool>, AllocError> {
+    let mut sets = Vec::new(alloc);
+    for (number, block) in blocks.iter().enumerate() {
+        let is_outside = !leads_in(holds, Some(number));
+        sets.push(
+            is_outside
+                && (leads_in(holds, target(&block.jump, 0))
+                    || leads_in(holds, target(&block.jump, 1))),
+        )?;
+    }
+    Ok(sets)
+}
+
+fn plan_for(
+    alloc: Global,
+    blocks: &[Block<u32>],
+    regions: &Regions,
+    worthy: &[Use],
+    key: Key,
+    register: u32,
+) -> Result<Plan, AllocError> {
+    let held = held_regions(alloc, worthy, key, regions.list.len())?;
+    let holds = holding(alloc, blocks, regions, held.as_slice())?;
+    let sets = setting(alloc, blocks, holds.as_slice())?;
+    Ok(Plan {
+        register,
+        constant: key.constant(),
+        sets,
+        holds,
+    })
+}
+
+// The k-th choice from the last.
+fn from_last(choices: &[Choice], k: usize) -> Option<Choice> {
+    let place = choices.len().checked_sub(k.saturating_add(1))?;
+    choices.get(place).copied()
+}
+
+fn has_loops(depths: &[u32]) -> bool {
+    for depth in depths {
+        if 0 < *depth {
+            return true;
+        }
+    }
+    false
+}
+
+// A plan for each register, as long as there are constants that are worth it.
+fn plans_in(
+    alloc: Global,
+    function: &VFunc,
+    regions: &Regions,
+    worthy: &[Use],
+    choices: &[Choice],
+) -> Result<Vec<Plan>, AllocError> {
+    let blocks = function.code.blocks.as_slice();
+    let free = free_registers(alloc, function, MOST)?;
+    let mut plans = Vec::new(alloc);
+    for (k, register) in free.iter().enumerate() {
+        if let Some(choice) = from_last(choices, k) {
+            plans.push(plan_for(alloc, blocks, regions, worthy, choice.key, *register)?)?;
+        }
+    }
+    Ok(plans)
+}
+
+/// Plans for the constants of the function's loops that save most, each with a register of its own, the best first. They are few, and most often right.
+///
+/// # Errors
+///
+/// Only where memory was refused.
+pub(crate) fn plans(alloc: Global, function: &VFunc) -> Result<Vec<Plan>, AllocError> {
+    let blocks = function.code.blocks.as_slice();
+    let depths = depths(alloc, blocks)?;
+    if !has_loops(depths.as_slice()) {
+        return Ok(Vec::new(alloc));
+    }
+    let regions = regions_of(alloc, blocks, Vec::from_slice(alloc, depths.as_slice())?)?;
+    let uses = uses_of(alloc, blocks, depths.as_slice(), &regions)?;
+    let worthy = worthy(alloc, uses.as_slice(), &regions)?;
+    let choices = choices(alloc, worthy.as_slice())?;
+    plans_in(
+        alloc,
+        function,
+        &regions,
+        worthy.as_slice(),
+        choices.as_slice(),
+    )
+}

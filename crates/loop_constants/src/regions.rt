@@ -1,0 +1,216 @@
+//! Loops that hang together.
+use loops::depths::{sources, target};
+use std::alloc::{AllocError, Global};
+use vcode::code::Block;
+use vcode::line::Line;
+
+/// What is known of a region: all blocks of loops that lead to one another, in whatever order.
+#[derive(Clone, Copy, Debug, PartialEq, Eq)]
+pub(crate) struct Region {
+    /// how many blocks outside lead into it
+    pub(crate) entries: u32,
+    pub(crate) has_calls: bool,
+}
+
+#[derive(Drop)]
+pub(crate) struct Regions {
+    /// of each block: the number of its region from 1 on, or 0 where it lies in no loop
+    pub(crate) numbers: Vec<usize>,
+
+    /// the regions by number; that of number 0 is none
+    pub(crate) list: Vec<Region>,
+}
+
+impl Regions {
+    /// The number of a block's region, or 0.
+    pub(crate) fn number(&self, block: usize) -> usize {
+        self.numbers.get(block).copied().unwrap_or(0)
+    }
+}
+
+// A block in a loop that has no region yet joins this one, and is to be left for its neighbours.
+fn join(
+    numbers: &mut [usize],
+    way: &mut Vec<usize>,
+    depths: &[u32],
+    block: usize,
+    region: usize,
+) -> Result<(), AllocError> {
+    if depths.get(block).copied().unwrap_or(0) == 0 {
+        return Ok(());
+    }
+    match numbers.get_mut(block) {
+        Some(number) => {
+            if *number == 0 {
+                *number = region;
+                way.push(block)?;
+            }
+            Ok(())
+        }
+        None => Ok(()),
+    }
+}
+
+fn join_target(
+    numbers: &mut [usize],
+    way: &mut Vec<usize>,
+    depths: &[u32],
+    block: Option<usize>,
+    region: usize,
+) -> Result<(), AllocError> {
+    match block {
+        Some(block) => join(numbers, way, depths, block, region),
+        None => Ok(()),
+    }
+}
+
+fn join_all(
+    numbers: &mut [usize],
+    way: &mut Vec<usize>,
+    depths: &[u32],
+    blocks: &[usize],
+    region: usize,
+) -> Result<(), AllocError> {
+    for block in blocks {
+        join(numbers, way, depths, *block, region)?;
+    }
+    Ok(())
+}
+
+// Where ways between blocks lead, and from where they come.
+#[derive(Drop)]
+struct Ways {
+    depths: Vec<u32>,
+    sources: Vec<Vec<usize>>,
+}
+
+fn join_neighbours(
+    numbers: &mut [usize],
+    way: &mut Vec<usize>,
+    blocks: &[Block<u32>],
+    ways: &Ways,
+    block: usize,
+    region: usize,
+) -> Result<(), AllocError> {
+    let depths = ways.depths.as_slice();
+    match blocks.get(block) {
+        Some(from) => {
+            join_target(numbers, way, depths, target(&from.jump, 0), region)?;
+            join_target(numbers, way, depths, target(&from.jump, 1), region)?;
+        }
+        None => {}
+    }
+    match ways.sources.get(block) {
+        Some(sources) => join_all(numbers, way, depths, sources.as_slice(), region),
+        None => Ok(()),
+    }
+}
+
+// Each block of the region is left once.
+fn spread(
+    alloc: Global,
+    numbers: &mut [usize],
+    blocks: &[Block<u32>],
+    ways: &Ways,
+    first: usize,
+    region: usize,
+) -> Result<(), AllocError> {
+    let mut way = Vec::new(alloc);
+    join(numbers, &mut way, ways.depths.as_slice(), first, region)?;
+    for _ in 0..blocks.len() {
+        match way.pop() {
+            Some(block) => join_neighbours(numbers, &mut way, blocks, ways, block, region)?,
+            None => return Ok(()),
+        }
+    }
+    Ok(())
+}
+
+fn is_alone(numbers: &[usize], depths: &[u32], block: usize) -> bool {
+    numbers.get(block).copied().unwrap_or(1) == 0 && depths.get(block).copied().unwrap_or(0) > 0
+}
+
+// The regions, of which nothing is known yet.
+fn joined(alloc: Global, blocks: &[Block<u32>], ways: &Ways) -> Result<Regions, AllocError> {
+    let none = Region {
+        entries: 0,
+        has_calls: false,
+    };
+    let mut numbers = Vec::new(alloc);
+    numbers.resize(blocks.len(), 0usize)?;
+    let mut list = Vec::new(alloc);
+    list.push(none)?;
+    for block in 0..blocks.len() {
+        if is_alone(numbers.as_slice(), ways.depths.as_slice(), block) {
+            let region = list.len();
+            spread(alloc, numbers.as_mut_slice(), blocks, ways, block, region)?;
+            list.push(none)?;
+        }
+    }
+    Ok(Regions { numbers, list })
+}
+
+fn count_entry(list: &mut [Region], region: usize) {
+    match list.get_mut(region) {
+        Some(region) => region.entries = region.entries.saturating_add(1),
+        None => {}
+    }
+}
+
+fn mark_calls(list: &mut [Region], region: usize) {
+    match list.get_mut(region) {
+        Some(region) => region.has_calls = true,
+        None => {}
+    }
+}
+
+fn has_calls(lines: &[Line<u32>]) -> bool {
+    for line in lines {
+        if let Line::Call { .. } = line {
+            return true;
+        }
+    }
+    false
+}
+
+fn region_of(regions: &Regions, block: Option<usize>) -> usize {
+    match block {
+        Some(block) => regions.number(block),
+        None => 0,
+    }
+}
+
+fn count_entries(regions: &mut Regions, block: &Block<u32>) {
+    let first = region_of(regions, target(&block.jump, 0));
+    let second = region_of(regions, target(&block.jump, 1));
+    count_entry(regions.list.as_mut_slice(), first);
+    if second != first {
+        count_entry(regions.list.as_mut_slice(), second);
+    }
+}
+
+/// The regions of a function whose blocks lie in so many loops.
+///
+/// # Errors
+///
+/// Only where memory was refused.
+pub(crate) fn regions_of(
+    alloc: Global,
+    blocks: &[Block<u32>],
+    depths: Vec<u32>,
+) -> Result<Regions, AllocError> {
+    let ways = Ways {
+        depths,
+        sources: sources(alloc, blocks)?,
+    };
+    let mut regions = joined(alloc, blocks, &ways)?;
+    for (number, block) in blocks.iter().enumerate() {
+        let region = regions.number(number);
+        if region == 0 {
+            count_entries(&mut regions, block);
+        } else if has_calls(block.lines.as_slice()) {
+            mark_calls(regions.list.as_mut_slice(), region);
+        }
+    }
+    Ok(regions)
+}
