@@ -19,7 +19,7 @@ use dead_lines::remove::remove_dead_lines;
 use flat_code::function::{FlatFunc, flat};
 use forwarding::forward::forward;
 use il_ast::function::Func;
-use loop_constants::hold::hold_constants;
+use loop_constants::constants::hold_constants;
 use phi_copies::lower::lower;
 use promote::promote::promote;
 use rv_isa::code::Code;
