@@ -24,4 +24,6 @@ mod regions;
 mod replace;
 mod right;
 mod saving;
+#[cfg(test)]
+mod tests;
 mod uses;
