@@ -19,15 +19,14 @@ struct Choice {
     key: Key,
 }
 
-// What it saves to hold a constant in a region, less what it costs to set it in front. A region with calls takes a register that is saved: twice as much is asked.
+// What it saves to hold a constant in a region, less what it costs to set it in front. Over calls it takes a register that has to be saved: far more is asked.
 fn net(one: &Use, region: &Region) -> i64 {
     let price = cost(one.key.constant()).saturating_mul(i64::from(region.entries));
-    let gain = if region.has_calls {
-        one.gain / 2
+    if region.has_calls {
+        (one.gain / 4).saturating_sub(price).saturating_sub(1)
     } else {
-        one.gain
-    };
-    gain.saturating_sub(price)
+        one.gain.saturating_sub(price)
+    }
 }
 
 // The uses that are worth it, with what they save.

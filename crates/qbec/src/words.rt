@@ -22,6 +22,7 @@ use il_ast::function::Func;
 use loop_constants::constants::hold_constants;
 use phi_copies::lower::lower;
 use promote::promote::promote;
+use read_copies::read::read_copies;
 use rv_isa::code::Code;
 use select::select::select;
 use std::alloc::{AllocError, Global};
@@ -62,8 +63,8 @@ pub fn allocated(
     }
 }
 
-/// The function in virtual code: selected, with extensions of whole words as copies, with what is known of registers carried forward, without dead lines,
-/// with constants of loops in registers, and with its blocks in an order that saves jumps. A pass on virtual code has its place here.
+/// The function in virtual code: selected, with extensions of whole words as copies, with what is known of registers carried forward, without dead lines, with copies
+/// read in place of what they are copies of, with constants of loops in registers, and with its blocks in an order that saves jumps. A pass on virtual code has its place here.
 ///
 /// # Errors
 ///
@@ -77,7 +78,8 @@ pub fn virtual_code_of(alloc: Global, func: &Func) -> Result<VFunc, AllocError>
     let copied = copy_whole_words(alloc, &selected)?;
     let forwarded = forward(alloc, &copied)?;
     let kept = remove_dead_lines(alloc, &forwarded)?;
-    let held = hold_constants(alloc, &kept)?;
+    let copies = read_copies(alloc, &kept)?;
+    let held = hold_constants(alloc, &copies)?;
     let ordered = order_blocks(alloc, &held)?;
     Ok(ordered)
 }

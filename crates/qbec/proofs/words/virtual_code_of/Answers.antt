@@ -14,5 +14,7 @@ returns c =
     let first = subst (λ (f : Func). IsCodeOf f v) c.in_ok-lowered.ensures.same c.in_ok-selected.ensures.is in
     let x = virtual_code c.in_ok-kept.kept in
     let last = passes_stay f w x (passes_stay f u w (passes_stay f v u first c.in_ok-copied.ensures.kept) c.in_ok-forwarded.ensures.kept) c.in_ok-kept.ensures.kept in
-    let y = virtual_code c.in_ok-held.held in
-    passes_stay f y (virtual_code c.in_ok-ordered.ordered) (passes_stay f x y last c.in_ok-held.ensures.kept) c.in_ok-ordered.ensures.kept
+    let y = virtual_code c.in_ok-copies.copies in
+    let z = virtual_code c.in_ok-held.held in
+    let read = passes_stay f x y last c.in_ok-copies.ensures.kept in
+    passes_stay f z (virtual_code c.in_ok-ordered.ordered) (passes_stay f y z read c.in_ok-held.ensures.kept) c.in_ok-ordered.ensures.kept

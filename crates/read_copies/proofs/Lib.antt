@@ -1,0 +1,3 @@
+pub mod Running
+pub mod Keeping
+pub mod Making

@@ -1,0 +1,72 @@
+//! Blocks and functions that read copies.
+ghost use Rattle.std.specs.Prelude.{◌≡◌, map, OnOk, IfOk};
+ghost use Rattle.il_ast.specs.Passes.{Keeps};
+ghost use Rattle.vcode.specs.Coded.{virtual_code};
+ghost use Rattle.read_copies.specs.Copied.{reading_lines, known_behind, reading_block, reading_copies};
+
+use crate::known::{KnownCopy, pass};
+use crate::replace::{jump, line};
+use il_ast::list::Seq;
+use std::alloc::{AllocError, Global};
+use vcode::code::{Block, Code};
+use vcode::function::VFunc;
+use vcode::line::Line;
+
+fn lines(
+    alloc: Global,
+    known: &mut Vec<KnownCopy>,
+    from: &[Line<u32>],
+) -> Result<Seq<Line<u32>>, AllocError>
+    ensures lines { IfOk result (λ v. v ≡ reading_lines known.old.items from.now) }
+    ensures known { OnOk result (known.new.items ≡ known_behind known.old.items from.now) }
+{
+    let mut made = Vec::new(alloc);
+    for item in from {
+        let put = line(alloc, known.as_slice(), item)?;
+        pass(known, &put)?;
+        made.push(put)?;
+    }
+    Ok(Seq::from_vec(made))
+}
+
+fn block(alloc: Global, from: &Block<u32>) -> Result<Block<u32>, AllocError>
+    ensures { IfOk result (λ v. v ≡ reading_block from.now) }
+{
+    let mut known = Vec::new(alloc);
+    let lines = lines(alloc, &mut known, from.lines.as_slice())?;
+    let jump = jump(known.as_slice(), &from.jump);
+    Ok(Block { lines, jump })
+}
+
+fn blocks(alloc: Global, from: &[Block<u32>]) -> Result<Seq<Block<u32>>, AllocError>
+    ensures { IfOk result (λ v. v ≡ map reading_block from.now) }
+{
+    let mut made = Vec::new(alloc);
+    for item in from {
+        made.push(block(alloc, item)?)?;
+    }
+    Ok(Seq::from_vec(made))
+}
+
+/// The function, in which lines and jumps read the first known copy of a register in place of it: behind a line of the same block that copies it, until one of both
+/// registers is written. At most 16 copies are known at a time. It takes time and memory as the text is long.
+///
+/// # Errors
+///
+/// Only where memory was refused.
+pub fn read_copies(alloc: Global, function: &VFunc) -> Result<VFunc, AllocError>
+    ensures kept { IfOk result (λ w. Keeps (virtual_code function.now) (virtual_code w)) }
+    ensures code { IfOk result (λ w. w.code ≡ reading_copies function.now.code) }
+    ensures registers { IfOk result (λ w. w.registers ≡ function.now.registers) }
+{
+    let params = function.code.params.try_clone(alloc)?;
+    let blocks = blocks(alloc, function.code.blocks.as_slice())?;
+    Ok(VFunc {
+        code: Code {
+            result: function.code.result,
+            params,
+            blocks,
+        },
+        registers: function.registers,
+    })
+}
