@@ -17,4 +17,4 @@ returns c =
     let y = virtual_code c.in_ok-copies.copies in
     let z = virtual_code c.in_ok-held.held in
     let read = passes_stay f x y last c.in_ok-copies.ensures.kept in
-    passes_stay f z (virtual_code c.in_ok-ordered.ordered) (passes_stay f y z read c.in_ok-held.ensures.kept) c.in_ok-ordered.ensures.kept
+    passes_stay f z (virtual_code c.in_ok-ordered.ordered) (passes_stay f y z read c.in_ok-held.ensures) c.in_ok-ordered.ensures.kept
