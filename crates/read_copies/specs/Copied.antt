@@ -58,7 +58,7 @@ with_jump f Halt = Halt
 
 -- ---- what is known after a line
 
--- a write to another register leaves the copy one
+-- a copy is still one after a write to another register than these two
 abbrev pub survives : (written : ℕ) → KnownCopy → Bool
 survives r c = not (nat_eq c.source r) && not (nat_eq c.copy r)
 

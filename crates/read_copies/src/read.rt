@@ -48,8 +48,8 @@ fn blocks(alloc: Global, from: &[Block<u32>]) -> Result<Seq<Block<u32>>, AllocEr
     Ok(Seq::from_vec(made))
 }
 
-/// The function, in which lines and jumps read the first known copy of a register in place of it: behind a line of the same block that copies it, until one of both
-/// registers is written. At most 16 copies are known at a time. It takes time and memory as the text is long.
+/// The function, in which lines and jumps read the first known copy of a register in place of it: behind a line of the same block that copies it, until either
+/// register is written. At most 16 copies are known at a time. It takes time and memory as the text is long.
 ///
 /// # Errors
 ///
