@@ -2,19 +2,21 @@
 //!
 //! `bench` alone does a little of each, and says what came of it. `bench table` prints the table of the README with the time of each row. `bench examples`
 //! prints for each program of examples/ that ends how many instructions its executable takes on the machine, and how many turns the program takes; a further word is the
-//! folder of the texts, where that isn't `../../examples`. Else the words are a measure, a kind and a size, and the time is printed behind what came of it:
+//! folder of the texts, where that isn't `../../examples`. `bench accepted FILE...` says of each text how many certificates of linear scan the checker refuses, and how
+//! many operands stand in slots. Else the words are a measure, a kind and a size, and the time is printed behind what came of it:
 //!
 //! | Measure | Kinds | Size |
 //! |---|---|---|
 //! | `machine` | `alu` (operations and a branch), `memory` (with a load and a store), `alu-paged`, `memory-paged` (over pages) | instructions |
 //! | `interpreter` | `alu`, `memory`, `calls` (a recursion 50,000 deep), `phis` (a block of 195 phis) | turns |
-//! | `front`, `compile` | `functions` (of six lines with a loop), `lines` (one function over 4,000 temporaries), `locals` (one function over 3,990 locals in memory), `phi`, `bytes` (a datum) | functions, lines, changes, blocks, bytes |
+//! | `front`, `compile`, `certificates` | `functions` (of six lines with a loop), `lines` (one function over 4,000 temporaries), `locals` (one function over 3,990 locals in memory), `phi`, `bytes` (a datum) | functions, lines, changes, blocks, bytes |
 //! | `text` | the same | the text itself is printed |
 //! | `liveness` | `live` (blocks in reverse), `ladder`, `nest` (loops in one another) | blocks of 40 points, over 4,000 registers |
 //! | `sets` | | a thousand joins of sets of numbers below it |
 //! | `moves` | | moves in one cycle |
 #![tactic(auto)]
 
+mod accepted;
 mod examples;
 mod front;
 mod graphs;
@@ -25,6 +27,7 @@ mod moves;
 mod phis;
 mod texts;
 
+use crate::accepted::accepted;
 use crate::examples::{EXAMPLES, example};
 use crate::front::{compile_text, link_text};
 use crate::interpreter::{Turns, interpret_turns};
@@ -33,16 +36,17 @@ use crate::machine::run_machine;
 use crate::texts::{Shape, text_of};
 use std::alloc::{AllocError, Global};
 use std::time::Instant;
-use std::{env, io};
+use std::{env, fs, io};
 
 /// A measure, a kind and a size, for each part.
-const LITTLE: [(&str, &str, u64); 8] = [
+const LITTLE: [(&str, &str, u64); 9] = [
     ("machine", "alu", 1000),
     ("machine", "memory-paged", 1000),
     ("interpreter", "alu", 1000),
     ("interpreter", "phis", 1000),
     ("front", "functions", 10),
     ("compile", "bytes", 10),
+    ("certificates", "functions", 10),
     ("liveness", "live", 10),
     ("moves", "", 10),
 ];
@@ -104,6 +108,7 @@ fn done(
         "interpreter" => interpret_turns(alloc, turns_of(kind), size),
         "front" => link_text(alloc, text),
         "compile" => compile_text(alloc, text),
+        "certificates" => accepted(alloc, text),
         "liveness" => {
             let live = live_at_first(alloc, graph_shape_of(kind), small)?;
             format!(in alloc; "{live} registers are live")
@@ -123,7 +128,7 @@ fn done(
 /// The text that a measure needs.
 fn text_for(alloc: Global, measure: &str, kind: &str, size: u64) -> Result<String, AllocError> {
     match measure {
-        "front" | "compile" | "text" => {
+        "front" | "compile" | "certificates" | "text" => {
             text_of(alloc, shape_of(kind), size.min(100_000_000) as u32)
         }
         _ => Ok(String::new(alloc)),
@@ -164,6 +169,15 @@ fn print_examples(rt: &HostRuntime, folder: &str) -> io::Result<()> {
     Ok(())
 }
 
+fn print_accepted(rt: &HostRuntime, paths: &[String]) -> io::Result<()> {
+    for path in paths {
+        let text = fs::read(rt, path.as_str())?;
+        let said = accepted(rt.alloc(), text.as_slice())?;
+        println!(rt; "{path}: {said}")?;
+    }
+    Ok(())
+}
+
 fn main(rt: HostRuntime) -> io::Result<()> {
     let words: Vec<String> = env::args(&rt)?.skip(1).collect(rt.alloc())?;
     let word = |k: usize| match words.as_slice().get(k) {
@@ -184,6 +198,7 @@ fn main(rt: HostRuntime) -> io::Result<()> {
             };
             print_examples(&rt, folder)
         }
+        "accepted" => print_accepted(&rt, words.as_slice().get(1..).unwrap_or(&[])),
         "text" => {
             let text = text_for(rt.alloc(), "text", word(1), size)?;
             print!(rt; "{text}")
