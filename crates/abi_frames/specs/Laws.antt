@@ -1,5 +1,6 @@
 -- What is proved of the code of frames.
 use Rattle.std.specs.Prelude.{ℕ, ◌+◌, ◌*◌, ◌<◌, ◌≤◌, IsTrue, nat_le, length}
+use Rattle.il_ast.specs.declared.limits.TheConstants.{FUNCTION_WEIGHT}
 use Rattle.rv_isa.specs.Labels.{IsLabelled, longest_size}
 use Rattle.vcode.specs.declared.place.Location.{Location}
 use Rattle.vcode.specs.declared.code.Code.{Code}
@@ -16,7 +17,7 @@ pub record IsCode (f : Code Location) (slots : ℕ) : Type 0 where
   pub known : IsTrue (keeps_places (is_place slots) f)
   pub near : IsTrue (are_near f.params)
   pub apart : IsTrue (are_distinct located f.params)
-  pub light : IsTrue (nat_le (code_weight f) 40000)
+  pub light : IsTrue (nat_le (code_weight f) FUNCTION_WEIGHT)
 
 -- its labelled code keeps the invariants of such code, within its price
 abbrev pub FramesAreLabelled : Type 0

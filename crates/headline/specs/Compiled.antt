@@ -1,5 +1,6 @@
 -- What the words that are made for a function owe, and what the executable of a program whose functions have such words does.
 use Rattle.std.specs.Prelude.{ℕ, ◌≤◌, List, [], ◌∷◌, length}
+use Rattle.il_ast.specs.declared.limits.TheConstants.{WORDS, WORD_BYTES}
 use Rattle.il_ast.specs.declared.function.Func.{Func}
 use Rattle.il_ast.specs.declared.program.Placed.{Placed}
 use Rattle.il_ast.specs.declared.program.Program.{Program}
@@ -52,6 +53,6 @@ CompiledRuns =
     → IsImage (contents_of p codes)
     → Stands (contents_of p codes) x
     → Starts x words s
-    → length words ≤ 1024
-    → length (word_bytes words) ≤ 65536
+    → length words ≤ WORDS
+    → length (word_bytes words) ≤ WORD_BYTES
     → Executes p words s

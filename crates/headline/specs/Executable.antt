@@ -1,5 +1,6 @@
 -- The theorem of the whole, from every start of an executable: what its file, its functions, `write` and `exit`, and its start code owe.
 use Rattle.std.specs.Prelude.{◌≡◌, ℕ, ◌+◌, ◌%◌, ◌≤◌, List, [], ◌∷◌, length, slice_get, Some}
+use Rattle.il_ast.specs.declared.limits.TheConstants.{WORDS, WORD_BYTES}
 use Rattle.rv_isa.specs.declared.abi.TheConstants.{RETURN_ADDRESS, RESULT}
 use Rattle.il_ast.specs.declared.operation.Class.TheVariants.{W}
 use Rattle.il_ast.specs.declared.function.Param.{Param}
@@ -47,8 +48,8 @@ abbrev pub ExecutableRuns : Type 0
 ExecutableRuns =
     (p : Program) (at : Places) (x : Executable) (words : List (List ℕ)) (s : State)
     → Starts x words s
-    → length words ≤ 1024
-    → length (word_bytes words) ≤ 65536
+    → length words ≤ WORDS
+    → length (word_bytes words) ≤ WORD_BYTES
     → DataStands p at x
     → AreEntries at.entries
     → ((f : Callee) (a : ℕ) → at.entries f ≡ Some a → a % 4 ≡ 0)

@@ -1,5 +1,6 @@
 -- Where the functions and data of a placed program stand, and what its executable does of itself: its data, `write`, `exit` and the start code.
 use Rattle.std.specs.Prelude.{◌≡◌, ℕ, ◌+◌, ◌%◌, ◌^◌, ◌<◌, ◌≤◌, List, length, slice_get, Some}
+use Rattle.il_ast.specs.declared.limits.TheConstants.{WORDS, WORD_BYTES}
 use Rattle.il_ast.specs.declared.program.Program.{Program}
 use Rattle.il_ast.specs.declared.program.Target.{Target}
 use Rattle.il_ast.specs.declared.value.Callee.{Callee}
@@ -51,8 +52,8 @@ PlacedStart =
     → Stands (contents_of p codes) x
     → Starts x words s
     → DataStands p (places_of p codes) x
-    → length words ≤ 1024
-    → length (word_bytes words) ≤ 65536
+    → length words ≤ WORDS
+    → length (word_bytes words) ≤ WORD_BYTES
     → slice_get (addresses_of p codes).functions p.main ≡ Some (callee_address (addresses_of p codes) (Defined p.main))
     → callee_address (addresses_of p codes) (Defined p.main) < 2 ^ 31
     → callee_address (addresses_of p codes) (Defined p.main) % 4 ≡ 0

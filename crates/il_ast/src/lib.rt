@@ -18,6 +18,7 @@ pub mod function;
 pub mod instruction;
 pub mod label;
 pub mod laws;
+pub mod limits;
 pub mod list;
 pub mod name;
 pub mod operand;

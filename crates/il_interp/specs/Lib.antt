@@ -6,5 +6,4 @@ pub mod Machine
 pub mod Places
 pub mod Prepared
 pub mod Room
-pub mod Words
 pub mod Begun

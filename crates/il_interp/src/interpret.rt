@@ -4,9 +4,9 @@ ghost use Rattle.il_ast.specs.declared.operation.Class.TheVariants.{W};
 ghost use Rattle.il_ast.specs.declared.function.Param.{Param as ParamOf};
 ghost use Rattle.il_ast.specs.Meaning.{main_args, main_classes, same_classes, result_fits, meaning};
 ghost use Rattle.obj_link.specs.ProgramOf.{program};
+ghost use Rattle.obj_link.specs.Words.{are_arguments};
 ghost use Rattle.il_interp.specs.declared.error.RunError.TheVariants.{Words};
 ghost use Rattle.il_interp.specs.Prepared.{program_of};
-ghost use Rattle.il_interp.specs.Words.{are_arguments};
 ghost use Rattle.il_interp.specs.Machine.{main_frame, started};
 ghost use Rattle.il_interp.specs.Begun.{begun_next, Refuses};
 
@@ -18,7 +18,6 @@ use crate::prepared::Prepared;
 use crate::run::run;
 use crate::start::start_memory;
 use crate::state::{Output, Pile, State};
-use crate::words::are_arguments;
 use il_ast::function::{Func, Param};
 use il_ast::operand::{Arg, Dest, Val};
 use il_ast::operation::Class;
@@ -26,6 +25,7 @@ use il_ast::temp::Temp;
 use il_ast::value::{End, Value};
 use il_mem::memory::BlockMemory;
 use obj_link::linked::Linked;
+use obj_link::words::are_arguments;
 use std::alloc::{AllocError, Global};
 
 /// Runs a program with these argument words for at most so many turns. Answers the output and the

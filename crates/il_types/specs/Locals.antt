@@ -1,6 +1,7 @@
 -- The rules of one function, each as the line of the first place that breaks it.
 use Rattle.std.specs.Prelude.{ℕ, Bool, true, false, not, nat_eq, nat_lt, ◌&&◌, ◌||◌, List, [], ◌∷◌, map, Option, Some, None, is_none}
 use Rattle.std.specs.List.{list_any, list_all, count_by}
+use Rattle.il_ast.specs.declared.limits.TheConstants.{ALLOC_BYTES, BLIT_BYTES}
 use Rattle.il_ast.specs.declared.operation.Class.{Class}
 use Rattle.il_ast.specs.declared.operation.Class.TheVariants.{W, L}
 use Rattle.il_ast.specs.declared.operation.Extension.TheVariants.{SignedWord, UnsignedWord, SignedHalf, UnsignedHalf, SignedByte, UnsignedByte}
@@ -158,9 +159,9 @@ undefined_temp f =
 
 -- ---- sizes
 
--- alloc in entry: of 1 to 1,048,576 bytes there, and none elsewhere
+-- alloc in entry: of 1 to the most bytes there, and none elsewhere
 abbrev pub has_wrong_size : Inst → Bool
-has_wrong_size (Alloc to alignment size) = nat_eq size 0 || nat_lt 1048576 size
+has_wrong_size (Alloc to alignment size) = nat_eq size 0 || nat_lt ALLOC_BYTES size
 has_wrong_size i = false
 
 abbrev pub is_alloc : Inst → Bool
@@ -176,7 +177,7 @@ wrong_alloc f = wrong_alloc_in f.blocks
 
 -- blit size
 abbrev pub is_long_blit : Inst → Bool
-is_long_blit (Blit from to count) = nat_lt 4096 count
+is_long_blit (Blit from to count) = nat_lt BLIT_BYTES count
 is_long_blit i = false
 
 abbrev pub long_blit : Func → Option ℕ

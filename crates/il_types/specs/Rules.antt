@@ -1,6 +1,7 @@
 -- The rules of a text: the line of the first place that breaks a rule, or none where nothing does; and the limits.
 use Rattle.std.specs.Prelude.{◌≡◌, ℕ, ◌*◌, ◌^◌, Bool, true, false, not, nat_eq, nat_lt, nat_le, ◌&&◌, ◌||◌, List, map, length, Option, None}
 use Rattle.std.specs.List.{list_any, list_all}
+use Rattle.il_ast.specs.declared.limits.TheConstants.{TEXT_BYTES, FUNCTION_WEIGHT, TEMPORARIES, ARGUMENTS, ALLOC_BYTES}
 use Rattle.il_ast.specs.declared.operation.Size.{Size}
 use Rattle.il_ast.specs.declared.operation.Size.TheVariants.{Byte, Half, Word, Long}
 use Rattle.il_ast.specs.declared.instruction.Inst.{Inst}
@@ -108,15 +109,15 @@ broken rule t = first (broken_in rule) t.definitions
 -- ---- limits of one text
 
 abbrev pub has_few_args : Inst → Bool
-has_few_args (Call to callee args) = nat_le (length args) 64
+has_few_args (Call to callee args) = nat_le (length args) ARGUMENTS
 has_few_args i = true
 
 abbrev pub is_within : Func → Bool
 is_within f =
-    nat_le (weight f) 40000
-    && (nat_le (length f.temps) 4000
-    && (nat_le (length f.params) 64
-    && (nat_le (alloc_area f) 1048576
+    nat_le (weight f) FUNCTION_WEIGHT
+    && (nat_le (length f.temps) TEMPORARIES
+    && (nat_le (length f.params) ARGUMENTS
+    && (nat_le (alloc_area f) ALLOC_BYTES
     && list_all (λ (b : Block). list_all (λ (i : Lined Inst). has_few_args i.item) b.insts) f.blocks)))
 
 abbrev pub definition_within : Definition → Bool
@@ -124,7 +125,7 @@ definition_within (Function f) = is_within f
 definition_within (Object d) = true
 
 abbrev pub within_limits : Text → Bool
-within_limits t = nat_le t.bytes (16 * 2 ^ 20) && list_all definition_within t.definitions
+within_limits t = nat_le t.bytes TEXT_BYTES && list_all definition_within t.definitions
 
 -- ---- good texts
 

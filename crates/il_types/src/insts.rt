@@ -9,6 +9,7 @@ use crate::labels::or_else;
 use il_ast::block::Block;
 use il_ast::function::Func;
 use il_ast::instruction::{Inst, Lined};
+use il_ast::limits::{ALLOC_BYTES, BLIT_BYTES};
 use il_ast::operation::{Class, Extension, UnaryOp};
 
 /// The line of a result of a class that its operation hasn't.
@@ -81,7 +82,7 @@ fn has_wrong_size(inst: &Inst) -> bool
     ensures { result ≡ has_wrong_size inst.now }
 {
     match inst {
-        Inst::Alloc { size, .. } => *size == 0 || *size > 1_048_576,
+        Inst::Alloc { size, .. } => *size == 0 || *size > ALLOC_BYTES,
         _ => false,
     }
 }
@@ -117,7 +118,7 @@ fn is_alloc(inst: &Inst) -> bool
     }
 }
 
-/// The line of a `blit` of more than 4,096 bytes.
+/// The line of a `blit` of too many bytes.
 pub fn long_blit(function: &Func) -> Option<usize>
     ensures { result ≡ long_blit function.now }
 {
@@ -145,7 +146,7 @@ fn is_long_blit(inst: &Inst) -> bool
     ensures { result ≡ is_long_blit inst.now }
 {
     match inst {
-        Inst::Blit { count, .. } => *count > 4096,
+        Inst::Blit { count, .. } => *count > BLIT_BYTES,
         _ => false,
     }
 }

@@ -10,18 +10,8 @@ use crate::cost::{alloc_area, weight};
 use il_ast::block::Block;
 use il_ast::function::Func;
 use il_ast::instruction::{Inst, Lined};
+use il_ast::limits::{ALLOC_BYTES, ARGUMENTS, FUNCTION_WEIGHT, TEMPORARIES, TEXT_BYTES};
 use il_ast::text::{Definition, Text};
-
-/// The longest text, in bytes.
-pub const TEXT_BYTES: usize = 16 * 1024 * 1024;
-/// The greatest weight of a function.
-pub const FUNCTION_WEIGHT: u64 = 40_000;
-/// The most temporaries of a function.
-pub const TEMPS: usize = 4_000;
-/// The most parameters of a function, and arguments of a call.
-pub const ARGUMENTS: usize = 64;
-/// The most bytes of a function's `alloc`s, each rounded up to a multiple of 16.
-pub const ALLOC_BYTES: u64 = 1_048_576;
 
 /// Whether a text passes no limit.
 pub fn within_limits(text: &Text) -> bool
@@ -54,7 +44,7 @@ fn is_within(function: &Func) -> bool
     ensures { result ≡ is_within function.now }
 {
     let small = weight(function) <= FUNCTION_WEIGHT;
-    let temps = function.temps.len() <= TEMPS;
+    let temps = function.temps.len() <= TEMPORARIES;
     let params = function.params.len() <= ARGUMENTS;
     let area = alloc_area(function) <= ALLOC_BYTES;
     let args = all_few_args(function.blocks.as_slice());

@@ -13,3 +13,4 @@ pub mod Laws
 pub mod Natives
 pub mod Placed
 pub mod DataBytes
+pub mod Words

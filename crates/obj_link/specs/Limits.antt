@@ -1,6 +1,7 @@
 -- The limits over all texts of a program.
 use Rattle.std.specs.Prelude.{ℕ, ◌*◌, ◌^◌, Bool, nat_le, ◌&&◌, List, length}
 use Rattle.std.specs.List.{sum_by}
+use Rattle.il_ast.specs.declared.limits.TheConstants.{TEXTS, FUNCTIONS, PROGRAM_WEIGHT, DATA_BYTES}
 use Rattle.il_ast.specs.declared.operation.Size.{Size}
 use Rattle.il_ast.specs.declared.datum.Item.{Item}
 use Rattle.il_ast.specs.declared.datum.Item.TheVariants.{Int, Bytes, Address}
@@ -35,5 +36,5 @@ total_size objects = sum_by (λ (d : Placed DataDef). round_16 (object_size d.it
 
 abbrev pub within_limits : List Checked → List (Placed Func) → List (Placed DataDef) → Bool
 within_limits texts functions objects =
-    nat_le (length texts) 256
-    && (nat_le (length functions) 10000 && (nat_le (total_weight functions) 200000 && nat_le (total_size objects) (16 * 2 ^ 20)))
+    nat_le (length texts) TEXTS
+    && (nat_le (length functions) FUNCTIONS && (nat_le (total_weight functions) PROGRAM_WEIGHT && nat_le (total_size objects) DATA_BYTES))

@@ -58,5 +58,6 @@ mod tables;
 mod targets;
 #[cfg(test)]
 mod tests;
+pub mod words;
 
 pub use image::{CODE_START, IMAGE_END, Image, PAGE, SLOT};

@@ -8,19 +8,11 @@ ghost use Rattle.obj_link.specs.Limits.{item_size, field_size, object_size, tota
 
 use il_ast::datum::{DataDef, Field, Item};
 use il_ast::function::Func;
+use il_ast::limits::{DATA_BYTES, FUNCTIONS, PROGRAM_WEIGHT, TEXTS};
 use il_ast::operation::Size;
 use il_ast::program::Placed;
 use il_types::checked::Checked;
 use il_types::cost::weight;
-
-/// The most texts of a program.
-pub const TEXTS: usize = 256;
-/// The most functions of a program.
-pub const FUNCTIONS: usize = 10_000;
-/// The greatest weight of a program.
-pub const PROGRAM_WEIGHT: u64 = 200_000;
-/// The most bytes of a program's data, each datum rounded up to a multiple of 16.
-pub const DATA_BYTES: u64 = 16 * 1024 * 1024;
 
 /// Whether a program passes no limit over all its texts.
 pub fn within_limits(

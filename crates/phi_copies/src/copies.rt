@@ -1,6 +1,7 @@
 //! The copies that phis become.
 ghost use Rattle.std.specs.Prelude.{◌≡◌, ℕ, ◌+◌, ◌≤◌, length, nat_eq, true, Some, IfOk, IfSome, OnOk, ◌++◌};
 ghost use Rattle.std.specs.List.{find};
+ghost use Rattle.il_ast.specs.declared.limits.TheConstants.{FUNCTION_WEIGHT, TEMPORARIES};
 ghost use Rattle.il_ast.specs.declared.block.PhiArg.{PhiArg as PhiArgOf};
 ghost use Rattle.il_types.specs.Arguments.{are_distinct, are_all_distinct};
 ghost use Rattle.phi_copies.specs.Lowered.{source, reads, writes, copies_of, entry_copies};
@@ -56,7 +57,7 @@ fn push_reads(
     phis: &[Phi],
     copies: &mut Vec<Assignment>,
 ) -> Result<(), AllocError>
-    requires few { number + length phis.now ≤ 44000 }
+    requires few { number + length phis.now ≤ FUNCTION_WEIGHT + TEMPORARIES }
     requires distinct { are_all_distinct phis.now ≡ true }
     ensures { OnOk result (copies.new.items ≡ copies.old.items ++ reads from number phis.now) }
 {
@@ -80,7 +81,7 @@ fn push_reads(
 
 /// Writes each phi from the temporary of its own.
 fn push_writes(number: usize, phis: &[Phi], copies: &mut Vec<Assignment>) -> Result<(), AllocError>
-    requires { number + length phis.now ≤ 44000 }
+    requires { number + length phis.now ≤ FUNCTION_WEIGHT + TEMPORARIES }
     ensures { OnOk result (copies.new.items ≡ copies.old.items ++ writes number phis.now) }
 {
     let mut number = number;
@@ -102,7 +103,7 @@ fn copies_of(
     places: &[usize],
     phis: &[Phi],
 ) -> Result<Seq<Assignment>, AllocError>
-    requires few { number + length phis.now ≤ 44000 }
+    requires few { number + length phis.now ≤ FUNCTION_WEIGHT + TEMPORARIES }
     requires distinct { are_all_distinct phis.now ≡ true }
     ensures { IfOk result (λ copies. copies ≡ copies_of from number phis.now) }
 {

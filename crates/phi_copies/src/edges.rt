@@ -1,5 +1,6 @@
 //! The blocks between a branch and a block with phis.
-ghost use Rattle.std.specs.Prelude.{◌≡◌, ◌++◌, ◌≤◌, length, OnOk};
+ghost use Rattle.std.specs.Prelude.{◌≡◌, ◌+◌, ◌*◌, ◌++◌, ◌≤◌, length, OnOk};
+ghost use Rattle.il_ast.specs.declared.limits.TheConstants.{FUNCTION_WEIGHT};
 ghost use Rattle.phi_copies.specs.Lowered.{edge, block_edges, branch_target, straight};
 
 use crate::copies::entry_copies;
@@ -19,7 +20,7 @@ pub fn edge_count(map: &Map<'_>, from: Label, place: usize) -> usize
 
 /// Where a branch to the block at a place goes: to the block, or to the edge of that number.
 pub fn branch_target(map: &Map<'_>, number: usize, place: usize) -> usize
-    requires { number ≤ 80001 }
+    requires { number ≤ 2 * FUNCTION_WEIGHT + 1 }
     ensures { result ≡ branch_target map.now.func.now number place }
 {
     if phis_at(map, place).is_empty() {

@@ -1,5 +1,6 @@
 //! Functions without phis, made from functions.
-ghost use Rattle.std.specs.Prelude.{◌≡◌, ◌≤◌, [], true, IfOk};
+ghost use Rattle.std.specs.Prelude.{◌≡◌, ◌*◌, ◌≤◌, [], true, IfOk};
+ghost use Rattle.il_ast.specs.declared.limits.TheConstants.{FUNCTION_WEIGHT};
 ghost use Rattle.phi_copies.specs.Good.{IsGoodFunction};
 ghost use Rattle.phi_copies.specs.Keeping.{KeepsFunction};
 ghost use Rattle.phi_copies.specs.Lowered.{block_ending, jump_ending};
@@ -46,7 +47,7 @@ fn block_ending(
     number: usize,
     block: &Block,
 ) -> Result<Ending, AllocError>
-    requires { number ≤ 80000 }
+    requires { number ≤ 2 * FUNCTION_WEIGHT }
     ensures { IfOk result (λ ending. ending ≡ block_ending map.now.func.now number block.now) }
 {
     match &block.jump {
@@ -75,7 +76,7 @@ fn jump_ending(
     number: usize,
     jump: &Jump,
 ) -> Result<Ending, AllocError>
-    requires { number ≤ 80000 }
+    requires { number ≤ 2 * FUNCTION_WEIGHT }
     ensures { IfOk result (λ ending. ending ≡ jump_ending map.now.func.now from number jump.now) }
 {
     match *jump {

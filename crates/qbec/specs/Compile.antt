@@ -1,5 +1,6 @@
 -- What compiling texts answers.
 use Rattle.std.specs.Prelude.{◌≤◌, ℕ, List, length}
+use Rattle.il_ast.specs.declared.limits.TheConstants.{WORDS, WORD_BYTES}
 use Rattle.il_ast.specs.declared.program.Program.{Program}
 use Rattle.rv_isa.specs.State.{State}
 use Rattle.rv_isa.specs.Start.{word_bytes}
@@ -17,7 +18,7 @@ use Rattle.qbec.specs.Texts.{AreProgram}
 pub record IsExecutableOf (p : Program) (x : Executable) : Type 0 where
   pub codes : List Words
   pub stands : Stands (contents_of p codes) x
-  pub runs : (words : List (List ℕ)) (s : State) → Starts x words s → length words ≤ 1024 → length (word_bytes words) ≤ 65536 → Executes p words s
+  pub runs : (words : List (List ℕ)) (s : State) → Starts x words s → length words ≤ WORDS → length (word_bytes words) ≤ WORD_BYTES → Executes p words s
 
 -- the bytes are an executable file, and whatever they load as is an executable of the program
 pub record IsFile (p : Program) (bytes : List ℕ) : Type 0 where

@@ -1,18 +1,7 @@
--- The argument words that a program can be given: limits of this project.
-use Rattle.std.specs.Prelude.{ℕ, Bool, true, not, ◌&&◌, ◌==◌, nat_le, List, [], ◌∷◌, length, map}
-use Rattle.std.specs.List.{list_any}
+-- The argument words that a program is given.
+use Rattle.std.specs.Prelude.{ℕ, List, map}
 use Rattle.std.specs.Borrow.{Bor}
-use Rattle.rv_isa.specs.Start.{word_bytes}
 
 -- the bytes of the words
 abbrev pub texts : List (Bor (List ℕ)) → List (List ℕ)
 texts words = map (λ w. w.now) words
-
--- no word holds the byte 0, which closes it in memory
-abbrev pub hold_no_zero : List (List ℕ) → Bool
-hold_no_zero [] = true
-hold_no_zero (w ∷ ws) = not (list_any (λ b. b == 0) w) && hold_no_zero ws
-
--- at most 1,024 words, of at most 65,536 bytes with their closing zeros
-abbrev pub are_arguments : List (List ℕ) → Bool
-are_arguments words = nat_le (length words) 1024 && nat_le (length (word_bytes words)) 65536 && hold_no_zero words

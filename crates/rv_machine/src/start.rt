@@ -4,8 +4,9 @@ use crate::fill::set_all;
 use crate::machine::Machine;
 use crate::ram::Ram;
 use crate::registers::Registers;
-use crate::words::{are_arguments, argument_bytes};
+use crate::words::argument_bytes;
 use elf_file::Loaded;
+use obj_link::words::are_arguments;
 use rv_isa::abi;
 use rv_isa::ranges::Register;
 use std::alloc::Global;
@@ -25,7 +26,8 @@ impl<R: Ram> Machine<R> {
     ghost use Rattle.std.specs.Prelude.{◌≡◌, ◌↔◌, false, Err, IfOk};
     ghost use Rattle.rv_machine.specs.Machine.{view};
     ghost use Rattle.rv_machine.specs.Start.{start_state};
-    ghost use Rattle.rv_machine.specs.Words.{are_arguments, texts};
+    ghost use Rattle.obj_link.specs.Words.{are_arguments};
+    ghost use Rattle.rv_machine.specs.Words.{texts};
 
     /// The machine at the start of a program with these argument words: at its entry, with the stack pointer in x2 and the words above it. All other
     /// registers and all other bytes of the stack are 0, and nothing else is mapped.

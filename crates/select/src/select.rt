@@ -1,5 +1,6 @@
 //! Virtual code, made from functions without phis.
 ghost use Rattle.std.specs.Prelude.{◌≡◌, ◌≤◌, ◌+◌, ◌++◌, length, map, IfOk, OnOk};
+ghost use Rattle.il_ast.specs.declared.limits.TheConstants.{FUNCTION_WEIGHT, TEMPORARIES};
 ghost use Rattle.il_ast.specs.Cost.{phi_count};
 ghost use Rattle.phi_copies.specs.Lowered.{lowered};
 ghost use Rattle.select.specs.Classes.{classes_in};
@@ -108,7 +109,7 @@ fn code_of(alloc: Global, classes: &[Class], source: &NoPhi<'_>) -> Result<Code<
 
 /// How many registers a function takes: one for each temporary, and one for each phi.
 fn count_registers(func: &Func) -> usize
-    requires { length func.now.temps + phi_count func.now ≤ 44000 }
+    requires { length func.now.temps + phi_count func.now ≤ FUNCTION_WEIGHT + TEMPORARIES }
     ensures { result ≡ length func.now.temps + phi_count func.now }
 {
     let mut number = func.temps.len();

@@ -1,6 +1,7 @@
 -- What every code keeps, whatever its places.
 use Rattle.std.specs.Prelude.{ℕ, Bool, true, false, not, ◌&&◌, nat_lt, nat_le, IsTrue, List, [], ◌∷◌, length}
 use Rattle.std.specs.List.{list_all, list_any, sum_by}
+use Rattle.il_ast.specs.declared.limits.TheConstants.{FUNCTION_WEIGHT, ARGUMENTS, ALLOC_BYTES}
 use Rattle.il_ast.specs.Cost.{round_16}
 use Rattle.vcode.specs.declared.line.Line.{Line}
 use Rattle.vcode.specs.declared.line.Line.TheVariants.{Tick, Alloc, Call}
@@ -43,7 +44,7 @@ turns_of l = 0
 
 -- a call passes at most as many arguments as a function has parameters
 abbrev pub passes_few : {P : Type 0} → Line P → Bool
-passes_few (Call to callee args) = nat_le (length args) 64
+passes_few (Call to callee args) = nat_le (length args) ARGUMENTS
 passes_few l = true
 
 abbrev pub weight_of : {P : Type 0} → Line P → ℕ
@@ -55,10 +56,10 @@ abbrev pub code_weight : {P : Type 0} → Code P → ℕ
 code_weight f = sum_by (λ b. sum_by weight_of b.lines) f.blocks
 
 pub record IsRegular {P : Type 0} (f : Code P) : Type 0 where
-  pub few_params : IsTrue (nat_le (length f.params) 64)
+  pub few_params : IsTrue (nat_le (length f.params) ARGUMENTS)
   pub inside : IsTrue (list_all (λ b. leads_inside (length f.blocks) b.jump) f.blocks)
   pub first : IsTrue (allocs_first f.blocks)
-  pub small : IsTrue (nat_le (area f) 1048576)
+  pub small : IsTrue (nat_le (area f) ALLOC_BYTES)
   pub paid : IsTrue (list_all is_paid f.blocks)
-  pub paced : IsTrue (list_all (λ b. nat_le (sum_by turns_of b.lines) 40000) f.blocks)
+  pub paced : IsTrue (list_all (λ b. nat_le (sum_by turns_of b.lines) FUNCTION_WEIGHT) f.blocks)
   pub few_args : IsTrue (list_all (λ b. list_all passes_few b.lines) f.blocks)

@@ -1,5 +1,6 @@
 //! Functions in virtual code and in location code.
 ghost use Rattle.std.specs.Prelude.{◌<◌, IsTrue, nat_le};
+ghost use Rattle.il_ast.specs.declared.limits.TheConstants.{FUNCTION_WEIGHT};
 ghost use Rattle.vcode.specs.Named.{keeps_places, is_below, is_place, are_low, are_near, are_distinct};
 ghost use Rattle.vcode.specs.Places.{virtual, located};
 ghost use Rattle.vcode.specs.Regular.{IsRegular, code_weight};
@@ -16,7 +17,7 @@ pub struct VFunc {
     pub registers: u32,
     pub ghost few: { registers < 65536 },
     pub ghost regular: { IsRegular code } by { Prim.hlevel props },
-    pub ghost light: { IsTrue (nat_le (code_weight code) 40000) },
+    pub ghost light: { IsTrue (nat_le (code_weight code) FUNCTION_WEIGHT) },
     pub ghost known: { IsTrue (keeps_places (is_below registers) code) },
     pub ghost low: { IsTrue (are_low code.params) },
     pub ghost distinct: { IsTrue (are_distinct virtual code.params) },
@@ -30,7 +31,7 @@ pub struct LFunc {
     pub slots: u32,
     pub ghost few: { slots < 65536 },
     pub ghost regular: { IsRegular code } by { Prim.hlevel props },
-    pub ghost light: { IsTrue (nat_le (code_weight code) 40000) },
+    pub ghost light: { IsTrue (nat_le (code_weight code) FUNCTION_WEIGHT) },
     pub ghost known: { IsTrue (keeps_places (is_place slots) code) },
     pub ghost near: { IsTrue (are_near code.params) },
     pub ghost apart: { IsTrue (are_distinct located code.params) },
