@@ -1,6 +1,7 @@
 -- What is proved of the code of frames.
 use Rattle.std.specs.Prelude.{ℕ, ◌+◌, ◌*◌, ◌<◌, ◌≤◌, IsTrue, nat_le, length}
 use Rattle.il_ast.specs.declared.limits.TheConstants.{FUNCTION_WEIGHT}
+use Rattle.vcode.specs.declared.limits.TheConstants.{PLACES}
 use Rattle.rv_isa.specs.Labels.{IsLabelled, longest_size}
 use Rattle.vcode.specs.declared.place.Location.{Location}
 use Rattle.vcode.specs.declared.code.Code.{Code}
@@ -12,7 +13,7 @@ use Rattle.abi_frames.specs.Functions.{frame_items}
 
 -- the code of a function, with places as location code has them
 pub record IsCode (f : Code Location) (slots : ℕ) : Type 0 where
-  pub few : slots < 65536
+  pub few : slots < PLACES
   pub regular : IsRegular f
   pub known : IsTrue (keeps_places (is_place slots) f)
   pub near : IsTrue (are_near f.params)

@@ -14,6 +14,7 @@ use Rattle.vcode.specs.declared.code.Code.{Code}
 pub use Rattle.vcode.specs.Outgoing.{args_on_stack, most_in_lines, most_in_blocks, outgoing}
 use Rattle.vcode.specs.Regular.{area, turns_of}
 use Rattle.abi_frames.specs.declared.layout.Layout.{Layout}
+use Rattle.abi_frames.specs.declared.pace.TheConstants.{TURN_BOUND}
 
 -- a place that is the register of this number
 abbrev pub is_register : (number : ℕ) → Location → Bool
@@ -95,7 +96,7 @@ turns_in f = sum_by (λ b. sum_by turns_of b.lines) f.blocks
 -- Whether a block may fall into the one behind it. No instruction need then stand between two ticks: so all turns that begin in the code may begin between two
 -- instructions, and these are at most as many as may.
 abbrev pub falls_through : Code Location → Bool
-falls_through f = nat_le (turns_in f) 40000
+falls_through f = nat_le (turns_in f) TURN_BOUND
 
 abbrev pub layout : Code Location → (slots : ℕ) → Layout
 layout f slots =

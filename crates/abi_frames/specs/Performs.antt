@@ -9,6 +9,7 @@ use Rattle.rv_isa.specs.Step.{Stop, Exited, Broken}
 use Rattle.rv_isa.specs.Runs.{Stopped, runs, Comes}
 use Rattle.flat_code.specs.Spots.{Spots, Clear, SameReach}
 use Rattle.flat_code.specs.Flat.{FlatGiven, FlatAsked, FlatOutcome, FlatReturned, FlatEnded, flat_after}
+use Rattle.abi_frames.specs.declared.pace.TheConstants.{TURN_BOUND}
 use Rattle.abi_frames.specs.Calls.{World, GoodStack, Ready, ResultIn, Back}
 
 -- the instructions that may be done for what was spent: 32 for each unit of weight, and 256 for each call entered
@@ -17,7 +18,7 @@ allowance t = 32 * t.weight + 256 * t.calls
 
 -- at most so many turns begin between two instructions
 abbrev pub turn_bound : ℕ
-turn_bound = 40000
+turn_bound = TURN_BOUND
 
 -- the machine goes from s to a return
 pub record Returns (w : World) (sp : ℕ) (wants : Option Class) (before : Spots) (s : State) (t : Spent) (x : Option ℕ) (now : Spots) : Type 0 where

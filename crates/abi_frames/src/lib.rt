@@ -45,6 +45,7 @@ mod line;
 mod memory_tests;
 mod moves;
 mod operand;
+pub mod pace;
 mod room;
 mod saved;
 #[cfg(test)]

@@ -2,8 +2,10 @@
 ghost use Rattle.std.specs.Prelude.{◌≡◌, ◌≤◌, IsTrue, nat_le};
 ghost use Rattle.std.specs.List.{list_all, sum_by};
 ghost use Rattle.vcode.specs.Regular.{turns_of};
+ghost use Rattle.abi_frames.specs.declared.pace.TheConstants.{TURN_BOUND};
 ghost use Rattle.abi_frames.specs.Layout.{falls_through};
 
+use crate::pace::TURN_BOUND;
 use vcode::code::{Block, Code};
 use vcode::line::Line;
 use vcode::place::Location;
@@ -25,7 +27,7 @@ fn turns_of(line: &Line<Location>) -> u64
 }
 
 fn lines_turns(lines: &[Line<Location>]) -> u64
-    requires { sum_by turns_of lines.now ≤ 40000 }
+    requires { sum_by turns_of lines.now ≤ TURN_BOUND }
     ensures { result ≡ sum_by turns_of lines.now }
 {
     let mut total = 0;
@@ -36,10 +38,10 @@ fn lines_turns(lines: &[Line<Location>]) -> u64
 }
 
 fn are_few(blocks: &[Block<Location>]) -> bool
-    requires { IsTrue (list_all (λ b. nat_le (sum_by turns_of b.lines) 40000) blocks.now) }
-    ensures { result ≡ nat_le (sum_by (λ b. sum_by turns_of b.lines) blocks.now) 40000 }
+    requires { IsTrue (list_all (λ b. nat_le (sum_by turns_of b.lines) TURN_BOUND) blocks.now) }
+    ensures { result ≡ nat_le (sum_by (λ b. sum_by turns_of b.lines) blocks.now) TURN_BOUND }
 {
-    let mut left = 40000;
+    let mut left = TURN_BOUND;
     for block in blocks {
         let turns = lines_turns(block.lines.as_slice());
         if left < turns {
@@ -52,7 +54,7 @@ fn are_few(blocks: &[Block<Location>]) -> bool
 
 /// May a block fall into the one behind it? Where no more than 40,000 turns begin in the code.
 pub(crate) fn falls_through(code: &Code<Location>) -> bool
-    requires { IsTrue (list_all (λ b. nat_le (sum_by turns_of b.lines) 40000) code.now.blocks) }
+    requires { IsTrue (list_all (λ b. nat_le (sum_by turns_of b.lines) TURN_BOUND) code.now.blocks) }
     ensures { result ≡ falls_through code.now }
 {
     are_few(code.blocks.as_slice())

@@ -1,7 +1,7 @@
 -- The argument words that a program can be given: limits of this project.
 use Rattle.std.specs.Prelude.{ℕ, Bool, true, not, ◌&&◌, ◌==◌, nat_le, List, [], ◌∷◌, length}
 use Rattle.std.specs.List.{list_any}
-use Rattle.il_ast.specs.declared.limits.TheConstants.{WORDS, WORD_BYTES}
+pub use Rattle.il_ast.specs.declared.limits.TheConstants.{WORDS, WORD_BYTES}
 use Rattle.rv_isa.specs.Start.{word_bytes}
 
 -- no word holds the byte 0, which closes it in memory

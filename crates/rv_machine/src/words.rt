@@ -1,8 +1,8 @@
 //! The argument words of a program, as bytes.
 
 ghost use Rattle.std.specs.Prelude.{◌≡◌, ◌+◌, ◌<◌, ◌≤◌, ◌^◌, ◌++◌, length, OnOk, IfOk};
-ghost use Rattle.il_ast.specs.declared.limits.TheConstants.{WORDS, WORD_BYTES};
 ghost use Rattle.rv_isa.specs.Start.{argument_bytes, pointer_bytes, word_bytes};
+ghost use Rattle.obj_link.specs.Words.{WORDS, WORD_BYTES};
 ghost use Rattle.rv_machine.specs.Words.{texts};
 
 use rv_isa::abi;

@@ -1,6 +1,7 @@
 //! Functions in virtual code and in location code.
 ghost use Rattle.std.specs.Prelude.{◌<◌, IsTrue, nat_le};
 ghost use Rattle.il_ast.specs.declared.limits.TheConstants.{FUNCTION_WEIGHT};
+ghost use Rattle.vcode.specs.declared.limits.TheConstants.{PLACES};
 ghost use Rattle.vcode.specs.Named.{keeps_places, is_below, is_place, are_low, are_near, are_distinct};
 ghost use Rattle.vcode.specs.Places.{virtual, located};
 ghost use Rattle.vcode.specs.Regular.{IsRegular, code_weight};
@@ -15,7 +16,7 @@ use crate::place::Location;
 pub struct VFunc {
     pub code: Code<u32>,
     pub registers: u32,
-    pub ghost few: { registers < 65536 },
+    pub ghost few: { registers < PLACES },
     pub ghost regular: { IsRegular code } by { Prim.hlevel props },
     pub ghost light: { IsTrue (nat_le (code_weight code) FUNCTION_WEIGHT) },
     pub ghost known: { IsTrue (keeps_places (is_below registers) code) },
@@ -29,7 +30,7 @@ pub struct VFunc {
 pub struct LFunc {
     pub code: Code<Location>,
     pub slots: u32,
-    pub ghost few: { slots < 65536 },
+    pub ghost few: { slots < PLACES },
     pub ghost regular: { IsRegular code } by { Prim.hlevel props },
     pub ghost light: { IsTrue (nat_le (code_weight code) FUNCTION_WEIGHT) },
     pub ghost known: { IsTrue (keeps_places (is_place slots) code) },

@@ -19,5 +19,6 @@ pub mod code;
 pub mod cost;
 pub mod function;
 pub mod laws;
+pub mod limits;
 pub mod line;
 pub mod place;
