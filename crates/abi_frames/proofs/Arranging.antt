@@ -17,7 +17,7 @@ use Rattle.flat_code.specs.Step.{taken}
 use Rattle.abi_frames.specs.Calls.{passed}
 use Rattle.abi_frames.specs.Fields.{add_low}
 use Rattle.abi_frames.specs.Moves.{exchanged, operand_exchanged, argument_exchanged, exchange, is_in, is_read, settled, arrived, earlier, earlier_in, earlier_at, move_up, moves_up, moved_up, all_move_up, all_moved_up}
-use Rattle.abi_frames.specs.Emission.{register_all, passed_items}
+use Rattle.abi_frames.specs.Emission.{passed_class, register_all, passed_items}
 use Rattle.abi_frames.proofs.ConstantNumbers.{near_moves}
 use Rattle.abi_frames.proofs.Leading.{Site, Leads, leads_nowhere, leads_then, leads_so, leads_fixed, Sets, IsReg, register_reg}
 use Rattle.abi_frames.proofs.Instructions.{leads_add_low}
@@ -104,7 +104,7 @@ arguments_moved c s u a b [] h good = refl
 arguments_moved c s u a b (x ∷ args) h good =
     let parts = and_parts (in_place c.slots x) (list_all (in_place c.slots) args) good in
     let first : sent c u (argument_exchanged a b x) ≡ sent c s x =
-    ap (λ v. passed x.class (taken x.class v)) (operand_moved c s u a b x.value h parts.0) in
+    ap (λ v. passed (passed_class x.extension x.class) (taken (passed_class x.extension x.class) v)) (operand_moved c s u a b x.value h parts.0) in
     ap (λ v. v ∷ map (sent c u) (exchange a b args)) first ∙ ap (λ l. sent c s x ∷ l) (arguments_moved c s u a b args h parts.1)
 
 -- one argument comes to its register, which no one reads
@@ -122,7 +122,7 @@ neither true b h = absurd (let no : ⊥ = cc in no)
 neither false b h = (refl, h)
 
 sent_unread : (c : Setting) (s u : State) (to v : ℕ) (x : Argument Location) → Sets s to v u → is_in to x.value ≡ false → sent c u x ≡ sent c s x
-sent_unread c s u to v x h unread = ap (λ n. passed x.class (taken x.class n)) (operand_unread c s u to v x.value h unread)
+sent_unread c s u to v x h unread = ap (λ n. passed (passed_class x.extension x.class) (taken (passed_class x.extension x.class) n)) (operand_unread c s u to v x.value h unread)
 
 all_unread : (c : Setting) (s u : State) (to v : ℕ) (args : List (Argument Location)) → Sets s to v u → is_read to args ≡ false
     → map (sent c u) args ≡ map (sent c s) args
@@ -138,7 +138,7 @@ arguments_settled c s u to r zero (x ∷ args) a h unread is there =
     let parts = neither (is_in to x.value) (is_read to args) unread in
     let value : x.value ≡ At (InRegister r) = ap (λ (y : Argument Location). y.value) (same x a is) ∙ there in
     let first : u.registers to ≡ operand_in c s x.value = h.value ∙ sym (ap (operand_in c s) value) in
-    ap (λ n. passed x.class (taken x.class n) ∷ map (sent c u) args) first ∙ ap (λ l. sent c s x ∷ l) (all_unread c s u to (s.registers r) args h parts.1)
+    ap (λ n. passed (passed_class x.extension x.class) (taken (passed_class x.extension x.class) n) ∷ map (sent c u) args) first ∙ ap (λ l. sent c s x ∷ l) (all_unread c s u to (s.registers r) args h parts.1)
   where
     same : (p q : Argument Location) → Some p ≡ Some q → p ≡ q
     same p q e = cc
@@ -354,7 +354,7 @@ exchange_ordered k args r it order i y from few h = by_test (nat_eq i k) refl
 
 settled_here : (n k : ℕ) (args : List (Argument Location)) (y : Argument Location) → slice_get (settled n k args) k ≡ Some y → y.value ≡ At (InRegister n)
 settled_here n k [] y h = absurd (let no : ⊥ = cc in no)
-settled_here n zero (a ∷ args) y h = sym (ap (λ (x : Argument Location). x.value) (some_argument (record { class = a.class; value = At (InRegister n) }) y h))
+settled_here n zero (a ∷ args) y h = sym (ap (λ (x : Argument Location). x.value) (some_argument (record { class = a.class; value = At (InRegister n); extension = a.extension }) y h))
 settled_here n (suc k) (a ∷ args) y h = settled_here n k args y h
 
 settled_other : (n k : ℕ) (args : List (Argument Location)) (i : ℕ) → i ≢ k → slice_get (settled n k args) i ≡ slice_get args i

@@ -6,7 +6,9 @@ use Rattle.std.specs.List.{list_all}
 use Rattle.std.proofs.lemmas.Bool.{and_parts}
 use Rattle.std.proofs.lemmas.Bool.Decides.{nat_tests}
 use Rattle.std.proofs.lemmas.Option.{slice_get_within}
+use Rattle.bits.specs.Words.{sign_extended}
 use Rattle.il_ast.specs.declared.operation.Class.{Class}
+use Rattle.il_ast.specs.declared.operation.Class.TheVariants.{W, L}
 use Rattle.rv_isa.specs.State.{State, register, written}
 use Rattle.rv_isa.specs.Memory.{number_at}
 use Rattle.rv_isa.specs.Step.{act, jump, even_below}
@@ -22,14 +24,17 @@ use Rattle.vcode.specs.declared.place.Location.TheVariants.{Register as InRegist
 use Rattle.vcode.specs.declared.place.Operand.{Operand}
 use Rattle.vcode.specs.declared.place.Operand.TheVariants.{At, Number, Name}
 use Rattle.vcode.specs.declared.place.Argument.{Argument}
+use Rattle.vcode.specs.declared.place.Extension.{Extension}
+use Rattle.vcode.specs.declared.place.Extension.TheVariants.{Made, Claimed}
+use Rattle.vcode.specs.Operations.{is_extended}
 use Rattle.vcode.specs.Places.{is_callers}
 use Rattle.vcode.specs.Named.{is_place, operand_keeps}
 use Rattle.flat_code.specs.Spots.{Spot, Away, Known, Spots, SameReach}
-use Rattle.flat_code.specs.Step.{Numbers, kept, number_of, read_all, taken}
+use Rattle.flat_code.specs.Step.{Numbers, kept, number_of, read_all, taken, passed as read_passed}
 use Rattle.abi_frames.specs.Calls.{Ready, Back, is_kept, passed}
 use Rattle.vcode.specs.Addresses.{low}
 use Rattle.abi_frames.specs.Fields.{reg, add_low}
-use Rattle.abi_frames.specs.Emission.{fetch, source, stack_all, passed_items, callee_items, callee_source, prepare_items, call_through}
+use Rattle.abi_frames.specs.Emission.{fetch, source, passed_class, stack_all, passed_items, callee_items, callee_source, prepare_items, call_through}
 use Rattle.abi_frames.proofs.ConstantNumbers.{near_moves}
 use Rattle.abi_frames.proofs.Leading.{Site, StandAt, Leads, leads_nowhere, leads_then, leads_so, Sets, IsReg, register_reg, stepped, in_register, in_register_small, same_in_register}
 use Rattle.abi_frames.proofs.Instructions.{is_28}
@@ -220,12 +225,42 @@ goes_through c s r to rest held even stands fixed =
 
 -- ---- what the arguments are
 
+same_number : (a b : ℕ) → Some a ≡ Some b → a ≡ b
+same_number a b e = cc
+
+no_number : (x : ℕ) → None ≡ Some x → ⊥
+no_number x e = let no : ⊥ = cc in no
+
+-- y is what is passed of the number x, and what the machine passes is how it stands
+pub record PassedSo (t : Extension) (k : Class) (x y : ℕ) : Type 0 where
+  pub is : taken k x ≡ y
+  pub stands : passed (passed_class t k) (taken (passed_class t k) x) ≡ passed k (taken k x)
+
+claimed_stands : (x : ℕ) → sign_extended (x % 2 ^ 32) ≡ x → x ≡ passed W (taken W x)
+claimed_stands x h = sym (ap sign_extended (again x) ∙ h)
+  where
+    again : (n : ℕ) → n % 2 ^ 32 % 2 ^ 32 ≡ n % 2 ^ 32
+    again n = omega arith
+
+passed_so : (t : Extension) (k : Class) (x y : ℕ) → read_passed t k x ≡ Some y → PassedSo t k x y
+passed_so Made k x y h = record { is = same_number (taken k x) y h; stands = refl }
+passed_so Claimed L x y h = record { is = same_number x y h; stands = refl }
+passed_so Claimed W x y h = by_test (is_extended x) refl h
+  where
+    by_test : (b : Bool) → is_extended x ≡ b → (if b then Some (taken W x) else None) ≡ Some y → PassedSo Claimed W x y
+    by_test true e f = record {
+      is = same_number (taken W x) y f;
+      stands = claimed_stands x (let same : sign_extended (x % 2 ^ 32) ≡ x = grind (arith, nat_tests) in same);
+    }
+    by_test false e f = absurd (no_number y f)
+
 -- the arguments that are read, one after another
 pub record ReadMore (c : Setting) (numbers : Numbers) (a : Argument Location) (args : List (Argument Location)) (xs : List ℕ) : Type 0 where
   pub first : ℕ
   pub others : List ℕ
   pub is_first : number_of c.addresses numbers a.value ≡ Some first
   pub is_others : read_all c.addresses numbers args ≡ Some others
+  pub stands : passed (passed_class a.extension a.class) (taken (passed_class a.extension a.class) first) ≡ passed a.class (taken a.class first)
   pub all : xs ≡ taken a.class first ∷ others
 
 none_is : (xs : List ℕ) (o : Option (List ℕ)) → o ≡ None → o ≡ Some xs → ⊥
@@ -238,21 +273,24 @@ read_more : (c : Setting) (numbers : Numbers) (a : Argument Location) (args : Li
     → read_all c.addresses numbers (a ∷ args) ≡ Some xs → ReadMore c numbers a args xs
 read_more c numbers a args xs h = by_parts (number_of c.addresses numbers a.value) refl (read_all c.addresses numbers args) refl h
   where
+    by_value : (x : ℕ) → number_of c.addresses numbers a.value ≡ Some x → (q : Option (List ℕ)) → read_all c.addresses numbers args ≡ q
+        → (p : Option ℕ) → read_passed a.extension a.class x ≡ p → option_and_then (λ y. option_map (λ ys. y ∷ ys) q) p ≡ Some xs → ReadMore c numbers a args xs
+    by_value x e q d None g f = absurd (none_is xs None refl f)
+    by_value x e None d (Some y) g f = absurd (none_is xs None refl f)
+    by_value x e (Some ys) d (Some y) g f =
+        let so = passed_so a.extension a.class x y g in
+        record { first = x; others = ys; is_first = e; is_others = d; stands = so.stands; all = list_is (y ∷ ys) xs f ∙ ap (λ n. n ∷ ys) (sym so.is) }
+
     by_parts : (o : Option ℕ) → number_of c.addresses numbers a.value ≡ o → (q : Option (List ℕ)) → read_all c.addresses numbers args ≡ q
-        → option_and_then (λ x. option_map (λ ys. x ∷ ys) q) (option_map (taken a.class) o) ≡ Some xs → ReadMore c numbers a args xs
+        → option_and_then (λ y. option_map (λ ys. y ∷ ys) q) (option_and_then (read_passed a.extension a.class) o) ≡ Some xs → ReadMore c numbers a args xs
     by_parts None e q d f = absurd (none_is xs None refl f)
-    by_parts (Some x) e None d f = absurd (none_is xs None refl f)
-    by_parts (Some x) e (Some ys) d f =
-        record { first = x; others = ys; is_first = e; is_others = d; all = list_is (taken a.class x ∷ ys) xs f }
+    by_parts (Some x) e q d f = by_value x e q d (read_passed a.extension a.class x) refl f
 
 -- the i-th argument, of class k, is the number n
 pub record Sends (c : Setting) (s : State) (args : List (Argument Location)) (i : ℕ) (k : Class) (n : ℕ) : Type 0 where
   pub argument : Argument Location
   pub is : slice_get args i ≡ Some argument
   pub value : sent c s argument ≡ passed k n
-
-same_number : (a b : ℕ) → Some a ≡ Some b → a ≡ b
-same_number a b e = cc
 
 same_class : (a b : Class) → Some a ≡ Some b → a ≡ b
 same_class a b e = cc
@@ -273,7 +311,9 @@ sends c is numbers memory s framed (a ∷ args) good xs known zero k n e d =
     record {
       argument = a;
       is = refl;
-      value = ap (λ x. passed a.class (taken a.class x)) value ∙ (ap (passed a.class) first ∙ ap (λ q. passed q n) (same_class a.class k e));
+      value =
+          ap (λ x. passed (passed_class a.extension a.class) (taken (passed_class a.extension a.class) x)) value
+          ∙ (more.stands ∙ (ap (passed a.class) first ∙ ap (λ q. passed q n) (same_class a.class k e)));
     }
 sends c is numbers memory s framed (a ∷ args) good xs known (suc i) k n e d =
     let parts = and_parts (in_place c.slots a) (list_all (in_place c.slots) args) good in

@@ -46,7 +46,7 @@ use Rattle.abi_frames.specs.Fields.{reg, high, amount, word_amount, add_low, ext
 use Rattle.abi_frames.specs.Immediates.{opposite, next, right_form, left_form, compare_number, form_items}
 use Rattle.abi_frames.specs.declared.immediate.Form.{Form}
 use Rattle.abi_frames.specs.declared.immediate.Form.TheVariants.{Immediate as ByImmediate, AddWord, Shift as ByShift, ShiftWord, Compare as ByComparison}
-use Rattle.abi_frames.specs.Emission.{copy_at, copy_eight, copy_eights, copy_rest, far_load, load_slot, far_store, store_slot, slot_offset, into, fetch, source, word_into, target, deliver, set_items, compare_items, operation_items, operand_into, operand_source, on_registers, by_form, operate_by, operate_items, load_to, store_from, store_op, line_items, lines_items, move_pointer, lower_pointer, raise_pointer, save_all, restore_all, go_back, prologue, epilogue, result_items, goto_items, branch_when, inverted, ways_items, compared_into, compared_source, jump_items, blocks_items, pass_into, stack_items, stack_all, register_items, register_all, passed_items, callee_items, callee_source, prepare_items, call_through, receive_items, call_items, address_at}
+use Rattle.abi_frames.specs.Emission.{copy_at, copy_eight, copy_eights, copy_rest, far_load, load_slot, far_store, store_slot, slot_offset, into, fetch, source, word_into, target, deliver, set_items, compare_items, operation_items, operand_into, operand_source, on_registers, by_form, operate_by, operate_items, load_to, store_from, store_op, line_items, lines_items, move_pointer, lower_pointer, raise_pointer, save_all, restore_all, go_back, prologue, epilogue, result_items, goto_items, branch_when, inverted, ways_items, compared_into, compared_source, jump_items, blocks_items, passed_class, pass_into, stack_items, stack_all, register_items, register_all, passed_items, callee_items, callee_source, prepare_items, call_through, receive_items, call_items, address_at}
 use Rattle.abi_frames.specs.Moves.{is_read, earlier_at, move_up, moves_up, moved_up, all_move_up, all_moved_up}
 use Rattle.abi_frames.proofs.Passing.{in_place}
 use Rattle.abi_frames.proofs.Arranging.{is_earlier, all_stand}
@@ -371,11 +371,11 @@ pass_into_plainly n y slots d W a some h known = word_into_plainly n y slots d a
 stack_plainly : (n : ℕ) (y : Layout) (slots k : ℕ) (a : Argument Location) → in_place slots a ≡ true → Plainly n (stack_items y k a)
 stack_plainly n y slots k a known = by_test (nat_lt k 8)
   where
-    by_test : (b : Bool) → Plainly n (if b then [] else pass_into y 28 a.class a.value ++ (store_8 28 2 (8 * (k - 8)) ∷ []))
+    by_test : (b : Bool) → Plainly n (if b then [] else pass_into y 28 (passed_class a.extension a.class) a.value ++ (store_8 28 2 (8 * (k - 8)) ∷ []))
     by_test true = plainly_nothing n
     by_test false =
-        plainly_then n (pass_into y 28 a.class a.value) (store_8 28 2 (8 * (k - 8)) ∷ [])
-        (pass_into_plainly n y slots 28 a.class a.value (lit< tt) (lit< tt) known)
+        plainly_then n (pass_into y 28 (passed_class a.extension a.class) a.value) (store_8 28 2 (8 * (k - 8)) ∷ [])
+        (pass_into_plainly n y slots 28 (passed_class a.extension a.class) a.value (lit< tt) (lit< tt) known)
         (store_plainly n 28 2 (8 * (k - 8)) (nameable 28 (lit< tt)) (nameable 2 (lit< tt)))
 
 stack_all_plainly : (n : ℕ) (y : Layout) (slots k : ℕ) (args : List (Argument Location)) → list_all (in_place slots) args ≡ true → Plainly n (stack_all y k args)
@@ -387,10 +387,10 @@ stack_all_plainly n y slots k (a ∷ args) known =
 register_plainly : (n : ℕ) (y : Layout) (slots k : ℕ) (a : Argument Location) → in_place slots a ≡ true → Plainly n (register_items y k a)
 register_plainly n y slots k a known = by_test (nat_lt k 8) refl
   where
-    by_test : (b : Bool) → nat_lt k 8 ≡ b → Plainly n (if b then pass_into y (10 + k) a.class a.value else [])
+    by_test : (b : Bool) → nat_lt k 8 ≡ b → Plainly n (if b then pass_into y (10 + k) (passed_class a.extension a.class) a.value else [])
     by_test true e =
         let few : k < 8 = grind (arith, nat_tests) in
-        pass_into_plainly n y slots (10 + k) a.class a.value (omega arith) (omega (arith, few)) known
+        pass_into_plainly n y slots (10 + k) (passed_class a.extension a.class) a.value (omega arith) (omega (arith, few)) known
     by_test false e = plainly_nothing n
 
 register_all_plainly : (n : ℕ) (y : Layout) (slots k : ℕ) (args : List (Argument Location)) → list_all (in_place slots) args ≡ true

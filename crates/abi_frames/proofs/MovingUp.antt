@@ -27,7 +27,7 @@ next_moved (suc k) args o some e =
 
 -- `set` writes where the argument is
 pub settled_is : (n k : ℕ) (args : List (Argument Location)) (d : Argument Location) → k < length args
-    → set args k (record { class = (get_or args k d).class; value = At (Register n) }) ≡ settled n k args
+    → set args k (record { class = (get_or args k d).class; value = At (Register n); extension = (get_or args k d).extension }) ≡ settled n k args
 settled_is n k [] d h = absurd (let no : ⊥ = omega (arith, h) in no)
 settled_is n zero (a ∷ args) d h = refl
 settled_is n (suc k) (a ∷ args) d h = ap (λ l. a ∷ l) (settled_is n k args d (omega (arith, h)))

@@ -19,7 +19,7 @@ use Rattle.vcode.specs.Named.{is_place, operand_keeps}
 use Rattle.flat_code.specs.Step.{taken}
 use Rattle.abi_frames.specs.Calls.{passed}
 use Rattle.abi_frames.specs.Fields.{store_8}
-use Rattle.abi_frames.specs.Emission.{word_into, pass_into, stack_items, stack_all, register_items, register_all}
+use Rattle.abi_frames.specs.Emission.{word_into, passed_class, pass_into, stack_items, stack_all, register_items, register_all}
 use Rattle.abi_frames.proofs.Leading.{Leads, leads_nowhere, leads_then, leads_so, Sets, IsReg}
 use Rattle.abi_frames.proofs.Instructions.{Writes, leads_store, near_address, is_2, is_28}
 use Rattle.abi_frames.proofs.Activations.{Setting, IsSetting, site, bottom, slot_at, operand_in, place_is, in_frame}
@@ -29,7 +29,7 @@ use Rattle.abi_frames.proofs.LineCode.{leads_into, leads_word_into}
 
 -- what an argument is passed as
 abbrev pub sent : Setting → State → Argument Location → ℕ
-sent c s a = passed a.class (taken a.class (operand_in c s a.value))
+sent c s a = passed (passed_class a.extension a.class) (taken (passed_class a.extension a.class) (operand_in c s a.value))
 
 abbrev pub in_place : (slots : ℕ) → Argument Location → Bool
 in_place slots a = operand_keeps (is_place slots) a.value
@@ -53,7 +53,7 @@ operand_kept c is s u (Number n) h good = refl
 operand_kept c is s u (Name g) h good = refl
 
 pub sent_kept : (c : Setting) → IsSetting c → (s u : State) (a : Argument Location) → Kept c s u → in_place c.slots a ≡ true → sent c u a ≡ sent c s a
-sent_kept c is s u a h good = ap (λ v. passed a.class (taken a.class v)) (operand_kept c is s u a.value h good)
+sent_kept c is s u a h good = ap (λ v. passed (passed_class a.extension a.class) (taken (passed_class a.extension a.class) v)) (operand_kept c is s u a.value h good)
 
 pub each : (p : Argument Location → Bool) (xs : List (Argument Location)) (i : ℕ) (x : Argument Location) → list_all p xs ≡ true → slice_get xs i ≡ Some x → p x ≡ true
 each p [] i x h e = absurd (let no : ⊥ = cc in no)
@@ -131,7 +131,7 @@ leads_stacked c is s k a pointer known fits = by_test (nat_lt k 8) refl
     near = 8 * (k - 8)
 
     by_test : (t : Bool) → nat_lt k 8 ≡ t
-        → Leads (site c) (if t then [] else pass_into c.layout 28 a.class a.value ++ (store_8 28 2 near ∷ [])) s (Stacked c s k (a ∷ []))
+        → Leads (site c) (if t then [] else pass_into c.layout 28 (passed_class a.extension a.class) a.value ++ (store_8 28 2 near ∷ [])) s (Stacked c s k (a ∷ []))
     by_test true e =
         let few : k < 8 = grind (arith, nat_tests) in
         leads_nowhere (site c) s (Stacked c s k (a ∷ []))
@@ -148,8 +148,8 @@ leads_stacked c is s k a pointer known fits = by_test (nat_lt k 8) refl
         let near_saves = is.saves_near in
         let frame = is.fits in
         let inside = in_frame c is (8 * (k - 8)) (omega (arith, many, fits, saves, frame)) in
-        leads_then (site c) (pass_into c.layout 28 a.class a.value) (store_8 28 2 near ∷ []) s (Sets s 28 (sent c s a)) (Stacked c s k (a ∷ []))
-        (leads_argument c is s 28 a.class a.value is_28 (λ e. absurd (omega (arith, e))) pointer known)
+        leads_then (site c) (pass_into c.layout 28 (passed_class a.extension a.class) a.value) (store_8 28 2 near ∷ []) s (Sets s 28 (sent c s a)) (Stacked c s k (a ∷ []))
+        (leads_argument c is s 28 (passed_class a.extension a.class) a.value is_28 (λ e. absurd (omega (arith, e))) pointer known)
         (λ u f one.
         let small : sent c s a < 2 ^ 64 = subst (λ x. x < 2 ^ 64) one.value (f.words 28) in
         let at_u : u.registers 2 ≡ bottom c = one.others 2 (λ e. absurd (omega (arith, e))) ∙ pointer in
@@ -220,12 +220,12 @@ leads_has : (c : Setting) → IsSetting c → (s : State) (k : ℕ) (a : Argumen
     → Leads (site c) (register_items c.layout k a) s (Has c s k a)
 leads_has c is s k a pointer known = by_test (nat_lt k 8) refl
   where
-    by_test : (t : Bool) → nat_lt k 8 ≡ t → Leads (site c) (if t then pass_into c.layout (10 + k) a.class a.value else []) s (Has c s k a)
+    by_test : (t : Bool) → nat_lt k 8 ≡ t → Leads (site c) (if t then pass_into c.layout (10 + k) (passed_class a.extension a.class) a.value else []) s (Has c s k a)
     by_test true e =
         let few : k < 8 = grind (arith, nat_tests) in
         let is_d : IsReg (10 + k) = record { some = omega arith; small = omega (arith, few) } in
-        leads_so (site c) (pass_into c.layout (10 + k) a.class a.value) s (Sets s (10 + k) (sent c s a)) (Has c s k a)
-        (leads_argument c is s (10 + k) a.class a.value is_d (λ e. absurd (omega (arith, e))) pointer known)
+        leads_so (site c) (pass_into c.layout (10 + k) (passed_class a.extension a.class) a.value) s (Sets s (10 + k) (sent c s a)) (Has c s k a)
+        (leads_argument c is s (10 + k) (passed_class a.extension a.class) a.value is_d (λ e. absurd (omega (arith, e))) pointer known)
         (λ u f h. record {
           value = λ low. h.value;
           others = h.others;
@@ -283,7 +283,7 @@ registers_more c is s u w k a args order one two (suc i) b few e =
     let here : 10 + (k + suc i) ≡ 10 + (k + 1 + i) = omega arith in
     ap w.registers here
     ∙ (two.in_registers i b (omega (arith, few)) e
-    ∙ ap (λ v. passed b.class (taken b.class v)) (operand_left c is s u k (k + suc i) a one (omega arith) few b.value (order (suc i) b few e)))
+    ∙ ap (λ v. passed (passed_class b.extension b.class) (taken (passed_class b.extension b.class) v)) (operand_left c is s u k (k + suc i) a one (omega arith) few b.value (order (suc i) b few e)))
 
 order_more : (k : ℕ) (a : Argument Location) (args : List (Argument Location)) → InOrder k (a ∷ args) → InOrder (k + 1) args
 order_more k a args order i b few e =

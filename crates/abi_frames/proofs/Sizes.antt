@@ -49,7 +49,7 @@ use Rattle.abi_frames.specs.declared.immediate.Form.{Form}
 use Rattle.abi_frames.specs.declared.immediate.Form.TheVariants.{Immediate as ByImmediate, AddWord, Shift as ByShift, ShiftWord, Compare as ByComparison}
 use Rattle.abi_frames.proofs.FormNumbers.{word_low, word_is_small}
 use Rattle.abi_frames.proofs.Branching.{branch_size}
-use Rattle.abi_frames.specs.Emission.{far_load, far_store, load_slot, store_slot, slot_offset, into, fetch, source, word_into, target, deliver, set_items, compare_items, operation_items, operand_into, operand_source, on_registers, by_form, operate_by, operate_items, load_to, load_items, store_from, store_op, store_items, line_items, lines_items, move_pointer, lower_pointer, raise_pointer, save_all, restore_all, go_back, prologue, epilogue, result_items, goto_items, branch_when, inverted, ways_items, compared_into, compared_source, jump_items, block_items, blocks_items, pass_into, stack_items, stack_all, register_items, register_all, passed_items, callee_items, callee_source, prepare_items, call_through, receive_items, call_items, copy_at, copy_eight, copy_eights, copy_rest, blit_items, address_at, alloc_items}
+use Rattle.abi_frames.specs.Emission.{far_load, far_store, load_slot, store_slot, slot_offset, into, fetch, source, word_into, target, deliver, set_items, compare_items, operation_items, operand_into, operand_source, on_registers, by_form, operate_by, operate_items, load_to, load_items, store_from, store_op, store_items, line_items, lines_items, move_pointer, lower_pointer, raise_pointer, save_all, restore_all, go_back, prologue, epilogue, result_items, goto_items, branch_when, inverted, ways_items, compared_into, compared_source, jump_items, block_items, blocks_items, passed_class, pass_into, stack_items, stack_all, register_items, register_all, passed_items, callee_items, callee_source, prepare_items, call_through, receive_items, call_items, copy_at, copy_eight, copy_eights, copy_rest, blit_items, address_at, alloc_items}
 use Rattle.abi_frames.specs.Moves.{operand_exchanged, argument_exchanged, exchange, is_read, settled, arrived, earlier_at, move_up, moves_up, moved_up, all_move_up, all_moved_up}
 use Rattle.abi_frames.proofs.MovingUp.{moved_length}
 use Rattle.abi_frames.proofs.Sources.{sources_length}
@@ -313,11 +313,11 @@ pass_into_size y d W a =
 stack_size : (y : Layout) (k : ℕ) (a : Argument Location) → longest_size (stack_items y k a) ≤ 11
 stack_size y k a = by_test (nat_lt k 8)
   where
-    by_test : (b : Bool) → longest_size (if b then [] else pass_into y 28 a.class a.value ++ (store_8 28 2 (8 * (k - 8)) ∷ [])) ≤ 11
+    by_test : (b : Bool) → longest_size (if b then [] else pass_into y 28 (passed_class a.extension a.class) a.value ++ (store_8 28 2 (8 * (k - 8)) ∷ [])) ≤ 11
     by_test true = lit≤ tt
     by_test false =
-        let all = longest-append (pass_into y 28 a.class a.value) (store_8 28 2 (8 * (k - 8)) ∷ []) in
-        let h = pass_into_size y 28 a.class a.value in
+        let all = longest-append (pass_into y 28 (passed_class a.extension a.class) a.value) (store_8 28 2 (8 * (k - 8)) ∷ []) in
+        let h = pass_into_size y 28 (passed_class a.extension a.class) a.value in
         omega (arith, all, h)
 
 stack_all_size : (y : Layout) (k : ℕ) (args : List (Argument Location)) → longest_size (stack_all y k args) ≤ 11 * length args
@@ -331,8 +331,8 @@ stack_all_size y k (a ∷ args) =
 register_size : (y : Layout) (k : ℕ) (a : Argument Location) → longest_size (register_items y k a) ≤ 10
 register_size y k a = by_test (nat_lt k 8)
   where
-    by_test : (b : Bool) → longest_size (if b then pass_into y (10 + k) a.class a.value else []) ≤ 10
-    by_test true = pass_into_size y (10 + k) a.class a.value
+    by_test : (b : Bool) → longest_size (if b then pass_into y (10 + k) (passed_class a.extension a.class) a.value else []) ≤ 10
+    by_test true = pass_into_size y (10 + k) (passed_class a.extension a.class) a.value
     by_test false = lit≤ tt
 
 register_all_size : (y : Layout) (k : ℕ) (args : List (Argument Location)) → longest_size (register_all y k args) ≤ 10 * length args
@@ -706,7 +706,7 @@ is_held_long L (Name g) = false
 is_held_long W a = false
 
 abbrev is_long : Argument Location → Bool
-is_long a = is_held_long a.class a.value
+is_long a = is_held_long (passed_class a.extension a.class) a.value
 
 long_size : (y : Layout) (d : ℕ) (k : Class) (a : Operand Location) → is_held_long k a ≡ true → longest_size (pass_into y d k a) ≤ 3
 long_size y d L (At p) h = into_size y d (At p)
@@ -723,8 +723,8 @@ longs_size y k (a ∷ args) h =
     let rest = longs_size y (k + 1) args parts.1 in
     omega (arith, all, one, rest)
   where
-    by_test : (b : Bool) → is_long a ≡ true → longest_size (if b then pass_into y (10 + k) a.class a.value else []) ≤ 3
-    by_test true long = long_size y (10 + k) a.class a.value long
+    by_test : (b : Bool) → is_long a ≡ true → longest_size (if b then pass_into y (10 + k) (passed_class a.extension a.class) a.value else []) ≤ 3
+    by_test true long = long_size y (10 + k) (passed_class a.extension a.class) a.value long
     by_test false long = lit≤ tt
 
 still_long : (a b : ℕ) (k : Class) (x : Operand Location) → is_held_long k (operand_exchanged a b x) ≡ is_held_long k x
@@ -737,7 +737,7 @@ longs_exchanged : (a b : ℕ) (args : List (Argument Location)) → list_all is_
 longs_exchanged a b [] h = refl
 longs_exchanged a b (x ∷ args) h =
     let parts = and_parts (is_long x) (list_all is_long args) h in
-    and_from (is_long (argument_exchanged a b x)) (list_all is_long (exchange a b args)) (still_long a b x.class x.value ∙ parts.0)
+    and_from (is_long (argument_exchanged a b x)) (list_all is_long (exchange a b args)) (still_long a b (passed_class x.extension x.class) x.value ∙ parts.0)
     (longs_exchanged a b args parts.1)
 
 settled_long : (n : ℕ) (k : Class) (x : Operand Location) → is_held_long k x ≡ true → is_held_long k (At (InRegister n)) ≡ true
@@ -748,7 +748,7 @@ longs_settled : (n k : ℕ) (args : List (Argument Location)) → list_all is_lo
 longs_settled n k [] h = refl
 longs_settled n zero (x ∷ args) h =
     let parts = and_parts (is_long x) (list_all is_long args) h in
-    and_from (is_held_long x.class (At (InRegister n))) (list_all is_long args) (settled_long n x.class x.value parts.0) parts.1
+    and_from (is_held_long (passed_class x.extension x.class) (At (InRegister n))) (list_all is_long args) (settled_long n (passed_class x.extension x.class) x.value parts.0) parts.1
 longs_settled n (suc k) (x ∷ args) h =
     let parts = and_parts (is_long x) (list_all is_long args) h in
     and_from (is_long x) (list_all is_long (settled n k args)) parts.0 (longs_settled n k args parts.1)

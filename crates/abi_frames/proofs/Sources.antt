@@ -9,6 +9,7 @@ use Rattle.vcode.specs.declared.place.Location.{Location}
 use Rattle.vcode.specs.declared.place.Location.TheVariants.{Register as InRegister, Slot}
 use Rattle.vcode.specs.declared.place.Operand.TheVariants.{At}
 use Rattle.vcode.specs.declared.place.Argument.{Argument}
+use Rattle.vcode.specs.declared.place.Extension.TheVariants.{Made}
 use Rattle.vcode.specs.declared.place.Destination.{Destination}
 use Rattle.abi_frames.specs.Layout.{is_register}
 use Rattle.abi_frames.specs.Functions.{source_in, sources}
@@ -16,7 +17,7 @@ use Rattle.abi_frames.proofs.Passing.{in_place}
 
 -- a register's value as an argument
 abbrev pub source : ℕ → Argument Location
-source r = record { class = L; value = At (InRegister r) }
+source r = record { class = L; value = At (InRegister r); extension = Made }
 
 pub next_source : (n : ℕ) (ds : List (Destination Location)) → n < 8 → sources (8 - n) n ds ≡ source (source_in n 0 ds) ∷ sources (8 - (n + 1)) (n + 1) ds
 next_source n ds few =

@@ -22,6 +22,8 @@ use Rattle.vcode.specs.declared.place.Location.TheVariants.{Register as InRegist
 use Rattle.vcode.specs.declared.place.Operand.{Operand}
 use Rattle.vcode.specs.declared.place.Operand.TheVariants.{At, Number, Name}
 use Rattle.vcode.specs.declared.place.Argument.{Argument}
+use Rattle.vcode.specs.declared.place.Extension.{Extension}
+use Rattle.vcode.specs.declared.place.Extension.TheVariants.{Made, Claimed}
 use Rattle.vcode.specs.declared.place.Address.{Address as MemoryAddress}
 use Rattle.vcode.specs.declared.place.Destination.{Destination}
 use Rattle.vcode.specs.declared.line.Operation.{Operation}
@@ -176,6 +178,11 @@ load_items y to op at = fetch y FIRST_SCRATCH at.base ++ ((load_to op (target to
 
 -- ---- calls
 
+-- the class that a value is passed as: a word that is claimed to stand extended is passed as it is
+abbrev pub passed_class : Extension → Class → Class
+passed_class Made k = k
+passed_class Claimed k = L
+
 -- the argument into the register d, a word sign-extended
 abbrev pub pass_into : Layout → (d : ℕ) → Class → Operand Location → List Item
 pass_into y d L a = into y d a
@@ -183,7 +190,7 @@ pass_into y d W a = word_into y d a
 
 -- the k-th argument, past the eighth: to the stack, eight bytes each from the stack pointer upward
 abbrev pub stack_items : Layout → (k : ℕ) → Argument Location → List Item
-stack_items y k a = if nat_lt k ARGUMENT_REGISTERS then [] else pass_into y FIRST_SCRATCH a.class a.value ++ (store_8 FIRST_SCRATCH STACK_POINTER (8 * (k - ARGUMENT_REGISTERS)) ∷ [])
+stack_items y k a = if nat_lt k ARGUMENT_REGISTERS then [] else pass_into y FIRST_SCRATCH (passed_class a.extension a.class) a.value ++ (store_8 FIRST_SCRATCH STACK_POINTER (8 * (k - ARGUMENT_REGISTERS)) ∷ [])
 
 abbrev pub stack_all : Layout → (k : ℕ) → List (Argument Location) → List Item
 stack_all y k [] = []
@@ -191,7 +198,7 @@ stack_all y k (a ∷ args) = stack_items y k a ++ stack_all y (k + 1) args
 
 -- the first eight go into x10 to x17
 abbrev pub register_items : Layout → (k : ℕ) → Argument Location → List Item
-register_items y k a = if nat_lt k ARGUMENT_REGISTERS then pass_into y (FIRST_ARGUMENT + k) a.class a.value else []
+register_items y k a = if nat_lt k ARGUMENT_REGISTERS then pass_into y (FIRST_ARGUMENT + k) (passed_class a.extension a.class) a.value else []
 
 abbrev pub register_all : Layout → (k : ℕ) → List (Argument Location) → List Item
 register_all y k [] = []

@@ -10,6 +10,7 @@ use Rattle.rv_isa.specs.Labels.{longest_size}
 use Rattle.vcode.specs.declared.place.Location.{Location}
 use Rattle.vcode.specs.declared.place.Location.TheVariants.{Register, Slot}
 use Rattle.vcode.specs.declared.place.Argument.{Argument}
+use Rattle.vcode.specs.declared.place.Extension.TheVariants.{Made}
 use Rattle.vcode.specs.declared.place.Operand.{Operand}
 use Rattle.vcode.specs.declared.place.Operand.TheVariants.{At, Number}
 use Rattle.vcode.specs.declared.line.Operation.TheVariants.{Reg, Compare}
@@ -22,7 +23,7 @@ use Rattle.abi_frames.specs.Laws.{IsCode}
 use Rattle.abi_frames.specs.Functions.{frame_items}
 
 abbrev argument : Class → Operand Location → Argument Location
-argument k a = record { class = k; value = a }
+argument k a = record { class = k; value = a; extension = Made }
 
 -- counts in a slot up to 10
 abbrev pub counter : Code Location

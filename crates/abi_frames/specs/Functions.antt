@@ -7,6 +7,7 @@ use Rattle.vcode.specs.declared.place.Location.{Location}
 use Rattle.vcode.specs.declared.place.Location.TheVariants.{Register as InRegister, Slot}
 use Rattle.vcode.specs.declared.place.Destination.{Destination}
 use Rattle.vcode.specs.declared.place.Argument.{Argument}
+use Rattle.vcode.specs.declared.place.Extension.TheVariants.{Made}
 use Rattle.vcode.specs.declared.place.Operand.TheVariants.{At}
 use Rattle.il_ast.specs.declared.operation.Class.TheVariants.{L}
 use Rattle.vcode.specs.declared.code.Block.{Block}
@@ -63,7 +64,7 @@ source_in i k (d ∷ ds) = if comes_to i k d.place then FIRST_ARGUMENT + k else 
 -- what so many registers from x(10 + i) on take, as arguments of a call would be
 abbrev pub sources : (count i : ℕ) → List (Destination Location) → List (Argument Location)
 sources zero i ds = []
-sources (suc n) i ds = record { class = L; value = At (InRegister (source_in i 0 ds)) } ∷ sources n (i + 1) ds
+sources (suc n) i ds = record { class = L; value = At (InRegister (source_in i 0 ds)); extension = Made } ∷ sources n (i + 1) ds
 
 abbrev pub pointer_items : Layout → (params : ℕ) → List Item
 pointer_items y n = if nat_lt ARGUMENT_REGISTERS n then caller_pointer y else []

@@ -23,7 +23,7 @@ operand_exchanged a b (Number n) = Number n
 operand_exchanged a b (Name g) = Name g
 
 abbrev pub argument_exchanged : (a b : ℕ) → Argument Location → Argument Location
-argument_exchanged a b x = record { class = x.class; value = operand_exchanged a b x.value }
+argument_exchanged a b x = record { class = x.class; value = operand_exchanged a b x.value; extension = x.extension }
 
 abbrev pub exchange : (a b : ℕ) → List (Argument Location) → List (Argument Location)
 exchange a b args = map (argument_exchanged a b) args
@@ -65,7 +65,7 @@ moves_up k args (Some r) = move_up k r (is_read (FIRST_ARGUMENT + k) args)
 -- the k-th argument is then in this register
 abbrev pub settled : (number k : ℕ) → List (Argument Location) → List (Argument Location)
 settled n k [] = []
-settled n zero (a ∷ args) = record { class = a.class; value = At (Register n) } ∷ args
+settled n zero (a ∷ args) = record { class = a.class; value = At (Register n); extension = a.extension } ∷ args
 settled n (suc k) (a ∷ args) = a ∷ settled n k args
 
 abbrev pub arrived : (k from : ℕ) → (read : Bool) → List (Argument Location) → List (Argument Location)

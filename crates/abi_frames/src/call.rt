@@ -2,7 +2,7 @@
 ghost use Rattle.std.specs.Prelude.{◌≡◌, ◌-◌, ◌*◌, ◌^◌, ◌<◌, ◌≤◌, [], ◌∷◌, ◌++◌, ◌&&◌, length, nat_le, OnOk};
 ghost use Rattle.rv_isa.specs.declared.abi.TheConstants.{STACK_POINTER, FIRST_ARGUMENT, LAST_ARGUMENT, FIRST_SCRATCH};
 ghost use Rattle.abi_frames.specs.Fields.{store_8};
-ghost use Rattle.abi_frames.specs.Emission.{fetch, source, pass_into, stack_all, register_all, passed_items, callee_items, callee_source, call_through, receive_items, call_items};
+ghost use Rattle.abi_frames.specs.Emission.{fetch, source, passed_class, pass_into, stack_all, register_all, passed_items, callee_items, callee_source, call_through, receive_items, call_items};
 
 use crate::fields::{add_immediate, register, store};
 use crate::layout::Layout;
@@ -14,7 +14,17 @@ use rv_isa::abi;
 use rv_isa::instruction::Instr;
 use rv_isa::labelled::Item;
 use std::alloc::AllocError;
-use vcode::place::{Argument, Destination, Location, Operand, low_part};
+use vcode::place::{Argument, Destination, Extension, Location, Operand, low_part};
+
+// the class that a value is passed as
+fn passed_class(extension: Extension, class: Class) -> Class
+    ensures { result ≡ passed_class extension class }
+{
+    match extension {
+        Extension::Made => class,
+        Extension::Claimed => Class::L,
+    }
+}
 
 // has an argument in a register, a word sign-extended
 fn push_argument(
@@ -24,9 +34,9 @@ fn push_argument(
     argument: &Argument<Location>,
 ) -> Result<(), AllocError>
     requires { layout.now.slots < 2 ^ 16 }
-    ensures { OnOk result (items.new.items ≡ items.old.items ++ pass_into layout.now to argument.now.class argument.now.value) }
+    ensures { OnOk result (items.new.items ≡ items.old.items ++ pass_into layout.now to (passed_class argument.now.extension argument.now.class) argument.now.value) }
 {
-    match argument.class {
+    match passed_class(argument.extension, argument.class) {
         Class::W => push_word(items, layout, to, &argument.value),
         Class::L => push_operand(items, layout, to, &argument.value),
     }
@@ -40,7 +50,7 @@ fn push_stacked(
     argument: &Argument<Location>,
 ) -> Result<(), AllocError>
     requires { layout.now.slots < 2 ^ 16 }
-    ensures { OnOk result (items.new.items ≡ items.old.items ++ (pass_into layout.now FIRST_SCRATCH argument.now.class argument.now.value ++ (store_8 FIRST_SCRATCH STACK_POINTER offset ∷ []))) }
+    ensures { OnOk result (items.new.items ≡ items.old.items ++ (pass_into layout.now FIRST_SCRATCH (passed_class argument.now.extension argument.now.class) argument.now.value ++ (store_8 FIRST_SCRATCH STACK_POINTER offset ∷ []))) }
 {
     push_argument(items, layout, abi::FIRST_SCRATCH, argument)?;
     items.push(store(abi::FIRST_SCRATCH, abi::STACK_POINTER, offset))?;

@@ -6,7 +6,7 @@ use il_ast::symbol::Symbol;
 use rv_isa::instruction::Instr;
 use rv_isa::labelled::Item;
 use std::test::Fail;
-use vcode::place::{Argument, Destination, Location, Operand};
+use vcode::place::{Argument, Destination, Extension, Location, Operand};
 
 // two words below the saved registers
 const OUTGOING: Layout = Layout {
@@ -23,6 +23,7 @@ fn argument(class: Class, place: Location) -> Argument<Location> {
     Argument {
         class,
         value: Operand::At(place),
+        extension: Extension::Made,
     }
 }
 

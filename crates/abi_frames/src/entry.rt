@@ -15,7 +15,7 @@ use il_ast::operation::Class;
 use rv_isa::abi;
 use rv_isa::labelled::Item;
 use std::alloc::{AllocError, Global};
-use vcode::place::{Argument, Destination, Location, Operand};
+use vcode::place::{Argument, Destination, Extension, Location, Operand};
 
 // the caller's stack pointer into x30
 fn push_caller_pointer(items: &mut Vec<Item>, layout: &Layout) -> Result<(), AllocError>
@@ -207,6 +207,7 @@ fn sources(
         all.push(Argument {
             class: Class::L,
             value: Operand::At(Location::Register(source_in(number, params))),
+            extension: Extension::Made,
         })?;
     }
     Ok(all)

@@ -42,6 +42,7 @@ fn exchange(
         after.push(Argument {
             class: argument.class,
             value: operand_exchanged(a, b, argument.value),
+            extension: argument.extension,
         })?;
     }
     Ok(after)

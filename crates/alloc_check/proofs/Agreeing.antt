@@ -13,9 +13,9 @@ use Rattle.vcode.specs.declared.place.Operand.{Operand}
 use Rattle.vcode.specs.declared.place.Operand.TheVariants.{At, Number, Name}
 use Rattle.vcode.specs.declared.place.Argument.{Argument}
 use Rattle.vcode.specs.declared.place.Destination.{Destination}
-use Rattle.vcode.specs.Operations.{held}
+use Rattle.vcode.specs.Operations.{held, passed}
 use Rattle.vcode.specs.Places.{Values, put, assign, kept, virtual, located, same_location, is_callers}
-use Rattle.vcode.specs.Step.{bound, value_of, read, read_all}
+use Rattle.vcode.specs.Step.{bound, value_of, read, read_argument, read_all}
 use Rattle.certificates.specs.declared.certificate.Equality.{Equality}
 use Rattle.certificates.specs.declared.certificate.Transfer.{Transfer}
 use Rattle.alloc_check.specs.Placed.{Layout, placed_operand, placed_argument}
@@ -65,14 +65,20 @@ pub read_follows : (globals : List Value) (own : Owners) (ev : Values ℕ) (el :
 read_follows globals own ev el f k a h agrees =
     follows_then (value_of globals el (placed_operand f a)) (value_of globals ev a) (in_place k) (in_place k) (operand_follows globals own ev el f a h agrees) (λ x y e. e)
 
+argument_follows : (globals : List Value) (own : Owners) (ev : Values ℕ) (el : Values Location) (f : Layout) (a : Argument ℕ) → operand_held own f a.value ≡ true → Agrees own ev el
+    → Follows (read_argument globals el (placed_argument f a)) (read_argument globals ev a)
+argument_follows globals own ev el f a h agrees =
+    follows_then (value_of globals el (placed_operand f a.value)) (value_of globals ev a.value) (passed a.extension a.class) (passed a.extension a.class)
+    (operand_follows globals own ev el f a.value h agrees) (λ x y e. e)
+
 pub args_follow : (globals : List Value) (own : Owners) (ev : Values ℕ) (el : Values Location) (f : Layout) (args : List (Argument ℕ)) → args_held own f args ≡ true → Agrees own ev el
     → Follows (read_all globals el (map (placed_argument f) args)) (read_all globals ev args)
 args_follow globals own ev el f [] h agrees = λ v e. e
 args_follow globals own ev el f (a ∷ args) h agrees =
     let both = both_true (operand_held own f a.value) (args_held own f args) h in
-    follows_then (read globals el a.class (placed_operand f a.value)) (read globals ev a.class a.value)
+    follows_then (read_argument globals el (placed_argument f a)) (read_argument globals ev a)
     (λ v. option_map (λ vs. v ∷ vs) (read_all globals ev args)) (λ v. option_map (λ vs. v ∷ vs) (read_all globals el (map (placed_argument f) args)))
-    (read_follows globals own ev el f a.class a.value both.0 agrees)
+    (argument_follows globals own ev el f a both.0 agrees)
     (λ v. follows_map (read_all globals el (map (placed_argument f) args)) (read_all globals ev args) (λ vs. v ∷ vs) (args_follow globals own ev el f args both.1 agrees))
 
 -- ---- a register is written

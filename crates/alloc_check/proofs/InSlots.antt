@@ -29,9 +29,9 @@ use Rattle.vcode.specs.declared.line.Jump.TheVariants.{Goto, Branch, Return, Hal
 use Rattle.vcode.specs.declared.code.Block.{Block}
 use Rattle.vcode.specs.declared.code.Code.{Code}
 use Rattle.vcode.specs.Addresses.{distance}
-use Rattle.vcode.specs.Operations.{held, operate, loaded}
+use Rattle.vcode.specs.Operations.{held, passed, operate, loaded}
 use Rattle.vcode.specs.Places.{Values, unknown, put, assign, kept, virtual, located}
-use Rattle.vcode.specs.Step.{State, bound, begin, value_of, read, read_all, operated, address_of, goes_on, sets, takes, changes, weighs, ticks, receives, resumes, calls, line_step, compared, branches, returns, jump_step, block_step, step_in, step}
+use Rattle.vcode.specs.Step.{State, bound, begin, value_of, read, read_argument, read_all, operated, address_of, goes_on, sets, takes, changes, weighs, ticks, receives, resumes, calls, line_step, compared, branches, returns, jump_step, block_step, step_in, step}
 use Rattle.alloc_check.specs.Placed.{placed_operand, placed_address, placed_argument, placed_destination, placed_line, placed_jump, placed_block, in_slots}
 use Rattle.alloc_check.specs.Kept.{RunsAlike}
 
@@ -76,8 +76,8 @@ same_read globals ev el k a m = ap (option_and_then (in_place k)) (same_value gl
 same_read_all : (globals : List Value) (ev : Values ℕ) (el : Values Location) (args : List (Argument ℕ)) → Mirror ev el → read_all globals el (map (placed_argument Slot) args) ≡ read_all globals ev args
 same_read_all globals ev el [] m = refl
 same_read_all globals ev el (a ∷ args) m =
-    ap (λ (o : Option (List Value)). option_and_then (λ v. option_map (λ vs. v ∷ vs) o) (read globals el a.class (placed_operand Slot a.value))) (same_read_all globals ev el args m)
-    ∙ ap (λ (o : Option Value). option_and_then (λ v. option_map (λ vs. v ∷ vs) (read_all globals ev args)) o) (same_read globals ev el a.class a.value m)
+    ap (λ (o : Option (List Value)). option_and_then (λ v. option_map (λ vs. v ∷ vs) o) (read_argument globals el (placed_argument Slot a))) (same_read_all globals ev el args m)
+    ∙ ap (λ (o : Option Value). option_and_then (λ v. option_map (λ vs. v ∷ vs) (read_all globals ev args)) (option_and_then (passed a.extension a.class) o)) (same_value globals ev el a.value m)
 
 same_classes : (args : List (Argument ℕ)) → map (λ (a : Argument Location). a.class) (map (placed_argument Slot) args) ≡ map (λ (a : Argument ℕ). a.class) args
 same_classes [] = refl

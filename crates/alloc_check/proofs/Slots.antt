@@ -53,7 +53,7 @@ args_slot : (c : Certificate) (p : ℕ) (args : List (Argument ℕ)) → list_al
 args_slot c p [] h = refl
 args_slot c p (a ∷ args) h =
     let s = both_true (operand_keeps (own_at c p) a.value) (list_all (λ (x : Argument ℕ). operand_keeps (own_at c p) x.value) args) h in
-    ap (λ (v : Operand Location). record { class = a.class; value = v } ∷ map (placed_argument (layout_at c p)) args) (operand_slot c p a.value s.0)
+    ap (λ (v : Operand Location). record { class = a.class; value = v; extension = a.extension } ∷ map (placed_argument (layout_at c p)) args) (operand_slot c p a.value s.0)
     ∙ ap (λ xs. placed_argument Slot a ∷ xs) (args_slot c p args s.1)
 
 address_slot : (c : Certificate) (p : ℕ) (at : Address ℕ) → operand_keeps (own_at c p) at.base ≡ true → placed_address (layout_at c p) at ≡ placed_address Slot at

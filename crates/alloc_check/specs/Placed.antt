@@ -29,7 +29,7 @@ abbrev pub placed_address : Layout → Address ℕ → Address Location
 placed_address f at = record { base = placed_operand f at.base; offset = at.offset }
 
 abbrev pub placed_argument : Layout → Argument ℕ → Argument Location
-placed_argument f a = record { class = a.class; value = placed_operand f a.value }
+placed_argument f a = record { class = a.class; value = placed_operand f a.value; extension = a.extension }
 
 abbrev pub placed_destination : Layout → Destination ℕ → Destination Location
 placed_destination f d = record { place = f d.place; class = d.class }

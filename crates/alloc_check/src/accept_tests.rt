@@ -13,7 +13,7 @@ use std::test::Fail;
 use vcode::code::{Block, Code};
 use vcode::function::{LFunc, VFunc};
 use vcode::line::{Jump, Line, Operation};
-use vcode::place::{Argument, Destination, Location, Operand};
+use vcode::place::{Argument, Destination, Extension, Location, Operand};
 
 /// Passes its argument, register 0, to a call, adds the result, register 1, to it, and returns the sum, register 2.
 fn calling(alloc: Global) -> Result<VFunc, AllocError> {
@@ -26,6 +26,7 @@ fn calling(alloc: Global) -> Result<VFunc, AllocError> {
     args.push(Argument {
         class: Class::L,
         value: Operand::At(0),
+        extension: Extension::Made,
     })?;
     let mut lines = Seq::new(alloc);
     lines.push(Line::Tick {
@@ -296,6 +297,7 @@ fn holding(alloc: Global) -> Result<VFunc, AllocError> {
     args.push(Argument {
         class: Class::W,
         value: Operand::At(1),
+        extension: Extension::Made,
     })?;
     let mut lines = Seq::new(alloc);
     lines.push(Line::Tick {

@@ -50,6 +50,7 @@ fn argument<P: Placing>(places: &P, arg: &Argument<u32>) -> Argument<Location>
     Argument {
         class: arg.class,
         value: operand(places, &arg.value),
+        extension: arg.extension,
     }
 }
 

@@ -7,7 +7,7 @@ use std::test::Fail;
 use vcode::code::Code;
 use vcode::function::VFunc;
 use vcode::line::{Line, Operation};
-use vcode::place::{Argument, Destination, Location, Operand};
+use vcode::place::{Argument, Destination, Extension, Location, Operand};
 
 #[test]
 fn operands_and_results_are_placed(rt: HostRuntime) -> Result<(), Fail> {
@@ -38,10 +38,12 @@ fn calls_are_placed(rt: HostRuntime) -> Result<(), Fail> {
     args.push(Argument {
         class: Class::W,
         value: Operand::At(5),
+        extension: Extension::Made,
     })?;
     args.push(Argument {
         class: Class::L,
         value: Operand::Number(2),
+        extension: Extension::Made,
     })?;
     let from = Line::Call {
         to: Some(Destination {

@@ -31,10 +31,10 @@ use Rattle.vcode.specs.declared.code.Block.{Block}
 use Rattle.vcode.specs.declared.code.Code.{Code}
 use Rattle.vcode.specs.declared.function.VFunc.{VFunc}
 use Rattle.vcode.specs.Addresses.{distance}
-use Rattle.vcode.specs.Operations.{held, operate, loaded}
+use Rattle.vcode.specs.Operations.{held, operate, loaded, passed}
 use Rattle.vcode.specs.Places.{Values, put, assign, kept, virtual}
 use Rattle.vcode.specs.Coded.{classes_in}
-use Rattle.vcode.specs.Step.{State, begin, value_of, read, read_all, operated, address_of, goes_on, sets, changes, weighs, ticks, receives, resumes, calls, line_step, enters, compared, branches, returns, jump_step, step}
+use Rattle.vcode.specs.Step.{State, begin, value_of, read, read_argument, read_all, operated, address_of, goes_on, sets, changes, weighs, ticks, receives, resumes, calls, line_step, enters, compared, branches, returns, jump_step, step}
 use Rattle.vcode.proofs.Lists.{head_at, tail_at, nothing_at, same_some}
 use Rattle.vcode.proofs.Stepping.{step_line, step_jump, step_nowhere}
 use Rattle.cfg_live.specs.Registers.{with_operand, jump_reads}
@@ -79,9 +79,9 @@ two_same {R} globals ev el a b act h =
 args_same : (globals : List Value) (ev el : Values ℕ) (args : List (Argument ℕ)) → Agree (λ r. list_any (λ (a : Argument ℕ). names_it a.value r) args) ev el → read_all globals el args ≡ read_all globals ev args
 args_same globals ev el [] h = refl
 args_same globals ev el (a ∷ args) h =
-    ap (λ (x : Option Value). option_and_then (λ v. option_map (λ vs. v ∷ vs) (read_all globals el args)) (option_and_then (in_place a.class) x))
+    ap (λ (x : Option Value). option_and_then (λ v. option_map (λ vs. v ∷ vs) (read_all globals el args)) (option_and_then (passed a.extension a.class) x))
     (value_same globals ev el a.value (λ r e. h r (left_or (names_it a.value r) (list_any (λ (b : Argument ℕ). names_it b.value r) args) e)))
-    ∙ ap (λ (x : Option (List Value)). option_and_then (λ v. option_map (λ vs. v ∷ vs) x) (read globals ev a.class a.value))
+    ∙ ap (λ (x : Option (List Value)). option_and_then (λ v. option_map (λ vs. v ∷ vs) x) (read_argument globals ev a))
     (args_same globals ev el args (λ r e. h r (or_right (names_it a.value r) (list_any (λ (b : Argument ℕ). names_it b.value r) args) e)))
 
 -- ---- a register is written

@@ -13,12 +13,14 @@ use Rattle.vcode.specs.declared.place.Location.{Location}
 use Rattle.vcode.specs.declared.place.Operand.{Operand}
 use Rattle.vcode.specs.declared.place.Operand.TheVariants.{At, Number, Name}
 use Rattle.vcode.specs.declared.place.Destination.{Destination}
+use Rattle.vcode.specs.declared.place.Extension.{Extension}
+use Rattle.vcode.specs.declared.place.Extension.TheVariants.{Made, Claimed}
 use Rattle.vcode.specs.declared.place.Argument.{Argument}
-use Rattle.vcode.specs.Operations.{held as value_held}
+use Rattle.vcode.specs.Operations.{held as value_held, is_extended, stands_extended, passed as value_passed}
 use Rattle.vcode.specs.Places.{Values, assign, put as put_value, kept as values_kept, same_location, is_callers, located}
-use Rattle.vcode.specs.Step.{bound as values_bound, value_of, read as value_read, read_all as values_read}
+use Rattle.vcode.specs.Step.{bound as values_bound, value_of, read as value_read, read_argument as value_argument, read_all as values_read}
 use Rattle.flat_code.specs.Spots.{Bases, Entries, Grown, Shows, AllShow}
-use Rattle.flat_code.specs.Step.{Numbers, put, kept, held, taken, bound, number_of, read, read_all}
+use Rattle.flat_code.specs.Step.{Numbers, put, kept, held, taken, passed, bound, number_of, read, read_argument, read_all}
 
 -- ---- one value
 
@@ -138,6 +140,38 @@ read_passes k (Some u) v is = passes_taken k u v is
 
 -- ---- arguments
 
+claimed_shown : (e : Entries) (p : Bases) (v : Value) (x : ℕ) → Shows e p v x → Follows e p (value_passed Claimed W v) (passed Claimed W x)
+claimed_shown e p (Integer n) x h =
+    subst (λ (m : ℕ). Follows e p (value_passed Claimed W (Integer n)) (passed Claimed W m)) (sym h)
+    (if_follows e p (is_extended n) (in_place W (Integer n)) None (Some (taken W n)) None
+    (λ w is. (taken W n, refl, taken_shown e p W (Integer n) w n refl is)) (none_follows e p None))
+claimed_shown e p (Pointer b o) x h = none_follows e p (passed Claimed W x)
+claimed_shown e p (Function f) x h = none_follows e p (passed Claimed W x)
+
+passed_shown : (e : Entries) (p : Bases) (t : Extension) (k : Class) (v : Value) (x : ℕ) → Shows e p v x → Follows e p (value_passed t k v) (passed t k x)
+passed_shown e p Made k v x h = λ w is. (taken k x, refl, taken_shown e p k v w x h is)
+passed_shown e p Claimed W v x h = claimed_shown e p v x h
+passed_shown e p Claimed L v x h = λ w is. (x, refl, taken_shown e p L v w x h is)
+
+argument_follows : (e : Entries) (p : Bases) (globals : List Value) (addresses : List ℕ) (values : Values Location) (numbers : Numbers) → AllShow e p globals addresses → AllFollow e p values numbers
+    → (a : Argument Location) → Follows e p (value_argument globals values a) (read_argument addresses numbers a)
+argument_follows e p globals addresses values numbers names h a =
+    follows_then e p (value_of globals values a.value) (number_of addresses numbers a.value) (value_passed a.extension a.class) (passed a.extension a.class)
+    (operand_follows e p globals addresses values numbers names h a.value) (passed_shown e p a.extension a.class)
+
+passed_passes : (t : Extension) (k : Class) (u v : Value) → value_passed t k u ≡ Some v → Passes k v
+passed_passes Made k u v is = passes_taken k u v is
+passed_passes Claimed L u v is = passes_taken L u v is
+passed_passes Claimed W u v is = by (stands_extended u) is
+  where
+    by : (b : Bool) → (if b then in_place W u else None) ≡ Some v → Passes W v
+    by true is = passes_taken W u v is
+    by false is = absurd (none_is v is)
+
+argument_passes : (t : Extension) (k : Class) (o : Option Value) (v : Value) → option_and_then (value_passed t k) o ≡ Some v → Passes k v
+argument_passes t k None v is = absurd (none_is v is)
+argument_passes t k (Some u) v is = passed_passes t k u v is
+
 -- where there are values, there are numbers that show them, and the values are of the classes
 abbrev pub ArgsFollow : Entries → Bases → List Class → Option (List Value) → Option (List ℕ) → Type 0
 ArgsFollow e p cs o n = (vs : List Value) → o ≡ Some vs → (xs : List ℕ) × (n ≡ Some xs) × AllShow e p vs xs × AreArgs cs vs
@@ -161,9 +195,9 @@ pub all_follow : (e : Entries) (p : Bases) (globals : List Value) (addresses : L
 all_follow e p globals addresses values numbers names h [] = λ vs is.
     let same : [] ≡ vs = some_is [] vs is in ([], refl, subst (λ (ws : List Value). AllShow e p ws []) same tt, subst (λ (ws : List Value). AreArgs [] ws) same tt)
 all_follow e p globals addresses values numbers names h (a ∷ args) =
-    cons_follow e p a.class (map (λ b. b.class) args) (value_read globals values a.class a.value) (read addresses numbers a.class a.value)
-    (values_read globals values args) (read_all addresses numbers args) (read_follows e p globals addresses values numbers names h a.class a.value)
-    (read_passes a.class (value_of globals values a.value))
+    cons_follow e p a.class (map (λ b. b.class) args) (value_argument globals values a) (read_argument addresses numbers a)
+    (values_read globals values args) (read_all addresses numbers args) (argument_follows e p globals addresses values numbers names h a)
+    (argument_passes a.extension a.class (value_of globals values a.value))
     (all_follow e p globals addresses values numbers names h args)
 
 -- ---- the start

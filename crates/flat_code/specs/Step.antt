@@ -22,6 +22,8 @@ use Rattle.vcode.specs.declared.place.Operand.{Operand}
 use Rattle.vcode.specs.declared.place.Operand.TheVariants.{At, Number, Name}
 use Rattle.vcode.specs.declared.place.Destination.{Destination}
 use Rattle.vcode.specs.declared.place.Argument.{Argument}
+use Rattle.vcode.specs.declared.place.Extension.{Extension}
+use Rattle.vcode.specs.declared.place.Extension.TheVariants.{Claimed}
 use Rattle.vcode.specs.declared.place.Address.{Address}
 use Rattle.vcode.specs.declared.line.Operation.{Operation}
 use Rattle.vcode.specs.declared.line.Operation.TheVariants.{Reg, RegW, Compare}
@@ -33,6 +35,7 @@ use Rattle.vcode.specs.declared.line.Jump.TheVariants.{Goto, Branch, Return, Hal
 use Rattle.vcode.specs.declared.code.Block.{Block}
 use Rattle.vcode.specs.declared.code.Code.{Code}
 use Rattle.vcode.specs.Addresses.{distance}
+use Rattle.vcode.specs.Operations.{is_extended}
 use Rattle.vcode.specs.Places.{same_location, is_callers}
 use Rattle.vcode.specs.Regular.{area}
 use Rattle.vcode.specs.Step.{weighs}
@@ -116,6 +119,11 @@ abbrev pub taken : Class → ℕ → ℕ
 taken W n = n % 2 ^ 32
 taken L n = n
 
+-- what is passed of a number to a place of class k; a word that is claimed to stand extended has to
+abbrev pub passed : Extension → Class → ℕ → Option ℕ
+passed Claimed W n = if is_extended n then Some (taken W n) else None
+passed t k n = Some (taken k n)
+
 unfoldable pub computed : Operation → (a b : ℕ) → ℕ
 computed (Reg op) a b = reg_value op a b
 computed (RegW op) a b = regw_value op a b
@@ -153,10 +161,13 @@ number_of addresses numbers (Name g) = slice_get addresses g
 abbrev pub read : List ℕ → Numbers → Class → Operand Location → Option ℕ
 read addresses numbers k a = option_map (taken k) (number_of addresses numbers a)
 
+abbrev pub read_argument : List ℕ → Numbers → Argument Location → Option ℕ
+read_argument addresses numbers a = option_and_then (passed a.extension a.class) (number_of addresses numbers a.value)
+
 abbrev pub read_all : List ℕ → Numbers → List (Argument Location) → Option (List ℕ)
 read_all addresses numbers [] = Some []
 read_all addresses numbers (a ∷ args) =
-    option_and_then (λ x. option_map (λ xs. x ∷ xs) (read_all addresses numbers args)) (read addresses numbers a.class a.value)
+    option_and_then (λ x. option_map (λ xs. x ∷ xs) (read_all addresses numbers args)) (read_argument addresses numbers a)
 
 -- what an operation gives for what two operands give
 abbrev pub operated : Operation → (a b : Option ℕ) → Option ℕ

@@ -52,7 +52,7 @@ abbrev pub Replacing : Type 0
 Replacing = Operand ℕ → Operand ℕ
 
 abbrev pub with_argument : Replacing → Argument ℕ → Argument ℕ
-with_argument f a = record { class = a.class; value = f a.value }
+with_argument f a = record { class = a.class; value = f a.value; extension = a.extension }
 
 -- the operands of a sum with a number of what is known to be one
 abbrev pub regrouped : Option Fact → (r m : ℕ) → Operand ℕ × Operand ℕ

@@ -60,6 +60,7 @@ fn argument(table: &Table, from: &Argument<u32>) -> Argument<u32>
     Argument {
         class: from.class,
         value: operand(table, &from.value),
+        extension: from.extension,
     }
 }
 

@@ -1,6 +1,6 @@
 -- Code that holds a constant runs as the code does, line by line: all other registers agree, and where the constant is held its register has its value. The line
 -- that sets it is one step more.
-use Rattle.std.proofs.Common.{◌≡◌, ℕ, zero, suc, ◌+◌, ◌-◌, ◌%◌, ◌^◌, Bool, true, false, not, ◌&&◌, ◌||◌, nat_eq, nat_lt, if◌then◌else◌, List, [], ◌∷◌, ◌++◌, map, drop, length, Option, Some, None, slice_get, refl, sym, ◌∙◌, ap, subst, arith}
+use Rattle.std.proofs.Common.{◌≡◌, ℕ, zero, suc, ◌+◌, ◌-◌, Bool, true, false, not, ◌&&◌, ◌||◌, nat_eq, nat_lt, if◌then◌else◌, List, [], ◌∷◌, ◌++◌, map, drop, length, Option, Some, None, slice_get, refl, sym, ◌∙◌, ap, subst, arith}
 use Rattle.std.specs.List.{list_all}
 use Rattle.std.specs.Option.{option_map, option_and_then}
 use Rattle.std.proofs.lemmas.Bool.Decides.{nat_tests}
@@ -30,11 +30,11 @@ use Rattle.vcode.specs.declared.line.Operation.TheVariants.{Reg, Compare}
 use Rattle.vcode.specs.declared.code.Block.{Block}
 use Rattle.vcode.specs.declared.code.Code.{Code}
 use Rattle.vcode.specs.Addresses.{distance}
-use Rattle.vcode.specs.Operations.{held, operate, loaded}
+use Rattle.vcode.specs.Operations.{held, operate, loaded, passed}
 use Rattle.vcode.specs.Places.{Values, put, assign, kept, virtual}
 use Rattle.vcode.specs.Coded.{classes_in}
-use Rattle.vcode.specs.Named.{operand_keeps, wanted_keeps, made_keeps, line_keeps, jump_keeps, block_keeps}
-use Rattle.vcode.specs.Step.{State, begin, value_of, read, read_all, operated, address_of, goes_on, sets, takes, changes, weighs, ticks, receives, resumes, calls, line_step, enters, compared, branches, returns, jump_step, step}
+use Rattle.vcode.specs.Named.{operand_keeps, wanted_keeps, line_keeps, jump_keeps, block_keeps}
+use Rattle.vcode.specs.Step.{State, begin, value_of, read, read_argument, read_all, operated, address_of, goes_on, sets, takes, changes, weighs, ticks, receives, resumes, calls, line_step, enters, compared, branches, returns, jump_step, step}
 use Rattle.vcode.proofs.Lists.{head_at, tail_at, nothing_at, same_some}
 use Rattle.vcode.proofs.Stepping.{step_line, step_jump, step_nowhere}
 use Rattle.loops.specs.Targets.{targets}
@@ -115,8 +115,8 @@ args_same : (globals : List Value) (r : ℕ) (ev el : Values ℕ) (f : Replacing
 args_same globals r ev el f same [] h = refl
 args_same globals r ev el f same (a ∷ args) h =
     let s = both_true (operand_keeps (is_other r) a.value) (list_all (λ (b : Argument ℕ). operand_keeps (is_other r) b.value) args) h in
-    ap (λ (x : Option Value). option_and_then (λ v. option_map (λ vs. v ∷ vs) (read_all globals el (map (with_argument f) args))) (option_and_then (in_place a.class) x)) (same a.value s.0)
-    ∙ ap (λ (x : Option (List Value)). option_and_then (λ v. option_map (λ vs. v ∷ vs) x) (read globals ev a.class a.value)) (args_same globals r ev el f same args s.1)
+    ap (λ (x : Option Value). option_and_then (λ v. option_map (λ vs. v ∷ vs) (read_all globals el (map (with_argument f) args))) (option_and_then (passed a.extension a.class) x)) (same a.value s.0)
+    ∙ ap (λ (x : Option (List Value)). option_and_then (λ v. option_map (λ vs. v ∷ vs) x) (read_argument globals ev a)) (args_same globals r ev el f same args s.1)
 
 classes_same : (f : Replacing) (args : List (Argument ℕ)) → map (λ (a : Argument ℕ). a.class) (map (with_argument f) args) ≡ map (λ (a : Argument ℕ). a.class) args
 classes_same f [] = refl

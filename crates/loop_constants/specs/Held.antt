@@ -52,7 +52,7 @@ abbrev pub with_base : Replacing → Address ℕ → Address ℕ
 with_base f at = record { base = f at.base; offset = at.offset }
 
 abbrev pub with_argument : Replacing → Argument ℕ → Argument ℕ
-with_argument f a = record { class = a.class; value = f a.value }
+with_argument f a = record { class = a.class; value = f a.value; extension = a.extension }
 
 abbrev pub with_line : Replacing → Line ℕ → Line ℕ
 with_line f (Tick turn w) = Tick turn w

@@ -34,6 +34,7 @@ fn argument(plan: &Plan, held: bool, from: &Argument<u32>) -> Argument<u32>
     Argument {
         class: from.class,
         value: operand(plan, held, &from.value),
+        extension: from.extension,
     }
 }
 

@@ -30,10 +30,10 @@ use Rattle.vcode.specs.declared.line.Operation.TheVariants.{Reg, Compare}
 use Rattle.vcode.specs.declared.code.Block.{Block}
 use Rattle.vcode.specs.declared.code.Code.{Code}
 use Rattle.vcode.specs.Addresses.{distance}
-use Rattle.vcode.specs.Operations.{held, operate, loaded}
+use Rattle.vcode.specs.Operations.{held, operate, loaded, passed}
 use Rattle.vcode.specs.Places.{Values, put, assign, kept, virtual}
 use Rattle.vcode.specs.Coded.{classes_in}
-use Rattle.vcode.specs.Step.{State, begin, value_of, read, read_all, operated, address_of, goes_on, sets, takes, changes, ticks, receives, resumes, calls, line_step, compared, branches, returns, jump_step, step}
+use Rattle.vcode.specs.Step.{State, begin, value_of, read, read_argument, read_all, operated, address_of, goes_on, sets, takes, changes, ticks, receives, resumes, calls, line_step, compared, branches, returns, jump_step, step}
 use Rattle.vcode.proofs.Lists.{head_at, tail_at, nothing_at, same_some}
 use Rattle.vcode.proofs.Stepping.{step_line, step_jump, step_nowhere}
 use Rattle.cfg_live.specs.Registers.{line_writes}
@@ -79,8 +79,8 @@ address_same globals m ev f same at =
 args_same : (globals : List Value) (ev : Values ℕ) (f : Replacing) → SameValues globals ev f → (args : List (Argument ℕ)) → read_all globals ev (map (with_argument f) args) ≡ read_all globals ev args
 args_same globals ev f same [] = refl
 args_same globals ev f same (a ∷ args) =
-    ap (λ (x : Option Value). option_and_then (λ v. option_map (λ vs. v ∷ vs) (read_all globals ev (map (with_argument f) args))) (option_and_then (in_place a.class) x)) (same a.value)
-    ∙ ap (λ (x : Option (List Value)). option_and_then (λ v. option_map (λ vs. v ∷ vs) x) (read globals ev a.class a.value)) (args_same globals ev f same args)
+    ap (λ (x : Option Value). option_and_then (λ v. option_map (λ vs. v ∷ vs) (read_all globals ev (map (with_argument f) args))) (option_and_then (passed a.extension a.class) x)) (same a.value)
+    ∙ ap (λ (x : Option (List Value)). option_and_then (λ v. option_map (λ vs. v ∷ vs) x) (read_argument globals ev a)) (args_same globals ev f same args)
 
 classes_same : (f : Replacing) (args : List (Argument ℕ)) → map (λ (a : Argument ℕ). a.class) (map (with_argument f) args) ≡ map (λ (a : Argument ℕ). a.class) args
 classes_same f [] = refl

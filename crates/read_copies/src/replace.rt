@@ -32,6 +32,7 @@ fn argument(known: &[KnownCopy], from: &Argument<u32>) -> Argument<u32>
     Argument {
         class: from.class,
         value: operand(known, &from.value),
+        extension: from.extension,
     }
 }
 

@@ -8,7 +8,7 @@ use std::test::Fail;
 use vcode::code::{Block, Code};
 use vcode::function::VFunc;
 use vcode::line::{Jump, Line, Operation};
-use vcode::place::{Argument, Destination, Operand};
+use vcode::place::{Argument, Destination, Extension, Operand};
 
 /// Copies its argument, in register 0, to register 1, reads it, and reads it again after register 0 is written.
 fn source_written(alloc: Global) -> Result<VFunc, AllocError> {
@@ -124,6 +124,7 @@ fn called(alloc: Global) -> Result<VFunc, AllocError> {
     args.push(Argument {
         class: Class::L,
         value: Operand::At(0),
+        extension: Extension::Made,
     })?;
     let mut lines = Seq::new(alloc);
     lines.push(Line::Tick {

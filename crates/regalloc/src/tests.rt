@@ -12,7 +12,7 @@ use std::test::Fail;
 use vcode::code::{Block, Code};
 use vcode::function::VFunc;
 use vcode::line::{Jump, Line, Operation};
-use vcode::place::{Argument, Destination, Location, Operand};
+use vcode::place::{Argument, Destination, Extension, Location, Operand};
 
 /// Copies its argument from register 0 to register 1, and returns that.
 fn copying(alloc: Global) -> Result<VFunc, AllocError> {
@@ -93,6 +93,7 @@ fn calling(alloc: Global) -> Result<VFunc, AllocError> {
     args.push(Argument {
         class: Class::L,
         value: Operand::At(0),
+        extension: Extension::Made,
     })?;
     let mut lines = Seq::new(alloc);
     lines.push(Line::Tick {

@@ -39,6 +39,7 @@ use Rattle.vcode.specs.declared.place.Operand.{Operand}
 use Rattle.vcode.specs.declared.place.Operand.TheVariants.{At, Number, Name}
 use Rattle.vcode.specs.declared.place.Destination.{Destination}
 use Rattle.vcode.specs.declared.place.Argument.{Argument}
+use Rattle.vcode.specs.declared.place.Extension.TheVariants.{Made}
 use Rattle.vcode.specs.declared.line.Operation.{Operation}
 use Rattle.vcode.specs.declared.line.Operation.TheVariants.{Reg, RegW, Compare as CompareValues}
 use Rattle.vcode.specs.declared.line.Line.{Line}
@@ -62,7 +63,7 @@ abbrev pub destination_of : Dest → Destination ℕ
 destination_of d = record { place = d.temp; class = d.class }
 
 abbrev pub argument_of : Arg → Argument ℕ
-argument_of a = record { class = a.class; value = operand_of a.value }
+argument_of a = record { class = a.class; value = operand_of a.value; extension = Made }
 
 -- ---- words that stand sign-extended
 

@@ -12,7 +12,7 @@ use il_ast::operand::{Arg, Dest, Val};
 use il_ast::operation::Class;
 use il_ast::temp::Temp;
 use std::alloc::{AllocError, Global};
-use vcode::place::{Argument, Destination, Operand};
+use vcode::place::{Argument, Destination, Extension, Operand};
 
 /// The low 32 bits of a number.
 pub(crate) fn low_bits(number: u64) -> u32
@@ -90,6 +90,7 @@ fn push_arguments(made: &mut Seq<Argument<u32>>, args: &[Arg]) -> Result<(), All
         made.push(Argument {
             class: arg.class,
             value,
+            extension: Extension::Made,
         })?;
     }
     Ok(())

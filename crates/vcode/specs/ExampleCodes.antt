@@ -10,6 +10,7 @@ use Rattle.rv_isa.specs.declared.instruction.LoadOp.TheVariants.{Lw, Ld, Lbu}
 use Rattle.vcode.specs.declared.place.Operand.{Operand}
 use Rattle.vcode.specs.declared.place.Operand.TheVariants.{At, Number, Name}
 use Rattle.vcode.specs.declared.place.Destination.{Destination}
+use Rattle.vcode.specs.declared.place.Extension.TheVariants.{Made}
 use Rattle.vcode.specs.declared.place.Location.{Location}
 use Rattle.vcode.specs.declared.place.Location.TheVariants.{Register, Slot}
 use Rattle.vcode.specs.declared.line.Operation.TheVariants.{Reg, RegW, Compare}
@@ -77,7 +78,7 @@ caller a =
     ∷ Set (Slot 0) (Number 5)
     ∷ Set (Register 6) (Number 7)
     ∷ Call (Some (destination (Register 10) W)) (Name 0)
-    (record { class = W; value = At (Slot 0) } ∷ record { class = L; value = At (Register 6) } ∷ [])
+    (record { class = W; value = At (Slot 0); extension = Made } ∷ record { class = L; value = At (Register 6); extension = Made } ∷ [])
     ∷ Tick true 1
     ∷ Operate (Register 11) (Reg Add) (At (Register 10)) a
     ∷ [])

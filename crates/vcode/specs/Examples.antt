@@ -15,7 +15,9 @@ use Rattle.vcode.specs.declared.line.Line.TheVariants.{Tick, Set, Alloc}
 use Rattle.vcode.specs.declared.line.Jump.{Jump}
 use Rattle.vcode.specs.declared.line.Jump.TheVariants.{Goto, Branch, Halt as HaltJump}
 use Rattle.vcode.specs.declared.place.Location.TheVariants.{Register, Slot}
+use Rattle.vcode.specs.declared.place.Extension.TheVariants.{Claimed}
 use Rattle.vcode.specs.declared.code.Code.{Code}
+use Rattle.vcode.specs.Operations.{passed}
 use Rattle.vcode.specs.Places.{Places, virtual, is_callers, located}
 use Rattle.vcode.specs.Regular.{leads_inside, allocs_first, IsRegular, area}
 use Rattle.vcode.specs.Named.{keeps_places, is_below, is_place, are_near, are_distinct}
@@ -88,6 +90,9 @@ pub record Examples : Type 0 where
   pub long_is_cut : Gives long_as_word (Integer (2 ^ 32 + 6) ∷ []) 6 []
   pub low_bits_decide : Gives is_nonzero (Integer (2 ^ 32) ∷ []) 0 []
   pub nonzero : Gives is_nonzero (Integer 8 ∷ []) 1 []
+  pub claim_holds : passed Claimed W (Integer (minus 1)) ≡ Some (Integer (2 ^ 32 - 1))
+  pub claim_fails : passed Claimed W (Integer (2 ^ 32 - 1)) ≡ None
+  pub long_claims_nothing : passed Claimed L (Integer (2 ^ 32 - 1)) ≡ Some (Integer (2 ^ 32 - 1))
   pub calls_and_adds : Goes located (caller (At (Slot 0))) (given 10 []) 20 (call (Returned in_call (Some (Integer (2 ^ 32 - 1))) (None ∷ [])) ∷ [])
       (integer (after_call 2 4) 4 (None ∷ []))
   pub caller_forgets : Goes located (caller (At (Register 6))) (given 10 []) 20 (call (Returned in_call (Some (Integer 1)) []) ∷ [])

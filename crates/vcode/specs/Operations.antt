@@ -1,5 +1,5 @@
 -- How values stand in places, and what the operations give: those of the machine on integers (Unprivileged ISA manual), the source's rules on pointers and functions.
-use Rattle.std.specs.Prelude.{ℕ, ◌%◌, ◌^◌, Option, Some, None}
+use Rattle.std.specs.Prelude.{ℕ, ◌%◌, ◌^◌, Bool, false, nat_eq, if◌then◌else◌, Option, Some, None}
 use Rattle.std.specs.Option.{option_and_then}
 use Rattle.bits.specs.Words.{sign_extended}
 use Rattle.il_ast.specs.declared.operation.Class.{Class}
@@ -17,6 +17,8 @@ use Rattle.rv_isa.specs.declared.instruction.LoadOp.{LoadOp}
 use Rattle.rv_isa.specs.declared.instruction.LoadOp.TheVariants.{Lb, Lh, Lw, Ld, Lbu, Lhu, Lwu}
 use Rattle.rv_isa.specs.Arithmetic.{reg_value, regw_value}
 use Rattle.rv_isa.specs.Step.{load_size, load_value}
+use Rattle.vcode.specs.declared.place.Extension.{Extension}
+use Rattle.vcode.specs.declared.place.Extension.TheVariants.{Claimed}
 use Rattle.vcode.specs.declared.line.Operation.{Operation}
 use Rattle.vcode.specs.declared.line.Operation.TheVariants.{Reg, RegW, Compare as CompareValues}
 
@@ -26,6 +28,20 @@ held W (Integer n) = Integer (sign_extended (n % 2 ^ 32))
 held W (Pointer b o) = Pointer b o
 held W (Function f) = Function f
 held L v = v
+
+-- the number is the sign extension of its low 32 bits
+abbrev pub is_extended : ℕ → Bool
+is_extended n = nat_eq (sign_extended (n % 2 ^ 32)) n
+
+-- it stands as a word does
+abbrev pub stands_extended : Value → Bool
+stands_extended (Integer n) = is_extended n
+stands_extended v = false
+
+-- what is passed of a value in a place of class k; a word that is claimed to stand extended has to
+abbrev pub passed : Extension → Class → Value → Option Value
+passed Claimed W v = if stands_extended v then in_place W v else None
+passed t k v = in_place k v
 
 -- of a pointer or a function: what may be added and subtracted
 abbrev pub reg_on_places : Memory → RegOp → Value → Value → Option Value

@@ -29,7 +29,7 @@ use Rattle.vcode.specs.declared.line.Jump.TheVariants.{Goto, Branch, Return, Hal
 use Rattle.vcode.specs.declared.code.Block.{Block}
 use Rattle.vcode.specs.declared.code.Code.{Code}
 use Rattle.vcode.specs.Addresses.{distance}
-use Rattle.vcode.specs.Operations.{held, operate, loaded}
+use Rattle.vcode.specs.Operations.{held, passed, operate, loaded}
 use Rattle.vcode.specs.Places.{Places, Values, unknown, put, assign, kept}
 
 -- the block and the line in it that are next, what places hold, the memory, the blocks that `alloc` made, and what was spent
@@ -71,10 +71,13 @@ value_of globals values (Name g) = slice_get globals g
 abbrev pub read : {P : Type 0} → List Value → Values P → Class → Operand P → Option Value
 read globals values k a = option_and_then (in_place k) (value_of globals values a)
 
+abbrev pub read_argument : {P : Type 0} → List Value → Values P → Argument P → Option Value
+read_argument globals values a = option_and_then (passed a.extension a.class) (value_of globals values a.value)
+
 abbrev pub read_all : {P : Type 0} → List Value → Values P → List (Argument P) → Option (List Value)
 read_all globals values [] = Some []
 read_all globals values (a ∷ args) =
-    option_and_then (λ v. option_map (λ vs. v ∷ vs) (read_all globals values args)) (read globals values a.class a.value)
+    option_and_then (λ v. option_map (λ vs. v ∷ vs) (read_all globals values args)) (read_argument globals values a)
 
 -- what an operation gives for what two operands give
 abbrev pub operated : Memory → Operation → (a b : Option Value) → Option Value

@@ -77,9 +77,19 @@ pub struct Destination<P> {
     pub class: Class,
 }
 
+/// Whether a word that is passed still has to be sign-extended.
+#[derive(Clone, Copy, Debug, PartialEq, Eq)]
+pub enum Extension {
+    /// its low 32 bits are sign-extended when it is passed
+    Made,
+    /// it is claimed to stand sign-extended; where it doesn't, what passes it is undefined
+    Claimed,
+}
+
 /// An argument of a call, which is passed as a value of this class.
 #[derive(Clone, Copy, Debug, PartialEq, Eq)]
 pub struct Argument<P> {
     pub class: Class,
     pub value: Operand<P>,
+    pub extension: Extension,
 }

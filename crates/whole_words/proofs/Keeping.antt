@@ -8,6 +8,7 @@ use Rattle.std.proofs.lemmas.List.Sums.{sum_by-cons}
 use Rattle.il_ast.specs.Passes.{Keeps}
 use Rattle.vcode.specs.declared.place.Operand.{Operand}
 use Rattle.vcode.specs.declared.place.Destination.{Destination}
+use Rattle.vcode.specs.declared.place.Argument.{Argument}
 use Rattle.vcode.specs.declared.line.Operation.{Operation}
 use Rattle.vcode.specs.declared.line.Line.{Line}
 use Rattle.vcode.specs.declared.line.Line.TheVariants.{Tick, Set, Operate, Load, Store, Alloc, Blit, Call}
@@ -16,11 +17,11 @@ use Rattle.vcode.specs.declared.code.Block.{Block}
 use Rattle.vcode.specs.declared.code.Code.{Code}
 use Rattle.vcode.specs.Coded.{classes_in, coded}
 use Rattle.vcode.specs.Cost.{line_cost, affords, is_paid}
-use Rattle.vcode.specs.Named.{operand_keeps, line_keeps, jump_keeps, block_keeps, keeps_places, is_below}
+use Rattle.vcode.specs.Named.{operand_keeps, wanted_keeps, line_keeps, jump_keeps, block_keeps, keeps_places, is_below}
 use Rattle.vcode.specs.Outgoing.{args_on_stack, most_in_lines, most_in_blocks}
 use Rattle.vcode.specs.Places.{virtual}
 use Rattle.vcode.specs.Regular.{leads_inside, is_alloc, allocs_first, alloc_bytes, area, turns_of, passes_few, weight_of, code_weight, IsRegular}
-use Rattle.whole_words.specs.Whole.{is_marked, takes_whole, wants_whole, keeps_marks, are_closed, is_extension, with_copy, with_copies}
+use Rattle.whole_words.specs.Whole.{is_marked, takes_whole, wants_whole, keeps_marks, are_closed, is_extension, with_claim, with_copy, with_copies}
 use Rattle.whole_words.proofs.Running.{Copied, runs}
 
 -- ---- without marks
@@ -118,7 +119,7 @@ few_stays marks (Load to op at) = refl
 few_stays marks (Store size a at) = refl
 few_stays marks (Alloc to size) = refl
 few_stays marks (Blit from to count) = refl
-few_stays marks (Call to callee args) = refl
+few_stays marks (Call to callee args) = ap (λ n. nat_le n 64) (length-map args (with_claim marks))
 
 passed_stays : (marks : List Bool) → Stays marks args_on_stack
 passed_stays marks (Tick turn w) = refl
@@ -128,7 +129,7 @@ passed_stays marks (Load to op at) = refl
 passed_stays marks (Store size a at) = refl
 passed_stays marks (Alloc to size) = refl
 passed_stays marks (Blit from to count) = refl
-passed_stays marks (Call to callee args) = refl
+passed_stays marks (Call to callee args) = ap (λ n. n - 8) (length-map args (with_claim marks))
 
 -- ---- of lines and of blocks
 
@@ -210,8 +211,10 @@ same_affords marks j (Blit from to count ∷ ls) credit more le h =
     (λ e. same_affords marks j ls (credit - line_cost l) (more - line_cost l) (omega (arith, le))) h
 same_affords marks j (Call to callee args ∷ ls) credit more le h =
     let l : Line ℕ = Call to callee args in
-    spends (line_cost l) (line_cost l) credit more (affords (credit - line_cost l) j ls) (affords (more - line_cost l) j (map (with_copy marks) ls)) (omega arith) le
-    (λ e. same_affords marks j ls (credit - line_cost l) (more - line_cost l) (omega (arith, le))) h
+    let m : Line ℕ = Call to callee (map (with_claim marks) args) in
+    let many = length-map args (with_claim marks) in
+    spends (line_cost l) (line_cost m) credit more (affords (credit - line_cost l) j ls) (affords (more - line_cost m) j (map (with_copy marks) ls)) (omega (arith, many)) le
+    (λ e. same_affords marks j ls (credit - line_cost l) (more - line_cost m) (omega (arith, le, many))) h
 
 -- ---- the places that it names
 
@@ -229,7 +232,8 @@ line_low marks n (Load to op at) h = h
 line_low marks n (Store size a at) h = h
 line_low marks n (Alloc to size) h = h
 line_low marks n (Blit from to count) h = h
-line_low marks n (Call to callee args) h = h
+line_low marks n (Call to callee args) h =
+    ap (λ t. wanted_keeps (is_below n) to && (operand_keeps (is_below n) callee && t)) (all_same (λ (a : Argument ℕ). operand_keeps (is_below n) a.value) (with_claim marks) (λ a. refl) args) ∙ h
 
 block_low : (marks : List Bool) (n : ℕ) (b : Block ℕ) → block_keeps (is_below n) b ≡ true → block_keeps (is_below n) (with_copies marks b) ≡ true
 block_low marks n b h =

@@ -1,15 +1,16 @@
 -- The code with copies runs as the code does, step by step in the same states, in which marked registers hold whole words.
-use Rattle.std.proofs.Common.{◌≡◌, ℕ, zero, suc, ◌+◌, ◌%◌, ◌^◌, Bool, true, false, not, ◌&&◌, ◌||◌, nat_eq, nat_lt, if◌then◌else◌, List, [], ◌∷◌, map, length, Option, Some, None, slice_get, refl, sym, ◌∙◌, ap, subst, arith}
+use Rattle.std.proofs.Common.{◌≡◌, ℕ, zero, suc, ◌+◌, ◌-◌, ◌%◌, ◌^◌, Bool, true, false, not, ◌&&◌, ◌||◌, nat_eq, nat_lt, if◌then◌else◌, List, [], ◌∷◌, map, length, Option, Some, None, slice_get, refl, sym, ◌∙◌, ap, subst, arith}
 use Rattle.std.specs.List.{list_all}
 use Rattle.std.specs.Option.{option_map, option_and_then}
 use Rattle.std.proofs.lemmas.Bool.Decides.{nat_tests}
 use Rattle.std.proofs.lemmas.Option.{slice_get-map}
+use Rattle.bits.specs.Words.{sign_extended}
 use Rattle.il_ast.specs.declared.operation.Class.{Class}
 use Rattle.il_ast.specs.declared.operation.Class.TheVariants.{W, L}
 use Rattle.il_ast.specs.declared.value.Value.{Value}
 use Rattle.il_ast.specs.declared.value.Value.TheVariants.{Integer, Pointer, Function}
 use Rattle.il_ast.specs.declared.value.End.TheVariants.{Turns}
-use Rattle.il_ast.specs.Values.{byte_count}
+use Rattle.il_ast.specs.Values.{byte_count, in_place}
 use Rattle.il_ast.specs.Memory.{Memory, store, copy}
 use Rattle.il_ast.specs.Effect.{stored_class}
 use Rattle.il_ast.specs.Run.{one_turn, both, Outcome, Returned, Ended}
@@ -23,6 +24,8 @@ use Rattle.vcode.specs.declared.place.Operand.{Operand}
 use Rattle.vcode.specs.declared.place.Operand.TheVariants.{At, Number, Name}
 use Rattle.vcode.specs.declared.place.Destination.{Destination}
 use Rattle.vcode.specs.declared.place.Argument.{Argument}
+use Rattle.vcode.specs.declared.place.Extension.{Extension}
+use Rattle.vcode.specs.declared.place.Extension.TheVariants.{Made, Claimed}
 use Rattle.vcode.specs.declared.line.Line.{Line}
 use Rattle.vcode.specs.declared.line.Line.TheVariants.{Tick, Set, Operate, Load, Store, Alloc, Blit, Call}
 use Rattle.vcode.specs.declared.line.Jump.{Jump}
@@ -31,12 +34,12 @@ use Rattle.vcode.specs.declared.line.Operation.{Operation}
 use Rattle.vcode.specs.declared.line.Operation.TheVariants.{Reg, RegW, Compare}
 use Rattle.vcode.specs.declared.code.Block.{Block}
 use Rattle.vcode.specs.declared.code.Code.{Code}
-use Rattle.vcode.specs.Operations.{held, operate, loaded}
+use Rattle.vcode.specs.Operations.{held, passed, operate, loaded}
 use Rattle.vcode.specs.Places.{Values, unknown, put, assign, kept, virtual}
 use Rattle.vcode.specs.Coded.{classes_in}
-use Rattle.vcode.specs.Step.{State, bound, begin, value_of, read, read_all, fails, goes_on, sets, takes, changes, ticks, receives, resumes, calls, line_step, compared, branches, returns, jump_step, block_step, step_in, step, address_of}
-use Rattle.whole_words.specs.Whole.{is_marked, is_whole, gives_whole, loads_whole, is_word, takes_whole, wants_whole, keeps_marks, are_closed, is_extension, with_copy, with_copies}
-use Rattle.whole_words.proofs.Values.{IfWhole, AreWhole, assign_whole, operand_whole, then_whole, operate_whole, load_whole, held_whole, extension_is}
+use Rattle.vcode.specs.Step.{State, bound, begin, value_of, read, read_argument, read_all, fails, goes_on, sets, takes, changes, ticks, receives, resumes, calls, line_step, compared, branches, returns, jump_step, block_step, step_in, step, address_of}
+use Rattle.whole_words.specs.Whole.{is_marked, is_whole, gives_whole, loads_whole, is_word, takes_whole, wants_whole, keeps_marks, are_closed, is_extension, with_claim, with_copy, with_copies}
+use Rattle.whole_words.proofs.Values.{Whole, IfWhole, AreWhole, whole_number, assign_whole, operand_whole, then_whole, operate_whole, load_whole, held_whole, extension_is}
 
 -- ---- events that go on so
 
@@ -152,7 +155,7 @@ jump_whole marks globals (Some k) s (Return (Some a)) all = by (read globals s.v
     by (Some v) = tt
 jump_whole marks globals result s Halt all = tt
 
--- ---- a line beside its copy
+-- ---- an extension beside its copy
 
 -- an extension, by what it extends
 record Extends (marks : List Bool) (op : Operation) (a b : Operand ℕ) : Type 0 where
@@ -216,6 +219,69 @@ operate_beside marks globals i s to op a b true e h all =
     (subst (λ (y : Operand ℕ). Together (Related marks) Fine (line_step virtual globals i s (Operate to (RegW Addw) (At x.register) y)) (line_step virtual globals i s (Set to (At x.register)))) (sym x.right)
     (extension_beside marks s to x.number (s.values x.register) x.zero_is all (all x.register x.marked))))
 
+-- ---- a call beside the one with claims
+
+same_number : (m n : ℕ) → m ≡ n → nat_eq m n ≡ true
+same_number m n e = grind (arith, nat_tests)
+
+-- what stands whole may be claimed to
+value_passed : (e : Extension) (k : Class) (v : Value) → Whole v → passed Claimed k v ≡ passed e k v
+value_passed Made W (Integer n) h =
+    ap (λ (b : Bool). if b then in_place W (Integer n) else None) (same_number (sign_extended (n % 2 ^ 32)) n (whole_number n h))
+value_passed Made W (Pointer b k) h = refl
+value_passed Made W (Function g) h = refl
+value_passed Made L v h = refl
+value_passed Claimed k v h = refl
+
+whole_passed : (e : Extension) (k : Class) (o : Option Value) → IfWhole o → option_and_then (passed Claimed k) o ≡ option_and_then (passed e k) o
+whole_passed e k None h = refl
+whole_passed e k (Some v) h = value_passed e k v h
+
+claim_same : (marks : List Bool) (globals : List Value) (values : Values ℕ) (a : Argument ℕ) → AreWhole marks values → read_argument globals values (with_claim marks a) ≡ read_argument globals values a
+claim_same marks globals values a all = by (is_whole marks a.value) refl
+  where
+    by : (t : Bool) → is_whole marks a.value ≡ t
+        → option_and_then (passed (if t then Claimed else a.extension) a.class) (value_of globals values a.value) ≡ option_and_then (passed a.extension a.class) (value_of globals values a.value)
+    by false e = refl
+    by true e = whole_passed a.extension a.class (value_of globals values a.value) (operand_whole marks globals values a.value all e)
+
+claims_same : (marks : List Bool) (globals : List Value) (values : Values ℕ) (args : List (Argument ℕ)) → AreWhole marks values → read_all globals values (map (with_claim marks) args) ≡ read_all globals values args
+claims_same marks globals values [] all = refl
+claims_same marks globals values (a ∷ args) all =
+    ap (option_and_then (λ v. option_map (λ vs. v ∷ vs) (read_all globals values (map (with_claim marks) args)))) (claim_same marks globals values a all)
+    ∙ ap (λ (x : Option (List Value)). option_and_then (λ v. option_map (λ vs. v ∷ vs) x) (read_argument globals values a)) (claims_same marks globals values args all)
+
+classes_same : (marks : List Bool) (args : List (Argument ℕ)) → map (λ (a : Argument ℕ). a.class) (map (with_claim marks) args) ≡ map (λ (a : Argument ℕ). a.class) args
+classes_same marks [] = refl
+classes_same marks (a ∷ args) = ap (λ (cs : List Class). a.class ∷ cs) (classes_same marks args)
+
+asked_same : (marks : List Bool) (i : Given) (s : State ℕ) (to : Option (Destination ℕ)) (args : List (Argument ℕ)) (x : Option Value) (vs : Option (List Value))
+    → calls virtual i s to (map (with_claim marks) args) x vs ≡ calls virtual i s to args x vs
+asked_same marks i s to args (Some (Function g)) (Some vs) =
+    ap
+    (λ (cs : List Class). Calls
+    (record {
+      call = record { callee = g; classes = cs; wants = option_map (λ (d : Destination ℕ). d.class) to; args = vs };
+      turns = i.turns - s.spent.turns;
+      room = i.room;
+      memory = s.memory;
+    })
+    (resumes virtual s to))
+    (classes_same marks args)
+asked_same marks i s to args (Some (Function g)) None = refl
+asked_same marks i s to args (Some (Integer k)) vs = refl
+asked_same marks i s to args (Some (Pointer b k)) vs = refl
+asked_same marks i s to args None vs = refl
+
+call_same : (marks : List Bool) (globals : List Value) (i : Given) (s : State ℕ) (to : Option (Destination ℕ)) (callee : Operand ℕ) (args : List (Argument ℕ)) → AreWhole marks s.values
+    → line_step virtual globals i s (Call to callee (map (with_claim marks) args)) ≡ line_step virtual globals i s (Call to callee args)
+unfolding line_step
+call_same marks globals i s to callee args all =
+    ap (calls virtual i s to (map (with_claim marks) args) (value_of globals s.values callee)) (claims_same marks globals s.values args all)
+    ∙ asked_same marks i s to args (value_of globals s.values callee) (read_all globals s.values args)
+
+-- ---- each line beside its copy
+
 line_beside : (marks : List Bool) (globals : List Value) (i : Given) (s : State ℕ) (l : Line ℕ) → keeps_marks marks l ≡ true → AreWhole marks s.values
     → Together (Related marks) Fine (line_step virtual globals i s l) (line_step virtual globals i s (with_copy marks l))
 line_beside marks globals i s (Tick turn w) h all = event_self marks (line_step virtual globals i s (Tick turn w)) (line_whole marks globals i s (Tick turn w) h all)
@@ -225,7 +291,9 @@ line_beside marks globals i s (Load to op at) h all = event_self marks (line_ste
 line_beside marks globals i s (Store size a at) h all = event_self marks (line_step virtual globals i s (Store size a at)) (line_whole marks globals i s (Store size a at) h all)
 line_beside marks globals i s (Alloc to size) h all = event_self marks (line_step virtual globals i s (Alloc to size)) (line_whole marks globals i s (Alloc to size) h all)
 line_beside marks globals i s (Blit from to count) h all = event_self marks (line_step virtual globals i s (Blit from to count)) (line_whole marks globals i s (Blit from to count) h all)
-line_beside marks globals i s (Call to callee args) h all = event_self marks (line_step virtual globals i s (Call to callee args)) (line_whole marks globals i s (Call to callee args) h all)
+line_beside marks globals i s (Call to callee args) h all =
+    subst (Together (Related marks) Fine (line_step virtual globals i s (Call to callee args))) (sym (call_same marks globals i s to callee args all))
+    (event_self marks (line_step virtual globals i s (Call to callee args)) (line_whole marks globals i s (Call to callee args) h all))
 
 -- ---- a step
 

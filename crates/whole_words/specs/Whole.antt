@@ -1,4 +1,5 @@
--- Registers that hold whole words, which stand sign-extended, whatever way the code goes; and the code in which extensions of these are copies.
+-- Registers that hold whole words, which stand sign-extended, whatever way the code goes; and the code in which extensions of these are copies, and words that
+-- are passed from these are claimed to stand extended.
 use Rattle.std.specs.Prelude.{◌≡◌, ℕ, ◌-◌, ◌%◌, ◌^◌, Bool, true, false, not, ◌&&◌, ◌||◌, nat_eq, nat_lt, nat_le, if◌then◌else◌, List, map, slice_index_or, Option, Some, None}
 use Rattle.std.specs.List.{list_all}
 use Rattle.il_ast.specs.declared.operation.Class.{Class}
@@ -11,6 +12,8 @@ use Rattle.rv_isa.specs.declared.instruction.LoadOp.TheVariants.{Ld, Lwu}
 use Rattle.vcode.specs.declared.place.Operand.{Operand}
 use Rattle.vcode.specs.declared.place.Operand.TheVariants.{At, Number, Name}
 use Rattle.vcode.specs.declared.place.Destination.{Destination}
+use Rattle.vcode.specs.declared.place.Argument.{Argument}
+use Rattle.vcode.specs.declared.place.Extension.TheVariants.{Claimed}
 use Rattle.vcode.specs.declared.line.Operation.{Operation}
 use Rattle.vcode.specs.declared.line.Operation.TheVariants.{Reg, RegW, Compare}
 use Rattle.vcode.specs.declared.line.Line.{Line}
@@ -85,14 +88,24 @@ is_extension marks op a b = false
 abbrev pub put_line : List Bool → ℕ → Operation → (left right : Operand ℕ) → Line ℕ
 put_line marks to op a b = if is_extension marks op a b then Set to a else Operate to op a b
 
+-- ---- claims
+
+-- what is passed from a marked register is claimed to stand extended
+abbrev pub with_claim : List Bool → Argument ℕ → Argument ℕ
+with_claim marks a =
+    record { class = a.class; value = a.value; extension = if is_whole marks a.value then Claimed else a.extension }
+
+-- ---- each line
+
 abbrev pub with_copy : List Bool → Line ℕ → Line ℕ
 with_copy marks (Operate to op a b) = put_line marks to op a b
+with_copy marks (Call to callee args) = Call to callee (map (with_claim marks) args)
 with_copy marks l = l
 
 abbrev pub with_copies : List Bool → Block ℕ → Block ℕ
 with_copies marks b = record { lines = map (with_copy marks) b.lines; jump = b.jump }
 
--- the second is the first with copies in the place of extensions of such registers
+-- the second is the first with copies in the place of extensions of such registers, and with the claims
 pub record IsCopied (v w : VFunc) : Type 0 where
   pub marks : List Bool
   pub closed : are_closed marks v.code ≡ true

@@ -27,7 +27,8 @@ fn with_copies(alloc: Global, function: &VFunc, marks: &[bool]) -> Result<VFunc,
     })
 }
 
-/// The function, in which each extension to a word of a register that holds whole words alone is a copy. It takes time and memory as the text is long.
+/// The function, in which each extension to a word of a register that holds whole words alone is a copy, and each word that is passed from such a register is claimed to
+/// stand extended. It takes time and memory as the text is long.
 ///
 /// # Errors
 ///

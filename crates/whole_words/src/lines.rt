@@ -1,14 +1,14 @@
-//! Lines in which extensions of whole words are copies.
+//! Lines in which extensions of whole words are copies, and whole words are passed as such.
 ghost use Rattle.std.specs.Prelude.{◌≡◌, map, IfOk};
-ghost use Rattle.whole_words.specs.Whole.{is_extension, with_copy, with_copies};
+ghost use Rattle.whole_words.specs.Whole.{is_extension, with_claim, with_copy, with_copies};
 
-use crate::marks::is_marked;
+use crate::marks::{is_marked, is_whole};
 use il_ast::list::Seq;
 use rv_isa::instruction::RegWOp;
 use std::alloc::{AllocError, Global};
 use vcode::code::Block;
 use vcode::line::{Line, Operation};
-use vcode::place::Operand;
+use vcode::place::{Argument, Extension, Operand};
 
 // Whether the operation extends a word that stands whole.
 fn is_extension(
@@ -31,6 +31,35 @@ fn is_extension(
     }
 }
 
+// Whether the argument still has to be extended.
+fn extension(marks: &[bool], argument: &Argument<u32>) -> Extension
+    ensures { result ≡ (with_claim marks.now argument.now).extension }
+{
+    if is_whole(marks, argument.value) {
+        Extension::Claimed
+    } else {
+        argument.extension
+    }
+}
+
+fn arguments(
+    alloc: Global,
+    marks: &[bool],
+    from: &[Argument<u32>],
+) -> Result<Seq<Argument<u32>>, AllocError>
+    ensures { IfOk result (λ v. v ≡ map (with_claim marks.now) from.now) }
+{
+    let mut made = Vec::new(alloc);
+    for argument in from {
+        made.push(Argument {
+            class: argument.class,
+            value: argument.value,
+            extension: extension(marks, argument),
+        })?;
+    }
+    Ok(Seq::from_vec(made))
+}
+
 fn line(alloc: Global, marks: &[bool], from: &Line<u32>) -> Result<Line<u32>, AllocError>
     ensures { IfOk result (λ v. v ≡ with_copy marks.now from.now) }
 {
@@ -50,6 +79,11 @@ fn line(alloc: Global, marks: &[bool], from: &Line<u32>) -> Result<Line<u32>, Al
                 from.try_clone(alloc)
             }
         }
+        Line::Call { to, callee, args } => Ok(Line::Call {
+            to: *to,
+            callee: *callee,
+            args: arguments(alloc, marks, args.as_slice())?,
+        }),
         _ => from.try_clone(alloc),
     }
 }
@@ -64,7 +98,7 @@ fn lines(alloc: Global, marks: &[bool], from: &[Line<u32>]) -> Result<Seq<Line<u
     Ok(Seq::from_vec(made))
 }
 
-/// The blocks, in which extensions of marked registers are copies.
+/// The blocks, in which extensions of marked registers are copies, and words in these are claimed to stand extended where they are passed.
 pub fn blocks(
     alloc: Global,
     marks: &[bool],

@@ -29,7 +29,7 @@ fn is_whole_number(number: u64) -> bool
     number < 1 << 31 || u64::MAX - (1 << 31) < number
 }
 
-fn is_whole(marks: &[bool], operand: Operand<u32>) -> bool
+pub fn is_whole(marks: &[bool], operand: Operand<u32>) -> bool
     ensures { result ≡ is_whole marks.now operand }
 {
     match operand {

@@ -10,5 +10,5 @@ pub returns : goal.returns
 returns c =
     let args = c.args.arguments.now.items in
     let k = c.args.number in
-    ap (λ (x : Argument Location). set args k (record { class = x.class; value = At (Register c.args.register) })) c.index_mut.ensures.value
+    ap (λ (x : Argument Location). set args k (record { class = x.class; value = At (Register c.args.register); extension = x.extension })) c.index_mut.ensures.value
     ∙ settled_is c.args.register k args c.index_mut.result.now c.requires

@@ -1,10 +1,8 @@
-use Rattle.std.proofs.Common.{◌≡◌, ℕ, true, List, sym, ◌∙◌, ap, subst}
+use Rattle.std.proofs.Common.{◌≡◌, ℕ, true, sym, ◌∙◌, ap, subst}
 use Rattle.std.specs.Prelude.{IsTrue, nat_le}
 use Rattle.std.specs.List.{list_all}
 use Rattle.il_ast.specs.Passes.{Keeps}
-use Rattle.vcode.specs.declared.code.Block.{Block}
 use Rattle.vcode.specs.declared.code.Code.{Code}
-use Rattle.vcode.specs.declared.place.Destination.{Destination}
 use Rattle.vcode.specs.Coded.{coded, virtual_code}
 use Rattle.vcode.specs.Cost.{is_paid}
 use Rattle.vcode.specs.Named.{keeps_places, is_below, are_low, are_distinct}
