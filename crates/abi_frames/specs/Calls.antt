@@ -1,6 +1,6 @@
 -- Calls on the machine, by the integer calling convention (RISC-V ELF psABI, "Integer Calling Convention", LP64): arguments in x10 to x17 and then on the
 -- stack, a result in x10, the return address in x1, the stack pointer in x2, and registers that a callee keeps.
-use Rattle.std.specs.Prelude.{◌≡◌, ◌≢◌, ℕ, ◌+◌, ◌-◌, ◌*◌, ◌%◌, ◌^◌, ◌<◌, ◌≤◌, Bool, true, false, ◌&&◌, ◌||◌, nat_le, List, length, slice_get, Option, Some, None}
+use Rattle.std.specs.Prelude.{◌≡◌, ◌≢◌, ℕ, ◌+◌, ◌-◌, ◌*◌, ◌%◌, ◌^◌, ◌<◌, ◌≤◌, Bool, true, ◌&&◌, ◌||◌, nat_le, List, length, slice_get, Option, Some, None}
 use Rattle.bits.specs.Words.{sign_extended}
 use Rattle.rv_isa.specs.declared.abi.TheConstants.{RETURN_ADDRESS, STACK_POINTER, THREAD_POINTER, FIRST_SAVED, SECOND_SAVED, FIRST_ARGUMENT, ARGUMENT_REGISTERS, RESULT, THIRD_SAVED, LAST_SAVED}
 use Rattle.il_ast.specs.declared.operation.Class.{Class}
