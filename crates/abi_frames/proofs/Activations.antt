@@ -60,6 +60,7 @@ save_at c k = bottom c + (c.layout.saves + 8 * k)
 pub record IsSetting (c : Setting) : Type 0 where
   pub world : IsWorld c.world
   pub globals : (n a : ℕ) → slice_get c.addresses n ≡ Some a → c.global n ≡ a
+  pub near : (n : ℕ) → c.global n < 2 ^ 30
   pub above : c.world.bottom + c.layout.size ≤ c.sp
   pub below : c.sp ≤ c.world.top
   pub fits : c.layout.slots + 8 * c.slots + c.area ≤ c.layout.size

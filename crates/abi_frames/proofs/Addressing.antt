@@ -6,7 +6,9 @@ use Rattle.rv_isa.specs.State.{State}
 use Rattle.rv_isa.specs.Arithmetic.{moved}
 use Rattle.rv_isa.specs.declared.instruction.RegOp.TheVariants.{Add}
 use Rattle.vcode.specs.declared.place.Location.{Location}
+use Rattle.vcode.specs.declared.place.Operand.{Operand}
 use Rattle.vcode.specs.declared.place.Address.{Address}
+use Rattle.rv_isa.specs.declared.ranges.Immediate.{Immediate}
 use Rattle.vcode.specs.declared.line.Operation.TheVariants.{Reg}
 use Rattle.vcode.specs.Addresses.{distance}
 use Rattle.vcode.specs.Named.{is_place, operand_keeps}
@@ -14,9 +16,12 @@ use Rattle.flat_code.specs.Spots.{Spots}
 use Rattle.flat_code.specs.Step.{Numbers, number_of, computed, operated, address_of}
 use Rattle.abi_frames.proofs.Activations.{Setting, IsSetting, operand_in, Framed, operand_known}
 
--- the offset from the number in the base, in a register, leads to p
+-- the offset from the operand leads to p
+abbrev pub IsBeyond : Setting → State → Operand Location → Immediate → ℕ → Type 0
+IsBeyond c s a o p = (x : ℕ) → x ≡ operand_in c s a → x < 2 ^ 64 → moved x o.value ≡ p
+
 abbrev pub IsBased : Setting → State → Address Location → ℕ → Type 0
-IsBased c s at p = (x : ℕ) → x ≡ operand_in c s at.base → x < 2 ^ 64 → moved x at.offset.value ≡ p
+IsBased c s at p = IsBeyond c s at.base at.offset p
 
 not_moved : (x d : ℕ) → x < 2 ^ 64 → nat_eq d 0 ≡ true → (x + d) % 2 ^ 64 ≡ x
 not_moved x d small none = let e : d ≡ 0 = zero d none in omega (arith, e, small)

@@ -35,7 +35,7 @@ use Rattle.flat_code.specs.Step.{FlatState, Numbers, put, kept, held, number_of,
 use Rattle.abi_frames.specs.Calls.{Ready, passed}
 use Rattle.abi_frames.specs.Performs.{Returns, Stops, KeepsOn, Performs, PerformsAt, ReachStays, AllPerform}
 use Rattle.abi_frames.specs.Layout.{most_in_lines}
-use Rattle.abi_frames.specs.Emission.{prepare_items, callee_source, call_through, receive_items, lines_items, jump_items}
+use Rattle.abi_frames.specs.Emission.{prepare_items, call_through, receive_items, lines_items, jump_items}
 use Rattle.abi_frames.proofs.Leading.{StandAt, Reaches, Leads, leads_nowhere, leads_so}
 use Rattle.abi_frames.proofs.Activations.{Setting, IsSetting, site, bottom, operand_in, Framed, operand_known, Assigned, MayWrite, assigned, assigned_output, is_among}
 use Rattle.abi_frames.proofs.Saving.{call_saves}
@@ -44,7 +44,7 @@ use Rattle.rv_isa.specs.declared.labelled.Item.TheVariants.{Label}
 use Rattle.abi_frames.proofs.LineCode.{leads_set_line}
 use Rattle.abi_frames.proofs.Sizes.{call_parts, le_is}
 use Rattle.abi_frames.proofs.Passing.{in_place}
-use Rattle.abi_frames.proofs.Calling.{leads_prepared, gone_to, goes_through, ready, SameFrame, same_frame, framed_back}
+use Rattle.abi_frames.proofs.Calling.{leads_prepared, goes_to, ready, SameFrame, same_frame, framed_back}
 use Rattle.abi_frames.proofs.Simulation.{CodeStands, At, Performed, step_of, Log, Follows, Then, undefined, stands_here, nothing_taken, later_fits, next_index, may_write}
 
 -- ---- what is known of the line
@@ -83,7 +83,7 @@ pub record Departs (c : Setting) (to : Option (Destination Location)) (callee : 
   pub v : State
   pub comes : Comes s steps v
   pub some : 0 < steps
-  pub few : steps ≤ longest_size (prepare_items c.layout callee args) + 1
+  pub few : steps ≤ longest_size (prepare_items c.layout callee args) + 2
   pub ready : Ready c.world at (bottom c) (map (λ (a : Argument Location). a.class) args) given v
   pub same : SameFrame c s v
   pub stands : StandAt (site c) (receive_items c.layout to ++ tail) (v.registers 1)
@@ -106,23 +106,25 @@ departs : (c : Setting) (f : Code Location) → CodeStands c f → (b : Block Lo
 departs c f is b to callee args lines fs k u a at xs turns room is_at is_xs even =
     let line = call_line c f b to callee args lines fs k u a in
     let tail : List Item = (lines_items c.layout (a.used + 0) lines ++ jump_items c.layout (fs.block + 1) b.jump) ++ (Label (fs.block + 1) ∷ a.rest) in
-    let jump : List Item = call_through (callee_source callee) ∷ [] in
+    let jump : List Item = call_through callee in
     let m = (leads_prepared c is.setting u callee args a.framed.pointer line.known line.good line.fits).from (jump ++ (receive_items c.layout to ++ tail))
     (subst (λ l. StandAt (site c) l u.pc) (call_assoc (prepare_items c.layout callee args) jump (receive_items c.layout to) tail)
     (stands_here c f b (Call to callee args) lines fs k u a)) a.fixed in
     let address : operand_in c u callee ≡ at = operand_known c fs.numbers fs.memory u callee at is.setting a.framed line.known is_at in
-    let gone = goes_through (site c) m.after (callee_source callee) at (receive_items c.layout to ++ tail)
-    (m.holds.address ∙ address) even m.stands m.fixed in
+    let goes = goes_to c is.setting u m.after callee at (receive_items c.layout to ++ tail) m.holds.address address even m.stands m.fixed in
+    let gone = goes.gone in
+    let some = gone.some in
+    let few_more = gone.few in
     let few = m.few in
     record {
-      steps = m.steps + 1;
-      v = gone_to m.after at;
+      steps = m.steps + gone.steps;
+      v = goes.v;
       comes = comes_then m.comes gone.comes;
-      some = omega arith;
-      few = omega (arith, few);
-      ready = ready c is.setting fs.numbers fs.memory u m.after (gone_to m.after at) (receive_items c.layout to ++ tail) at turns room args xs a.framed
+      some = omega (arith, some);
+      few = omega (arith, few, few_more);
+      ready = ready c is.setting fs.numbers fs.memory u m.after goes.v (receive_items c.layout to ++ tail) at turns room args xs a.framed
           m.holds.passed gone line.good line.fits is_xs (length-classes args);
-      same = same_frame c u m.after (gone_to m.after at) (receive_items c.layout to ++ tail) at args line.fits m.holds.passed gone;
+      same = same_frame c u m.after goes.v (receive_items c.layout to ++ tail) at args line.fits m.holds.passed gone;
       stands = gone.stands;
       output = gone.output ∙ m.holds.passed.output;
     }

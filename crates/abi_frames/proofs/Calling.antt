@@ -13,12 +13,16 @@ use Rattle.rv_isa.specs.State.{State, register, written}
 use Rattle.rv_isa.specs.Memory.{number_at}
 use Rattle.rv_isa.specs.Step.{act, jump, even_below}
 use Rattle.rv_isa.specs.Arithmetic.{moved}
+use Rattle.rv_isa.specs.Relocations.{lower_part}
+use Rattle.rv_isa.specs.declared.ranges.Immediate.{Immediate}
+use Rattle.rv_isa.specs.declared.relocation.Partial.TheVariants.{Jump as JumpBy}
+use Rattle.rv_isa.specs.declared.labelled.Item.TheVariants.{Plain}
 use Rattle.rv_isa.specs.Runs.{Comes}
 use Rattle.rv_isa.specs.Labelled.{Fixed, Stand, Stands}
 use Rattle.rv_isa.specs.declared.instruction.Instr.TheVariants.{Jalr}
 use Rattle.rv_isa.specs.declared.labelled.Item.{Item}
 use Rattle.rv_isa.proofs.MemoryLemmas.{number_same, updated_elsewhere}
-use Rattle.rv_isa.proofs.RunLemmas.{comes_by_step}
+use Rattle.rv_isa.proofs.RunLemmas.{comes_by_step, comes_then}
 use Rattle.vcode.specs.declared.place.Location.{Location}
 use Rattle.vcode.specs.declared.place.Location.TheVariants.{Register as InRegister, Slot}
 use Rattle.vcode.specs.declared.place.Operand.{Operand}
@@ -34,10 +38,10 @@ use Rattle.flat_code.specs.Step.{Numbers, kept, number_of, read_all, taken, pass
 use Rattle.abi_frames.specs.Calls.{Ready, Back, is_kept, passed}
 use Rattle.vcode.specs.Addresses.{low}
 use Rattle.abi_frames.specs.Fields.{reg, add_low}
-use Rattle.abi_frames.specs.Emission.{fetch, source, passed_class, stack_all, passed_items, callee_items, callee_source, prepare_items, call_through}
-use Rattle.abi_frames.proofs.ConstantNumbers.{near_moves}
+use Rattle.abi_frames.specs.Emission.{with_name, fetch, source, passed_class, stack_all, passed_items, callee_items, callee_source, prepare_items, call_through}
+use Rattle.abi_frames.proofs.ConstantNumbers.{parts_made}
 use Rattle.abi_frames.proofs.Leading.{Site, StandAt, Leads, leads_nowhere, leads_then, leads_so, Sets, IsReg, register_reg, stepped, in_register, in_register_small, same_in_register}
-use Rattle.abi_frames.proofs.Instructions.{is_28}
+use Rattle.abi_frames.proofs.Instructions.{is_28, leads_upper, name_is, same_address}
 use Rattle.abi_frames.proofs.Activations.{Setting, IsSetting, site, bottom, slot_at, save_at, value_at, operand_in, place_is, place_reg, slot_is, is_among, is_held, Framed, operand_known}
 use Rattle.abi_frames.proofs.LineCode.{Fetched, leads_fetch}
 use Rattle.abi_frames.proofs.Passing.{sent, in_place, Kept, operand_kept, sent_kept, each, Stacked, stacked_keeps, leads_stack}
@@ -56,24 +60,30 @@ pub record Passed (c : Setting) (s : State) (args : List (Argument Location)) (u
   pub above : (x : ℕ) → bottom c + 8 * (length args - 8) ≤ x → u.bytes x ≡ s.bytes x
   pub output : u.output ≡ s.output
 
+-- the callee's address is in its register; that of a name is left to the jump
+abbrev pub HasAddress : Setting → (s u : State) → Operand Location → Type 0
+HasAddress c s u (Name g) = Unit {0}
+HasAddress c s u a = in_register u (callee_source a) ≡ operand_in c s a
+
 pub record Prepared (c : Setting) (s : State) (callee : Operand Location) (args : List (Argument Location)) (u : State) : Type 0 where
   pub passed : Passed c s args u
-  pub address : in_register u (callee_source callee) ≡ operand_in c s callee
+  pub address : HasAddress c s u callee
 
 -- the callee's address is in a register that is not for arguments
 record HasCallee (c : Setting) (s : State) (callee : Operand Location) (u : State) : Type 0 where
-  value : in_register u (callee_source callee) ≡ operand_in c s callee
+  value : HasAddress c s u callee
   others : (n : ℕ) → n ≢ 28 → u.registers n ≡ s.registers n
   bytes : u.bytes ≡ s.bytes
   output : u.output ≡ s.output
 
 leads_fetched : (c : Setting) → IsSetting c → (s : State) (a : Operand Location) → s.registers 2 ≡ bottom c → operand_keeps (is_place c.slots) a ≡ true
-    → callee_items c.layout a ≡ fetch c.layout 28 a → callee_source a ≡ source 28 a → Leads (site c) (callee_items c.layout a) s (HasCallee c s a)
-leads_fetched c is s a pointer known items there =
+    → callee_items c.layout a ≡ fetch c.layout 28 a → callee_source a ≡ source 28 a
+    → ((u : State) → in_register u (callee_source a) ≡ operand_in c s a → HasAddress c s u a) → Leads (site c) (callee_items c.layout a) s (HasCallee c s a)
+leads_fetched c is s a pointer known items there has =
     subst (λ l. Leads (site c) l s (HasCallee c s a)) (sym items)
     (leads_so (site c) (fetch c.layout 28 a) s (Fetched c s 28 a) (HasCallee c s a)
     (leads_fetch c is s 28 a is_28 (λ e. absurd (omega (arith, e))) pointer known)
-    (λ u f h. record { value = ap (in_register u) there ∙ h.value; others = h.others; bytes = h.bytes; output = h.output }))
+    (λ u f h. record { value = has u (ap (in_register u) there ∙ h.value); others = h.others; bytes = h.bytes; output = h.output }))
 
 leads_callee : (c : Setting) → IsSetting c → (s : State) (callee : Operand Location) → s.registers 2 ≡ bottom c → operand_keeps (is_place c.slots) callee ≡ true
     → Leads (site c) (callee_items c.layout callee) s (HasCallee c s callee)
@@ -98,9 +108,10 @@ leads_callee c is s (At (InRegister r)) pointer known = by_test (nat_le 10 r && 
         let there : callee_source (At (InRegister r)) ≡ r = ap (λ (t : Bool). if t then 28 else r) e in
         leads_nowhere (site c) s (HasCallee c s (At (InRegister r)))
         (record { value = ap (in_register s) there ∙ register_reg s r reg; others = λ n h. refl; bytes = refl; output = refl })
-leads_callee c is s (At (Slot i)) pointer known = leads_fetched c is s (At (Slot i)) pointer known refl refl
-leads_callee c is s (Number n) pointer known = leads_fetched c is s (Number n) pointer known refl refl
-leads_callee c is s (Name g) pointer known = leads_fetched c is s (Name g) pointer known refl refl
+leads_callee c is s (At (Slot i)) pointer known = leads_fetched c is s (At (Slot i)) pointer known refl refl (λ u e. e)
+leads_callee c is s (Number n) pointer known = leads_fetched c is s (Number n) pointer known refl refl (λ u e. e)
+leads_callee c is s (Name g) pointer known =
+    leads_nowhere (site c) s (HasCallee c s (Name g)) (record { value = tt; others = λ n h. refl; bytes = refl; output = refl })
 
 stays_low : (c : Setting) (s u : State) (args : List (Argument Location)) → InRegisters c s args u → (n : ℕ) → n < 10 → in_register u n ≡ in_register s n
 stays_low c s u args h n lo = same_in_register s u n (omega (arith, lo)) (h.low n lo)
@@ -110,7 +121,7 @@ stays_high c s u args h n lo hi = same_in_register s u n (omega (arith, hi)) (h.
 
 -- it stays there
 callee_stays : (c : Setting) (s u w : State) (callee : Operand Location) (args : List (Argument Location)) → operand_keeps (is_place c.slots) callee ≡ true
-    → HasCallee c s callee u → InRegisters c u args w → in_register w (callee_source callee) ≡ operand_in c s callee
+    → HasCallee c s callee u → InRegisters c u args w → HasAddress c s w callee
 callee_stays c s u w (At (InRegister r)) args known one two = by_range (nat_le 10 r) refl (nat_le r 17) refl ∙ one.value
   where
     hi : r ≤ 27
@@ -127,7 +138,14 @@ callee_stays c s u w (Number n) args known one two = by_test (nat_eq n 0) ∙ on
     by_test : (t : Bool) → in_register w (if t then 0 else 28) ≡ in_register u (if t then 0 else 28)
     by_test true = stays_low c u w args two 0 (lit< tt)
     by_test false = stays_high c u w args two 28 (lit< tt) (lit< tt)
-callee_stays c s u w (Name g) args known one two = stays_high c u w args two 28 (lit< tt) (lit< tt) ∙ one.value
+callee_stays c s u w (Name g) args known one two = tt
+
+-- of what the callee holds as it did before
+address_of : (c : Setting) (s t w : State) (callee : Operand Location) → HasAddress c t w callee → operand_in c t callee ≡ operand_in c s callee
+    → HasAddress c s w callee
+address_of c s t w (At p) h e = h ∙ e
+address_of c s t w (Number n) h e = h ∙ e
+address_of c s t w (Name g) h e = tt
 
 passed_all : (c : Setting) → IsSetting c → (s t u w : State) (callee : Operand Location) (args : List (Argument Location)) → list_all (in_place c.slots) args ≡ true
     → Stacked c s 0 args t → Kept c s t → HasCallee c t callee u → InRegisters c u args w → Passed c s args w
@@ -167,17 +185,23 @@ leads_prepared c is s callee args pointer known good fits =
     (leads_passed c is u args (two.others 2 (λ e. absurd (omega (arith, e))) ∙ at_t) good)
     (λ w h three. record {
       passed = passed_all c is s t u w callee args good one kept two three;
-      address = callee_stays c t u w callee args known two three ∙ operand_kept c is s t callee kept known;
+      address = address_of c s t w callee (callee_stays c t u w callee args known two three) (operand_kept c is s t callee kept known);
     })))
 
 -- ---- the jump to the callee
 
-abbrev pub gone_to : State → ℕ → State
+is_1 : IsReg 1
+is_1 = record { some = lit< tt; small = lit< tt }
+
+abbrev gone_to : State → ℕ → State
 gone_to s to = record s { pc = to; registers = written s.registers (reg 1) ((s.pc + 4) % 2 ^ 64) }
 
 -- the machine is at the callee's address, with the address of the code that follows in x1
 pub record Gone (c : Site) (rest : List Item) (to : ℕ) (s v : State) : Type 0 where
-  pub comes : Comes s 1 v
+  pub steps : ℕ
+  pub comes : Comes s steps v
+  pub some : 0 < steps
+  pub few : steps ≤ 2
   pub fixed : Fixed c.ground v
   pub place : v.pc ≡ to
   pub stands : StandAt c rest (v.registers 1)
@@ -189,25 +213,25 @@ pub record Gone (c : Site) (rest : List Item) (to : ℕ) (s v : State) : Type 0 
 jump_goes : (s : State) (x target : ℕ) → x ≡ target → target % 4 ≡ 0 → jump s (reg 1) x ≡ Ok (gone_to s target)
 jump_goes s x target e aligned = subst (λ y. jump s (reg 1) y ≡ Ok (gone_to s target)) (sym e) (rw aligned refl)
 
-even_target : (x : ℕ) → x < 2 ^ 64 → x % 4 ≡ 0 → even_below ((x + 0) % 2 ^ 64) ≡ x
-even_target x h aligned = omega (arith, h, aligned)
+even_is : (x : ℕ) → x % 4 ≡ 0 → even_below x ≡ x
+even_is x aligned = omega (arith, aligned)
 
-pub goes_through : (c : Site) (s : State) (r to : ℕ) (rest : List Item) → in_register s r ≡ to → to % 4 ≡ 0
-    → StandAt c (call_through r ∷ rest) s.pc → Fixed c.ground s → Gone c rest to s (gone_to s to)
+goes_by : (c : Site) (s : State) (i : Immediate) (r to : ℕ) (rest : List Item) → moved (in_register s r) i.value ≡ to → to % 4 ≡ 0
+    → StandAt c (Plain (Jalr (reg 1) (reg r) i) ∷ rest) s.pc → Fixed c.ground s → Gone c rest to s (gone_to s to)
 unfolding Stand Stands
-goes_through c s r to rest held even stands fixed =
+goes_by c s i r to rest held even stands fixed =
     let at = stands.1.0 in
     let inside = at.inside in
     let start = at.aligned in
-    let word : to < 2 ^ 64 = subst (λ x. x < 2 ^ 64) held (in_register_small c.ground s r fixed) in
-    let target : even_below (moved (register s (reg r)) (low 0).value) ≡ to =
-    ap (λ x. even_below (moved x (low 0).value)) held ∙ (ap even_below (near_moves to 0 (lit< tt)) ∙ even_target to word even) in
-    let acts : act (Jalr (reg 1) (reg r) (low 0)) s ≡ Ok (gone_to s to) =
-    jump_goes s (even_below (moved (register s (reg r)) (low 0).value)) to target even in
-    let both = stepped c s (gone_to s to) (Jalr (reg 1) (reg r) (low 0)) fixed at acts refl (λ a h. refl) in
+    let target : even_below (moved (register s (reg r)) i.value) ≡ to = ap even_below held ∙ even_is to even in
+    let acts : act (Jalr (reg 1) (reg r) i) s ≡ Ok (gone_to s to) = jump_goes s (even_below (moved (register s (reg r)) i.value)) to target even in
+    let both = stepped c s (gone_to s to) (Jalr (reg 1) (reg r) i) fixed at acts refl (λ a h. refl) in
     let next : stands.0 ≡ (gone_to s to).registers 1 = stands.1.1 ∙ after s.pc inside in
     record {
+      steps = 1;
       comes = comes_by_step s (gone_to s to) both.0;
+      some = lit< tt;
+      few = lit≤ tt;
       fixed = both.1;
       place = refl;
       stands = subst (λ a. StandAt c rest a) next stands.2;
@@ -222,6 +246,55 @@ goes_through c s r to rest held even stands fixed =
 
     four_more : (p : ℕ) → p + 4 < 2 ^ 64 → p % 4 ≡ 0 → (p + 4) % 2 ^ 64 % 4 ≡ 0
     four_more p h e = omega (arith, h, e)
+
+-- with the address in a register
+goes_through : (c : Site) (s : State) (r to : ℕ) (rest : List Item) → in_register s r ≡ to → to % 4 ≡ 0
+    → StandAt c (Plain (Jalr (reg 1) (reg r) (low 0)) ∷ rest) s.pc → Fixed c.ground s → Gone c rest to s (gone_to s to)
+goes_through c s r to rest held even stands fixed =
+    let word : to < 2 ^ 64 = subst (λ x. x < 2 ^ 64) held (in_register_small c.ground s r fixed) in
+    goes_by c s (low 0) r to rest (ap (λ x. moved x (low 0).value) held ∙ same_address to word) even stands fixed
+
+pub record Goes (c : Site) (rest : List Item) (to : ℕ) (s : State) : Type 0 where
+  pub v : State
+  pub gone : Gone c rest to s v
+
+-- to a name, through x1
+goes_to_name : (c : Site) (s : State) (g to : ℕ) (rest : List Item) → c.global g < 2 ^ 30 → c.global g ≡ to → to % 4 ≡ 0
+    → StandAt c (call_through (Name g) ++ rest) s.pc → Fixed c.ground s → Goes c rest to s
+unfolding Stand Stands goes_by
+goes_to_name c s g to rest near is even stands fixed =
+    let n : ℕ = moved (c.global g) (low 0).value in
+    let up = (leads_upper c s 1 g (low 0) is_1).from (with_name (JumpBy (reg 1) (reg 1)) g (low 0) ∷ rest) stands fixed in
+    let u : State = up.after in
+    let held : moved (in_register u 1) (lower_part n).value ≡ to =
+    ap (λ x. moved x (lower_part n).value) (register_reg u 1 is_1 ∙ up.holds.value)
+    ∙ (parts_made (c.global g) (low 0).value (low 0).in_range near ∙ (name_is (c.global g) near ∙ is)) in
+    let two = goes_by c u (lower_part n) 1 to rest held even up.stands up.fixed in
+    let few = up.few in
+    record {
+      v = gone_to u to;
+      gone = record {
+        steps = up.steps + 1;
+        comes = comes_then up.comes two.comes;
+        some = omega arith;
+        few = omega (arith, few);
+        fixed = two.fixed;
+        place = two.place;
+        stands = two.stands;
+        aligned = two.aligned;
+        others = λ m other. two.others m other ∙ up.holds.others m other;
+        bytes = two.bytes ∙ up.holds.bytes;
+        output = two.output ∙ up.holds.output;
+      };
+    }
+
+pub goes_to : (c : Setting) → IsSetting c → (s u : State) (callee : Operand Location) (to : ℕ) (rest : List Item) → HasAddress c s u callee
+    → operand_in c s callee ≡ to → to % 4 ≡ 0 → StandAt (site c) (call_through callee ++ rest) u.pc → Fixed c.world.memory_map u → Goes (site c) rest to u
+goes_to c is s u (At p) to rest has is_to even stands fixed =
+    record { v = gone_to u to; gone = goes_through (site c) u (callee_source (At p)) to rest (has ∙ is_to) even stands fixed }
+goes_to c is s u (Number n) to rest has is_to even stands fixed =
+    record { v = gone_to u to; gone = goes_through (site c) u (callee_source (Number n)) to rest (has ∙ is_to) even stands fixed }
+goes_to c is s u (Name g) to rest has is_to even stands fixed = goes_to_name (site c) u g to rest (is.near g) is_to even stands fixed
 
 -- ---- what the arguments are
 

@@ -25,15 +25,18 @@ use Rattle.rv_isa.specs.declared.instruction.RegOp.{RegOp}
 use Rattle.rv_isa.specs.declared.instruction.RegOp.TheVariants.{Add}
 use Rattle.rv_isa.specs.declared.instruction.RegWOp.{RegWOp}
 use Rattle.rv_isa.specs.declared.labelled.Item.{Item}
-use Rattle.rv_isa.specs.declared.labelled.Item.TheVariants.{Plain, Address}
+use Rattle.rv_isa.specs.declared.labelled.Item.TheVariants.{Plain, Relocated}
+use Rattle.rv_isa.specs.declared.relocation.Partial.TheVariants.{Upper, Add as AddBy}
+use Rattle.rv_isa.specs.declared.relocation.Relocation.{Relocation}
+use Rattle.rv_isa.specs.Relocations.{upper_part, lower_part as rest_part, relocated}
 use Rattle.rv_isa.proofs.MemoryLemmas.{each_from, stored_avoids}
 use Rattle.vcode.specs.Cost.{is_immediate}
 use Rattle.abi_frames.specs.Calls.{IsUsable}
 use Rattle.vcode.specs.Addresses.{low}
 use Rattle.abi_frames.specs.Fields.{reg, field, high, amount, word_amount, add_low, extend, sum_to, load_8, store_8, shift_11, long_constant, word, is_word, lower_part, word_constant, constant}
-use Rattle.abi_frames.specs.Emission.{far_load, load_slot, far_store, store_slot}
-use Rattle.abi_frames.proofs.ConstantNumbers.{immediate_is, near_moves, far_moves, top_bits, part_1, part_2, part_3, part_4, word_made, upper_made}
-use Rattle.abi_frames.proofs.Leading.{Site, StandAt, Leads, leads_nowhere, leads_then, leads_so, leads_by, leads_set, leads_again, Sets, IsReg, register_reg, in_register, same_in_register}
+use Rattle.abi_frames.specs.Emission.{with_name, name_into, far_load, load_slot, far_store, store_slot}
+use Rattle.abi_frames.proofs.ConstantNumbers.{immediate_is, near_moves, far_moves, top_bits, part_1, part_2, part_3, part_4, word_made, upper_made, parts_made}
+use Rattle.abi_frames.proofs.Leading.{Site, Leads, leads_nowhere, leads_then, leads_so, leads_by, leads_set, leads_again, Sets, IsReg, register_reg, in_register, same_in_register}
 
 -- ---- registers alone
 
@@ -175,30 +178,35 @@ leads_constant c s d n is = by_test (is_immediate n) refl (is_word n) refl
         (leads_word_constant c s d (n % 2 ^ 32) is (mod-lt n (lit< tt)))
     by_test false e false k = leads_long_constant c s d (n % 2 ^ 64) is (mod-lt n (lit< tt))
 
--- ---- the address of a global
+-- ---- names
 
-pub leads_address : (c : Site) (s : State) (d g : ℕ) → IsReg d → Leads c (Address (reg d) g ∷ []) s (Sets s d (c.global g))
+-- an instruction that has a part of an address is one with its number
+pub leads_named : (c : Site) (s : State) (r : Relocation) (P : State → Type 0) → Leads c (Plain (relocated r (c.global r.global)) ∷ []) s P
+    → Leads c (Relocated r ∷ []) s P
 unfolding Stand Stands
-leads_address c s d g is = record {
-  from = λ rest stands fixed.
-      let gets = stands.1 s fixed refl in
-      let same : d % 32 ≡ d = let small = is.small in omega (arith, small) in
-      let few = gets.at_most in
-      record {
-        steps = gets.count;
-        after = gets.after;
-        comes = gets.comes;
-        few = omega (arith, few);
-        stands = subst (λ a. StandAt c rest a) (sym gets.place) stands.2;
-        fixed = gets.fixed;
-        holds = record {
-          value = ap gets.after.registers (sym same) ∙ gets.value;
-          others = λ n other. gets.registers n (λ e. other (e ∙ same));
-          bytes = gets.bytes;
-          output = gets.output;
-        };
-      };
-}
+leads_named c s r P h = record { from = λ rest stands fixed. h.from rest stands fixed }
+
+pub leads_upper : (c : Site) (s : State) (d g : ℕ) (o : Immediate) → IsReg d
+    → Leads c (with_name (Upper (reg d)) g o ∷ []) s (Sets s d (upper_value (upper_part (moved (c.global g) o.value))))
+leads_upper c s d g o is =
+    let n : ℕ = moved (c.global g) o.value in
+    leads_named c s (record { instruction = Upper (reg d); global = g; offset = o }) (Sets s d (upper_value (upper_part n)))
+    (leads_lui c s d (upper_part n) is)
+
+pub name_is : (g : ℕ) → g < 2 ^ 30 → moved g (low 0).value ≡ g
+name_is g h = near_moves g 0 (lit< tt) ∙ omega (arith, h)
+
+pub leads_address : (c : Site) (s : State) (d g : ℕ) → IsReg d → c.global g < 2 ^ 30 → Leads c (name_into d g) s (Sets s d (c.global g))
+leads_address c s d g is near =
+    let n : ℕ = moved (c.global g) (low 0).value in
+    let up : ℕ = upper_value (upper_part n) in
+    leads_again c (with_name (Upper (reg d)) g (low 0) ∷ []) (with_name (AddBy (reg d) (reg d)) g (low 0) ∷ []) s d up (c.global g)
+    (leads_upper c s d g (low 0) is)
+    (λ u f one.
+    leads_named c u (record { instruction = AddBy (reg d) (reg d); global = g; offset = low 0 }) (Sets u d (c.global g))
+    (leads_set c u (Imm Addi (reg d) (reg d) (rest_part n)) d (moved (register u (reg d)) (rest_part n).value) (c.global g) is refl
+    (ap (λ x. moved x (rest_part n).value) (register_reg u d is ∙ one.value)
+    ∙ (parts_made (c.global g) (low 0).value (low 0).in_range near ∙ name_is (c.global g) near))))
 
 -- ---- memory
 

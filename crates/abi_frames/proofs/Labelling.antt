@@ -12,17 +12,18 @@ use Rattle.il_ast.specs.declared.operation.Condition.TheVariants.{Equal, NotEqua
 use Rattle.il_ast.specs.declared.operation.Class.{Class}
 use Rattle.il_ast.specs.declared.operation.Class.TheVariants.{W, L}
 use Rattle.rv_isa.specs.Labels.{IsLabelled, times_labelled, has_label_below, has_good_registers, longest_size}
-use Rattle.rv_isa.specs.declared.instruction.Instr.TheVariants.{Lui, Imm, Addiw, Shift, ShiftW, Reg, RegW}
+use Rattle.rv_isa.specs.declared.instruction.Instr.TheVariants.{Lui, Jalr, Imm, Addiw, Shift, ShiftW, Reg, RegW}
 use Rattle.rv_isa.specs.declared.instruction.ImmOp.{ImmOp}
 use Rattle.rv_isa.specs.declared.instruction.ImmOp.TheVariants.{Addi, Slti, Sltiu}
 use Rattle.rv_isa.specs.declared.instruction.BranchOp.{BranchOp}
 use Rattle.rv_isa.specs.declared.instruction.BranchOp.TheVariants.{Beq, Bne, Blt, Bge, Bltu, Bgeu}
+use Rattle.rv_isa.specs.declared.ranges.Immediate.{Immediate}
 use Rattle.rv_isa.specs.declared.instruction.LoadOp.{LoadOp}
 use Rattle.rv_isa.specs.declared.instruction.LoadOp.TheVariants.{Lwu, Lhu, Lbu}
 use Rattle.rv_isa.specs.declared.instruction.StoreOp.{StoreOp}
 use Rattle.rv_isa.specs.declared.instruction.StoreOp.TheVariants.{Sb, Sh, Sw}
 use Rattle.rv_isa.specs.declared.labelled.Item.{Item}
-use Rattle.rv_isa.specs.declared.labelled.Item.TheVariants.{Plain, Label, Branch as BranchTo, Goto as GoTo, Address}
+use Rattle.rv_isa.specs.declared.labelled.Item.TheVariants.{Plain, Label, Branch as BranchTo, Goto as GoTo}
 use Rattle.vcode.specs.declared.place.Location.{Location}
 use Rattle.vcode.specs.declared.place.Location.TheVariants.{Register as InRegister, Slot}
 use Rattle.vcode.specs.declared.place.Operand.{Operand}
@@ -46,7 +47,7 @@ use Rattle.abi_frames.specs.Fields.{reg, high, amount, word_amount, add_low, ext
 use Rattle.abi_frames.specs.Immediates.{opposite, next, right_form, left_form, compare_number, form_items}
 use Rattle.abi_frames.specs.declared.immediate.Form.{Form}
 use Rattle.abi_frames.specs.declared.immediate.Form.TheVariants.{Immediate as ByImmediate, AddWord, Shift as ByShift, ShiftWord, Compare as ByComparison}
-use Rattle.abi_frames.specs.Emission.{copy_at, copy_eight, copy_eights, copy_rest, far_load, load_slot, far_store, store_slot, slot_offset, into, fetch, source, word_into, target, deliver, set_items, compare_items, operation_items, operand_into, operand_source, on_registers, by_form, operate_by, operate_items, load_to, store_from, store_op, line_items, lines_items, move_pointer, lower_pointer, raise_pointer, save_all, restore_all, go_back, prologue, epilogue, result_items, goto_items, branch_when, inverted, ways_items, compared_into, compared_source, jump_items, blocks_items, passed_class, pass_into, stack_items, stack_all, register_items, register_all, passed_items, callee_items, callee_source, prepare_items, call_through, receive_items, call_items, address_at}
+use Rattle.abi_frames.specs.Emission.{copy_at, copy_eight, copy_eights, copy_rest, far_load, load_slot, far_store, store_slot, slot_offset, into, fetch, source, word_into, target, deliver, set_items, compare_items, operation_items, operand_into, operand_source, on_registers, by_form, operate_by, operate_items, name_into, base_items, load_by, store_by, load_to, store_from, store_op, line_items, lines_items, move_pointer, lower_pointer, raise_pointer, save_all, restore_all, go_back, prologue, epilogue, result_items, goto_items, branch_when, inverted, ways_items, compared_into, compared_source, jump_items, blocks_items, passed_class, pass_into, stack_items, stack_all, register_items, register_all, passed_items, callee_items, callee_source, prepare_items, call_through, receive_items, call_items, address_at}
 use Rattle.abi_frames.specs.Moves.{is_read, earlier_at, move_up, moves_up, moved_up, all_move_up, all_moved_up}
 use Rattle.abi_frames.proofs.Passing.{in_place}
 use Rattle.abi_frames.proofs.Arranging.{is_earlier, all_stand}
@@ -174,20 +175,8 @@ store_slot_plainly n v o h = by_test (nat_lt o 2048)
 place_nameable : (slots r : ℕ) → is_place slots (InRegister r) ≡ true → Nameable r
 place_nameable slots r good = let hi = (place_is slots r good).to_27 in nameable r (omega (arith, hi))
 
-not_zero : (d : ℕ) → 0 < d → d < 31 → not (nat_eq (d % 32) 0) ≡ true
-not_zero d some h = by_test (nat_eq (d % 32) 0) refl
-  where
-    by_test : (b : Bool) → nat_eq (d % 32) 0 ≡ b → not b ≡ true
-    by_test true e = absurd (let no : ⊥ = grind (arith, nat_tests) in no)
-    by_test false e = refl
-
-address_plainly : (n d g : ℕ) → 0 < d → d < 31 → Plainly n (Address (reg d) g ∷ [])
-address_plainly n d g some h = record {
-  labels = refl;
-  none = λ l. refl;
-  registers = and_from (not (nat_eq (d % 32) 31) && not (nat_eq (d % 32) 0)) true
-      (and_from (not (nat_eq (d % 32) 31)) (not (nat_eq (d % 32) 0)) (nameable d h).is (not_zero d some h)) refl;
-}
+name_plainly : (n d g : ℕ) → d < 31 → Plainly n (name_into d g)
+name_plainly n d g h = record { labels = refl; none = λ l. refl; registers = (let is = (nameable d h).is in rw is refl) }
 
 into_plainly : (n : ℕ) (y : Layout) (slots d : ℕ) (a : Operand Location) → 0 < d → d < 31 → operand_keeps (is_place slots) a ≡ true → Plainly n (into y d a)
 into_plainly n y slots d (At (InRegister r)) some h good = by_test (nat_eq d r)
@@ -197,7 +186,7 @@ into_plainly n y slots d (At (InRegister r)) some h good = by_test (nat_eq d r)
     by_test false = add_plainly n d r 0 (nameable d h) (place_nameable slots r good)
 into_plainly n y slots d (At (Slot i)) some h good = load_slot_plainly n d (slot_offset y i) (nameable d h)
 into_plainly n y slots d (Number m) some h good = constant_plainly n d m (nameable d h)
-into_plainly n y slots d (Name g) some h good = address_plainly n d g some h
+into_plainly n y slots d (Name g) some h good = name_plainly n d g h
 
 fetch_plainly : (n : ℕ) (y : Layout) (d : ℕ) (a : Operand Location) → 0 < d → d < 31 → Plainly n (fetch y d a)
 fetch_plainly n y d (At (InRegister r)) some h = plainly_nothing n
@@ -207,7 +196,12 @@ fetch_plainly n y d (Number m) some h = by_test (nat_eq m 0)
     by_test : (b : Bool) → Plainly n (if b then [] else constant d m)
     by_test true = plainly_nothing n
     by_test false = constant_plainly n d m (nameable d h)
-fetch_plainly n y d (Name g) some h = address_plainly n d g some h
+fetch_plainly n y d (Name g) some h = name_plainly n d g h
+
+base_plainly : (n : ℕ) (y : Layout) (d : ℕ) (a : Operand Location) (o : Immediate) → 0 < d → d < 31 → Plainly n (base_items y d a o)
+base_plainly n y d (At p) o some h = fetch_plainly n y d (At p) some h
+base_plainly n y d (Number m) o some h = fetch_plainly n y d (Number m) some h
+base_plainly n y d (Name g) o some h = record { labels = refl; none = λ l. refl; registers = (let is = (nameable d h).is in rw is refl) }
 
 source_nameable : (slots d : ℕ) (a : Operand Location) → d < 31 → operand_keeps (is_place slots) a ≡ true → Nameable (source d a)
 source_nameable slots d (At (InRegister r)) h good = place_nameable slots r good
@@ -437,7 +431,7 @@ callee_plainly n y slots (At (InRegister r)) known = by_test (nat_le 10 r && nat
     by_test false = plainly_nothing n
 callee_plainly n y slots (At (Slot i)) known = fetch_plainly n y 28 (At (Slot i)) (lit< tt) (lit< tt)
 callee_plainly n y slots (Number m) known = fetch_plainly n y 28 (Number m) (lit< tt) (lit< tt)
-callee_plainly n y slots (Name g) known = fetch_plainly n y 28 (Name g) (lit< tt) (lit< tt)
+callee_plainly n y slots (Name g) known = plainly_nothing n
 
 callee_nameable : (slots : ℕ) (a : Operand Location) → operand_keeps (is_place slots) a ≡ true → Nameable (callee_source a)
 callee_nameable slots (At (InRegister r)) known = by_test (nat_le 10 r && nat_le r 17)
@@ -449,6 +443,15 @@ callee_nameable slots (At (Slot i)) known = source_nameable slots 28 (At (Slot i
 callee_nameable slots (Number m) known = source_nameable slots 28 (Number m) (lit< tt) known
 callee_nameable slots (Name g) known = source_nameable slots 28 (Name g) (lit< tt) known
 
+through_plainly : (n slots : ℕ) (a : Operand Location) → operand_keeps (is_place slots) a ≡ true → Plainly n (call_through a)
+through_plainly n slots (At p) known =
+    one_of_two n (Plain (Jalr (reg 1) (reg (callee_source (At p))) (low 0))) 1 (callee_source (At p)) (nameable 1 (lit< tt))
+    (callee_nameable slots (At p) known) refl (λ l. refl) refl
+through_plainly n slots (Number m) known =
+    one_of_two n (Plain (Jalr (reg 1) (reg (callee_source (Number m))) (low 0))) 1 (callee_source (Number m)) (nameable 1 (lit< tt))
+    (callee_nameable slots (Number m) known) refl (λ l. refl) refl
+through_plainly n slots (Name g) known = record { labels = refl; none = λ l. refl; registers = refl }
+
 receive_plainly : (n : ℕ) (y : Layout) (slots : ℕ) (to : Option (Destination Location)) → wanted_keeps (is_place slots) to ≡ true → Plainly n (receive_items y to)
 receive_plainly n y slots None good = plainly_nothing n
 receive_plainly n y slots (Some d) good = set_plainly n y slots d.place (At (InRegister 10)) good refl
@@ -457,13 +460,12 @@ call_plainly : (n : ℕ) (y : Layout) (slots : ℕ) (to : Option (Destination Lo
     → wanted_keeps (is_place slots) to ≡ true → operand_keeps (is_place slots) callee ≡ true
     → list_all (λ (a : Argument Location). operand_keeps (is_place slots) a.value) args ≡ true → Plainly n (call_items y to callee args)
 call_plainly n y slots to callee args good known known_args =
-    let there : List Item = call_through (callee_source callee) ∷ [] in
+    let there : List Item = call_through callee in
     plainly_then n (prepare_items y callee args) (there ++ receive_items y to)
     (plainly_then n (stack_all y 0 args) (callee_items y callee ++ passed_items y args) (stack_all_plainly n y slots 0 args known_args)
     (plainly_then n (callee_items y callee) (passed_items y args) (callee_plainly n y slots callee known) (passed_plainly n y slots args known_args)))
     (plainly_then n there (receive_items y to)
-    (one_of_two n (call_through (callee_source callee)) 1 (callee_source callee) (nameable 1 (lit< tt)) (callee_nameable slots callee known) refl
-    (λ l. refl) refl)
+    (through_plainly n slots callee known)
     (receive_plainly n y slots to good))
 
 offset_plainly : (n d o : ℕ) → Nameable d → Plainly n (address_at d o)
@@ -489,6 +491,24 @@ rest_plainly n r =
     plainly_then n a (b ++ d) (piece_plainly n Lwu Sw 0 (nat_lt r 4))
     (plainly_then n b d (piece_plainly n Lhu Sh (r / 4 * 4) (nat_lt (r % 4) 2)) (piece_plainly n Lbu Sb (r / 2 * 2) (nat_lt (r % 2) 1)))
 
+load_by_plainly : (n slots : ℕ) (op : LoadOp) (d : ℕ) (a : Operand Location) (o : Immediate) → Nameable d → operand_keeps (is_place slots) a ≡ true
+    → Plainly n (load_by op d a o ∷ [])
+load_by_plainly n slots op d (At p) o h known =
+    one_of_two n (load_to op d (source 28 (At p)) o) d (source 28 (At p)) h (source_nameable slots 28 (At p) (lit< tt) known) refl (λ l. refl) refl
+load_by_plainly n slots op d (Number m) o h known =
+    one_of_two n (load_to op d (source 28 (Number m)) o) d (source 28 (Number m)) h (source_nameable slots 28 (Number m) (lit< tt) known) refl (λ l. refl) refl
+load_by_plainly n slots op d (Name g) o h known =
+    one_of_two n (load_by op d (Name g) o) d 28 h (nameable 28 (lit< tt)) refl (λ l. refl) refl
+
+store_by_plainly : (n slots : ℕ) (op : StoreOp) (v : ℕ) (a : Operand Location) (o : Immediate) → Nameable v → operand_keeps (is_place slots) a ≡ true
+    → Plainly n (store_by op v a o ∷ [])
+store_by_plainly n slots op v (At p) o h known =
+    one_of_two n (store_from op v (source 29 (At p)) o) (source 29 (At p)) v (source_nameable slots 29 (At p) (lit< tt) known) h refl (λ l. refl) refl
+store_by_plainly n slots op v (Number m) o h known =
+    one_of_two n (store_from op v (source 29 (Number m)) o) (source 29 (Number m)) v (source_nameable slots 29 (Number m) (lit< tt) known) h refl (λ l. refl) refl
+store_by_plainly n slots op v (Name g) o h known =
+    one_of_two n (store_by op v (Name g) o) 29 v (nameable 29 (lit< tt)) h refl (λ l. refl) refl
+
 line_plainly : (n : ℕ) (y : Layout) (used slots : ℕ) (l : Line Location) → line_keeps (is_place slots) l ≡ true → Plainly n (line_items y used l)
 line_plainly n y used slots (Tick turn w) known = plainly_nothing n
 line_plainly n y used slots (Set to a) known =
@@ -500,18 +520,16 @@ line_plainly n y used slots (Operate to op a b) known =
     operate_plainly n y slots to op a b parts.0 operands.0 operands.1
 line_plainly n y used slots (Load to op at) known =
     let parts = and_parts (is_place slots to) (operand_keeps (is_place slots) at.base) known in
-    plainly_then n (fetch y 28 at.base) ((load_to op (target to) (source 28 at.base) at.offset ∷ []) ++ deliver y to) (fetch_plainly n y 28 at.base (lit< tt) (lit< tt))
-    (plainly_then n (load_to op (target to) (source 28 at.base) at.offset ∷ []) (deliver y to)
-    (one_of_two n (load_to op (target to) (source 28 at.base) at.offset) (target to) (source 28 at.base) (target_nameable slots to parts.0)
-    (source_nameable slots 28 at.base (lit< tt) parts.1) refl (λ l. refl) refl)
+    let made : List Item = load_by op (target to) at.base at.offset ∷ [] in
+    plainly_then n (base_items y 28 at.base at.offset) (made ++ deliver y to) (base_plainly n y 28 at.base at.offset (lit< tt) (lit< tt))
+    (plainly_then n made (deliver y to) (load_by_plainly n slots op (target to) at.base at.offset (target_nameable slots to parts.0) parts.1)
     (deliver_plainly n y to))
 line_plainly n y used slots (Store size a at) known =
     let parts = and_parts (operand_keeps (is_place slots) a) (operand_keeps (is_place slots) at.base) known in
-    let made : List Item = store_from (store_op size) (source 28 a) (source 29 at.base) at.offset ∷ [] in
-    plainly_then n (fetch y 28 a) (fetch y 29 at.base ++ made) (fetch_plainly n y 28 a (lit< tt) (lit< tt))
-    (plainly_then n (fetch y 29 at.base) made (fetch_plainly n y 29 at.base (lit< tt) (lit< tt))
-    (one_of_two n (store_from (store_op size) (source 28 a) (source 29 at.base) at.offset) (source 29 at.base) (source 28 a) (source_nameable slots 29 at.base (lit< tt) parts.1)
-    (source_nameable slots 28 a (lit< tt) parts.0) refl (λ l. refl) refl))
+    let made : List Item = store_by (store_op size) (source 28 a) at.base at.offset ∷ [] in
+    plainly_then n (fetch y 28 a) (base_items y 29 at.base at.offset ++ made) (fetch_plainly n y 28 a (lit< tt) (lit< tt))
+    (plainly_then n (base_items y 29 at.base at.offset) made (base_plainly n y 29 at.base at.offset (lit< tt) (lit< tt))
+    (store_by_plainly n slots (store_op size) (source 28 a) at.base at.offset (source_nameable slots 28 a (lit< tt) parts.0) parts.1))
 line_plainly n y used slots (Alloc None size) known = plainly_nothing n
 line_plainly n y used slots (Alloc (Some to) size) known =
     plainly_then n (address_at (target to) (y.area + used)) (deliver y to) (offset_plainly n (target to) (y.area + used) (target_nameable slots to known))

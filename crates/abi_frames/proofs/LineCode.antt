@@ -13,6 +13,11 @@ use Rattle.rv_isa.specs.Step.{load_size, load_value}
 use Rattle.rv_isa.specs.declared.instruction.LoadOp.{LoadOp}
 use Rattle.rv_isa.specs.State.{State}
 use Rattle.rv_isa.specs.Memory.{number_at, stored}
+use Rattle.rv_isa.specs.Arithmetic.{moved, upper_value}
+use Rattle.rv_isa.specs.Relocations.{upper_part, lower_part}
+use Rattle.rv_isa.specs.Labelled.{Fixed}
+use Rattle.rv_isa.specs.declared.ranges.Immediate.{Immediate}
+use Rattle.rv_isa.specs.declared.relocation.Partial.TheVariants.{Load as LoadBy}
 use Rattle.rv_isa.specs.declared.labelled.Item.{Item}
 use Rattle.vcode.specs.declared.place.Location.{Location}
 use Rattle.vcode.specs.declared.place.Location.TheVariants.{Register as InRegister, Slot}
@@ -23,12 +28,12 @@ use Rattle.vcode.specs.declared.line.Operation.{Operation}
 use Rattle.vcode.specs.declared.line.Operation.TheVariants.{Reg as RegOperation, RegW as RegWOperation, Compare}
 use Rattle.vcode.specs.Named.{is_place, operand_keeps}
 use Rattle.flat_code.specs.Step.{computed}
-use Rattle.abi_frames.specs.Fields.{add_low, extend, word, constant}
-use Rattle.abi_frames.specs.Emission.{load_to, load_items, slot_offset, load_slot, store_slot, into, fetch, source, word_into, target, deliver, set_items, operation_items, operand_into, operand_source, on_registers, by_form, operate_by, operate_items}
-use Rattle.abi_frames.proofs.ConstantNumbers.{near_moves}
+use Rattle.abi_frames.specs.Fields.{reg, add_low, extend, word, constant}
+use Rattle.abi_frames.specs.Emission.{base_items, load_by, load_items, slot_offset, load_slot, store_slot, into, fetch, source, word_into, target, deliver, set_items, operation_items, operand_into, operand_source, on_registers, by_form, operate_by, operate_items}
+use Rattle.abi_frames.proofs.ConstantNumbers.{near_moves, parts_made}
 use Rattle.abi_frames.proofs.Leading.{Leads, leads_nowhere, leads_then, leads_so, leads_fixed, Sets, IsReg, register_reg, in_register, same_in_register, in_register_small}
-use Rattle.abi_frames.proofs.Instructions.{UsableFrom, leads_load_at, Writes, leads_extend, leads_add_low, leads_reg, leads_regw, leads_constant, leads_address, leads_load_slot, leads_store_slot_in, is_28, is_29}
-use Rattle.abi_frames.proofs.Addressing.{IsBased}
+use Rattle.abi_frames.proofs.Instructions.{UsableFrom, leads_load_at, Writes, leads_extend, leads_add_low, leads_reg, leads_regw, leads_constant, leads_named, leads_upper, leads_address, leads_load_slot, leads_store_slot_in, is_28, is_29}
+use Rattle.abi_frames.proofs.Addressing.{IsBeyond, IsBased}
 use Rattle.abi_frames.proofs.Activations.{Setting, IsSetting, site, bottom, slot_at, operand_in, IsPlace, place_is, place_reg, slot_is, slot_in_frame, InPlace, OnStack, Assigned}
 
 -- ---- operands
@@ -81,7 +86,7 @@ leads_fetch c is s d (Number n) reg other pointer good = by_test (nat_eq n 0) re
         leads_so (site c) (constant d n) s (Sets s d (n % 2 ^ 64)) (Fetched c s d (Number n)) (leads_constant (site c) s d n reg)
         (λ u f h. fetched_in c s d (n % 2 ^ 64) (Number n) u reg there refl h)
 leads_fetch c is s d (Name g) reg other pointer good =
-    leads_so (site c) (fetch c.layout d (Name g)) s (Sets s d (c.global g)) (Fetched c s d (Name g)) (leads_address (site c) s d g reg)
+    leads_so (site c) (fetch c.layout d (Name g)) s (Sets s d (c.global g)) (Fetched c s d (Name g)) (leads_address (site c) s d g reg (is.near g))
     (λ u f h. fetched_in c s d (c.global g) (Name g) u reg refl refl h)
 
 same_low : (x : ℕ) → x < 2 ^ 64 → (x + 0) % 2 ^ 64 ≡ x
@@ -104,7 +109,7 @@ leads_into c is s d (At (InRegister r)) reg other pointer good = by_test (nat_eq
         (near_moves (s.registers r) 0 (lit< tt) ∙ same_low (s.registers r) (fixed.words r)))
 leads_into c is s d (At (Slot i)) reg other pointer good = leads_slot c is s d i reg other pointer good
 leads_into c is s d (Number n) reg other pointer good = leads_constant (site c) s d n reg
-leads_into c is s d (Name g) reg other pointer good = leads_address (site c) s d g reg
+leads_into c is s d (Name g) reg other pointer good = leads_address (site c) s d g reg (is.near g)
 
 -- its low 32 bits, extended, are in the register d
 extended_after : (c : Setting) → IsSetting c → (s : State) (d : ℕ) (a : Operand Location) → IsReg d → d ≢ 2 → s.registers 2 ≡ bottom c
@@ -390,26 +395,81 @@ leads_operate_line c is s to op a b pointer good known_a known_b = by_forms (rig
     by_forms None e (Some form) d = by_left form a d
     by_forms None e None d = leads_on_registers c is s to op a b pointer good known_a known_b
 
+-- ---- the base of an access
+
+-- what is left to add to it
+abbrev pub offset_left : Setting → Operand Location → Immediate → Immediate
+offset_left c (Name g) o = lower_part (moved (c.global g) o.value)
+offset_left c a o = o
+
+-- from the base, in a register, this leads to p
+pub record Aimed (c : Setting) (s : State) (d : ℕ) (a : Operand Location) (o : Immediate) (p : ℕ) (u : State) : Type 0 where
+  pub there : moved (in_register u (source d a)) (offset_left c a o).value ≡ p
+  pub others : (n : ℕ) → n ≢ d → u.registers n ≡ s.registers n
+  pub bytes : u.bytes ≡ s.bytes
+  pub output : u.output ≡ s.output
+
+pub aimed_scratched : (c : Setting) (s : State) (d : ℕ) (a : Operand Location) (o : Immediate) (p : ℕ) (u : State) → 28 ≤ d → Aimed c s d a o p u → Scratched s u
+aimed_scratched c s d a o p u h f = record { registers = λ n lo. f.others n (not_scratch d n h lo); bytes = f.bytes; output = f.output }
+
+fetched_aims : (c : Setting) → IsSetting c → (s : State) (d : ℕ) (a : Operand Location) (o : Immediate) (p : ℕ) → IsReg d → d ≢ 2 → s.registers 2 ≡ bottom c
+    → operand_keeps (is_place c.slots) a ≡ true → IsBeyond c s a o p → offset_left c a o ≡ o → Leads (site c) (fetch c.layout d a) s (Aimed c s d a o p)
+fetched_aims c is s d a o p is_reg other pointer good based left =
+    leads_so (site c) (fetch c.layout d a) s (Fetched c s d a) (Aimed c s d a o p) (leads_fetch c is s d a is_reg other pointer good)
+    (λ u f h. record {
+      there = ap (λ (i : Immediate). moved (in_register u (source d a)) i.value) left
+          ∙ based (in_register u (source d a)) h.value (in_register_small c.world.memory_map u (source d a) f);
+      others = h.others;
+      bytes = h.bytes;
+      output = h.output;
+    })
+
+pub leads_base : (c : Setting) → IsSetting c → (s : State) (d : ℕ) (a : Operand Location) (o : Immediate) (p : ℕ) → IsReg d → d ≢ 2 → s.registers 2 ≡ bottom c
+    → operand_keeps (is_place c.slots) a ≡ true → IsBeyond c s a o p → Leads (site c) (base_items c.layout d a o) s (Aimed c s d a o p)
+leads_base c is s d (At q) o p is_reg other pointer good based = fetched_aims c is s d (At q) o p is_reg other pointer good based refl
+leads_base c is s d (Number n) o p is_reg other pointer good based = fetched_aims c is s d (Number n) o p is_reg other pointer good based refl
+leads_base c is s d (Name g) o p is_reg other pointer good based =
+    let near = is.near g in
+    let n : ℕ = moved (c.global g) o.value in
+    leads_so (site c) (base_items c.layout d (Name g) o) s (Sets s d (upper_value (upper_part n))) (Aimed c s d (Name g) o p) (leads_upper (site c) s d g o is_reg)
+    (λ u f h. record {
+      there = ap (λ x. moved x (lower_part n).value) (register_reg u d is_reg ∙ h.value)
+          ∙ (parts_made (c.global g) o.value o.in_range near ∙ based (c.global g) refl (omega (arith, near)));
+      others = h.others;
+      bytes = h.bytes;
+      output = h.output;
+    })
+
 -- ---- a load
+
+leads_load_by : (c : Setting) (u : State) (op : LoadOp) (d : ℕ) (a : Operand Location) (o : Immediate) (x : ℕ) → IsReg d → Fixed c.world.memory_map u
+    → moved (in_register u (source 28 a)) (offset_left c a o).value ≡ x → UsableFrom c.world.memory_map x (load_size op)
+    → Leads (site c) (load_by op d a o ∷ []) u (Sets u d (load_value op (number_at u.bytes x (load_size op))))
+leads_load_by c u op d (At q) o x is_reg f there usable = leads_load_at (site c) u op d (source 28 (At q)) o x is_reg f there usable
+leads_load_by c u op d (Number n) o x is_reg f there usable = leads_load_at (site c) u op d (source 28 (Number n)) o x is_reg f there usable
+leads_load_by c u op d (Name g) o x is_reg f there usable =
+    leads_named (site c) u (record { instruction = LoadBy op (reg d) (reg 28); global = g; offset = o })
+    (Sets u d (load_value op (number_at u.bytes x (load_size op))))
+    (leads_load_at (site c) u op d 28 (lower_part (moved (c.global g) o.value)) x is_reg f there usable)
 
 pub leads_load_line : (c : Setting) → IsSetting c → (s : State) (to : Location) (op : LoadOp) (at : Address Location) (x : ℕ) → s.registers 2 ≡ bottom c
     → is_place c.slots to ≡ true → operand_keeps (is_place c.slots) at.base ≡ true → IsBased c s at x → UsableFrom c.world.memory_map x (load_size op)
     → Leads (site c) (load_items c.layout to op at) s (Assigned c s to (load_value op (number_at s.bytes x (load_size op))))
 leads_load_line c is s to op at x pointer good known based usable =
     let n : ℕ = load_size op in
-    let y : ℕ = source 28 at.base in
+    let a : Operand Location = at.base in
+    let o : Immediate = at.offset in
     let v : ℕ = load_value op (number_at s.bytes x n) in
-    leads_then (site c) (fetch c.layout 28 at.base) ((load_to op (target to) y at.offset ∷ []) ++ deliver c.layout to) s (Fetched c s 28 at.base) (Assigned c s to v)
-    (leads_fetch c is s 28 at.base is_28 (λ e. absurd (omega (arith, e))) pointer known)
+    leads_then (site c) (base_items c.layout 28 a o) ((load_by op (target to) a o ∷ []) ++ deliver c.layout to) s (Aimed c s 28 a o x) (Assigned c s to v)
+    (leads_base c is s 28 a o x is_28 (λ e. absurd (omega (arith, e))) pointer known based)
     (λ u f one.
-    let same = fetched_scratched c s 28 at.base u (omega arith) one in
-    let there = based (in_register u y) one.value (in_register_small c.world.memory_map u y f) in
+    let same = aimed_scratched c s 28 a o x u (omega arith) one in
     let w : ℕ = load_value op (number_at u.bytes x n) in
     let value : w ≡ v = ap (λ (m : ℕ → ℕ). load_value op (number_at m x n)) one.bytes in
-    leads_so (site c) ((load_to op (target to) y at.offset ∷ []) ++ deliver c.layout to) u (Assigned c u to w) (Assigned c s to v)
-    (leads_made c is u (λ d. load_to op d y at.offset ∷ []) w to (same.registers 2 (lit< tt) ∙ pointer) good
-    (λ d reg other.
-    leads_so (site c) (load_to op d y at.offset ∷ []) u (Sets u d w) (InPlace u d w)
-    (leads_load_at (site c) u op d y at.offset x reg f there usable)
+    leads_so (site c) ((load_by op (target to) a o ∷ []) ++ deliver c.layout to) u (Assigned c u to w) (Assigned c s to v)
+    (leads_made c is u (λ d. load_by op d a o ∷ []) w to (same.registers 2 (lit< tt) ∙ pointer) good
+    (λ d is_reg other.
+    leads_so (site c) (load_by op d a o ∷ []) u (Sets u d w) (InPlace u d w)
+    (leads_load_by c u op d a o x is_reg f one.there usable)
     (λ t h two. set_register u d w t two)))
     (λ t h two. assigned_value c s to w v t value (assigned_from c s u to w t same two)))

@@ -10,7 +10,8 @@ use Rattle.il_ast.specs.declared.operation.Condition.TheVariants.{Equal, NotEqua
 use Rattle.il_ast.specs.declared.operation.Class.{Class}
 use Rattle.il_ast.specs.declared.operation.Class.TheVariants.{W, L}
 use Rattle.il_ast.specs.declared.operation.Size.{Size}
-use Rattle.rv_isa.specs.Labels.{longest_size}
+use Rattle.rv_isa.specs.Labels.{longest, longest_size}
+use Rattle.rv_isa.specs.declared.ranges.Immediate.{Immediate}
 use Rattle.rv_isa.specs.declared.instruction.LoadOp.{LoadOp}
 use Rattle.rv_isa.specs.declared.instruction.LoadOp.TheVariants.{Lwu, Lhu, Lbu}
 use Rattle.rv_isa.specs.declared.instruction.StoreOp.{StoreOp}
@@ -49,7 +50,7 @@ use Rattle.abi_frames.specs.declared.immediate.Form.{Form}
 use Rattle.abi_frames.specs.declared.immediate.Form.TheVariants.{Immediate as ByImmediate, AddWord, Shift as ByShift, ShiftWord, Compare as ByComparison}
 use Rattle.abi_frames.proofs.FormNumbers.{word_low, word_is_small}
 use Rattle.abi_frames.proofs.Branching.{branch_size}
-use Rattle.abi_frames.specs.Emission.{far_load, far_store, load_slot, store_slot, slot_offset, into, fetch, source, word_into, target, deliver, set_items, compare_items, operation_items, operand_into, operand_source, on_registers, by_form, operate_by, operate_items, load_to, load_items, store_from, store_op, store_items, line_items, lines_items, move_pointer, lower_pointer, raise_pointer, save_all, restore_all, go_back, prologue, epilogue, result_items, goto_items, branch_when, inverted, ways_items, compared_into, compared_source, jump_items, block_items, blocks_items, passed_class, pass_into, stack_items, stack_all, register_items, register_all, passed_items, callee_items, callee_source, prepare_items, call_through, receive_items, call_items, copy_at, copy_eight, copy_eights, copy_rest, blit_items, address_at, alloc_items}
+use Rattle.abi_frames.specs.Emission.{far_load, far_store, load_slot, store_slot, slot_offset, into, fetch, source, word_into, target, deliver, set_items, compare_items, operation_items, operand_into, operand_source, on_registers, by_form, operate_by, operate_items, base_items, load_by, load_items, store_by, store_op, store_items, line_items, lines_items, move_pointer, lower_pointer, raise_pointer, save_all, restore_all, go_back, prologue, epilogue, result_items, goto_items, branch_when, inverted, ways_items, compared_into, compared_source, jump_items, block_items, blocks_items, passed_class, pass_into, stack_items, stack_all, register_items, register_all, passed_items, callee_items, prepare_items, call_through, receive_items, call_items, copy_at, copy_eight, copy_eights, copy_rest, blit_items, address_at, alloc_items}
 use Rattle.abi_frames.specs.Moves.{operand_exchanged, argument_exchanged, exchange, is_read, settled, arrived, earlier_at, move_up, moves_up, moved_up, all_move_up, all_moved_up}
 use Rattle.abi_frames.proofs.MovingUp.{moved_length}
 use Rattle.abi_frames.proofs.Sources.{sources_length}
@@ -273,23 +274,40 @@ operate_size y to op a b = by_forms (right_form op b) (left_form op a)
     by_forms None (Some form) = let h = by_form_size y to op b a form in omega (arith, h)
     by_forms None None = on_registers_size y to op a b
 
+base_size : (y : Layout) (d : ℕ) (a : Operand Location) (o : Immediate) → longest_size (base_items y d a o) ≤ operand_cost a
+base_size y d (At p) o = fetch_size y d (At p)
+base_size y d (Number n) o = fetch_size y d (Number n)
+base_size y d (Name g) o = lit≤ tt
+
+load_by_size : (op : LoadOp) (d : ℕ) (a : Operand Location) (o : Immediate) → longest (load_by op d a o) ≡ 1
+load_by_size op d (At p) o = refl
+load_by_size op d (Number n) o = refl
+load_by_size op d (Name g) o = refl
+
 load_line_size : (y : Layout) (to : Location) (op : LoadOp) (at : MemoryAddress Location) → longest_size (load_items y to op at) ≤ operand_cost at.base + 1 + 3
 load_line_size y to op at =
-    let made : List Item = load_to op (target to) (source 28 at.base) at.offset ∷ [] in
-    let one = longest-append (fetch y 28 at.base) (made ++ deliver y to) in
+    let made : List Item = load_by op (target to) at.base at.offset ∷ [] in
+    let one = longest-append (base_items y 28 at.base at.offset) (made ++ deliver y to) in
     let two = longest-append made (deliver y to) in
-    let h = fetch_size y 28 at.base in
+    let it = load_by_size op (target to) at.base at.offset in
+    let h = base_size y 28 at.base at.offset in
     let k = deliver_size y to in
-    omega (arith, one, two, h, k)
+    omega (arith, one, two, it, h, k)
+
+store_by_size : (op : StoreOp) (v : ℕ) (a : Operand Location) (o : Immediate) → longest (store_by op v a o) ≡ 1
+store_by_size op v (At p) o = refl
+store_by_size op v (Number n) o = refl
+store_by_size op v (Name g) o = refl
 
 store_line_size : (y : Layout) (size : Size) (a : Operand Location) (at : MemoryAddress Location) → longest_size (store_items y size a at) ≤ operand_cost a + operand_cost at.base + 1
 store_line_size y size a at =
-    let made : List Item = store_from (store_op size) (source 28 a) (source 29 at.base) at.offset ∷ [] in
-    let one = longest-append (fetch y 28 a) (fetch y 29 at.base ++ made) in
-    let two = longest-append (fetch y 29 at.base) made in
+    let made : List Item = store_by (store_op size) (source 28 a) at.base at.offset ∷ [] in
+    let one = longest-append (fetch y 28 a) (base_items y 29 at.base at.offset ++ made) in
+    let two = longest-append (base_items y 29 at.base at.offset) made in
+    let it = store_by_size (store_op size) (source 28 a) at.base at.offset in
     let h = fetch_size y 28 a in
-    let k = fetch_size y 29 at.base in
-    omega (arith, one, two, h, k)
+    let k = base_size y 29 at.base at.offset in
+    omega (arith, one, two, it, h, k)
 
 operand_at_most_9 : (a : Operand Location) → operand_cost a ≤ 9
 operand_at_most_9 (At p) = lit≤ tt
@@ -377,7 +395,7 @@ callee_size y (At (InRegister r)) = by_test (nat_le 10 r && nat_le r 17)
     by_test false = lit≤ tt
 callee_size y (At (Slot i)) = let h = fetch_size y 28 (At (Slot i)) in omega (arith, h)
 callee_size y (Number n) = let h = fetch_size y 28 (Number n) in let most = operand_at_most_9 (Number n) in omega (arith, h, most)
-callee_size y (Name g) = let h = fetch_size y 28 (Name g) in omega (arith, h)
+callee_size y (Name g) = lit≤ tt
 
 prepare_size : (y : Layout) (callee : Operand Location) (args : List (Argument Location)) → longest_size (prepare_items y callee args) ≤ 9 + 24 * length args
 prepare_size y callee args =
@@ -394,19 +412,25 @@ receive_size y (Some d) = set_size y d.place (At (InRegister 10))
 
 -- the three parts of a call, and its jump
 pub call_parts : (y : Layout) (to : Option (Destination Location)) (callee : Operand Location) (args : List (Argument Location))
-    → longest_size (prepare_items y callee args) + 1 + longest_size (receive_items y to) ≤ 20 + 24 * length args
+    → longest_size (prepare_items y callee args) + 2 + longest_size (receive_items y to) ≤ 20 + 24 * length args
 call_parts y to callee args =
     let one = prepare_size y callee args in
     let two = receive_size y to in
     omega (arith, one, two)
 
+through_size : (a : Operand Location) → longest_size (call_through a) ≤ 2
+through_size (At p) = lit≤ tt
+through_size (Number n) = lit≤ tt
+through_size (Name g) = lit≤ tt
+
 call_size : (y : Layout) (to : Option (Destination Location)) (callee : Operand Location) (args : List (Argument Location))
     → longest_size (call_items y to callee args) ≤ 20 + 24 * length args
 call_size y to callee args =
-    let one = longest-append (prepare_items y callee args) ((call_through (callee_source callee) ∷ []) ++ receive_items y to) in
-    let two = longest-append (call_through (callee_source callee) ∷ []) (receive_items y to) in
+    let one = longest-append (prepare_items y callee args) (call_through callee ++ receive_items y to) in
+    let two = longest-append (call_through callee) (receive_items y to) in
+    let through = through_size callee in
     let parts = call_parts y to callee args in
-    omega (arith, one, two, parts)
+    omega (arith, one, two, through, parts)
 
 address_size : (d o : ℕ) → longest_size (address_at d o) ≤ 3
 address_size d o = by_test (nat_lt o 2048)

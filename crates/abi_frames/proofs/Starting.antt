@@ -264,9 +264,9 @@ frame_fits f slots is = record {
 }
 
 is_setting : (w : World) (label global : ℕ → ℕ) (addresses : List ℕ) (f : Code Location) (slots sp room : ℕ) (before : Spots) (s : State) → IsCode f slots
-    → IsWorld w → ((n a : ℕ) → slice_get addresses n ≡ Some a → global n ≡ a) → GoodStack w sp (frame_bound f slots + room)
+    → IsWorld w → ((n a : ℕ) → slice_get addresses n ≡ Some a → global n ≡ a) → ((n : ℕ) → global n < 2 ^ 30) → GoodStack w sp (frame_bound f slots + room)
     → IsSetting (setting w label global addresses f slots sp before s)
-is_setting w label global addresses f slots sp room before s is world globals stack =
+is_setting w label global addresses f slots sp room before s is world globals near stack =
     let frame = frame_fits f slots is in
     let few = frame.few in
     let small = frame.small in
@@ -277,6 +277,7 @@ is_setting w label global addresses f slots sp room before s is world globals st
     record {
       world = world;
       globals = globals;
+      near = near;
       above = omega (arith, above, fits);
       below = stack.below;
       fits = omega arith;
@@ -374,12 +375,13 @@ begin_size f slots is =
 
 -- from the call on
 performs : (w : World) (at : ℕ) (label global : ℕ → ℕ) (addresses : List ℕ) (f : Code Location) (slots : ℕ) → IsCode f slots → IsWorld w
-    → ((n a : ℕ) → slice_get addresses n ≡ Some a → global n ≡ a) → Stand w.memory_map label global (frame_items f slots) at
+    → ((n a : ℕ) → slice_get addresses n ≡ Some a → global n ≡ a) → ((n : ℕ) → global n < 2 ^ 30)
+    → Stand w.memory_map label global (frame_items f slots) at
     → KeepsFrame w at (frame_bound f slots) (frame_size f slots) (area f) (map (λ d. d.class) f.params) f.result (flat_begin f) (flat_step f addresses)
-performs w at label global addresses f slots is world globals stands sp j stack clear log r n goes all s ready =
+performs w at label global addresses f slots is world globals near stands sp j stack clear log r n goes all s ready =
     let c : Setting = setting w label global addresses f slots sp j.memory s in
     let y : Layout = layout f slots in
-    let good : IsSetting c = is_setting w label global addresses f slots sp j.room j.memory s is world globals stack in
+    let good : IsSetting c = is_setting w label global addresses f slots sp j.room j.memory s is world globals near stack in
     let rs : List ℕ = saved_registers f in
     let last : List Item = epilogue y rs in
     let body : List Item = blocks_items y 0 f.blocks ++ (Label y.leave ∷ last) in
@@ -427,5 +429,5 @@ frames_perform f slots is =
       area_fits = omega arith;
       some = omega arith;
       aligned = omega arith;
-      keeps = λ w at label global addresses world globals aligned stands. performs w at label global addresses f slots is world globals stands;
+      keeps = λ w at label global addresses world globals near aligned stands. performs w at label global addresses f slots is world globals near stands;
     }

@@ -12,11 +12,18 @@ use Rattle.il_ast.specs.Effect.{stored_class}
 use Rattle.rv_isa.specs.State.{State}
 use Rattle.rv_isa.specs.Memory.{stored}
 use Rattle.rv_isa.specs.Step.{store_size}
+use Rattle.rv_isa.specs.Arithmetic.{moved}
+use Rattle.rv_isa.specs.Relocations.{lower_part}
+use Rattle.rv_isa.specs.Labelled.{Fixed}
+use Rattle.rv_isa.specs.declared.ranges.Immediate.{Immediate}
+use Rattle.rv_isa.specs.declared.instruction.StoreOp.{StoreOp}
+use Rattle.rv_isa.specs.declared.relocation.Partial.TheVariants.{Store as StoreBy}
 use Rattle.rv_isa.specs.declared.labelled.Item.{Item}
 use Rattle.rv_isa.proofs.MemoryLemmas.{stored_below, stored_above}
 use Rattle.vcode.specs.declared.place.Location.{Location}
 use Rattle.vcode.specs.declared.place.Operand.{Operand}
 use Rattle.vcode.specs.declared.place.Address.{Address}
+use Rattle.vcode.specs.declared.place.Operand.TheVariants.{At as In, Number, Name}
 use Rattle.vcode.specs.declared.line.Line.{Line}
 use Rattle.vcode.specs.declared.line.Line.TheVariants.{Store}
 use Rattle.vcode.specs.declared.code.Block.{Block}
@@ -27,12 +34,13 @@ use Rattle.flat_code.specs.Flat.{FlatGiven, FlatOutcome}
 use Rattle.flat_code.specs.Step.{all_there, is_in, with_number, stored as stored_spots, FlatState, number_of, address_of, read, taken, changes, goes_on}
 use Rattle.abi_frames.specs.Calls.{HoldsSpots}
 use Rattle.abi_frames.specs.Performs.{AllPerform}
-use Rattle.abi_frames.specs.Emission.{fetch, source, store_from, store_op, store_items, line_items}
-use Rattle.abi_frames.proofs.Leading.{Leads, leads_then, leads_so, in_register, same_in_register, in_register_small}
-use Rattle.abi_frames.proofs.Instructions.{UsableFrom, is_28, is_29}
+use Rattle.abi_frames.specs.Fields.{reg}
+use Rattle.abi_frames.specs.Emission.{fetch, source, base_items, store_by, store_op, store_items, line_items}
+use Rattle.abi_frames.proofs.Leading.{Leads, leads_then, leads_so, in_register, same_in_register}
+use Rattle.abi_frames.proofs.Instructions.{UsableFrom, leads_named, is_28, is_29}
 use Rattle.abi_frames.proofs.Addressing.{IsBased, is_based}
 use Rattle.abi_frames.proofs.Activations.{Setting, IsSetting, site, bottom, operand_in, Framed, operand_known}
-use Rattle.abi_frames.proofs.LineCode.{Fetched, leads_fetch, fetched_scratched, scratched_then, operand_same, source_small, source_not_29}
+use Rattle.abi_frames.proofs.LineCode.{Aimed, offset_left, leads_base, aimed_scratched, Fetched, leads_fetch, fetched_scratched, scratched_then, operand_same, source_small, source_not_29}
 use Rattle.abi_frames.proofs.Accesses.{Written, leads_store_any_in, stored_byte}
 use Rattle.abi_frames.proofs.MemoryChanges.{Changed, changed, there_at, usable_from, inside_is, outside_is}
 use Rattle.abi_frames.proofs.Simulation.{CodeStands, At, Performed, Log, Follows, Then, undefined, reach, advance, nothing_taken}
@@ -51,6 +59,15 @@ size_is Half = refl
 size_is Word = refl
 size_is Long = refl
 
+leads_store_by : (c : Setting) (w : State) (op : StoreOp) (v : ℕ) (a : Operand Location) (o : Immediate) (p : ℕ) → Fixed c.world.memory_map w
+    → moved (in_register w (source 29 a)) (offset_left c a o).value ≡ p → UsableFrom c.world.memory_map p (store_size op)
+    → Leads (site c) (store_by op v a o ∷ []) w (Written w p (store_size op) (in_register w v))
+leads_store_by c w op v (In q) o p f there usable = leads_store_any_in (site c) w op v (source 29 (In q)) o p f there usable
+leads_store_by c w op v (Number n) o p f there usable = leads_store_any_in (site c) w op v (source 29 (Number n)) o p f there usable
+leads_store_by c w op v (Name g) o p f there usable =
+    leads_named (site c) w (record { instruction = StoreBy op (reg 29) (reg v); global = g; offset = o }) (Written w p (store_size op) (in_register w v))
+    (leads_store_any_in (site c) w op v 29 (lower_part (moved (c.global g) o.value)) p f there usable)
+
 pub leads_store_line : (c : Setting) → IsSetting c → (s : State) (size : Size) (a : Operand Location) (at : Address Location) (p : ℕ) → s.registers 2 ≡ bottom c
     → operand_keeps (is_place c.slots) a ≡ true → operand_keeps (is_place c.slots) at.base ≡ true → IsBased c s at p
     → UsableFrom c.world.memory_map p (byte_count size)
@@ -59,22 +76,23 @@ leads_store_line c is s size a at p pointer known_a known_at based usable =
     let v : ℕ = operand_in c s a in
     let n : ℕ = byte_count size in
     let x : ℕ = source 28 a in
-    let y : ℕ = source 29 at.base in
-    let made : List Item = store_from (store_op size) x y at.offset ∷ [] in
-    leads_then (site c) (fetch c.layout 28 a) (fetch c.layout 29 at.base ++ made) s (Fetched c s 28 a) (Stored s p n v)
+    let b : Operand Location = at.base in
+    let o : Immediate = at.offset in
+    let made : List Item = store_by (store_op size) x b o ∷ [] in
+    leads_then (site c) (fetch c.layout 28 a) (base_items c.layout 29 b o ++ made) s (Fetched c s 28 a) (Stored s p n v)
     (leads_fetch c is s 28 a is_28 (λ e. absurd (omega (arith, e))) pointer known_a)
     (λ u f one.
     let same = fetched_scratched c s 28 a u (omega arith) one in
-    leads_then (site c) (fetch c.layout 29 at.base) made u (Fetched c u 29 at.base) (Stored s p n v)
-    (leads_fetch c is u 29 at.base is_29 (λ e. absurd (omega (arith, e))) (same.registers 2 (lit< tt) ∙ pointer) known_at)
+    leads_then (site c) (base_items c.layout 29 b o) made u (Aimed c u 29 b o p) (Stored s p n v)
+    (leads_base c is u 29 b o p is_29 (λ e. absurd (omega (arith, e))) (same.registers 2 (lit< tt) ∙ pointer) known_at
+    (λ y e small. based y (e ∙ operand_same c s u b known_at same) small))
     (λ w g two.
-    let all = scratched_then s u w same (fetched_scratched c u 29 at.base w (omega arith) two) in
+    let all = scratched_then s u w same (aimed_scratched c u 29 b o p w (omega arith) two) in
     let value : in_register w x ≡ v =
     same_in_register u w x (source_small c.slots 28 a (lit< tt) known_a) (two.others x (source_not_29 c.slots a known_a)) ∙ one.value in
-    let place = based (in_register w y) (two.value ∙ operand_same c s u at.base known_at same) (in_register_small c.world.memory_map w y g) in
     let there = subst (λ q. UsableFrom c.world.memory_map p q) (sym (size_is size)) usable in
     leads_so (site c) made w (Written w p (store_size (store_op size)) (in_register w x)) (Stored s p n v)
-    (leads_store_any_in (site c) w (store_op size) x y at.offset p g place there)
+    (leads_store_by c w (store_op size) x b o p g two.there there)
     (λ t h three. record {
       bytes = three.bytes ∙ (ap (λ q. stored w.bytes p q (in_register w x)) (size_is size) ∙ (ap (stored w.bytes p n) value ∙ ap (λ (m : ℕ → ℕ). stored m p n v) all.bytes));
       registers = λ m lo. three.registers m ∙ all.registers m lo;

@@ -16,7 +16,9 @@ use Rattle.rv_isa.specs.declared.instruction.RegOp.TheVariants.{Sub, Slt, Sltu}
 use Rattle.rv_isa.specs.declared.instruction.BranchOp.TheVariants.{Beq, Bne, Blt, Bge, Bltu, Bgeu}
 use Rattle.rv_isa.specs.declared.ranges.Immediate.{Immediate}
 use Rattle.rv_isa.specs.declared.labelled.Item.{Item}
-use Rattle.rv_isa.specs.declared.labelled.Item.TheVariants.{Plain, Label, Branch as BranchTo, Goto as GoTo, Address}
+use Rattle.rv_isa.specs.declared.labelled.Item.TheVariants.{Plain, Label, Branch as BranchTo, Goto as GoTo, Relocated}
+use Rattle.rv_isa.specs.declared.relocation.Partial.{Partial}
+use Rattle.rv_isa.specs.declared.relocation.Partial.TheVariants.{Upper, Add, Jump as JumpBy, Load as LoadBy, Store as StoreBy}
 use Rattle.vcode.specs.declared.place.Location.{Location}
 use Rattle.vcode.specs.declared.place.Location.TheVariants.{Register as InRegister, Slot}
 use Rattle.vcode.specs.declared.place.Operand.{Operand}
@@ -57,6 +59,16 @@ far_store v offset = Plain (Lui (reg SECOND_SCRATCH) (high offset)) ∷ sum_to S
 abbrev pub store_slot : (v offset : ℕ) → List Item
 store_slot v offset = if nat_lt offset 2048 then store_8 v STACK_POINTER offset ∷ [] else far_store v offset
 
+-- ---- names
+
+-- an instruction with its part of the address that lies so far beyond a name's
+abbrev pub with_name : Partial → (global : ℕ) → (offset : Immediate) → Item
+with_name i g o = Relocated (record { instruction = i; global = g; offset = o })
+
+-- the name's address into the register d
+abbrev pub name_into : (d global : ℕ) → List Item
+name_into d g = with_name (Upper (reg d)) g (low 0) ∷ with_name (Add (reg d) (reg d)) g (low 0) ∷ []
+
 -- ---- operands and destinations
 
 abbrev pub slot_offset : Layout → ℕ → ℕ
@@ -67,14 +79,14 @@ abbrev pub into : Layout → ℕ → Operand Location → List Item
 into y d (At (InRegister r)) = if nat_eq d r then [] else add_low d r 0 ∷ []
 into y d (At (Slot i)) = load_slot d (slot_offset y i)
 into y d (Number n) = constant d n
-into y d (Name g) = Address (reg d) g ∷ []
+into y d (Name g) = name_into d g
 
 -- the operand into a register: its own, or the given one; the number 0 is in x0
 abbrev pub fetch : Layout → ℕ → Operand Location → List Item
 fetch y d (At (InRegister r)) = []
 fetch y d (At (Slot i)) = load_slot d (slot_offset y i)
 fetch y d (Number n) = if nat_eq n 0 then [] else constant d n
-fetch y d (Name g) = Address (reg d) g ∷ []
+fetch y d (Name g) = name_into d g
 
 abbrev pub source : ℕ → Operand Location → ℕ
 source d (At (InRegister r)) = r
@@ -169,12 +181,26 @@ store_op Half = Sh
 store_op Word = Sw
 store_op Long = Sd
 
+-- what an access at this offset from the base has in the register d: of the address beyond a name, its upper part
+abbrev pub base_items : Layout → (d : ℕ) → Operand Location → (offset : Immediate) → List Item
+base_items y d (Name g) o = with_name (Upper (reg d)) g o ∷ []
+base_items y d a o = fetch y d a
+
+abbrev pub load_by : LoadOp → (d : ℕ) → Operand Location → (offset : Immediate) → Item
+load_by op d (Name g) o = with_name (LoadBy op (reg d) (reg FIRST_SCRATCH)) g o
+load_by op d a o = load_to op d (source FIRST_SCRATCH a) o
+
+abbrev pub store_by : StoreOp → (v : ℕ) → Operand Location → (offset : Immediate) → Item
+store_by op v (Name g) o = with_name (StoreBy op (reg SECOND_SCRATCH) (reg v)) g o
+store_by op v a o = store_from op v (source SECOND_SCRATCH a) o
+
 abbrev pub store_items : Layout → Size → Operand Location → MemoryAddress Location → List Item
 store_items y size a at =
-    fetch y FIRST_SCRATCH a ++ (fetch y SECOND_SCRATCH at.base ++ (store_from (store_op size) (source FIRST_SCRATCH a) (source SECOND_SCRATCH at.base) at.offset ∷ []))
+    fetch y FIRST_SCRATCH a
+    ++ (base_items y SECOND_SCRATCH at.base at.offset ++ (store_by (store_op size) (source FIRST_SCRATCH a) at.base at.offset ∷ []))
 
 abbrev pub load_items : Layout → Location → LoadOp → MemoryAddress Location → List Item
-load_items y to op at = fetch y FIRST_SCRATCH at.base ++ ((load_to op (target to) (source FIRST_SCRATCH at.base) at.offset ∷ []) ++ deliver y to)
+load_items y to op at = base_items y FIRST_SCRATCH at.base at.offset ++ ((load_by op (target to) at.base at.offset ∷ []) ++ deliver y to)
 
 -- ---- calls
 
@@ -208,8 +234,9 @@ register_all y k (a ∷ args) = register_items y k a ++ register_all y (k + 1) a
 abbrev pub passed_items : Layout → List (Argument Location) → List Item
 passed_items y args = all_move_up (length args) args ++ register_all y 0 (all_moved_up (length args) args)
 
--- the address of the callee in a register in which no argument is passed
+-- the address of the callee in a register in which no argument is passed; that of a name is left to the jump
 abbrev pub callee_items : Layout → Operand Location → List Item
+callee_items y (Name g) = []
 callee_items y (At (InRegister r)) = if nat_le FIRST_ARGUMENT r && nat_le r LAST_ARGUMENT then add_low FIRST_SCRATCH r 0 ∷ [] else []
 callee_items y a = fetch y FIRST_SCRATCH a
 
@@ -221,9 +248,10 @@ callee_source a = source FIRST_SCRATCH a
 abbrev pub prepare_items : Layout → (callee : Operand Location) → List (Argument Location) → List Item
 prepare_items y callee args = stack_all y 0 args ++ (callee_items y callee ++ passed_items y args)
 
--- to the address in a register, with the address of the next instruction in x1
-abbrev pub call_through : ℕ → Item
-call_through r = Plain (Jalr (reg RETURN_ADDRESS) (reg r) (low 0))
+-- to the callee, with the address of the next instruction in x1
+abbrev pub call_through : Operand Location → List Item
+call_through (Name g) = with_name (Upper (reg RETURN_ADDRESS)) g (low 0) ∷ with_name (JumpBy (reg RETURN_ADDRESS) (reg RETURN_ADDRESS)) g (low 0) ∷ []
+call_through a = Plain (Jalr (reg RETURN_ADDRESS) (reg (callee_source a)) (low 0)) ∷ []
 
 -- the result from x10 to its place
 abbrev pub receive_items : Layout → Option (Destination Location) → List Item
@@ -231,7 +259,7 @@ receive_items y None = []
 receive_items y (Some d) = set_items y d.place (At (InRegister RESULT))
 
 abbrev pub call_items : Layout → Option (Destination Location) → (callee : Operand Location) → List (Argument Location) → List Item
-call_items y to callee args = prepare_items y callee args ++ ((call_through (callee_source callee) ∷ []) ++ receive_items y to)
+call_items y to callee args = prepare_items y callee args ++ (call_through callee ++ receive_items y to)
 
 -- ---- each line
 

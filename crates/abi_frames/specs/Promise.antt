@@ -1,5 +1,5 @@
 -- What the labelled code of a function owes, wherever it stands.
-use Rattle.std.specs.Prelude.{◌≡◌, ℕ, ◌%◌, ◌<◌, ◌≤◌, List, slice_get, Option, Some}
+use Rattle.std.specs.Prelude.{◌≡◌, ℕ, ◌%◌, ◌^◌, ◌<◌, ◌≤◌, List, slice_get, Option, Some}
 use Rattle.il_ast.specs.declared.operation.Class.{Class}
 use Rattle.il_ast.specs.Logged.{Event}
 use Rattle.rv_isa.specs.Labelled.{Stand}
@@ -9,7 +9,7 @@ use Rattle.abi_frames.specs.Calls.{World, IsWorld}
 use Rattle.abi_frames.specs.Performs.{KeepsFrame}
 
 -- The frame has at most `need` bytes, and the area for blocks of memory lies in it. In every world, at every address where the labelled code stands, with
--- the globals that the code on bytes names at these addresses, the machine performs what the code on bytes runs.
+-- the globals at addresses below 2^30, those that the code on bytes names at these ones, the machine performs what the code on bytes runs.
 pub record FramePromise {T : Type 0} (items : List Item) (need frame area : ℕ) (params : List Class) (result : Option Class) (start : (addresses : List ℕ) → (base : ℕ) → FlatGiven → T) (step : (addresses : List ℕ) → (base : ℕ) → FlatGiven → T → Event T FlatAsked FlatOutcome) : Type 0 where
   pub fits : frame ≤ need
   pub area_fits : area ≤ frame
@@ -18,6 +18,7 @@ pub record FramePromise {T : Type 0} (items : List Item) (need frame area : ℕ)
   pub keeps : (w : World) (at : ℕ) (label global : ℕ → ℕ) (addresses : List ℕ)
       → IsWorld w
       → ((n a : ℕ) → slice_get addresses n ≡ Some a → global n ≡ a)
+      → ((n : ℕ) → global n < 2 ^ 30)
       → at % 4 ≡ 0
       → Stand w.memory_map label global items at
       → KeepsFrame w at need frame area params result (start addresses) (step addresses)

@@ -1,6 +1,7 @@
 //! The machine code of calls.
 ghost use Rattle.std.specs.Prelude.{◌≡◌, ◌-◌, ◌*◌, ◌^◌, ◌<◌, ◌≤◌, [], ◌∷◌, ◌++◌, ◌&&◌, length, nat_le, OnOk};
 ghost use Rattle.rv_isa.specs.declared.abi.TheConstants.{STACK_POINTER, FIRST_ARGUMENT, LAST_ARGUMENT, FIRST_SCRATCH};
+ghost use Rattle.vcode.specs.declared.place.Operand.TheVariants.{Name};
 ghost use Rattle.abi_frames.specs.Fields.{store_8};
 ghost use Rattle.abi_frames.specs.Emission.{fetch, source, passed_class, pass_into, stack_all, register_all, passed_items, callee_items, callee_source, call_through, receive_items, call_items};
 
@@ -8,11 +9,12 @@ use crate::fields::{add_immediate, register, store};
 use crate::layout::Layout;
 use crate::line::push_set;
 use crate::moves::push_moves_up;
-use crate::operand::{push_fetch, push_operand, push_word, source_of};
+use crate::operand::{push_fetch, push_operand, push_word, source_of, with_name};
 use il_ast::operation::Class;
 use rv_isa::abi;
 use rv_isa::instruction::Instr;
 use rv_isa::labelled::Item;
+use rv_isa::relocation::Partial;
 use std::alloc::AllocError;
 use vcode::place::{Argument, Destination, Extension, Location, Operand, low_part};
 
@@ -115,7 +117,7 @@ fn is_for_arguments(number: u8) -> bool
     abi::FIRST_ARGUMENT <= number && number <= abi::LAST_ARGUMENT
 }
 
-// has the callee's address where no argument changes it
+// has the callee's address where no argument changes it, unless the jump makes it
 fn push_callee(
     items: &mut Vec<Item>,
     layout: &Layout,
@@ -131,9 +133,10 @@ fn push_callee(
             }
             Ok(())
         }
-        Operand::At(Location::Slot(_)) | Operand::Number(_) | Operand::Name(_) => {
+        Operand::At(Location::Slot(_)) | Operand::Number(_) => {
             push_fetch(items, layout, abi::FIRST_SCRATCH, callee)
         }
+        Operand::Name(_) => Ok(()),
     }
 }
 
@@ -146,15 +149,33 @@ fn callee_source(callee: &Operand<Location>) -> u8
     }
 }
 
-// to the address in a register
-fn call_through(number: u8) -> Item
-    ensures { result ≡ call_through number }
+// through the register that gets the return address
+fn push_jump_to_name(items: &mut Vec<Item>, global: usize) -> Result<(), AllocError>
+    ensures { OnOk result (items.new.items ≡ items.old.items ++ call_through (Name global)) }
 {
-    Item::Plain(Instr::Jalr {
-        rd: register(abi::RETURN_ADDRESS),
-        rs1: register(number),
-        offset: low_part(0),
-    })
+    let through = register(abi::RETURN_ADDRESS);
+    let jump = Partial::Jump {
+        rd: through,
+        rs1: through,
+    };
+    items.push(with_name(Partial::Upper(through), global, low_part(0)))?;
+    items.push(with_name(jump, global, low_part(0)))?;
+    Ok(())
+}
+
+// to the callee
+fn push_jump(items: &mut Vec<Item>, callee: &Operand<Location>) -> Result<(), AllocError>
+    ensures { OnOk result (items.new.items ≡ items.old.items ++ call_through callee.now) }
+{
+    match callee {
+        Operand::Name(global) => push_jump_to_name(items, global.number())?,
+        Operand::At(_) | Operand::Number(_) => items.push(Item::Plain(Instr::Jalr {
+            rd: register(abi::RETURN_ADDRESS),
+            rs1: register(callee_source(callee)),
+            offset: low_part(0),
+        }))?,
+    }
+    Ok(())
 }
 
 fn push_receive(
@@ -192,7 +213,7 @@ pub(crate) fn push_call(
     push_stack_arguments(items, layout, arguments)?;
     push_callee(items, layout, callee)?;
     push_passed(items, layout, arguments)?;
-    items.push(call_through(callee_source(callee)))?;
+    push_jump(items, callee)?;
     push_receive(items, layout, to)?;
     Ok(())
 }

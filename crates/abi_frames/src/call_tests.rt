@@ -5,8 +5,12 @@ use il_ast::operation::Class;
 use il_ast::symbol::Symbol;
 use rv_isa::instruction::Instr;
 use rv_isa::labelled::Item;
+use rv_isa::ranges::Register;
+use rv_isa::relocation::Partial;
 use std::test::Fail;
 use vcode::place::{Argument, Destination, Extension, Location, Operand};
+
+const X1: Register = Register { number: 1 };
 
 // two words below the saved registers
 const OUTGOING: Layout = Layout {
@@ -50,29 +54,24 @@ fn a_word_and_a_long_are_passed_and_the_result_goes_to_a_slot(rt: HostRuntime) -
         &callee,
         arguments.as_slice(),
     )?;
-    // the address, the word is extended into its register, the long is loaded, the jump, the result
-    assert_eq!(rt; items.len(), 1 + 1 + 1 + 1 + 1);
+    // the word is extended into its register, the long is loaded, the two parts of the address and the jump, the result
+    assert_eq!(rt; items.len(), 1 + 1 + 2 + 1);
     match items.get(0) {
-        Some(Item::Address { rd, global }) => {
-            assert!(rt; rd.number == 28 && *global == 7);
-        }
-        _ => assert!(rt; false),
-    }
-    match items.get(1) {
         Some(Item::Plain(Instr::Addiw { rd, rs1, .. })) => {
             assert!(rt; rd.number == 10 && rs1.number == 9);
         }
         _ => assert!(rt; false),
     }
-    match items.get(2) {
+    match items.get(1) {
         Some(Item::Plain(Instr::Load { rd, offset, .. })) => {
             assert!(rt; rd.number == 11 && offset.value == 120);
         }
         _ => assert!(rt; false),
     }
-    match items.get(3) {
-        Some(Item::Plain(Instr::Jalr { rd, rs1, .. })) => {
-            assert!(rt; rd.number == 1 && rs1.number == 28);
+    match (items.get(2), items.get(3)) {
+        (Some(Item::Relocated(upper)), Some(Item::Relocated(jump))) => {
+            assert!(rt; upper.instruction == Partial::Upper(X1) && upper.global == 7);
+            assert!(rt; jump.instruction == Partial::Jump { rd: X1, rs1: X1 } && jump.global == 7);
         }
         _ => assert!(rt; false),
     }
@@ -111,8 +110,8 @@ fn the_last_two_of_ten_arguments_go_to_the_stack(rt: HostRuntime) -> Result<(), 
         argument(Class::W, Location::Slot(0)),
     ];
     push_call(&mut items, &OUTGOING, &None, &callee, arguments.as_slice())?;
-    // a move and a store, a load and an extension and a store, the address, eight moves, the jump
-    assert_eq!(rt; items.len(), 2 + 3 + 1 + 8 + 1);
+    // a move and a store, a load and an extension and a store, eight moves, the jump
+    assert_eq!(rt; items.len(), 2 + 3 + 8 + 2);
     match items.get(1) {
         Some(
             Item::Plain(
@@ -143,7 +142,7 @@ fn the_last_two_of_ten_arguments_go_to_the_stack(rt: HostRuntime) -> Result<(), 
         }
         _ => assert!(rt; false),
     }
-    match items.get(13) {
+    match items.get(12) {
         Some(Item::Plain(Instr::Imm { rd, rs1, .. })) => {
             assert!(rt; rd.number == 17 && rs1.number == 25);
         }

@@ -3,7 +3,7 @@ ghost use Rattle.std.specs.Prelude.{◌≡◌, ◌^◌, ◌<◌, ◌≤◌, IsTr
 ghost use Rattle.std.specs.List.{list_all, sum_by};
 ghost use Rattle.vcode.specs.Regular.{alloc_bytes, passes_few};
 ghost use Rattle.vcode.specs.declared.place.Location.TheVariants.{Slot};
-ghost use Rattle.abi_frames.specs.Emission.{operation_items, operand_into, operand_source, on_registers, by_form, set_items, operate_items, load_items, store_op, store_items, alloc_items, line_items, lines_items};
+ghost use Rattle.abi_frames.specs.Emission.{operation_items, operand_into, operand_source, on_registers, by_form, set_items, operate_items, base_items, load_by, store_by, load_items, store_op, store_items, alloc_items, line_items, lines_items};
 
 use crate::call::push_call;
 use crate::compare::push_compare;
@@ -13,13 +13,14 @@ use crate::immediate::{Form, left_form, push_form, right_form};
 use crate::layout::Layout;
 use crate::operand::{
     push_address_at, push_deliver, push_fetch, push_into_slot, push_operand, push_word, source_of,
-    target_of,
+    target_of, with_name,
 };
 use crate::room::alloc_bytes;
 use il_ast::operation::{Class, Size};
 use rv_isa::abi;
 use rv_isa::instruction::{Instr, LoadOp, StoreOp};
 use rv_isa::labelled::Item;
+use rv_isa::relocation::Partial;
 use std::alloc::AllocError;
 use vcode::line::{Line, Operation};
 use vcode::place::{Address, Location, Operand};
@@ -175,6 +176,45 @@ fn push_operate(
     }
 }
 
+// has in a register what an access at this offset from the base needs there
+fn push_base(
+    items: &mut Vec<Item>,
+    layout: &Layout,
+    to: u8,
+    at: &Address<Location>,
+) -> Result<(), AllocError>
+    requires { layout.now.slots < 2 ^ 16 }
+    ensures { OnOk result (items.new.items ≡ items.old.items ++ base_items layout.now to at.now.base at.now.offset) }
+{
+    match &at.base {
+        Operand::Name(global) => {
+            let upper = Partial::Upper(register(to));
+            items.push(with_name(upper, global.number(), at.offset))?;
+            Ok(())
+        }
+        Operand::At(_) | Operand::Number(_) => push_fetch(items, layout, to, &at.base),
+    }
+}
+
+// the load at an address of which `push_base` has the base in x28
+fn load_by(op: LoadOp, to: u8, at: &Address<Location>) -> Item
+    ensures { result ≡ load_by op to at.now.base at.now.offset }
+{
+    match &at.base {
+        Operand::Name(global) => {
+            let load = Partial::Load {
+                op,
+                rd: register(to),
+                rs1: register(abi::FIRST_SCRATCH),
+            };
+            with_name(load, global.number(), at.offset)
+        }
+        Operand::At(_) | Operand::Number(_) => {
+            load_to(op, to, source_of(abi::FIRST_SCRATCH, &at.base), at.offset)
+        }
+    }
+}
+
 fn push_load_line(
     items: &mut Vec<Item>,
     layout: &Layout,
@@ -185,13 +225,8 @@ fn push_load_line(
     requires { layout.now.slots < 2 ^ 16 }
     ensures { OnOk result (items.new.items ≡ items.old.items ++ load_items layout.now to.now op at.now) }
 {
-    push_fetch(items, layout, abi::FIRST_SCRATCH, &at.base)?;
-    items.push(load_to(
-        op,
-        target_of(to),
-        source_of(abi::FIRST_SCRATCH, &at.base),
-        at.offset,
-    ))?;
+    push_base(items, layout, abi::FIRST_SCRATCH, at)?;
+    items.push(load_by(op, target_of(to), at))?;
     push_deliver(items, layout, to)?;
     Ok(())
 }
@@ -207,6 +242,28 @@ fn store_op(size: Size) -> StoreOp
     }
 }
 
+// the store of a register at an address of which `push_base` has the base in x29
+fn store_by(op: StoreOp, value: u8, at: &Address<Location>) -> Item
+    ensures { result ≡ store_by op value at.now.base at.now.offset }
+{
+    match &at.base {
+        Operand::Name(global) => {
+            let store = Partial::Store {
+                op,
+                rs1: register(abi::SECOND_SCRATCH),
+                rs2: register(value),
+            };
+            with_name(store, global.number(), at.offset)
+        }
+        Operand::At(_) | Operand::Number(_) => store_from(
+            op,
+            value,
+            source_of(abi::SECOND_SCRATCH, &at.base),
+            at.offset,
+        ),
+    }
+}
+
 fn push_store_line(
     items: &mut Vec<Item>,
     layout: &Layout,
@@ -218,13 +275,8 @@ fn push_store_line(
     ensures { OnOk result (items.new.items ≡ items.old.items ++ store_items layout.now size value.now at.now) }
 {
     push_fetch(items, layout, abi::FIRST_SCRATCH, value)?;
-    push_fetch(items, layout, abi::SECOND_SCRATCH, &at.base)?;
-    items.push(store_from(
-        store_op(size),
-        source_of(abi::FIRST_SCRATCH, value),
-        source_of(abi::SECOND_SCRATCH, &at.base),
-        at.offset,
-    ))?;
+    push_base(items, layout, abi::SECOND_SCRATCH, at)?;
+    items.push(store_by(store_op(size), source_of(abi::FIRST_SCRATCH, value), at))?;
     Ok(())
 }
 

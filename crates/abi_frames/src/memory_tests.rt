@@ -2,8 +2,11 @@
 use crate::layout::Layout;
 use crate::line::{push_line, push_lines};
 use il_ast::operation::{Class, Size};
+use il_ast::symbol::Symbol;
 use rv_isa::instruction::{Instr, LoadOp, StoreOp};
 use rv_isa::labelled::Item;
+use rv_isa::ranges::Register;
+use rv_isa::relocation::Partial;
 use std::alloc::{AllocError, Global};
 use std::test::Fail;
 use vcode::line::Line;
@@ -217,6 +220,31 @@ fn the_offset_of_an_address_stands_in_the_instruction(rt: HostRuntime) -> Result
     push_line(&mut items, &SMALL, 0, &line)?;
     assert_eq!(rt; items.len(), 2);
     assert_eq!(rt; offset_of(items.get(1)), Some(-1));
+    Ok(())
+}
+
+#[test]
+fn the_lower_part_of_a_name_stands_in_the_instruction(rt: HostRuntime) -> Result<(), Fail> {
+    let mut items = Vec::new(rt.alloc());
+    let line = Line::Load {
+        to: Location::Register(7),
+        op: LoadOp::Lw,
+        at: Address::beyond(Operand::Name(Symbol::at(3)), 8),
+    };
+    push_line(&mut items, &SMALL, 0, &line)?;
+    assert_eq!(rt; items.len(), 2);
+    let load = Partial::Load {
+        op: LoadOp::Lw,
+        rd: Register { number: 7 },
+        rs1: Register { number: 28 },
+    };
+    match items.get(1) {
+        Some(Item::Relocated(lower)) => {
+            assert!(rt; lower.instruction == load && lower.global == 3);
+            assert_eq!(rt; lower.offset.value, 8);
+        }
+        _ => assert!(rt; false),
+    }
     Ok(())
 }
 

@@ -1,9 +1,8 @@
 //! Operands of lines: numbers, eight bytes of the frame, addresses.
 ghost use Rattle.std.specs.Prelude.{◌≡◌, ◌+◌, ◌-◌, ◌*◌, ◌%◌, ◌^◌, ◌<◌, nat_eq, if◌then◌else◌, [], ◌∷◌, ◌++◌, OnOk};
 ghost use Rattle.vcode.specs.Cost.{is_immediate};
-ghost use Rattle.rv_isa.specs.declared.labelled.Item.TheVariants.{Address};
 ghost use Rattle.abi_frames.specs.Fields.{top_part, next_part, long_constant, constant, high, reg, add_low, extend, word, is_word, word_constant};
-ghost use Rattle.abi_frames.specs.Emission.{far_load, load_slot, far_store, store_slot, address_at, slot_offset, into, fetch, source, word_into, target, deliver};
+ghost use Rattle.abi_frames.specs.Emission.{far_load, load_slot, far_store, store_slot, address_at, slot_offset, with_name, name_into, into, fetch, source, word_into, target, deliver};
 
 use crate::fields::{
     add, add_immediate, add_word, extend_word, halve, load, load_upper, register, shift_by_11,
@@ -12,9 +11,10 @@ use crate::fields::{
 use crate::layout::Layout;
 use rv_isa::abi;
 use rv_isa::labelled::Item;
-use rv_isa::ranges::UpperField;
+use rv_isa::ranges::{Immediate, UpperField};
+use rv_isa::relocation::{Partial, Relocation};
 use std::alloc::AllocError;
-use vcode::place::{Location, Operand};
+use vcode::place::{Location, Operand, low_part};
 
 // the top 31 bits of a number
 fn push_top(items: &mut Vec<Item>, to: u8, number: u64) -> Result<(), AllocError>
@@ -192,13 +192,23 @@ pub(crate) fn push_into_slot(
     push_store(items, value, offset)
 }
 
-fn push_address(items: &mut Vec<Item>, to: u8, global: usize) -> Result<(), AllocError>
-    ensures { OnOk result (items.new.items ≡ items.old.items ++ Address (reg to) global ∷ []) }
+/// An instruction with its part of the address that lies so far beyond a name's.
+pub(crate) fn with_name(instruction: Partial, global: usize, offset: Immediate) -> Item
+    ensures { result ≡ with_name instruction global offset }
 {
-    items.push(Item::Address {
-        rd: register(to),
+    Item::Relocated(Relocation {
+        instruction,
         global,
-    })?;
+        offset,
+    })
+}
+
+fn push_address(items: &mut Vec<Item>, to: u8, global: usize) -> Result<(), AllocError>
+    ensures { OnOk result (items.new.items ≡ items.old.items ++ name_into to global) }
+{
+    let to = register(to);
+    items.push(with_name(Partial::Upper(to), global, low_part(0)))?;
+    items.push(with_name(Partial::Add { rd: to, rs1: to }, global, low_part(0)))?;
     Ok(())
 }
 

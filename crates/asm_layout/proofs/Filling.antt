@@ -1,20 +1,20 @@
 -- Words with their holes filled in are the words for those addresses.
-use Rattle.std.proofs.Common.{◌≡◌, ℕ, ◌+◌, ◌≤◌, true, List, [], ◌∷◌, ◌++◌, length, refl, sym, ◌∙◌, ap, subst, arith, append_assoc, append-nil, length-append}
+use Rattle.std.proofs.Common.{◌≡◌, ℕ, ◌+◌, ◌≤◌, true, List, [], ◌∷◌, ◌++◌, length, refl, sym, ◌∙◌, ap, subst, arith, append-nil}
 use Rattle.std.specs.Prelude.{nat_le, slice_set}
 use Rattle.std.proofs.lemmas.Bool.{and_parts, and_from}
 use Rattle.std.proofs.lemmas.Bool.Decides.{nat_tests}
 use Rattle.std.proofs.lemmas.List.{length-set, set-append_left}
 use Rattle.std.proofs.Math.Seq.{set-append_seam}
-use Rattle.bits.specs.Words.{upper_field, lower_field}
-use Rattle.rv_isa.specs.Formats.{u_type, i_type}
+use Rattle.rv_isa.specs.Encoding.{word}
+use Rattle.rv_isa.specs.Relocations.{relocated}
 use Rattle.rv_isa.specs.Labels.{longest}
 use Rattle.rv_isa.specs.Laid.{fill, filled}
 use Rattle.rv_isa.specs.Words.{lie_between}
-use Rattle.rv_isa.specs.declared.ranges.Register.{Register}
+use Rattle.rv_isa.specs.declared.relocation.Relocation.{Relocation}
 use Rattle.rv_isa.specs.declared.code.Hole.{Hole}
 use Rattle.rv_isa.specs.declared.labelled.Item.{Item}
-use Rattle.rv_isa.specs.declared.labelled.Item.TheVariants.{Plain, Label, Branch, Goto, Address}
-use Rattle.asm_layout.specs.Forms.{size, address_words, item_words, words_with, item_holes, holes_with, no_address}
+use Rattle.rv_isa.specs.declared.labelled.Item.TheVariants.{Plain, Label, Branch, Goto, Relocated}
+use Rattle.asm_layout.specs.Forms.{size, item_words, words_with, item_holes, holes_with, no_address}
 use Rattle.asm_layout.proofs.Standing.{more_length}
 
 -- ---- holes in order
@@ -28,75 +28,58 @@ of_le a b h = grind (arith, nat_tests)
 pub in_order : (from end : ℕ) (hs : List Hole) → lie_between from end hs ≡ true → from ≤ end
 in_order from end [] h = le_of from end h
 in_order from end (x ∷ hs) h =
-    let both = and_parts (nat_le from x.word) (lie_between (x.word + 2) end hs) h in
+    let both = and_parts (nat_le from x.word) (lie_between (x.word + 1) end hs) h in
     let first = le_of from x.word both.0 in
-    let rest = in_order (x.word + 2) end hs both.1 in
+    let rest = in_order (x.word + 1) end hs both.1 in
     omega arith
 
 pub lie_further : (from end further : ℕ) (hs : List Hole) → end ≤ further → lie_between from end hs ≡ true → lie_between from further hs ≡ true
 lie_further from end further [] le h = let first = le_of from end h in of_le from further (omega arith)
 lie_further from end further (x ∷ hs) le h =
-    let both = and_parts (nat_le from x.word) (lie_between (x.word + 2) end hs) h in
-    and_from (nat_le from x.word) (lie_between (x.word + 2) further hs) both.0 (lie_further (x.word + 2) end further hs le both.1)
+    let both = and_parts (nat_le from x.word) (lie_between (x.word + 1) end hs) h in
+    and_from (nat_le from x.word) (lie_between (x.word + 1) further hs) both.0 (lie_further (x.word + 1) end further hs le both.1)
 
-pub lie_with : (from end : ℕ) (hs : List Hole) (x : Hole) → lie_between from end hs ≡ true → end ≤ x.word → lie_between from (x.word + 2) (hs ++ x ∷ []) ≡ true
+pub lie_with : (from end : ℕ) (hs : List Hole) (x : Hole) → lie_between from end hs ≡ true → end ≤ x.word → lie_between from (x.word + 1) (hs ++ x ∷ []) ≡ true
 lie_with from end [] x h le =
     let first = le_of from end h in
-    and_from (nat_le from x.word) (nat_le (x.word + 2) (x.word + 2)) (of_le from x.word (omega arith)) (of_le (x.word + 2) (x.word + 2) (omega arith))
+    and_from (nat_le from x.word) (nat_le (x.word + 1) (x.word + 1)) (of_le from x.word (omega arith)) (of_le (x.word + 1) (x.word + 1) (omega arith))
 lie_with from end (y ∷ hs) x h le =
-    let both = and_parts (nat_le from y.word) (lie_between (y.word + 2) end hs) h in
-    and_from (nat_le from y.word) (lie_between (y.word + 2) (x.word + 2) (hs ++ x ∷ [])) both.0 (lie_with (y.word + 2) end hs x both.1 le)
+    let both = and_parts (nat_le from y.word) (lie_between (y.word + 1) end hs) h in
+    and_from (nat_le from y.word) (lie_between (y.word + 1) (x.word + 1) (hs ++ x ∷ [])) both.0 (lie_with (y.word + 1) end hs x both.1 le)
 
 -- ---- filling in
 
 fill_length : (global : ℕ → ℕ) (ws : List ℕ) (h : Hole) → length (fill global ws h) ≡ length ws
-fill_length global ws h =
-    let upper : ℕ = u_type 0x37 h.register.number (upper_field (global h.global)) in
-    length-set (slice_set ws h.word upper) (h.word + 1) (i_type 0x1b 0 h.register.number h.register.number (lower_field (global h.global)))
-    ∙ length-set ws h.word upper
+fill_length global ws h = length-set ws h.word (word (relocated h.relocation (global h.relocation.global)))
 
 pub filled_length : (global : ℕ → ℕ) (ws : List ℕ) (hs : List Hole) → length (filled global ws hs) ≡ length ws
 filled_length global ws [] = refl
 filled_length global ws (h ∷ hs) = filled_length global (fill global ws h) hs ∙ fill_length global ws h
 
-fill_left : (global : ℕ → ℕ) (ws xs : List ℕ) (h : Hole) → h.word + 2 ≤ length ws → fill global (ws ++ xs) h ≡ fill global ws h ++ xs
-fill_left global ws xs h le =
-    let upper : ℕ = u_type 0x37 h.register.number (upper_field (global h.global)) in
-    let lower : ℕ = i_type 0x1b 0 h.register.number h.register.number (lower_field (global h.global)) in
-    let same = length-set ws h.word upper in
-    ap (λ l. slice_set l (h.word + 1) lower) (set-append_left ws xs h.word upper (omega arith))
-    ∙ set-append_left (slice_set ws h.word upper) xs (h.word + 1) lower (omega arith)
+fill_left : (global : ℕ → ℕ) (ws xs : List ℕ) (h : Hole) → h.word + 1 ≤ length ws → fill global (ws ++ xs) h ≡ fill global ws h ++ xs
+fill_left global ws xs h le = set-append_left ws xs h.word (word (relocated h.relocation (global h.relocation.global))) (omega arith)
 
 -- words after those of the holes stay
 filled_left : (global : ℕ → ℕ) (from : ℕ) (ws xs : List ℕ) (hs : List Hole) → lie_between from (length ws) hs ≡ true
     → filled global (ws ++ xs) hs ≡ filled global ws hs ++ xs
 filled_left global from ws xs [] h = refl
 filled_left global from ws xs (x ∷ hs) h =
-    let both = and_parts (nat_le from x.word) (lie_between (x.word + 2) (length ws) hs) h in
-    let le = in_order (x.word + 2) (length ws) hs both.1 in
+    let both = and_parts (nat_le from x.word) (lie_between (x.word + 1) (length ws) hs) h in
+    let le = in_order (x.word + 1) (length ws) hs both.1 in
     let same = fill_length global ws x in
     ap (λ l. filled global l hs) (fill_left global ws xs x le)
-    ∙ filled_left global (x.word + 2) (fill global ws x) xs hs (subst (λ n. lie_between (x.word + 2) n hs ≡ true) (sym same) both.1)
+    ∙ filled_left global (x.word + 1) (fill global ws x) xs hs (subst (λ n. lie_between (x.word + 1) n hs ≡ true) (sym same) both.1)
 
 filled_then : (global : ℕ → ℕ) (ws : List ℕ) (hs : List Hole) (x : Hole) → filled global ws (hs ++ x ∷ []) ≡ fill global (filled global ws hs) x
 filled_then global ws [] x = refl
 filled_then global ws (h ∷ hs) x = filled_then global (fill global ws h) hs x
 
--- the two words of an address, at the end
-fill_seam : (global : ℕ → ℕ) (ws : List ℕ) (a b : ℕ) (rd : Register) (n p : ℕ) → p ≡ length ws
-    → fill global (ws ++ a ∷ b ∷ []) (record { word = p; register = rd; global = n }) ≡ ws ++ address_words rd (global n)
-fill_seam global ws a b rd n p is =
-    let upper : ℕ = u_type 0x37 rd.number (upper_field (global n)) in
-    let lower : ℕ = i_type 0x1b 0 rd.number rd.number (lower_field (global n)) in
-    let first : slice_set (ws ++ a ∷ b ∷ []) p upper ≡ ws ++ upper ∷ b ∷ [] =
-    ap (λ k. slice_set (ws ++ a ∷ b ∷ []) k upper) is ∙ set-append_seam ws a (b ∷ []) upper in
-    let split : ws ++ upper ∷ b ∷ [] ≡ (ws ++ upper ∷ []) ++ b ∷ [] = sym (append_assoc ws (upper ∷ []) (b ∷ [])) in
-    let sum = length-append ws (upper ∷ []) in
-    let at : p + 1 ≡ length (ws ++ upper ∷ []) = omega arith in
-    ap (λ l. slice_set l (p + 1) lower) (first ∙ split)
-    ∙ ap (λ k. slice_set ((ws ++ upper ∷ []) ++ b ∷ []) k lower) at
-    ∙ set-append_seam (ws ++ upper ∷ []) b [] lower
-    ∙ append_assoc ws (upper ∷ []) (lower ∷ [])
+-- the word of a hole, at the end
+fill_seam : (global : ℕ → ℕ) (ws : List ℕ) (w : ℕ) (r : Relocation) (p : ℕ) → p ≡ length ws
+    → fill global (ws ++ w ∷ []) (record { word = p; relocation = r }) ≡ ws ++ word (relocated r (global r.global)) ∷ []
+fill_seam global ws w r p is =
+    let there : ℕ = word (relocated r (global r.global)) in
+    ap (λ k. slice_set (ws ++ w ∷ []) k there) is ∙ set-append_seam ws w [] there
 
 -- ---- one item more
 
@@ -110,7 +93,7 @@ more_holes end hs far f (Branch op rs1 rs2 l) h =
 more_holes end hs far f (Goto l) h =
     let to : ℕ = end + size far f (Goto l) in
     subst (λ l. lie_between 0 to l ≡ true) (sym (append-nil hs)) (lie_further 0 end to hs (omega arith) h)
-more_holes end hs far f (Address rd n) h = lie_with 0 end hs (record { word = end; register = rd; global = n }) h (omega arith)
+more_holes end hs far f (Relocated r) h = lie_with 0 end hs (record { word = end; relocation = r }) h (omega arith)
 
 plain_filled : (global : ℕ → ℕ) (ws xs : List ℕ) (hs : List Hole) → lie_between 0 (length ws) hs ≡ true
     → filled global (ws ++ xs) (hs ++ []) ≡ filled global ws hs ++ xs
@@ -127,13 +110,12 @@ item_filled far places global f ws hs i h = by_item i ∙ ap (λ n. filled globa
     by_item (Label l) = plain_filled global ws [] hs h
     by_item (Branch op rs1 rs2 l) = plain_filled global ws (item_words far places global f (length ws) (Branch op rs1 rs2 l)) hs h
     by_item (Goto l) = plain_filled global ws (item_words far places global f (length ws) (Goto l)) hs h
-    by_item (Address rd n) =
-        let hole : Hole = record { word = length ws; register = rd; global = n } in
-        let empty : List ℕ = address_words rd 0 in
-        filled_then global (ws ++ empty) hs hole
-        ∙ ap (λ l. fill global l hole) (filled_left global 0 ws empty hs h)
-        ∙ fill_seam global (filled global ws hs) (u_type 0x37 rd.number (upper_field 0)) (i_type 0x1b 0 rd.number rd.number (lower_field 0)) rd n (length ws)
-        (sym (filled_length global ws hs))
+    by_item (Relocated r) =
+        let hole : Hole = record { word = length ws; relocation = r } in
+        let empty : ℕ = word (relocated r 0) in
+        filled_then global (ws ++ empty ∷ []) hs hole
+        ∙ ap (λ l. fill global l hole) (filled_left global 0 ws (empty ∷ []) hs h)
+        ∙ fill_seam global (filled global ws hs) empty r (length ws) (sym (filled_length global ws hs))
 
 -- ---- all of them
 

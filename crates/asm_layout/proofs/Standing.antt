@@ -1,23 +1,24 @@
 -- The words that items become stand for the items.
-use Rattle.std.proofs.Common.{◌≡◌, ◌≢◌, ℕ, zero, suc, ◌+◌, ◌*◌, ◌^◌, ◌<◌, ◌≤◌, Bool, true, false, List, [], ◌∷◌, ◌++◌, length, refl, sym, ◌∙◌, ap, subst, arith, length-append}
-use Rattle.std.specs.Prelude.{◌&&◌, not, nat_eq, nat_lt, slice_get, slice_index, slice_set, if◌then◌else◌, Some}
+use Rattle.std.proofs.Common.{◌≡◌, ℕ, zero, suc, ◌+◌, ◌*◌, ◌^◌, ◌<◌, ◌≤◌, Bool, true, false, List, [], ◌∷◌, ◌++◌, length, refl, sym, ◌∙◌, ap, subst, arith, length-append}
+use Rattle.std.specs.Prelude.{nat_eq, nat_lt, slice_get, slice_index, slice_set, if◌then◌else◌, Some}
 use Rattle.std.specs.List.{list_all}
 use Rattle.std.proofs.lemmas.Bool.{and_parts}
 use Rattle.std.proofs.lemmas.Bool.Decides.{nat_tests}
 use Rattle.std.proofs.lemmas.List.{get_or-set_same, get_or-append-add}
 use Rattle.std.proofs.lemmas.Option.{slice_get_within, slice_get-get_or, get_or_from_slice_get}
-use Rattle.rv_isa.specs.Labels.{longest, is_label, times_labelled, has_label_below, has_good_registers}
+use Rattle.rv_isa.specs.Relocations.{relocated}
+use Rattle.rv_isa.specs.Labels.{longest, is_label, times_labelled, has_label_below}
 use Rattle.rv_isa.specs.Labelled.{Ground, Stands, Stand}
 use Rattle.rv_isa.specs.Laid.{WordsStand}
 use Rattle.rv_isa.specs.declared.ranges.Register.{Register}
 use Rattle.rv_isa.specs.declared.instruction.BranchOp.{BranchOp}
 use Rattle.rv_isa.specs.declared.labelled.Item.{Item}
-use Rattle.rv_isa.specs.declared.labelled.Item.TheVariants.{Plain, Label, Branch, Goto, Address}
+use Rattle.rv_isa.specs.declared.labelled.Item.TheVariants.{Plain, Label, Branch, Goto, Relocated}
 use Rattle.asm_layout.specs.declared.reach.Reach.{Reach}
 use Rattle.asm_layout.specs.declared.reach.Reach.TheVariants.{Short, Middle, Far}
 use Rattle.asm_layout.specs.Forms.{reach_of, jump_size, branch_size, size, marked, chosen_places, jump_words, branch_words, item_words, words_with}
 use Rattle.asm_layout.proofs.Distances.{Walk, walk_on, chosen_end, end_ahead, place_within, place_small, item_fits, marked_length}
-use Rattle.asm_layout.proofs.Running.{AllAt, Between, instr_at, goto_moves, branch_moves, address_gets}
+use Rattle.asm_layout.proofs.Running.{AllAt, Between, instr_at, goto_moves, branch_moves}
 
 -- ---- sizes
 
@@ -36,7 +37,7 @@ words_size far places global f p (Plain i) = refl
 words_size far places global f p (Label l) = refl
 words_size far places global f p (Branch op rs1 rs2 l) = branch_words_size (reach_of f (slice_index far l)) op rs1 rs2 p (slice_index places l)
 words_size far places global f p (Goto l) = jump_words_size (reach_of f (slice_index far l)) p (slice_index places l)
-words_size far places global f p (Address rd n) = refl
+words_size far places global f p (Relocated r) = refl
 
 pub more_length : (far places : List ℕ) (global : ℕ → ℕ) (f : ℕ) (pre : List ℕ) (i : Item)
     → length (pre ++ item_words far places global f (length pre) i) ≡ length pre + size far f i
@@ -114,7 +115,7 @@ unmarked far f p w (i ∷ items) l h =
     stays (Label m) e = set_elsewhere w m l p (λ same. true_false {b = nat_eq m l} (grind (arith, nat_tests)) e)
     stays (Branch op rs1 rs2 m) e = refl
     stays (Goto m) e = refl
-    stays (Address rd n) e = refl
+    stays (Relocated r) e = refl
 
 -- ---- one item
 
@@ -123,19 +124,16 @@ pub record Spot (g : Ground) (at : ℕ) (global : ℕ → ℕ) (far places ws : 
   pub walk : Walk far places f (length pre) v w items
   pub whole : ws ≡ words_with far places global f pre items
   pub stand : WordsStand g at ws
-  pub addresses : (n : ℕ) → global n < 2 ^ 31
 
 -- what is asked of labels and registers
 pub record Proper (labels : ℕ) (items : List Item) : Type 0 where
   pub below : list_all (has_label_below labels) items ≡ true
   pub once : (l : ℕ) → times_labelled l items ≤ 1
-  pub registers : list_all has_good_registers items ≡ true
 
 pub proper_on : {labels : ℕ} (i : Item) {items : List Item} → Proper labels (i ∷ items) → Proper labels items
 proper_on {labels} i {items} p = record {
   below = (and_parts (has_label_below labels i) (list_all (has_label_below labels) items) p.below).1;
   once = λ l. let o = p.once l in omega arith;
-  registers = (and_parts (has_good_registers i) (list_all has_good_registers items) p.registers).1;
 }
 
 spot_end : {g : Ground} {at : ℕ} {global : ℕ → ℕ} {far places ws : List ℕ} {f : ℕ} {pre v w : List ℕ} {items : List Item}
@@ -151,7 +149,6 @@ spot_on {g} {at} {global} {far} {places} {ws} {f} {pre} {v} {w} i {items} s = re
       (walk_on i s.walk);
   whole = s.whole;
   stand = s.stand;
-  addresses = s.addresses;
 }
 
 -- an item's words stand at its place
@@ -194,9 +191,6 @@ ends_inside {g} {at} {global} {far} {places} {ws} {f} {pre} {v} {w} i {items} s 
     let near = s.walk.near in
     (omega arith, omega arith)
 
-not_zero : (n : ℕ) → (not (nat_eq n 31) && not (nat_eq n 0)) ≡ true → n ≢ 0
-not_zero n h e = grind (arith, nat_tests)
-
 item_stands : (g : Ground) (at : ℕ) (global : ℕ → ℕ) (far places ws : List ℕ) (f : ℕ) (pre v w : List ℕ) (labels : ℕ) (i : Item) (items : List Item)
     → Spot g at global far places ws f pre v w (i ∷ items) → Proper labels (i ∷ items) → length w ≡ labels
     → Stands g (λ l. at + 4 * slice_index places l) global i (at + 4 * length pre) (at + 4 * (length pre + size far f i))
@@ -225,9 +219,9 @@ item_stands g at global far places ws f pre v w labels (Branch op rs1 rs2 l) ite
 item_stands g at global far places ws f pre v w labels (Goto l) items s proper len =
     goto_moves g at ws (reach_of f (slice_index far l)) (length pre) (slice_index places l) (item_fits (Goto l) s.walk).0 (between s l) s.stand
     (words_here (Goto l) s)
-item_stands g at global far places ws f pre v w labels (Address rd n) items s proper len =
-    let good = (and_parts (has_good_registers (Address rd n)) (list_all has_good_registers items) proper.registers).0 in
-    address_gets g at ws rd (global n) (length pre) (not_zero rd.number good) (s.addresses n) s.stand (words_here (Address rd n) s)
+item_stands g at global far places ws f pre v w labels (Relocated r) items s proper len =
+    let words = words_here (Relocated r) s in
+    (instr_at g at ws (length pre) (relocated r (global r.global)) s.stand words.0, omega arith)
 
 -- ---- all of them
 

@@ -10,7 +10,7 @@ use Rattle.rv_isa.specs.Labelled.{Stand}
 use Rattle.rv_isa.specs.Laid.{LaysOut, filled}
 use Rattle.rv_isa.specs.Words.{IsCode}
 use Rattle.rv_isa.specs.declared.labelled.Item.{Item}
-use Rattle.rv_isa.specs.declared.labelled.Item.TheVariants.{Plain, Label, Branch, Goto, Address}
+use Rattle.rv_isa.specs.declared.labelled.Item.TheVariants.{Plain, Label, Branch, Goto, Relocated}
 use Rattle.asm_layout.specs.declared.reach.Reach.{Reach}
 use Rattle.asm_layout.specs.declared.reach.Reach.TheVariants.{Short, Middle, Far}
 use Rattle.asm_layout.specs.Forms.{reach_of, jump_size, branch_size, size, words_with, no_address, AllFit, far_of, places_of, words_of, holes_of}
@@ -46,7 +46,7 @@ no_label n l (Plain x) le h = refl
 no_label n l (Label m) le h = grind (arith, nat_tests)
 no_label n l (Branch op rs1 rs2 m) le h = refl
 no_label n l (Goto m) le h = refl
-no_label n l (Address rd m) le h = refl
+no_label n l (Relocated r) le h = refl
 
 none_of : (n l : ℕ) (items : List Item) → n ≤ l → list_all (has_label_below n) items ≡ true → times_labelled l items ≡ 0
 none_of n l [] le h = refl
@@ -64,7 +64,7 @@ one_at_most c is l = by_test (nat_lt l c.labels) refl
 -- ---- the whole
 
 pub lays_out : (c : LabelledItems) → IsLabelled c → LaysOut c.items (words_of c) (holes_of c)
-lays_out c is g at global addresses stand =
+lays_out c is g at global stand =
     let walk = begin c is in
     let same : filled global (words_of c) (holes_of c) ≡ words_with (far_of c) (places_of c) global 0 [] c.items =
     all_filled (far_of c) (places_of c) global 0 [] [] c.items refl in
@@ -73,8 +73,8 @@ lays_out c is g at global addresses stand =
       (λ l. at + 4 * slice_index (places_of c) l),
       subst (λ a. Stand g (λ l. at + 4 * slice_index (places_of c) l) global c.items a) here
           (items_stand g at global (far_of c) (places_of c) ws 0 [] (replicate c.labels 0) (replicate c.labels 0) c.labels c.items
-          (record { walk = walk; whole = same; stand = stand; addresses = addresses })
-          (record { below = is.labels; once = one_at_most c is; registers = is.registers })
+          (record { walk = walk; whole = same; stand = stand })
+          (record { below = is.labels; once = one_at_most c is })
           (length-replicate c.labels 0)),
     )
 
@@ -95,7 +95,7 @@ size_some far f (Plain x) h = omega arith
 size_some far f (Label l) h = absurd (omega arith)
 size_some far f (Branch op rs1 rs2 l) h = branch_some (reach_of f (slice_index far l))
 size_some far f (Goto l) h = jump_some (reach_of f (slice_index far l))
-size_some far f (Address rd n) h = omega arith
+size_some far f (Relocated r) h = omega arith
 
 end_after : (far : List ℕ) (f p : ℕ) (items : List Item) → 0 < longest_size items → p < chosen_end far f p items
 unfolding chosen_end

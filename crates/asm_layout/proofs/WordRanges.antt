@@ -4,18 +4,19 @@ use Rattle.std.specs.Prelude.{ℤ, slice_index}
 use Rattle.bits.specs.Words.{upper_field, lower_field}
 use Rattle.rv_isa.specs.Formats.{part, joined, u_type, i_type, j_type, b_type}
 use Rattle.rv_isa.specs.Encoding.{word, branch_row, load_row, store_row, imm_row, shift_row, shiftw_row, reg_row, regw_row}
+use Rattle.rv_isa.specs.Relocations.{relocated}
 use Rattle.rv_isa.specs.Labels.{longest}
 use Rattle.rv_isa.specs.declared.abi.TheConstants.{JUMP_SCRATCH, ZERO}
 use Rattle.rv_isa.specs.declared.ranges.Register.{Register}
 use Rattle.rv_isa.specs.declared.instruction.Instr.{Instr}
 use Rattle.rv_isa.specs.declared.instruction.Instr.TheVariants.{Lui, Auipc, Jal, Jalr, Branch as BranchBy, Load, Store, Imm, Addiw, Shift, ShiftW, Reg, RegW, Fence, Ecall, Ebreak}
 use Rattle.rv_isa.specs.declared.labelled.Item.{Item}
-use Rattle.rv_isa.specs.declared.labelled.Item.TheVariants.{Plain, Label, Branch, Goto, Address}
+use Rattle.rv_isa.specs.declared.labelled.Item.TheVariants.{Plain, Label, Branch, Goto, Relocated}
 use Rattle.rv_isa.specs.declared.instruction.BranchOp.{BranchOp}
 use Rattle.rv_isa.proofs.RowRanges.{branch_row_fits, load_row_fits, store_row_fits, imm_row_fits, shift_row_fits, shiftw_row_fits, reg_row_fits, regw_row_fits}
 use Rattle.asm_layout.specs.declared.reach.Reach.{Reach}
 use Rattle.asm_layout.specs.declared.reach.Reach.TheVariants.{Short, Middle, Far}
-use Rattle.asm_layout.specs.Forms.{reach_of, distance, distance_word, inverse, jump_words, branch_words, address_words, item_words, words_with}
+use Rattle.asm_layout.specs.Forms.{reach_of, distance, distance_word, inverse, jump_words, branch_words, item_words, words_with}
 
 -- ---- fields
 
@@ -140,18 +141,12 @@ branch_words_small Far op rs1 rs2 here there = (
   jump_words_small Far (here + 1) there,
 )
 
-pub address_words_small : (rd : Register) (a : ℕ) → AreSmall (address_words rd a)
-address_words_small rd a = (
-  u_small 0x37 rd.number (upper_field a) (lit< tt) rd.in_range,
-  (i_small 0x1b 0 rd.number rd.number (lower_field a) (lit< tt) (lit< tt) rd.in_range rd.in_range, tt),
-)
-
 item_words_small : (far places : List ℕ) (global : ℕ → ℕ) (f p : ℕ) (i : Item) → AreSmall (item_words far places global f p i)
 item_words_small far places global f p (Plain i) = (word_small i, tt)
 item_words_small far places global f p (Label l) = tt
 item_words_small far places global f p (Branch op rs1 rs2 l) = branch_words_small (reach_of f (slice_index far l)) op rs1 rs2 p (slice_index places l)
 item_words_small far places global f p (Goto l) = jump_words_small (reach_of f (slice_index far l)) p (slice_index places l)
-item_words_small far places global f p (Address rd n) = address_words_small rd (global n)
+item_words_small far places global f p (Relocated r) = (word_small (relocated r (global r.global)), tt)
 
 pub all_small : (far places : List ℕ) (global : ℕ → ℕ) (f : ℕ) (pre : List ℕ) (items : List Item) → AreSmall pre
     → AreSmall (words_with far places global f pre items)

@@ -6,12 +6,13 @@ use Rattle.bits.specs.Words.{upper_field, lower_field}
 use Rattle.rv_isa.specs.declared.abi.TheConstants.{ZERO, JUMP_SCRATCH}
 use Rattle.rv_isa.specs.Formats.{u_type, i_type, b_type, j_type}
 use Rattle.rv_isa.specs.Encoding.{branch_row, word}
+use Rattle.rv_isa.specs.Relocations.{relocated}
 use Rattle.rv_isa.specs.Labels.{LabelledItems, longest}
 use Rattle.rv_isa.specs.declared.ranges.Register.{Register}
 use Rattle.rv_isa.specs.declared.instruction.BranchOp.{BranchOp}
 use Rattle.rv_isa.specs.declared.instruction.BranchOp.TheVariants.{Beq, Bne, Blt, Bge, Bltu, Bgeu}
 use Rattle.rv_isa.specs.declared.labelled.Item.{Item}
-use Rattle.rv_isa.specs.declared.labelled.Item.TheVariants.{Plain, Label, Branch, Goto, Address}
+use Rattle.rv_isa.specs.declared.labelled.Item.TheVariants.{Plain, Label, Branch, Goto, Relocated}
 use Rattle.rv_isa.specs.declared.code.Hole.{Hole}
 use Rattle.asm_layout.specs.declared.reach.Reach.{Reach}
 use Rattle.asm_layout.specs.declared.reach.Reach.TheVariants.{Short, Middle, Far}
@@ -48,7 +49,7 @@ size far f (Plain i) = 1
 size far f (Label l) = 0
 size far f (Branch op rs1 rs2 l) = branch_size (reach_of f (slice_index far l))
 size far f (Goto l) = jump_size (reach_of f (slice_index far l))
-size far f (Address rd n) = 2
+size far f (Relocated r) = 1
 
 -- ---- places of labels, by number
 
@@ -57,7 +58,7 @@ marked places at (Plain i) = places
 marked places at (Label l) = slice_set places l at
 marked places at (Branch op rs1 rs2 l) = places
 marked places at (Goto l) = places
-marked places at (Address rd n) = places
+marked places at (Relocated r) = places
 
 -- in the longest form, of items from f on
 abbrev pub longest_places : (f : ℕ) (places : List ℕ) → List Item → List ℕ
@@ -104,10 +105,6 @@ branch_words Short op rs1 rs2 here there = b_type 0x63 (branch_row op) rs1.numbe
 branch_words Middle op rs1 rs2 here there = b_type 0x63 (branch_row (inverse op)) rs1.number rs2.number (distance here (here + 2)) ∷ jump_words Middle (here + 1) there
 branch_words Far op rs1 rs2 here there = b_type 0x63 (branch_row (inverse op)) rs1.number rs2.number (distance here (here + 3)) ∷ jump_words Far (here + 1) there
 
--- an address in a register
-abbrev pub address_words : Register → ℕ → List ℕ
-address_words rd a = u_type 0x37 rd.number (upper_field a) ∷ i_type 0x1b 0 rd.number rd.number (lower_field a) ∷ []
-
 -- an item's words at p, with globals at these addresses
 abbrev pub item_words : (far places : List ℕ) (global : ℕ → ℕ) (f p : ℕ) → Item → List ℕ
 item_words far places global f p (Plain i) = word i ∷ []
@@ -115,7 +112,7 @@ item_words far places global f p (Label l) = []
 item_words far places global f p (Branch op rs1 rs2 l) =
     branch_words (reach_of f (slice_index far l)) op rs1 rs2 p (slice_index places l)
 item_words far places global f p (Goto l) = jump_words (reach_of f (slice_index far l)) p (slice_index places l)
-item_words far places global f p (Address rd n) = address_words rd (global n)
+item_words far places global f p (Relocated r) = word (relocated r (global r.global)) ∷ []
 
 -- these words, and those of items after them
 abbrev pub words_with : (far places : List ℕ) (global : ℕ → ℕ) (f : ℕ) → List ℕ → List Item → List ℕ
@@ -130,7 +127,7 @@ item_holes p (Plain i) = []
 item_holes p (Label l) = []
 item_holes p (Branch op rs1 rs2 l) = []
 item_holes p (Goto l) = []
-item_holes p (Address rd n) = record { word = p; register = rd; global = n } ∷ []
+item_holes p (Relocated r) = record { word = p; relocation = r } ∷ []
 
 abbrev pub holes_with : (far : List ℕ) (f p : ℕ) → List Hole → List Item → List Hole
 holes_with far f p holes [] = holes
@@ -160,7 +157,7 @@ ItemFits far places f p (Plain i) = Unit {0}
 ItemFits far places f p (Label l) = Unit {0}
 ItemFits far places f p (Branch op rs1 rs2 l) = Fits (reach_of f (slice_index far l)) p (slice_index places l) × (slice_index places l < 2 ^ 28)
 ItemFits far places f p (Goto l) = Fits (reach_of f (slice_index far l)) p (slice_index places l) × (slice_index places l < 2 ^ 28)
-ItemFits far places f p (Address rd n) = Unit {0}
+ItemFits far places f p (Relocated r) = Unit {0}
 
 abbrev pub AllFit : (far places : List ℕ) (f p : ℕ) → List Item → Type 0
 AllFit far places f p [] = Unit {0}

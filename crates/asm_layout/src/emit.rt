@@ -4,7 +4,7 @@ ghost use Rattle.std.specs.Prelude.{◌≡◌, ◌+◌, ◌^◌, ◌<◌, ◌≤
 ghost use Rattle.rv_isa.specs.Labels.{longest_size};
 ghost use Rattle.asm_layout.specs.Forms.{item_words, words_with, item_holes, holes_with, no_address, ItemFits, AllFit};
 
-use crate::jump::{push_address, push_branch, push_jump};
+use crate::jump::{push_branch, push_jump};
 use crate::places::place_of;
 use crate::reach::reach_of;
 use crate::sizes::{longest, size};
@@ -50,7 +50,7 @@ fn push_item(
             let reach = reach_of(here, place_of(far, *label));
             push_jump(words, reach, place, place_of(places, *label))?;
         }
-        Item::Address { rd, .. } => push_address(words, *rd)?,
+        Item::Relocated(relocation) => words.push(encode(relocation.relocated(0)))?,
     }
     Ok(())
 }
@@ -79,11 +79,10 @@ pub fn push_words(
 fn push_hole(holes: &mut Vec<Hole>, place: usize, item: &Item) -> Result<(), AllocError>
     ensures { OnOk result (holes.new.items ≡ holes.old.items ++ item_holes place item.now) }
 {
-    if let Item::Address { rd, global } = item {
+    if let Item::Relocated(relocation) = item {
         holes.push(Hole {
             word: place,
-            register: *rd,
-            global: *global,
+            relocation: *relocation,
         })?;
     }
     Ok(())

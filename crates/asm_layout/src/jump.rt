@@ -5,7 +5,7 @@ ghost use Rattle.rv_isa.specs.declared.abi.TheConstants.{JUMP_SCRATCH, ZERO};
 ghost use Rattle.rv_isa.specs.Encoding.{word, branch_row};
 ghost use Rattle.rv_isa.specs.Formats.{j_type, b_type, u_type, i_type};
 ghost use Rattle.bits.specs.Words.{upper_field, lower_field};
-ghost use Rattle.asm_layout.specs.Forms.{inverse, distance, distance_word, jump_words, branch_words, address_words, Fits, JumpFits};
+ghost use Rattle.asm_layout.specs.Forms.{inverse, distance, distance_word, jump_words, branch_words, Fits, JumpFits};
 
 use crate::reach::Reach;
 use bits::split;
@@ -161,21 +161,5 @@ pub fn push_branch(
             push_jump(words, reach, here + 1, there)?;
         }
     }
-    Ok(())
-}
-
-/// Puts two words that make the address 0 in a register at the end: they wait for the address.
-pub fn push_address(words: &mut Vec<u32>, rd: Register) -> Result<(), AllocError>
-    ensures { OnOk result (words.new.items ≡ words.old.items ++ address_words rd 0) }
-{
-    words.push(encode(Instr::Lui {
-        rd,
-        field: UpperField { value: 0 },
-    }))?;
-    words.push(encode(Instr::Addiw {
-        rd,
-        rs1: rd,
-        immediate: Immediate { value: 0 },
-    }))?;
     Ok(())
 }

@@ -12,7 +12,7 @@ use std::alloc::{AllocError, Global};
 
 /// The words of a function's labelled code, with holes for the addresses of globals.
 ///
-/// Wherever the words stand, with addresses below 2^31 filled in, the labelled code stands. There is one word at least, and no more
+/// Wherever the words stand, with addresses filled in, the labelled code stands. There is one word at least, and no more
 /// than the items' longest forms take. Memory is all that can be wanting.
 #[tactic(auto, using(crate::proofs::Whole::lays_out, crate::proofs::Whole::is_code, crate::proofs::Whole::not_longer, crate::proofs::Whole::forms_fit))]
 pub fn layout(alloc: Global, code: LabelledCode) -> Result<Code, AllocError>

@@ -9,6 +9,7 @@ use rv_isa::code::Hole;
 use rv_isa::instruction::{BranchOp, ImmOp, Instr};
 use rv_isa::labelled::{Item, LabelledCode};
 use rv_isa::ranges::{Immediate, Register};
+use rv_isa::relocation::{Partial, Relocation};
 use std::alloc::{AllocError, Global};
 use std::process::Abort;
 
@@ -30,6 +31,19 @@ const BRANCH: Item = Item::Branch {
     rs1: X10,
     rs2: X0,
     label: 0,
+};
+
+// The address of a global in x10.
+const UPPER: Relocation = Relocation {
+    instruction: Partial::Upper(X10),
+    global: 7,
+    offset: Immediate { value: 0 },
+};
+
+const LOWER: Relocation = Relocation {
+    instruction: Partial::Add { rd: X10, rs1: X10 },
+    global: 7,
+    offset: Immediate { value: 0 },
 };
 
 #[test]
@@ -208,21 +222,24 @@ fn a_function_of_all_items(rt: HostRuntime) -> Result<(), AllocError> {
     let items = vec![in rt.alloc();
         Item::Label(0),
         BRANCH,
-        Item::Address {
-            rd: X10,
-            global: 7,
-        },
+        Item::Relocated(UPPER),
+        Item::Relocated(LOWER),
         NOP,
         Item::Goto(0),
     ]?;
     let laid = layout(rt.alloc(), LabelledCode::new(items, 1))?;
-    let words: &[u32] = &[0x0005_0063, 0x0000_0537, 0x0005_051b, NOP_WORD, 0xff1f_f06f];
+    let words: &[u32] = &[0x0005_0063, 0x0000_0537, 0x0005_0513, NOP_WORD, 0xff1f_f06f];
     assert!(rt; laid.words() == words);
-    let hole = Hole {
-        word: 1,
-        register: X10,
-        global: 7,
-    };
-    assert!(rt; laid.holes() == [hole].as_slice());
+    let holes = [
+        Hole {
+            word: 1,
+            relocation: UPPER,
+        },
+        Hole {
+            word: 2,
+            relocation: LOWER,
+        },
+    ];
+    assert!(rt; laid.holes() == holes.as_slice());
     Ok(())
 }

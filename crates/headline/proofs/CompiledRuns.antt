@@ -74,9 +74,9 @@ index_small [] bound some h k = some
 index_small (x ∷ xs) bound some h zero = h 0 x refl
 index_small (x ∷ xs) bound some h (suc k) = index_small xs bound some (λ j y e. h (suc j) y e) k
 
-function_small : (p : Program) (codes : List Words) → FitsBelow p codes → (k : ℕ) → slice_index (addresses_of p codes).functions k < 2 ^ 31
+function_small : (p : Program) (codes : List Words) → FitsBelow p codes → (k : ℕ) → slice_index (addresses_of p codes).functions k < 2 ^ 30
 function_small p codes fits =
-    index_small (addresses_of p codes).functions (2 ^ 31) (lit< tt)
+    index_small (addresses_of p codes).functions (2 ^ 30) (lit< tt)
     (λ k x h.
     let b = bounds p codes fits in
     let most = address_most functions_start codes k x h in
@@ -85,16 +85,19 @@ function_small p codes fits =
     let three = b.end in
     omega (arith, most, one, two, three))
 
-object_small : (p : Program) (codes : List Words) → FitsBelow p codes → (k : ℕ) → slice_index (addresses_of p codes).objects k < 2 ^ 31
+main_small : (p : Program) (codes : List Words) → FitsBelow p codes → slice_index (addresses_of p codes).functions p.main < 2 ^ 31
+main_small p codes fits = let small = function_small p codes fits p.main in omega (arith, small)
+
+object_small : (p : Program) (codes : List Words) → FitsBelow p codes → (k : ℕ) → slice_index (addresses_of p codes).objects k < 2 ^ 30
 object_small p codes fits =
-    index_small (addresses_of p codes).objects (2 ^ 31) (lit< tt)
+    index_small (addresses_of p codes).objects (2 ^ 30) (lit< tt)
     (λ k x h.
     let b = bounds p codes fits in
     let most = object_most (objects_start codes) p.objects k x h in
     let three = b.end in
     omega (arith, most, three))
 
-target_small : (p : Program) (codes : List Words) → FitsBelow p codes → (o : Option Target) → target_address (addresses_of p codes) o < 2 ^ 31
+target_small : (p : Program) (codes : List Words) → FitsBelow p codes → (o : Option Target) → target_address (addresses_of p codes) o < 2 ^ 30
 target_small p codes fits None = lit< tt
 target_small p codes fits (Some (Code (Defined k))) = function_small p codes fits k
 target_small p codes fits (Some (Code SystemWrite)) = lit< tt
@@ -165,7 +168,7 @@ function_kept p codes x words s has each every fits good stands starts k at f fo
     let global = name_address a p.targets f.text in
     let addresses = addresses_in a (slice_get p.targets f.text) in
     let here = function_stands p codes x words s good stands starts k at code.words f code.here found entry in
-    let labelled = r.laid (ground_of s) at global (λ n. target_small p codes fits (option_and_then (λ ts. slice_get ts n) (slice_get p.targets f.text))) here in
+    let labelled = r.laid (ground_of s) at global here in
     let m = frame_in_need f.item r.code r.slots r.items r.is r.machine in
     layers_keep c setting at (need f.item) (frame_size r.code r.slots) (area r.code) (classes_of f.item.params) f.item.result (globals_of p f.text) addresses (body_of p f) (begin located r.code) (step located (globals_of p f.text) r.code) (flat_begin r.code) (flat_step r.code addresses)
     (record {
@@ -173,6 +176,7 @@ function_kept p codes x words s has each every fits good stands starts k at f fo
       flat = bytes_in_need f.item r.code r.slots r.is r.bytes (record { entries = entries_of p codes; globals = globals_of p f.text; addresses = addresses });
       machine =
           m.keeps c.world at labelled.0 global addresses setting.world (λ n y e. name_is a (slice_get p.targets f.text) n y e)
+          (λ n. target_small p codes fits (option_and_then (λ ts. slice_get ts n) (slice_get p.targets f.text)))
           (address_aligned functions_start codes refl k at entry) labelled.1;
       names = text_shown p codes has fits w words f.text;
       area_fits = m.area_fits;
@@ -192,4 +196,4 @@ compiled_runs p codes x words s has each every fits good stands starts few short
     executable_runs p (places_of p codes) x words s starts few short well.data_bytes well.entries well.aligned
     (function_kept p codes x words s has each every fits good stands starts)
     (natives_perform p codes x words s good stands starts)
-    (start_runs p codes x words s good stands starts well.data_bytes few short main_is (function_small p codes fits p.main) (address_aligned functions_start codes refl p.main _ main_is))
+    (start_runs p codes x words s good stands starts well.data_bytes few short main_is (main_small p codes fits) (address_aligned functions_start codes refl p.main _ main_is))

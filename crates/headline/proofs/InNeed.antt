@@ -34,7 +34,7 @@ more_need items low high frame area params result start step le f =
       area_fits = f.area_fits;
       some = omega (arith, some, le);
       aligned = f.aligned;
-      keeps = λ w at label global addresses world names even stand sp j good. f.keeps w at label global addresses world names even stand sp j (less_stack w sp low high j.room le good);
+      keeps = λ w at label global addresses world names near even stand sp j good. f.keeps w at label global addresses world names near even stand sp j (less_stack w sp low high j.room le good);
     }
 
 enough : (f : Func) (code : Code Location) (slots : ℕ) → IsCodeOf f (coded located code slots) → frame_bound code slots ≤ need f

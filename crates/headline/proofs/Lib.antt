@@ -14,6 +14,7 @@ pub mod StartMemory
 pub mod Running
 pub mod PlacedWords
 pub mod NativeCode
+pub mod MadeAddress
 pub mod StartCode
 pub mod DataPlaced
 pub mod GoodFunctions

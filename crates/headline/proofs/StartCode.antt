@@ -23,13 +23,14 @@ use Rattle.rv_isa.specs.Start.{stack_top, argument_bytes, word_bytes}
 use Rattle.rv_isa.specs.Step.{Exited, Faulted, even_below, step}
 use Rattle.rv_isa.specs.declared.fault.Fault.TheVariants.{Fetch, Load as LoadFault}
 use Rattle.rv_isa.specs.Runs.{Comes}
-use Rattle.rv_isa.specs.Labelled.{Ground, Fixed, InstrAt, Gets}
+use Rattle.rv_isa.specs.Labelled.{Ground, Fixed, InstrAt}
 use Rattle.rv_isa.specs.Laid.{WordsStand}
 use Rattle.rv_isa.specs.Words.{Words}
 use Rattle.rv_isa.proofs.StepLemmas.{step_at}
 use Rattle.rv_isa.proofs.MemoryLemmas.{each_from}
 use Rattle.rv_isa.proofs.RunLemmas.{comes_then, comes_by_step}
-use Rattle.asm_layout.proofs.Running.{instr_at, address_gets}
+use Rattle.asm_layout.proofs.Running.{instr_at}
+use Rattle.headline.proofs.MadeAddress.{Gets, address_gets}
 use Rattle.obj_link.specs.Image.{IsImage, code_start}
 use Rattle.obj_link.specs.Natives.{start_words, write_words, exit_words}
 use Rattle.obj_link.specs.Placed.{contents_of, addresses_of}

@@ -27,13 +27,14 @@ use Rattle.il_ast.specs.Memory.{parts}
 use Rattle.il_ast.specs.Start.{target_value, values_of, address_cells, item_cells, field_cells}
 use Rattle.rv_isa.specs.Words.{Words}
 use Rattle.rv_isa.specs.Laid.{filled}
-use Rattle.rv_isa.specs.Formats.{u_type, i_type}
+use Rattle.rv_isa.specs.Encoding.{word}
+use Rattle.rv_isa.specs.Relocations.{upper_part, lower_part, relocated}
+use Rattle.rv_isa.specs.declared.instruction.Instr.TheVariants.{Lui, Addiw}
 use Rattle.rv_isa.specs.declared.code.Hole.{Hole}
 use Rattle.rv_isa.specs.declared.ranges.Register.{Register}
-use Rattle.bits.specs.Words.{upper_field, lower_field}
 use Rattle.il_ast.specs.declared.value.Callee.TheVariants.{Defined}
 use Rattle.asm_layout.proofs.Filling.{filled_length}
-use Rattle.asm_layout.proofs.WordRanges.{small_at, address_words_small}
+use Rattle.asm_layout.proofs.WordRanges.{small_at, word_small}
 use Rattle.obj_link.specs.declared.addresses.Addresses.{Addresses}
 use Rattle.obj_link.specs.Image.{Contents, IsImage, code_start}
 use Rattle.obj_link.specs.Limits.{item_size, field_size, object_size}
@@ -223,11 +224,8 @@ wide_set (x ∷ ws) (suc at) w h small (suc n) = wide_set ws at w (λ m. h (suc 
 wide_filled : (global : ℕ → ℕ) (ws : List ℕ) (hs : List Hole) → Wide ws → Wide (filled global ws hs)
 wide_filled global ws [] h = h
 wide_filled global ws (x ∷ hs) h =
-    let small = address_words_small x.register (global x.global) in
-    let upper : ℕ = u_type 0x37 x.register.number (upper_field (global x.global)) in
-    let lower : ℕ = i_type 0x1b 0 x.register.number x.register.number (lower_field (global x.global)) in
-    wide_filled global (slice_set (slice_set ws x.word upper) (x.word + 1) lower) hs
-    (wide_set (slice_set ws x.word upper) (x.word + 1) lower (wide_set ws x.word upper h small.0) small.1.0)
+    let w : ℕ = word (relocated x.relocation (global x.relocation.global)) in
+    wide_filled global (slice_set ws x.word w) hs (wide_set ws x.word w h (word_small (relocated x.relocation (global x.relocation.global))))
 
 functions_wide : (a : Addresses) (targets : List (List Target)) (codes : List Words) (fs : List (Placed Func)) → EveryCode codes
     → Wide (functions_words a targets codes fs)
@@ -239,8 +237,9 @@ functions_wide a targets (c ∷ codes) (f ∷ fs) every =
 
 start_wide : (main : ℕ) → Wide (start_words main)
 start_wide main =
-    let small = address_words_small x5 main in
-    small_at (start_words main) (lit< tt, (lit< tt, (small.0, (small.1.0, (lit< tt, (lit< tt, (lit< tt, tt)))))))
+    let upper = word_small (Lui x5 (upper_part main)) in
+    let lower = word_small (Addiw x5 x5 (lower_part main)) in
+    small_at (start_words main) (lit< tt, (lit< tt, (upper, (lower, (lit< tt, (lit< tt, (lit< tt, tt)))))))
 
 natives_wide : Wide (write_words ++ exit_words)
 natives_wide = small_at (write_words ++ exit_words) (lit< tt, (lit< tt, (lit< tt, (lit< tt, (lit< tt, tt)))))

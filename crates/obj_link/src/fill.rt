@@ -6,14 +6,11 @@ ghost use Rattle.obj_link.specs.Shown.{shown};
 ghost use Rattle.obj_link.specs.Placed.{name_address, functions_words};
 
 use crate::addresses::{Addresses, meaning, target_address};
-use bits::split;
 use il_ast::function::Func;
 use il_ast::list::Seq;
 use il_ast::program::{Placed, Target};
 use rv_isa::code::{Code, Hole};
 use rv_isa::encode::encode;
-use rv_isa::instruction::Instr;
-use rv_isa::ranges::{Immediate, UpperField};
 use std::alloc::{AllocError, Global};
 
 fn set(words: &mut [u32], number: usize, word: u32)
@@ -27,24 +24,8 @@ fn set(words: &mut [u32], number: usize, word: u32)
 fn fill(words: &mut [u32], hole: &Hole, address: u32)
     ensures { words.new ≡ fill (λ n. address) words.old hole.now }
 {
-    let fields = split(address);
-    let upper = encode(Instr::Lui {
-        rd: hole.register,
-        field: UpperField {
-            value: fields.upper,
-        },
-    });
-    let lower = encode(Instr::Addiw {
-        rd: hole.register,
-        rs1: hole.register,
-        immediate: Immediate {
-            value: fields.lower as i16,
-        },
-    });
-    set(words, hole.word, upper);
-    if hole.word < words.len() {
-        set(words, hole.word + 1, lower);
-    }
+    let instruction = hole.relocation.relocated(address);
+    set(words, hole.word, encode(instruction));
 }
 
 /// Fills the addresses of the names of text `text` into holes.
@@ -58,7 +39,7 @@ fn fill_all(
     ensures { words.new ≡ filled (name_address addresses.now targets.now text) words.old holes.now }
 {
     for hole in holes {
-        let target = meaning(targets, text, hole.global);
+        let target = meaning(targets, text, hole.relocation.global);
         fill(words, hole, target_address(addresses, target));
     }
 }

@@ -1,5 +1,6 @@
 //! Tests of placing: words as the GNU assembler gives them, and bytes of data.
 
+ghost use Rattle.std.specs.Prelude.{◌≡◌};
 ghost use Rattle.obj_link.specs.ProgramOf.{IsLinked};
 
 use crate::addresses::Addresses;
@@ -19,7 +20,9 @@ use il_ast::value::Callee;
 use il_types::check::check;
 use il_types::checked::Checked;
 use rv_isa::code::{Code, Hole};
-use rv_isa::ranges::Register;
+use rv_isa::instruction::LoadOp;
+use rv_isa::ranges::{Immediate, Register};
+use rv_isa::relocation::{Partial, Relocation};
 use std::alloc::{AllocError, Global};
 use std::test::Fail;
 
@@ -120,16 +123,28 @@ fn data_with_names(rt: HostRuntime) -> Result<(), AllocError> {
     Ok(())
 }
 
-// One function of three words, of which two wait for its own address.
+// A word that becomes this instruction, for an address so far beyond the first name.
+fn hole(word: usize, instruction: Partial, offset: Immediate) -> Hole
+    ensures { result.word ≡ word }
+{
+    let relocation = Relocation {
+        instruction,
+        global: 0,
+        offset,
+    };
+    Hole { word, relocation }
+}
+
+// One function of three words, of which two wait for its own address: a load of eight bytes 1,072 bytes below it.
 fn code(alloc: Global) -> Result<Code, AllocError> {
     let words = vec![in alloc; 0x13; 3]?;
-    let holes = vec![in alloc;
-        Hole {
-            word: 0,
-            register: X10,
-            global: 0,
-        },
-    ]?;
+    let below = Immediate { value: -1072 };
+    let load = Partial::Load {
+        op: LoadOp::Ld,
+        rd: X10,
+        rs1: X10,
+    };
+    let holes = vec![in alloc; hole(0, Partial::Upper(X10), below), hole(1, load, below)]?;
     Ok(Code::new(words, holes))
 }
 
@@ -165,7 +180,7 @@ fn a_program_of_one_function(rt: HostRuntime) -> Result<(), Fail> {
     let function = check(alloc, main_text(alloc)?)?;
     let texts = vec![in alloc; function, check(alloc, zeros(alloc, 5)?)?]?;
     let codes = vec![in alloc; code(alloc)?]?;
-    let last: &[u32] = &[0x0001_0537, 0x0305_051b, 0x13];
+    let last: &[u32] = &[0x0001_0537, 0xc005_3503, 0x13];
     match resolve(alloc, texts.as_slice()) {
         Ok(linked) => match image(alloc, texts.as_slice(), &linked, codes.as_slice())? {
             Some(image) => {

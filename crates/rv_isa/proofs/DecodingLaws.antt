@@ -9,22 +9,6 @@ use Rattle.rv_isa.proofs.FieldLemmas.{reads_joined}
 use Rattle.rv_isa.proofs.DecodingLemmas.{lui_back, auipc_back, jal_back, jalr_back, branch_back, load_back, store_back, imm_back, addiw_back, shift_back, shiftw_back, reg_back, regw_back, fence_back, ecall_back, ebreak_back, low_bits_13_below, low_bits_21_below}
 use Rattle.rv_isa.specs.declared.instruction.Instr.{Instr}
 use Rattle.rv_isa.specs.declared.instruction.Instr.TheVariants.{Lui, Auipc, Jal, Jalr, Branch, Load, Store, Imm, Addiw, Shift, ShiftW, Reg, RegW, Fence, Ecall, Ebreak}
-use Rattle.rv_isa.specs.declared.instruction.BranchOp.{BranchOp}
-use Rattle.rv_isa.specs.declared.instruction.BranchOp.TheVariants.{Beq, Bne, Blt, Bge, Bltu, Bgeu}
-use Rattle.rv_isa.specs.declared.instruction.LoadOp.{LoadOp}
-use Rattle.rv_isa.specs.declared.instruction.LoadOp.TheVariants.{Lb, Lh, Lw, Ld, Lbu, Lhu, Lwu}
-use Rattle.rv_isa.specs.declared.instruction.StoreOp.{StoreOp}
-use Rattle.rv_isa.specs.declared.instruction.StoreOp.TheVariants.{Sb, Sh, Sw, Sd}
-use Rattle.rv_isa.specs.declared.instruction.ImmOp.{ImmOp}
-use Rattle.rv_isa.specs.declared.instruction.ImmOp.TheVariants.{Addi, Slti, Sltiu, Xori, Ori, Andi}
-use Rattle.rv_isa.specs.declared.instruction.ShiftOp.{ShiftOp}
-use Rattle.rv_isa.specs.declared.instruction.ShiftOp.TheVariants.{Slli, Srli, Srai}
-use Rattle.rv_isa.specs.declared.instruction.ShiftWOp.{ShiftWOp}
-use Rattle.rv_isa.specs.declared.instruction.ShiftWOp.TheVariants.{Slliw, Srliw, Sraiw}
-use Rattle.rv_isa.specs.declared.instruction.RegOp.{RegOp}
-use Rattle.rv_isa.specs.declared.instruction.RegOp.TheVariants.{Add, Sub, Sll, Slt, Sltu, Xor, Srl, Sra, Or, And, Mul, Mulh, Mulhsu, Mulhu, Div, Divu, Rem, Remu}
-use Rattle.rv_isa.specs.declared.instruction.RegWOp.{RegWOp}
-use Rattle.rv_isa.specs.declared.instruction.RegWOp.TheVariants.{Addw, Subw, Sllw, Srlw, Sraw, Mulw, Divw, Divuw, Remw, Remuw}
 
 -- ---- `candidate` gives every instruction back
 

@@ -1,5 +1,5 @@
 -- The rows of the encoding table are in the ranges of their fields.
-use Rattle.std.proofs.Common.{ℕ, ◌<◌, lit<}
+use Rattle.std.proofs.Common.{◌<◌, lit<}
 use Rattle.rv_isa.specs.Encoding.{branch_row, load_row, store_row, imm_row, shift_row, shiftw_row, reg_row, regw_row}
 use Rattle.rv_isa.specs.declared.instruction.BranchOp.{BranchOp}
 use Rattle.rv_isa.specs.declared.instruction.BranchOp.TheVariants.{Beq, Bne, Blt, Bge, Bltu, Bgeu}

@@ -5,13 +5,13 @@ use Rattle.rv_isa.specs.State.{State, register}
 use Rattle.rv_isa.specs.Memory.{number_at, allowed, is_code}
 use Rattle.rv_isa.specs.Arithmetic.{taken}
 use Rattle.rv_isa.specs.Decoding.{instruction_of}
+use Rattle.rv_isa.specs.Relocations.{relocated}
 use Rattle.rv_isa.specs.Runs.{Comes}
 use Rattle.rv_isa.specs.declared.abi.TheConstants.{JUMP_SCRATCH}
 use Rattle.rv_isa.specs.declared.permission.Permission.{Permission}
-use Rattle.rv_isa.specs.declared.ranges.Register.{Register}
 use Rattle.rv_isa.specs.declared.instruction.Instr.{Instr}
 use Rattle.rv_isa.specs.declared.labelled.Item.{Item}
-use Rattle.rv_isa.specs.declared.labelled.Item.TheVariants.{Plain, Label, Branch, Goto, Address}
+use Rattle.rv_isa.specs.declared.labelled.Item.TheVariants.{Plain, Label, Branch, Goto, Relocated}
 
 -- what stays while a program runs: the permissions, and the bytes that can't be written
 pub record Ground : Type 0 where
@@ -45,20 +45,6 @@ pub record Moves (g : Ground) (most to : ℕ) (s : State) : Type 0 where
   pub bytes : after.bytes ≡ s.bytes
   pub registers : (n : ℕ) → n ≢ JUMP_SCRATCH → after.registers n ≡ s.registers n
 
--- in 1 to `most` instructions the machine comes from s to the address `to`, with the value v in rd; all else stays
-pub record Gets (g : Ground) (most to : ℕ) (rd : Register) (v : ℕ) (s : State) : Type 0 where
-  pub count : ℕ
-  pub after : State
-  pub comes : Comes s count after
-  pub at_least_one : 0 < count
-  pub at_most : count ≤ most
-  pub place : after.pc ≡ to
-  pub fixed : Fixed g after
-  pub output : after.output ≡ s.output
-  pub bytes : after.bytes ≡ s.bytes
-  pub value : after.registers rd.number ≡ v
-  pub registers : (n : ℕ) → n ≢ rd.number → after.registers n ≡ s.registers n
-
 -- the item stands from a up to b, with labels and globals at these addresses
 unfoldable pub Stands : (g : Ground) (label global : ℕ → ℕ) → Item → (a b : ℕ) → Type 0
 Stands g label global (Plain i) a b = InstrAt g a i × (b ≡ a + 4)
@@ -66,7 +52,7 @@ Stands g label global (Label l) a b = (label l ≡ a) × (b ≡ a)
 Stands g label global (Branch op rs1 rs2 l) a b =
     (s : State) → Fixed g s → s.pc ≡ a → Moves g 3 (if taken op (register s rs1) (register s rs2) then label l else b) s
 Stands g label global (Goto l) a b = (s : State) → Fixed g s → s.pc ≡ a → Moves g 2 (label l) s
-Stands g label global (Address rd n) a b = (s : State) → Fixed g s → s.pc ≡ a → Gets g 2 b rd (global n) s
+Stands g label global (Relocated r) a b = InstrAt g a (relocated r (global r.global)) × (b ≡ a + 4)
 
 -- the items stand one after another from a on
 unfoldable pub Stand : (g : Ground) (label global : ℕ → ℕ) → List Item → (a : ℕ) → Type 0

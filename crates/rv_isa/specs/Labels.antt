@@ -1,12 +1,14 @@
 -- Labelled code: the labels, registers and sizes of its items, and what the code of a function keeps.
 use Rattle.std.specs.Prelude.{◌≡◌, ℕ, ◌+◌, ◌^◌, ◌<◌, Bool, true, false, not, ◌&&◌, nat_eq, nat_lt, if◌then◌else◌, IsTrue, List, [], ◌∷◌}
 use Rattle.std.specs.List.{list_all}
-use Rattle.rv_isa.specs.declared.abi.TheConstants.{JUMP_SCRATCH, ZERO}
+use Rattle.rv_isa.specs.declared.abi.TheConstants.{JUMP_SCRATCH}
 use Rattle.rv_isa.specs.declared.ranges.Register.{Register}
 use Rattle.rv_isa.specs.declared.instruction.Instr.{Instr}
 use Rattle.rv_isa.specs.declared.instruction.Instr.TheVariants.{Lui, Auipc, Jal, Jalr, Branch as BranchBy, Load, Store, Imm, Addiw, Shift, ShiftW, Reg, RegW, Fence, Ecall, Ebreak}
+use Rattle.rv_isa.specs.declared.relocation.Partial.{Partial}
+use Rattle.rv_isa.specs.declared.relocation.Partial.TheVariants.{Upper, Add, Jump, Load as LoadBy, Store as StoreBy}
 use Rattle.rv_isa.specs.declared.labelled.Item.{Item}
-use Rattle.rv_isa.specs.declared.labelled.Item.TheVariants.{Plain, Label, Branch, Goto, Address}
+use Rattle.rv_isa.specs.declared.labelled.Item.TheVariants.{Plain, Label, Branch, Goto, Relocated}
 
 -- the items of a function, and how many labels they have
 pub record LabelledItems : Type 0 where
@@ -21,7 +23,7 @@ is_label l (Plain i) = false
 is_label l (Label m) = nat_eq m l
 is_label l (Branch op rs1 rs2 m) = false
 is_label l (Goto m) = false
-is_label l (Address rd n) = false
+is_label l (Relocated r) = false
 
 -- how often it stands in the code
 abbrev pub times_labelled : ℕ → List Item → ℕ
@@ -34,7 +36,7 @@ has_label_below labels (Plain i) = true
 has_label_below labels (Label l) = nat_lt l labels
 has_label_below labels (Branch op rs1 rs2 l) = nat_lt l labels
 has_label_below labels (Goto l) = nat_lt l labels
-has_label_below labels (Address rd n) = true
+has_label_below labels (Relocated r) = true
 
 -- ---- registers
 
@@ -57,17 +59,24 @@ registers_of Fence = []
 registers_of Ecall = []
 registers_of Ebreak = []
 
+abbrev pub registers_named : Partial → List Register
+registers_named (Upper rd) = rd ∷ []
+registers_named (Add rd rs1) = rd ∷ rs1 ∷ []
+registers_named (Jump rd rs1) = rd ∷ rs1 ∷ []
+registers_named (LoadBy op rd rs1) = rd ∷ rs1 ∷ []
+registers_named (StoreBy op rs1 rs2) = rs1 ∷ rs2 ∷ []
+
 -- x31 is reserved for long jumps
 abbrev pub is_not_x31 : Register → Bool
 is_not_x31 r = not (nat_eq r.number JUMP_SCRATCH)
 
--- the item leaves x31 alone; an address goes into a register that can hold it
+-- the item leaves x31 alone
 abbrev pub has_good_registers : Item → Bool
 has_good_registers (Plain i) = list_all is_not_x31 (registers_of i)
 has_good_registers (Label l) = true
 has_good_registers (Branch op rs1 rs2 l) = is_not_x31 rs1 && is_not_x31 rs2
 has_good_registers (Goto l) = true
-has_good_registers (Address rd n) = is_not_x31 rd && not (nat_eq rd.number ZERO)
+has_good_registers (Relocated r) = list_all is_not_x31 (registers_named r.instruction)
 
 -- ---- sizes
 
@@ -77,7 +86,7 @@ longest (Plain i) = 1
 longest (Label l) = 0
 longest (Branch op rs1 rs2 l) = 3
 longest (Goto l) = 2
-longest (Address rd n) = 2
+longest (Relocated r) = 1
 
 abbrev pub longest_size : List Item → ℕ
 longest_size [] = 0

@@ -7,6 +7,7 @@ pub mod Labelled
 pub mod Laws
 pub mod Memory
 pub mod Readings
+pub mod Relocations
 pub mod Runs
 pub mod Start
 pub mod State

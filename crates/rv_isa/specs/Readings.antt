@@ -1,9 +1,9 @@
--- What is read from a word is in the range of its field.
-use Rattle.std.proofs.Common.{◌≡◌, ℕ, ◌+◌, ◌*◌, ◌%◌, ◌<◌, arith, pos, negsuc}
+-- What is read from a word is in the range of its field, and so are the parts of an address.
+use Rattle.std.proofs.Common.{◌≡◌, ℕ, ◌+◌, ◌*◌, ◌%◌, ◌^◌, ◌<◌, arith, pos, negsuc}
 use Rattle.std.specs.Prelude.{◌≤ℤ◌, ◌<ℤ◌}
 use Rattle.std.specs.Int.RustNames.{unsigned_abs}
 use Rattle.std.proofs.lemmas.Int.{ints}
-use Rattle.bits.specs.Words.{Fits12}
+use Rattle.bits.specs.Words.{Fits12, upper_field, lower_field}
 use Rattle.rv_isa.specs.Formats.{part, signed}
 
 pub signed12_fits : (n : ℕ) → n < 4096 → Fits12 (signed 12 n)
@@ -38,3 +38,9 @@ b_below w = omega arith
 
 pub j_below : (w : ℕ) → part w 31 31 * 524288 + part w 19 12 * 2048 + part w 20 20 * 1024 + part w 30 21 < 1048576
 j_below w = omega arith
+
+pub upper_fits : (a : ℕ) → upper_field a < 2 ^ 20
+upper_fits a = omega arith
+
+pub lower_fits : (a : ℕ) → Fits12 (lower_field a)
+lower_fits a = (grind (arith, ints), grind (arith, ints))

@@ -6,10 +6,10 @@ pub record Words : Type 0 where
   pub words : List ℕ
   pub holes : List Hole
 
--- holes of two words each, in order and apart, between two numbers of words
+-- holes of a word each, in order and apart, between two numbers of words
 abbrev pub lie_between : (from end : ℕ) → List Hole → Bool
 lie_between from end [] = nat_le from end
-lie_between from end (h ∷ holes) = nat_le from h.word && lie_between (h.word + 2) end holes
+lie_between from end (h ∷ holes) = nat_le from h.word && lie_between (h.word + 1) end holes
 
 -- what the words of a function keep
 pub record IsCode (c : Words) : Type 0 where

@@ -3,23 +3,21 @@
 ghost use Rattle.std.specs.Prelude.{◌≡◌};
 ghost use Rattle.rv_isa.specs.Words.{IsCode};
 
-use crate::ranges::Register;
+use crate::relocation::Relocation;
 use std::marker::Model;
 
-/// Two words that wait for the address of a global.
+/// A word that waits for the address of a global.
 #[derive(Clone, Copy, PartialEq, Eq, Debug)]
 pub struct Hole {
-    /// The number of the first of the two words.
+    /// The number of the word.
     pub word: usize,
-    /// The register that takes the address.
-    pub register: Register,
-    /// The number of the global.
-    pub global: usize,
+    /// The instruction that it becomes.
+    pub relocation: Relocation,
 }
 
 /// The words of a function.
 ///
-/// There is one at least. The holes lie in order and apart, each with its two words among the function's.
+/// There is one at least. The holes lie in order and apart, each at one of the function's words.
 #[derive(Drop, Debug)]
 pub struct Code {
     words: Vec<u32>,

@@ -5,6 +5,7 @@ ghost use Rattle.rv_isa.specs.Labels.{IsLabelled};
 
 use crate::instruction::{BranchOp, Instr};
 use crate::ranges::Register;
+use crate::relocation::Relocation;
 use std::marker::Model;
 
 /// An item of labelled code. The items of a function stand one after another; laying them out may use x31 for long jumps.
@@ -23,16 +24,13 @@ pub enum Item {
     },
     /// A jump to a label, of one or two instructions.
     Goto(usize),
-    /// The address of a global, by its number, into a register: two instructions.
-    Address {
-        rd: Register,
-        global: usize,
-    },
+    /// An instruction with a part of the address of a global.
+    Relocated(Relocation),
 }
 
 /// The labelled code of a function.
 ///
-/// Its labels are the numbers below a count, and each stands in the code once. No item names x31, no address is wanted in x0,
+/// Its labels are the numbers below a count, and each stands in the code once. No item names x31,
 /// and the longest form of the code has a word at least and fewer than 2^28.
 #[derive(Drop, Debug)]
 pub struct LabelledCode {

@@ -26,6 +26,7 @@
 //! ## Code of functions
 //!
 //! - [`labelled::LabelledCode`] is code with labels, whose invariants are `IsLabelled` of `specs/Labels.antt`;
+//! - [`relocation::Relocation`] is an instruction of it that takes a part of a global's address as its immediate;
 //! - [`code::Code`] is the words made of it, with holes for addresses, whose invariants are `IsCode` of `specs/Words.antt`;
 //! - `LaysOut` says that such words stand for such code wherever they are put (`Laid.antt`).
 //!
@@ -46,6 +47,7 @@ pub mod labelled;
 pub mod laws;
 pub mod permission;
 pub mod ranges;
+pub mod relocation;
 #[cfg(test)]
 mod tests;
 pub mod text;
