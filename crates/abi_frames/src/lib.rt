@@ -17,8 +17,11 @@
 //! at most 32 instructions for each unit of weight and 256 for each call, with at most 40,000 turns between two instructions; and it takes no more stack than the
 //! language counts for the function. `specs/Layout.antt` says where things stand in a frame, `specs/Emission.antt` which instructions a line becomes.
 //!
+//! A name's address has an upper part, which `lui` makes, and a lower one, which the next instruction takes as its immediate: `addi`, or the load or the store that
+//! wanted the address, or the jump of a call. What makes it right is that names have addresses below 2^30.
+//!
 //! A call passes its arguments by the convention: those past the eighth below the saved registers, then the callee's address goes to a register that is not for
-//! arguments, and the first eight come to x10 to x17. One that stands in the register of an earlier one moves first, the last such before the others, and where
+//! arguments, but for that of a name, which the jump makes in x1, and the first eight come to x10 to x17. One that stands in the register of an earlier one moves first, the last such before the others, and where
 //! what it overwrites is still to be read the two change places by way of x29 (`moves`, `specs/Moves.antt`); after that they are moved in their order. On entry
 //! arguments come to the places of their parameters in the same way (`specs/Functions.antt`).
 #![tactic(auto)]
