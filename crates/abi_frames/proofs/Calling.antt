@@ -315,7 +315,7 @@ claimed_stands x h = sym (ap sign_extended (again x) ∙ h)
     again : (n : ℕ) → n % 2 ^ 32 % 2 ^ 32 ≡ n % 2 ^ 32
     again n = omega arith
 
-passed_so : (t : Extension) (k : Class) (x y : ℕ) → read_passed t k x ≡ Some y → PassedSo t k x y
+pub passed_so : (t : Extension) (k : Class) (x y : ℕ) → read_passed t k x ≡ Some y → PassedSo t k x y
 passed_so Made k x y h = record { is = same_number (taken k x) y h; stands = refl }
 passed_so Claimed L x y h = record { is = same_number x y h; stands = refl }
 passed_so Claimed W x y h = by_test (is_extended x) refl h

@@ -6,7 +6,6 @@ use Rattle.il_ast.specs.declared.operation.Class.{Class}
 use Rattle.il_ast.specs.declared.operation.Condition.{Condition}
 use Rattle.il_ast.specs.Operations.{holds}
 use Rattle.il_ast.specs.declared.operation.Class.TheVariants.{W, L}
-use Rattle.bits.specs.Words.{sign_extended}
 use Rattle.rv_isa.specs.State.{State}
 use Rattle.rv_isa.specs.Labelled.{Ground, Fixed, Stand, Stands, Moves}
 use Rattle.rv_isa.specs.declared.labelled.Item.{Item}
@@ -17,20 +16,22 @@ use Rattle.rv_isa.specs.Labels.{longest_size}
 use Rattle.std.proofs.lemmas.Bool.{and_parts}
 use Rattle.vcode.specs.declared.place.Location.{Location}
 use Rattle.vcode.specs.declared.place.Operand.{Operand}
+use Rattle.vcode.specs.declared.place.ReturnValue.{ReturnValue}
 use Rattle.vcode.specs.declared.line.Operation.{Operation}
 use Rattle.vcode.specs.declared.line.Operation.TheVariants.{Compare}
 use Rattle.vcode.specs.declared.line.Comparison.{Comparison}
 use Rattle.vcode.specs.Named.{is_place, operand_keeps}
 use Rattle.flat_code.specs.Step.{taken as taken_as}
 use Rattle.abi_frames.specs.Calls.{passed}
-use Rattle.abi_frames.specs.Emission.{word_into, operand_into, operand_source, goto_items, branch_when, inverted, ways_items, branch_items, result_items}
+use Rattle.abi_frames.specs.Emission.{passed_class, operand_into, operand_source, goto_items, branch_when, inverted, ways_items, branch_items, result_items}
 use Rattle.abi_frames.specs.declared.layout.Layout.{Layout}
 use Rattle.abi_frames.proofs.Leading.{Site, StandAt, Leads, longest-append, Sets, in_register, same_in_register}
 use Rattle.abi_frames.proofs.Instructions.{is_10, is_28, is_29}
 use Rattle.abi_frames.proofs.Forms.{as_read}
 use Rattle.abi_frames.proofs.Branching.{inverted_holds, when_taken, branch_size, read_holds}
 use Rattle.abi_frames.proofs.Activations.{Setting, IsSetting, site, bottom, operand_in}
-use Rattle.abi_frames.proofs.LineCode.{Scratched, scratched_then, operand_same, leads_into, leads_word_into, ReadFor, leads_read, read_scratched, read_small, read_not_29}
+use Rattle.abi_frames.proofs.LineCode.{Scratched, scratched_then, operand_same, ReadFor, leads_read, read_scratched, read_small, read_not_29}
+use Rattle.abi_frames.proofs.Passing.{leads_argument}
 
 -- ---- jumps to labels
 
@@ -282,15 +283,8 @@ jumps_branch c is s next on met otherwise pointer known_a known_b =
 
 -- ---- results
 
-word_again : (v : ℕ) → v % 2 ^ 32 ≡ v % 2 ^ 32 % 2 ^ 32
-word_again v = omega arith
-
 -- the operand as a result of class k is in x10
-pub leads_result : (c : Setting) → IsSetting c → (s : State) (k : Class) (a : Operand Location) → s.registers 2 ≡ bottom c
-    → operand_keeps (is_place c.slots) a ≡ true
-    → Leads (site c) (result_items c.layout (Some k) a) s (Sets s 10 (passed k (taken_as k (operand_in c s a))))
-leads_result c is s L a pointer known = leads_into c is s 10 a is_10 (λ e. absurd (omega (arith, e))) pointer known
-leads_result c is s W a pointer known =
-    let v : ℕ = operand_in c s a in
-    subst (λ x. Leads (site c) (word_into c.layout 10 a) s (Sets s 10 x)) (ap sign_extended (word_again v))
-    (leads_word_into c is s 10 a is_10 (λ e. absurd (omega (arith, e))) pointer known)
+pub leads_result : (c : Setting) → IsSetting c → (s : State) (k : Class) (a : ReturnValue Location) → s.registers 2 ≡ bottom c
+    → operand_keeps (is_place c.slots) a.value ≡ true
+    → Leads (site c) (result_items c.layout (Some k) a) s (Sets s 10 (passed (passed_class a.extension k) (taken_as (passed_class a.extension k) (operand_in c s a.value))))
+leads_result c is s k a pointer known = leads_argument c is s 10 (passed_class a.extension k) a.value is_10 (λ e. absurd (omega (arith, e))) pointer known

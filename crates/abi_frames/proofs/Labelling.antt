@@ -27,6 +27,7 @@ use Rattle.rv_isa.specs.declared.labelled.Item.TheVariants.{Plain, Label, Branch
 use Rattle.vcode.specs.declared.place.Location.{Location}
 use Rattle.vcode.specs.declared.place.Location.TheVariants.{Register as InRegister, Slot}
 use Rattle.vcode.specs.declared.place.Operand.{Operand}
+use Rattle.vcode.specs.declared.place.ReturnValue.{ReturnValue}
 use Rattle.vcode.specs.declared.place.Argument.{Argument}
 use Rattle.vcode.specs.declared.place.Operand.TheVariants.{At, Number, Name}
 use Rattle.vcode.specs.declared.place.Destination.{Destination}
@@ -567,10 +568,10 @@ target_below blocks n k h e =
 goto_plainly : (n k : ℕ) → nat_lt k n ≡ true → Plainly n (GoTo k ∷ [])
 goto_plainly n k h = record { labels = and_from (nat_lt k n) true h refl; none = λ l. refl; registers = refl }
 
-result_plainly : (n : ℕ) (y : Layout) (slots : ℕ) (k : Option Class) (a : Operand Location) → operand_keeps (is_place slots) a ≡ true → Plainly n (result_items y k a)
+result_plainly : (n : ℕ) (y : Layout) (slots : ℕ) (k : Option Class) (a : ReturnValue Location) → operand_keeps (is_place slots) a.value ≡ true
+    → Plainly n (result_items y k a)
 result_plainly n y slots None a known = plainly_nothing n
-result_plainly n y slots (Some L) a known = into_plainly n y slots 10 a (lit< tt) (lit< tt) known
-result_plainly n y slots (Some W) a known = word_into_plainly n y slots 10 a (lit< tt) (lit< tt) known
+result_plainly n y slots (Some k) a known = pass_into_plainly n y slots 10 (passed_class a.extension k) a.value (lit< tt) (lit< tt) known
 
 goto_items_plainly : (n : ℕ) (y : Layout) (next k : ℕ) → nat_lt k n ≡ true → Plainly n (goto_items y next k)
 goto_items_plainly n y next k h = by_test (y.falls && nat_eq k next)

@@ -23,6 +23,7 @@ use Rattle.rv_isa.proofs.RunLemmas.{comes_then}
 use Rattle.rv_isa.proofs.StepLemmas.{step_at}
 use Rattle.vcode.specs.declared.place.Location.{Location}
 use Rattle.vcode.specs.declared.place.Operand.{Operand}
+use Rattle.vcode.specs.declared.place.ReturnValue.{ReturnValue}
 use Rattle.vcode.specs.declared.place.Address.{Address}
 use Rattle.vcode.specs.declared.line.Operation.{Operation}
 use Rattle.vcode.specs.declared.line.Line.{Line}
@@ -42,11 +43,11 @@ use Rattle.flat_code.specs.Flat.{FlatGiven, FlatOutcome, FlatReturned, FlatEnded
 use Rattle.rv_isa.specs.Step.{load_size, load_value}
 use Rattle.rv_isa.specs.declared.instruction.LoadOp.{LoadOp}
 use Rattle.abi_frames.proofs.Reading.{read_is}
-use Rattle.flat_code.specs.Step.{known_number, FlatState, Numbers, put, number_of, taken, computed, closed, is_in, sets, ticks, fails, goes_on, enters, compared, branches, returns, returns_as, flat_line, flat_jump, block_step, step_in, flat_step, address_of}
+use Rattle.flat_code.specs.Step.{known_number, FlatState, Numbers, put, number_of, taken, passed as read_passed, computed, closed, is_in, sets, ticks, fails, goes_on, enters, compared, branches, returns, returns_as, flat_line, flat_jump, block_step, step_in, flat_step, address_of}
 use Rattle.abi_frames.specs.Calls.{ResultIn, passed}
 use Rattle.abi_frames.specs.Performs.{AllPerform}
 use Rattle.abi_frames.specs.Layout.{most_in_lines}
-use Rattle.abi_frames.specs.Emission.{line_items, lines_items, jump_items, goto_items, result_items, epilogue}
+use Rattle.abi_frames.specs.Emission.{passed_class, line_items, lines_items, jump_items, goto_items, result_items, epilogue}
 use Rattle.abi_frames.proofs.Leading.{Site, StandAt, Leads, leads_so, Sets}
 use Rattle.abi_frames.proofs.Addressing.{is_based}
 use Rattle.abi_frames.proofs.Activations.{Setting, site, bottom, save_at, operand_in, Framed, operand_known, Assigned, assigned, assigned_output, held_below, held_not_10}
@@ -55,6 +56,7 @@ use Rattle.abi_frames.proofs.FrameEnds.{ends_frame}
 use Rattle.abi_frames.proofs.LineCode.{Scratched}
 use Rattle.abi_frames.proofs.Pacing.{landing, standing, few_standing, lands_on, falls_on}
 use Rattle.abi_frames.specs.declared.layout.Layout.{Layout}
+use Rattle.abi_frames.proofs.Calling.{PassedSo, passed_so}
 use Rattle.abi_frames.proofs.JumpCode.{Arrives, Jumps, jumps_then, jumps_so, jumps_goto, meets, jumps_branch, leads_result, way_by}
 use Rattle.abi_frames.proofs.Sizes.{jump_size, epilogue_size, le_is}
 use Rattle.abi_frames.proofs.Saving.{few_saved_registers}
@@ -468,14 +470,14 @@ result_framed c numbers memory u w n framed h = record {
   others = λ x hi away. ap (λ (m : ℕ → ℕ). m x) h.bytes ∙ framed.others x hi away;
 }
 
-return_value : (c : Setting) (f : Code Location) → CodeStands c f → (r : FlatOutcome) (y : Operand Location) (fs : FlatState) (k : ℕ) (u : State)
-    → AtJump c f (Return (Some y)) fs k u → (q : Class) → c.layout.result ≡ Some q → f.result ≡ Some q → (v : ℕ) → number_of c.addresses fs.numbers y ≡ Some v
-    → FlatReturned fs.spent (Some (taken q v)) (closed fs.memory (c.sp - c.area) (area f)) ≡ r → Performed c f r
-return_value c f is r y fs k u a q is_q wants v known e =
+return_value : (c : Setting) (f : Code Location) → CodeStands c f → (r : FlatOutcome) (y : ReturnValue Location) (fs : FlatState) (k : ℕ) (u : State)
+    → AtJump c f (Return (Some y)) fs k u → (q : Class) → c.layout.result ≡ Some q → f.result ≡ Some q → (v : ℕ) → number_of c.addresses fs.numbers y.value ≡ Some v
+    → (z : ℕ) → PassedSo y.extension q v z → FlatReturned fs.spent (Some z) (closed fs.memory (c.sp - c.area) (area f)) ≡ r → Performed c f r
+return_value c f is r y fs k u a q is_q wants v known z so e =
     let l : ℕ = c.layout.leave in
     let next : ℕ = fs.block + 1 in
-    let n : ℕ = passed q (taken q (operand_in c u y)) in
-    let value : operand_in c u y ≡ v = operand_known c fs.numbers fs.memory u y v is.setting a.framed a.known known in
+    let n : ℕ = passed (passed_class y.extension q) (taken (passed_class y.extension q) (operand_in c u y.value)) in
+    let value : operand_in c u y.value ≡ v = operand_known c fs.numbers fs.memory u y.value v is.setting a.framed a.known known in
     let leads : Leads (site c) (result_items c.layout c.layout.result y) u (Sets u 10 n) =
     subst (λ o. Leads (site c) (result_items c.layout o y) u (Sets u 10 n)) (sym is_q) (leads_result c is.setting u q y a.framed.pointer a.known) in
     let jumps : Jumps (site c) c.layout.falls next (jump_items c.layout next (Return (Some y))) u l (WithResult u n) =
@@ -489,7 +491,7 @@ return_value c f is r y fs k u a q is_q wants v known e =
     let bound = few_standing f fs.block in
     let pace = a.pace in
     subst (λ o. Performed c f o) e
-    (leave_case c f is (record fs { numbers = no_numbers }) (k + m.steps) m.after (Some (taken q v))
+    (leave_case c f is (record fs { numbers = no_numbers }) (k + m.steps) m.after (Some z)
     (record {
       place = m.place;
       fixed = m.fixed;
@@ -499,8 +501,10 @@ return_value c f is r y fs k u a q is_q wants v known e =
       price = omega (arith, few, size, paid, price);
       pace = omega (arith, bound, pace);
     })
-    (λ t same. subst (λ o. ResultIn o (Some (taken q v)) t) (sym wants)
-    (same ∙ (m.holds.value ∙ ap (λ x. passed q (taken q x)) value))))
+    (λ t same. subst (λ o. ResultIn o (Some z) t) (sym wants)
+    (same
+    ∙ (m.holds.value
+    ∙ (ap (λ x. passed (passed_class y.extension q) (taken (passed_class y.extension q) x)) value ∙ (so.stands ∙ ap (passed q) so.is))))))
 
 return_nothing : (c : Setting) (f : Code Location) → CodeStands c f → (r : FlatOutcome) (fs : FlatState) (k : ℕ) (u : State)
     → AtJump c f (Return None) fs k u → FlatReturned fs.spent None (closed fs.memory (c.sp - c.area) (area f)) ≡ r → Performed c f r
@@ -512,18 +516,23 @@ return_nothing c f is r fs k u a e =
     (leave_case c f is fs (k + m.steps) m.after None (landed c f (Return None) fs k u c.layout.leave 40000 a m (omega (arith, bound, pace)))
     (λ t same. no_result f.result t))
 
-return_case : (c : Setting) (f : Code Location) → CodeStands c f → (j : FlatGiven) (r : FlatOutcome) (n : ℕ) (y : Operand Location) (fs : FlatState) (k : ℕ) (u : State)
+return_case : (c : Setting) (f : Code Location) → CodeStands c f → (j : FlatGiven) (r : FlatOutcome) (n : ℕ) (y : ReturnValue Location) (fs : FlatState) (k : ℕ) (u : State)
     → AtJump c f (Return (Some y)) fs k u → (log : Log) → Then c f j r n log (returns_as f c.addresses (c.sp - c.area) fs f.result y) → Performed c f r
 return_case c f is j r n y fs k u a log goes = by_class f.result refl goes
   where
-    by_value : (q : Class) → f.result ≡ Some q → (o : Option ℕ) → number_of c.addresses fs.numbers y ≡ o
-        → Then c f j r n log (returns f (c.sp - c.area) fs (option_map (taken q) o)) → Performed c f r
+    by_number : (q : Class) → f.result ≡ Some q → (v : ℕ) → number_of c.addresses fs.numbers y.value ≡ Some v → (o : Option ℕ) → read_passed y.extension q v ≡ o
+        → Then c f j r n log (returns f (c.sp - c.area) fs o) → Performed c f r
+    by_number q wants v known None e e_goes = undefined c f fs.spent r e_goes.0
+    by_number q wants v known (Some z) e e_goes = return_value c f is r y fs k u a q (is.result ∙ wants) wants v known z (passed_so y.extension q v z e) e_goes.0
+
+    by_value : (q : Class) → f.result ≡ Some q → (o : Option ℕ) → number_of c.addresses fs.numbers y.value ≡ o
+        → Then c f j r n log (returns f (c.sp - c.area) fs (option_and_then (read_passed y.extension q) o)) → Performed c f r
     by_value q wants None e e_goes = undefined c f fs.spent r e_goes.0
-    by_value q wants (Some v) e e_goes = return_value c f is r y fs k u a q (is.result ∙ wants) wants v e e_goes.0
+    by_value q wants (Some v) e e_goes = by_number q wants v e (read_passed y.extension q v) refl e_goes
 
     by_class : (o : Option Class) → f.result ≡ o → Then c f j r n log (returns_as f c.addresses (c.sp - c.area) fs o y) → Performed c f r
     by_class None e e_goes = undefined c f fs.spent r e_goes.0
-    by_class (Some q) e e_goes = by_value q e (number_of c.addresses fs.numbers y) refl e_goes
+    by_class (Some q) e e_goes = by_value q e (number_of c.addresses fs.numbers y.value) refl e_goes
 
 -- ---- the other jumps
 

@@ -23,6 +23,7 @@ use Rattle.std.proofs.lemmas.List.Sums.{sum_by-cons}
 use Rattle.vcode.specs.declared.place.Location.{Location}
 use Rattle.vcode.specs.declared.place.Location.TheVariants.{Register as InRegister, Slot}
 use Rattle.vcode.specs.declared.place.Operand.{Operand}
+use Rattle.vcode.specs.declared.place.ReturnValue.{ReturnValue}
 use Rattle.vcode.specs.declared.place.Address.{Address as MemoryAddress}
 use Rattle.vcode.specs.declared.place.Argument.{Argument}
 use Rattle.vcode.specs.declared.place.Destination.{Destination}
@@ -506,10 +507,13 @@ line_size y used (Call to callee args) = call_size y to callee args
 
 -- ---- jumps
 
-result_size : (y : Layout) (k : Option Class) (a : Operand Location) → longest_size (result_items y k a) ≤ operand_cost a + 1
+value_size : (y : Layout) (k : Class) (a : Operand Location) → longest_size (pass_into y 10 k a) ≤ operand_cost a + 1
+value_size y W a = word_into_size y 10 a
+value_size y L a = let h = into_size y 10 a in omega (arith, h)
+
+result_size : (y : Layout) (k : Option Class) (a : ReturnValue Location) → longest_size (result_items y k a) ≤ operand_cost a.value + 1
 result_size y None a = omega arith
-result_size y (Some W) a = word_into_size y 10 a
-result_size y (Some L) a = let h = into_size y 10 a in omega (arith, h)
+result_size y (Some k) a = value_size y (passed_class a.extension k) a.value
 
 goto_size : (y : Layout) (next l : ℕ) → longest_size (goto_items y next l) ≤ 2
 goto_size y next l = by_test (y.falls && nat_eq l next)

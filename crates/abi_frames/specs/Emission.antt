@@ -22,6 +22,7 @@ use Rattle.rv_isa.specs.declared.relocation.Partial.TheVariants.{Upper, Add, Jum
 use Rattle.vcode.specs.declared.place.Location.{Location}
 use Rattle.vcode.specs.declared.place.Location.TheVariants.{Register as InRegister, Slot}
 use Rattle.vcode.specs.declared.place.Operand.{Operand}
+use Rattle.vcode.specs.declared.place.ReturnValue.{ReturnValue}
 use Rattle.vcode.specs.declared.place.Operand.TheVariants.{At, Number, Name}
 use Rattle.vcode.specs.declared.place.Argument.{Argument}
 use Rattle.vcode.specs.declared.place.Extension.{Extension}
@@ -209,7 +210,7 @@ abbrev pub passed_class : Extension → Class → Class
 passed_class Made k = k
 passed_class Claimed k = L
 
--- the argument into the register d, a word sign-extended
+-- a value of class k into the register d, a word sign-extended
 abbrev pub pass_into : Layout → (d : ℕ) → Class → Operand Location → List Item
 pass_into y d L a = into y d a
 pass_into y d W a = word_into y d a
@@ -340,10 +341,9 @@ epilogue y rs = restore_all y.saves rs ++ (raise_pointer y.size ++ (go_back ∷ 
 
 -- ---- jumps
 
-abbrev pub result_items : Layout → Option Class → Operand Location → List Item
+abbrev pub result_items : Layout → Option Class → ReturnValue Location → List Item
 result_items y None a = []
-result_items y (Some L) a = into y RESULT a
-result_items y (Some W) a = word_into y RESULT a
+result_items y (Some k) a = pass_into y RESULT (passed_class a.extension k) a.value
 
 -- to the label l; nothing where it is the one that stands next, and code may fall through
 abbrev pub goto_items : Layout → (next l : ℕ) → List Item
@@ -395,7 +395,7 @@ branch_items y next c met otherwise =
     ++ (compared_into y c SECOND_SCRATCH c.right
     ++ ways_items y next c.condition (compared_source c FIRST_SCRATCH c.left) (compared_source c SECOND_SCRATCH c.right) met otherwise)
 
-abbrev pub return_items : Layout → (next : ℕ) → Option (Operand Location) → List Item
+abbrev pub return_items : Layout → (next : ℕ) → Option (ReturnValue Location) → List Item
 return_items y next None = goto_items y next y.leave
 return_items y next (Some a) = result_items y y.result a ++ goto_items y next y.leave
 

@@ -18,7 +18,7 @@ use Rattle.vcode.specs.declared.line.Line.TheVariants.{Tick, Set, Operate, Call,
 use Rattle.vcode.specs.declared.line.Jump.TheVariants.{Goto, Branch, Return}
 use Rattle.vcode.specs.declared.code.Code.{Code}
 use Rattle.vcode.specs.Addresses.{at_once}
-use Rattle.vcode.specs.ExampleCodes.{block, code, destination}
+use Rattle.vcode.specs.ExampleCodes.{block, code, destination, returned}
 use Rattle.abi_frames.specs.Laws.{IsCode}
 use Rattle.abi_frames.specs.Functions.{frame_items}
 
@@ -36,7 +36,7 @@ counter =
     ∷ Operate (Register 8) (Compare SignedLess L) (At (Slot 0)) (Number 10)
     ∷ [])
     (Branch (record { condition = NotEqual; class = L; left = At (Register 8); right = Number 0 }) 1 2)
-    ∷ block (Tick true 1 ∷ []) (Return (Some (At (Slot 0))))
+    ∷ block (Tick true 1 ∷ []) (Return (returned (At (Slot 0))))
     ∷ [])
 
 -- returns its ninth argument, which is passed on the stack
@@ -53,7 +53,7 @@ ninth =
     ∷ destination (Slot 7) L
     ∷ destination (Slot 8) W
     ∷ [])
-    (block (Tick true 1 ∷ []) (Return (Some (At (Slot 8)))) ∷ [])
+    (block (Tick true 1 ∷ []) (Return (returned (At (Slot 8)))) ∷ [])
 
 -- calls the function whose address it is given, with a word and that address, and returns what it returns
 abbrev pub caller : Code Location
@@ -63,7 +63,7 @@ caller =
     (Tick true 4
     ∷ Call (Some (destination (Register 9) W)) (At (Slot 0)) (argument W (Number 7) ∷ argument L (At (Slot 0)) ∷ [])
     ∷ [])
-    (Return (Some (At (Register 9))))
+    (Return (returned (At (Register 9))))
     ∷ [])
 
 -- makes two blocks of memory, stores a number into one, copies its 15 bytes into the other, and returns what stands there
@@ -78,7 +78,7 @@ copier =
     ∷ Blit (At (Slot 0)) (At (Register 8)) 15
     ∷ Load (Register 9) Ld (at_once (At (Register 8)))
     ∷ [])
-    (Return (Some (At (Register 9))))
+    (Return (returned (At (Register 9))))
     ∷ [])
 
 -- the premises of the laws hold of these; and so many words the code of the first has at most

@@ -18,8 +18,8 @@ use rv_isa::relocation::Partial;
 use std::alloc::AllocError;
 use vcode::place::{Argument, Destination, Extension, Location, Operand, low_part};
 
-// the class that a value is passed as
-fn passed_class(extension: Extension, class: Class) -> Class
+/// The class that a value is passed as: a word that stands extended is passed as it is.
+pub(crate) fn passed_class(extension: Extension, class: Class) -> Class
     ensures { result ≡ passed_class extension class }
 {
     match extension {
@@ -28,7 +28,23 @@ fn passed_class(extension: Extension, class: Class) -> Class
     }
 }
 
-// has an argument in a register, a word sign-extended
+/// Has a value of the class in a register, a word sign-extended.
+pub(crate) fn push_value(
+    items: &mut Vec<Item>,
+    layout: &Layout,
+    to: u8,
+    class: Class,
+    value: &Operand<Location>,
+) -> Result<(), AllocError>
+    requires { layout.now.slots < 2 ^ 16 }
+    ensures { OnOk result (items.new.items ≡ items.old.items ++ pass_into layout.now to class value.now) }
+{
+    match class {
+        Class::W => push_word(items, layout, to, value),
+        Class::L => push_operand(items, layout, to, value),
+    }
+}
+
 fn push_argument(
     items: &mut Vec<Item>,
     layout: &Layout,
@@ -38,10 +54,13 @@ fn push_argument(
     requires { layout.now.slots < 2 ^ 16 }
     ensures { OnOk result (items.new.items ≡ items.old.items ++ pass_into layout.now to (passed_class argument.now.extension argument.now.class) argument.now.value) }
 {
-    match passed_class(argument.extension, argument.class) {
-        Class::W => push_word(items, layout, to, &argument.value),
-        Class::L => push_operand(items, layout, to, &argument.value),
-    }
+    push_value(
+        items,
+        layout,
+        to,
+        passed_class(argument.extension, argument.class),
+        &argument.value,
+    )
 }
 
 // puts an argument on the stack, at an offset from the stack pointer

@@ -4,17 +4,17 @@ ghost use Rattle.rv_isa.specs.declared.labelled.Item.TheVariants.{Branch};
 ghost use Rattle.abi_frames.specs.Fields.{reg};
 ghost use Rattle.abi_frames.specs.Emission.{result_items, goto_items, branch_when, inverted, ways_items, branch_items, return_items, jump_items};
 
+use crate::call::{passed_class, push_value};
 use crate::fields::register;
 use crate::layout::Layout;
 use crate::line::{operand_source, push_operand_for};
-use crate::operand::{push_operand, push_word};
-use il_ast::operation::{Class, Condition};
+use il_ast::operation::Condition;
 use rv_isa::abi;
 use rv_isa::instruction::{BranchOp, Instr};
 use rv_isa::labelled::Item;
 use std::alloc::AllocError;
 use vcode::line::{Comparison, Jump, Operation};
-use vcode::place::{Location, Operand};
+use vcode::place::{Location, ReturnValue};
 
 // does the label stand next, so that code may fall through to it?
 fn is_next(layout: &Layout, next: usize, label: usize) -> bool
@@ -135,24 +135,28 @@ fn push_branch(
 fn push_result(
     items: &mut Vec<Item>,
     layout: &Layout,
-    value: &Operand<Location>,
+    returned: &ReturnValue<Location>,
 ) -> Result<(), AllocError>
     requires { layout.now.slots < 2 ^ 16 }
-    ensures { OnOk result (items.new.items ≡ items.old.items ++ result_items layout.now layout.now.result value.now) }
+    ensures { OnOk result (items.new.items ≡ items.old.items ++ result_items layout.now layout.now.result returned.now) }
 {
     match layout.result {
-        None => {}
-        Some(Class::L) => push_operand(items, layout, 10, value)?,
-        Some(Class::W) => push_word(items, layout, 10, value)?,
+        None => Ok(()),
+        Some(class) => push_value(
+            items,
+            layout,
+            abi::RESULT,
+            passed_class(returned.extension, class),
+            &returned.value,
+        ),
     }
-    Ok(())
 }
 
 fn push_return(
     items: &mut Vec<Item>,
     layout: &Layout,
     next: usize,
-    value: &Option<Operand<Location>>,
+    value: &Option<ReturnValue<Location>>,
 ) -> Result<(), AllocError>
     requires { layout.now.slots < 2 ^ 16 }
     ensures { OnOk result (items.new.items ≡ items.old.items ++ return_items layout.now next value.now) }

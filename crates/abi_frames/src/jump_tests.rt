@@ -9,7 +9,7 @@ use rv_isa::labelled::Item;
 use std::alloc::{AllocError, Global};
 use std::test::Fail;
 use vcode::line::{Comparison, Jump};
-use vcode::place::{Location, Operand};
+use vcode::place::{Location, Operand, ReturnValue};
 
 const FALLING: Layout = Layout {
     saves: 0,
@@ -56,7 +56,7 @@ fn no_jump_goes_to_the_next_block(rt: HostRuntime) -> Result<(), Fail> {
 
 #[test]
 fn a_return_falls_into_the_end_of_the_frame(rt: HostRuntime) -> Result<(), Fail> {
-    let jump = Jump::Return(Some(Operand::At(Location::Register(6))));
+    let jump = Jump::Return(Some(ReturnValue::of(Operand::At(Location::Register(6)))));
     assert_eq!(rt; code_of(rt.alloc(), &FALLING, 4, &jump)?.len(), 1);
     assert_eq!(rt; code_of(rt.alloc(), &FALLING, 3, &jump)?.len(), 2);
     Ok(())

@@ -13,7 +13,7 @@ use std::test::Fail;
 use vcode::code::Code;
 use vcode::function::LFunc;
 use vcode::line::{Jump, Line, Operation};
-use vcode::place::{Address, Destination, Location, Operand};
+use vcode::place::{Address, Destination, Location, Operand, ReturnValue};
 
 const SMALL: Layout = Layout {
     saves: 0,
@@ -88,7 +88,7 @@ fn a_word_is_returned(rt: HostRuntime) -> Result<(), Fail> {
         &mut items,
         &SMALL,
         2,
-        &Jump::Return(Some(Operand::At(Location::Register(6)))),
+        &Jump::Return(Some(ReturnValue::of(Operand::At(Location::Register(6))))),
     )?;
     assert_eq!(rt; items.len(), 2);
     assert!(rt; matches!(items.get(0), Some(Item::Plain(Instr::Addiw { .. }))));

@@ -10,15 +10,16 @@ use Rattle.il_ast.specs.Keeps.{AreArgs}
 use Rattle.vcode.specs.declared.place.Location.{Location}
 use Rattle.vcode.specs.declared.place.Location.TheVariants.{Register, Slot}
 use Rattle.vcode.specs.declared.place.Operand.{Operand}
+use Rattle.vcode.specs.declared.place.ReturnValue.{ReturnValue}
 use Rattle.vcode.specs.declared.place.Operand.TheVariants.{At, Number, Name}
 use Rattle.vcode.specs.declared.place.Argument.{Argument}
 use Rattle.vcode.specs.declared.place.Destination.{Destination}
 use Rattle.vcode.specs.Operations.{held, passed}
 use Rattle.vcode.specs.Places.{Values, put, assign, kept, virtual, located, same_location, is_callers}
-use Rattle.vcode.specs.Step.{bound, value_of, read, read_argument, read_all}
+use Rattle.vcode.specs.Step.{bound, value_of, read, read_argument, read_result, read_all}
 use Rattle.certificates.specs.declared.certificate.Equality.{Equality}
 use Rattle.certificates.specs.declared.certificate.Transfer.{Transfer}
-use Rattle.alloc_check.specs.Placed.{Layout, placed_operand, placed_argument}
+use Rattle.alloc_check.specs.Placed.{Layout, placed_operand, placed_argument, placed_returned}
 use Rattle.alloc_check.specs.Owners.{Owners, nobody, Agrees, other_than, own_put, own_move, own_kept, own_also, known, owns, operand_held, args_held, all_hold}
 use Rattle.alloc_check.specs.Certified.{certified_params, own_params, is_param, params_placed}
 
@@ -64,6 +65,12 @@ pub read_follows : (globals : List Value) (own : Owners) (ev : Values ℕ) (el :
     → Follows (read globals el k (placed_operand f a)) (read globals ev k a)
 read_follows globals own ev el f k a h agrees =
     follows_then (value_of globals el (placed_operand f a)) (value_of globals ev a) (in_place k) (in_place k) (operand_follows globals own ev el f a h agrees) (λ x y e. e)
+
+pub result_follows : (globals : List Value) (own : Owners) (ev : Values ℕ) (el : Values Location) (f : Layout) (k : Class) (a : ReturnValue ℕ) → operand_held own f a.value ≡ true → Agrees own ev el
+    → Follows (read_result globals el k (placed_returned f a)) (read_result globals ev k a)
+result_follows globals own ev el f k a h agrees =
+    follows_then (value_of globals el (placed_operand f a.value)) (value_of globals ev a.value) (passed a.extension k) (passed a.extension k)
+    (operand_follows globals own ev el f a.value h agrees) (λ x y e. e)
 
 argument_follows : (globals : List Value) (own : Owners) (ev : Values ℕ) (el : Values Location) (f : Layout) (a : Argument ℕ) → operand_held own f a.value ≡ true → Agrees own ev el
     → Follows (read_argument globals el (placed_argument f a)) (read_argument globals ev a)

@@ -31,7 +31,7 @@ use Rattle.vcode.specs.declared.code.Code.{Code}
 use Rattle.vcode.specs.Addresses.{distance}
 use Rattle.vcode.specs.Operations.{held, passed, operate, loaded}
 use Rattle.vcode.specs.Places.{Values, unknown, put, assign, kept, virtual, located}
-use Rattle.vcode.specs.Step.{State, bound, begin, value_of, read, read_argument, read_all, operated, address_of, goes_on, sets, takes, changes, weighs, ticks, receives, resumes, calls, line_step, compared, branches, returns, jump_step, block_step, step_in, step}
+use Rattle.vcode.specs.Step.{State, bound, begin, value_of, read, read_argument, read_result, read_all, operated, address_of, goes_on, sets, takes, changes, weighs, ticks, receives, resumes, calls, line_step, compared, branches, returns, jump_step, block_step, step_in, step}
 use Rattle.alloc_check.specs.Placed.{placed_operand, placed_address, placed_argument, placed_destination, placed_line, placed_jump, placed_block, in_slots}
 use Rattle.alloc_check.specs.Kept.{RunsAlike}
 
@@ -263,9 +263,9 @@ jump_goes globals result s el (Branch on met otherwise) m =
 jump_goes globals result s el (Return None) m = λ f. refl
 jump_goes globals None s el (Return (Some a)) m = λ f. absurd f
 jump_goes globals (Some k) s el (Return (Some a)) m =
-    subst (λ (o : Option Value). Goes (returns s (read globals s.values k a)) (returns (carry s el) o))
-    (sym (same_read globals s.values el k a m))
-    (returns_goes s el (read globals s.values k a) m)
+    subst (λ (o : Option Value). Goes (returns s (read_result globals s.values k a)) (returns (carry s el) o))
+    (sym (ap (option_and_then (passed a.extension k)) (same_value globals s.values el a.value m)))
+    (returns_goes s el (read_result globals s.values k a) m)
 jump_goes globals result s el Halt m = λ f. refl
 
 -- ---- a step

@@ -90,7 +90,7 @@ jump_named : (n : ℕ) (es : List Equality) (j : Jump ℕ) → jump_keeps (is_pl
 jump_named n es (Goto k) h = refl
 jump_named n es (Branch on met otherwise) h = two_named n es on.left on.right h
 jump_named n es (Return None) h = refl
-jump_named n es (Return (Some a)) h = operand_named n es a h
+jump_named n es (Return (Some a)) h = operand_named n es a.value h
 jump_named n es Halt h = refl
 
 -- without the moves before them
@@ -145,5 +145,5 @@ jump_most (Goto k) = omega arith
 jump_most (Branch on met otherwise) =
     let a = operand_most on.left in let b = operand_most on.right in let k = class_most on.class in omega (arith, a, b, k)
 jump_most (Return None) = omega arith
-jump_most (Return (Some a)) = let h = operand_most a in omega (arith, h)
+jump_most (Return (Some a)) = let h = operand_most a.value in omega (arith, h)
 jump_most Halt = omega arith

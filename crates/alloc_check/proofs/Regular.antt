@@ -206,7 +206,7 @@ slot_jump : (n : ℕ) (j : Jump ℕ) → jump_keeps (is_place n) (placed_jump Sl
 slot_jump n (Goto k) = refl
 slot_jump n (Branch on met otherwise) = simp slot_operand
 slot_jump n (Return None) = refl
-slot_jump n (Return (Some a)) = slot_operand n a
+slot_jump n (Return (Some a)) = slot_operand n a.value
 slot_jump n Halt = refl
 
 slot_block : (n : ℕ) (b : Block ℕ) → block_keeps (is_place n) (placed_block Slot b) ≡ block_keeps (is_below n) b

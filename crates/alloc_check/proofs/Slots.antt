@@ -95,7 +95,7 @@ jump_slot c p (Branch on met otherwise) h =
     ap (λ x. Branch (record { condition = on.condition; class = on.class; left = x; right = placed_operand (layout_at c p) on.right }) met otherwise) (operand_slot c p on.left t.0)
     ∙ ap (λ x. Branch (record { condition = on.condition; class = on.class; left = placed_operand Slot on.left; right = x }) met otherwise) (operand_slot c p on.right t.1)
 jump_slot c p (Return None) h = refl
-jump_slot c p (Return (Some a)) h = ap (λ x. Return (Some x)) (operand_slot c p a h)
+jump_slot c p (Return (Some a)) h = ap (λ x. Return (Some (record { value = x; extension = a.extension }))) (operand_slot c p a.value h)
 jump_slot c p Halt h = refl
 
 no_moves : (moves : List (List Transfer)) (p : ℕ) → list_all is_empty moves ≡ true → option_map_or (λ (ms : List Transfer). ms) (slice_get moves p) [] ≡ []
@@ -351,7 +351,7 @@ jump_goes wanted n c p own (Branch on met otherwise) starts at full reads target
     ∙ ap (λ b. b && all_hold own (starts_at c otherwise)) (all_held wanted p n own (starts_at c met) full (start_own n c.starts met starts) t.0)
     ∙ all_held wanted p n own (starts_at c otherwise) full (start_own n c.starts otherwise starts) t.1
 jump_goes wanted n c p own (Return None) starts at full reads targets = refl
-jump_goes wanted n c p own (Return (Some a)) starts at full reads targets = operand_found wanted c p own a full at (sym (operand_in (wanted p) [] a) ∙ reads)
+jump_goes wanted n c p own (Return (Some a)) starts at full reads targets = operand_found wanted c p own a.value full at (sym (operand_in (wanted p) [] a.value) ∙ reads)
 jump_goes wanted n c p own Halt starts at full reads targets = refl
 
 point_goes : (wanted : Wanted) (c : Certificate) (p q : ℕ) (own : Owners) (j : Jump ℕ) (l : Line ℕ) (lines : List (Line ℕ)) → list_all is_empty c.moves ≡ true

@@ -31,17 +31,17 @@ use Rattle.vcode.specs.declared.code.Code.{Code}
 use Rattle.vcode.specs.Addresses.{distance}
 use Rattle.vcode.specs.Operations.{held, operate, loaded}
 use Rattle.vcode.specs.Places.{Values, unknown, put, assign, kept, virtual, located}
-use Rattle.vcode.specs.Step.{State, bound, begin, value_of, read, read_all, operated, address_of, goes_on, sets, changes, weighs, ticks, receives, resumes, calls, line_step, enters, compared, branches, returns, jump_step, step}
+use Rattle.vcode.specs.Step.{State, bound, begin, value_of, read, read_result, read_all, operated, address_of, goes_on, sets, changes, weighs, ticks, receives, resumes, calls, line_step, enters, compared, branches, returns, jump_step, step}
 use Rattle.vcode.proofs.Lists.{head_at, tail_at, nothing_at, same_some}
 use Rattle.vcode.proofs.Stepping.{step_line, step_jump, step_nowhere}
 use Rattle.certificates.specs.declared.certificate.Equality.{Equality}
 use Rattle.certificates.specs.declared.certificate.Transfer.{Transfer}
 use Rattle.certificates.specs.declared.certificate.Certificate.{Certificate}
-use Rattle.alloc_check.specs.Placed.{Layout, placed_operand, placed_address, placed_argument, placed_destination, placed_line, placed_comparison, placed_jump}
+use Rattle.alloc_check.specs.Placed.{Layout, placed_operand, placed_address, placed_argument, placed_destination, placed_line, placed_comparison, placed_jump, placed_returned}
 use Rattle.alloc_check.specs.Kept.{RunsAlike}
 use Rattle.alloc_check.specs.Owners.{Owners, nobody, Agrees, own_put, own_move, own_kept, moved, known, owns, operand_held, args_held, all_hold, where_held, received, after_line}
 use Rattle.alloc_check.specs.Certified.{moves_at, starts_at, layout_at, transfers, certified_lines, jump_point, certified_block, certified_blocks, certified_params, placed_by, jump_right, lines_right, blocks_right, own_params, is_param, entry_right, params_placed, is_sound}
-use Rattle.alloc_check.proofs.Agreeing.{both_true, either_true, Follows, follows_then, operand_follows, read_follows, args_follow, put_agrees, move_agrees, kept_agrees, AllFollow, known_agrees, all_follow, nobody_agrees, params_agree, other_unknown, owned_follows}
+use Rattle.alloc_check.proofs.Agreeing.{both_true, either_true, Follows, follows_then, operand_follows, read_follows, args_follow, put_agrees, move_agrees, kept_agrees, AllFollow, known_agrees, all_follow, nobody_agrees, params_agree, other_unknown, owned_follows, result_follows}
 
 -- ---- a state with the next line and the values of the other code
 
@@ -320,7 +320,7 @@ jump_beside related c globals result s n el own f (Branch on met otherwise) h ag
 jump_beside related c globals result s n el own f (Return None) h agrees enter = λ fine. refl
 jump_beside related c globals None s n el own f (Return (Some a)) h agrees enter = λ fine. absurd fine
 jump_beside related c globals (Some k) s n el own f (Return (Some a)) h agrees enter =
-    returns_beside related s n el (read globals s.values k a) (read globals el k (placed_operand f a)) (read_follows globals own s.values el f k a h agrees)
+    returns_beside related s n el (read_result globals s.values k a) (read_result globals el k (placed_returned f a)) (result_follows globals own s.values el f k a h agrees)
 jump_beside related c globals result s n el own f Halt h agrees enter = λ fine. refl
 
 -- ---- steps before the one that matches

@@ -311,7 +311,7 @@ pub jump_below : (test : ℕ → Bool) (j : Jump ℕ) → jump_keeps test j ≡ 
 jump_below test (Goto k) = refl
 jump_below test (Branch on met otherwise) = sym (two_in test on.left on.right)
 jump_below test (Return None) = refl
-jump_below test (Return (Some a)) = sym (operand_in test [] a)
+jump_below test (Return (Some a)) = sym (operand_in test [] a.value)
 jump_below test Halt = refl
 
 -- ---- ticks and points

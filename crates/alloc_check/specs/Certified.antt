@@ -75,7 +75,7 @@ jump_right c own f (Goto k) = all_hold own (starts_at c k)
 jump_right c own f (Branch on met otherwise) =
     (operand_held own f on.left && operand_held own f on.right) && (all_hold own (starts_at c met) && all_hold own (starts_at c otherwise))
 jump_right c own f (Return None) = true
-jump_right c own f (Return (Some a)) = operand_held own f a
+jump_right c own f (Return (Some a)) = operand_held own f a.value
 jump_right c own f Halt = true
 
 -- each line from point p on finds what it reads, and so does the jump

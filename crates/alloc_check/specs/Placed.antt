@@ -4,6 +4,7 @@ use Rattle.std.specs.Option.{option_map}
 use Rattle.vcode.specs.declared.place.Location.{Location}
 use Rattle.vcode.specs.declared.place.Location.TheVariants.{Slot}
 use Rattle.vcode.specs.declared.place.Operand.{Operand}
+use Rattle.vcode.specs.declared.place.ReturnValue.{ReturnValue}
 use Rattle.vcode.specs.declared.place.Address.{Address}
 use Rattle.vcode.specs.declared.place.Operand.TheVariants.{At, Number, Name}
 use Rattle.vcode.specs.declared.place.Destination.{Destination}
@@ -31,6 +32,9 @@ placed_address f at = record { base = placed_operand f at.base; offset = at.offs
 abbrev pub placed_argument : Layout → Argument ℕ → Argument Location
 placed_argument f a = record { class = a.class; value = placed_operand f a.value; extension = a.extension }
 
+abbrev pub placed_returned : Layout → ReturnValue ℕ → ReturnValue Location
+placed_returned f a = record { value = placed_operand f a.value; extension = a.extension }
+
 abbrev pub placed_destination : Layout → Destination ℕ → Destination Location
 placed_destination f d = record { place = f d.place; class = d.class }
 
@@ -50,7 +54,7 @@ placed_comparison f c = record { condition = c.condition; class = c.class; left 
 abbrev pub placed_jump : Layout → Jump ℕ → Jump Location
 placed_jump f (Goto k) = Goto k
 placed_jump f (Branch on met otherwise) = Branch (placed_comparison f on) met otherwise
-placed_jump f (Return a) = Return (option_map (placed_operand f) a)
+placed_jump f (Return a) = Return (option_map (placed_returned f) a)
 placed_jump f Halt = Halt
 
 abbrev pub placed_block : Layout → Block ℕ → Block Location

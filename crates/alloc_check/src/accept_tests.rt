@@ -13,7 +13,7 @@ use std::test::Fail;
 use vcode::code::{Block, Code};
 use vcode::function::{LFunc, VFunc};
 use vcode::line::{Jump, Line, Operation};
-use vcode::place::{Argument, Destination, Extension, Location, Operand};
+use vcode::place::{Argument, Destination, Extension, Location, Operand, ReturnValue};
 
 /// Passes its argument, register 0, to a call, adds the result, register 1, to it, and returns the sum, register 2.
 fn calling(alloc: Global) -> Result<VFunc, AllocError> {
@@ -50,7 +50,7 @@ fn calling(alloc: Global) -> Result<VFunc, AllocError> {
     let mut blocks = Seq::new(alloc);
     blocks.push(Block {
         lines,
-        jump: Jump::Return(Some(Operand::At(2))),
+        jump: Jump::Return(Some(ReturnValue::of(Operand::At(2)))),
     })?;
     Ok(VFunc {
         code: Code {
@@ -227,7 +227,7 @@ fn registers_that_calls_keep_are_accepted(rt: HostRuntime) -> Result<(), Fail> {
             );
             assert_eq!(rt;
                 jump_of(&made.code),
-                Some(Jump::Return(Some(Operand::At(Location::Register(11)))))
+                Some(Jump::Return(Some(ReturnValue::of(Operand::At(Location::Register(11))))))
             );
         }
         Err(_) => assert!(rt; false, "refused"),
@@ -331,7 +331,7 @@ fn holding(alloc: Global) -> Result<VFunc, AllocError> {
     let mut blocks = Seq::new(alloc);
     blocks.push(Block {
         lines,
-        jump: Jump::Return(Some(Operand::At(3))),
+        jump: Jump::Return(Some(ReturnValue::of(Operand::At(3)))),
     })?;
     Ok(VFunc {
         code: Code {

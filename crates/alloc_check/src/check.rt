@@ -226,7 +226,7 @@ fn targets(table: &Table, certificate: &Certificate, places: &[Equality], jump: 
                 && all_hold(table, starts_at(certificate, *otherwise))
         }
         Jump::Return(None) => true,
-        Jump::Return(Some(value)) => held(table, places, value),
+        Jump::Return(Some(returned)) => held(table, places, &returned.value),
         Jump::Halt => true,
     }
 }

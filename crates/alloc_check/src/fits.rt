@@ -89,7 +89,7 @@ fn jump(slots: u32, jump: &Jump<Location>) -> bool
         Jump::Goto(_) => true,
         Jump::Branch { on, .. } => operand(slots, &on.left) && operand(slots, &on.right),
         Jump::Return(None) => true,
-        Jump::Return(Some(value)) => operand(slots, value),
+        Jump::Return(Some(returned)) => operand(slots, &returned.value),
         Jump::Halt => true,
     }
 }

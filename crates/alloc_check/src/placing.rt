@@ -1,12 +1,12 @@
 //! Code with a place for each register.
 ghost use Rattle.std.specs.Prelude.{◌≡◌, ◌++◌, map, drop, OnOk, IfOk};
 ghost use Rattle.std.specs.Option.{option_map};
-ghost use Rattle.alloc_check.specs.Placed.{placed_operand, placed_address, placed_argument, placed_destination, placed_line, placed_comparison, placed_jump};
+ghost use Rattle.alloc_check.specs.Placed.{placed_operand, placed_address, placed_argument, placed_returned, placed_destination, placed_line, placed_comparison, placed_jump};
 
 use il_ast::list::Seq;
 use std::alloc::{AllocError, Global};
 use vcode::line::{Comparison, Jump, Line};
-use vcode::place::{Address, Argument, Destination, Location, Operand};
+use vcode::place::{Address, Argument, Destination, Location, Operand, ReturnValue};
 
 /// Says where each virtual register is.
 pub trait Placing {
@@ -51,6 +51,15 @@ fn argument<P: Placing>(places: &P, arg: &Argument<u32>) -> Argument<Location>
         class: arg.class,
         value: operand(places, &arg.value),
         extension: arg.extension,
+    }
+}
+
+fn returned<P: Placing>(places: &P, value: &ReturnValue<u32>) -> ReturnValue<Location>
+    ensures { result ≡ placed_returned (P.layout places.now) value.now }
+{
+    ReturnValue {
+        value: operand(places, &value.value),
+        extension: value.extension,
     }
 }
 
@@ -194,7 +203,7 @@ pub(crate) fn jump<P: Placing>(places: &P, from: &Jump<u32>) -> Jump<Location>
             otherwise: *otherwise,
         },
         Jump::Return(None) => Jump::Return(None),
-        Jump::Return(Some(value)) => Jump::Return(Some(operand(places, value))),
+        Jump::Return(Some(value)) => Jump::Return(Some(returned(places, value))),
         Jump::Halt => Jump::Halt,
     }
 }

@@ -28,7 +28,7 @@ use Rattle.vcode.specs.declared.code.Code.{Code}
 use Rattle.vcode.specs.Operations.{held, loaded}
 use Rattle.vcode.specs.Places.{put, assign, kept, virtual}
 use Rattle.vcode.specs.Coded.{classes_in}
-use Rattle.vcode.specs.Step.{State, begin, value_of, read, read_all, operated, address_of, goes_on, sets, changes, weighs, ticks, receives, resumes, calls, made_in, line_step, enters, compared, branches, returns, jump_step, step}
+use Rattle.vcode.specs.Step.{State, begin, value_of, read, read_result, read_all, operated, address_of, goes_on, sets, changes, weighs, ticks, receives, resumes, calls, made_in, line_step, enters, compared, branches, returns, jump_step, step}
 use Rattle.vcode.proofs.Stepping.{step_line, step_jump, step_nowhere}
 use Rattle.block_order.specs.Ordered.{Order, place_in, is_named, block_at, led, placed, in_order, begins, leads_within}
 use Rattle.block_order.proofs.Placing.{both_true, at_place, all_named}
@@ -147,7 +147,7 @@ jump_beside related globals result order s p (Branch on met otherwise) named ent
     branches_beside related order s p met otherwise (compared globals s on) (both_true (is_named order met) (is_named order otherwise) named) enter
 jump_beside related globals result order s p (Return None) named enter = λ f. refl
 jump_beside related globals None order s p (Return (Some a)) named enter = λ f. absurd f
-jump_beside related globals (Some k) order s p (Return (Some a)) named enter = returns_beside related s p (read globals s.values k a)
+jump_beside related globals (Some k) order s p (Return (Some a)) named enter = returns_beside related s p (read_result globals s.values k a)
 jump_beside related globals result order s p Halt named enter = λ f. refl
 
 -- ---- a step

@@ -11,7 +11,7 @@ use std::test::Fail;
 use vcode::code::{Block, Code};
 use vcode::function::VFunc;
 use vcode::line::{Jump, Line};
-use vcode::place::{Destination, Location, Operand};
+use vcode::place::{Destination, Location, Operand, ReturnValue};
 
 /// Copies its argument from register 0 to register 1, and returns that.
 fn copying(alloc: Global) -> Result<VFunc, AllocError> {
@@ -32,7 +32,7 @@ fn copying(alloc: Global) -> Result<VFunc, AllocError> {
     let mut blocks = Seq::new(alloc);
     blocks.push(Block {
         lines,
-        jump: Jump::Return(Some(Operand::At(1))),
+        jump: Jump::Return(Some(ReturnValue::of(Operand::At(1)))),
     })?;
     Ok(VFunc {
         code: Code {

@@ -46,5 +46,5 @@ abbrev pub jump_reads : Jump ℕ → List ℕ
 jump_reads (Goto k) = []
 jump_reads (Branch on met otherwise) = with_operand (with_operand [] on.left) on.right
 jump_reads (Return None) = []
-jump_reads (Return (Some a)) = with_operand [] a
+jump_reads (Return (Some a)) = with_operand [] a.value
 jump_reads Halt = []

@@ -94,7 +94,7 @@ pub(crate) fn jump_reads(alloc: Global, jump: &Jump<u32>) -> Result<Seq<u32>, Al
             push_operand(&mut reads, &on.right)?;
         }
         Jump::Return(None) => {}
-        Jump::Return(Some(value)) => push_operand(&mut reads, value)?,
+        Jump::Return(Some(returned)) => push_operand(&mut reads, &returned.value)?,
         Jump::Halt => {}
     }
     Ok(reads)

@@ -99,7 +99,7 @@ jump_low : (test : ℕ → Bool) (j : Jump ℕ) (r : ℕ) → jump_keeps test j 
 jump_low test (Goto k) r keeps h = cc
 jump_low test (Branch on met otherwise) r keeps h = two_low test on.left on.right r keeps h
 jump_low test (Return None) r keeps h = cc
-jump_low test (Return (Some a)) r keeps h = one_low test a r keeps h
+jump_low test (Return (Some a)) r keeps h = one_low test a.value r keeps h
 jump_low test Halt r keeps h = cc
 
 -- ---- lists, point by point

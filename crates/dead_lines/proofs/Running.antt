@@ -34,7 +34,7 @@ use Rattle.vcode.specs.Addresses.{distance}
 use Rattle.vcode.specs.Operations.{held, operate, loaded, passed}
 use Rattle.vcode.specs.Places.{Values, put, assign, kept, virtual}
 use Rattle.vcode.specs.Coded.{classes_in}
-use Rattle.vcode.specs.Step.{State, begin, value_of, read, read_argument, read_all, operated, address_of, goes_on, sets, changes, weighs, ticks, receives, resumes, calls, line_step, enters, compared, branches, returns, jump_step, step}
+use Rattle.vcode.specs.Step.{State, begin, value_of, read, read_argument, read_result, read_all, operated, address_of, goes_on, sets, changes, weighs, ticks, receives, resumes, calls, line_step, enters, compared, branches, returns, jump_step, step}
 use Rattle.vcode.proofs.Lists.{head_at, tail_at, nothing_at, same_some}
 use Rattle.vcode.proofs.Stepping.{step_line, step_jump, step_nowhere}
 use Rattle.cfg_live.specs.Registers.{with_operand, jump_reads}
@@ -373,7 +373,8 @@ jump_beside related globals result s n el firsts (Branch on met otherwise) agree
 jump_beside related globals result s n el firsts (Return None) agrees enter = λ fine. refl
 jump_beside related globals None s n el firsts (Return (Some a)) agrees enter = λ fine. absurd fine
 jump_beside related globals (Some k) s n el firsts (Return (Some a)) agrees enter =
-    returns_beside related s n el (read globals s.values k a) (read globals el k a) (ap (option_and_then (in_place k)) (value_same globals s.values el a (one_agrees s.values el a agrees)))
+    returns_beside related s n el (read_result globals s.values k a) (read_result globals el k a)
+    (ap (option_and_then (passed a.extension k)) (value_same globals s.values el a.value (one_agrees s.values el a.value agrees)))
 jump_beside related globals result s n el firsts Halt agrees enter = λ fine. refl
 
 -- ---- one step for one

@@ -8,7 +8,7 @@ use std::test::Fail;
 use vcode::code::{Block, Code};
 use vcode::function::VFunc;
 use vcode::line::{Jump, Line};
-use vcode::place::{Address, Destination, Operand};
+use vcode::place::{Address, Destination, Operand, ReturnValue};
 
 /// Copies its argument from register to register, 0 to 1 and 1 to 2, and returns it from register 0.
 fn copies(alloc: Global) -> Result<VFunc, AllocError> {
@@ -33,7 +33,7 @@ fn copies(alloc: Global) -> Result<VFunc, AllocError> {
     let mut blocks = Seq::new(alloc);
     blocks.push(Block {
         lines,
-        jump: Jump::Return(Some(Operand::At(0))),
+        jump: Jump::Return(Some(ReturnValue::of(Operand::At(0)))),
     })?;
     Ok(VFunc {
         code: Code {
@@ -87,7 +87,7 @@ fn accesses(alloc: Global) -> Result<VFunc, AllocError> {
     })?;
     blocks.push(Block {
         lines: second,
-        jump: Jump::Return(Some(Operand::At(2))),
+        jump: Jump::Return(Some(ReturnValue::of(Operand::At(2)))),
     })?;
     Ok(VFunc {
         code: Code {
@@ -162,7 +162,7 @@ fn blocks_of_memory(alloc: Global) -> Result<VFunc, AllocError> {
     let mut blocks = Seq::new(alloc);
     blocks.push(Block {
         lines,
-        jump: Jump::Return(Some(Operand::At(2))),
+        jump: Jump::Return(Some(ReturnValue::of(Operand::At(2)))),
     })?;
     Ok(VFunc {
         code: Code {

@@ -11,15 +11,16 @@ use Rattle.il_ast.specs.Logged.{Does, Over}
 use Rattle.il_ast.specs.Keeps.{Passes, Suits}
 use Rattle.vcode.specs.declared.place.Location.{Location}
 use Rattle.vcode.specs.declared.place.Operand.{Operand}
+use Rattle.vcode.specs.declared.place.ReturnValue.{ReturnValue}
 use Rattle.vcode.specs.declared.line.Operation.TheVariants.{Compare}
 use Rattle.vcode.specs.declared.line.Jump.{Jump}
 use Rattle.vcode.specs.declared.line.Jump.TheVariants.{Goto, Branch, Return, Halt}
 use Rattle.vcode.specs.Regular.{is_target, leads_inside, area}
-use Rattle.vcode.specs.Step.{State, value_of, read as value_read, enters, compared as values_compared, branches, returns, jump_step}
+use Rattle.vcode.specs.Step.{State, value_of, read_result as value_result, enters, compared as values_compared, branches, returns, jump_step}
 use Rattle.flat_code.specs.Spots.{Bases, ShowsResult}
 use Rattle.flat_code.specs.Flat.{FlatReturned, FlatEnded}
-use Rattle.flat_code.specs.Step.{FlatState, read, closed, enters as flat_enters, compared, branches as flat_branches, leaves, returns as flat_returns, returns_as, flat_jump}
-use Rattle.flat_code.proofs.Shown.{Follows, read_follows, read_passes}
+use Rattle.flat_code.specs.Step.{FlatState, read_result, closed, enters as flat_enters, compared, branches as flat_branches, leaves, returns as flat_returns, returns_as, flat_jump}
+use Rattle.flat_code.proofs.Shown.{Follows, passed_follows, option_passes}
 use Rattle.flat_code.proofs.Freeing.{IsLeft, left_by}
 use Rattle.flat_code.proofs.Operands.{operation_shown}
 use Rattle.flat_code.proofs.Going.{Setting, ground, IsSetting, Related, Together, same_bases, names_shown}
@@ -94,14 +95,14 @@ returns_together c is p s t k (Some v) n r result follows passes =
     subst (λ (m : Option ℕ). Together c p (returns s (Some v)) (flat_returns c.code c.base t m)) (sym a.1)
     (leaves_together c is p s t (Some v) (Some a.0) r (subst (λ (q : Option Class). Suits q (Some v)) (sym result) (passes v refl)) a.2)
 
-returns_value : (c : Setting) → IsSetting c → (p : Bases) (s : State Location) (t : FlatState) (a : Operand Location) → Related c p s t → (k : Option Class) → c.code.result ≡ k
+returns_value : (c : Setting) → IsSetting c → (p : Bases) (s : State Location) (t : FlatState) (a : ReturnValue Location) → Related c p s t → (k : Option Class) → c.code.result ≡ k
     → Together c p (jump_step c.names.globals k s (Return (Some a))) (returns_as c.code c.names.addresses c.base t k a)
 unfolding jump_step
 returns_value c is p s t a r None result = λ fine. absurd fine
 returns_value c is p s t a r (Some k) result =
-    returns_together c is p s t k (value_read c.names.globals s.values k a) (read c.names.addresses t.numbers k a) r result
-    (read_follows c.names.entries p c.names.globals c.names.addresses s.values t.numbers (names_shown c is p s t r) r.follow k a)
-    (read_passes k (value_of c.names.globals s.values a))
+    returns_together c is p s t k (value_result c.names.globals s.values k a) (read_result c.names.addresses t.numbers k a) r result
+    (passed_follows c.names.entries p c.names.globals c.names.addresses s.values t.numbers (names_shown c is p s t r) r.follow a.extension k a.value)
+    (option_passes a.extension k (value_of c.names.globals s.values a.value))
 
 -- ---- each jump
 

@@ -138,7 +138,7 @@ pub read_passes : (k : Class) (o : Option Value) (v : Value) → option_and_then
 read_passes k None v is = absurd (none_is v is)
 read_passes k (Some u) v is = passes_taken k u v is
 
--- ---- arguments
+-- ---- what is passed
 
 claimed_shown : (e : Entries) (p : Bases) (v : Value) (x : ℕ) → Shows e p v x → Follows e p (value_passed Claimed W v) (passed Claimed W x)
 claimed_shown e p (Integer n) x h =
@@ -153,11 +153,12 @@ passed_shown e p Made k v x h = λ w is. (taken k x, refl, taken_shown e p k v w
 passed_shown e p Claimed W v x h = claimed_shown e p v x h
 passed_shown e p Claimed L v x h = λ w is. (x, refl, taken_shown e p L v w x h is)
 
-argument_follows : (e : Entries) (p : Bases) (globals : List Value) (addresses : List ℕ) (values : Values Location) (numbers : Numbers) → AllShow e p globals addresses → AllFollow e p values numbers
-    → (a : Argument Location) → Follows e p (value_argument globals values a) (read_argument addresses numbers a)
-argument_follows e p globals addresses values numbers names h a =
-    follows_then e p (value_of globals values a.value) (number_of addresses numbers a.value) (value_passed a.extension a.class) (passed a.extension a.class)
-    (operand_follows e p globals addresses values numbers names h a.value) (passed_shown e p a.extension a.class)
+pub passed_follows : (e : Entries) (p : Bases) (globals : List Value) (addresses : List ℕ) (values : Values Location) (numbers : Numbers) → AllShow e p globals addresses → AllFollow e p values numbers
+    → (t : Extension) (k : Class) (a : Operand Location)
+    → Follows e p (option_and_then (value_passed t k) (value_of globals values a)) (option_and_then (passed t k) (number_of addresses numbers a))
+passed_follows e p globals addresses values numbers names h t k a =
+    follows_then e p (value_of globals values a) (number_of addresses numbers a) (value_passed t k) (passed t k)
+    (operand_follows e p globals addresses values numbers names h a) (passed_shown e p t k)
 
 passed_passes : (t : Extension) (k : Class) (u v : Value) → value_passed t k u ≡ Some v → Passes k v
 passed_passes Made k u v is = passes_taken k u v is
@@ -168,9 +169,11 @@ passed_passes Claimed W u v is = by (stands_extended u) is
     by true is = passes_taken W u v is
     by false is = absurd (none_is v is)
 
-argument_passes : (t : Extension) (k : Class) (o : Option Value) (v : Value) → option_and_then (value_passed t k) o ≡ Some v → Passes k v
-argument_passes t k None v is = absurd (none_is v is)
-argument_passes t k (Some u) v is = passed_passes t k u v is
+pub option_passes : (t : Extension) (k : Class) (o : Option Value) (v : Value) → option_and_then (value_passed t k) o ≡ Some v → Passes k v
+option_passes t k None v is = absurd (none_is v is)
+option_passes t k (Some u) v is = passed_passes t k u v is
+
+-- ---- arguments
 
 -- where there are values, there are numbers that show them, and the values are of the classes
 abbrev pub ArgsFollow : Entries → Bases → List Class → Option (List Value) → Option (List ℕ) → Type 0
@@ -196,8 +199,8 @@ all_follow e p globals addresses values numbers names h [] = λ vs is.
     let same : [] ≡ vs = some_is [] vs is in ([], refl, subst (λ (ws : List Value). AllShow e p ws []) same tt, subst (λ (ws : List Value). AreArgs [] ws) same tt)
 all_follow e p globals addresses values numbers names h (a ∷ args) =
     cons_follow e p a.class (map (λ b. b.class) args) (value_argument globals values a) (read_argument addresses numbers a)
-    (values_read globals values args) (read_all addresses numbers args) (argument_follows e p globals addresses values numbers names h a)
-    (argument_passes a.extension a.class (value_of globals values a.value))
+    (values_read globals values args) (read_all addresses numbers args) (passed_follows e p globals addresses values numbers names h a.extension a.class a.value)
+    (option_passes a.extension a.class (value_of globals values a.value))
     (all_follow e p globals addresses values numbers names h args)
 
 -- ---- the start

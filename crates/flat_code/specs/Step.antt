@@ -19,6 +19,7 @@ use Rattle.rv_isa.specs.Arithmetic.{reg_value, regw_value}
 use Rattle.rv_isa.specs.Step.{load_size, load_value}
 use Rattle.vcode.specs.declared.place.Location.{Location}
 use Rattle.vcode.specs.declared.place.Operand.{Operand}
+use Rattle.vcode.specs.declared.place.ReturnValue.{ReturnValue}
 use Rattle.vcode.specs.declared.place.Operand.TheVariants.{At, Number, Name}
 use Rattle.vcode.specs.declared.place.Destination.{Destination}
 use Rattle.vcode.specs.declared.place.Argument.{Argument}
@@ -164,6 +165,10 @@ read addresses numbers k a = option_map (taken k) (number_of addresses numbers a
 abbrev pub read_argument : List ℕ → Numbers → Argument Location → Option ℕ
 read_argument addresses numbers a = option_and_then (passed a.extension a.class) (number_of addresses numbers a.value)
 
+-- what is returned as a result of class k
+abbrev pub read_result : List ℕ → Numbers → Class → ReturnValue Location → Option ℕ
+read_result addresses numbers k a = option_and_then (passed a.extension k) (number_of addresses numbers a.value)
+
 abbrev pub read_all : List ℕ → Numbers → List (Argument Location) → Option (List ℕ)
 read_all addresses numbers [] = Some []
 read_all addresses numbers (a ∷ args) =
@@ -284,9 +289,9 @@ abbrev pub returns : Code Location → (base : ℕ) → FlatState → Option ℕ
 returns f base s None = fails s
 returns f base s (Some x) = leaves f base s (Some x)
 
-abbrev pub returns_as : Code Location → List ℕ → (base : ℕ) → FlatState → Option Class → Operand Location → FlatEvent
+abbrev pub returns_as : Code Location → List ℕ → (base : ℕ) → FlatState → Option Class → ReturnValue Location → FlatEvent
 returns_as f addresses base s None a = fails s
-returns_as f addresses base s (Some k) a = returns f base s (read addresses s.numbers k a)
+returns_as f addresses base s (Some k) a = returns f base s (read_result addresses s.numbers k a)
 
 unfoldable pub flat_jump : Code Location → List ℕ → (base : ℕ) → FlatState → Jump Location → FlatEvent
 flat_jump f addresses base s (Goto k) = enters s k

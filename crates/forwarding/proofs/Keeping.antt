@@ -32,7 +32,7 @@ use Rattle.vcode.specs.Regular.{is_target, leads_inside, is_alloc, allocs_first,
 use Rattle.forwarding.specs.declared.fact.Fact.{Fact}
 use Rattle.forwarding.specs.declared.fact.Fact.TheVariants.{Same, Sum, Test}
 use Rattle.forwarding.specs.Facts.{Facts, operand_below, fact_below, kept_if, AreBelow}
-use Rattle.forwarding.specs.Forwarded.{is_short, copied, forward, regrouped, grouped, is_add, folded, operands_of, further, from_base, with_base, with_address, Replacing, with_argument, with_line, with_comparison, test_of, tested_by, with_test, with_branch, numbers_hold, decided, with_jump, writes_it, fact_of, leaves, after, AreForwarded, IsForwarded, AllForwarded}
+use Rattle.forwarding.specs.Forwarded.{is_short, copied, forward, regrouped, grouped, is_add, folded, operands_of, further, from_base, with_base, with_address, Replacing, with_argument, with_line, with_comparison, test_of, tested_by, with_test, with_branch, numbers_hold, decided, with_jump, writes_it, fact_of, leaves, after, AreForwarded, IsForwarded, AllForwarded, with_returned}
 use Rattle.forwarding.proofs.Writing.{both_true}
 use Rattle.forwarding.specs.Shortened.{shortened}
 use Rattle.forwarding.proofs.Computing.{Unshortened, unchanged, any_cheaper}
@@ -308,7 +308,7 @@ jump_low lines n fs below (Branch on met otherwise) h =
     (λ c e. let s = both_true (operand_below n c.left) (operand_below n c.right) (tested_low n fs below new.left new.right c e) in
     let all = both_are (operand_keeps (is_below n) c.left) (operand_keeps (is_below n) c.right) (keeps_below n c.left s.0) (keeps_below n c.right s.1) in (λ paid. all, λ paid. all)))
 jump_low lines n fs below (Return None) h = refl
-jump_low lines n fs below (Return (Some a)) h = forward_low n fs below a h
+jump_low lines n fs below (Return (Some a)) h = forward_low n fs below a.value h
 jump_low lines n fs below Halt h = refl
 
 jump_inside : (lines : List (Line ℕ)) (n m : ℕ) (fs : Facts) (j : Jump ℕ) → leads_inside m j ≡ true → leads_inside m (with_jump lines fs j) ≡ true
@@ -374,7 +374,7 @@ jump_paid lines fs (Branch on met otherwise) h =
     (test_either lines (λ k. affords 0 k lines ≡ true) new.condition new met otherwise (tested_by fs new.left new.right) (h (Branch new met otherwise) (omega (arith, x, y)))
     (λ c e. (λ paid. paid, λ paid. paid)))
 jump_paid lines fs (Return None) h = h (Return None) (omega arith)
-jump_paid lines fs (Return (Some a)) h = h (Return (Some (forward fs a))) (let x = forward_cost fs a in omega (arith, x))
+jump_paid lines fs (Return (Some a)) h = h (Return (Some (with_returned (forward fs) a))) (let x = forward_cost fs a.value in omega (arith, x))
 jump_paid lines fs Halt h = h Halt (omega arith)
 
 -- what is known after all lines, and the jump that it makes

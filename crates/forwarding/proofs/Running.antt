@@ -42,7 +42,7 @@ use Rattle.vcode.specs.Addresses.{low, distance, beyond}
 use Rattle.vcode.specs.Operations.{held, operate, loaded, passed as passed_value}
 use Rattle.vcode.specs.Places.{Values, put, assign, kept, virtual}
 use Rattle.vcode.specs.Coded.{classes_in}
-use Rattle.vcode.specs.Step.{State, begin, value_of, read, read_argument, read_all, operated, address_of, goes_on, sets, changes, weighs, ticks, receives, resumes, calls, line_step, compared, branches, returns, jump_step, step}
+use Rattle.vcode.specs.Step.{State, begin, value_of, read, read_argument, read_result, read_all, operated, address_of, goes_on, sets, changes, weighs, ticks, receives, resumes, calls, line_step, compared, branches, returns, jump_step, step}
 use Rattle.vcode.proofs.Lists.{head_at, tail_at, nothing_at, same_some}
 use Rattle.vcode.proofs.Stepping.{step_line, step_jump, step_nowhere}
 use Rattle.cfg_live.specs.Registers.{line_writes}
@@ -458,7 +458,7 @@ jump_same whole globals result s fs all (Branch on met otherwise) =
     ∙ ap (branches s met otherwise) (two_same globals s (forward fs) (operand_same globals s fs all) on.left on.right (operate s.memory (Compare on.condition on.class)))
 jump_same whole globals result s fs all (Return None) = refl
 jump_same whole globals None s fs all (Return (Some a)) = refl
-jump_same whole globals (Some k) s fs all (Return (Some a)) = ap (λ (x : Option Value). returns s (option_and_then (in_place k) x)) (operand_same globals s fs all a)
+jump_same whole globals (Some k) s fs all (Return (Some a)) = ap (λ (x : Option Value). returns s (option_and_then (passed_value a.extension k) x)) (operand_same globals s fs all a.value)
 jump_same whole globals result s fs all Halt = refl
 
 -- ---- where an event goes on
@@ -825,7 +825,7 @@ jump_starts globals result s (Branch on met otherwise) = by (compared globals s 
     by (Some (Function g)) = tt
 jump_starts globals result s (Return None) = tt
 jump_starts globals None s (Return (Some a)) = tt
-jump_starts globals (Some k) s (Return (Some a)) = by (read globals s.values k a)
+jump_starts globals (Some k) s (Return (Some a)) = by (read_result globals s.values k a)
   where
     by : (o : Option Value) → OnEvent (λ u. u.next ≡ 0) (returns s o)
     by None = tt

@@ -7,6 +7,7 @@ use Rattle.il_ast.specs.declared.operation.Condition.TheVariants.{Equal, NotEqua
 use Rattle.il_ast.specs.Values.{modulus}
 use Rattle.il_ast.specs.Operations.{holds}
 use Rattle.vcode.specs.declared.place.Operand.{Operand}
+use Rattle.vcode.specs.declared.place.ReturnValue.{ReturnValue}
 use Rattle.vcode.specs.declared.place.Address.{Address}
 use Rattle.vcode.specs.declared.place.Operand.TheVariants.{At, Number, Name}
 use Rattle.vcode.specs.declared.place.Argument.{Argument}
@@ -53,6 +54,9 @@ Replacing = Operand ℕ → Operand ℕ
 
 abbrev pub with_argument : Replacing → Argument ℕ → Argument ℕ
 with_argument f a = record { class = a.class; value = f a.value; extension = a.extension }
+
+abbrev pub with_returned : Replacing → ReturnValue ℕ → ReturnValue ℕ
+with_returned f a = record { value = f a.value; extension = a.extension }
 
 -- the operands of a sum with a number of what is known to be one
 abbrev pub regrouped : Option Fact → (r m : ℕ) → Operand ℕ × Operand ℕ
@@ -143,7 +147,7 @@ with_outcome lines fs on met otherwise = decided (numbers_hold on.condition on.c
 abbrev pub with_jump : (lines : List (Line ℕ)) → Facts → Jump ℕ → Jump ℕ
 with_jump lines fs (Goto k) = Goto k
 with_jump lines fs (Branch on met otherwise) = with_outcome lines fs (with_comparison (forward fs) on) met otherwise
-with_jump lines fs (Return a) = Return (option_map (forward fs) a)
+with_jump lines fs (Return a) = Return (option_map (with_returned (forward fs)) a)
 with_jump lines fs Halt = Halt
 
 -- ---- what is known after a line

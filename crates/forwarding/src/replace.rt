@@ -6,7 +6,7 @@ ghost use Rattle.vcode.specs.declared.line.Jump.TheVariants.{Branch};
 ghost use Rattle.vcode.specs.Addresses.{distance};
 ghost use Rattle.vcode.specs.Cost.{is_immediate};
 ghost use Rattle.forwarding.specs.Table.{facts_of};
-ghost use Rattle.forwarding.specs.Forwarded.{is_short, forward, with_argument, regrouped, grouped, is_add, operands_of, further, with_address, with_line, with_comparison, tested_by, afforded, with_test, with_branch, numbers_hold, with_outcome, with_jump};
+ghost use Rattle.forwarding.specs.Forwarded.{is_short, forward, with_argument, with_returned, regrouped, grouped, is_add, operands_of, further, with_address, with_line, with_comparison, tested_by, afforded, with_test, with_branch, numbers_hold, with_outcome, with_jump};
 
 use crate::fact::Fact;
 use crate::table::Table;
@@ -17,7 +17,7 @@ use rv_isa::instruction::RegOp;
 use std::alloc::{AllocError, Global};
 use vcode::cost::{affords, is_immediate};
 use vcode::line::{Comparison, Jump, Line, Operation};
-use vcode::place::{Address, Argument, Operand};
+use vcode::place::{Address, Argument, Operand, ReturnValue};
 
 fn is_short(operand: &Operand<u32>) -> bool
     ensures { result ≡ is_short operand.now }
@@ -61,6 +61,15 @@ fn argument(table: &Table, from: &Argument<u32>) -> Argument<u32>
         class: from.class,
         value: operand(table, &from.value),
         extension: from.extension,
+    }
+}
+
+fn returned(table: &Table, value: &ReturnValue<u32>) -> ReturnValue<u32>
+    ensures { result ≡ with_returned (forward (facts_of table.now)) value.now }
+{
+    ReturnValue {
+        value: operand(table, &value.value),
+        extension: value.extension,
     }
 }
 
@@ -357,7 +366,7 @@ pub(crate) fn jump(table: &Table, lines: &[Line<u32>], from: &Jump<u32>) -> Jump
             outcome(table, lines, comparison(table, on), *met, *otherwise)
         }
         Jump::Return(None) => Jump::Return(None),
-        Jump::Return(Some(value)) => Jump::Return(Some(operand(table, value))),
+        Jump::Return(Some(value)) => Jump::Return(Some(returned(table, value))),
         Jump::Halt => Jump::Halt,
     }
 }

@@ -9,7 +9,7 @@ use std::test::Fail;
 use vcode::code::{Block, Code};
 use vcode::function::VFunc;
 use vcode::line::{Comparison, Jump, Line, Operation};
-use vcode::place::{Address, Destination, Operand};
+use vcode::place::{Address, Destination, Operand, ReturnValue};
 
 /// Copies its argument from register 0 to register 1, adds 5 to that, and returns the copy.
 fn copies(alloc: Global) -> Result<VFunc, AllocError> {
@@ -36,7 +36,7 @@ fn copies(alloc: Global) -> Result<VFunc, AllocError> {
     let mut blocks = Seq::new(alloc);
     blocks.push(Block {
         lines,
-        jump: Jump::Return(Some(Operand::At(1))),
+        jump: Jump::Return(Some(ReturnValue::of(Operand::At(1)))),
     })?;
     Ok(VFunc {
         code: Code {
@@ -80,7 +80,7 @@ fn sums(alloc: Global) -> Result<VFunc, AllocError> {
     let mut blocks = Seq::new(alloc);
     blocks.push(Block {
         lines,
-        jump: Jump::Return(Some(Operand::At(2))),
+        jump: Jump::Return(Some(ReturnValue::of(Operand::At(2)))),
     })?;
     Ok(VFunc {
         code: Code {
@@ -307,7 +307,10 @@ fn copies_are_carried_on(rt: HostRuntime) -> Result<(), Fail> {
     let made = forward(rt.alloc(), &function)?;
     assert_eq!(rt; left_of(&function, 2), Some(Operand::At(1)));
     assert_eq!(rt; left_of(&made, 2), Some(Operand::At(0)));
-    assert_eq!(rt; jump_of(&made, 0), Jump::Return(Some(Operand::At(0))));
+    assert_eq!(rt;
+        jump_of(&made, 0),
+        Jump::Return(Some(ReturnValue::of(Operand::At(0))))
+    );
     assert_eq!(rt; made.registers, 3);
     Ok(())
 }

@@ -195,7 +195,7 @@ jump_low : (n : ℕ) (f : Replacing) → Low n f → (j : Jump ℕ) → jump_kee
 jump_low n f low (Goto k) h = refl
 jump_low n f low (Branch on met otherwise) h = two_low n f low on.left on.right h
 jump_low n f low (Return None) h = refl
-jump_low n f low (Return (Some a)) h = low a h
+jump_low n f low (Return (Some a)) h = low a.value h
 jump_low n f low Halt h = refl
 
 block_low : (n : ℕ) (p : Plan) → nat_lt p.register n ≡ true → (held set : Bool) (b : Block ℕ) → block_keeps (is_below n) b ≡ true → block_keeps (is_below n) (held_block p held set b) ≡ true

@@ -34,14 +34,14 @@ use Rattle.vcode.specs.Operations.{held, operate, loaded, passed}
 use Rattle.vcode.specs.Places.{Values, put, assign, kept, virtual}
 use Rattle.vcode.specs.Coded.{classes_in}
 use Rattle.vcode.specs.Named.{operand_keeps, wanted_keeps, line_keeps, jump_keeps, block_keeps}
-use Rattle.vcode.specs.Step.{State, begin, value_of, read, read_argument, read_all, operated, address_of, goes_on, sets, takes, changes, weighs, ticks, receives, resumes, calls, line_step, enters, compared, branches, returns, jump_step, step}
+use Rattle.vcode.specs.Step.{State, begin, value_of, read, read_argument, read_result, read_all, operated, address_of, goes_on, sets, takes, changes, weighs, ticks, receives, resumes, calls, line_step, enters, compared, branches, returns, jump_step, step}
 use Rattle.vcode.proofs.Lists.{head_at, tail_at, nothing_at, same_some}
 use Rattle.vcode.proofs.Stepping.{step_line, step_jump, step_nowhere}
 use Rattle.loops.specs.Targets.{targets}
 use Rattle.loop_constants.specs.declared.plan.Constant.{Constant}
 use Rattle.loop_constants.specs.declared.plan.Constant.TheVariants.{Number as OfNumber, Name as OfName}
 use Rattle.loop_constants.specs.declared.plan.Plan.{Plan}
-use Rattle.loop_constants.specs.Held.{operand_of, is_it, is_held, is_set, Replacing, replaced, with_base, with_argument, with_line, with_jump, setting, held_block, with_blocks, with_constant, is_other, may_lead, leads_well, is_safe}
+use Rattle.loop_constants.specs.Held.{operand_of, is_it, is_held, is_set, Replacing, replaced, with_base, with_argument, with_line, with_jump, setting, held_block, with_blocks, with_constant, is_other, may_lead, leads_well, is_safe, with_returned}
 
 pub both_true : (a b : Bool) → (a && b) ≡ true → (a ≡ true) × (b ≡ true)
 both_true true b h = (refl, h)
@@ -352,7 +352,7 @@ jump_beside related globals result r s n el f test (Branch on met otherwise) kee
 jump_beside related globals result r s n el f test (Return None) keeps same leads enter = λ fine. refl
 jump_beside related globals None r s n el f test (Return (Some a)) keeps same leads enter = λ fine. absurd fine
 jump_beside related globals (Some k) r s n el f test (Return (Some a)) keeps same leads enter =
-    returns_beside related s n el (read globals s.values k a) (read globals el k (f a)) (ap (option_and_then (in_place k)) (same a keeps))
+    returns_beside related s n el (read_result globals s.values k a) (read_result globals el k (with_returned f a)) (ap (option_and_then (passed a.extension k)) (same a.value keeps))
 jump_beside related globals result r s n el f test Halt keeps same leads enter = λ fine. refl
 
 -- ---- steps for steps

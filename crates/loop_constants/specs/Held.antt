@@ -3,6 +3,7 @@ use Rattle.std.specs.Prelude.{ℕ, ◌+◌, Bool, true, false, not, ◌&&◌, �
 use Rattle.std.specs.Option.{option_map}
 use Rattle.std.specs.List.{list_all}
 use Rattle.vcode.specs.declared.place.Operand.{Operand}
+use Rattle.vcode.specs.declared.place.ReturnValue.{ReturnValue}
 use Rattle.vcode.specs.declared.place.Operand.TheVariants.{At, Number, Name}
 use Rattle.vcode.specs.declared.place.Address.{Address}
 use Rattle.vcode.specs.declared.place.Argument.{Argument}
@@ -54,6 +55,9 @@ with_base f at = record { base = f at.base; offset = at.offset }
 abbrev pub with_argument : Replacing → Argument ℕ → Argument ℕ
 with_argument f a = record { class = a.class; value = f a.value; extension = a.extension }
 
+abbrev pub with_returned : Replacing → ReturnValue ℕ → ReturnValue ℕ
+with_returned f a = record { value = f a.value; extension = a.extension }
+
 abbrev pub with_line : Replacing → Line ℕ → Line ℕ
 with_line f (Tick turn w) = Tick turn w
 with_line f (Set to a) = Set to (f a)
@@ -70,7 +74,7 @@ with_comparison f on = record { condition = on.condition; class = on.class; left
 abbrev pub with_jump : Replacing → Jump ℕ → Jump ℕ
 with_jump f (Goto k) = Goto k
 with_jump f (Branch on met otherwise) = Branch (with_comparison f on) met otherwise
-with_jump f (Return a) = Return (option_map f a)
+with_jump f (Return a) = Return (option_map (with_returned f) a)
 with_jump f Halt = Halt
 
 -- ---- blocks

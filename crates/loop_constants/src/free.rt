@@ -76,7 +76,7 @@ fn mark_jump(named: &mut [bool], jump: &Jump<u32>) {
             mark_operand(named, &on.left);
             mark_operand(named, &on.right);
         }
-        Jump::Return(Some(value)) => mark_operand(named, value),
+        Jump::Return(Some(returned)) => mark_operand(named, &returned.value),
         Jump::Goto(_) | Jump::Return(None) | Jump::Halt => {}
     }
 }

@@ -1,13 +1,13 @@
 //! Blocks that hold a constant.
 ghost use Rattle.std.specs.Prelude.{◌≡◌, ◌++◌, map, OnOk, IfOk};
-ghost use Rattle.loop_constants.specs.Held.{replaced, with_base, with_argument, with_line, with_comparison, with_jump, setting, held_block, with_blocks};
+ghost use Rattle.loop_constants.specs.Held.{replaced, with_base, with_argument, with_returned, with_line, with_comparison, with_jump, setting, held_block, with_blocks};
 
 use crate::plan::Plan;
 use il_ast::list::Seq;
 use std::alloc::{AllocError, Global};
 use vcode::code::Block;
 use vcode::line::{Comparison, Jump, Line};
-use vcode::place::{Address, Argument, Operand};
+use vcode::place::{Address, Argument, Operand, ReturnValue};
 
 fn operand(plan: &Plan, held: bool, from: &Operand<u32>) -> Operand<u32>
     ensures { result ≡ replaced plan.now held from.now }
@@ -35,6 +35,15 @@ fn argument(plan: &Plan, held: bool, from: &Argument<u32>) -> Argument<u32>
         class: from.class,
         value: operand(plan, held, &from.value),
         extension: from.extension,
+    }
+}
+
+fn returned(plan: &Plan, held: bool, value: &ReturnValue<u32>) -> ReturnValue<u32>
+    ensures { result ≡ with_returned (replaced plan.now held) value.now }
+{
+    ReturnValue {
+        value: operand(plan, held, &value.value),
+        extension: value.extension,
     }
 }
 
@@ -137,7 +146,7 @@ fn jump(plan: &Plan, held: bool, from: &Jump<u32>) -> Jump<u32>
             otherwise: *otherwise,
         },
         Jump::Return(None) => Jump::Return(None),
-        Jump::Return(Some(value)) => Jump::Return(Some(operand(plan, held, value))),
+        Jump::Return(Some(value)) => Jump::Return(Some(returned(plan, held, value))),
         Jump::Halt => Jump::Halt,
     }
 }

@@ -92,7 +92,7 @@ fn jump_spares(register: u32, jump: &Jump<u32>) -> bool
             operand_spares(register, &on.left) && operand_spares(register, &on.right)
         }
         Jump::Return(None) => true,
-        Jump::Return(Some(value)) => operand_spares(register, value),
+        Jump::Return(Some(returned)) => operand_spares(register, &returned.value),
         Jump::Halt => true,
     }
 }

@@ -10,7 +10,7 @@ use std::test::Fail;
 use vcode::code::{Block, Code};
 use vcode::function::VFunc;
 use vcode::line::{Comparison, Jump, Line, Operation};
-use vcode::place::{Destination, Operand};
+use vcode::place::{Destination, Operand, ReturnValue};
 
 const FACTOR: u64 = 1_000_003;
 
@@ -66,7 +66,7 @@ fn products(alloc: Global) -> Result<VFunc, AllocError> {
     })?;
     blocks.push(Block {
         lines: last,
-        jump: Jump::Return(Some(Operand::At(1))),
+        jump: Jump::Return(Some(ReturnValue::of(Operand::At(1)))),
     })?;
     Ok(VFunc {
         code: Code {
@@ -161,7 +161,7 @@ fn straight(alloc: Global) -> Result<VFunc, AllocError> {
     })?;
     blocks.push(Block {
         lines: second,
-        jump: Jump::Return(Some(Operand::At(1))),
+        jump: Jump::Return(Some(ReturnValue::of(Operand::At(1)))),
     })?;
     Ok(VFunc {
         code: Code {

@@ -119,7 +119,9 @@ impl Uses {
     fn push_jump(&mut self, jump: &Jump<u32>) -> Result<(), AllocError> {
         match jump {
             Jump::Branch { on, .. } => self.push_two(&on.left, &on.right, where_branching(on)),
-            Jump::Return(Some(value)) => self.push(value, where_copied(value)),
+            Jump::Return(Some(returned)) => {
+                self.push(&returned.value, where_copied(&returned.value))
+            }
             Jump::Goto(_) | Jump::Return(None) | Jump::Halt => Ok(()),
         }
     }

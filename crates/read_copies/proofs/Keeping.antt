@@ -155,7 +155,7 @@ jump_cost_same copies (Goto k) = refl
 jump_cost_same copies (Branch on met otherwise) =
     ap (λ n. n + operand_cost (read_by copies on.right) + branch_cost on.class) (cost_same copies on.left) ∙ ap (λ n. operand_cost on.left + n + branch_cost on.class) (cost_same copies on.right)
 jump_cost_same copies (Return None) = refl
-jump_cost_same copies (Return (Some a)) = ap (λ n. n + 3) (cost_same copies a)
+jump_cost_same copies (Return (Some a)) = ap (λ n. n + 3) (cost_same copies a.value)
 jump_cost_same copies Halt = refl
 
 -- of a line that costs as much, and lines behind it
@@ -259,7 +259,7 @@ jump_low : (n : ℕ) (f : Replacing) → Low n f → (j : Jump ℕ) → jump_kee
 jump_low n f low (Goto k) h = refl
 jump_low n f low (Branch on met otherwise) h = two_low n f low on.left on.right h
 jump_low n f low (Return None) h = refl
-jump_low n f low (Return (Some a)) h = low a h
+jump_low n f low (Return (Some a)) h = low a.value h
 jump_low n f low Halt h = refl
 
 -- ---- the copies that are known are below n

@@ -1,12 +1,12 @@
 //! Lines and jumps that read copies.
 ghost use Rattle.std.specs.Prelude.{◌≡◌, ◌++◌, map, OnOk, IfOk};
-ghost use Rattle.read_copies.specs.Copied.{read_by, with_base, with_argument, with_line, with_comparison, with_jump};
+ghost use Rattle.read_copies.specs.Copied.{read_by, with_base, with_argument, with_returned, with_line, with_comparison, with_jump};
 
 use crate::known::{KnownCopy, copy_of};
 use il_ast::list::Seq;
 use std::alloc::{AllocError, Global};
 use vcode::line::{Comparison, Jump, Line};
-use vcode::place::{Address, Argument, Operand};
+use vcode::place::{Address, Argument, Operand, ReturnValue};
 
 fn operand(known: &[KnownCopy], from: &Operand<u32>) -> Operand<u32>
     ensures { result ≡ read_by known.now from.now }
@@ -33,6 +33,15 @@ fn argument(known: &[KnownCopy], from: &Argument<u32>) -> Argument<u32>
         class: from.class,
         value: operand(known, &from.value),
         extension: from.extension,
+    }
+}
+
+fn returned(known: &[KnownCopy], value: &ReturnValue<u32>) -> ReturnValue<u32>
+    ensures { result ≡ with_returned (read_by known.now) value.now }
+{
+    ReturnValue {
+        value: operand(known, &value.value),
+        extension: value.extension,
     }
 }
 
@@ -143,7 +152,7 @@ pub(crate) fn jump(known: &[KnownCopy], from: &Jump<u32>) -> Jump<u32>
             otherwise: *otherwise,
         },
         Jump::Return(None) => Jump::Return(None),
-        Jump::Return(Some(value)) => Jump::Return(Some(operand(known, value))),
+        Jump::Return(Some(value)) => Jump::Return(Some(returned(known, value))),
         Jump::Halt => Jump::Halt,
     }
 }

@@ -8,7 +8,7 @@ use std::test::Fail;
 use vcode::code::{Block, Code};
 use vcode::function::VFunc;
 use vcode::line::{Jump, Line, Operation};
-use vcode::place::{Argument, Destination, Extension, Operand};
+use vcode::place::{Argument, Destination, Extension, Operand, ReturnValue};
 
 /// Copies its argument, in register 0, to register 1, reads it, and reads it again after register 0 is written.
 fn source_written(alloc: Global) -> Result<VFunc, AllocError> {
@@ -45,7 +45,7 @@ fn source_written(alloc: Global) -> Result<VFunc, AllocError> {
     let mut blocks = Seq::new(alloc);
     blocks.push(Block {
         lines,
-        jump: Jump::Return(Some(Operand::At(0))),
+        jump: Jump::Return(Some(ReturnValue::of(Operand::At(0)))),
     })?;
     Ok(VFunc {
         code: Code {
@@ -101,7 +101,7 @@ fn copy_written(alloc: Global) -> Result<VFunc, AllocError> {
     })?;
     blocks.push(Block {
         lines: second,
-        jump: Jump::Return(Some(Operand::At(0))),
+        jump: Jump::Return(Some(ReturnValue::of(Operand::At(0)))),
     })?;
     Ok(VFunc {
         code: Code {
@@ -146,7 +146,7 @@ fn called(alloc: Global) -> Result<VFunc, AllocError> {
     let mut blocks = Seq::new(alloc);
     blocks.push(Block {
         lines,
-        jump: Jump::Return(Some(Operand::At(0))),
+        jump: Jump::Return(Some(ReturnValue::of(Operand::At(0)))),
     })?;
     Ok(VFunc {
         code: Code {
@@ -192,7 +192,7 @@ fn reads(alloc: Global, function: &VFunc) -> Result<Vec<u32>, AllocError> {
             push_line(&mut reads, line)?;
         }
         match &block.jump {
-            Jump::Return(Some(value)) => push_register(&mut reads, value)?,
+            Jump::Return(Some(returned)) => push_register(&mut reads, &returned.value)?,
             _ => {}
         }
     }

@@ -65,7 +65,7 @@ fn jump_cost(jump: &Jump<u32>) -> u64 {
     match jump {
         Jump::Goto(_) | Jump::Halt | Jump::Return(None) => 2,
         Jump::Branch { on, .. } => operands_cost(&on.left, &on.right).saturating_add(7),
-        Jump::Return(Some(value)) => operand_cost(value).saturating_add(3),
+        Jump::Return(Some(returned)) => operand_cost(&returned.value).saturating_add(3),
     }
 }
 

@@ -214,7 +214,7 @@ fn jump(counting: &mut Counting, jump: &Jump<u32>, often: u64) -> Result<(), All
             read(counting, &on.left, often.saturating_mul(2))?;
             read(counting, &on.right, often.saturating_mul(2))
         }
-        Jump::Return(Some(value)) => pass(counting, value, 0, often),
+        Jump::Return(Some(returned)) => pass(counting, &returned.value, 0, often),
         _ => Ok(()),
     }
 }

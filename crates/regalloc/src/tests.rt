@@ -12,7 +12,7 @@ use std::test::Fail;
 use vcode::code::{Block, Code};
 use vcode::function::VFunc;
 use vcode::line::{Jump, Line, Operation};
-use vcode::place::{Argument, Destination, Extension, Location, Operand};
+use vcode::place::{Argument, Destination, Extension, Location, Operand, ReturnValue};
 
 /// Copies its argument from register 0 to register 1, and returns that.
 fn copying(alloc: Global) -> Result<VFunc, AllocError> {
@@ -41,7 +41,7 @@ fn copying_among(alloc: Global, registers: u32) -> Result<VFunc, AllocError>
     let mut blocks = Seq::new(alloc);
     blocks.push(Block {
         lines,
-        jump: Jump::Return(Some(Operand::At(1))),
+        jump: Jump::Return(Some(ReturnValue::of(Operand::At(1)))),
     })?;
     Ok(VFunc {
         code: Code {
@@ -123,7 +123,7 @@ fn calling(alloc: Global) -> Result<VFunc, AllocError> {
     let mut blocks = Seq::new(alloc);
     blocks.push(Block {
         lines,
-        jump: Jump::Return(Some(Operand::At(1))),
+        jump: Jump::Return(Some(ReturnValue::of(Operand::At(1)))),
     })?;
     Ok(VFunc {
         code: Code {

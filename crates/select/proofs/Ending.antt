@@ -36,8 +36,8 @@ use Rattle.vcode.specs.declared.line.Line.TheVariants.{Tick}
 use Rattle.vcode.specs.declared.code.Block.{Block as VirtualBlock}
 use Rattle.vcode.specs.Operations.{held, operate}
 use Rattle.vcode.specs.Places.{Values, virtual, put, unknown}
-use Rattle.vcode.specs.Step.{State, value_of, read, ticks, line_step, jump_step, enters, compared, branches, returns, bound, begin as begin_code, step as step_code}
-use Rattle.select.specs.Selected.{not_zero, operand_of, parameter_of, copy_lines, assignment_lines, ending_lines, jump_of, block_of, edge_of, all_lines, selected}
+use Rattle.vcode.specs.Step.{State, value_of, read, ticks, line_step, jump_step, enters, compared, branches, returns, bound, begin as begin_code, step as step_code, read_result}
+use Rattle.select.specs.Selected.{not_zero, operand_of, parameter_of, copy_lines, assignment_lines, ending_lines, jump_of, block_of, edge_of, all_lines, selected, result_of}
 use Rattle.select.specs.Typed.{Classes, Fits, CopiesFit, LeaveFits, EndingFits, ReturnFits, ParamsFit, IsTyped}
 use Rattle.select.specs.Keeping.{KeepsEndings}
 use Rattle.select.proofs.Going.{Setting, go, Left, Go, goes_line, goes_jump, left_further, gone, go_both}
@@ -170,7 +170,7 @@ leave_matched w s u b (Return None) fits a =
     (jumps w s u b (Return None) a ∙ ap (λ o. Does (Over o)) (returned_is u s None a.memory a.owned a.spent))
 leave_matched w s u b (Return (Some x)) fits a = by w.func.result fits (jumps w s u b (Return (Some x)) a)
   where
-    by_value : (k : Class) (v : Option Value) → Fits w.classes k x → operand w.globals s.locals.temps k x ≡ v → go (within w) u ≡ returns u (read w.globals u.values k (operand_of x)) → MatchesEvent (Related w) Fine (go (within w)) (source_returns s v) u
+    by_value : (k : Class) (v : Option Value) → Fits w.classes k x → operand w.globals s.locals.temps k x ≡ v → go (within w) u ≡ returns u (read_result w.globals u.values k (result_of x)) → MatchesEvent (Related w) Fine (go (within w)) (source_returns s v) u
     by_value k None fit e g = λ fine. absurd fine
     by_value k (Some v) fit e g =
         over w u (Returned s.spent (Some v) (free_all s.memory s.locals.owned))

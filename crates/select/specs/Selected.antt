@@ -36,6 +36,7 @@ use Rattle.rv_isa.specs.declared.instruction.RegWOp.TheVariants.{Addw, Subw, Sll
 use Rattle.rv_isa.specs.declared.instruction.LoadOp.{LoadOp}
 use Rattle.rv_isa.specs.declared.instruction.LoadOp.TheVariants.{Ld, Lw, Lwu, Lh, Lhu, Lb, Lbu}
 use Rattle.vcode.specs.declared.place.Operand.{Operand}
+use Rattle.vcode.specs.declared.place.ReturnValue.{ReturnValue}
 use Rattle.vcode.specs.declared.place.Operand.TheVariants.{At, Number, Name}
 use Rattle.vcode.specs.declared.place.Destination.{Destination}
 use Rattle.vcode.specs.declared.place.Argument.{Argument}
@@ -61,6 +62,9 @@ operand_of (Global g) = Name g
 
 abbrev pub destination_of : Dest → Destination ℕ
 destination_of d = record { place = d.temp; class = d.class }
+
+abbrev pub result_of : Val → ReturnValue ℕ
+result_of a = record { value = operand_of a; extension = Made }
 
 abbrev pub argument_of : Arg → Argument ℕ
 argument_of a = record { class = a.class; value = operand_of a.value; extension = Made }
@@ -222,7 +226,7 @@ ending_lines classes e = Tick e.turn e.weight ∷ assignment_lines classes e.cop
 abbrev pub jump_of : Classes → Leave → Jump ℕ
 jump_of classes (Goto k) = GotoBlock k
 jump_of classes (Branch on nonzero otherwise) = BranchTo (not_zero classes (operand_of on)) nonzero otherwise
-jump_of classes (Return a) = ReturnWith (option_map operand_of a)
+jump_of classes (Return a) = ReturnWith (option_map result_of a)
 jump_of classes Halt = HaltRun
 
 -- ---- blocks

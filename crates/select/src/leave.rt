@@ -12,6 +12,7 @@ use il_ast::operation::Class;
 use phi_copies::ending::{Assignment, Ending, Leave};
 use std::alloc::AllocError;
 use vcode::line::{Jump, Line};
+use vcode::place::{Extension, ReturnValue};
 
 fn push_copies(
     classes: &[Class],
@@ -59,7 +60,10 @@ pub(crate) fn jump_of(classes: &[Class], leave: Leave) -> Jump<u32>
             otherwise,
         },
         Leave::Return(None) => Jump::Return(None),
-        Leave::Return(Some(value)) => Jump::Return(Some(operand(value))),
+        Leave::Return(Some(value)) => Jump::Return(Some(ReturnValue {
+            value: operand(value),
+            extension: Extension::Made,
+        })),
         Leave::Halt => Jump::Halt,
     }
 }

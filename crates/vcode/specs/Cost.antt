@@ -3,6 +3,7 @@ use Rattle.std.specs.Prelude.{ℕ, ◌+◌, ◌-◌, ◌*◌, ◌/◌, ◌%◌, 
 use Rattle.il_ast.specs.declared.operation.Class.{Class}
 use Rattle.il_ast.specs.declared.operation.Class.TheVariants.{W, L}
 use Rattle.vcode.specs.declared.place.Operand.{Operand}
+use Rattle.vcode.specs.declared.place.ReturnValue.{ReturnValue}
 use Rattle.vcode.specs.declared.place.Operand.TheVariants.{At, Number, Name}
 use Rattle.vcode.specs.declared.line.Operation.{Operation}
 use Rattle.vcode.specs.declared.line.Operation.TheVariants.{Reg, RegW, Compare}
@@ -41,9 +42,9 @@ line_cost (Alloc to size) = 3 + place_cost
 line_cost (Blit from to count) = operand_cost from + operand_cost to + 8 * ((count + 7) / 8)
 line_cost (Call to callee args) = 20 + 24 * length args
 
-abbrev pub return_cost : {P : Type 0} → Option (Operand P) → ℕ
+abbrev pub return_cost : {P : Type 0} → Option (ReturnValue P) → ℕ
 return_cost None = 2
-return_cost (Some a) = operand_cost a + 3
+return_cost (Some a) = operand_cost a.value + 3
 
 -- a word is extended before it is compared
 abbrev pub branch_cost : Class → ℕ

@@ -8,6 +8,7 @@ use Rattle.rv_isa.specs.declared.instruction.RegOp.TheVariants.{Add, Sub}
 use Rattle.rv_isa.specs.declared.instruction.RegWOp.TheVariants.{Addw}
 use Rattle.rv_isa.specs.declared.instruction.LoadOp.TheVariants.{Lw, Ld, Lbu}
 use Rattle.vcode.specs.declared.place.Operand.{Operand}
+use Rattle.vcode.specs.declared.place.ReturnValue.{ReturnValue}
 use Rattle.vcode.specs.declared.place.Operand.TheVariants.{At, Number, Name}
 use Rattle.vcode.specs.declared.place.Destination.{Destination}
 use Rattle.vcode.specs.declared.place.Extension.TheVariants.{Made}
@@ -29,6 +30,9 @@ block lines jump = record { lines = lines; jump = jump }
 abbrev pub destination : {P : Type 0} → P → Class → Destination P
 destination p c = record { place = p; class = c }
 
+abbrev pub returned : {P : Type 0} → Operand P → Option (ReturnValue P)
+returned a = Some (record { value = a; extension = Made })
+
 abbrev pub code : {P : Type 0} → Option Class → List (Destination P) → List (Block P) → Code P
 code result params blocks = record { result = result; params = params; blocks = blocks }
 
@@ -49,12 +53,12 @@ sum =
     ∷ Tick true 1
     ∷ [])
     (Branch (not_zero (At 0)) 1 2)
-    ∷ block (Tick true 1 ∷ []) (Return (Some (At 1)))
+    ∷ block (Tick true 1 ∷ []) (Return (returned (At 1)))
     ∷ [])
 
 -- one block with nothing to spend
 abbrev pub straight : {P : Type 0} → Class → List (Destination P) → List (Line P) → Operand P → Code P
-straight k params lines a = code (Some k) params (block lines (Return (Some a)) ∷ [])
+straight k params lines a = code (Some k) params (block lines (Return (returned a)) ∷ [])
 
 -- the argument, given as a word and returned as a value of class k
 abbrev pub word_as : Class → Code ℕ
@@ -68,7 +72,7 @@ long_as_word = straight W (destination 0 L ∷ []) [] (At 0)
 abbrev pub is_nonzero : Code ℕ
 is_nonzero =
     code (Some W) (destination 0 L ∷ [])
-    (block [] (Branch (not_zero (At 0)) 1 2) ∷ block [] (Return (Some (Number 1))) ∷ block [] (Return (Some (Number 0))) ∷ [])
+    (block [] (Branch (not_zero (At 0)) 1 2) ∷ block [] (Return (returned (Number 1))) ∷ block [] (Return (returned (Number 0))) ∷ [])
 
 -- a call of the function that name 0 means, with 5 from a slot and 7 from x6; then a sum of its result, wanted in x10, and an operand
 abbrev pub caller : Operand Location → Code Location

@@ -42,7 +42,7 @@ abbrev pub jump_keeps : {P : Type 0} → (P → Bool) → Jump P → Bool
 jump_keeps test (Goto k) = true
 jump_keeps test (Branch on met otherwise) = operand_keeps test on.left && operand_keeps test on.right
 jump_keeps test (Return None) = true
-jump_keeps test (Return (Some a)) = operand_keeps test a
+jump_keeps test (Return (Some a)) = operand_keeps test a.value
 jump_keeps test Halt = true
 
 abbrev pub block_keeps : {P : Type 0} → (P → Bool) → Block P → Bool

@@ -14,6 +14,7 @@ use Rattle.il_ast.specs.Run.{Spent, nothing, one_turn, both, Outcome, Returned, 
 use Rattle.il_ast.specs.Logged.{Next, On, Over, Event, Does, Calls}
 use Rattle.il_ast.specs.Keeps.{Asked, Given}
 use Rattle.vcode.specs.declared.place.Operand.{Operand}
+use Rattle.vcode.specs.declared.place.ReturnValue.{ReturnValue}
 use Rattle.vcode.specs.declared.place.Operand.TheVariants.{At, Number, Name}
 use Rattle.vcode.specs.declared.place.Destination.{Destination}
 use Rattle.vcode.specs.declared.place.Argument.{Argument}
@@ -73,6 +74,10 @@ read globals values k a = option_and_then (in_place k) (value_of globals values 
 
 abbrev pub read_argument : {P : Type 0} → List Value → Values P → Argument P → Option Value
 read_argument globals values a = option_and_then (passed a.extension a.class) (value_of globals values a.value)
+
+-- what is returned as a result of class k
+abbrev pub read_result : {P : Type 0} → List Value → Values P → Class → ReturnValue P → Option Value
+read_result globals values k a = option_and_then (passed a.extension k) (value_of globals values a.value)
 
 abbrev pub read_all : {P : Type 0} → List Value → Values P → List (Argument P) → Option (List Value)
 read_all globals values [] = Some []
@@ -196,7 +201,7 @@ jump_step globals result s (Goto k) = enters s k
 jump_step globals result s (Branch on met otherwise) = branches s met otherwise (compared globals s on)
 jump_step globals result s (Return None) = Does (Over (Returned s.spent None (free_all s.memory s.owned)))
 jump_step globals None s (Return (Some a)) = fails s
-jump_step globals (Some k) s (Return (Some a)) = returns s (read globals s.values k a)
+jump_step globals (Some k) s (Return (Some a)) = returns s (read_result globals s.values k a)
 jump_step globals result s Halt = Does (Over (Ended s.spent Halted))
 
 -- ---- a step

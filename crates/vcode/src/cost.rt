@@ -79,7 +79,7 @@ fn jump_cost<P>(jump: &Jump<P>) -> u128
             operand_cost(&on.left) + operand_cost(&on.right) + branch_cost(on.class)
         }
         Jump::Return(None) => 2,
-        Jump::Return(Some(value)) => operand_cost(value) + 3,
+        Jump::Return(Some(returned)) => operand_cost(&returned.value) + 3,
         Jump::Halt => 1,
     }
 }

@@ -9,8 +9,8 @@
 //! pointers have no addresses. What a line costs of the source's turns and weight stands in lines of its own, ticks.
 //!
 //! `specs/` has the meaning, one for both codes, as a step into the next state or a call (`Step`), over a way to tell places apart and to say which ones a call
-//! makes unknown (`Places`). A word stands sign-extended in a place and is read by its low 32 bits; where an argument is claimed to stand so and doesn't, the
-//! call is undefined. `Regular` has what every code keeps, as invariants of the types: where jumps lead, where blocks of memory are made, and that the weight of
+//! makes unknown (`Places`). A word stands sign-extended in a place and is read by its low 32 bits; where an argument or a result is claimed to stand so and
+//! doesn't, the call or the return is undefined. `Regular` has what every code keeps, as invariants of the types: where jumps lead, where blocks of memory are made, and that the weight of
 //! its ticks pays for the instructions that a line becomes (`Cost`).
 //!
 //! The crate stands on `il_ast` for values, memory and calls, and on `rv_isa` for the operations.

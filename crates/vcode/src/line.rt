@@ -1,7 +1,7 @@
 //! Lines of code, and what ends a block.
 ghost use Rattle.std.specs.Prelude.{◌≡◌, IfOk};
 
-use crate::place::{Address, Argument, Destination, Operand};
+use crate::place::{Address, Argument, Destination, Operand, ReturnValue};
 use il_ast::list::Seq;
 use il_ast::operation::{Class, Condition, Size};
 use rv_isa::instruction::{LoadOp, RegOp, RegWOp};
@@ -143,7 +143,7 @@ pub enum Jump<P> {
         otherwise: usize,
     },
     /// from the function, with a value of its result's class or with none
-    Return(Option<Operand<P>>),
+    Return(Option<ReturnValue<P>>),
     /// ends the run
     Halt,
 }

@@ -93,3 +93,23 @@ pub struct Argument<P> {
     pub value: Operand<P>,
     pub extension: Extension,
 }
+
+/// A value that a function returns, as one of the class of its result.
+#[derive(Clone, Copy, Debug, PartialEq, Eq)]
+pub struct ReturnValue<P> {
+    pub value: Operand<P>,
+    pub extension: Extension,
+}
+
+impl<P> ReturnValue<P> {
+    /// The value of the operand, of which nothing is claimed.
+    pub fn of(value: Operand<P>) -> ReturnValue<P>
+        ensures value { result.value ≡ value }
+        ensures extension { result.extension ≡ Extension.Made }
+    {
+        ReturnValue {
+            value,
+            extension: Extension::Made,
+        }
+    }
+}

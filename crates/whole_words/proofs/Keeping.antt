@@ -13,15 +13,16 @@ use Rattle.vcode.specs.declared.line.Operation.{Operation}
 use Rattle.vcode.specs.declared.line.Line.{Line}
 use Rattle.vcode.specs.declared.line.Line.TheVariants.{Tick, Set, Operate, Load, Store, Alloc, Blit, Call}
 use Rattle.vcode.specs.declared.line.Jump.{Jump}
+use Rattle.vcode.specs.declared.line.Jump.TheVariants.{Goto, Branch, Return, Halt}
 use Rattle.vcode.specs.declared.code.Block.{Block}
 use Rattle.vcode.specs.declared.code.Code.{Code}
 use Rattle.vcode.specs.Coded.{classes_in, coded}
-use Rattle.vcode.specs.Cost.{line_cost, affords, is_paid}
+use Rattle.vcode.specs.Cost.{line_cost, jump_cost, affords, is_paid}
 use Rattle.vcode.specs.Named.{operand_keeps, wanted_keeps, line_keeps, jump_keeps, block_keeps, keeps_places, is_below}
 use Rattle.vcode.specs.Outgoing.{args_on_stack, most_in_lines, most_in_blocks}
 use Rattle.vcode.specs.Places.{virtual}
 use Rattle.vcode.specs.Regular.{leads_inside, is_alloc, allocs_first, alloc_bytes, area, turns_of, passes_few, weight_of, code_weight, IsRegular}
-use Rattle.whole_words.specs.Whole.{is_marked, takes_whole, wants_whole, keeps_marks, are_closed, is_extension, with_claim, with_copy, with_copies}
+use Rattle.whole_words.specs.Whole.{is_marked, takes_whole, wants_whole, keeps_marks, are_closed, is_extension, with_claim, jump_claim, with_copy, with_copies}
 use Rattle.whole_words.proofs.Running.{Copied, runs}
 
 -- ---- without marks
@@ -159,6 +160,28 @@ most_blocks : (marks : List Bool) (bs : List (Block ℕ)) → most_in_blocks (ma
 most_blocks marks [] = refl
 most_blocks marks (b ∷ bs) = ap (λ n. max n (most_in_blocks (map (with_copies marks) bs))) (most_lines marks b.lines) ∙ ap (λ n. max (most_in_lines b.lines) n) (most_blocks marks bs)
 
+-- ---- of a jump
+
+claim_costs : (marks : List Bool) (j : Jump ℕ) → jump_cost (jump_claim marks j) ≡ jump_cost j
+claim_costs marks (Goto k) = refl
+claim_costs marks (Branch on met otherwise) = refl
+claim_costs marks (Return None) = refl
+claim_costs marks (Return (Some a)) = refl
+claim_costs marks Halt = refl
+
+claim_leads : (marks : List Bool) (n : ℕ) (j : Jump ℕ) → leads_inside n (jump_claim marks j) ≡ leads_inside n j
+claim_leads marks n (Goto k) = refl
+claim_leads marks n (Branch on met otherwise) = refl
+claim_leads marks n (Return a) = refl
+claim_leads marks n Halt = refl
+
+claim_names : (marks : List Bool) (test : ℕ → Bool) (j : Jump ℕ) → jump_keeps test (jump_claim marks j) ≡ jump_keeps test j
+claim_names marks test (Goto k) = refl
+claim_names marks test (Branch on met otherwise) = refl
+claim_names marks test (Return None) = refl
+claim_names marks test (Return (Some a)) = refl
+claim_names marks test Halt = refl
+
 -- ---- what pays
 
 -- a line that costs no more, with no less paid
@@ -171,50 +194,53 @@ spends cost less credit more rest now h k go paid =
 left_more : (cost less credit more : ℕ) → less ≤ cost → credit ≤ more → nat_le cost credit ≡ true → credit - cost ≤ more - less
 left_more cost less credit more h k e = let le : cost ≤ credit = grind (arith, nat_tests) in omega (arith, le)
 
-operate_affords : (marks : List Bool) (j : Jump ℕ) (ls : List (Line ℕ)) (to : ℕ) (op : Operation) (a b : Operand ℕ) (credit more : ℕ) → credit ≤ more
-    → ((less least : ℕ) → less ≤ least → affords less j ls ≡ true → affords least j (map (with_copy marks) ls) ≡ true)
-    → (t : Bool) → affords credit j (Operate to op a b ∷ ls) ≡ true → affords more j ((if t then Set to a else Operate to op a b) ∷ map (with_copy marks) ls) ≡ true
-operate_affords marks j ls to op a b credit more le go true h =
+operate_affords : (marks : List Bool) (j i : Jump ℕ) (ls : List (Line ℕ)) (to : ℕ) (op : Operation) (a b : Operand ℕ) (credit more : ℕ) → credit ≤ more
+    → ((less least : ℕ) → less ≤ least → affords less j ls ≡ true → affords least i (map (with_copy marks) ls) ≡ true)
+    → (t : Bool) → affords credit j (Operate to op a b ∷ ls) ≡ true → affords more i ((if t then Set to a else Operate to op a b) ∷ map (with_copy marks) ls) ≡ true
+operate_affords marks j i ls to op a b credit more le go true h =
     let l : Line ℕ = Operate to op a b in
     let m : Line ℕ = Set to a in
-    spends (line_cost l) (line_cost m) credit more (affords (credit - line_cost l) j ls) (affords (more - line_cost m) j (map (with_copy marks) ls)) (omega arith) le
+    spends (line_cost l) (line_cost m) credit more (affords (credit - line_cost l) j ls) (affords (more - line_cost m) i (map (with_copy marks) ls)) (omega arith) le
     (λ e. go (credit - line_cost l) (more - line_cost m) (left_more (line_cost l) (line_cost m) credit more (omega arith) le e)) h
-operate_affords marks j ls to op a b credit more le go false h =
+operate_affords marks j i ls to op a b credit more le go false h =
     let l : Line ℕ = Operate to op a b in
-    spends (line_cost l) (line_cost l) credit more (affords (credit - line_cost l) j ls) (affords (more - line_cost l) j (map (with_copy marks) ls)) (omega arith) le
+    spends (line_cost l) (line_cost l) credit more (affords (credit - line_cost l) j ls) (affords (more - line_cost l) i (map (with_copy marks) ls)) (omega arith) le
     (λ e. go (credit - line_cost l) (more - line_cost l) (omega (arith, le))) h
 
-same_affords : (marks : List Bool) (j : Jump ℕ) (ls : List (Line ℕ)) (credit more : ℕ) → credit ≤ more → affords credit j ls ≡ true → affords more j (map (with_copy marks) ls) ≡ true
-same_affords marks j [] credit more le h = grind (arith, nat_tests)
-same_affords marks j (Tick turn w ∷ ls) credit more le h = same_affords marks j ls (credit + 32 * w) (more + 32 * w) (omega (arith, le)) h
-same_affords marks j (Set to a ∷ ls) credit more le h =
+paid_more : (cost less credit more : ℕ) → less ≡ cost → credit ≤ more → nat_le cost credit ≡ true → nat_le less more ≡ true
+paid_more cost less credit more same le h = grind (arith, nat_tests)
+
+same_affords : (marks : List Bool) (j i : Jump ℕ) → jump_cost i ≡ jump_cost j → (ls : List (Line ℕ)) (credit more : ℕ) → credit ≤ more → affords credit j ls ≡ true → affords more i (map (with_copy marks) ls) ≡ true
+same_affords marks j i same [] credit more le h = paid_more (jump_cost j) (jump_cost i) credit more same le h
+same_affords marks j i same (Tick turn w ∷ ls) credit more le h = same_affords marks j i same ls (credit + 32 * w) (more + 32 * w) (omega (arith, le)) h
+same_affords marks j i same (Set to a ∷ ls) credit more le h =
     let l : Line ℕ = Set to a in
-    spends (line_cost l) (line_cost l) credit more (affords (credit - line_cost l) j ls) (affords (more - line_cost l) j (map (with_copy marks) ls)) (omega arith) le
-    (λ e. same_affords marks j ls (credit - line_cost l) (more - line_cost l) (omega (arith, le))) h
-same_affords marks j (Operate to op a b ∷ ls) credit more le h =
-    operate_affords marks j ls to op a b credit more le (λ less least e. same_affords marks j ls less least e) (is_extension marks op a b) h
-same_affords marks j (Load to op at ∷ ls) credit more le h =
+    spends (line_cost l) (line_cost l) credit more (affords (credit - line_cost l) j ls) (affords (more - line_cost l) i (map (with_copy marks) ls)) (omega arith) le
+    (λ e. same_affords marks j i same ls (credit - line_cost l) (more - line_cost l) (omega (arith, le))) h
+same_affords marks j i same (Operate to op a b ∷ ls) credit more le h =
+    operate_affords marks j i ls to op a b credit more le (λ less least e. same_affords marks j i same ls less least e) (is_extension marks op a b) h
+same_affords marks j i same (Load to op at ∷ ls) credit more le h =
     let l : Line ℕ = Load to op at in
-    spends (line_cost l) (line_cost l) credit more (affords (credit - line_cost l) j ls) (affords (more - line_cost l) j (map (with_copy marks) ls)) (omega arith) le
-    (λ e. same_affords marks j ls (credit - line_cost l) (more - line_cost l) (omega (arith, le))) h
-same_affords marks j (Store size a at ∷ ls) credit more le h =
+    spends (line_cost l) (line_cost l) credit more (affords (credit - line_cost l) j ls) (affords (more - line_cost l) i (map (with_copy marks) ls)) (omega arith) le
+    (λ e. same_affords marks j i same ls (credit - line_cost l) (more - line_cost l) (omega (arith, le))) h
+same_affords marks j i same (Store size a at ∷ ls) credit more le h =
     let l : Line ℕ = Store size a at in
-    spends (line_cost l) (line_cost l) credit more (affords (credit - line_cost l) j ls) (affords (more - line_cost l) j (map (with_copy marks) ls)) (omega arith) le
-    (λ e. same_affords marks j ls (credit - line_cost l) (more - line_cost l) (omega (arith, le))) h
-same_affords marks j (Alloc to size ∷ ls) credit more le h =
+    spends (line_cost l) (line_cost l) credit more (affords (credit - line_cost l) j ls) (affords (more - line_cost l) i (map (with_copy marks) ls)) (omega arith) le
+    (λ e. same_affords marks j i same ls (credit - line_cost l) (more - line_cost l) (omega (arith, le))) h
+same_affords marks j i same (Alloc to size ∷ ls) credit more le h =
     let l : Line ℕ = Alloc to size in
-    spends (line_cost l) (line_cost l) credit more (affords (credit - line_cost l) j ls) (affords (more - line_cost l) j (map (with_copy marks) ls)) (omega arith) le
-    (λ e. same_affords marks j ls (credit - line_cost l) (more - line_cost l) (omega (arith, le))) h
-same_affords marks j (Blit from to count ∷ ls) credit more le h =
+    spends (line_cost l) (line_cost l) credit more (affords (credit - line_cost l) j ls) (affords (more - line_cost l) i (map (with_copy marks) ls)) (omega arith) le
+    (λ e. same_affords marks j i same ls (credit - line_cost l) (more - line_cost l) (omega (arith, le))) h
+same_affords marks j i same (Blit from to count ∷ ls) credit more le h =
     let l : Line ℕ = Blit from to count in
-    spends (line_cost l) (line_cost l) credit more (affords (credit - line_cost l) j ls) (affords (more - line_cost l) j (map (with_copy marks) ls)) (omega arith) le
-    (λ e. same_affords marks j ls (credit - line_cost l) (more - line_cost l) (omega (arith, le))) h
-same_affords marks j (Call to callee args ∷ ls) credit more le h =
+    spends (line_cost l) (line_cost l) credit more (affords (credit - line_cost l) j ls) (affords (more - line_cost l) i (map (with_copy marks) ls)) (omega arith) le
+    (λ e. same_affords marks j i same ls (credit - line_cost l) (more - line_cost l) (omega (arith, le))) h
+same_affords marks j i same (Call to callee args ∷ ls) credit more le h =
     let l : Line ℕ = Call to callee args in
     let m : Line ℕ = Call to callee (map (with_claim marks) args) in
     let many = length-map args (with_claim marks) in
-    spends (line_cost l) (line_cost m) credit more (affords (credit - line_cost l) j ls) (affords (more - line_cost m) j (map (with_copy marks) ls)) (omega (arith, many)) le
-    (λ e. same_affords marks j ls (credit - line_cost l) (more - line_cost m) (omega (arith, le, many))) h
+    spends (line_cost l) (line_cost m) credit more (affords (credit - line_cost l) j ls) (affords (more - line_cost m) i (map (with_copy marks) ls)) (omega (arith, many)) le
+    (λ e. same_affords marks j i same ls (credit - line_cost l) (more - line_cost m) (omega (arith, le, many))) h
 
 -- ---- the places that it names
 
@@ -238,7 +264,8 @@ line_low marks n (Call to callee args) h =
 block_low : (marks : List Bool) (n : ℕ) (b : Block ℕ) → block_keeps (is_below n) b ≡ true → block_keeps (is_below n) (with_copies marks b) ≡ true
 block_low marks n b h =
     let s = both_true (list_all (line_keeps (is_below n)) b.lines) (jump_keeps (is_below n) b.jump) h in
-    both_are (list_all (line_keeps (is_below n)) (map (with_copy marks) b.lines)) (jump_keeps (is_below n) b.jump) (all_kept (line_keeps (is_below n)) (with_copy marks) (line_low marks n) b.lines s.0) s.1
+    both_are (list_all (line_keeps (is_below n)) (map (with_copy marks) b.lines)) (jump_keeps (is_below n) (jump_claim marks b.jump)) (all_kept (line_keeps (is_below n)) (with_copy marks) (line_low marks n) b.lines s.0)
+    (claim_names marks (is_below n) b.jump ∙ s.1)
 
 -- ---- the whole
 
@@ -277,10 +304,10 @@ regular marks v w c is =
       few_params = ap (λ (ps : List (Destination ℕ)). nat_le (length ps) 64) c.params ∙ is.few_params;
       inside =
           ap (λ m. list_all (λ (b : Block ℕ). leads_inside m b.jump) w.blocks) (ap length c.blocks ∙ length-map v.blocks (with_copies marks))
-          ∙ blocks_same marks (λ (b : Block ℕ). leads_inside (length v.blocks) b.jump) (λ b. refl) v w c is.inside;
+          ∙ blocks_same marks (λ (b : Block ℕ). leads_inside (length v.blocks) b.jump) (λ b. claim_leads marks (length v.blocks) b.jump) v w c is.inside;
       first = ap allocs_first c.blocks ∙ first_kept marks v.blocks is.first;
       small = ap (λ m. nat_le m 1048576) (area_same marks v w c) ∙ is.small;
-      paid = ap (list_all is_paid) c.blocks ∙ all_kept is_paid (with_copies marks) (λ b paid. same_affords marks b.jump b.lines 0 0 (omega arith) paid) v.blocks is.paid;
+      paid = ap (list_all is_paid) c.blocks ∙ all_kept is_paid (with_copies marks) (λ b paid. same_affords marks b.jump (jump_claim marks b.jump) (claim_costs marks b.jump) b.lines 0 0 (omega arith) paid) v.blocks is.paid;
       paced =
           blocks_same marks (λ (b : Block ℕ). nat_le (sum_by turns_of b.lines) 40000) (λ b. ap (λ m. nat_le m 40000) (sum_same turns_of (with_copy marks) (turns_stay marks) b.lines)) v w c is.paced;
       few_args = blocks_same marks (λ (b : Block ℕ). list_all passes_few b.lines) (λ b. all_same passes_few (with_copy marks) (few_stays marks) b.lines) v w c is.few_args;

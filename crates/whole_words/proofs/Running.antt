@@ -37,8 +37,8 @@ use Rattle.vcode.specs.declared.code.Code.{Code}
 use Rattle.vcode.specs.Operations.{held, passed, operate, loaded}
 use Rattle.vcode.specs.Places.{Values, unknown, put, assign, kept, virtual}
 use Rattle.vcode.specs.Coded.{classes_in}
-use Rattle.vcode.specs.Step.{State, bound, begin, value_of, read, read_argument, read_all, fails, goes_on, sets, takes, changes, ticks, receives, resumes, calls, line_step, compared, branches, returns, jump_step, block_step, step_in, step, address_of}
-use Rattle.whole_words.specs.Whole.{is_marked, is_whole, gives_whole, loads_whole, is_word, takes_whole, wants_whole, keeps_marks, are_closed, is_extension, with_claim, with_copy, with_copies}
+use Rattle.vcode.specs.Step.{State, bound, begin, value_of, read, read_argument, read_result, read_all, fails, goes_on, sets, takes, changes, ticks, receives, resumes, calls, line_step, compared, branches, returns, jump_step, block_step, step_in, step, address_of}
+use Rattle.whole_words.specs.Whole.{is_marked, is_whole, gives_whole, loads_whole, is_word, takes_whole, wants_whole, keeps_marks, are_closed, is_extension, claim, with_claim, jump_claim, with_copy, with_copies}
 use Rattle.whole_words.proofs.Values.{Whole, IfWhole, AreWhole, whole_number, assign_whole, operand_whole, then_whole, operate_whole, load_whole, held_whole, extension_is}
 
 -- ---- events that go on so
@@ -148,7 +148,7 @@ jump_whole marks globals result s (Branch on met otherwise) all = by (compared g
     by (Some (Function g)) = tt
 jump_whole marks globals result s (Return None) all = tt
 jump_whole marks globals None s (Return (Some a)) all = tt
-jump_whole marks globals (Some k) s (Return (Some a)) all = by (read globals s.values k a)
+jump_whole marks globals (Some k) s (Return (Some a)) all = by (read_result globals s.values k a)
   where
     by : (o : Option Value) → OnEvent (WholeIn marks) (returns s o)
     by None = tt
@@ -237,18 +237,18 @@ whole_passed : (e : Extension) (k : Class) (o : Option Value) → IfWhole o → 
 whole_passed e k None h = refl
 whole_passed e k (Some v) h = value_passed e k v h
 
-claim_same : (marks : List Bool) (globals : List Value) (values : Values ℕ) (a : Argument ℕ) → AreWhole marks values → read_argument globals values (with_claim marks a) ≡ read_argument globals values a
-claim_same marks globals values a all = by (is_whole marks a.value) refl
+claim_same : (marks : List Bool) (globals : List Value) (values : Values ℕ) (k : Class) (a : Operand ℕ) (e : Extension) → AreWhole marks values
+    → option_and_then (passed (claim marks a e) k) (value_of globals values a) ≡ option_and_then (passed e k) (value_of globals values a)
+claim_same marks globals values k a e all = by (is_whole marks a) refl
   where
-    by : (t : Bool) → is_whole marks a.value ≡ t
-        → option_and_then (passed (if t then Claimed else a.extension) a.class) (value_of globals values a.value) ≡ option_and_then (passed a.extension a.class) (value_of globals values a.value)
-    by false e = refl
-    by true e = whole_passed a.extension a.class (value_of globals values a.value) (operand_whole marks globals values a.value all e)
+    by : (t : Bool) → is_whole marks a ≡ t → option_and_then (passed (if t then Claimed else e) k) (value_of globals values a) ≡ option_and_then (passed e k) (value_of globals values a)
+    by false h = refl
+    by true h = whole_passed e k (value_of globals values a) (operand_whole marks globals values a all h)
 
 claims_same : (marks : List Bool) (globals : List Value) (values : Values ℕ) (args : List (Argument ℕ)) → AreWhole marks values → read_all globals values (map (with_claim marks) args) ≡ read_all globals values args
 claims_same marks globals values [] all = refl
 claims_same marks globals values (a ∷ args) all =
-    ap (option_and_then (λ v. option_map (λ vs. v ∷ vs) (read_all globals values (map (with_claim marks) args)))) (claim_same marks globals values a all)
+    ap (option_and_then (λ v. option_map (λ vs. v ∷ vs) (read_all globals values (map (with_claim marks) args)))) (claim_same marks globals values a.class a.value a.extension all)
     ∙ ap (λ (x : Option (List Value)). option_and_then (λ v. option_map (λ vs. v ∷ vs) x) (read_argument globals values a)) (claims_same marks globals values args all)
 
 classes_same : (marks : List Bool) (args : List (Argument ℕ)) → map (λ (a : Argument ℕ). a.class) (map (with_claim marks) args) ≡ map (λ (a : Argument ℕ). a.class) args
@@ -279,6 +279,18 @@ unfolding line_step
 call_same marks globals i s to callee args all =
     ap (calls virtual i s to (map (with_claim marks) args) (value_of globals s.values callee)) (claims_same marks globals s.values args all)
     ∙ asked_same marks i s to args (value_of globals s.values callee) (read_all globals s.values args)
+
+-- ---- a jump beside the one with a claim
+
+jump_same : (marks : List Bool) (globals : List Value) (result : Option Class) (s : State ℕ) (j : Jump ℕ) → AreWhole marks s.values
+    → jump_step globals result s (jump_claim marks j) ≡ jump_step globals result s j
+unfolding jump_step
+jump_same marks globals result s (Goto k) all = refl
+jump_same marks globals result s (Branch on met otherwise) all = refl
+jump_same marks globals result s (Return None) all = refl
+jump_same marks globals None s (Return (Some a)) all = refl
+jump_same marks globals (Some k) s (Return (Some a)) all = ap (returns s) (claim_same marks globals s.values k a.value a.extension all)
+jump_same marks globals result s Halt all = refl
 
 -- ---- each line beside its copy
 
@@ -335,7 +347,8 @@ block_beside marks v w globals i s c all b at None here =
     let end : slice_get (map (with_copy marks) b.lines) s.next ≡ None = slice_get-map (with_copy marks) b.lines s.next ∙ ap (option_map (with_copy marks)) here in
     two_events marks (step virtual globals v i s) (step virtual globals w i s) (jump_step globals v.result s b.jump) (jump_step globals v.result s b.jump)
     (step_jump globals v i s b at here)
-    (step_jump globals w i s (with_copies marks b) there end ∙ ap (λ (r : Option Class). jump_step globals r s b.jump) c.result)
+    (step_jump globals w i s (with_copies marks b) there end ∙ ap (λ (r : Option Class). jump_step globals r s (jump_claim marks b.jump)) c.result
+    ∙ jump_same marks globals v.result s b.jump all)
     (event_self marks (jump_step globals v.result s b.jump) (jump_whole marks globals v.result s b.jump all))
 block_beside marks v w globals i s c all b at (Some l) here =
     let there : slice_get w.blocks s.block ≡ Some (with_copies marks b) = ap (λ (xs : List (Block ℕ)). slice_get xs s.block) c.blocks ∙ slice_get-map (with_copies marks) v.blocks s.block ∙ ap (option_map (with_copies marks)) at in

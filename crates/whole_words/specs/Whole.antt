@@ -2,6 +2,7 @@
 -- are passed from these are claimed to stand extended.
 use Rattle.std.specs.Prelude.{◌≡◌, ℕ, ◌-◌, ◌%◌, ◌^◌, Bool, true, false, not, ◌&&◌, ◌||◌, nat_eq, nat_lt, nat_le, if◌then◌else◌, List, map, slice_index_or, Option, Some, None}
 use Rattle.std.specs.List.{list_all}
+use Rattle.std.specs.Option.{option_map}
 use Rattle.il_ast.specs.declared.operation.Class.{Class}
 use Rattle.il_ast.specs.declared.operation.Class.TheVariants.{W, L}
 use Rattle.rv_isa.specs.declared.instruction.RegOp.{RegOp}
@@ -10,10 +11,14 @@ use Rattle.rv_isa.specs.declared.instruction.RegWOp.TheVariants.{Addw}
 use Rattle.rv_isa.specs.declared.instruction.LoadOp.{LoadOp}
 use Rattle.rv_isa.specs.declared.instruction.LoadOp.TheVariants.{Ld, Lwu}
 use Rattle.vcode.specs.declared.place.Operand.{Operand}
+use Rattle.vcode.specs.declared.place.ReturnValue.{ReturnValue}
 use Rattle.vcode.specs.declared.place.Operand.TheVariants.{At, Number, Name}
 use Rattle.vcode.specs.declared.place.Destination.{Destination}
 use Rattle.vcode.specs.declared.place.Argument.{Argument}
+use Rattle.vcode.specs.declared.place.Extension.{Extension}
 use Rattle.vcode.specs.declared.place.Extension.TheVariants.{Claimed}
+use Rattle.vcode.specs.declared.line.Jump.{Jump}
+use Rattle.vcode.specs.declared.line.Jump.TheVariants.{Return}
 use Rattle.vcode.specs.declared.line.Operation.{Operation}
 use Rattle.vcode.specs.declared.line.Operation.TheVariants.{Reg, RegW, Compare}
 use Rattle.vcode.specs.declared.line.Line.{Line}
@@ -91,9 +96,18 @@ put_line marks to op a b = if is_extension marks op a b then Set to a else Opera
 -- ---- claims
 
 -- what is passed from a marked register is claimed to stand extended
+abbrev pub claim : List Bool → Operand ℕ → Extension → Extension
+claim marks a t = if is_whole marks a then Claimed else t
+
 abbrev pub with_claim : List Bool → Argument ℕ → Argument ℕ
-with_claim marks a =
-    record { class = a.class; value = a.value; extension = if is_whole marks a.value then Claimed else a.extension }
+with_claim marks a = record { class = a.class; value = a.value; extension = claim marks a.value a.extension }
+
+abbrev pub returned_claim : List Bool → ReturnValue ℕ → ReturnValue ℕ
+returned_claim marks a = record { value = a.value; extension = claim marks a.value a.extension }
+
+abbrev pub jump_claim : List Bool → Jump ℕ → Jump ℕ
+jump_claim marks (Return a) = Return (option_map (returned_claim marks) a)
+jump_claim marks j = j
 
 -- ---- each line
 
@@ -103,7 +117,7 @@ with_copy marks (Call to callee args) = Call to callee (map (with_claim marks) a
 with_copy marks l = l
 
 abbrev pub with_copies : List Bool → Block ℕ → Block ℕ
-with_copies marks b = record { lines = map (with_copy marks) b.lines; jump = b.jump }
+with_copies marks b = record { lines = map (with_copy marks) b.lines; jump = jump_claim marks b.jump }
 
 -- the second is the first with copies in the place of extensions of such registers, and with the claims
 pub record IsCopied (v w : VFunc) : Type 0 where

@@ -1,14 +1,14 @@
 //! Lines in which extensions of whole words are copies, and whole words are passed as such.
 ghost use Rattle.std.specs.Prelude.{◌≡◌, map, IfOk};
-ghost use Rattle.whole_words.specs.Whole.{is_extension, with_claim, with_copy, with_copies};
+ghost use Rattle.whole_words.specs.Whole.{is_extension, claim, with_claim, jump_claim, with_copy, with_copies};
 
 use crate::marks::{is_marked, is_whole};
 use il_ast::list::Seq;
 use rv_isa::instruction::RegWOp;
 use std::alloc::{AllocError, Global};
 use vcode::code::Block;
-use vcode::line::{Line, Operation};
-use vcode::place::{Argument, Extension, Operand};
+use vcode::line::{Jump, Line, Operation};
+use vcode::place::{Argument, Extension, Operand, ReturnValue};
 
 // Whether the operation extends a word that stands whole.
 fn is_extension(
@@ -31,14 +31,14 @@ fn is_extension(
     }
 }
 
-// Whether the argument still has to be extended.
-fn extension(marks: &[bool], argument: &Argument<u32>) -> Extension
-    ensures { result ≡ (with_claim marks.now argument.now).extension }
+// Whether what is passed still has to be extended, of which something may be claimed already.
+fn claim(marks: &[bool], value: Operand<u32>, claimed: Extension) -> Extension
+    ensures { result ≡ claim marks.now value claimed }
 {
-    if is_whole(marks, argument.value) {
+    if is_whole(marks, value) {
         Extension::Claimed
     } else {
-        argument.extension
+        claimed
     }
 }
 
@@ -54,7 +54,7 @@ fn arguments(
         made.push(Argument {
             class: argument.class,
             value: argument.value,
-            extension: extension(marks, argument),
+            extension: claim(marks, argument.value, argument.extension),
         })?;
     }
     Ok(Seq::from_vec(made))
@@ -88,6 +88,18 @@ fn line(alloc: Global, marks: &[bool], from: &Line<u32>) -> Result<Line<u32>, Al
     }
 }
 
+fn jump(marks: &[bool], from: Jump<u32>) -> Jump<u32>
+    ensures { result ≡ jump_claim marks.now from }
+{
+    match from {
+        Jump::Return(Some(returned)) => Jump::Return(Some(ReturnValue {
+            value: returned.value,
+            extension: claim(marks, returned.value, returned.extension),
+        })),
+        _ => from,
+    }
+}
+
 fn lines(alloc: Global, marks: &[bool], from: &[Line<u32>]) -> Result<Seq<Line<u32>>, AllocError>
     ensures { IfOk result (λ v. v ≡ map (with_copy marks.now) from.now) }
 {
@@ -110,7 +122,7 @@ pub fn blocks(
     for block in from {
         made.push(Block {
             lines: lines(alloc, marks, block.lines.as_slice())?,
-            jump: block.jump,
+            jump: jump(marks, block.jump),
         })?;
     }
     Ok(Seq::from_vec(made))

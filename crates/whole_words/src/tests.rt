@@ -8,7 +8,7 @@ use std::test::Fail;
 use vcode::code::{Block, Code};
 use vcode::function::VFunc;
 use vcode::line::{Jump, Line, Operation};
-use vcode::place::{Destination, Operand};
+use vcode::place::{Destination, Operand, ReturnValue};
 
 /// Copies its argument from register 0 to register 1, and returns the extension of that.
 fn extended(alloc: Global, class: Class) -> Result<VFunc, AllocError> {
@@ -32,7 +32,7 @@ fn extended(alloc: Global, class: Class) -> Result<VFunc, AllocError> {
     let mut blocks = Seq::new(alloc);
     blocks.push(Block {
         lines,
-        jump: Jump::Return(Some(Operand::At(2))),
+        jump: Jump::Return(Some(ReturnValue::of(Operand::At(2)))),
     })?;
     Ok(VFunc {
         code: Code {
@@ -86,7 +86,7 @@ fn overwritten(alloc: Global) -> Result<VFunc, AllocError> {
     })?;
     blocks.push(Block {
         lines: second,
-        jump: Jump::Return(Some(Operand::At(2))),
+        jump: Jump::Return(Some(ReturnValue::of(Operand::At(2)))),
     })?;
     Ok(VFunc {
         code: Code {
