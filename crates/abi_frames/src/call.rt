@@ -36,7 +36,6 @@ pub(crate) fn push_value(
     class: Class,
     value: &Operand<Location>,
 ) -> Result<(), AllocError>
-    requires { layout.now.slots < 2 ^ 16 }
     ensures { OnOk result (items.new.items ≡ items.old.items ++ pass_into layout.now to class value.now) }
 {
     match class {
@@ -51,7 +50,6 @@ fn push_argument(
     to: u8,
     argument: &Argument<Location>,
 ) -> Result<(), AllocError>
-    requires { layout.now.slots < 2 ^ 16 }
     ensures { OnOk result (items.new.items ≡ items.old.items ++ pass_into layout.now to (passed_class argument.now.extension argument.now.class) argument.now.value) }
 {
     push_value(
@@ -70,7 +68,6 @@ fn push_stacked(
     offset: u64,
     argument: &Argument<Location>,
 ) -> Result<(), AllocError>
-    requires { layout.now.slots < 2 ^ 16 }
     ensures { OnOk result (items.new.items ≡ items.old.items ++ (pass_into layout.now FIRST_SCRATCH (passed_class argument.now.extension argument.now.class) argument.now.value ++ (store_8 FIRST_SCRATCH STACK_POINTER offset ∷ []))) }
 {
     push_argument(items, layout, abi::FIRST_SCRATCH, argument)?;
@@ -83,7 +80,6 @@ fn push_stack_arguments(
     layout: &Layout,
     arguments: &[Argument<Location>],
 ) -> Result<(), AllocError>
-    requires slots { layout.now.slots < 2 ^ 16 }
     requires few { length arguments.now ≤ 64 }
     ensures { OnOk result (items.new.items ≡ items.old.items ++ stack_all layout.now 0 arguments.now) }
 {
@@ -101,7 +97,6 @@ fn push_register_arguments(
     layout: &Layout,
     arguments: &[Argument<Location>],
 ) -> Result<(), AllocError>
-    requires slots { layout.now.slots < 2 ^ 16 }
     ensures { OnOk result (items.new.items ≡ items.old.items ++ register_all layout.now 0 arguments.now) }
 {
     for (number, argument) in arguments.iter().enumerate() {
@@ -122,7 +117,6 @@ pub(crate) fn push_passed(
     layout: &Layout,
     arguments: &[Argument<Location>],
 ) -> Result<(), AllocError>
-    requires { layout.now.slots < 2 ^ 16 }
     ensures { OnOk result (items.new.items ≡ items.old.items ++ passed_items layout.now arguments.now) }
 {
     let now = push_moves_up(items, arguments)?;
@@ -142,7 +136,6 @@ fn push_callee(
     layout: &Layout,
     callee: &Operand<Location>,
 ) -> Result<(), AllocError>
-    requires { layout.now.slots < 2 ^ 16 }
     ensures { OnOk result (items.new.items ≡ items.old.items ++ callee_items layout.now callee.now) }
 {
     match callee {
@@ -202,7 +195,6 @@ fn push_receive(
     layout: &Layout,
     to: &Option<Destination<Location>>,
 ) -> Result<(), AllocError>
-    requires { layout.now.slots < 2 ^ 16 }
     ensures { OnOk result (items.new.items ≡ items.old.items ++ receive_items layout.now to.now) }
 {
     match to {
@@ -225,7 +217,6 @@ pub(crate) fn push_call(
     callee: &Operand<Location>,
     arguments: &[Argument<Location>],
 ) -> Result<(), AllocError>
-    requires slots { layout.now.slots < 2 ^ 16 }
     requires few { length arguments.now ≤ 64 }
     ensures { OnOk result (items.new.items ≡ items.old.items ++ call_items layout.now to.now callee.now arguments.now) }
 {

@@ -68,7 +68,6 @@ pub(crate) fn push_blit(
     to: &Operand<Location>,
     count: u64,
 ) -> Result<(), AllocError>
-    requires { layout.now.slots < 2 ^ 16 }
     ensures { OnOk result (items.new.items ≡ items.old.items ++ blit_items layout.now from.now to.now count) }
 {
     push_operand(items, layout, abi::FIRST_SCRATCH, from)?;

@@ -89,12 +89,11 @@ pub(crate) fn push_prologue(
     layout: &Layout,
     saved: &[u8],
 ) -> Result<(), AllocError>
-    requires saves { layout.now.saves < 2 ^ 16 }
     requires few { length saved.now ≤ 13 }
     ensures { OnOk result (items.new.items ≡ items.old.items ++ prologue layout.now saved.now) }
 {
     push_lowering(items, layout.size)?;
-    push_saves(items, layout.saves, saved)
+    push_saves(items, u64::from(layout.saves), saved)
 }
 
 fn push_way_back(items: &mut Vec<Item>, size: u64) -> Result<(), AllocError>
@@ -115,10 +114,9 @@ pub(crate) fn push_epilogue(
     layout: &Layout,
     saved: &[u8],
 ) -> Result<(), AllocError>
-    requires saves { layout.now.saves < 2 ^ 16 }
     requires few { length saved.now ≤ 13 }
     ensures { OnOk result (items.new.items ≡ items.old.items ++ epilogue layout.now saved.now) }
 {
-    push_restores(items, layout.saves, saved)?;
+    push_restores(items, u64::from(layout.saves), saved)?;
     push_way_back(items, layout.size)
 }

@@ -32,7 +32,6 @@ fn push_from_register(
     argument: u8,
     place: &Location,
 ) -> Result<(), AllocError>
-    requires slots { layout.now.slots < 2 ^ 16 }
     requires few { argument < ARGUMENT_REGISTERS }
     ensures { OnOk result (items.new.items ≡ items.old.items ++ from_register layout.now argument place.now) }
 {
@@ -56,7 +55,6 @@ fn push_stack_to_slot(
     argument: u8,
     slot: u32,
 ) -> Result<(), AllocError>
-    requires slots { layout.now.slots < 2 ^ 16 }
     requires many { ARGUMENT_REGISTERS ≤ argument }
     ensures { OnOk result (items.new.items ≡ items.old.items ++ from_stack layout.now argument (Slot slot)) }
 {
@@ -75,7 +73,6 @@ fn push_from_stack(
     argument: u8,
     place: &Location,
 ) -> Result<(), AllocError>
-    requires slots { layout.now.slots < 2 ^ 16 }
     requires many { ARGUMENT_REGISTERS ≤ argument }
     ensures { OnOk result (items.new.items ≡ items.old.items ++ from_stack layout.now argument place.now) }
 {
@@ -96,7 +93,6 @@ fn push_argument(
     argument: u8,
     place: &Location,
 ) -> Result<(), AllocError>
-    requires { layout.now.slots < 2 ^ 16 }
     ensures { OnOk result (items.new.items ≡ items.old.items ++ argument_items layout.now argument place.now) }
 {
     if argument < abi::ARGUMENT_REGISTERS {
@@ -130,7 +126,6 @@ fn push_away(
     layout: &Layout,
     params: &[Destination<Location>],
 ) -> Result<(), AllocError>
-    requires slots { layout.now.slots < 2 ^ 16 }
     requires few { length params.now ≤ 64 }
     ensures { OnOk result (items.new.items ≡ items.old.items ++ arguments_items layout.now goes_away 0 params.now) }
 {
@@ -149,7 +144,6 @@ fn push_if_stacked(
     argument: u8,
     place: &Location,
 ) -> Result<(), AllocError>
-    requires { layout.now.slots < 2 ^ 16 }
     ensures { OnOk result (items.new.items ≡ items.old.items ++ (if is_on_stack argument place.now then argument_items layout.now argument place.now else [])) }
 {
     if argument >= abi::ARGUMENT_REGISTERS {
@@ -163,7 +157,6 @@ fn push_stacked(
     layout: &Layout,
     params: &[Destination<Location>],
 ) -> Result<(), AllocError>
-    requires slots { layout.now.slots < 2 ^ 16 }
     requires few { length params.now ≤ 64 }
     ensures { OnOk result (items.new.items ≡ items.old.items ++ arguments_items layout.now is_on_stack 0 params.now) }
 {
@@ -219,7 +212,6 @@ fn push_exchanged(
     layout: &Layout,
     params: &[Destination<Location>],
 ) -> Result<(), AllocError>
-    requires { layout.now.slots < 2 ^ 16 }
     ensures { OnOk result (items.new.items ≡ items.old.items ++ passed_items layout.now (sources ARGUMENT_REGISTERS 0 params.now)) }
 {
     let all = sources(*items.allocator(), params)?;
@@ -241,7 +233,6 @@ pub(crate) fn push_entry(
     layout: &Layout,
     params: &[Destination<Location>],
 ) -> Result<(), AllocError>
-    requires slots { layout.now.slots < 2 ^ 16 }
     requires few { length params.now ≤ 64 }
     ensures { OnOk result (items.new.items ≡ items.old.items ++ entry_items layout.now params.now) }
 {

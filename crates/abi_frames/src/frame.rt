@@ -30,8 +30,6 @@ fn push_body(
     next: usize,
     block: &Block<Location>,
 ) -> Result<(), AllocError>
-    requires slots { layout.now.slots < 2 ^ 16 }
-    requires near { layout.now.area < 2 ^ 32 }
     requires room { sum_by alloc_bytes block.now.lines ≤ 1048576 }
     requires few { IsTrue (list_all passes_few block.now.lines) }
     ensures { OnOk result (items.new.items ≡ items.old.items ++ (lines_items layout.now 0 block.now.lines ++ jump_items layout.now next block.now.jump)) }
@@ -46,8 +44,6 @@ fn push_block(
     label: usize,
     block: &Block<Location>,
 ) -> Result<(), AllocError>
-    requires slots { layout.now.slots < 2 ^ 16 }
-    requires near { layout.now.area < 2 ^ 32 }
     requires room { sum_by alloc_bytes block.now.lines ≤ 1048576 }
     requires few { IsTrue (list_all passes_few block.now.lines) }
     requires not_last { label + 1 < 2 ^ 64 }
@@ -62,8 +58,6 @@ fn push_blocks(
     layout: &Layout,
     blocks: &[Block<Location>],
 ) -> Result<(), AllocError>
-    requires slots { layout.now.slots < 2 ^ 16 }
-    requires near { layout.now.area < 2 ^ 32 }
     requires room { sum_by (λ b. sum_by alloc_bytes b.lines) blocks.now ≤ 1048576 }
     requires calls { IsTrue (list_all (λ b. list_all passes_few b.lines) blocks.now) }
     ensures { OnOk result (items.new.items ≡ items.old.items ++ blocks_items layout.now 0 blocks.now) }
@@ -75,7 +69,6 @@ fn push_blocks(
 }
 
 fn push_end(items: &mut Vec<Item>, layout: &Layout, saved: &[u8]) -> Result<(), AllocError>
-    requires saves { layout.now.saves < 2 ^ 16 }
     requires few { length saved.now ≤ 13 }
     ensures { OnOk result (items.new.items ≡ items.old.items ++ (Label layout.now.leave ∷ epilogue layout.now saved.now)) }
 {
@@ -91,9 +84,6 @@ fn push_function(
     params: &[Destination<Location>],
     blocks: &[Block<Location>],
 ) -> Result<(), AllocError>
-    requires saves { layout.now.saves < 2 ^ 16 }
-    requires slots { layout.now.slots < 2 ^ 16 }
-    requires near { layout.now.area < 2 ^ 32 }
     requires room { sum_by (λ b. sum_by alloc_bytes b.lines) blocks.now ≤ 1048576 }
     requires calls { IsTrue (list_all (λ b. list_all passes_few b.lines) blocks.now) }
     requires few { length params.now ≤ 64 }
@@ -111,7 +101,6 @@ fn push_function(
 fn layout_of(function: &FlatFunc, saved: &[u8]) -> Layout
     requires { saved.now ≡ saved_registers function.now.located.code }
     ensures value { result ≡ layout function.now.located.code function.now.located.slots }
-    ensures near { (result.saves < 2 ^ 16) × (result.slots < 2 ^ 16) × (result.area < 2 ^ 32) }
 {
     let code = &function.located.code;
     let area = area_of(code);
@@ -120,9 +109,9 @@ fn layout_of(function: &FlatFunc, saved: &[u8]) -> Layout
     let words = u64::from(function.located.slots) + below;
     let size = (area + 8 * words + 15) / 16 * 16;
     Layout {
-        saves: 8 * outgoing,
-        slots: 8 * below,
-        area: size - area,
+        saves: (8 * outgoing) as u16,
+        slots: (8 * below) as u16,
+        area: (size - area) as u32,
         size,
         result: function.located.code.result,
         leave: function.located.code.blocks.len(),

@@ -118,7 +118,6 @@ fn push_branch(
     met: usize,
     otherwise: usize,
 ) -> Result<(), AllocError>
-    requires { layout.now.slots < 2 ^ 16 }
     ensures { OnOk result (items.new.items ≡ items.old.items ++ branch_items layout.now next on.now met otherwise) }
 {
     let operation = Operation::Compare(on.condition, on.class);
@@ -137,7 +136,6 @@ fn push_result(
     layout: &Layout,
     returned: &ReturnValue<Location>,
 ) -> Result<(), AllocError>
-    requires { layout.now.slots < 2 ^ 16 }
     ensures { OnOk result (items.new.items ≡ items.old.items ++ result_items layout.now layout.now.result returned.now) }
 {
     match layout.result {
@@ -158,7 +156,6 @@ fn push_return(
     next: usize,
     value: &Option<ReturnValue<Location>>,
 ) -> Result<(), AllocError>
-    requires { layout.now.slots < 2 ^ 16 }
     ensures { OnOk result (items.new.items ≡ items.old.items ++ return_items layout.now next value.now) }
 {
     match value {
@@ -175,7 +172,6 @@ pub(crate) fn push_jump(
     next: usize,
     jump: &Jump<Location>,
 ) -> Result<(), AllocError>
-    requires { layout.now.slots < 2 ^ 16 }
     ensures { OnOk result (items.new.items ≡ items.old.items ++ jump_items layout.now next jump.now) }
 {
     match jump {

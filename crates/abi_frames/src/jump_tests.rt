@@ -37,9 +37,7 @@ fn code_of(
     layout: &Layout,
     next: usize,
     jump: &Jump<Location>,
-) -> Result<Vec<Item>, AllocError>
-    requires { layout.now.slots < 2 ^ 16 }
-{
+) -> Result<Vec<Item>, AllocError> {
     let mut items = Vec::new(alloc);
     push_jump(&mut items, layout, next, jump)?;
     Ok(items)

@@ -5,11 +5,11 @@ use il_ast::operation::Class;
 #[derive(Clone, Copy)]
 pub struct Layout {
     /// where the saved registers begin
-    pub saves: u64,
+    pub saves: u16,
     /// where the slots begin
-    pub slots: u64,
+    pub slots: u16,
     /// where the area for blocks of memory begins
-    pub area: u64,
+    pub area: u32,
     /// the size of the frame
     pub size: u64,
     /// the class of the function's result

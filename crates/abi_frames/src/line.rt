@@ -31,7 +31,6 @@ fn push_set_slot(
     slot: u32,
     value: &Operand<Location>,
 ) -> Result<(), AllocError>
-    requires { layout.now.slots < 2 ^ 16 }
     ensures { OnOk result (items.new.items ≡ items.old.items ++ set_items layout.now (Slot slot) value.now) }
 {
     push_fetch(items, layout, abi::FIRST_SCRATCH, value)?;
@@ -44,7 +43,6 @@ pub(crate) fn push_set(
     to: &Location,
     value: &Operand<Location>,
 ) -> Result<(), AllocError>
-    requires { layout.now.slots < 2 ^ 16 }
     ensures { OnOk result (items.new.items ≡ items.old.items ++ set_items layout.now to.now value.now) }
 {
     match to {
@@ -89,7 +87,6 @@ pub(crate) fn push_operand_for(
     to: u8,
     operand: &Operand<Location>,
 ) -> Result<(), AllocError>
-    requires { layout.now.slots < 2 ^ 16 }
     ensures { OnOk result (items.new.items ≡ items.old.items ++ operand_into layout.now operation.now to operand.now) }
 {
     match operation {
@@ -119,7 +116,6 @@ fn push_on_registers(
     left: &Operand<Location>,
     right: &Operand<Location>,
 ) -> Result<(), AllocError>
-    requires { layout.now.slots < 2 ^ 16 }
     ensures { OnOk result (items.new.items ≡ items.old.items ++ on_registers layout.now to.now operation.now left.now right.now) }
 {
     push_operand_for(items, layout, operation, abi::FIRST_SCRATCH, left)?;
@@ -144,7 +140,6 @@ fn push_by_form(
     operand: &Operand<Location>,
     form: Form,
 ) -> Result<(), AllocError>
-    requires { layout.now.slots < 2 ^ 16 }
     ensures { OnOk result (items.new.items ≡ items.old.items ++ by_form layout.now to.now operation.now operand.now form) }
 {
     push_operand_for(items, layout, operation, abi::FIRST_SCRATCH, operand)?;
@@ -166,7 +161,6 @@ fn push_operate(
     left: &Operand<Location>,
     right: &Operand<Location>,
 ) -> Result<(), AllocError>
-    requires { layout.now.slots < 2 ^ 16 }
     ensures { OnOk result (items.new.items ≡ items.old.items ++ operate_items layout.now to.now operation.now left.now right.now) }
 {
     match (right_form(operation, right), left_form(operation, left)) {
@@ -183,7 +177,6 @@ fn push_base(
     to: u8,
     at: &Address<Location>,
 ) -> Result<(), AllocError>
-    requires { layout.now.slots < 2 ^ 16 }
     ensures { OnOk result (items.new.items ≡ items.old.items ++ base_items layout.now to at.now.base at.now.offset) }
 {
     match &at.base {
@@ -222,7 +215,6 @@ fn push_load_line(
     op: LoadOp,
     at: &Address<Location>,
 ) -> Result<(), AllocError>
-    requires { layout.now.slots < 2 ^ 16 }
     ensures { OnOk result (items.new.items ≡ items.old.items ++ load_items layout.now to.now op at.now) }
 {
     push_base(items, layout, abi::FIRST_SCRATCH, at)?;
@@ -271,7 +263,6 @@ fn push_store_line(
     value: &Operand<Location>,
     at: &Address<Location>,
 ) -> Result<(), AllocError>
-    requires { layout.now.slots < 2 ^ 16 }
     ensures { OnOk result (items.new.items ≡ items.old.items ++ store_items layout.now size value.now at.now) }
 {
     push_fetch(items, layout, abi::FIRST_SCRATCH, value)?;
@@ -287,12 +278,11 @@ fn push_alloc(
     used: u64,
     to: &Option<Location>,
 ) -> Result<(), AllocError>
-    requires slots { layout.now.slots < 2 ^ 16 }
-    requires near { layout.now.area + used < 2 ^ 40 }
+    requires near { used ≤ 1048576 }
     ensures { OnOk result (items.new.items ≡ items.old.items ++ alloc_items layout.now used to.now) }
 {
     if let Some(to) = to {
-        push_address_at(items, target_of(to), layout.area + used)?;
+        push_address_at(items, target_of(to), u64::from(layout.area) + used)?;
         push_deliver(items, layout, to)?;
     }
     Ok(())
@@ -305,9 +295,8 @@ pub(crate) fn push_line(
     used: u64,
     line: &Line<Location>,
 ) -> Result<(), AllocError>
-    requires slots { layout.now.slots < 2 ^ 16 }
     requires few { IsTrue (passes_few line.now) }
-    requires near { layout.now.area + used < 2 ^ 40 }
+    requires near { used ≤ 1048576 }
     ensures { OnOk result (items.new.items ≡ items.old.items ++ line_items layout.now used line.now) }
 {
     match line {
@@ -334,8 +323,6 @@ pub(crate) fn push_lines(
     layout: &Layout,
     lines: &[Line<Location>],
 ) -> Result<(), AllocError>
-    requires slots { layout.now.slots < 2 ^ 16 }
-    requires near { layout.now.area < 2 ^ 32 }
     requires room { sum_by alloc_bytes lines.now ≤ 1048576 }
     requires few { IsTrue (list_all passes_few lines.now) }
     ensures { OnOk result (items.new.items ≡ items.old.items ++ lines_items layout.now 0 lines.now) }

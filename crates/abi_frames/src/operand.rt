@@ -163,15 +163,13 @@ pub(crate) fn push_store(items: &mut Vec<Item>, value: u8, offset: u64) -> Resul
 
 // the offset of a slot
 fn offset_of(layout: &Layout, slot: u32) -> u64
-    requires { layout.now.slots < 2 ^ 16 }
     ensures value { result ≡ slot_offset layout.now slot }
     ensures near { result < 2 ^ 40 }
 {
-    layout.slots + 8 * u64::from(slot)
+    u64::from(layout.slots) + 8 * u64::from(slot)
 }
 
 fn push_slot(items: &mut Vec<Item>, layout: &Layout, to: u8, slot: u32) -> Result<(), AllocError>
-    requires { layout.now.slots < 2 ^ 16 }
     ensures { OnOk result (items.new.items ≡ items.old.items ++ load_slot to (slot_offset layout.now slot)) }
 {
     let offset = offset_of(layout, slot);
@@ -185,7 +183,6 @@ pub(crate) fn push_into_slot(
     value: u8,
     slot: u32,
 ) -> Result<(), AllocError>
-    requires { layout.now.slots < 2 ^ 16 }
     ensures { OnOk result (items.new.items ≡ items.old.items ++ store_slot value (slot_offset layout.now slot)) }
 {
     let offset = offset_of(layout, slot);
@@ -239,7 +236,6 @@ pub(crate) fn push_operand(
     to: u8,
     operand: &Operand<Location>,
 ) -> Result<(), AllocError>
-    requires { layout.now.slots < 2 ^ 16 }
     ensures { OnOk result (items.new.items ≡ items.old.items ++ into layout.now to operand.now) }
 {
     match operand {
@@ -258,7 +254,6 @@ pub(crate) fn push_fetch(
     to: u8,
     operand: &Operand<Location>,
 ) -> Result<(), AllocError>
-    requires { layout.now.slots < 2 ^ 16 }
     ensures { OnOk result (items.new.items ≡ items.old.items ++ fetch layout.now to operand.now) }
 {
     match operand {
@@ -288,7 +283,6 @@ fn push_extended(
     to: u8,
     operand: &Operand<Location>,
 ) -> Result<(), AllocError>
-    requires { layout.now.slots < 2 ^ 16 }
     ensures { OnOk result (items.new.items ≡ items.old.items ++ (fetch layout.now to operand.now ++ (extend to (source to operand.now) ∷ []))) }
 {
     push_fetch(items, layout, to, operand)?;
@@ -303,7 +297,6 @@ pub(crate) fn push_word(
     to: u8,
     operand: &Operand<Location>,
 ) -> Result<(), AllocError>
-    requires { layout.now.slots < 2 ^ 16 }
     ensures { OnOk result (items.new.items ≡ items.old.items ++ word_into layout.now to operand.now) }
 {
     match operand {
@@ -328,7 +321,6 @@ pub(crate) fn push_deliver(
     layout: &Layout,
     place: &Location,
 ) -> Result<(), AllocError>
-    requires { layout.now.slots < 2 ^ 16 }
     ensures { OnOk result (items.new.items ≡ items.old.items ++ deliver layout.now place.now) }
 {
     match place {
