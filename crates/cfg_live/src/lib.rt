@@ -24,7 +24,5 @@ pub mod points;
 pub mod sets;
 mod spread;
 mod sweep;
-#[cfg(test)]
-mod tests;
 pub mod uses;
 mod worklist;

@@ -170,26 +170,3 @@ pub fn graph(alloc: Global, function: &VFunc) -> Result<Graph, AllocError>
         nexts: Seq::from_vec(nexts),
     })
 }
-
-#[cfg(test)]
-mod tests {
-    use super::*;
-    use std::test::Fail;
-    use vcode::code::Code;
-
-    #[test]
-    fn nothing_has_no_points(rt: HostRuntime) -> Result<(), Fail> {
-        let function = VFunc {
-            code: Code {
-                result: None,
-                params: Seq::new(rt.alloc()),
-                blocks: Seq::new(rt.alloc()),
-            },
-            registers: 0,
-        };
-        let graph = graph(rt.alloc(), &function)?;
-        assert_eq!(rt; graph.uses.len(), 0);
-        assert_eq!(rt; graph.nexts.len(), 0);
-        Ok(())
-    }
-}

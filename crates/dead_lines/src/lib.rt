@@ -14,5 +14,3 @@
 
 mod overlay;
 pub mod remove;
-#[cfg(test)]
-mod tests;

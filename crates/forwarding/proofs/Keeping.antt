@@ -3,6 +3,7 @@ use Rattle.std.proofs.Common.{◌≡◌, ℕ, suc, ◌+◌, ◌-◌, ◌*◌, �
 use Rattle.std.specs.Prelude.{max}
 use Rattle.std.specs.Option.{option_map_or}
 use Rattle.std.specs.List.{list_all, list_any, sum_by}
+use Rattle.std.proofs.lemmas.Bool.{and_parts, and_from}
 use Rattle.std.proofs.lemmas.Bool.Decides.{nat_tests}
 use Rattle.il_ast.specs.declared.operation.Class.{Class}
 use Rattle.il_ast.specs.declared.operation.Class.TheVariants.{W, L}
@@ -29,17 +30,15 @@ use Rattle.vcode.specs.Named.{operand_keeps, wanted_keeps, line_keeps, jump_keep
 use Rattle.vcode.specs.Outgoing.{args_on_stack, most_in_lines, most_in_blocks}
 use Rattle.vcode.specs.Places.{virtual}
 use Rattle.vcode.specs.Regular.{is_target, leads_inside, is_alloc, allocs_first, alloc_bytes, area, turns_of, passes_few, weight_of, code_weight, IsRegular}
+use Rattle.vcode.specs.Replaced.{with_base, with_argument, with_returned, with_comparison}
+use Rattle.vcode.proofs.Replacing.{args_count, args_low}
 use Rattle.forwarding.specs.declared.fact.Fact.{Fact}
 use Rattle.forwarding.specs.declared.fact.Fact.TheVariants.{Same, Sum, Test}
 use Rattle.forwarding.specs.Facts.{Facts, operand_below, fact_below, kept_if, AreBelow}
-use Rattle.forwarding.specs.Forwarded.{is_short, copied, forward, regrouped, grouped, is_add, folded, operands_of, further, from_base, with_base, with_address, Replacing, with_argument, with_line, with_comparison, test_of, tested_by, with_test, with_branch, numbers_hold, decided, with_jump, writes_it, fact_of, leaves, after, AreForwarded, IsForwarded, AllForwarded, with_returned}
-use Rattle.forwarding.proofs.Writing.{both_true}
+use Rattle.forwarding.specs.Forwarded.{is_short, copied, forward, regrouped, grouped, is_add, folded, operands_of, further, from_base, with_address, with_line, test_of, tested_by, with_test, with_branch, numbers_hold, decided, with_jump, writes_it, fact_of, leaves, after, AreForwarded, IsForwarded, AllForwarded}
 use Rattle.forwarding.specs.Shortened.{shortened}
 use Rattle.forwarding.proofs.Computing.{Unshortened, unchanged, any_cheaper}
 use Rattle.forwarding.proofs.Running.{runs}
-
-both_are : (a b : Bool) → a ≡ true → b ≡ true → (a && b) ≡ true
-both_are a b h k = ap (λ x. x && b) h ∙ k
 
 -- ---- operands cost no more, and are as low
 
@@ -78,10 +77,6 @@ forward_low n fs below (Number m) h = refl
 forward_low n fs below (Name g) h = refl
 
 -- ---- lines
-
-args_count : (f : Replacing) (args : List (Argument ℕ)) → length (map (with_argument f) args) ≡ length args
-args_count f [] = refl
-args_count f (a ∷ args) = ap suc (args_count f args)
 
 -- the number 1 costs no more than another
 least : (m : ℕ) → 1 ≤ (if is_immediate m then 1 else 9)
@@ -154,19 +149,11 @@ line_costs fs (Alloc to size) = omega arith
 line_costs fs (Blit a b count) = let x = forward_cost fs a in let y = forward_cost fs b in omega (arith, x, y)
 line_costs fs (Call to callee args) = let e = args_count (forward fs) args in omega (arith, e)
 
-args_low : (n : ℕ) (fs : Facts) → AreBelow n fs → (args : List (Argument ℕ)) → list_all (λ (a : Argument ℕ). operand_keeps (is_below n) a.value) args ≡ true
-    → list_all (λ (a : Argument ℕ). operand_keeps (is_below n) a.value) (map (with_argument (forward fs)) args) ≡ true
-args_low n fs below [] h = refl
-args_low n fs below (a ∷ args) h =
-    let s = both_true (operand_keeps (is_below n) a.value) (list_all (λ (b : Argument ℕ). operand_keeps (is_below n) b.value) args) h in
-    both_are (operand_keeps (is_below n) (forward fs a.value)) (list_all (λ (b : Argument ℕ). operand_keeps (is_below n) b.value) (map (with_argument (forward fs)) args))
-    (forward_low n fs below a.value s.0) (args_low n fs below args s.1)
-
 two_low : (n : ℕ) (fs : Facts) → AreBelow n fs → (a b : Operand ℕ) → (operand_keeps (is_below n) a && operand_keeps (is_below n) b) ≡ true
     → (operand_keeps (is_below n) (forward fs a) && operand_keeps (is_below n) (forward fs b)) ≡ true
 two_low n fs below a b h =
-    let s = both_true (operand_keeps (is_below n) a) (operand_keeps (is_below n) b) h in
-    both_are (operand_keeps (is_below n) (forward fs a)) (operand_keeps (is_below n) (forward fs b)) (forward_low n fs below a s.0) (forward_low n fs below b s.1)
+    let s = and_parts (operand_keeps (is_below n) a) (operand_keeps (is_below n) b) h in
+    and_from (operand_keeps (is_below n) (forward fs a)) (operand_keeps (is_below n) (forward fs b)) (forward_low n fs below a s.0) (forward_low n fs below b s.1)
 
 regrouped_low : (n : ℕ) (o : Option Fact) (r m : ℕ) → ((f : Fact) → o ≡ Some f → fact_below n f ≡ true) → nat_lt r n ≡ true
     → (operand_keeps (is_below n) (regrouped o r m).0 && operand_keeps (is_below n) (regrouped o r m).1) ≡ true
@@ -186,7 +173,7 @@ regrouped_low n (Some (Sum (At b) q)) r m below low = by (is_immediate ((q + m) 
 
 grouped_low : (n : ℕ) (fs : Facts) → AreBelow n fs → (a b : Operand ℕ) → (operand_keeps (is_below n) a && operand_keeps (is_below n) b) ≡ true
     → (operand_keeps (is_below n) (grouped fs a b).0 && operand_keeps (is_below n) (grouped fs a b).1) ≡ true
-grouped_low n fs below (At r) (Number m) h = regrouped_low n (fs r) r m (below r) (both_true (nat_lt r n) true h).0
+grouped_low n fs below (At r) (Number m) h = regrouped_low n (fs r) r m (below r) (and_parts (nat_lt r n) true h).0
 grouped_low n fs below (At r) (At q) h = h
 grouped_low n fs below (At r) (Name g) h = h
 grouped_low n fs below (Number k) b h = h
@@ -223,25 +210,25 @@ address_low n fs below at low = from_base_low n fs below (with_base (forward fs)
 line_low : (n : ℕ) (fs : Facts) → AreBelow n fs → (l : Line ℕ) → line_keeps (is_below n) l ≡ true → line_keeps (is_below n) (with_line fs l) ≡ true
 line_low n fs below (Tick turn w) h = refl
 line_low n fs below (Set to a) h =
-    let s = both_true (is_below n to) (operand_keeps (is_below n) a) h in both_are (is_below n to) (operand_keeps (is_below n) (forward fs a)) s.0 (forward_low n fs below a s.1)
+    let s = and_parts (is_below n to) (operand_keeps (is_below n) a) h in and_from (is_below n to) (operand_keeps (is_below n) (forward fs a)) s.0 (forward_low n fs below a s.1)
 line_low n fs below (Operate to op a b) h =
-    let s = both_true (is_below n to) (operand_keeps (is_below n) a && operand_keeps (is_below n) b) h in
-    both_are (is_below n to) (operand_keeps (is_below n) (operands_of fs op a b).0 && operand_keeps (is_below n) (operands_of fs op a b).1) s.0
+    let s = and_parts (is_below n to) (operand_keeps (is_below n) a && operand_keeps (is_below n) b) h in
+    and_from (is_below n to) (operand_keeps (is_below n) (operands_of fs op a b).0 && operand_keeps (is_below n) (operands_of fs op a b).1) s.0
     (folded_low n fs below op (forward fs a) (forward fs b) (two_low n fs below a b s.1))
 line_low n fs below (Load to op at) h =
-    let s = both_true (is_below n to) (operand_keeps (is_below n) at.base) h in both_are (is_below n to) (operand_keeps (is_below n) (with_address fs at).base) s.0 (address_low n fs below at s.1)
+    let s = and_parts (is_below n to) (operand_keeps (is_below n) at.base) h in and_from (is_below n to) (operand_keeps (is_below n) (with_address fs at).base) s.0 (address_low n fs below at s.1)
 line_low n fs below (Store size a at) h =
-    let s = both_true (operand_keeps (is_below n) a) (operand_keeps (is_below n) at.base) h in
-    both_are (operand_keeps (is_below n) (forward fs a)) (operand_keeps (is_below n) (with_address fs at).base) (forward_low n fs below a s.0) (address_low n fs below at s.1)
+    let s = and_parts (operand_keeps (is_below n) a) (operand_keeps (is_below n) at.base) h in
+    and_from (operand_keeps (is_below n) (forward fs a)) (operand_keeps (is_below n) (with_address fs at).base) (forward_low n fs below a s.0) (address_low n fs below at s.1)
 line_low n fs below (Alloc to size) h = h
 line_low n fs below (Blit a b count) h = two_low n fs below a b h
 line_low n fs below (Call to callee args) h =
-    let s = both_true (wanted_keeps (is_below n) to) (operand_keeps (is_below n) callee && list_all (λ (a : Argument ℕ). operand_keeps (is_below n) a.value) args) h in
-    let t = both_true (operand_keeps (is_below n) callee) (list_all (λ (a : Argument ℕ). operand_keeps (is_below n) a.value) args) s.1 in
-    both_are (wanted_keeps (is_below n) to)
+    let s = and_parts (wanted_keeps (is_below n) to) (operand_keeps (is_below n) callee && list_all (λ (a : Argument ℕ). operand_keeps (is_below n) a.value) args) h in
+    let t = and_parts (operand_keeps (is_below n) callee) (list_all (λ (a : Argument ℕ). operand_keeps (is_below n) a.value) args) s.1 in
+    and_from (wanted_keeps (is_below n) to)
     (operand_keeps (is_below n) (forward fs callee) && list_all (λ (a : Argument ℕ). operand_keeps (is_below n) a.value) (map (with_argument (forward fs)) args)) s.0
-    (both_are (operand_keeps (is_below n) (forward fs callee)) (list_all (λ (a : Argument ℕ). operand_keeps (is_below n) a.value) (map (with_argument (forward fs)) args))
-    (forward_low n fs below callee t.0) (args_low n fs below args t.1))
+    (and_from (operand_keeps (is_below n) (forward fs callee)) (list_all (λ (a : Argument ℕ). operand_keeps (is_below n) a.value) (map (with_argument (forward fs)) args))
+    (forward_low n fs below callee t.0) (args_low n (forward fs) (forward_low n fs below) args t.1))
 
 -- ---- jumps
 
@@ -305,8 +292,8 @@ jump_low lines n fs below (Branch on met otherwise) h =
     let new : Comparison ℕ = with_comparison (forward fs) on in
     outcome_either (λ k. jump_keeps (is_below n) k ≡ true) (numbers_hold new.condition new.class new.left new.right) met otherwise (with_branch lines fs new met otherwise) refl refl
     (test_either lines (λ k. jump_keeps (is_below n) k ≡ true) new.condition new met otherwise (tested_by fs new.left new.right) (two_low n fs below on.left on.right h)
-    (λ c e. let s = both_true (operand_below n c.left) (operand_below n c.right) (tested_low n fs below new.left new.right c e) in
-    let all = both_are (operand_keeps (is_below n) c.left) (operand_keeps (is_below n) c.right) (keeps_below n c.left s.0) (keeps_below n c.right s.1) in (λ paid. all, λ paid. all)))
+    (λ c e. let s = and_parts (operand_below n c.left) (operand_below n c.right) (tested_low n fs below new.left new.right c e) in
+    let all = and_from (operand_keeps (is_below n) c.left) (operand_keeps (is_below n) c.right) (keeps_below n c.left s.0) (keeps_below n c.right s.1) in (λ paid. all, λ paid. all)))
 jump_low lines n fs below (Return None) h = refl
 jump_low lines n fs below (Return (Some a)) h = forward_low n fs below a.value h
 jump_low lines n fs below Halt h = refl
@@ -315,10 +302,10 @@ jump_inside : (lines : List (Line ℕ)) (n m : ℕ) (fs : Facts) (j : Jump ℕ) 
 jump_inside lines n m fs (Goto k) h = h
 jump_inside lines n m fs (Branch on met otherwise) h =
     let new : Comparison ℕ = with_comparison (forward fs) on in
-    let s = both_true (is_target m met) (is_target m otherwise) h in
+    let s = and_parts (is_target m met) (is_target m otherwise) h in
     outcome_either (λ k. leads_inside m k ≡ true) (numbers_hold new.condition new.class new.left new.right) met otherwise (with_branch lines fs new met otherwise) s.0 s.1
     (test_either lines (λ k. leads_inside m k ≡ true) new.condition new met otherwise (tested_by fs new.left new.right) h
-    (λ c e. (λ paid. h, λ paid. both_are (is_target m otherwise) (is_target m met) s.1 s.0)))
+    (λ c e. (λ paid. h, λ paid. and_from (is_target m otherwise) (is_target m met) s.1 s.0)))
 jump_inside lines n m fs (Return a) h = refl
 jump_inside lines n m fs Halt h = refl
 
@@ -327,8 +314,8 @@ jump_inside lines n m fs Halt h = refl
 pays : (old new credit more : ℕ) (j k : Jump ℕ) (lines lines2 : List (Line ℕ)) → new ≤ old → credit ≤ more → ((c m : ℕ) → c ≤ m → affords c j lines ≡ true → affords m k lines2 ≡ true)
     → (nat_le old credit && affords (credit - old) j lines) ≡ true → (nat_le new more && affords (more - new) k lines2) ≡ true
 pays old new credit more j k lines lines2 cheap le rest h =
-    let s = both_true (nat_le old credit) (affords (credit - old) j lines) h in
-    both_are (nat_le new more) (affords (more - new) k lines2) (let a = s.0 in grind (arith, nat_tests)) (rest (credit - old) (more - new) (omega arith) s.1)
+    let s = and_parts (nat_le old credit) (affords (credit - old) j lines) h in
+    and_from (nat_le new more) (affords (more - new) k lines2) (let a = s.0 in grind (arith, nat_tests)) (rest (credit - old) (more - new) (omega arith) s.1)
 
 line_paid : (fs : Facts) (l : Line ℕ) (credit more : ℕ) (j k : Jump ℕ) (lines lines2 : List (Line ℕ)) → credit ≤ more → ((c m : ℕ) → c ≤ m → affords c j lines ≡ true → affords m k lines2 ≡ true)
     → affords credit j (l ∷ lines) ≡ true → affords more k (shortened (with_line fs l) ∷ lines2) ≡ true
@@ -530,7 +517,7 @@ kept_below n b test (Some g) f h = by (b && (fact_below n g && test g)) refl h
     by : (c : Bool) → (b && (fact_below n g && test g)) ≡ c → (if c then Some g else None) ≡ Some f → fact_below n f ≡ true
     by true e k =
         let same : g ≡ f = cc in
-        ap (fact_below n) (sym same) ∙ (both_true (fact_below n g) (test g) (both_true b (fact_below n g && test g) e).1).0
+        ap (fact_below n) (sym same) ∙ (and_parts (fact_below n g) (test g) (and_parts b (fact_below n g && test g) e).1).0
     by false e k = absurd (let no : ⊥ = cc in no)
 
 after_below : (n : ℕ) (l : Line ℕ) (fs : Facts) → AreBelow n (after n l fs)
@@ -543,12 +530,12 @@ lines_low n whole fs [] [] j k f below h = ap (jump_keeps (is_below n)) f ∙ ju
 lines_low n whole fs [] (m ∷ new) j k f below h = absurd f
 lines_low n whole fs (l ∷ lines) [] j k f below h = absurd f
 lines_low n whole fs (l ∷ lines) (m ∷ new) j k f below h =
-    let s = both_true (line_keeps (is_below n) l && list_all (line_keeps (is_below n)) lines) (jump_keeps (is_below n) j) h in
-    let t = both_true (line_keeps (is_below n) l) (list_all (line_keeps (is_below n)) lines) s.0 in
-    let rest = lines_low n whole (after n m fs) lines new j k f.1 (after_below n m fs) (both_are (list_all (line_keeps (is_below n)) lines) (jump_keeps (is_below n) j) t.1 s.1) in
-    let u = both_true (list_all (line_keeps (is_below n)) new) (jump_keeps (is_below n) k) rest in
-    both_are (line_keeps (is_below n) m && list_all (line_keeps (is_below n)) new) (jump_keeps (is_below n) k)
-    (both_are (line_keeps (is_below n) m) (list_all (line_keeps (is_below n)) new) (ap (line_keeps (is_below n)) f.0 ∙ (unchanged (line_keeps (is_below n)) (λ to op new a p q. refl, λ to op a b p. refl) (with_line fs l) ∙ line_low n fs below l t.0)) u.0) u.1
+    let s = and_parts (line_keeps (is_below n) l && list_all (line_keeps (is_below n)) lines) (jump_keeps (is_below n) j) h in
+    let t = and_parts (line_keeps (is_below n) l) (list_all (line_keeps (is_below n)) lines) s.0 in
+    let rest = lines_low n whole (after n m fs) lines new j k f.1 (after_below n m fs) (and_from (list_all (line_keeps (is_below n)) lines) (jump_keeps (is_below n) j) t.1 s.1) in
+    let u = and_parts (list_all (line_keeps (is_below n)) new) (jump_keeps (is_below n) k) rest in
+    and_from (line_keeps (is_below n) m && list_all (line_keeps (is_below n)) new) (jump_keeps (is_below n) k)
+    (and_from (line_keeps (is_below n) m) (list_all (line_keeps (is_below n)) new) (ap (line_keeps (is_below n)) f.0 ∙ (unchanged (line_keeps (is_below n)) (λ to op new a p q. refl, λ to op a b p. refl) (with_line fs l) ∙ line_low n fs below l t.0)) u.0) u.1
 
 inside_from : (n size : ℕ) (whole : List (Line ℕ)) (fs : Facts) (lines new : List (Line ℕ)) (j k : Jump ℕ) → AreForwarded n whole fs lines new j k → leads_inside size j ≡ true → leads_inside size k ≡ true
 inside_from n size whole fs [] [] j k f h = ap (leads_inside size) f ∙ jump_inside whole n size fs j h
@@ -581,7 +568,7 @@ blocks_all test n keep [] [] h all = refl
 blocks_all test n keep [] (c ∷ new) h all = absurd h
 blocks_all test n keep (b ∷ blocks) [] h all = absurd h
 blocks_all test n keep (b ∷ blocks) (c ∷ new) h all =
-    let s = both_true (test b) (list_all test blocks) all in both_are (test c) (list_all test new) (keep b c h.0 s.0) (blocks_all test n keep blocks new h.1 s.1)
+    let s = and_parts (test b) (list_all test blocks) all in and_from (test c) (list_all test new) (keep b c h.0 s.0) (blocks_all test n keep blocks new h.1 s.1)
 
 first_kept : (n : ℕ) (blocks new : List (Block ℕ)) → AllForwarded n blocks new → allocs_first blocks ≡ true → allocs_first new ≡ true
 first_kept n [] [] h all = refl
@@ -607,8 +594,8 @@ area_same n v w all = blocks_from alloc_bytes bytes_stay n v.blocks w.blocks all
 
 pub places_kept : (n : ℕ) (v w : Code ℕ) → AllForwarded n v.blocks w.blocks → w.params ≡ v.params → keeps_places (is_below n) v ≡ true → keeps_places (is_below n) w ≡ true
 places_kept n v w all same h =
-    let s = both_true (list_all (λ (d : Destination ℕ). is_below n d.place) v.params) (list_all (block_keeps (is_below n)) v.blocks) h in
-    both_are (list_all (λ (d : Destination ℕ). is_below n d.place) w.params) (list_all (block_keeps (is_below n)) w.blocks)
+    let s = and_parts (list_all (λ (d : Destination ℕ). is_below n d.place) v.params) (list_all (block_keeps (is_below n)) v.blocks) h in
+    and_from (list_all (λ (d : Destination ℕ). is_below n d.place) w.params) (list_all (block_keeps (is_below n)) w.blocks)
     (ap (list_all (λ (d : Destination ℕ). is_below n d.place)) same ∙ s.0)
     (blocks_all (block_keeps (is_below n)) n (λ b c f e. lines_low n c.lines (λ r. None) b.lines c.lines b.jump c.jump f (λ r g h. absurd (let no : ⊥ = cc in no)) e) v.blocks w.blocks all s.1)
 

@@ -1,5 +1,5 @@
 -- Code that is put by what is known runs as the code does, step by step in the same states, in which all that is known is true.
-use Rattle.std.proofs.Common.{◌≡◌, ℕ, zero, suc, ◌+◌, ◌-◌, ◌%◌, ◌^◌, ◌<◌, Bool, true, false, not, ◌&&◌, ◌||◌, nat_eq, nat_lt, if◌then◌else◌, List, [], ◌∷◌, map, drop, length, Option, Some, None, slice_get, refl, sym, ◌∙◌, ap, subst, arith}
+use Rattle.std.proofs.Common.{◌≡◌, ℕ, zero, suc, ◌+◌, ◌%◌, ◌^◌, ◌<◌, Bool, true, false, not, ◌&&◌, ◌||◌, nat_eq, nat_lt, if◌then◌else◌, List, [], ◌∷◌, map, drop, length, Option, Some, None, slice_get, refl, sym, ◌∙◌, ap, subst, arith}
 use Rattle.std.specs.Option.{option_map, option_and_then, option_map_or}
 use Rattle.std.proofs.lemmas.Bool.{and_parts}
 use Rattle.std.proofs.lemmas.Bool.Decides.{nat_tests}
@@ -17,9 +17,9 @@ use Rattle.il_ast.specs.Memory.{Memory, store, copy}
 use Rattle.il_ast.specs.Operations.{holds, truth, compare_places, operate_two}
 use Rattle.il_ast.specs.Effect.{stored_class}
 use Rattle.il_ast.specs.Run.{one_turn, both, Outcome, Returned, Ended}
-use Rattle.il_ast.specs.Logged.{Next, On, Over, Event, Does, Calls}
+use Rattle.il_ast.specs.Logged.{Over, Event, Does}
 use Rattle.il_ast.specs.Keeps.{Asked, Given, Fine, KeepsCode}
-use Rattle.il_ast.specs.Simulation.{TogetherNext, Together, Lockstep}
+use Rattle.il_ast.specs.Simulation.{Together, Lockstep}
 use Rattle.il_ast.proofs.Simulated.{lockstep_keeps}
 use Rattle.vcode.specs.declared.place.Operand.{Operand}
 use Rattle.vcode.specs.declared.place.Address.{Address}
@@ -42,7 +42,10 @@ use Rattle.vcode.specs.Addresses.{low, distance, beyond}
 use Rattle.vcode.specs.Operations.{held, operate, loaded, passed as passed_value}
 use Rattle.vcode.specs.Places.{Values, put, assign, kept, virtual}
 use Rattle.vcode.specs.Coded.{classes_in}
-use Rattle.vcode.specs.Step.{State, begin, value_of, read, read_argument, read_result, read_all, operated, address_of, goes_on, sets, changes, weighs, ticks, receives, resumes, calls, line_step, compared, branches, returns, jump_step, step}
+use Rattle.vcode.specs.Step.{State, begin, value_of, read, read_result, read_all, operated, address_of, goes_on, sets, changes, weighs, ticks, receives, resumes, calls, line_step, compared, branches, returns, jump_step, step}
+use Rattle.vcode.specs.Replaced.{Replacing, with_base, with_argument, with_comparison}
+use Rattle.vcode.proofs.Going.{OnNext, OnEvent, Relation, event_self, event_more}
+use Rattle.vcode.proofs.SameReads.{SameValue, SameArguments, two_same, args_same, calls_same}
 use Rattle.vcode.proofs.Lists.{head_at, tail_at, nothing_at, same_some}
 use Rattle.vcode.proofs.Stepping.{step_line, step_jump, step_nowhere}
 use Rattle.cfg_live.specs.Registers.{line_writes}
@@ -51,7 +54,7 @@ use Rattle.forwarding.specs.declared.fact.Fact.TheVariants.{Same, Sum, Test}
 use Rattle.forwarding.specs.Facts.{Facts, names_it, fact_names, asks_memory, kept_if, fact_below, summed, Truth, AreTrue}
 use Rattle.forwarding.specs.Shortened.{shortened}
 use Rattle.forwarding.proofs.Computing.{numbers_compared, shortened_step}
-use Rattle.forwarding.specs.Forwarded.{is_short, copied, forward, regrouped, grouped, is_add, folded, further, from_base, with_base, with_address, sum_of, Replacing, with_argument, with_line, with_comparison, test_of, tested_by, with_test, with_branch, numbers_hold, decided, with_jump, changes_memory, writes_it, fact_of, leaves, after, AreForwarded, IsForwarded, AllForwarded}
+use Rattle.forwarding.specs.Forwarded.{is_short, copied, forward, regrouped, grouped, is_add, folded, further, from_base, with_address, sum_of, with_line, test_of, tested_by, with_test, with_branch, numbers_hold, decided, with_jump, changes_memory, writes_it, fact_of, leaves, after, AreForwarded, IsForwarded, AllForwarded}
 
 -- ---- operands
 
@@ -74,42 +77,12 @@ operand_same globals s fs all (Name g) = refl
 
 -- operands that have the same values
 abbrev SameValues : List Value → State ℕ → Replacing → Type 0
-SameValues globals s f = (a : Operand ℕ) → value_of globals s.values (f a) ≡ value_of globals s.values a
+SameValues globals s f = (a : Operand ℕ) → SameValue globals s.values s.values f a
 
-two_same : {R : Type 0} (globals : List Value) (s : State ℕ) (f : Replacing) → SameValues globals s f → (a b : Operand ℕ) (act : Value → Value → Option R)
-    → option_and_then (λ u. option_and_then (λ v. act u v) (value_of globals s.values (f b))) (value_of globals s.values (f a))
-    ≡ option_and_then (λ u. option_and_then (λ v. act u v) (value_of globals s.values b)) (value_of globals s.values a)
-two_same {R} globals s f same a b act =
-    ap (λ (x : Option Value). option_and_then (λ u. option_and_then (λ v. act u v) x) (value_of globals s.values (f a))) (same b)
-    ∙ ap (λ (x : Option Value). option_and_then (λ u. option_and_then (λ v. act u v) (value_of globals s.values b)) x) (same a)
-
-args_same : (globals : List Value) (s : State ℕ) (f : Replacing) → SameValues globals s f → (args : List (Argument ℕ)) → read_all globals s.values (map (with_argument f) args) ≡ read_all globals s.values args
-args_same globals s f same [] = refl
-args_same globals s f same (a ∷ args) =
-    ap (λ (x : Option Value). option_and_then (λ v. option_map (λ vs. v ∷ vs) (read_all globals s.values (map (with_argument f) args))) (option_and_then (passed_value a.extension a.class) x)) (same a.value)
-    ∙ ap (λ (x : Option (List Value)). option_and_then (λ v. option_map (λ vs. v ∷ vs) x) (read_argument globals s.values a)) (args_same globals s f same args)
-
-classes_same : (f : Replacing) (args : List (Argument ℕ)) → map (λ (a : Argument ℕ). a.class) (map (with_argument f) args) ≡ map (λ (a : Argument ℕ). a.class) args
-classes_same f [] = refl
-classes_same f (a ∷ args) = ap (λ (cs : List Class). a.class ∷ cs) (classes_same f args)
-
-calls_same : (i : Given) (s : State ℕ) (to : Option (Destination ℕ)) (f : Replacing) (args : List (Argument ℕ)) (x : Option Value) (vs : Option (List Value))
-    → calls virtual i s to (map (with_argument f) args) x vs ≡ calls virtual i s to args x vs
-calls_same i s to f args (Some (Function g)) (Some vs) =
-    ap
-    (λ (cs : List Class). Calls
-    (record {
-      call = record { callee = g; classes = cs; wants = option_map (λ (d : Destination ℕ). d.class) to; args = vs };
-      turns = i.turns - s.spent.turns;
-      room = i.room;
-      memory = s.memory;
-    })
-    (resumes virtual s to))
-    (classes_same f args)
-calls_same i s to f args (Some (Function g)) None = refl
-calls_same i s to f args (Some (Integer k)) vs = refl
-calls_same i s to f args (Some (Pointer b k)) vs = refl
-calls_same i s to f args None vs = refl
+arguments_same : (globals : List Value) (s : State ℕ) (f : Replacing) → SameValues globals s f → (args : List (Argument ℕ))
+    → SameArguments globals s.values s.values f args
+arguments_same globals s f same [] = tt
+arguments_same globals s f same (a ∷ args) = (same a.value, arguments_same globals s f same args)
 
 -- ---- sums
 
@@ -272,17 +245,17 @@ line_same globals i s fs all (Set to a) = ap (takes_to s to) (operand_same globa
     takes_to s to o = goes_on (record s { values = assign virtual to o s.values })
 line_same globals i s fs all (Operate to op a b) =
     ap (sets virtual s to)
-    (folded_same globals s fs all op (forward fs a) (forward fs b) ∙ two_same globals s (forward fs) (operand_same globals s fs all) a b (operate s.memory op))
+    (folded_same globals s fs all op (forward fs a) (forward fs b) ∙ two_same globals s.values s.values (forward fs) a b (operate s.memory op) (operand_same globals s fs all a) (operand_same globals s fs all b))
 line_same globals i s fs all (Load to op at) = ap (λ (o : Option Value). sets virtual s to (option_and_then (loaded s.memory op) o)) (address_same globals s fs all at)
 line_same globals i s fs all (Store size a at) =
     ap (changes s)
     (ap (λ (x : Option Value). option_and_then (λ v. option_and_then (λ p. store s.memory (byte_count size) p v) x) (read globals s.values (stored_class size) (forward fs a))) (address_same globals s fs all at)
     ∙ ap (λ (x : Option Value). option_and_then (λ v. option_and_then (λ p. store s.memory (byte_count size) p v) (address_of globals s.memory s.values at)) (option_and_then (in_place (stored_class size)) x)) (operand_same globals s fs all a))
 line_same globals i s fs all (Alloc to size) = refl
-line_same globals i s fs all (Blit from to count) = ap (changes s) (two_same globals s (forward fs) (operand_same globals s fs all) from to (λ p q. copy s.memory count p q))
+line_same globals i s fs all (Blit from to count) = ap (changes s) (two_same globals s.values s.values (forward fs) from to (λ p q. copy s.memory count p q) (operand_same globals s fs all from) (operand_same globals s fs all to))
 line_same globals i s fs all (Call to callee args) =
     ap (λ (x : Option Value). calls virtual i s to (map (with_argument (forward fs)) args) x (read_all globals s.values (map (with_argument (forward fs)) args))) (operand_same globals s fs all callee)
-    ∙ ap (calls virtual i s to (map (with_argument (forward fs)) args) (value_of globals s.values callee)) (args_same globals s (forward fs) (operand_same globals s fs all) args)
+    ∙ ap (calls virtual i s to (map (with_argument (forward fs)) args) (value_of globals s.values callee)) (args_same globals s.values s.values (forward fs) args (arguments_same globals s (forward fs) (operand_same globals s fs all) args))
     ∙ calls_same i s to (forward fs) args (value_of globals s.values callee) (read_all globals s.values args)
 
 -- ---- a test of a comparison's result
@@ -455,41 +428,11 @@ jump_same whole globals result s fs all (Branch on met otherwise) =
     outcome_same globals result s new met otherwise (with_branch whole fs new met otherwise) (numbers_hold new.condition new.class new.left new.right) refl
     (test_same whole globals result s new new.condition met otherwise (tested_by fs new.left new.right) refl
     (λ c e. let t = tests globals s fs all new.left new.right c e in record { right = t.0; left = t.1 }))
-    ∙ ap (branches s met otherwise) (two_same globals s (forward fs) (operand_same globals s fs all) on.left on.right (operate s.memory (Compare on.condition on.class)))
+    ∙ ap (branches s met otherwise) (two_same globals s.values s.values (forward fs) on.left on.right (operate s.memory (Compare on.condition on.class)) (operand_same globals s fs all on.left) (operand_same globals s fs all on.right))
 jump_same whole globals result s fs all (Return None) = refl
 jump_same whole globals None s fs all (Return (Some a)) = refl
 jump_same whole globals (Some k) s fs all (Return (Some a)) = ap (λ (x : Option Value). returns s (option_and_then (passed_value a.extension k) x)) (operand_same globals s fs all a.value)
 jump_same whole globals result s fs all Halt = refl
-
--- ---- where an event goes on
-
-abbrev OnNext : (State ℕ → Type 0) → Next (State ℕ) Outcome → Type 0
-OnNext holds (On u) = holds u
-OnNext holds (Over o) = Unit {0}
-
-abbrev OnEvent : (State ℕ → Type 0) → Event (State ℕ) Asked Outcome → Type 0
-OnEvent holds (Does n) = OnNext holds n
-OnEvent holds (Calls i k) = (o : Outcome) → OnNext holds (k o)
-
-abbrev Relation : Type 1
-Relation = State ℕ → State ℕ → Type 0
-
-next_self : (related : Relation) (n : Next (State ℕ) Outcome) → OnNext (λ u. related u u) n → TogetherNext related Fine n n
-next_self related (On u) h = (u, refl, h)
-next_self related (Over o) h = λ f. refl
-
-event_self : (related : Relation) (e : Event (State ℕ) Asked Outcome) → OnEvent (λ u. related u u) e → Together related Fine e e
-event_self related (Does (On u)) h = (u, refl, h)
-event_self related (Does (Over o)) h = λ f. refl
-event_self related (Calls i k) h = (k, refl, λ o. next_self related (k o) (h o))
-
-next_more : (p q : State ℕ → Type 0) → ((u : State ℕ) → p u → q u) → (n : Next (State ℕ) Outcome) → OnNext p n → OnNext q n
-next_more p q more (On u) h = more u h
-next_more p q more (Over o) h = tt
-
-event_more : (p q : State ℕ → Type 0) → ((u : State ℕ) → p u → q u) → (e : Event (State ℕ) Asked Outcome) → OnEvent p e → OnEvent q e
-event_more p q more (Does n) h = next_more p q more n h
-event_more p q more (Calls i k) h = λ o. next_more p q more (k o) (h o)
 
 -- ---- a line was done
 

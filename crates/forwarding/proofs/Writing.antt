@@ -1,6 +1,7 @@
 -- What is left of facts when a line writes a register or memory.
 use Rattle.std.proofs.Common.{◌≡◌, ℕ, ◌<◌, ◌≤◌, Bool, true, false, not, ◌&&◌, ◌||◌, nat_eq, nat_lt, nat_le, if◌then◌else◌, List, [], ◌∷◌, zero, suc, length, slice_get, slice_set, Option, Some, None, refl, sym, ◌∙◌, ap, arith}
 use Rattle.std.specs.Option.{option_map, option_map_or}
+use Rattle.std.proofs.lemmas.Bool.{and_parts, and_from}
 use Rattle.std.proofs.lemmas.Bool.Decides.{nat_tests}
 use Rattle.vcode.specs.declared.place.Operand.{Operand}
 use Rattle.vcode.specs.declared.place.Operand.TheVariants.{At, Number, Name}
@@ -55,13 +56,6 @@ get_within (y ∷ ys) zero x e = grind (arith, nat_tests)
 get_within (y ∷ ys) (suc i) x e = let s = get_within ys i x e in grind (arith, nat_tests)
 
 -- ---- facts under a test
-
-pub both_true : (a b : Bool) → (a && b) ≡ true → (a ≡ true) × (b ≡ true)
-both_true true b h = (refl, h)
-both_true false b h = cc
-
-pub both_are : (a b : Bool) → a ≡ true → b ≡ true → (a && b) ≡ true
-both_are a b h k = ap (λ x. x && b) h ∙ k
 
 if_kept : (test : _) (b : Bool) (f : Fact) → kept_if test (if b then Some f else None) ≡ (if b && test f then Some f else None)
 if_kept test true f = refl
@@ -383,9 +377,9 @@ fact_low : (written : List ℕ) (memory since : ℕ) (f : Fact) → stands writt
 fact_low written memory since (Same a) h = operand_low written since a h
 fact_low written memory since (Sum a n) h = operand_low written since a h
 fact_low written memory since (Test c) h =
-    let s = both_true (is_fresh written since c.left) (is_fresh written since c.right && nat_le memory since) h in
-    let u = both_true (is_fresh written since c.right) (nat_le memory since) s.1 in
-    both_are (operand_below (length written) c.left) (operand_below (length written) c.right) (operand_low written since c.left s.0) (operand_low written since c.right u.0)
+    let s = and_parts (is_fresh written since c.left) (is_fresh written since c.right && nat_le memory since) h in
+    let u = and_parts (is_fresh written since c.right) (nat_le memory since) s.1 in
+    and_from (operand_below (length written) c.left) (operand_below (length written) c.right) (operand_low written since c.left s.0) (operand_low written since c.right u.0)
 
 pub known_low : (t : Table) → IsTable t → (r : ℕ) (f : Fact) → facts_of t r ≡ Some f → (nat_lt r (length t.written.items) && fact_below (length t.written.items) f) ≡ true
 known_low t is r f h = of (cell t.cells.items r) refl h
@@ -398,6 +392,6 @@ known_low t is r f h = of (cell t.cells.items r) refl h
             → (nat_lt r (length t.written.items) && fact_below (length t.written.items) f) ≡ true
         by true x y =
             let same : k.fact ≡ f = cc in
-            both_are (nat_lt r (length t.written.items)) (fact_below (length t.written.items) f) (ap (λ m. nat_lt r m) (sym is.wide) ∙ cell_within t.cells.items r k e)
-            (ap (fact_below (length t.written.items)) (sym same) ∙ fact_low t.written.items t.memory k.since k.fact (both_true (nat_lt t.begun k.since) (stands t.written.items t.memory k.since k.fact) x).1)
+            and_from (nat_lt r (length t.written.items)) (fact_below (length t.written.items) f) (ap (λ m. nat_lt r m) (sym is.wide) ∙ cell_within t.cells.items r k e)
+            (ap (fact_below (length t.written.items)) (sym same) ∙ fact_low t.written.items t.memory k.since k.fact (and_parts (nat_lt t.begun k.since) (stands t.written.items t.memory k.since k.fact) x).1)
         by false x y = absurd (let no : ⊥ = cc in no)

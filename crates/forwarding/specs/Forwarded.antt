@@ -7,10 +7,8 @@ use Rattle.il_ast.specs.declared.operation.Condition.TheVariants.{Equal, NotEqua
 use Rattle.il_ast.specs.Values.{modulus}
 use Rattle.il_ast.specs.Operations.{holds}
 use Rattle.vcode.specs.declared.place.Operand.{Operand}
-use Rattle.vcode.specs.declared.place.ReturnValue.{ReturnValue}
 use Rattle.vcode.specs.declared.place.Address.{Address}
 use Rattle.vcode.specs.declared.place.Operand.TheVariants.{At, Number, Name}
-use Rattle.vcode.specs.declared.place.Argument.{Argument}
 use Rattle.vcode.specs.declared.line.Line.{Line}
 use Rattle.vcode.specs.declared.line.Line.TheVariants.{Tick, Set, Operate, Load, Store, Alloc, Blit, Call}
 use Rattle.rv_isa.specs.declared.instruction.RegOp.TheVariants.{Add}
@@ -23,6 +21,7 @@ use Rattle.vcode.specs.declared.line.Jump.TheVariants.{Goto, Branch, Return, Hal
 use Rattle.vcode.specs.declared.code.Block.{Block}
 use Rattle.vcode.specs.declared.function.VFunc.{VFunc}
 use Rattle.vcode.specs.Cost.{is_immediate, affords}
+use Rattle.vcode.specs.Replaced.{with_base, with_argument, with_returned, with_comparison}
 use Rattle.cfg_live.specs.Registers.{line_writes}
 use Rattle.forwarding.specs.declared.fact.Fact.{Fact}
 use Rattle.forwarding.specs.declared.fact.Fact.TheVariants.{Same, Sum, Test}
@@ -48,15 +47,6 @@ forward fs (At r) = option_map_or (copied (At r)) (fs r) (At r)
 forward fs a = a
 
 -- ---- lines
-
-abbrev pub Replacing : Type 0
-Replacing = Operand ℕ → Operand ℕ
-
-abbrev pub with_argument : Replacing → Argument ℕ → Argument ℕ
-with_argument f a = record { class = a.class; value = f a.value; extension = a.extension }
-
-abbrev pub with_returned : Replacing → ReturnValue ℕ → ReturnValue ℕ
-with_returned f a = record { value = f a.value; extension = a.extension }
 
 -- the operands of a sum with a number of what is known to be one
 abbrev pub regrouped : Option Fact → (r m : ℕ) → Operand ℕ × Operand ℕ
@@ -88,9 +78,6 @@ abbrev pub from_base : Facts → Address ℕ → Operand ℕ → Address ℕ
 from_base fs at (At r) = further at (fs r)
 from_base fs at a = at
 
-abbrev pub with_base : Replacing → Address ℕ → Address ℕ
-with_base f at = record { base = f at.base; offset = at.offset }
-
 abbrev pub with_address : Facts → Address ℕ → Address ℕ
 with_address fs at = from_base fs (with_base (forward fs) at) (forward fs at.base)
 
@@ -105,9 +92,6 @@ with_line fs (Blit from to count) = Blit (forward fs from) (forward fs to) count
 with_line fs (Call to callee args) = Call to (forward fs callee) (map (with_argument (forward fs)) args)
 
 -- ---- jumps
-
-abbrev pub with_comparison : Replacing → Comparison ℕ → Comparison ℕ
-with_comparison f on = record { condition = on.condition; class = on.class; left = f on.left; right = f on.right }
 
 -- the comparison whose result this one compares with 0
 abbrev pub test_of : Option Fact → Option (Comparison ℕ)

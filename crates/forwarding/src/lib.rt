@@ -18,7 +18,5 @@
 pub mod fact;
 pub mod forward;
 mod replace;
-mod shorten;
+pub mod shorten;
 mod table;
-#[cfg(test)]
-mod tests;

@@ -5,19 +5,20 @@ ghost use Rattle.vcode.specs.declared.place.Operand.TheVariants.{At};
 ghost use Rattle.vcode.specs.declared.line.Jump.TheVariants.{Branch};
 ghost use Rattle.vcode.specs.Addresses.{distance};
 ghost use Rattle.vcode.specs.Cost.{is_immediate};
+ghost use Rattle.vcode.specs.Replaced.{with_base, with_returned, with_comparison};
 ghost use Rattle.forwarding.specs.Table.{facts_of};
-ghost use Rattle.forwarding.specs.Forwarded.{is_short, forward, with_argument, with_returned, regrouped, grouped, is_add, operands_of, further, with_address, with_line, with_comparison, tested_by, afforded, with_test, with_branch, numbers_hold, with_outcome, with_jump};
+ghost use Rattle.forwarding.specs.Forwarded.{is_short, forward, regrouped, grouped, is_add, operands_of, further, with_address, with_line, tested_by, afforded, with_test, with_branch, numbers_hold, with_outcome, with_jump};
 
 use crate::fact::Fact;
 use crate::table::Table;
 use il_ast::condition::numbers_hold;
-use il_ast::list::Seq;
 use il_ast::operation::{Class, Condition};
 use rv_isa::instruction::RegOp;
 use std::alloc::{AllocError, Global};
 use vcode::cost::{affords, is_immediate};
 use vcode::line::{Comparison, Jump, Line, Operation};
-use vcode::place::{Address, Argument, Operand, ReturnValue};
+use vcode::place::{Address, Operand};
+use vcode::replace::{Replace, address as with_base, arguments, comparison, returned};
 
 fn is_short(operand: &Operand<u32>) -> bool
     ensures { result ≡ is_short operand.now }
@@ -45,31 +46,14 @@ fn copied(table: &Table, register: u32) -> Operand<u32>
     }
 }
 
-fn operand(table: &Table, from: &Operand<u32>) -> Operand<u32>
-    ensures { result ≡ forward (facts_of table.now) from.now }
-{
-    match from {
-        Operand::At(register) => copied(table, *register),
-        other => *other,
-    }
-}
+impl Replace for Table {
+    ghost replacing = { λ t. forward (facts_of t) };
 
-fn argument(table: &Table, from: &Argument<u32>) -> Argument<u32>
-    ensures { result ≡ with_argument (forward (facts_of table.now)) from.now }
-{
-    Argument {
-        class: from.class,
-        value: operand(table, &from.value),
-        extension: from.extension,
-    }
-}
-
-fn returned(table: &Table, value: &ReturnValue<u32>) -> ReturnValue<u32>
-    ensures { result ≡ with_returned (forward (facts_of table.now)) value.now }
-{
-    ReturnValue {
-        value: operand(table, &value.value),
-        extension: value.extension,
+    fn operand(&self, from: &Operand<u32>) -> Operand<u32> {
+        match from {
+            Operand::At(register) => copied(self, *register),
+            other => *other,
+        }
     }
 }
 
@@ -119,8 +103,8 @@ fn operands(
 ) -> (Operand<u32>, Operand<u32>)
     ensures { result ≡ operands_of (facts_of table.now) operation left.now right.now }
 {
-    let left = operand(table, left);
-    let right = operand(table, right);
+    let left = table.operand(left);
+    let right = table.operand(right);
     if is_add(operation) {
         grouped(table, left, right)
     } else {
@@ -154,39 +138,11 @@ fn further(at: Address<u32>, known: Option<Fact>) -> Address<u32>
 fn address(table: &Table, from: &Address<u32>) -> Address<u32>
     ensures { result ≡ with_address (facts_of table.now) from.now }
 {
-    let at = Address {
-        base: operand(table, &from.base),
-        offset: from.offset,
-    };
+    let at = with_base(table, from);
     match at.base {
         Operand::At(register) => further(at, table.fact(register)),
         _ => at,
     }
-}
-
-fn push_arguments(
-    table: &Table,
-    to: &mut Seq<Argument<u32>>,
-    args: &[Argument<u32>],
-) -> Result<(), AllocError>
-    ensures { OnOk result (to.new ≡ to.old ++ map (with_argument (forward (facts_of table.now))) args.now) }
-{
-    for arg in args {
-        to.push(argument(table, arg))?;
-    }
-    Ok(())
-}
-
-fn arguments(
-    alloc: Global,
-    table: &Table,
-    args: &[Argument<u32>],
-) -> Result<Seq<Argument<u32>>, AllocError>
-    ensures { IfOk result (λ v. v ≡ map (with_argument (forward (facts_of table.now))) args.now) }
-{
-    let mut to = Seq::new(alloc);
-    push_arguments(table, &mut to, args)?;
-    Ok(to)
 }
 
 /// The line with each operand put by what is known.
@@ -204,7 +160,7 @@ pub(crate) fn line(alloc: Global, table: &Table, from: &Line<u32>) -> Result<Lin
         },
         Line::Set { to, value } => Line::Set {
             to: *to,
-            value: operand(table, value),
+            value: table.operand(value),
         },
         Line::Operate {
             to,
@@ -227,7 +183,7 @@ pub(crate) fn line(alloc: Global, table: &Table, from: &Line<u32>) -> Result<Lin
         },
         Line::Store { size, value, at } => Line::Store {
             size: *size,
-            value: operand(table, value),
+            value: table.operand(value),
             at: address(table, at),
         },
         Line::Alloc { to, size } => Line::Alloc {
@@ -235,27 +191,16 @@ pub(crate) fn line(alloc: Global, table: &Table, from: &Line<u32>) -> Result<Lin
             size: *size,
         },
         Line::Blit { from, to, count } => Line::Blit {
-            from: operand(table, from),
-            to: operand(table, to),
+            from: table.operand(from),
+            to: table.operand(to),
             count: *count,
         },
         Line::Call { to, callee, args } => Line::Call {
             to: *to,
-            callee: operand(table, callee),
+            callee: table.operand(callee),
             args: arguments(alloc, table, args.as_slice())?,
         },
     })
-}
-
-fn comparison(table: &Table, from: &Comparison<u32>) -> Comparison<u32>
-    ensures { result ≡ with_comparison (forward (facts_of table.now)) from.now }
-{
-    Comparison {
-        condition: from.condition,
-        class: from.class,
-        left: operand(table, &from.left),
-        right: operand(table, &from.right),
-    }
 }
 
 // The comparison whose result this one compares with 0.

@@ -158,7 +158,7 @@ fn by_shift(line: Line<u32>) -> Line<u32>
 
 /// The line itself, or its short form: an operation on two numbers as the number that it gives, where that costs no more, and a multiplication, an unsigned
 /// division or a remainder by a power of two as a shift or a mask.
-pub(crate) fn shortened(line: Line<u32>) -> Line<u32>
+pub fn shortened(line: Line<u32>) -> Line<u32>
     ensures { result ≡ shortened line }
 {
     by_shift(computed(line))

@@ -2,6 +2,7 @@
 use Rattle.std.proofs.Common.{◌≡◌, ℕ, suc, ◌+◌, ◌-◌, Bool, true, false, not, ◌&&◌, ◌||◌, nat_le, nat_lt, if◌then◌else◌, List, [], ◌∷◌, ◌++◌, map, length, Some, None, refl, sym, ◌∙◌, ap, arith}
 use Rattle.std.specs.Prelude.{max}
 use Rattle.std.specs.List.{list_all, list_any, sum_by}
+use Rattle.std.proofs.lemmas.Bool.{and_parts, and_from}
 use Rattle.std.proofs.lemmas.List.Sums.{sum_by-cons}
 use Rattle.il_ast.specs.Passes.{Keeps}
 use Rattle.rv_isa.specs.declared.abi.TheConstants.{ARGUMENT_REGISTERS}
@@ -21,83 +22,13 @@ use Rattle.vcode.specs.Named.{operand_keeps, wanted_keeps, line_keeps, jump_keep
 use Rattle.vcode.specs.Outgoing.{args_on_stack, most_in_lines, most_in_blocks}
 use Rattle.vcode.specs.Places.{virtual}
 use Rattle.vcode.specs.Regular.{leads_inside, is_alloc, allocs_first, alloc_bytes, area, turns_of, passes_few, weight_of, code_weight, IsRegular}
+use Rattle.vcode.specs.Replaced.{Replacing, with_line, with_jump}
+use Rattle.vcode.proofs.Replacing.{Stays, weight_stays, bytes_stay, turns_stay, alloc_stays, few_stays, passed_stays, line_low, jump_low, inside_same}
 use Rattle.loop_constants.specs.declared.plan.Constant.{Constant}
 use Rattle.loop_constants.specs.declared.plan.Constant.TheVariants.{Number as OfNumber, Name as OfName}
 use Rattle.loop_constants.specs.declared.plan.Plan.{Plan}
-use Rattle.loop_constants.specs.Held.{operand_of, is_it, is_held, is_set, Replacing, replaced, with_argument, with_line, with_jump, setting, held_block, with_blocks, with_constant, is_safe}
-use Rattle.loop_constants.proofs.Running.{both_true, runs}
-
-both_are : (a b : Bool) → a ≡ true → b ≡ true → (a && b) ≡ true
-both_are a b h k = ap (λ x. x && b) h ∙ k
-
--- ---- measures of a line that other operands leave
-
-abbrev Stays : {X : Type 0} → (Line ℕ → X) → Type 0
-Stays g = (f : Replacing) (l : Line ℕ) → g (with_line f l) ≡ g l
-
-weight_stays : Stays weight_of
-weight_stays f (Tick turn w) = refl
-weight_stays f (Set to a) = refl
-weight_stays f (Operate to op a b) = refl
-weight_stays f (Load to op at) = refl
-weight_stays f (Store size a at) = refl
-weight_stays f (Alloc to size) = refl
-weight_stays f (Blit from to count) = refl
-weight_stays f (Call to callee args) = refl
-
-bytes_stay : Stays alloc_bytes
-bytes_stay f (Tick turn w) = refl
-bytes_stay f (Set to a) = refl
-bytes_stay f (Operate to op a b) = refl
-bytes_stay f (Load to op at) = refl
-bytes_stay f (Store size a at) = refl
-bytes_stay f (Alloc to size) = refl
-bytes_stay f (Blit from to count) = refl
-bytes_stay f (Call to callee args) = refl
-
-turns_stay : Stays turns_of
-turns_stay f (Tick turn w) = refl
-turns_stay f (Set to a) = refl
-turns_stay f (Operate to op a b) = refl
-turns_stay f (Load to op at) = refl
-turns_stay f (Store size a at) = refl
-turns_stay f (Alloc to size) = refl
-turns_stay f (Blit from to count) = refl
-turns_stay f (Call to callee args) = refl
-
-alloc_stays : Stays is_alloc
-alloc_stays f (Tick turn w) = refl
-alloc_stays f (Set to a) = refl
-alloc_stays f (Operate to op a b) = refl
-alloc_stays f (Load to op at) = refl
-alloc_stays f (Store size a at) = refl
-alloc_stays f (Alloc to size) = refl
-alloc_stays f (Blit from to count) = refl
-alloc_stays f (Call to callee args) = refl
-
-args_count : (f : Replacing) (args : List (Argument ℕ)) → length (map (with_argument f) args) ≡ length args
-args_count f [] = refl
-args_count f (a ∷ args) = ap suc (args_count f args)
-
-few_stays : Stays passes_few
-few_stays f (Tick turn w) = refl
-few_stays f (Set to a) = refl
-few_stays f (Operate to op a b) = refl
-few_stays f (Load to op at) = refl
-few_stays f (Store size a at) = refl
-few_stays f (Alloc to size) = refl
-few_stays f (Blit from to count) = refl
-few_stays f (Call to callee args) = ap (λ n. nat_le n 64) (args_count f args)
-
-passed_stays : Stays args_on_stack
-passed_stays f (Tick turn w) = refl
-passed_stays f (Set to a) = refl
-passed_stays f (Operate to op a b) = refl
-passed_stays f (Load to op at) = refl
-passed_stays f (Store size a at) = refl
-passed_stays f (Alloc to size) = refl
-passed_stays f (Blit from to count) = refl
-passed_stays f (Call to callee args) = ap (λ n. n - ARGUMENT_REGISTERS) (args_count f args)
+use Rattle.loop_constants.specs.Held.{operand_of, is_it, is_held, is_set, replaced, setting, held_block, with_blocks, with_constant, is_safe}
+use Rattle.loop_constants.proofs.Running.{runs}
 
 -- ---- of the lines of a block, and one that sets a register
 
@@ -123,15 +54,15 @@ lines_sum g stays none p held set (l ∷ lines) =
 
 setting_all : (test : Line ℕ → Bool) (p : Plan) → test (Set p.register (operand_of p.constant)) ≡ true → (set : Bool) → list_all test (setting p set) ≡ true
 setting_all test p h false = refl
-setting_all test p h true = both_are (test (Set p.register (operand_of p.constant))) true h refl
+setting_all test p h true = and_from (test (Set p.register (operand_of p.constant))) true h refl
 
 -- what all lines keep
 lines_all : (test : Line ℕ → Bool) (p : Plan) (held set : Bool) → ((l : Line ℕ) → test l ≡ true → test (with_line (replaced p held) l) ≡ true) → test (Set p.register (operand_of p.constant)) ≡ true
     → (lines : List (Line ℕ)) → list_all test lines ≡ true → list_all test (lines_of p held set lines) ≡ true
 lines_all test p held set keeps one [] h = setting_all test p one set
 lines_all test p held set keeps one (l ∷ lines) h =
-    let s = both_true (test l) (list_all test lines) h in
-    both_are (test (with_line (replaced p held) l)) (list_all test (lines_of p held set lines)) (keeps l s.0) (lines_all test p held set keeps one lines s.1)
+    let s = and_parts (test l) (list_all test lines) h in
+    and_from (test (with_line (replaced p held) l)) (list_all test (lines_of p held set lines)) (keeps l s.0) (lines_all test p held set keeps one lines s.1)
 
 allocs_same : (p : Plan) (held set : Bool) (lines : List (Line ℕ)) → list_any is_alloc (lines_of p held set lines) ≡ list_any is_alloc lines
 allocs_same p held false [] = refl
@@ -158,63 +89,14 @@ replaced_low n p held low a h = by (held && is_it p.constant a)
     by true = low
     by false = h
 
--- a replacing that leaves operands below n
-abbrev Low : ℕ → Replacing → Type 0
-Low n f = (a : Operand ℕ) → operand_keeps (is_below n) a ≡ true → operand_keeps (is_below n) (f a) ≡ true
-
-two_low : (n : ℕ) (f : Replacing) → Low n f → (a b : Operand ℕ) → (operand_keeps (is_below n) a && operand_keeps (is_below n) b) ≡ true → (operand_keeps (is_below n) (f a) && operand_keeps (is_below n) (f b)) ≡ true
-two_low n f low a b h =
-    let s = both_true (operand_keeps (is_below n) a) (operand_keeps (is_below n) b) h in both_are (operand_keeps (is_below n) (f a)) (operand_keeps (is_below n) (f b)) (low a s.0) (low b s.1)
-
-args_low : (n : ℕ) (f : Replacing) → Low n f → (args : List (Argument ℕ)) → list_all (λ (a : Argument ℕ). operand_keeps (is_below n) a.value) args ≡ true
-    → list_all (λ (a : Argument ℕ). operand_keeps (is_below n) a.value) (map (with_argument f) args) ≡ true
-args_low n f low [] h = refl
-args_low n f low (a ∷ args) h =
-    let s = both_true (operand_keeps (is_below n) a.value) (list_all (λ (b : Argument ℕ). operand_keeps (is_below n) b.value) args) h in
-    both_are (operand_keeps (is_below n) (f a.value)) (list_all (λ (b : Argument ℕ). operand_keeps (is_below n) b.value) (map (with_argument f) args)) (low a.value s.0) (args_low n f low args s.1)
-
-line_low : (n : ℕ) (f : Replacing) → Low n f → (l : Line ℕ) → line_keeps (is_below n) l ≡ true → line_keeps (is_below n) (with_line f l) ≡ true
-line_low n f low (Tick turn w) h = refl
-line_low n f low (Set to a) h =
-    let s = both_true (is_below n to) (operand_keeps (is_below n) a) h in both_are (is_below n to) (operand_keeps (is_below n) (f a)) s.0 (low a s.1)
-line_low n f low (Operate to op a b) h =
-    let s = both_true (is_below n to) (operand_keeps (is_below n) a && operand_keeps (is_below n) b) h in
-    both_are (is_below n to) (operand_keeps (is_below n) (f a) && operand_keeps (is_below n) (f b)) s.0 (two_low n f low a b s.1)
-line_low n f low (Load to op at) h =
-    let s = both_true (is_below n to) (operand_keeps (is_below n) at.base) h in both_are (is_below n to) (operand_keeps (is_below n) (f at.base)) s.0 (low at.base s.1)
-line_low n f low (Store size a at) h = two_low n f low a at.base h
-line_low n f low (Alloc to size) h = h
-line_low n f low (Blit from to count) h = two_low n f low from to h
-line_low n f low (Call to callee args) h =
-    let s = both_true (wanted_keeps (is_below n) to) (operand_keeps (is_below n) callee && list_all (λ (a : Argument ℕ). operand_keeps (is_below n) a.value) args) h in
-    let t = both_true (operand_keeps (is_below n) callee) (list_all (λ (a : Argument ℕ). operand_keeps (is_below n) a.value) args) s.1 in
-    both_are (wanted_keeps (is_below n) to) (operand_keeps (is_below n) (f callee) && list_all (λ (a : Argument ℕ). operand_keeps (is_below n) a.value) (map (with_argument f) args)) s.0
-    (both_are (operand_keeps (is_below n) (f callee)) (list_all (λ (a : Argument ℕ). operand_keeps (is_below n) a.value) (map (with_argument f) args)) (low callee t.0) (args_low n f low args t.1))
-
-jump_low : (n : ℕ) (f : Replacing) → Low n f → (j : Jump ℕ) → jump_keeps (is_below n) j ≡ true → jump_keeps (is_below n) (with_jump f j) ≡ true
-jump_low n f low (Goto k) h = refl
-jump_low n f low (Branch on met otherwise) h = two_low n f low on.left on.right h
-jump_low n f low (Return None) h = refl
-jump_low n f low (Return (Some a)) h = low a.value h
-jump_low n f low Halt h = refl
-
 block_low : (n : ℕ) (p : Plan) → nat_lt p.register n ≡ true → (held set : Bool) (b : Block ℕ) → block_keeps (is_below n) b ≡ true → block_keeps (is_below n) (held_block p held set b) ≡ true
 block_low n p low held set b h =
     let f : Replacing = replaced p held in
-    let s = both_true (list_all (line_keeps (is_below n)) b.lines) (jump_keeps (is_below n) b.jump) h in
-    both_are (list_all (line_keeps (is_below n)) (lines_of p held set b.lines)) (jump_keeps (is_below n) (with_jump f b.jump))
+    let s = and_parts (list_all (line_keeps (is_below n)) b.lines) (jump_keeps (is_below n) b.jump) h in
+    and_from (list_all (line_keeps (is_below n)) (lines_of p held set b.lines)) (jump_keeps (is_below n) (with_jump f b.jump))
     (lines_all (line_keeps (is_below n)) p held set (line_low n f (replaced_low n p held low))
-    (both_are (is_below n p.register) (operand_keeps (is_below n) (operand_of p.constant)) low (constant_low n p.constant)) b.lines s.0)
+    (and_from (is_below n p.register) (operand_keeps (is_below n) (operand_of p.constant)) low (constant_low n p.constant)) b.lines s.0)
     (jump_low n f (replaced_low n p held low) b.jump s.1)
-
--- ---- where jumps lead
-
-inside_same : (n : ℕ) (f : Replacing) (j : Jump ℕ) → leads_inside n (with_jump f j) ≡ leads_inside n j
-inside_same n f (Goto k) = refl
-inside_same n f (Branch on met otherwise) = refl
-inside_same n f (Return None) = refl
-inside_same n f (Return (Some a)) = refl
-inside_same n f Halt = refl
 
 -- ---- blocks
 
@@ -234,8 +116,8 @@ blocks_all : (test : Block ℕ → Bool) (p : Plan) → ((held set : Bool) (b : 
     → list_all test (with_blocks p k blocks) ≡ true
 blocks_all test p keeps k [] h = refl
 blocks_all test p keeps k (b ∷ blocks) h =
-    let s = both_true (test b) (list_all test blocks) h in
-    both_are (test (held_block p (is_held p k) (is_set p k) b)) (list_all test (with_blocks p (k + 1) blocks)) (keeps (is_held p k) (is_set p k) b s.0) (blocks_all test p keeps (k + 1) blocks s.1)
+    let s = and_parts (test b) (list_all test blocks) h in
+    and_from (test (held_block p (is_held p k) (is_set p k) b)) (list_all test (with_blocks p (k + 1) blocks)) (keeps (is_held p k) (is_set p k) b s.0) (blocks_all test p keeps (k + 1) blocks s.1)
 
 first_kept : (p : Plan) (k : ℕ) (blocks : List (Block ℕ)) → allocs_first blocks ≡ true → allocs_first (with_blocks p k blocks) ≡ true
 first_kept p k [] h = refl
@@ -259,8 +141,8 @@ area_same p v =
 
 pub places_kept : (n : ℕ) (p : Plan) (v : Code ℕ) → nat_lt p.register n ≡ true → keeps_places (is_below n) v ≡ true → keeps_places (is_below n) (with_constant p v) ≡ true
 places_kept n p v low h =
-    let s = both_true (list_all (λ (d : Destination ℕ). is_below n d.place) v.params) (list_all (block_keeps (is_below n)) v.blocks) h in
-    both_are (list_all (λ (d : Destination ℕ). is_below n d.place) v.params) (list_all (block_keeps (is_below n)) (with_blocks p 0 v.blocks)) s.0
+    let s = and_parts (list_all (λ (d : Destination ℕ). is_below n d.place) v.params) (list_all (block_keeps (is_below n)) v.blocks) h in
+    and_from (list_all (λ (d : Destination ℕ). is_below n d.place) v.params) (list_all (block_keeps (is_below n)) (with_blocks p 0 v.blocks)) s.0
     (blocks_all (block_keeps (is_below n)) p (block_low n p low) 0 v.blocks s.1)
 
 pub regular : (p : Plan) (v : Code ℕ) → list_all is_paid (with_blocks p 0 v.blocks) ≡ true → IsRegular v → IsRegular (with_constant p v)

@@ -3,6 +3,7 @@
 use Rattle.std.proofs.Common.{◌≡◌, ℕ, zero, suc, ◌+◌, ◌-◌, Bool, true, false, not, ◌&&◌, ◌||◌, nat_eq, nat_lt, if◌then◌else◌, List, [], ◌∷◌, ◌++◌, map, drop, length, Option, Some, None, slice_get, refl, sym, ◌∙◌, ap, subst, arith}
 use Rattle.std.specs.List.{list_all}
 use Rattle.std.specs.Option.{option_map, option_and_then}
+use Rattle.std.proofs.lemmas.Bool.{and_parts}
 use Rattle.std.proofs.lemmas.Bool.Decides.{nat_tests}
 use Rattle.il_ast.specs.declared.operation.Class.{Class}
 use Rattle.il_ast.specs.declared.value.Value.{Value}
@@ -35,22 +36,21 @@ use Rattle.vcode.specs.Places.{Values, put, assign, kept, virtual}
 use Rattle.vcode.specs.Coded.{classes_in}
 use Rattle.vcode.specs.Named.{operand_keeps, wanted_keeps, line_keeps, jump_keeps, block_keeps}
 use Rattle.vcode.specs.Step.{State, begin, value_of, read, read_argument, read_result, read_all, operated, address_of, goes_on, sets, takes, changes, weighs, ticks, receives, resumes, calls, line_step, enters, compared, branches, returns, jump_step, step}
+use Rattle.vcode.specs.Replaced.{Replacing, with_base, with_argument, with_returned, with_line, with_jump}
+use Rattle.vcode.proofs.Going.{Relation}
+use Rattle.vcode.proofs.SameReads.{SameValue, SameArguments, address_same, two_same, args_same, calls_same}
 use Rattle.vcode.proofs.Lists.{head_at, tail_at, nothing_at, same_some}
 use Rattle.vcode.proofs.Stepping.{step_line, step_jump, step_nowhere}
 use Rattle.loops.specs.Targets.{targets}
 use Rattle.loop_constants.specs.declared.plan.Constant.{Constant}
 use Rattle.loop_constants.specs.declared.plan.Constant.TheVariants.{Number as OfNumber, Name as OfName}
 use Rattle.loop_constants.specs.declared.plan.Plan.{Plan}
-use Rattle.loop_constants.specs.Held.{operand_of, is_it, is_held, is_set, Replacing, replaced, with_base, with_argument, with_line, with_jump, setting, held_block, with_blocks, with_constant, is_other, may_lead, leads_well, is_safe, with_returned}
-
-pub both_true : (a b : Bool) → (a && b) ≡ true → (a ≡ true) × (b ≡ true)
-both_true true b h = (refl, h)
-both_true false b h = absurd (let no : ⊥ = cc in no)
+use Rattle.loop_constants.specs.Held.{operand_of, is_it, is_held, is_set, replaced, setting, held_block, with_blocks, with_constant, is_other, may_lead, leads_well, is_safe}
 
 pub all_at : {X : Type 0} (test : X → Bool) (xs : List X) (k : ℕ) (x : X) → list_all test xs ≡ true → slice_get xs k ≡ Some x → test x ≡ true
 all_at test [] k x h at = absurd (let no : ⊥ = cc in no)
-all_at test (y ∷ xs) zero x h at = let same : y ≡ x = cc in ap test (sym same) ∙ (both_true (test y) (list_all test xs) h).0
-all_at test (y ∷ xs) (suc k) x h at = all_at test xs k x (both_true (test y) (list_all test xs) h).1 at
+all_at test (y ∷ xs) zero x h at = let same : y ≡ x = cc in ap test (sym same) ∙ (and_parts (test y) (list_all test xs) h).0
+all_at test (y ∷ xs) (suc k) x h at = all_at test xs k x (and_parts (test y) (list_all test xs) h).1 at
 
 -- ---- values that agree
 
@@ -60,7 +60,7 @@ Agree r ev el = (q : ℕ) → is_other r q ≡ true → el q ≡ ev q
 
 -- an operand that isn't r has the value that what is put in its place has in the other code
 abbrev Same : List Value → (r : ℕ) → (ev el : Values ℕ) → Replacing → Type 0
-Same globals r ev el f = (a : Operand ℕ) → operand_keeps (is_other r) a ≡ true → value_of globals el (f a) ≡ value_of globals ev a
+Same globals r ev el f = (a : Operand ℕ) → operand_keeps (is_other r) a ≡ true → SameValue globals ev el f a
 
 abbrev constant_value : List Value → Constant → Option Value
 constant_value globals c = value_of globals (λ q. None) (operand_of c)
@@ -91,54 +91,18 @@ replaced_same globals p h ev el agrees has a keeps = by (h && is_it p.constant a
   where
     by : (c : Bool) → (h && is_it p.constant a) ≡ c → value_of globals el (if c then At p.register else a) ≡ value_of globals ev a
     by true e =
-        let s = both_true h (is_it p.constant a) e in
+        let s = and_parts h (is_it p.constant a) e in
         has s.0 ∙ sym (constant_same globals ev p.constant) ∙ ap (value_of globals ev) (sym (it_is p.constant a s.1))
     by false e = value_same globals p.register ev el agrees a keeps
 
 -- ---- what lines read
 
-address_same : (globals : List Value) (m : Memory) (r : ℕ) (ev el : Values ℕ) (f : Replacing) → Same globals r ev el f → (at : Address ℕ) → operand_keeps (is_other r) at.base ≡ true
-    → address_of globals m el (with_base f at) ≡ address_of globals m ev at
-address_same globals m r ev el f same at h =
-    ap (λ (x : Option Value). if nat_eq (distance at) 0 then x else operated m (Reg Add) x (value_of globals el (Number (distance at)))) (same at.base h)
-
-two_same : {R : Type 0} (globals : List Value) (r : ℕ) (ev el : Values ℕ) (f : Replacing) → Same globals r ev el f → (a b : Operand ℕ) (act : Value → Value → Option R)
-    → operand_keeps (is_other r) a ≡ true → operand_keeps (is_other r) b ≡ true
-    → option_and_then (λ u. option_and_then (λ v. act u v) (value_of globals el (f b))) (value_of globals el (f a))
-    ≡ option_and_then (λ u. option_and_then (λ v. act u v) (value_of globals ev b)) (value_of globals ev a)
-two_same {R} globals r ev el f same a b act ha hb =
-    ap (λ (x : Option Value). option_and_then (λ u. option_and_then (λ v. act u v) x) (value_of globals el (f a))) (same b hb)
-    ∙ ap (λ (x : Option Value). option_and_then (λ u. option_and_then (λ v. act u v) (value_of globals ev b)) x) (same a ha)
-
-args_same : (globals : List Value) (r : ℕ) (ev el : Values ℕ) (f : Replacing) → Same globals r ev el f → (args : List (Argument ℕ)) → list_all (λ (a : Argument ℕ). operand_keeps (is_other r) a.value) args ≡ true
-    → read_all globals el (map (with_argument f) args) ≡ read_all globals ev args
-args_same globals r ev el f same [] h = refl
-args_same globals r ev el f same (a ∷ args) h =
-    let s = both_true (operand_keeps (is_other r) a.value) (list_all (λ (b : Argument ℕ). operand_keeps (is_other r) b.value) args) h in
-    ap (λ (x : Option Value). option_and_then (λ v. option_map (λ vs. v ∷ vs) (read_all globals el (map (with_argument f) args))) (option_and_then (passed a.extension a.class) x)) (same a.value s.0)
-    ∙ ap (λ (x : Option (List Value)). option_and_then (λ v. option_map (λ vs. v ∷ vs) x) (read_argument globals ev a)) (args_same globals r ev el f same args s.1)
-
-classes_same : (f : Replacing) (args : List (Argument ℕ)) → map (λ (a : Argument ℕ). a.class) (map (with_argument f) args) ≡ map (λ (a : Argument ℕ). a.class) args
-classes_same f [] = refl
-classes_same f (a ∷ args) = ap (λ (cs : List Class). a.class ∷ cs) (classes_same f args)
-
-calls_same : (i : Given) (s : State ℕ) (to : Option (Destination ℕ)) (f : Replacing) (args : List (Argument ℕ)) (x : Option Value) (vs : Option (List Value))
-    → calls virtual i s to (map (with_argument f) args) x vs ≡ calls virtual i s to args x vs
-calls_same i s to f args (Some (Function g)) (Some vs) =
-    ap
-    (λ (cs : List Class). Calls
-    (record {
-      call = record { callee = g; classes = cs; wants = option_map (λ (d : Destination ℕ). d.class) to; args = vs };
-      turns = i.turns - s.spent.turns;
-      room = i.room;
-      memory = s.memory;
-    })
-    (resumes virtual s to))
-    (classes_same f args)
-calls_same i s to f args (Some (Function g)) None = refl
-calls_same i s to f args (Some (Integer k)) vs = refl
-calls_same i s to f args (Some (Pointer b k)) vs = refl
-calls_same i s to f args None vs = refl
+arguments_same : (globals : List Value) (r : ℕ) (ev el : Values ℕ) (f : Replacing) → Same globals r ev el f → (args : List (Argument ℕ))
+    → list_all (λ (a : Argument ℕ). operand_keeps (is_other r) a.value) args ≡ true → SameArguments globals ev el f args
+arguments_same globals r ev el f same [] h = tt
+arguments_same globals r ev el f same (a ∷ args) h =
+    let s = and_parts (operand_keeps (is_other r) a.value) (list_all (λ (b : Argument ℕ). operand_keeps (is_other r) b.value) args) h in
+    (same a.value s.0, arguments_same globals r ev el f same args s.1)
 
 -- ---- a register is written
 
@@ -175,9 +139,6 @@ assigned r el o = ap (λ (b : Bool). if b then o else el r) (is_same r)
 abbrev carry : State ℕ → ℕ → Values ℕ → State ℕ
 carry s n el =
     record { block = s.block; next = n; values = el; memory = s.memory; owned = s.owned; spent = s.spent }
-
-abbrev Relation : Type 1
-Relation = State ℕ → State ℕ → Type 0
 
 abbrev Beside : Relation → Event (State ℕ) Asked Outcome → Event (State ℕ) Asked Outcome → Type 0
 Beside related e f = Together related Fine e f
@@ -264,7 +225,7 @@ line_beside : (related : Relation) (globals : List Value) (i : Given) (r : ℕ) 
 unfolding line_step
 line_beside related globals i r s n el f (Tick turn x) keeps agrees same on = ticks_beside related i r s n el turn x agrees on
 line_beside related globals i r s n el f (Set to a) keeps agrees same on =
-    let h = both_true (is_other r to) (operand_keeps (is_other r) a) keeps in
+    let h = and_parts (is_other r to) (operand_keeps (is_other r) a) keeps in
     subst (λ (o : Option Value). Beside related (takes virtual s to (value_of globals s.values a)) (takes virtual (carry s n el) to o)) (sym (same a h.1)) (
       carry (record s { next = s.next + 1; values = assign virtual to (value_of globals s.values a) s.values }) (n + 1) (assign virtual to (value_of globals s.values a) el),
       refl,
@@ -272,23 +233,23 @@ line_beside related globals i r s n el f (Set to a) keeps agrees same on =
           (assign_agrees r s.values el to (value_of globals s.values a) agrees) (assign_leaves r el to (value_of globals s.values a) h.0),
     )
 line_beside related globals i r s n el f (Operate to op a b) keeps agrees same on =
-    let h = both_true (is_other r to) (operand_keeps (is_other r) a && operand_keeps (is_other r) b) keeps in
-    let k = both_true (operand_keeps (is_other r) a) (operand_keeps (is_other r) b) h.1 in
+    let h = and_parts (is_other r to) (operand_keeps (is_other r) a && operand_keeps (is_other r) b) keeps in
+    let k = and_parts (operand_keeps (is_other r) a) (operand_keeps (is_other r) b) h.1 in
     sets_beside related r s n el to
     (option_and_then (λ u. option_and_then (λ v. operate s.memory op u v) (value_of globals s.values b)) (value_of globals s.values a))
     (option_and_then (λ u. option_and_then (λ v. operate s.memory op u v) (value_of globals el (f b))) (value_of globals el (f a)))
-    (two_same globals r s.values el f same a b (operate s.memory op) k.0 k.1) h.0 agrees on
+    (two_same globals s.values el f a b (operate s.memory op) (same a k.0) (same b k.1)) h.0 agrees on
 line_beside related globals i r s n el f (Load to op at) keeps agrees same on =
-    let h = both_true (is_other r to) (operand_keeps (is_other r) at.base) keeps in
+    let h = and_parts (is_other r to) (operand_keeps (is_other r) at.base) keeps in
     sets_beside related r s n el to (option_and_then (loaded s.memory op) (address_of globals s.memory s.values at)) (option_and_then (loaded s.memory op) (address_of globals s.memory el (with_base f at)))
-    (ap (option_and_then (loaded s.memory op)) (address_same globals s.memory r s.values el f same at h.1)) h.0 agrees on
+    (ap (option_and_then (loaded s.memory op)) (address_same globals s.memory s.values el f at (same at.base h.1))) h.0 agrees on
 line_beside related globals i r s n el f (Store size a at) keeps agrees same on =
-    let h = both_true (operand_keeps (is_other r) a) (operand_keeps (is_other r) at.base) keeps in
+    let h = and_parts (operand_keeps (is_other r) a) (operand_keeps (is_other r) at.base) keeps in
     changes_beside related r s n el
     (option_and_then (λ v. option_and_then (λ p. store s.memory (byte_count size) p v) (address_of globals s.memory s.values at)) (read globals s.values (stored_class size) a))
     (option_and_then (λ v. option_and_then (λ p. store s.memory (byte_count size) p v) (address_of globals s.memory el (with_base f at))) (read globals el (stored_class size) (f a)))
     (ap (λ (x : Option Value). option_and_then (λ v. option_and_then (λ p. store s.memory (byte_count size) p v) x) (read globals el (stored_class size) (f a)))
-    (address_same globals s.memory r s.values el f same at h.1)
+    (address_same globals s.memory s.values el f at (same at.base h.1))
     ∙ ap (λ (x : Option Value). option_and_then (λ v. option_and_then (λ p. store s.memory (byte_count size) p v) (address_of globals s.memory s.values at)) (option_and_then (in_place (stored_class size)) x))
     (same a h.0))
     agrees on
@@ -300,16 +261,16 @@ line_beside related globals i r s n el f (Alloc (Some to) size) keeps agrees sam
     let u : State ℕ = record s { next = s.next + 1; values = put virtual to v s.values; memory = fresh s.memory size; owned = s.owned ++ length s.memory ∷ [] } in
     (carry u (n + 1) (put virtual to v el), refl, on u (put virtual to v el) refl refl (assign_agrees r s.values el to (Some v) agrees) (assign_leaves r el to (Some v) keeps))
 line_beside related globals i r s n el f (Blit from to count) keeps agrees same on =
-    let h = both_true (operand_keeps (is_other r) from) (operand_keeps (is_other r) to) keeps in
+    let h = and_parts (operand_keeps (is_other r) from) (operand_keeps (is_other r) to) keeps in
     changes_beside related r s n el
     (option_and_then (λ p. option_and_then (λ q. copy s.memory count p q) (value_of globals s.values to)) (value_of globals s.values from))
     (option_and_then (λ p. option_and_then (λ q. copy s.memory count p q) (value_of globals el (f to))) (value_of globals el (f from)))
-    (two_same globals r s.values el f same from to (λ p q. copy s.memory count p q) h.0 h.1) agrees on
+    (two_same globals s.values el f from to (λ p q. copy s.memory count p q) (same from h.0) (same to h.1)) agrees on
 line_beside related globals i r s n el f (Call to callee args) keeps agrees same on =
-    let h = both_true (wanted_keeps (is_other r) to) (operand_keeps (is_other r) callee && list_all (λ (a : Argument ℕ). operand_keeps (is_other r) a.value) args) keeps in
-    let k = both_true (operand_keeps (is_other r) callee) (list_all (λ (a : Argument ℕ). operand_keeps (is_other r) a.value) args) h.1 in
+    let h = and_parts (wanted_keeps (is_other r) to) (operand_keeps (is_other r) callee && list_all (λ (a : Argument ℕ). operand_keeps (is_other r) a.value) args) keeps in
+    let k = and_parts (operand_keeps (is_other r) callee) (list_all (λ (a : Argument ℕ). operand_keeps (is_other r) a.value) args) h.1 in
     calls_beside related i r s n el f to args (value_of globals s.values callee) (value_of globals el (f callee)) (read_all globals s.values args) (read_all globals el (map (with_argument f) args))
-    (same callee k.0) (args_same globals r s.values el f same args k.1) h.0 agrees on
+    (same callee k.0) (args_same globals s.values el f args (arguments_same globals r s.values el f same args k.1)) h.0 agrees on
 
 -- ---- each jump
 
@@ -342,13 +303,13 @@ jump_beside : (related : Relation) (globals : List Value) (result : Option Class
     → Beside related (jump_step globals result s j) (jump_step globals result (carry s n el) (with_jump f j))
 unfolding jump_step
 jump_beside related globals result r s n el f test (Goto k) keeps same leads enter =
-    (carry (record s { block = k; next = 0 }) 0 el, refl, enter k (both_true (test k) true leads).0)
+    (carry (record s { block = k; next = 0 }) 0 el, refl, enter k (and_parts (test k) true leads).0)
 jump_beside related globals result r s n el f test (Branch on met otherwise) keeps same leads enter =
-    let h = both_true (operand_keeps (is_other r) on.left) (operand_keeps (is_other r) on.right) keeps in
-    let t = both_true (test met) (list_all test (otherwise ∷ [])) leads in
+    let h = and_parts (operand_keeps (is_other r) on.left) (operand_keeps (is_other r) on.right) keeps in
+    let t = and_parts (test met) (list_all test (otherwise ∷ [])) leads in
     branch_beside related s n el test met otherwise (compared globals s on)
     (option_and_then (λ u. option_and_then (λ v. operate s.memory (Compare on.condition on.class) u v) (value_of globals el (f on.right))) (value_of globals el (f on.left)))
-    (two_same globals r s.values el f same on.left on.right (operate s.memory (Compare on.condition on.class)) h.0 h.1) t.0 (both_true (test otherwise) true t.1).0 enter
+    (two_same globals s.values el f on.left on.right (operate s.memory (Compare on.condition on.class)) (same on.left h.0) (same on.right h.1)) t.0 (and_parts (test otherwise) true t.1).0 enter
 jump_beside related globals result r s n el f test (Return None) keeps same leads enter = λ fine. refl
 jump_beside related globals None r s n el f test (Return (Some a)) keeps same leads enter = λ fine. absurd fine
 jump_beside related globals (Some k) r s n el f test (Return (Some a)) keeps same leads enter =
@@ -395,10 +356,10 @@ leads_from : (p : Plan) (k : ℕ) (blocks : List (Block ℕ)) (j : ℕ) (b : Blo
 leads_from p k [] j b h e = absurd (let no : ⊥ = cc in no)
 leads_from p k (d ∷ blocks) zero b h e =
     let same : d ≡ b = cc in
-    let s = both_true (list_all (may_lead p (has_at p k)) (targets d.jump)) (leads_well p (k + 1) blocks) h in
+    let s = and_parts (list_all (may_lead p (has_at p k)) (targets d.jump)) (leads_well p (k + 1) blocks) h in
     ap (λ m. list_all (may_lead p (has_at p m)) (targets b.jump)) (let z : k + 0 ≡ k = omega arith in z) ∙ ap (λ (x : Block ℕ). list_all (may_lead p (has_at p k)) (targets x.jump)) (sym same) ∙ s.0
 leads_from p k (d ∷ blocks) (suc j) b h e =
-    let s = both_true (list_all (may_lead p (has_at p k)) (targets d.jump)) (leads_well p (k + 1) blocks) h in
+    let s = and_parts (list_all (may_lead p (has_at p k)) (targets d.jump)) (leads_well p (k + 1) blocks) h in
     ap (λ m. list_all (may_lead p (has_at p m)) (targets b.jump)) (let z : k + suc j ≡ (k + 1) + j = omega arith in z) ∙ leads_from p (k + 1) blocks j b s.1 e
 
 leads_at : (p : Plan) (v : Code ℕ) (j : ℕ) (b : Block ℕ) → leads_well p 0 v.blocks ≡ true → slice_get v.blocks j ≡ Some b → list_all (may_lead p (has_at p j)) (targets b.jump) ≡ true
@@ -412,9 +373,9 @@ record Safe (p : Plan) (v : Code ℕ) : Type 0 where
 
 safe : (p : Plan) (v : Code ℕ) → is_safe p v ≡ true → Safe p v
 safe p v h =
-    let s = both_true _ (not (is_held p 0) && leads_well p 0 v.blocks) h in
-    let t = both_true (not (is_held p 0)) (leads_well p 0 v.blocks) s.1 in
-    record { spared = (both_true _ (list_all (block_keeps (is_other p.register)) v.blocks) s.0).1; start = not_true (is_held p 0) t.0; leads = t.1 }
+    let s = and_parts _ (not (is_held p 0) && leads_well p 0 v.blocks) h in
+    let t = and_parts (not (is_held p 0)) (leads_well p 0 v.blocks) s.1 in
+    record { spared = (and_parts _ (list_all (block_keeps (is_other p.register)) v.blocks) s.0).1; start = not_true (is_held p 0) t.0; leads = t.1 }
 
 -- ---- states side by side
 
@@ -470,7 +431,7 @@ line_matched p v globals i safe s n el b l left at ahead lines agrees has =
     let f : Replacing = replaced p (is_held p s.block) in
     let test : ℕ → Bool = is_other p.register in
     let here : slice_get b.lines s.next ≡ Some l = head_at b.lines s.next l left ahead in
-    let own = both_true (list_all (line_keeps test) b.lines) (jump_keeps test b.jump) (all_at (block_keeps test) v.blocks s.block b safe.spared at) in
+    let own = and_parts (list_all (line_keeps test) b.lines) (jump_keeps test b.jump) (all_at (block_keeps test) v.blocks s.block b safe.spared at) in
     let keeps : line_keeps test l ≡ true = all_at (line_keeps test) b.lines s.next l own.0 here in
     let first : step virtual globals v i s ≡ line_step virtual globals i s l = step_line virtual globals v i s b l at here in
     let second : step virtual globals (with_constant p v) i (carry s n el) ≡ line_step virtual globals i (carry s n el) (with_line f l) =
@@ -490,7 +451,7 @@ jump_matched : (p : Plan) (v : Code ℕ) (globals : List Value) (i : Given) → 
 jump_matched p v globals i safe s n el b at ahead lines agrees has held =
     let f : Replacing = replaced p (is_held p s.block) in
     let test : ℕ → Bool = is_other p.register in
-    let own = both_true (list_all (line_keeps test) b.lines) (jump_keeps test b.jump) (all_at (block_keeps test) v.blocks s.block b safe.spared at) in
+    let own = and_parts (list_all (line_keeps test) b.lines) (jump_keeps test b.jump) (all_at (block_keeps test) v.blocks s.block b safe.spared at) in
     let first : step virtual globals v i s ≡ jump_step globals v.result s b.jump = step_jump virtual globals v i s b at (nothing_at b.lines s.next ahead) in
     let second : step virtual globals (with_constant p v) i (carry s n el) ≡ jump_step globals v.result (carry s n el) (with_jump f b.jump) =
     step_jump virtual globals (with_constant p v) i (carry s n el) (block_of p s.block b) (block_at p v s.block b at) (nothing_at (block_of p s.block b).lines n lines) in

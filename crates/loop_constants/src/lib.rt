@@ -24,6 +24,4 @@ mod regions;
 mod replace;
 mod right;
 mod saving;
-#[cfg(test)]
-mod tests;
 mod uses;

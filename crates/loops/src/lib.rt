@@ -9,5 +9,3 @@
 #![tactic(auto)]
 
 pub mod depths;
-#[cfg(test)]
-mod tests;

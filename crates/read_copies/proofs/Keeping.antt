@@ -1,107 +1,30 @@
 -- Code that reads copies is regular, takes what the code took, and keeps it.
-use Rattle.std.proofs.Common.{◌≡◌, ℕ, suc, ◌+◌, ◌-◌, ◌*◌, ◌/◌, Bool, true, false, not, ◌&&◌, ◌||◌, nat_eq, nat_le, nat_lt, if◌then◌else◌, List, [], ◌∷◌, ◌++◌, map, length, Option, Some, None, refl, sym, ◌∙◌, ap, arith}
+use Rattle.std.proofs.Common.{◌≡◌, ℕ, ◌+◌, ◌-◌, ◌*◌, Bool, true, false, not, ◌&&◌, ◌||◌, nat_eq, nat_le, nat_lt, if◌then◌else◌, List, [], ◌∷◌, ◌++◌, map, length, Option, Some, None, refl, sym, ◌∙◌, ap, arith}
 use Rattle.std.specs.Prelude.{max, filter}
 use Rattle.std.specs.List.{list_all, list_any, sum_by}
+use Rattle.std.proofs.lemmas.Bool.{and_parts, and_from}
 use Rattle.std.proofs.lemmas.List.{length-map}
 use Rattle.std.proofs.lemmas.List.Sums.{sum_by-cons}
 use Rattle.il_ast.specs.Passes.{Keeps}
-use Rattle.rv_isa.specs.declared.abi.TheConstants.{ARGUMENT_REGISTERS}
-use Rattle.vcode.specs.declared.place.Operand.{Operand}
 use Rattle.vcode.specs.declared.place.Operand.TheVariants.{At, Number, Name}
-use Rattle.vcode.specs.declared.place.Argument.{Argument}
 use Rattle.vcode.specs.declared.place.Destination.{Destination}
 use Rattle.vcode.specs.declared.line.Line.{Line}
 use Rattle.vcode.specs.declared.line.Line.TheVariants.{Tick, Set, Operate, Load, Store, Alloc, Blit, Call}
 use Rattle.vcode.specs.declared.line.Jump.{Jump}
-use Rattle.vcode.specs.declared.line.Jump.TheVariants.{Goto, Branch, Return, Halt}
 use Rattle.vcode.specs.declared.code.Block.{Block}
 use Rattle.vcode.specs.declared.code.Code.{Code}
 use Rattle.vcode.specs.Coded.{coded}
-use Rattle.vcode.specs.Cost.{operand_cost, place_cost, operation_cost, line_cost, branch_cost, jump_cost, affords, is_paid}
-use Rattle.vcode.specs.Named.{operand_keeps, wanted_keeps, line_keeps, jump_keeps, block_keeps, keeps_places, is_below}
+use Rattle.vcode.specs.Cost.{line_cost, affords, is_paid}
+use Rattle.vcode.specs.Named.{line_keeps, jump_keeps, block_keeps, keeps_places, is_below}
 use Rattle.vcode.specs.Outgoing.{args_on_stack, most_in_lines, most_in_blocks}
 use Rattle.vcode.specs.Places.{virtual}
 use Rattle.vcode.specs.Regular.{leads_inside, is_alloc, allocs_first, alloc_bytes, area, turns_of, passes_few, weight_of, code_weight, IsRegular}
+use Rattle.vcode.specs.Replaced.{Replacing, with_line, with_jump}
+use Rattle.vcode.proofs.Replacing.{Stays, weight_stays, bytes_stay, turns_stay, alloc_stays, few_stays, passed_stays, Costs, line_cost_same, jump_cost_same, Low, line_low, jump_low, inside_same}
 use Rattle.cfg_live.specs.Registers.{line_writes}
 use Rattle.read_copies.specs.declared.known.KnownCopy.{KnownCopy}
-use Rattle.read_copies.specs.Copied.{copy_of, read_by, Replacing, with_argument, with_line, with_jump, survives, surviving, made_by, with_copy, after, reading_lines, known_behind, reading_block, reading_copies}
+use Rattle.read_copies.specs.Copied.{copy_of, read_by, survives, surviving, made_by, with_copy, after, reading_lines, known_behind, reading_block, reading_copies}
 use Rattle.read_copies.proofs.Running.{runs}
-
-both_true : (a b : Bool) → (a && b) ≡ true → (a ≡ true) × (b ≡ true)
-both_true true b h = (refl, h)
-both_true false b h = absurd (let no : ⊥ = cc in no)
-
-both_are : (a b : Bool) → a ≡ true → b ≡ true → (a && b) ≡ true
-both_are a b h k = ap (λ x. x && b) h ∙ k
-
--- ---- measures of a line that other operands leave
-
-abbrev Stays : {X : Type 0} → (Line ℕ → X) → Type 0
-Stays g = (f : Replacing) (l : Line ℕ) → g (with_line f l) ≡ g l
-
-weight_stays : Stays weight_of
-weight_stays f (Tick turn w) = refl
-weight_stays f (Set to a) = refl
-weight_stays f (Operate to op a b) = refl
-weight_stays f (Load to op at) = refl
-weight_stays f (Store size a at) = refl
-weight_stays f (Alloc to size) = refl
-weight_stays f (Blit from to count) = refl
-weight_stays f (Call to callee args) = refl
-
-bytes_stay : Stays alloc_bytes
-bytes_stay f (Tick turn w) = refl
-bytes_stay f (Set to a) = refl
-bytes_stay f (Operate to op a b) = refl
-bytes_stay f (Load to op at) = refl
-bytes_stay f (Store size a at) = refl
-bytes_stay f (Alloc to size) = refl
-bytes_stay f (Blit from to count) = refl
-bytes_stay f (Call to callee args) = refl
-
-turns_stay : Stays turns_of
-turns_stay f (Tick turn w) = refl
-turns_stay f (Set to a) = refl
-turns_stay f (Operate to op a b) = refl
-turns_stay f (Load to op at) = refl
-turns_stay f (Store size a at) = refl
-turns_stay f (Alloc to size) = refl
-turns_stay f (Blit from to count) = refl
-turns_stay f (Call to callee args) = refl
-
-alloc_stays : Stays is_alloc
-alloc_stays f (Tick turn w) = refl
-alloc_stays f (Set to a) = refl
-alloc_stays f (Operate to op a b) = refl
-alloc_stays f (Load to op at) = refl
-alloc_stays f (Store size a at) = refl
-alloc_stays f (Alloc to size) = refl
-alloc_stays f (Blit from to count) = refl
-alloc_stays f (Call to callee args) = refl
-
-args_count : (f : Replacing) (args : List (Argument ℕ)) → length (map (with_argument f) args) ≡ length args
-args_count f [] = refl
-args_count f (a ∷ args) = ap suc (args_count f args)
-
-few_stays : Stays passes_few
-few_stays f (Tick turn w) = refl
-few_stays f (Set to a) = refl
-few_stays f (Operate to op a b) = refl
-few_stays f (Load to op at) = refl
-few_stays f (Store size a at) = refl
-few_stays f (Alloc to size) = refl
-few_stays f (Blit from to count) = refl
-few_stays f (Call to callee args) = ap (λ n. nat_le n 64) (args_count f args)
-
-passed_stays : Stays args_on_stack
-passed_stays f (Tick turn w) = refl
-passed_stays f (Set to a) = refl
-passed_stays f (Operate to op a b) = refl
-passed_stays f (Load to op at) = refl
-passed_stays f (Store size a at) = refl
-passed_stays f (Alloc to size) = refl
-passed_stays f (Blit from to count) = refl
-passed_stays f (Call to callee args) = ap (λ n. n - ARGUMENT_REGISTERS) (args_count f args)
 
 -- ---- of the lines of a block
 
@@ -133,30 +56,10 @@ most_same copies (l ∷ lines) =
 -- ---- what pays
 
 -- a register costs what another does
-cost_same : (copies : List KnownCopy) (a : Operand ℕ) → operand_cost (read_by copies a) ≡ operand_cost a
+cost_same : (copies : List KnownCopy) → Costs (read_by copies)
 cost_same copies (At r) = refl
 cost_same copies (Number n) = refl
 cost_same copies (Name g) = refl
-
-line_cost_same : (copies : List KnownCopy) (l : Line ℕ) → line_cost (with_line (read_by copies) l) ≡ line_cost l
-line_cost_same copies (Tick turn w) = refl
-line_cost_same copies (Set to a) = ap (λ n. n + place_cost) (cost_same copies a)
-line_cost_same copies (Operate to op a b) =
-    ap (λ n. n + operand_cost (read_by copies b) + operation_cost op + place_cost) (cost_same copies a) ∙ ap (λ n. operand_cost a + n + operation_cost op + place_cost) (cost_same copies b)
-line_cost_same copies (Load to op at) = ap (λ n. n + 1 + place_cost) (cost_same copies at.base)
-line_cost_same copies (Store size a at) = ap (λ n. n + operand_cost (read_by copies at.base) + 1) (cost_same copies a) ∙ ap (λ n. operand_cost a + n + 1) (cost_same copies at.base)
-line_cost_same copies (Alloc to size) = refl
-line_cost_same copies (Blit from to count) =
-    ap (λ n. n + operand_cost (read_by copies to) + 8 * ((count + 7) / 8)) (cost_same copies from) ∙ ap (λ n. operand_cost from + n + 8 * ((count + 7) / 8)) (cost_same copies to)
-line_cost_same copies (Call to callee args) = ap (λ n. 20 + 24 * n) (args_count (read_by copies) args)
-
-jump_cost_same : (copies : List KnownCopy) (j : Jump ℕ) → jump_cost (with_jump (read_by copies) j) ≡ jump_cost j
-jump_cost_same copies (Goto k) = refl
-jump_cost_same copies (Branch on met otherwise) =
-    ap (λ n. n + operand_cost (read_by copies on.right) + branch_cost on.class) (cost_same copies on.left) ∙ ap (λ n. operand_cost on.left + n + branch_cost on.class) (cost_same copies on.right)
-jump_cost_same copies (Return None) = refl
-jump_cost_same copies (Return (Some a)) = ap (λ n. n + 3) (cost_same copies a.value)
-jump_cost_same copies Halt = refl
 
 -- of a line that costs as much, and lines behind it
 spends_same : (less cost credit : ℕ) (now rest : ℕ → Bool) → less ≡ cost → ((left : ℕ) → now left ≡ rest left) → (nat_le less credit && now (credit - less)) ≡ (nat_le cost credit && rest (credit - cost))
@@ -164,43 +67,43 @@ spends_same less cost credit now rest e same = ap (λ n. nat_le n credit && now 
 
 affords_same : (copies : List KnownCopy) (j : Jump ℕ) (lines : List (Line ℕ)) (credit : ℕ)
     → affords credit (with_jump (read_by (known_behind copies lines)) j) (reading_lines copies lines) ≡ affords credit j lines
-affords_same copies j [] credit = ap (λ n. nat_le n credit) (jump_cost_same copies j)
+affords_same copies j [] credit = ap (λ n. nat_le n credit) (jump_cost_same (read_by copies) (cost_same copies) j)
 affords_same copies j (Tick turn w ∷ lines) credit = affords_same (after (Tick turn w) copies) j lines (credit + 32 * w)
 affords_same copies j (Set to a ∷ lines) credit =
     let l : Line ℕ = Set to a in
     let m : Line ℕ = with_line (read_by copies) l in
     spends_same (line_cost m) (line_cost l) credit (λ k. affords k (with_jump (read_by (known_behind (after m copies) lines)) j) (reading_lines (after m copies) lines)) (λ k. affords k j lines)
-    (line_cost_same copies l) (affords_same (after m copies) j lines)
+    (line_cost_same (read_by copies) (cost_same copies) l) (affords_same (after m copies) j lines)
 affords_same copies j (Operate to op a b ∷ lines) credit =
     let l : Line ℕ = Operate to op a b in
     let m : Line ℕ = with_line (read_by copies) l in
     spends_same (line_cost m) (line_cost l) credit (λ k. affords k (with_jump (read_by (known_behind (after m copies) lines)) j) (reading_lines (after m copies) lines)) (λ k. affords k j lines)
-    (line_cost_same copies l) (affords_same (after m copies) j lines)
+    (line_cost_same (read_by copies) (cost_same copies) l) (affords_same (after m copies) j lines)
 affords_same copies j (Load to op at ∷ lines) credit =
     let l : Line ℕ = Load to op at in
     let m : Line ℕ = with_line (read_by copies) l in
     spends_same (line_cost m) (line_cost l) credit (λ k. affords k (with_jump (read_by (known_behind (after m copies) lines)) j) (reading_lines (after m copies) lines)) (λ k. affords k j lines)
-    (line_cost_same copies l) (affords_same (after m copies) j lines)
+    (line_cost_same (read_by copies) (cost_same copies) l) (affords_same (after m copies) j lines)
 affords_same copies j (Store size a at ∷ lines) credit =
     let l : Line ℕ = Store size a at in
     let m : Line ℕ = with_line (read_by copies) l in
     spends_same (line_cost m) (line_cost l) credit (λ k. affords k (with_jump (read_by (known_behind (after m copies) lines)) j) (reading_lines (after m copies) lines)) (λ k. affords k j lines)
-    (line_cost_same copies l) (affords_same (after m copies) j lines)
+    (line_cost_same (read_by copies) (cost_same copies) l) (affords_same (after m copies) j lines)
 affords_same copies j (Alloc to size ∷ lines) credit =
     let l : Line ℕ = Alloc to size in
     let m : Line ℕ = with_line (read_by copies) l in
     spends_same (line_cost m) (line_cost l) credit (λ k. affords k (with_jump (read_by (known_behind (after m copies) lines)) j) (reading_lines (after m copies) lines)) (λ k. affords k j lines)
-    (line_cost_same copies l) (affords_same (after m copies) j lines)
+    (line_cost_same (read_by copies) (cost_same copies) l) (affords_same (after m copies) j lines)
 affords_same copies j (Blit from to count ∷ lines) credit =
     let l : Line ℕ = Blit from to count in
     let m : Line ℕ = with_line (read_by copies) l in
     spends_same (line_cost m) (line_cost l) credit (λ k. affords k (with_jump (read_by (known_behind (after m copies) lines)) j) (reading_lines (after m copies) lines)) (λ k. affords k j lines)
-    (line_cost_same copies l) (affords_same (after m copies) j lines)
+    (line_cost_same (read_by copies) (cost_same copies) l) (affords_same (after m copies) j lines)
 affords_same copies j (Call to callee args ∷ lines) credit =
     let l : Line ℕ = Call to callee args in
     let m : Line ℕ = with_line (read_by copies) l in
     spends_same (line_cost m) (line_cost l) credit (λ k. affords k (with_jump (read_by (known_behind (after m copies) lines)) j) (reading_lines (after m copies) lines)) (λ k. affords k j lines)
-    (line_cost_same copies l) (affords_same (after m copies) j lines)
+    (line_cost_same (read_by copies) (cost_same copies) l) (affords_same (after m copies) j lines)
 
 -- ---- the registers that it names
 
@@ -210,68 +113,28 @@ are_below n copies = list_all (λ (c : KnownCopy). is_below n c.copy) copies
 copy_low : (n : ℕ) (copies : List KnownCopy) → are_below n copies ≡ true → (r : ℕ) → is_below n r ≡ true → is_below n (copy_of copies r) ≡ true
 copy_low n [] all r h = h
 copy_low n (c ∷ copies) all r h =
-    let s = both_true (is_below n c.copy) (are_below n copies) all in
+    let s = and_parts (is_below n c.copy) (are_below n copies) all in
     by (nat_eq c.source r) (copy_of copies r) s.0 (copy_low n copies s.1 r h)
   where
     by : (b : Bool) (q : ℕ) → is_below n c.copy ≡ true → is_below n q ≡ true → is_below n (if b then c.copy else q) ≡ true
     by true q first rest = first
     by false q first rest = rest
 
--- a replacing that leaves operands below n
-abbrev Low : ℕ → Replacing → Type 0
-Low n f = (a : Operand ℕ) → operand_keeps (is_below n) a ≡ true → operand_keeps (is_below n) (f a) ≡ true
-
 read_low : (n : ℕ) (copies : List KnownCopy) → are_below n copies ≡ true → Low n (read_by copies)
 read_low n copies all (At r) h = copy_low n copies all r h
 read_low n copies all (Number k) h = h
 read_low n copies all (Name g) h = h
-
-two_low : (n : ℕ) (f : Replacing) → Low n f → (a b : Operand ℕ) → (operand_keeps (is_below n) a && operand_keeps (is_below n) b) ≡ true → (operand_keeps (is_below n) (f a) && operand_keeps (is_below n) (f b)) ≡ true
-two_low n f low a b h =
-    let s = both_true (operand_keeps (is_below n) a) (operand_keeps (is_below n) b) h in both_are (operand_keeps (is_below n) (f a)) (operand_keeps (is_below n) (f b)) (low a s.0) (low b s.1)
-
-args_low : (n : ℕ) (f : Replacing) → Low n f → (args : List (Argument ℕ)) → list_all (λ (a : Argument ℕ). operand_keeps (is_below n) a.value) args ≡ true
-    → list_all (λ (a : Argument ℕ). operand_keeps (is_below n) a.value) (map (with_argument f) args) ≡ true
-args_low n f low [] h = refl
-args_low n f low (a ∷ args) h =
-    let s = both_true (operand_keeps (is_below n) a.value) (list_all (λ (b : Argument ℕ). operand_keeps (is_below n) b.value) args) h in
-    both_are (operand_keeps (is_below n) (f a.value)) (list_all (λ (b : Argument ℕ). operand_keeps (is_below n) b.value) (map (with_argument f) args)) (low a.value s.0) (args_low n f low args s.1)
-
-line_low : (n : ℕ) (f : Replacing) → Low n f → (l : Line ℕ) → line_keeps (is_below n) l ≡ true → line_keeps (is_below n) (with_line f l) ≡ true
-line_low n f low (Tick turn w) h = refl
-line_low n f low (Set to a) h =
-    let s = both_true (is_below n to) (operand_keeps (is_below n) a) h in both_are (is_below n to) (operand_keeps (is_below n) (f a)) s.0 (low a s.1)
-line_low n f low (Operate to op a b) h =
-    let s = both_true (is_below n to) (operand_keeps (is_below n) a && operand_keeps (is_below n) b) h in
-    both_are (is_below n to) (operand_keeps (is_below n) (f a) && operand_keeps (is_below n) (f b)) s.0 (two_low n f low a b s.1)
-line_low n f low (Load to op at) h =
-    let s = both_true (is_below n to) (operand_keeps (is_below n) at.base) h in both_are (is_below n to) (operand_keeps (is_below n) (f at.base)) s.0 (low at.base s.1)
-line_low n f low (Store size a at) h = two_low n f low a at.base h
-line_low n f low (Alloc to size) h = h
-line_low n f low (Blit from to count) h = two_low n f low from to h
-line_low n f low (Call to callee args) h =
-    let s = both_true (wanted_keeps (is_below n) to) (operand_keeps (is_below n) callee && list_all (λ (a : Argument ℕ). operand_keeps (is_below n) a.value) args) h in
-    let t = both_true (operand_keeps (is_below n) callee) (list_all (λ (a : Argument ℕ). operand_keeps (is_below n) a.value) args) s.1 in
-    both_are (wanted_keeps (is_below n) to) (operand_keeps (is_below n) (f callee) && list_all (λ (a : Argument ℕ). operand_keeps (is_below n) a.value) (map (with_argument f) args)) s.0
-    (both_are (operand_keeps (is_below n) (f callee)) (list_all (λ (a : Argument ℕ). operand_keeps (is_below n) a.value) (map (with_argument f) args)) (low callee t.0) (args_low n f low args t.1))
-
-jump_low : (n : ℕ) (f : Replacing) → Low n f → (j : Jump ℕ) → jump_keeps (is_below n) j ≡ true → jump_keeps (is_below n) (with_jump f j) ≡ true
-jump_low n f low (Goto k) h = refl
-jump_low n f low (Branch on met otherwise) h = two_low n f low on.left on.right h
-jump_low n f low (Return None) h = refl
-jump_low n f low (Return (Some a)) h = low a.value h
-jump_low n f low Halt h = refl
 
 -- ---- the copies that are known are below n
 
 filtered_low : (n k : ℕ) (copies : List KnownCopy) → are_below n copies ≡ true → are_below n (filter (survives k) copies) ≡ true
 filtered_low n k [] all = refl
 filtered_low n k (c ∷ copies) all =
-    let s = both_true (is_below n c.copy) (are_below n copies) all in
+    let s = and_parts (is_below n c.copy) (are_below n copies) all in
     by (survives k c) (filter (survives k) copies) s.0 (filtered_low n k copies s.1)
   where
     by : (b : Bool) (rest : List KnownCopy) → is_below n c.copy ≡ true → are_below n rest ≡ true → are_below n (if b then c ∷ rest else rest) ≡ true
-    by true rest first h = both_are (is_below n c.copy) (are_below n rest) first h
+    by true rest first h = and_from (is_below n c.copy) (are_below n rest) first h
     by false rest first h = h
 
 surviving_low : (n : ℕ) (w : Option ℕ) (copies : List KnownCopy) → are_below n copies ≡ true → are_below n (surviving w copies) ≡ true
@@ -279,9 +142,9 @@ surviving_low n None copies all = all
 surviving_low n (Some k) copies all = filtered_low n k copies all
 
 one_low : (n : ℕ) (c : KnownCopy) → is_below n c.copy ≡ true → (copies : List KnownCopy) → are_below n copies ≡ true → are_below n (copies ++ c ∷ []) ≡ true
-one_low n c h [] all = both_are (is_below n c.copy) true h refl
+one_low n c h [] all = and_from (is_below n c.copy) true h refl
 one_low n c h (d ∷ copies) all =
-    let s = both_true (is_below n d.copy) (are_below n copies) all in both_are (is_below n d.copy) (are_below n (copies ++ c ∷ [])) s.0 (one_low n c h copies s.1)
+    let s = and_parts (is_below n d.copy) (are_below n copies) all in and_from (is_below n d.copy) (are_below n (copies ++ c ∷ [])) s.0 (one_low n c h copies s.1)
 
 -- a copy that may be made is below n
 abbrev MadeLow : ℕ → Option KnownCopy → Type 0
@@ -302,7 +165,7 @@ made_low n (Set to (At from)) h = by (nat_eq to from)
   where
     by : (b : Bool) → MadeLow n (if b then None else Some (record { source = from; copy = to }))
     by true = tt
-    by false = (both_true (is_below n to) (is_below n from) h).0
+    by false = (and_parts (is_below n to) (is_below n from) h).0
 made_low n (Set to (Number k)) h = tt
 made_low n (Set to (Name g)) h = tt
 made_low n (Operate to op a b) h = tt
@@ -319,28 +182,19 @@ lines_low : (n : ℕ) (copies : List KnownCopy) → are_below n copies ≡ true 
     → (list_all (line_keeps (is_below n)) (reading_lines copies lines) ≡ true) × (are_below n (known_behind copies lines) ≡ true)
 lines_low n copies all [] h = (refl, all)
 lines_low n copies all (l ∷ lines) h =
-    let s = both_true (line_keeps (is_below n) l) (list_all (line_keeps (is_below n)) lines) h in
+    let s = and_parts (line_keeps (is_below n) l) (list_all (line_keeps (is_below n)) lines) h in
     let m : Line ℕ = with_line (read_by copies) l in
     let low : line_keeps (is_below n) m ≡ true = line_low n (read_by copies) (read_low n copies all) l s.0 in
     let rest = lines_low n (after m copies) (after_low n m low copies all) lines s.1 in
-    (both_are (line_keeps (is_below n) m) (list_all (line_keeps (is_below n)) (reading_lines (after m copies) lines)) low rest.0, rest.1)
+    (and_from (line_keeps (is_below n) m) (list_all (line_keeps (is_below n)) (reading_lines (after m copies) lines)) low rest.0, rest.1)
 
 block_low : (n : ℕ) (b : Block ℕ) → block_keeps (is_below n) b ≡ true → block_keeps (is_below n) (reading_block b) ≡ true
 block_low n b h =
-    let s = both_true (list_all (line_keeps (is_below n)) b.lines) (jump_keeps (is_below n) b.jump) h in
+    let s = and_parts (list_all (line_keeps (is_below n)) b.lines) (jump_keeps (is_below n) b.jump) h in
     let low = lines_low n [] refl b.lines s.0 in
     let f : Replacing = read_by (known_behind [] b.lines) in
-    both_are (list_all (line_keeps (is_below n)) (reading_lines [] b.lines)) (jump_keeps (is_below n) (with_jump f b.jump)) low.0
+    and_from (list_all (line_keeps (is_below n)) (reading_lines [] b.lines)) (jump_keeps (is_below n) (with_jump f b.jump)) low.0
     (jump_low n f (read_low n (known_behind [] b.lines) low.1) b.jump s.1)
-
--- ---- where jumps lead
-
-inside_same : (n : ℕ) (f : Replacing) (j : Jump ℕ) → leads_inside n (with_jump f j) ≡ leads_inside n j
-inside_same n f (Goto k) = refl
-inside_same n f (Branch on met otherwise) = refl
-inside_same n f (Return None) = refl
-inside_same n f (Return (Some a)) = refl
-inside_same n f Halt = refl
 
 -- ---- blocks
 
@@ -357,8 +211,8 @@ blocks_all test same (b ∷ blocks) = ap (λ c. c && list_all test (map reading_
 blocks_low : (n : ℕ) (blocks : List (Block ℕ)) → list_all (block_keeps (is_below n)) blocks ≡ true → list_all (block_keeps (is_below n)) (map reading_block blocks) ≡ true
 blocks_low n [] h = refl
 blocks_low n (b ∷ blocks) h =
-    let s = both_true (block_keeps (is_below n) b) (list_all (block_keeps (is_below n)) blocks) h in
-    both_are (block_keeps (is_below n) (reading_block b)) (list_all (block_keeps (is_below n)) (map reading_block blocks)) (block_low n b s.0) (blocks_low n blocks s.1)
+    let s = and_parts (block_keeps (is_below n) b) (list_all (block_keeps (is_below n)) blocks) h in
+    and_from (block_keeps (is_below n) (reading_block b)) (list_all (block_keeps (is_below n)) (map reading_block blocks)) (block_low n b s.0) (blocks_low n blocks s.1)
 
 first_same : (blocks : List (Block ℕ)) → allocs_first (map reading_block blocks) ≡ allocs_first blocks
 first_same [] = refl
@@ -378,8 +232,8 @@ area_same v = blocks_sum (λ (b : Block ℕ). sum_by alloc_bytes b.lines) (λ b.
 
 pub places_kept : (n : ℕ) (v : Code ℕ) → keeps_places (is_below n) v ≡ true → keeps_places (is_below n) (reading_copies v) ≡ true
 places_kept n v h =
-    let s = both_true (list_all (λ (d : Destination ℕ). is_below n d.place) v.params) (list_all (block_keeps (is_below n)) v.blocks) h in
-    both_are (list_all (λ (d : Destination ℕ). is_below n d.place) v.params) (list_all (block_keeps (is_below n)) (map reading_block v.blocks)) s.0 (blocks_low n v.blocks s.1)
+    let s = and_parts (list_all (λ (d : Destination ℕ). is_below n d.place) v.params) (list_all (block_keeps (is_below n)) v.blocks) h in
+    and_from (list_all (λ (d : Destination ℕ). is_below n d.place) v.params) (list_all (block_keeps (is_below n)) (map reading_block v.blocks)) s.0 (blocks_low n v.blocks s.1)
 
 pub regular : (v : Code ℕ) → IsRegular v → IsRegular (reading_copies v)
 regular v is =

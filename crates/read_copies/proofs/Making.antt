@@ -1,9 +1,10 @@
 -- One line more of a block that reads copies.
 use Rattle.std.proofs.Common.{◌≡◌, ℕ, ◌+◌, ◌<◌, List, [], ◌∷◌, ◌++◌, drop, length, get_or, refl, sym, ◌∙◌, ap}
 use Rattle.vcode.specs.declared.line.Line.{Line}
+use Rattle.vcode.specs.Replaced.{with_line}
 use Rattle.vcode.proofs.Lists.{item_next}
 use Rattle.read_copies.specs.declared.known.KnownCopy.{KnownCopy}
-use Rattle.read_copies.specs.Copied.{read_by, with_line, after, reading_lines, known_behind}
+use Rattle.read_copies.specs.Copied.{read_by, after, reading_lines, known_behind}
 
 append_one : {X : Type 0} (xs : List X) (x : X) (ys : List X) → (xs ++ x ∷ []) ++ ys ≡ xs ++ x ∷ ys
 append_one [] x ys = refl

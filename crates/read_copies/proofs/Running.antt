@@ -1,5 +1,5 @@
 -- Code that reads copies runs as the code does, step by step in the same states, in which all copies that are known hold what their sources do.
-use Rattle.std.proofs.Common.{◌≡◌, ℕ, ◌+◌, ◌-◌, Bool, true, false, not, ◌&&◌, nat_eq, nat_lt, if◌then◌else◌, List, [], ◌∷◌, ◌++◌, map, drop, length, Option, Some, None, slice_get, refl, sym, ◌∙◌, ap, subst, arith}
+use Rattle.std.proofs.Common.{◌≡◌, ℕ, ◌+◌, Bool, true, false, not, ◌&&◌, nat_eq, nat_lt, if◌then◌else◌, List, [], ◌∷◌, ◌++◌, map, drop, length, Option, Some, None, slice_get, refl, sym, ◌∙◌, ap, subst, arith}
 use Rattle.std.specs.Prelude.{filter}
 use Rattle.std.specs.Option.{option_map, option_and_then}
 use Rattle.std.proofs.lemmas.Bool.Decides.{nat_tests}
@@ -12,33 +12,33 @@ use Rattle.il_ast.specs.Values.{byte_count, in_place}
 use Rattle.il_ast.specs.Memory.{Memory, store, copy}
 use Rattle.il_ast.specs.Effect.{stored_class}
 use Rattle.il_ast.specs.Run.{one_turn, both, Outcome, Returned, Ended}
-use Rattle.il_ast.specs.Logged.{Next, On, Over, Event, Does, Calls}
+use Rattle.il_ast.specs.Logged.{Over, Event, Does}
 use Rattle.il_ast.specs.Keeps.{Asked, Given, Fine, KeepsCode}
-use Rattle.il_ast.specs.Simulation.{TogetherNext, Together, Lockstep}
+use Rattle.il_ast.specs.Simulation.{Together, Lockstep}
 use Rattle.il_ast.proofs.Simulated.{lockstep_keeps}
-use Rattle.rv_isa.specs.declared.instruction.RegOp.TheVariants.{Add}
 use Rattle.vcode.specs.declared.place.Operand.{Operand}
 use Rattle.vcode.specs.declared.place.Operand.TheVariants.{At, Number, Name}
-use Rattle.vcode.specs.declared.place.Address.{Address}
 use Rattle.vcode.specs.declared.place.Destination.{Destination}
 use Rattle.vcode.specs.declared.place.Argument.{Argument}
 use Rattle.vcode.specs.declared.line.Line.{Line}
 use Rattle.vcode.specs.declared.line.Line.TheVariants.{Tick, Set, Operate, Load, Store, Alloc, Blit, Call}
 use Rattle.vcode.specs.declared.line.Jump.{Jump}
 use Rattle.vcode.specs.declared.line.Jump.TheVariants.{Goto, Branch, Return, Halt}
-use Rattle.vcode.specs.declared.line.Operation.TheVariants.{Reg, Compare}
+use Rattle.vcode.specs.declared.line.Operation.TheVariants.{Compare}
 use Rattle.vcode.specs.declared.code.Block.{Block}
 use Rattle.vcode.specs.declared.code.Code.{Code}
-use Rattle.vcode.specs.Addresses.{distance}
 use Rattle.vcode.specs.Operations.{held, operate, loaded, passed}
 use Rattle.vcode.specs.Places.{Values, put, assign, kept, virtual}
 use Rattle.vcode.specs.Coded.{classes_in}
-use Rattle.vcode.specs.Step.{State, begin, value_of, read, read_argument, read_result, read_all, operated, address_of, goes_on, sets, takes, changes, ticks, receives, resumes, calls, line_step, compared, branches, returns, jump_step, step}
+use Rattle.vcode.specs.Step.{State, begin, value_of, read, read_result, read_all, address_of, goes_on, sets, takes, changes, ticks, receives, resumes, calls, line_step, compared, branches, returns, jump_step, step}
 use Rattle.vcode.proofs.Lists.{head_at, tail_at, nothing_at, same_some}
+use Rattle.vcode.specs.Replaced.{Replacing, with_argument, with_line, with_jump}
+use Rattle.vcode.proofs.SameReads.{SameValue, SameArguments, address_same, two_same, args_same, calls_same}
+use Rattle.vcode.proofs.Going.{OnNext, OnEvent, Relation, event_self, event_more}
 use Rattle.vcode.proofs.Stepping.{step_line, step_jump, step_nowhere}
 use Rattle.cfg_live.specs.Registers.{line_writes}
 use Rattle.read_copies.specs.declared.known.KnownCopy.{KnownCopy}
-use Rattle.read_copies.specs.Copied.{copy_of, read_by, Replacing, with_base, with_argument, with_line, with_jump, survives, surviving, made_by, with_copy, after, reading_lines, known_behind, reading_block, reading_copies}
+use Rattle.read_copies.specs.Copied.{copy_of, read_by, survives, surviving, made_by, with_copy, after, reading_lines, known_behind, reading_block, reading_copies}
 
 -- ---- what is known
 
@@ -58,51 +58,16 @@ copy_same ev (c ∷ copies) all r = first_same ev c r (copy_of copies r) all.0 (
 -- ---- operands that have the same values
 
 abbrev SameValues : List Value → Values ℕ → Replacing → Type 0
-SameValues globals ev f = (a : Operand ℕ) → value_of globals ev (f a) ≡ value_of globals ev a
+SameValues globals ev f = (a : Operand ℕ) → SameValue globals ev ev f a
+
+arguments_same : (globals : List Value) (ev : Values ℕ) (f : Replacing) → SameValues globals ev f → (args : List (Argument ℕ)) → SameArguments globals ev ev f args
+arguments_same globals ev f same [] = tt
+arguments_same globals ev f same (a ∷ args) = (same a.value, arguments_same globals ev f same args)
 
 operand_same : (globals : List Value) (ev : Values ℕ) (copies : List KnownCopy) → AreTrue ev copies → SameValues globals ev (read_by copies)
 operand_same globals ev copies all (At r) = copy_same ev copies all r
 operand_same globals ev copies all (Number n) = refl
 operand_same globals ev copies all (Name g) = refl
-
-two_same : {R : Type 0} (globals : List Value) (ev : Values ℕ) (f : Replacing) → SameValues globals ev f → (a b : Operand ℕ) (act : Value → Value → Option R)
-    → option_and_then (λ u. option_and_then (λ v. act u v) (value_of globals ev (f b))) (value_of globals ev (f a))
-    ≡ option_and_then (λ u. option_and_then (λ v. act u v) (value_of globals ev b)) (value_of globals ev a)
-two_same {R} globals ev f same a b act =
-    ap (λ (x : Option Value). option_and_then (λ u. option_and_then (λ v. act u v) x) (value_of globals ev (f a))) (same b)
-    ∙ ap (λ (x : Option Value). option_and_then (λ u. option_and_then (λ v. act u v) (value_of globals ev b)) x) (same a)
-
-address_same : (globals : List Value) (m : Memory) (ev : Values ℕ) (f : Replacing) → SameValues globals ev f → (at : Address ℕ) → address_of globals m ev (with_base f at) ≡ address_of globals m ev at
-address_same globals m ev f same at =
-    ap (λ (x : Option Value). if nat_eq (distance at) 0 then x else operated m (Reg Add) x (value_of globals ev (Number (distance at)))) (same at.base)
-
-args_same : (globals : List Value) (ev : Values ℕ) (f : Replacing) → SameValues globals ev f → (args : List (Argument ℕ)) → read_all globals ev (map (with_argument f) args) ≡ read_all globals ev args
-args_same globals ev f same [] = refl
-args_same globals ev f same (a ∷ args) =
-    ap (λ (x : Option Value). option_and_then (λ v. option_map (λ vs. v ∷ vs) (read_all globals ev (map (with_argument f) args))) (option_and_then (passed a.extension a.class) x)) (same a.value)
-    ∙ ap (λ (x : Option (List Value)). option_and_then (λ v. option_map (λ vs. v ∷ vs) x) (read_argument globals ev a)) (args_same globals ev f same args)
-
-classes_same : (f : Replacing) (args : List (Argument ℕ)) → map (λ (a : Argument ℕ). a.class) (map (with_argument f) args) ≡ map (λ (a : Argument ℕ). a.class) args
-classes_same f [] = refl
-classes_same f (a ∷ args) = ap (λ (cs : List Class). a.class ∷ cs) (classes_same f args)
-
-calls_same : (i : Given) (s : State ℕ) (to : Option (Destination ℕ)) (f : Replacing) (args : List (Argument ℕ)) (x : Option Value) (vs : Option (List Value))
-    → calls virtual i s to (map (with_argument f) args) x vs ≡ calls virtual i s to args x vs
-calls_same i s to f args (Some (Function g)) (Some vs) =
-    ap
-    (λ (cs : List Class). Calls
-    (record {
-      call = record { callee = g; classes = cs; wants = option_map (λ (d : Destination ℕ). d.class) to; args = vs };
-      turns = i.turns - s.spent.turns;
-      room = i.room;
-      memory = s.memory;
-    })
-    (resumes virtual s to))
-    (classes_same f args)
-calls_same i s to f args (Some (Function g)) None = refl
-calls_same i s to f args (Some (Integer k)) vs = refl
-calls_same i s to f args (Some (Pointer b k)) vs = refl
-calls_same i s to f args None vs = refl
 
 -- ---- each line and jump does the same
 
@@ -110,58 +75,28 @@ line_same : (globals : List Value) (i : Given) (s : State ℕ) (f : Replacing) �
 unfolding line_step
 line_same globals i s f same (Tick turn w) = refl
 line_same globals i s f same (Set to a) = ap (takes virtual s to) (same a)
-line_same globals i s f same (Operate to op a b) = ap (sets virtual s to) (two_same globals s.values f same a b (operate s.memory op))
-line_same globals i s f same (Load to op at) = ap (λ (o : Option Value). sets virtual s to (option_and_then (loaded s.memory op) o)) (address_same globals s.memory s.values f same at)
+line_same globals i s f same (Operate to op a b) = ap (sets virtual s to) (two_same globals s.values s.values f a b (operate s.memory op) (same a) (same b))
+line_same globals i s f same (Load to op at) = ap (λ (o : Option Value). sets virtual s to (option_and_then (loaded s.memory op) o)) (address_same globals s.memory s.values s.values f at (same at.base))
 line_same globals i s f same (Store size a at) =
     ap (changes s)
-    (ap (λ (x : Option Value). option_and_then (λ v. option_and_then (λ p. store s.memory (byte_count size) p v) x) (read globals s.values (stored_class size) (f a))) (address_same globals s.memory s.values f same at)
+    (ap (λ (x : Option Value). option_and_then (λ v. option_and_then (λ p. store s.memory (byte_count size) p v) x) (read globals s.values (stored_class size) (f a))) (address_same globals s.memory s.values s.values f at (same at.base))
     ∙ ap (λ (x : Option Value). option_and_then (λ v. option_and_then (λ p. store s.memory (byte_count size) p v) (address_of globals s.memory s.values at)) (option_and_then (in_place (stored_class size)) x)) (same a))
 line_same globals i s f same (Alloc to size) = refl
-line_same globals i s f same (Blit from to count) = ap (changes s) (two_same globals s.values f same from to (λ p q. copy s.memory count p q))
+line_same globals i s f same (Blit from to count) = ap (changes s) (two_same globals s.values s.values f from to (λ p q. copy s.memory count p q) (same from) (same to))
 line_same globals i s f same (Call to callee args) =
     ap (λ (x : Option Value). calls virtual i s to (map (with_argument f) args) x (read_all globals s.values (map (with_argument f) args))) (same callee)
-    ∙ ap (calls virtual i s to (map (with_argument f) args) (value_of globals s.values callee)) (args_same globals s.values f same args)
+    ∙ ap (calls virtual i s to (map (with_argument f) args) (value_of globals s.values callee)) (args_same globals s.values s.values f args (arguments_same globals s.values f same args))
     ∙ calls_same i s to f args (value_of globals s.values callee) (read_all globals s.values args)
 
 jump_same : (globals : List Value) (result : Option Class) (s : State ℕ) (f : Replacing) → SameValues globals s.values f → (j : Jump ℕ) → jump_step globals result s (with_jump f j) ≡ jump_step globals result s j
 unfolding jump_step
 jump_same globals result s f same (Goto k) = refl
 jump_same globals result s f same (Branch on met otherwise) =
-    ap (branches s met otherwise) (two_same globals s.values f same on.left on.right (operate s.memory (Compare on.condition on.class)))
+    ap (branches s met otherwise) (two_same globals s.values s.values f on.left on.right (operate s.memory (Compare on.condition on.class)) (same on.left) (same on.right))
 jump_same globals result s f same (Return None) = refl
 jump_same globals None s f same (Return (Some a)) = refl
 jump_same globals (Some k) s f same (Return (Some a)) = ap (λ (x : Option Value). returns s (option_and_then (passed a.extension k) x)) (same a.value)
 jump_same globals result s f same Halt = refl
-
--- ---- where an event goes on
-
-abbrev OnNext : (State ℕ → Type 0) → Next (State ℕ) Outcome → Type 0
-OnNext holds (On u) = holds u
-OnNext holds (Over o) = Unit {0}
-
-abbrev OnEvent : (State ℕ → Type 0) → Event (State ℕ) Asked Outcome → Type 0
-OnEvent holds (Does n) = OnNext holds n
-OnEvent holds (Calls i k) = (o : Outcome) → OnNext holds (k o)
-
-abbrev Relation : Type 1
-Relation = State ℕ → State ℕ → Type 0
-
-next_self : (related : Relation) (n : Next (State ℕ) Outcome) → OnNext (λ u. related u u) n → TogetherNext related Fine n n
-next_self related (On u) h = (u, refl, h)
-next_self related (Over o) h = λ f. refl
-
-event_self : (related : Relation) (e : Event (State ℕ) Asked Outcome) → OnEvent (λ u. related u u) e → Together related Fine e e
-event_self related (Does (On u)) h = (u, refl, h)
-event_self related (Does (Over o)) h = λ f. refl
-event_self related (Calls i k) h = (k, refl, λ o. next_self related (k o) (h o))
-
-next_more : (p q : State ℕ → Type 0) → ((u : State ℕ) → p u → q u) → (n : Next (State ℕ) Outcome) → OnNext p n → OnNext q n
-next_more p q more (On u) h = more u h
-next_more p q more (Over o) h = tt
-
-event_more : (p q : State ℕ → Type 0) → ((u : State ℕ) → p u → q u) → (e : Event (State ℕ) Asked Outcome) → OnEvent p e → OnEvent q e
-event_more p q more (Does n) h = next_more p q more n h
-event_more p q more (Calls i k) h = λ o. next_more p q more (k o) (h o)
 
 -- ---- a line was done
 

@@ -1,9 +1,9 @@
 //! The copies that are known at a place of a block.
-ghost use Rattle.std.specs.Prelude.{◌≡◌, filter, OnOk};
+ghost use Rattle.std.specs.Prelude.{◌≡◌, [], filter, OnOk};
 ghost use Rattle.read_copies.specs.Copied.{copy_of, survives, made_by, with_copy, after};
 
 use cfg_live::uses::line_writes;
-use std::alloc::AllocError;
+use std::alloc::{AllocError, Global};
 use vcode::line::Line;
 use vcode::place::Operand;
 
@@ -14,8 +14,14 @@ pub struct KnownCopy {
     pub copy: u32,
 }
 
-/// The first copy of the register, or itself where none is known.
-pub(crate) fn copy_of(known: &[KnownCopy], register: u32) -> u32
+/// The copies that are known at a place of a block, the oldest first.
+#[derive(Drop)]
+pub(crate) struct Known {
+    copies: Vec<KnownCopy>,
+}
+
+// The first copy of the register, or itself where none is known.
+fn copy_of(known: &[KnownCopy], register: u32) -> u32
     ensures { result ≡ copy_of known.now register }
 {
     for pair in known {
@@ -67,16 +73,34 @@ fn note(known: &mut Vec<KnownCopy>, made: Option<KnownCopy>) -> Result<(), Alloc
     Ok(())
 }
 
-/// Takes what is known before a line to what is known after it.
-///
-/// # Errors
-///
-/// Only where memory was refused.
-pub(crate) fn pass(known: &mut Vec<KnownCopy>, line: &Line<u32>) -> Result<(), AllocError>
-    ensures { OnOk result (known.new.items ≡ after line.now known.old.items) }
-{
-    if let Some(register) = line_writes(line) {
-        forget(known, register);
+impl Known {
+    /// Nothing is known.
+    pub(crate) fn nothing(alloc: Global) -> Known
+        ensures { result.copies.items ≡ [] }
+    {
+        Known {
+            copies: Vec::new(alloc),
+        }
     }
-    note(known, made_by(line))
+
+    /// The first copy of the register, or itself where none is known.
+    pub(crate) fn copy_of(&self, register: u32) -> u32
+        ensures { result ≡ copy_of self.now.copies.items register }
+    {
+        copy_of(self.copies.as_slice(), register)
+    }
+
+    /// Takes what is known before a line to what is known after it.
+    ///
+    /// # Errors
+    ///
+    /// Only where memory was refused.
+    pub(crate) fn pass(&mut self, line: &Line<u32>) -> Result<(), AllocError>
+        ensures { OnOk result (self.new.copies.items ≡ after line.now self.old.copies.items) }
+    {
+        if let Some(register) = line_writes(line) {
+            forget(&mut self.copies, register);
+        }
+        note(&mut self.copies, made_by(line))
+    }
 }

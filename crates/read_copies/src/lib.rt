@@ -15,5 +15,3 @@
 mod known;
 pub mod read;
 mod replace;
-#[cfg(test)]
-mod tests;

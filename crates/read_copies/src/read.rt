@@ -4,26 +4,22 @@ ghost use Rattle.il_ast.specs.Passes.{Keeps};
 ghost use Rattle.vcode.specs.Coded.{virtual_code};
 ghost use Rattle.read_copies.specs.Copied.{reading_lines, known_behind, reading_block, reading_copies};
 
-use crate::known::{KnownCopy, pass};
-use crate::replace::{jump, line};
+use crate::known::Known;
 use il_ast::list::Seq;
 use std::alloc::{AllocError, Global};
 use vcode::code::{Block, Code};
 use vcode::function::VFunc;
 use vcode::line::Line;
+use vcode::replace::{jump, line};
 
-fn lines(
-    alloc: Global,
-    known: &mut Vec<KnownCopy>,
-    from: &[Line<u32>],
-) -> Result<Seq<Line<u32>>, AllocError>
-    ensures lines { IfOk result (λ v. v ≡ reading_lines known.old.items from.now) }
-    ensures known { OnOk result (known.new.items ≡ known_behind known.old.items from.now) }
+fn lines(alloc: Global, known: &mut Known, from: &[Line<u32>]) -> Result<Seq<Line<u32>>, AllocError>
+    ensures lines { IfOk result (λ v. v ≡ reading_lines known.old.copies.items from.now) }
+    ensures known { OnOk result (known.new.copies.items ≡ known_behind known.old.copies.items from.now) }
 {
     let mut made = Vec::new(alloc);
     for item in from {
-        let put = line(alloc, known.as_slice(), item)?;
-        pass(known, &put)?;
+        let put = line(alloc, known, item)?;
+        known.pass(&put)?;
         made.push(put)?;
     }
     Ok(Seq::from_vec(made))
@@ -32,9 +28,9 @@ fn lines(
 fn block(alloc: Global, from: &Block<u32>) -> Result<Block<u32>, AllocError>
     ensures { IfOk result (λ v. v ≡ reading_block from.now) }
 {
-    let mut known = Vec::new(alloc);
+    let mut known = Known::nothing(alloc);
     let lines = lines(alloc, &mut known, from.lines.as_slice())?;
-    let jump = jump(known.as_slice(), &from.jump);
+    let jump = jump(&known, &from.jump);
     Ok(Block { lines, jump })
 }
 

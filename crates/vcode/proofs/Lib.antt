@@ -4,3 +4,6 @@ mod Words
 pub mod Lists
 pub mod Stepping
 mod Affording
+pub mod Replacing
+pub mod SameReads
+pub mod Going

@@ -11,3 +11,4 @@ pub mod Examples
 pub mod Laws
 pub mod Outgoing
 pub mod Coded
+pub mod Replaced

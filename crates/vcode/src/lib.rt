@@ -23,3 +23,4 @@ pub mod laws;
 pub mod limits;
 pub mod line;
 pub mod place;
+pub mod replace;

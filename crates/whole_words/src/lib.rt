@@ -14,5 +14,3 @@
 pub mod copies;
 mod lines;
 mod marks;
-#[cfg(test)]
-mod tests;

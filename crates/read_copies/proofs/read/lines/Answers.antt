@@ -1,21 +1,20 @@
 use Rattle.std.proofs.Common.{◌≡◌, ℕ, List, [], ◌∷◌, ◌++◌, ◌+◌, drop, ap, ◌∙◌}
 use Rattle.vcode.specs.declared.line.Line.{Line}
+use Rattle.vcode.specs.Replaced.{with_line}
 use Rattle.read_copies.specs.declared.known.KnownCopy.{KnownCopy}
-use Rattle.read_copies.specs.Copied.{read_by, with_line, reading_lines, known_behind}
+use Rattle.read_copies.specs.Copied.{read_by, reading_lines, known_behind}
 use Rattle.read_copies.proofs.Making.{lines_on, known_on}
 use Rattle.read_copies.proofs.read.lines.Goals as goal
 
 pub loop-item-preserved : goal.loop-item-preserved
 loop-item-preserved c =
-    let copies : List KnownCopy = c.loop-item.known.items in
+    let copies : List KnownCopy = c.loop-item.known.copies.items in
     let from : List (Line ℕ) = c.args.from.now in
     let i : ℕ = c.loop-item.item-index in
-    let is : c.in_ok-put.put ≡ with_line (read_by copies) c.item-item.result =
-    c.in_ok-put.ensures ∙ ap (λ (cs : List KnownCopy). with_line (read_by cs) c.item-item.result) c.as_slice.ensures.value
-    in
+    let is : c.in_ok-put.put ≡ with_line (read_by copies) c.item-item.result = c.in_ok-put.ensures in
     record {
       made =
-          ap (λ (ls : List (Line ℕ)). ls ++ reading_lines c.pass.new.known.items (drop (i + 1) from)) c.in_ok-push.ensures.items
+          ap (λ (ls : List (Line ℕ)). ls ++ reading_lines c.pass.new.self.copies.items (drop (i + 1) from)) c.in_ok-push.ensures.items
           ∙ ap (λ (cs : List KnownCopy). (c.loop-item.made.items ++ c.in_ok-put.put ∷ []) ++ reading_lines cs (drop (i + 1) from)) c.in_ok-pass.ensures
           ∙ lines_on c.loop-item.made.items copies from i c.item-item.result c.in_ok-put.put c.loop-item-test.true c.item-item.is is
           ∙ c.loop-item.invariant.made;

@@ -5,6 +5,6 @@ use Rattle.read_copies.proofs.read.lines.Given as goal
 abbrev pub invariant-loop-item : goal.invariant-loop-item
 invariant-loop-item l =
     record {
-      made : l.made.items ++ reading_lines l.known.items (drop l.item-index l.from) ≡ reading_lines l.fn.known.items l.fn.from;
-      known : known_behind l.known.items (drop l.item-index l.from) ≡ known_behind l.fn.known.items l.fn.from;
+      made : l.made.items ++ reading_lines l.known.copies.items (drop l.item-index l.from) ≡ reading_lines l.fn.known.copies.items l.fn.from;
+      known : known_behind l.known.copies.items (drop l.item-index l.from) ≡ known_behind l.fn.known.copies.items l.fn.from;
     }

@@ -1,6 +1,6 @@
 //! Small functions, and what is made of them.
-use crate::forward::forward;
-use crate::shorten::shortened;
+use forwarding::forward::forward;
+use forwarding::shorten::shortened;
 use il_ast::list::Seq;
 use il_ast::operation::{Class, Condition};
 use rv_isa::instruction::{LoadOp, RegOp, RegWOp};

@@ -1,5 +1,4 @@
 //! Small functions, and which of their extensions are copies.
-use crate::copies::copy_whole_words;
 use il_ast::list::Seq;
 use il_ast::operation::Class;
 use rv_isa::instruction::RegWOp;
@@ -9,6 +8,7 @@ use vcode::code::{Block, Code};
 use vcode::function::VFunc;
 use vcode::line::{Jump, Line, Operation};
 use vcode::place::{Destination, Operand, ReturnValue};
+use whole_words::copies::copy_whole_words;
 
 /// Copies its argument from register 0 to register 1, and returns the extension of that.
 fn extended(alloc: Global, class: Class) -> Result<VFunc, AllocError> {

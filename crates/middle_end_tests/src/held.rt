@@ -1,9 +1,9 @@
 //! Small functions with loops, and what is made of them.
-use crate::constants::hold_constants;
-use crate::hold::with_constant;
-use crate::plan::{Constant, Plan};
 use il_ast::list::Seq;
 use il_ast::operation::{Class, Condition};
+use loop_constants::constants::hold_constants;
+use loop_constants::hold::with_constant;
+use loop_constants::plan::{Constant, Plan};
 use rv_isa::instruction::RegOp;
 use std::alloc::{AllocError, Global};
 use std::test::Fail;

@@ -1,7 +1,7 @@
 //! Loops of small codes.
-use crate::depths::{depths, frequency, sources};
 use il_ast::list::Seq;
 use il_ast::operation::{Class, Condition};
+use loops::depths::{depths, frequency, sources};
 use std::alloc::{AllocError, Global};
 use std::test::Fail;
 use vcode::code::Block;

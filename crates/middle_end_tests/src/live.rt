@@ -1,8 +1,8 @@
 //! Small graphs, and the registers that are live at each of their points.
-use crate::graph::Graph;
-use crate::live::live_in;
-use crate::sets::Live;
-use crate::uses::Uses;
+use cfg_live::graph::Graph;
+use cfg_live::live::live_in;
+use cfg_live::sets::Live;
+use cfg_live::uses::Uses;
 use il_ast::list::Seq;
 use std::alloc::{AllocError, Global};
 use std::test::Fail;

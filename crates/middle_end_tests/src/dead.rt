@@ -1,5 +1,5 @@
 //! Small functions, and what is left of them.
-use crate::remove::remove_dead_lines;
+use dead_lines::remove::remove_dead_lines;
 use il_ast::list::Seq;
 use il_ast::operation::{Class, Size};
 use rv_isa::instruction::LoadOp;

@@ -1,7 +1,7 @@
 //! Small functions, and the registers that they read with copies.
-use crate::read::read_copies;
 use il_ast::list::Seq;
 use il_ast::operation::Class;
+use read_copies::read::read_copies;
 use rv_isa::instruction::RegOp;
 use std::alloc::{AllocError, Global};
 use std::test::Fail;
