@@ -39,5 +39,3 @@ pub use loaded::{Loaded, Segment};
 pub use read::read_image;
 pub use write::write_image;
 
-#[cfg(test)]
-mod tests;

@@ -1,8 +1,8 @@
 //! Loads and stores, by the bytes and parts that they move.
 
 use il_ast::operation::Size;
-use il_ast::value::{BlockId, Callee, Value};
-use il_mem::memory::BlockMemory;
+use il_ast::value::{Callee, Value};
+use il_mem::memory::{BlockId, BlockMemory};
 use std::test::Fail;
 
 fn pointer(block: BlockId, offset: u64) -> Value {

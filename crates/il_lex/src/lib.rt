@@ -33,6 +33,4 @@ pub mod kind;
 pub mod laws;
 pub mod quoted;
 pub mod scan;
-#[cfg(test)]
-mod tests;
 pub mod tokens;

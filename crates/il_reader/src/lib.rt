@@ -40,11 +40,7 @@ mod names;
 mod operand;
 pub mod read;
 mod reader;
-#[cfg(test)]
-mod show;
 mod spacing;
 pub mod statement;
-#[cfg(test)]
-mod tests;
 mod text;
 mod words;

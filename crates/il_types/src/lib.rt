@@ -40,5 +40,3 @@ mod site;
 mod sites;
 mod tally;
 mod temps;
-#[cfg(test)]
-mod tests;

@@ -48,6 +48,4 @@ pub mod laws;
 pub mod permission;
 pub mod ranges;
 pub mod relocation;
-#[cfg(test)]
-mod tests;
 pub mod text;
