@@ -9,7 +9,7 @@ use Rattle.vcode.specs.Named.{keeps_places, is_below, is_place, are_near, are_di
 use Rattle.vcode.specs.Places.{located}
 use Rattle.certificates.specs.declared.certificate.Certificate.{Certificate}
 use Rattle.alloc_check.specs.Certified.{placed_by, is_sound}
-use Rattle.alloc_check.specs.Accepted.{equalities_exist, names_once, has_lengths, is_whole, is_placed, is_accepted}
+use Rattle.alloc_check.specs.Accepted.{exists_in, equalities_exist, names_once, has_lengths, is_whole, is_placed, is_accepted}
 use Rattle.alloc_check.specs.Walk.{sound_in}
 use Rattle.alloc_check.proofs.Agreeing.{both_true}
 use Rattle.alloc_check.proofs.Certifies.{from_true}
@@ -42,15 +42,18 @@ joined true w r false e = never w ∙ sym (never r)
     never true = refl
     never false = refl
 
-starts_there : (v : VFunc) (c : Certificate) → is_whole v c ≡ true → equalities_exist v.registers c.starts ≡ true
+-- what is known where blocks begin, of every one and of each, exists
+starts_there : (v : VFunc) (c : Certificate) → is_whole v c ≡ true → (list_all (exists_in v.registers) c.everywhere ≡ true) × (equalities_exist v.registers c.starts ≡ true)
 starts_there v c h =
-    let rest = both_true (has_lengths v.code c) (equalities_exist v.registers c.starts && (equalities_exist v.registers c.places && list_all names_once c.places)) h in
-    (both_true (equalities_exist v.registers c.starts) (equalities_exist v.registers c.places && list_all names_once c.places) rest.1).0
+    let places : Bool = equalities_exist v.registers c.places && list_all names_once c.places in
+    let rest = both_true (has_lengths v.code c) (list_all (exists_in v.registers) c.everywhere && (equalities_exist v.registers c.starts && places)) h in
+    let every = both_true (list_all (exists_in v.registers) c.everywhere) (equalities_exist v.registers c.starts && places) rest.1 in
+    (every.0, (both_true (equalities_exist v.registers c.starts) places every.1).0)
 
 pub tests_accept : (v : VFunc) (c : Certificate) → (right_in v c && is_placed v.registers (placed_by v.code c)) ≡ is_accepted v c
 tests_accept v c =
     joined (is_whole v c) (sound_in v.registers v.code c) (is_sound v.code c) (is_placed v.registers (placed_by v.code c))
-    (λ whole placed. sound_is v.registers v.code c (from_true (keeps_places (is_below v.registers) v.code) v.known) (starts_there v c whole) (parts v.registers (placed_by v.code c) placed).places)
+    (λ whole placed. sound_is v.registers v.code c (from_true (keeps_places (is_below v.registers) v.code) v.known) (starts_there v c whole).0 (starts_there v c whole).1 (parts v.registers (placed_by v.code c) placed).places)
 
 pub refused : (v : VFunc) (c : Certificate) → right_in v c ≡ false → is_accepted v c ≡ false
 refused v c h = sym (tests_accept v c) ∙ ap (λ b. b && is_placed v.registers (placed_by v.code c)) h
@@ -62,3 +65,11 @@ pub accepted_sound : (v : VFunc) (c : Certificate) → is_accepted v c ≡ true 
 accepted_sound v c h =
     let first = both_true (is_whole v c) (is_sound v.code c && is_placed v.registers (placed_by v.code c)) h in
     (both_true (is_sound v.code c) (is_placed v.registers (placed_by v.code c)) first.1).0
+
+pub unplaced : (v : VFunc) (c : Certificate) → is_placed v.registers (placed_by v.code c) ≡ false → is_accepted v c ≡ false
+unplaced v c h = ap (λ b. is_whole v c && (is_sound v.code c && b)) h ∙ never (is_whole v c) (is_sound v.code c)
+  where
+    never : (a b : Bool) → (a && (b && false)) ≡ false
+    never false b = refl
+    never true false = refl
+    never true true = refl

@@ -5,6 +5,7 @@ pub mod Sound
 pub mod Holding
 pub mod Counted
 pub mod Entering
+pub mod Starting
 pub mod Walks
 pub mod Certifies
 pub mod Measures

@@ -23,7 +23,7 @@ use Rattle.certificates.specs.declared.certificate.Certificate.{Certificate}
 use Rattle.certificates.specs.Listed.{has}
 use Rattle.alloc_check.specs.Placed.{placed_operand, placed_argument, placed_destination, placed_line, placed_jump}
 use Rattle.alloc_check.specs.Certified.{place_by, places_at, layout_at, transfers, next_point, jump_point, certified_lines, certified_block, certified_blocks, placed_by, is_sound}
-use Rattle.alloc_check.specs.Accepted.{equalities_exist, names_once, has_lengths, is_whole, is_placed, is_accepted}
+use Rattle.alloc_check.specs.Accepted.{exists_in, equalities_exist, names_once, has_lengths, is_whole, is_placed, is_accepted}
 use Rattle.alloc_check.specs.Laws.{lines_named, blocks_named}
 use Rattle.alloc_check.specs.Walk.{moves_before}
 use Rattle.alloc_check.proofs.Accepts.{parts}
@@ -119,8 +119,10 @@ each_named v c h =
     let l = placed_by v.code c in
     let first = both_true (is_whole v c) (is_sound v.code c && is_placed v.registers l) h in
     let placed = parts v.registers l (both_true (is_sound v.code c) (is_placed v.registers l) first.1).1 in
-    let lengths = both_true (has_lengths v.code c) (equalities_exist v.registers c.starts && (equalities_exist v.registers c.places && list_all names_once c.places)) first.0 in
-    let starts = both_true (equalities_exist v.registers c.starts) (equalities_exist v.registers c.places && list_all names_once c.places) lengths.1 in (
+    let places : Bool = equalities_exist v.registers c.places && list_all names_once c.places in
+    let lengths = both_true (has_lengths v.code c) (list_all (exists_in v.registers) c.everywhere && (equalities_exist v.registers c.starts && places)) first.0 in
+    let every = both_true (list_all (exists_in v.registers) c.everywhere) (equalities_exist v.registers c.starts && places) lengths.1 in
+    let starts = both_true (equalities_exist v.registers c.starts) places every.1 in (
       blocks_have v.registers c 0 v.code.blocks (both_true (list_all (λ (d : Destination Location). is_place v.registers d.place) l.params) (list_all (block_keeps (is_place v.registers)) l.blocks) placed.places).1,
       (both_true (equalities_exist v.registers c.places) (list_all names_once c.places) starts.1).1,
     )

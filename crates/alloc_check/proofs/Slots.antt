@@ -26,7 +26,7 @@ use Rattle.certificates.specs.declared.certificate.Certificate.{Certificate}
 use Rattle.cfg_live.specs.Registers.{with_operand, with_args, line_reads, jump_reads}
 use Rattle.alloc_check.specs.Placed.{placed_operand, placed_address, placed_argument, placed_destination, placed_line, placed_jump, placed_block, in_slots}
 use Rattle.alloc_check.specs.Owners.{Owners, nobody, other_than, own_put, own_also, own_kept, moved, known, owns, operand_held, args_held, all_hold, where_held, received, after_line}
-use Rattle.alloc_check.specs.Certified.{moves_at, starts_at, layout_at, transfers, next_point, jump_point, certified_lines, certified_blocks, certified_params, placed_by, jump_right, lines_right, blocks_right, own_params, is_param, params_placed, entry_right, is_sound}
+use Rattle.alloc_check.specs.Certified.{moves_at, begins_at, starts_at, layout_at, transfers, next_point, jump_point, certified_lines, certified_blocks, certified_params, placed_by, jump_right, lines_right, blocks_right, own_params, is_param, params_placed, entry_right, is_sound}
 use Rattle.alloc_check.specs.Accepted.{exists_in, equalities_exist, names_once, is_whole, is_placed, is_accepted}
 use Rattle.alloc_check.specs.Slotted.{is_empty, is_own, own_at, lines_own, blocks_own, Wanted, start_wanted, targets_wanted, writes_to, LinesWant, names, BlocksWant, IsSlotted}
 use Rattle.alloc_check.specs.Walk.{moves_before}
@@ -185,6 +185,9 @@ start_own n [] k h = refl
 start_own n (es ∷ starts) zero h = (both_true (list_all (is_own n) es) (list_all (λ (xs : List Equality). list_all (is_own n) xs) starts) h).0
 start_own n (es ∷ starts) (suc k) h = start_own n starts k (both_true (list_all (is_own n) es) (list_all (λ (xs : List Equality). list_all (is_own n) xs) starts) h).1
 
+starts_own : (n : ℕ) (c : Certificate) (k : ℕ) → c.everywhere ≡ [] → list_all (λ (es : List Equality). list_all (is_own n) es) c.starts ≡ true → list_all (is_own n) (starts_at c k) ≡ true
+starts_own n c k none h = ap (λ (es : List Equality). list_all (is_own n) (es ++ begins_at c k)) none ∙ start_own n c.starts k h
+
 -- ---- it is sound: what is wanted is held
 
 abbrev pub Full : Wanted → ℕ → Owners → Type 0
@@ -339,17 +342,17 @@ all_held wanted p n own (e ∷ es) full at h =
     let is = same_is e.place (Slot e.register) (both_true (same_location e.place (Slot e.register)) (nat_lt e.register n) s.0).0 in
     ap (λ b. b && all_hold own es) (owned own e.place e.register (ap own is ∙ full e.register t.0)) ∙ all_held wanted p n own es full s.1 t.1
 
-jump_goes : (wanted : Wanted) (n : ℕ) (c : Certificate) (p : ℕ) (own : Owners) (j : Jump ℕ) → list_all (λ (es : List Equality). list_all (is_own n) es) c.starts ≡ true
+jump_goes : (wanted : Wanted) (n : ℕ) (c : Certificate) (p : ℕ) (own : Owners) (j : Jump ℕ) → ((i : ℕ) → list_all (is_own n) (starts_at c i) ≡ true)
     → jump_keeps (own_at c p) j ≡ true → Full wanted p own → list_all (wanted p) (jump_reads j) ≡ true → targets_wanted wanted c p j ≡ true → jump_right c own (layout_at c p) j ≡ true
-jump_goes wanted n c p own (Goto k) starts at full reads targets = all_held wanted p n own (starts_at c k) full (start_own n c.starts k starts) targets
+jump_goes wanted n c p own (Goto k) starts at full reads targets = all_held wanted p n own (starts_at c k) full (starts k) targets
 jump_goes wanted n c p own (Branch on met otherwise) starts at full reads targets =
     let t = both_true (start_wanted wanted c p met) (start_wanted wanted c p otherwise) targets in
     let s = both_true (operand_keeps (own_at c p) on.left) (operand_keeps (own_at c p) on.right) at in
     let h = both_true (operand_keeps (wanted p) on.left) (operand_keeps (wanted p) on.right) (sym (two_in (wanted p) on.left on.right) ∙ reads) in
     ap (λ b. (b && operand_held own (layout_at c p) on.right) && (all_hold own (starts_at c met) && all_hold own (starts_at c otherwise))) (operand_found wanted c p own on.left full s.0 h.0)
     ∙ ap (λ b. b && (all_hold own (starts_at c met) && all_hold own (starts_at c otherwise))) (operand_found wanted c p own on.right full s.1 h.1)
-    ∙ ap (λ b. b && all_hold own (starts_at c otherwise)) (all_held wanted p n own (starts_at c met) full (start_own n c.starts met starts) t.0)
-    ∙ all_held wanted p n own (starts_at c otherwise) full (start_own n c.starts otherwise starts) t.1
+    ∙ ap (λ b. b && all_hold own (starts_at c otherwise)) (all_held wanted p n own (starts_at c met) full (starts met) t.0)
+    ∙ all_held wanted p n own (starts_at c otherwise) full (starts otherwise) t.1
 jump_goes wanted n c p own (Return None) starts at full reads targets = refl
 jump_goes wanted n c p own (Return (Some a)) starts at full reads targets = operand_found wanted c p own a.value full at (sym (operand_in (wanted p) [] a.value) ∙ reads)
 jump_goes wanted n c p own Halt starts at full reads targets = refl
@@ -362,7 +365,7 @@ point_goes wanted c p q own j l lines still g rest =
     ∙ ap (λ (x : Option Owners). option_map_or (λ (o : Owners). lines_right c q o j lines) x false) g.finds
     ∙ rest
 
-lines_go : (wanted : Wanted) (n : ℕ) (c : Certificate) (p : ℕ) (own : Owners) (j : Jump ℕ) (lines : List (Line ℕ)) → list_all (λ (es : List Equality). list_all (is_own n) es) c.starts ≡ true
+lines_go : (wanted : Wanted) (n : ℕ) (c : Certificate) (p : ℕ) (own : Owners) (j : Jump ℕ) (lines : List (Line ℕ)) → ((i : ℕ) → list_all (is_own n) (starts_at c i) ≡ true)
     → list_all is_empty c.moves ≡ true → lines_own c p j lines ≡ true → Full wanted p own → LinesWant wanted c p j lines → lines_right c p own j lines ≡ true
 lines_go wanted n c p own j [] starts still at full wants =
     ap (λ ms. jump_right c (moved ms own) (layout_at c p) j) (no_moves c.moves p still) ∙ jump_goes wanted n c p own j starts at full wants.0 wants.1
@@ -418,14 +421,14 @@ known_slot n (e ∷ es) own r at either =
     by is false f (inr h) =
         inr (ap (λ (q : Location). if same_location (Slot r) q then Some e.register else own (Slot r)) is ∙ ap (λ b. if b then Some e.register else own (Slot r)) f ∙ h)
 
-blocks_go : (wanted : Wanted) (n : ℕ) (c : Certificate) (p k : ℕ) (blocks : List (Block ℕ)) → list_all (λ (es : List Equality). list_all (is_own n) es) c.starts ≡ true
+blocks_go : (wanted : Wanted) (n : ℕ) (c : Certificate) (p k : ℕ) (blocks : List (Block ℕ)) → ((i : ℕ) → list_all (is_own n) (starts_at c i) ≡ true)
     → list_all is_empty c.moves ≡ true → blocks_own c p blocks ≡ true → BlocksWant wanted c p k blocks → blocks_right c p k blocks ≡ true
 blocks_go wanted n c p k [] starts still at wants = refl
 blocks_go wanted n c p k (b ∷ blocks) starts still at wants =
     let s = both_true (lines_own c p b.jump b.lines) (blocks_own c (jump_point p b.lines + 1) blocks) at in
     ap (λ x. x && blocks_right c (jump_point p b.lines + 1) (k + 1) blocks)
     (lines_go wanted n c p (known (starts_at c k) nobody) b.jump b.lines starts still s.0
-    (λ r w. known_slot n (starts_at c k) nobody r (start_own n c.starts k starts) (inl (wants.0 r w))) wants.1.0)
+    (λ r w. known_slot n (starts_at c k) nobody r (starts k) (inl (wants.0 r w))) wants.1.0)
     ∙ blocks_go wanted n c (jump_point p b.lines + 1) (k + 1) blocks starts still s.1 wants.1.1
 
 -- ---- on entry
@@ -478,12 +481,13 @@ slotted_sound wanted v c is =
     ap (λ b. b && (entry_right v.code c && blocks_right c 0 0 v.code.blocks)) (ap (params_placed v.code.params) is.params ∙ params_placed_so v.code.params)
     ∙ ap (λ b. b && blocks_right c 0 0 v.code.blocks)
     (ap (λ (qs : List Location). list_all (λ (e : Equality). owns (own_params v.code.params qs nobody) e.place e.register || not (is_param v.code.params e.register)) (starts_at c 0)) is.params
-    ∙ entry_so v.registers v.code.params (starts_at c 0) (start_own v.registers c.starts 0 is.starts))
-    ∙ blocks_go wanted v.registers c 0 0 v.code.blocks is.starts is.still is.places is.wants
+    ∙ entry_so v.registers v.code.params (starts_at c 0) (starts_own v.registers c 0 is.everywhere is.starts))
+    ∙ blocks_go wanted v.registers c 0 0 v.code.blocks (λ k. starts_own v.registers c k is.everywhere is.starts) is.still is.places is.wants
 
 slotted_whole : (wanted : Wanted) (v : VFunc) (c : Certificate) → IsSlotted wanted v c → is_whole v c ≡ true
 slotted_whole wanted v c is =
-    ap (λ b. b && (equalities_exist v.registers c.starts && (equalities_exist v.registers c.places && list_all names_once c.places))) is.lengths
+    ap (λ b. b && (list_all (exists_in v.registers) c.everywhere && (equalities_exist v.registers c.starts && (equalities_exist v.registers c.places && list_all names_once c.places)))) is.lengths
+    ∙ ap (λ (es : List Equality). list_all (exists_in v.registers) es && (equalities_exist v.registers c.starts && (equalities_exist v.registers c.places && list_all names_once c.places))) is.everywhere
     ∙ ap (λ b. b && (equalities_exist v.registers c.places && list_all names_once c.places)) (own_all_exist v.registers c.starts is.starts)
     ∙ ap (λ b. b && list_all names_once c.places) (own_all_exist v.registers c.places is.owned)
     ∙ is.once

@@ -663,6 +663,7 @@ spilled v rows live =
       params = params_listed v.registers v.code.params s.0;
       lengths = lengths_listed v.code v.registers rows s.0;
       still = still_listed (uses v.code.blocks);
+      everywhere = refl;
       starts = starts_listed v.registers rows 0 v.code.blocks;
       owned = owned.0;
       once = owned.1;

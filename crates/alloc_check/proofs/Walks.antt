@@ -17,10 +17,10 @@ use Rattle.certificates.specs.declared.certificate.Transfer.{Transfer}
 use Rattle.certificates.specs.declared.certificate.Certificate.{Certificate}
 use Rattle.alloc_check.specs.Placed.{Layout, placed_operand, placed_argument, placed_destination, placed_line, placed_jump}
 use Rattle.alloc_check.specs.Owners.{Owners, nobody, own_put, own_move, own_kept, own_also, moved, known, operand_held, args_held, where_held, received, after_line}
-use Rattle.alloc_check.specs.Certified.{moves_at, starts_at, layout_at, transfers, next_point, jump_point, certified_lines, certified_block, certified_blocks, certified_params, placed_by, jump_right, lines_right, blocks_right, own_params, params_placed, entry_right, is_sound}
+use Rattle.alloc_check.specs.Certified.{moves_at, begins_at, starts_at, layout_at, transfers, next_point, jump_point, certified_lines, certified_block, certified_blocks, certified_params, placed_by, jump_right, lines_right, blocks_right, own_params, params_placed, entry_right, is_sound}
 use Rattle.alloc_check.specs.Accepted.{exists_in, equalities_exist}
 use Rattle.alloc_check.specs.Table.{in_table}
-use Rattle.alloc_check.specs.Walk.{put_in, moved_in, known_in, after_reads, receives_in, line_in, lines_in, jump_in, blocks_in, params_in, entry_holds, sound_in, certified_line}
+use Rattle.alloc_check.specs.Walk.{put_in, moved_in, known_in, starts_in, after_reads, receives_in, line_in, lines_in, jump_in, blocks_in, params_in, entry_holds, sound_in, certified_line}
 use Rattle.alloc_check.proofs.Agreeing.{both_true}
 use Rattle.vcode.proofs.Lists.{item_next}
 
@@ -161,10 +161,20 @@ start_exists n [] k h = refl
 start_exists n (es ∷ starts) zero h = (both_true (list_all (exists_in n) es) (equalities_exist n starts) h).0
 start_exists n (es ∷ starts) (suc k) h = start_exists n starts k (both_true (list_all (exists_in n) es) (equalities_exist n starts) h).1
 
-pub blocks_are : (n : ℕ) (c : Certificate) (p k : ℕ) (blocks : List (Block ℕ)) → equalities_exist n c.starts ≡ true → list_all (block_keeps (is_below n)) blocks ≡ true
+known_append : (xs ys : List Equality) (own : Owners) → known (xs ++ ys) own ≡ known ys (known xs own)
+known_append [] ys own = refl
+known_append (e ∷ xs) ys own = known_append xs ys (own_also e own)
+
+starts_are : (n : ℕ) (c : Certificate) (k : ℕ) → list_all (exists_in n) c.everywhere ≡ true → equalities_exist n c.starts ≡ true → starts_in n c k ≡ Some (known (starts_at c k) nobody)
+starts_are n c k every starts =
+    ap (option_and_then (known_in n (begins_at c k))) (known_is n c.everywhere nobody every)
+    ∙ known_is n (begins_at c k) (known c.everywhere nobody) (start_exists n c.starts k starts)
+    ∙ ap (λ (o : Owners). Some o) (sym (known_append c.everywhere (begins_at c k) nobody))
+
+pub blocks_are : (n : ℕ) (c : Certificate) (p k : ℕ) (blocks : List (Block ℕ)) → list_all (exists_in n) c.everywhere ≡ true → equalities_exist n c.starts ≡ true → list_all (block_keeps (is_below n)) blocks ≡ true
     → list_all (block_keeps (is_place n)) (certified_blocks c p blocks) ≡ true → blocks_in n c p k blocks ≡ blocks_right c p k blocks
-blocks_are n c p k [] starts e h = refl
-blocks_are n c p k (b ∷ blocks) starts e h =
+blocks_are n c p k [] every starts e h = refl
+blocks_are n c p k (b ∷ blocks) every starts e h =
     let below = both_true (block_keeps (is_below n) b) (list_all (block_keeps (is_below n)) blocks) e in
     let placed = both_true (block_keeps (is_place n) (certified_block c p b)) (list_all (block_keeps (is_place n)) (certified_blocks c (jump_point p b.lines + 1) blocks)) h in
     let lines : list_all (line_keeps (is_below n)) b.lines ≡ true = (both_true (list_all (line_keeps (is_below n)) b.lines) (jump_keeps (is_below n) b.jump) below.0).0 in
@@ -172,9 +182,9 @@ blocks_are n c p k (b ∷ blocks) starts e h =
     (both_true (list_all (line_keeps (is_place n)) (certified_lines c p b.lines)) (jump_keeps (is_place n) (placed_jump (layout_at c (jump_point p b.lines)) b.jump)) placed.0).0 in
     let own : Owners = known (starts_at c k) nobody in
     ap (λ o. option_map_or (jump_in n c (jump_point p b.lines) b.jump) (option_and_then (λ w. lines_in n c p w b.lines) o) false && blocks_in n c (jump_point p b.lines + 1) (k + 1) blocks)
-    (known_is n (starts_at c k) nobody (start_exists n c.starts k starts))
+    (starts_are n c k every starts)
     ∙ ap (λ t. t && blocks_in n c (jump_point p b.lines + 1) (k + 1) blocks) (lines_are n c p own b.jump b.lines lines made)
-    ∙ ap (λ t. lines_right c p own b.jump b.lines && t) (blocks_are n c (jump_point p b.lines + 1) (k + 1) blocks starts below.1 placed.1)
+    ∙ ap (λ t. lines_right c p own b.jump b.lines && t) (blocks_are n c (jump_point p b.lines + 1) (k + 1) blocks every starts below.1 placed.1)
 
 -- ---- on entry
 
@@ -193,13 +203,13 @@ and_assoc : (a b c : Bool) → ((a && b) && c) ≡ (a && (b && c))
 and_assoc true b c = refl
 and_assoc false b c = refl
 
-pub sound_is : (n : ℕ) (v : Code ℕ) (c : Certificate) → keeps_places (is_below n) v ≡ true → equalities_exist n c.starts ≡ true → keeps_places (is_place n) (placed_by v c) ≡ true
+pub sound_is : (n : ℕ) (v : Code ℕ) (c : Certificate) → keeps_places (is_below n) v ≡ true → list_all (exists_in n) c.everywhere ≡ true → equalities_exist n c.starts ≡ true → keeps_places (is_place n) (placed_by v c) ≡ true
     → sound_in n v c ≡ is_sound v c
-sound_is n v c e starts h =
+sound_is n v c e every starts h =
     let below = both_true (list_all (λ (d : Destination ℕ). is_below n d.place) v.params) (list_all (block_keeps (is_below n)) v.blocks) e in
     let placed = both_true (list_all (λ (d : Destination Location). is_place n d.place) (certified_params v.params c.params)) (list_all (block_keeps (is_place n)) (certified_blocks c 0 v.blocks)) h in
     ap (λ t. t && blocks_in n c 0 0 v.blocks) (params_are n v.params c.params nobody (entry_holds v.params (starts_at c 0)) below.0 placed.0)
-    ∙ ap (λ t. (params_placed v.params c.params && entry_right v c) && t) (blocks_are n c 0 0 v.blocks starts below.1 placed.1)
+    ∙ ap (λ t. (params_placed v.params c.params && entry_right v c) && t) (blocks_are n c 0 0 v.blocks every starts below.1 placed.1)
     ∙ and_assoc (params_placed v.params c.params) (entry_right v c) (blocks_right c 0 0 v.blocks)
 
 -- ---- in a loop

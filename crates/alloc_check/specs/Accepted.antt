@@ -34,7 +34,9 @@ has_lengths v c =
 -- its lists are as long as they must be, name registers and places that there are, and no register twice for one point
 abbrev pub is_whole : VFunc → Certificate → Bool
 is_whole v c =
-    has_lengths v.code c && (equalities_exist v.registers c.starts && (equalities_exist v.registers c.places && list_all names_once c.places))
+    has_lengths v.code c
+    && (list_all (exists_in v.registers) c.everywhere
+    && (equalities_exist v.registers c.starts && (equalities_exist v.registers c.places && list_all names_once c.places)))
 
 -- location code over so many slots that a function may have: its places exist, its parameters are near and apart, and its ticks pay for its moves too
 abbrev pub is_placed : (slots : ℕ) → Code Location → Bool

@@ -24,8 +24,12 @@ use Rattle.alloc_check.specs.Owners.{Owners, nobody, own_put, moved, known, oper
 abbrev pub moves_at : Certificate → ℕ → List Transfer
 moves_at c p = option_map_or (λ (ms : List Transfer). ms) (slice_get c.moves p) []
 
+abbrev pub begins_at : Certificate → ℕ → List Equality
+begins_at c k = option_map_or (λ (es : List Equality). es) (slice_get c.starts k) []
+
+-- what holds where block k begins: what holds at the start of every block, and what is said of this one
 abbrev pub starts_at : Certificate → ℕ → List Equality
-starts_at c k = option_map_or (λ (es : List Equality). es) (slice_get c.starts k) []
+starts_at c k = c.everywhere ++ begins_at c k
 
 -- the place of the register by the first equality that names it; where none does it is x0, which no code may name
 abbrev pub place_by : List Equality → Layout

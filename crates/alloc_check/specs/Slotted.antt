@@ -75,6 +75,7 @@ pub record IsSlotted (wanted : Wanted) (v : VFunc) (c : Certificate) : Type 0 wh
   pub params : c.params ≡ map (λ (d : Destination ℕ). Slot d.place) v.code.params
   pub lengths : has_lengths v.code c ≡ true
   pub still : list_all is_empty c.moves ≡ true
+  pub everywhere : c.everywhere ≡ []
   pub starts : list_all (λ (es : List Equality). list_all (is_own v.registers) es) c.starts ≡ true
   pub owned : list_all (λ (es : List Equality). list_all (is_own v.registers) es) c.places ≡ true
   pub once : list_all names_once c.places ≡ true

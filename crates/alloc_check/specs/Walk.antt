@@ -14,7 +14,7 @@ use Rattle.certificates.specs.declared.certificate.Transfer.{Transfer}
 use Rattle.certificates.specs.declared.certificate.Certificate.{Certificate}
 use Rattle.alloc_check.specs.Placed.{Layout, placed_line}
 use Rattle.alloc_check.specs.Owners.{Owners, nobody, own_put, own_move, own_also, own_kept, owns, operand_held, args_held, where_held}
-use Rattle.alloc_check.specs.Certified.{moves_at, starts_at, layout_at, transfers, next_point, jump_point, jump_right, is_param}
+use Rattle.alloc_check.specs.Certified.{moves_at, begins_at, starts_at, layout_at, transfers, next_point, jump_point, jump_right, is_param}
 use Rattle.alloc_check.specs.Table.{in_table}
 
 abbrev pub put_in : ℕ → Location → ℕ → Owners → Option Owners
@@ -70,9 +70,13 @@ lines_in n c p own (l ∷ lines) = option_and_then (λ o. lines_in n c (next_poi
 abbrev pub jump_in : ℕ → Certificate → ℕ → Jump ℕ → Owners → Bool
 jump_in n c p j own = option_map_or (λ o. jump_right c o (layout_at c p) j) (moved_in n (moves_at c p) own) false
 
+-- where block k begins
+abbrev pub starts_in : ℕ → Certificate → ℕ → Option Owners
+starts_in n c k = option_and_then (known_in n (begins_at c k)) (known_in n c.everywhere nobody)
+
 abbrev pub block_in : ℕ → Certificate → (p k : ℕ) → Block ℕ → Bool
 block_in n c p k b =
-    option_map_or (jump_in n c (jump_point p b.lines) b.jump) (option_and_then (λ o. lines_in n c p o b.lines) (known_in n (starts_at c k) nobody)) false
+    option_map_or (jump_in n c (jump_point p b.lines) b.jump) (option_and_then (λ o. lines_in n c p o b.lines) (starts_in n c k)) false
 
 abbrev pub blocks_in : ℕ → Certificate → (p k : ℕ) → List (Block ℕ) → Bool
 blocks_in n c p k [] = true

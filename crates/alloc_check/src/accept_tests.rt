@@ -137,6 +137,7 @@ fn of_layout(
     places.push(list(alloc, &[at(2, layout.sum)])?)?;
     Ok(Certificate {
         params: list(alloc, &[layout.param])?,
+        everywhere: Seq::new(alloc),
         starts,
         moves,
         places,
@@ -365,6 +366,7 @@ fn held(
     places.push(list(alloc, &[at(3, x10)])?)?;
     Ok(Certificate {
         params: Seq::new(alloc),
+        everywhere: Seq::new(alloc),
         starts,
         moves,
         places,
@@ -562,6 +564,7 @@ fn in_two(alloc: Global, params: [Location; 2]) -> Result<Certificate, AllocErro
     places.push(Seq::new(alloc))?;
     Ok(Certificate {
         params: list(alloc, params.as_slice())?,
+        everywhere: Seq::new(alloc),
         starts,
         moves,
         places,
@@ -578,4 +581,234 @@ fn two_parameters_have_two_places(rt: HostRuntime) -> Result<(), Fail> {
     let two = in_two(alloc, [x10, x11])?;
     assert!(rt; accept(alloc, &function, &two).is_ok());
     Ok(())
+}
+
+/// Puts 7 into its argument, register 0, copies that to register 1, makes a call, and returns register 0 in another block.
+fn returning_behind(alloc: Global) -> Result<VFunc, AllocError> {
+    let mut params = Seq::new(alloc);
+    params.push(Destination {
+        place: 0,
+        class: Class::L,
+    })?;
+    let mut lines = Seq::new(alloc);
+    lines.push(Line::Tick {
+        turn: true,
+        weight: 10,
+    })?;
+    lines.push(Line::Set {
+        to: 0,
+        value: Operand::Number(7),
+    })?;
+    lines.push(Line::Set {
+        to: 1,
+        value: Operand::At(0),
+    })?;
+    lines.push(Line::Call {
+        to: None,
+        callee: Operand::Number(1),
+        args: Seq::new(alloc),
+    })?;
+    let mut last = Seq::new(alloc);
+    last.push(Line::Tick {
+        turn: false,
+        weight: 1,
+    })?;
+    let mut blocks = Seq::new(alloc);
+    blocks.push(Block {
+        lines,
+        jump: Jump::Goto(1),
+    })?;
+    blocks.push(Block {
+        lines: last,
+        jump: Jump::Return(Some(ReturnValue::of(Operand::At(0)))),
+    })?;
+    Ok(VFunc {
+        code: Code {
+            result: Some(Class::L),
+            params,
+            blocks,
+        },
+        registers: 2,
+    })
+}
+
+/// Where registers 0 and 1 of `returning_behind` are.
+#[derive(Clone, Copy)]
+struct Behind {
+    /// register 0 on entry and where it is returned
+    kept: Location,
+    /// where it is written and copied
+    written: Location,
+    copied: Location,
+}
+
+/// Whether the certificate of this layout is accepted, with these moves before the copy and before the first jump, where this holds at the start of every block.
+fn stays(
+    alloc: Global,
+    everywhere: &[Equality],
+    layout: Behind,
+    before_copy: &[Transfer],
+    before_jump: &[Transfer],
+) -> Result<bool, AllocError> {
+    let at = |register: u32, place: Location| Equality { register, place };
+    let mut starts = Seq::new(alloc);
+    starts.push(Seq::new(alloc))?;
+    starts.push(Seq::new(alloc))?;
+    let mut moves = Seq::new(alloc);
+    for before in [&[] as &[Transfer], before_copy, &[], before_jump, &[]] {
+        moves.push(list(alloc, before)?)?;
+    }
+    let mut places = Seq::new(alloc);
+    places.push(list(alloc, &[at(0, layout.written)])?)?;
+    places.push(list(alloc, &[at(0, layout.written), at(1, layout.copied)])?)?;
+    places.push(Seq::new(alloc))?;
+    places.push(Seq::new(alloc))?;
+    places.push(list(alloc, &[at(0, layout.kept)])?)?;
+    let certificate = Certificate {
+        params: list(alloc, &[layout.kept])?,
+        everywhere: list(alloc, everywhere)?,
+        starts,
+        moves,
+        places,
+    };
+    let function = returning_behind(alloc)?;
+    Ok(accept(alloc, &function, &certificate).is_ok())
+}
+
+/// Register 0 in slot 0, and the copy in a register.
+fn in_its_slot() -> Behind {
+    Behind {
+        kept: Location::Slot(0),
+        written: Location::Slot(0),
+        copied: Location::Register(10),
+    }
+}
+
+#[test]
+fn what_holds_everywhere_holds_at_each_jump(rt: HostRuntime) -> Result<(), Fail> {
+    let alloc = rt.alloc();
+    let [slot, x10, x11] = [
+        Location::Slot(0),
+        Location::Register(10),
+        Location::Register(11),
+    ];
+    let zero = [Equality {
+        register: 0,
+        place: slot,
+    }];
+    assert!(rt; stays(alloc, zero.as_slice(), in_its_slot(), &[], &[])?);
+    // nothing is known of it
+    assert!(rt; !stays(alloc, &[], in_its_slot(), &[], &[])?);
+    // another register is written to its place
+    let over = Behind {
+        copied: slot,
+        ..in_its_slot()
+    };
+    assert!(rt; !stays(alloc, zero.as_slice(), over, &[], &[])?);
+    // a move overwrites its place
+    let moved = [moving(x10, slot)];
+    assert!(rt; !stays(alloc, zero.as_slice(), in_its_slot(), &[], moved.as_slice())?);
+    // it is written elsewhere
+    let elsewhere = Behind {
+        written: x11,
+        ..in_its_slot()
+    };
+    assert!(rt; !stays(alloc, zero.as_slice(), elsewhere, &[], &[])?);
+    Ok(())
+}
+
+#[test]
+fn what_is_put_back_before_the_jump_holds(rt: HostRuntime) -> Result<(), Fail> {
+    let alloc = rt.alloc();
+    let [slot, x9] = [Location::Slot(0), Location::Register(9)];
+    let zero = [Equality {
+        register: 0,
+        place: slot,
+    }];
+    let back = [moving(x9, slot)];
+    // written elsewhere, in a register that callees keep
+    let elsewhere = Behind {
+        written: x9,
+        ..in_its_slot()
+    };
+    assert!(rt; stays(alloc, zero.as_slice(), elsewhere, &[], back.as_slice())?);
+    // its place is taken, and it is out of the way meanwhile
+    let over = Behind {
+        copied: slot,
+        ..in_its_slot()
+    };
+    let aside = [moving(slot, x9)];
+    assert!(rt;
+        stays(
+            alloc,
+            zero.as_slice(),
+            over,
+            aside.as_slice(),
+            back.as_slice()
+        )?
+    );
+    // in a register that the caller keeps itself
+    let x10 = Location::Register(10);
+    let aside = [moving(slot, x10)];
+    let back = [moving(x10, slot)];
+    assert!(rt;
+        !stays(
+            alloc,
+            zero.as_slice(),
+            over,
+            aside.as_slice(),
+            back.as_slice()
+        )?
+    );
+    Ok(())
+}
+
+#[test]
+fn callers_registers_hold_nothing_everywhere_over_a_call(rt: HostRuntime) -> Result<(), Fail> {
+    let alloc = rt.alloc();
+    for (number, is_kept) in [(9u8, true), (18, true), (27, true), (5, false), (11, false)] {
+        let place = Location::Register(number);
+        let layout = Behind {
+            kept: place,
+            written: place,
+            copied: Location::Slot(1),
+        };
+        let zero = [Equality { register: 0, place }];
+        let answer = stays(alloc, zero.as_slice(), layout, &[], &[])?;
+        assert_eq!(rt; answer, is_kept, "x{number}");
+    }
+    Ok(())
+}
+
+#[test]
+fn places_everywhere_must_be_there(rt: HostRuntime) -> Result<(), Fail> {
+    let alloc = rt.alloc();
+    let at = |register: u32, place: Location| Equality { register, place };
+    let [slot, x28] = [Location::Slot(0), Location::Register(28)];
+    // a register without a value is let pass
+    assert!(rt;
+        stays(
+            alloc,
+            &[at(0, slot), at(1, Location::Slot(1))],
+            layout_apart(),
+            &[],
+            &[]
+        )?
+    );
+    for wrong in [
+        at(1, x28),
+        at(1, Location::Slot(2)),
+        at(2, Location::Slot(1)),
+    ] {
+        assert!(rt; !stays(alloc, &[at(0, slot), wrong], in_its_slot(), &[], &[])?);
+    }
+    Ok(())
+}
+
+/// Both registers in their slots.
+fn layout_apart() -> Behind {
+    Behind {
+        copied: Location::Slot(1),
+        ..in_its_slot()
+    }
 }

@@ -1,12 +1,12 @@
 //! Whether a certificate is sound: each line finds what it reads, and each jump what its targets ask for.
 ghost use Rattle.std.specs.Prelude.{◌≡◌, ◌<◌, ◌≤◌, ◌+◌, ◌^◌, true, length, IfOk};
-ghost use Rattle.alloc_check.specs.Owners.{owns, own_kept, operand_held, args_held, all_hold, where_held};
-ghost use Rattle.alloc_check.specs.Certified.{next_point, jump_point, place_by, jump_right, is_param};
+ghost use Rattle.alloc_check.specs.Owners.{nobody, owns, own_kept, operand_held, args_held, all_hold, where_held};
+ghost use Rattle.alloc_check.specs.Certified.{next_point, jump_point, place_by, starts_at, jump_right, is_param};
 ghost use Rattle.alloc_check.specs.Accepted.{end_point};
 ghost use Rattle.alloc_check.specs.Table.{own_of, IsTable};
-ghost use Rattle.alloc_check.specs.Walk.{put_in, moved_in, known_in, receives_in, makes_in, line_in, point_in, lines_in, jump_in, block_in, blocks_in, params_in, entry_holds, entry_in, sound_in};
+ghost use Rattle.alloc_check.specs.Walk.{put_in, moved_in, known_in, starts_in, receives_in, makes_in, line_in, point_in, lines_in, jump_in, block_in, blocks_in, params_in, entry_holds, entry_in, sound_in};
 
-use crate::says::{moves_at, place_by, places_at, starts_at};
+use crate::says::{begins_at, moves_at, place_by, places_at};
 use crate::table::Table;
 use certificates::certificate::{Certificate, Equality, Transfer};
 use cfg_live::numbering::{jump_point, next_point};
@@ -214,16 +214,25 @@ fn lines(
     true
 }
 
+// Whether what the block asks for where it begins is there.
+#[tactic(auto, using(crate::proofs::Starting::both_hold))]
+fn start_holds(table: &Table, certificate: &Certificate, block: usize) -> bool
+    ensures { result ≡ all_hold (own_of table.now) (starts_at certificate.now block) }
+{
+    all_hold(table, certificate.everywhere.as_slice())
+        && all_hold(table, begins_at(certificate, block))
+}
+
 fn targets(table: &Table, certificate: &Certificate, places: &[Equality], jump: &Jump<u32>) -> bool
     ensures { result ≡ jump_right certificate.now (own_of table.now) (place_by places.now) jump.now }
 {
     match jump {
-        Jump::Goto(block) => all_hold(table, starts_at(certificate, *block)),
+        Jump::Goto(block) => start_holds(table, certificate, *block),
         Jump::Branch { on, met, otherwise } => {
             held(table, places, &on.left)
                 && held(table, places, &on.right)
-                && all_hold(table, starts_at(certificate, *met))
-                && all_hold(table, starts_at(certificate, *otherwise))
+                && start_holds(table, certificate, *met)
+                && start_holds(table, certificate, *otherwise)
         }
         Jump::Return(None) => true,
         Jump::Return(Some(returned)) => held(table, places, &returned.value),
@@ -247,6 +256,23 @@ fn jump(
         && targets(table, certificate, places_at(certificate, at), jump)
 }
 
+// What is known where the block begins.
+fn start(
+    table: &mut Table,
+    certificate: &Certificate,
+    registers: u32,
+    time: usize,
+    block: usize,
+) -> bool
+    requires table { IsTable registers time table.old }
+    requires nothing { own_of table.old ≡ nobody }
+    ensures own { where_held result (own_of table.new) ≡ starts_in registers certificate.now block }
+    ensures table { IsTable registers time table.new }
+{
+    known(table, registers, time, certificate.everywhere.as_slice())
+        && known(table, registers, time, begins_at(certificate, block))
+}
+
 fn block(
     table: &mut Table,
     certificate: &Certificate,
@@ -262,7 +288,7 @@ fn block(
 {
     table.begin(registers, first);
     let from = block.lines.as_slice();
-    known(table, registers, first + 1, starts_at(certificate, index))
+    start(table, certificate, registers, first + 1, index)
         && lines(table, certificate, registers, first, from)
         && jump(
             table,
@@ -333,6 +359,15 @@ fn entry_holds(table: &Table, params: &[Destination<u32>], starts: &[Equality]) 
     true
 }
 
+// Whether the first block finds what it asks for on entry.
+#[tactic(auto, using(crate::proofs::Starting::both_enter))]
+fn first_holds(table: &Table, params: &[Destination<u32>], certificate: &Certificate) -> bool
+    ensures { result ≡ entry_holds params.now (starts_at certificate.now 0) (own_of table.now) }
+{
+    entry_holds(table, params, certificate.everywhere.as_slice())
+        && entry_holds(table, params, begins_at(certificate, 0))
+}
+
 fn entry(
     alloc: Global,
     registers: u32,
@@ -346,7 +381,7 @@ fn entry(
     let from = code.params.as_slice();
     Ok(
         params(&mut table, registers, from, certificate.params.as_slice())
-            && entry_holds(&table, from, starts_at(certificate, 0)),
+            && first_holds(&table, from, certificate),
     )
 }
 

@@ -189,7 +189,8 @@ fn exists(registers: u32, equality: Equality) -> bool
     is_place(registers, equality.place) && equality.register < registers
 }
 
-fn all_exist(registers: u32, equalities: &[Equality]) -> bool
+/// Whether all places and registers of these equalities exist, where there are so many registers, and as many slots.
+pub(crate) fn all_exist(registers: u32, equalities: &[Equality]) -> bool
     ensures { result ≡ list_all (exists_in registers) equalities.now }
 {
     equalities
@@ -197,7 +198,7 @@ fn all_exist(registers: u32, equalities: &[Equality]) -> bool
         .all(|equality| exists(registers, *equality))
 }
 
-/// Whether all places and registers of these equalities exist, where there are so many registers, and as many slots.
+/// Whether those of all these lists do.
 pub(crate) fn equalities_exist(registers: u32, starts: &[Seq<Equality>]) -> bool
     ensures { result ≡ equalities_exist registers starts.now }
 {

@@ -1,6 +1,6 @@
 //! What a certificate says of a point or a block; nothing where it is too short.
 ghost use Rattle.std.specs.Prelude.{◌≡◌};
-ghost use Rattle.alloc_check.specs.Certified.{moves_at, starts_at, places_at, place_by};
+ghost use Rattle.alloc_check.specs.Certified.{moves_at, begins_at, places_at, place_by};
 
 use crate::placing::Placing;
 use certificates::certificate::{Certificate, Equality, Transfer};
@@ -16,9 +16,9 @@ pub(crate) fn moves_at(certificate: &Certificate, point: usize) -> &[Transfer]
     }
 }
 
-/// What is known where a block begins.
-pub(crate) fn starts_at(certificate: &Certificate, block: usize) -> &[Equality]
-    ensures { result.now ≡ starts_at certificate.now block }
+/// What is said of a block's start, beside what holds at the start of every block.
+pub(crate) fn begins_at(certificate: &Certificate, block: usize) -> &[Equality]
+    ensures { result.now ≡ begins_at certificate.now block }
 {
     match certificate.starts.as_slice().get(block) {
         Some(equalities) => equalities.as_slice(),

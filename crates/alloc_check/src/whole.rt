@@ -4,7 +4,7 @@ ghost use Rattle.std.specs.List.{list_all};
 ghost use Rattle.certificates.specs.Listed.{has};
 ghost use Rattle.alloc_check.specs.Accepted.{end_point, names_once, has_lengths, is_whole};
 
-use crate::fits::equalities_exist;
+use crate::fits::{all_exist, equalities_exist};
 use crate::points::are_points;
 use certificates::certificate::{Certificate, Equality};
 use il_ast::list::Seq;
@@ -54,6 +54,7 @@ pub(crate) fn is_whole(function: &VFunc, certificate: &Certificate) -> bool
     ensures few { result ≡ true → end_point 0 function.now.code.blocks < 2 ^ 64 }
 {
     has_lengths(&function.code, certificate)
+        && all_exist(function.registers, certificate.everywhere.as_slice())
         && equalities_exist(function.registers, certificate.starts.as_slice())
         && equalities_exist(function.registers, certificate.places.as_slice())
         && all_once(certificate.places.as_slice())

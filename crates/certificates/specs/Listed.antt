@@ -61,6 +61,7 @@ abbrev pub listed : Code ℕ → ℕ → List Bits → List Location → Certifi
 listed v registers rows list =
     record {
       params = listed_params list v.params;
+      everywhere = [];
       starts = listed_starts list rows registers 0 v.blocks;
       moves = map no_moves (uses v.blocks);
       places = map (point_places list) (uses v.blocks);

@@ -21,6 +21,8 @@ pub struct Transfer {
 pub struct Certificate {
     /// where each parameter is on entry
     pub params: Seq<Location>,
+    /// what holds at the start of every block, beside what `starts` has of it
+    pub everywhere: Seq<Equality>,
     /// what holds at the start of each block, in text order
     pub starts: Seq<Seq<Equality>>,
     /// the moves that are done one after another right before each point

@@ -1,6 +1,6 @@
 //! # Certificates of register allocation
 //!
-//! An allocation is a [`certificate::Certificate`]: where the parameters are on entry, what is known where at the start of each block, the moves right before
+//! An allocation is a [`certificate::Certificate`]: where the parameters are on entry, what is known where at the start of every block and of each, the moves right before
 //! each point, and the place of each register that a point names. A [`strategy::Strategy`] answers one, or none, and promises nothing: whoever uses an answer
 //! has it checked.
 //!

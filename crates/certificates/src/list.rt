@@ -240,6 +240,7 @@ pub fn certificate_of(
     push_places(alloc, &mut places, list, points)?;
     Ok(Certificate {
         params,
+        everywhere: Seq::new(alloc),
         starts,
         moves,
         places,

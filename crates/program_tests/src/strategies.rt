@@ -110,6 +110,7 @@ fn other_slots(alloc: Global, registers: u32) -> Result<Vec<Location>, AllocErro
 fn blank(alloc: Global) -> Certificate {
     Certificate {
         params: Seq::new(alloc),
+        everywhere: Seq::new(alloc),
         starts: Seq::new(alloc),
         moves: Seq::new(alloc),
         places: Seq::new(alloc),
@@ -211,6 +212,7 @@ fn mixed(alloc: Global, function: &VFunc, live: &Live) -> Result<Certificate, Al
     let rest = certificate_of(alloc, function, live, &elsewhere)?;
     Ok(Certificate {
         params: rest.params,
+        everywhere: rest.everywhere,
         starts: rest.starts,
         moves: points.moves,
         places: points.places,

@@ -16,6 +16,7 @@ are_between registers ms = list_all (λ (m : Transfer). is_place registers m.fro
 
 pub record IsScanned (registers : ℕ) (c : Certificate) : Type 0 where
   pub params : list_all (is_place registers) c.params ≡ true
+  pub everywhere : are_placed registers c.everywhere ≡ true
   pub starts : list_all (are_placed registers) c.starts ≡ true
   pub moves : list_all (are_between registers) c.moves ≡ true
   pub places : list_all (are_placed registers) c.places ≡ true

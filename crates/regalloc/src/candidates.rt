@@ -5,6 +5,7 @@ use crate::lifetimes::Lifetime;
 use crate::linear_scan::is_unplaced;
 use crate::positions::Range;
 use crate::slots::Wish;
+use crate::starts::Starts;
 use crate::text::Text;
 use std::alloc::{AllocError, Global};
 use vcode::place::Location;
@@ -16,6 +17,9 @@ pub(crate) struct Facts {
     pub(crate) points: usize,
 
     pub(crate) text: Text,
+
+    /// what is live where blocks begin
+    pub(crate) starts: Starts,
 
     /// the lifetime of each register
     pub(crate) lifetimes: Vec<Lifetime>,
@@ -127,18 +131,18 @@ fn push_singles(
     alloc: Global,
     singles: &mut Vec<Group>,
     list: &[Location],
-    lifetimes: &[Lifetime],
+    facts: &Facts,
     members: &[u32],
 ) -> Result<(), AllocError> {
     for register in members {
-        if is_unplaced(list, *register) {
-            push_single(alloc, singles, lifetimes, *register)?;
+        if is_unplaced(list, *register) && !facts.starts.is_throughout(*register) {
+            push_single(alloc, singles, facts.lifetimes.as_slice(), *register)?;
         }
     }
     Ok(())
 }
 
-/// A group for each register that has no register of the machine yet.
+/// A group for each register that has no register of the machine yet, but for those that have values throughout.
 ///
 /// # Errors
 ///
@@ -152,13 +156,7 @@ pub(crate) fn singles(
     let mut singles = Vec::new(alloc);
     for group in groups {
         let members = group.members.as_slice();
-        push_singles(
-            alloc,
-            &mut singles,
-            list,
-            facts.lifetimes.as_slice(),
-            members,
-        )?;
+        push_singles(alloc, &mut singles, list, facts, members)?;
     }
     Ok(singles)
 }

@@ -1,14 +1,14 @@
 //! Where in the text of a function its registers have values that are wanted.
 use crate::positions::{Range, right_after, right_before};
-use cfg_live::sets::Live;
+use crate::starts::Starts;
+use crate::text::{Stretch, Text};
 use cfg_live::uses::Uses;
 use std::alloc::{AllocError, Global};
-use vcode::code::Block;
-use vcode::function::VFunc;
 use vcode::line::Line;
 use vcode::place::Destination;
 
-/// The ranges in which a register is live, or was just written, in the order of the text, and apart.
+/// The ranges in which a register is live, or was just written, in the order of the text, and apart; one range of all positions where it is taken to have a value
+/// throughout.
 #[derive(Drop)]
 pub(crate) struct Lifetime {
     pub(crate) ranges: Vec<Range>,
@@ -62,39 +62,45 @@ fn begin_params(lifetimes: &mut [Lifetime], params: &[Destination<u32>]) -> Resu
 }
 
 // What is live where a block begins.
-fn begin_live(
+fn begin_all(
     lifetimes: &mut [Lifetime],
-    live: &Live,
-    registers: u32,
+    registers: &[u32],
     point: usize,
 ) -> Result<(), AllocError> {
-    for register in 0..registers {
-        if live.holds(point, register) {
-            begin_at(lifetimes, register, right_before(point))?;
-        }
+    for register in registers {
+        begin_at(lifetimes, *register, right_before(point))?;
     }
     Ok(())
 }
 
-// What is live at a jump is so up to the end of its block.
-fn reach_live(lifetimes: &mut [Lifetime], live: &Live, registers: u32, point: usize) {
-    for register in 0..registers {
-        if live.holds(point, register) {
-            reach_at(lifetimes, register, right_after(point));
-        }
+fn reach_all(lifetimes: &mut [Lifetime], registers: &[u32], at: usize) {
+    for register in registers {
+        reach_at(lifetimes, *register, at);
     }
 }
 
-fn reach_reads(lifetimes: &mut [Lifetime], reads: &[u32], point: usize) {
-    for register in reads {
-        reach_at(lifetimes, *register, right_before(point));
+fn reach_target(lifetimes: &mut [Lifetime], starts: &Starts, target: Option<usize>, at: usize) {
+    match target {
+        Some(block) => reach_all(lifetimes, starts.of(block), at),
+        None => {}
     }
+}
+
+// What is live at a jump is so up to the end of its block: what it reads, and what is live where it leads to.
+fn reach_jump(lifetimes: &mut [Lifetime], points: &[Uses], starts: &Starts, stretch: Stretch) {
+    let end = right_after(stretch.jump);
+    match points.get(stretch.jump) {
+        Some(uses) => reach_all(lifetimes, uses.reads.as_slice(), end),
+        None => {}
+    }
+    reach_target(lifetimes, starts, stretch.next, end);
+    reach_target(lifetimes, starts, stretch.other, end);
 }
 
 fn use_point(lifetimes: &mut [Lifetime], points: &[Uses], point: usize) -> Result<(), AllocError> {
     match points.get(point) {
         Some(uses) => {
-            reach_reads(lifetimes, uses.reads.as_slice(), point);
+            reach_all(lifetimes, uses.reads.as_slice(), right_before(point));
             match uses.writes {
                 Some(register) => begin_at(lifetimes, register, right_after(point)),
                 None => Ok(()),
@@ -131,46 +137,57 @@ pub(crate) fn jump_point(first: usize, lines: &[Line<u32>]) -> usize {
 fn use_blocks(
     lifetimes: &mut [Lifetime],
     points: &[Uses],
-    live: &Live,
-    registers: u32,
-    blocks: &[Block<u32>],
+    starts: &Starts,
+    text: &Text,
 ) -> Result<(), AllocError> {
-    let mut first = 0usize;
-    for block in blocks {
-        let jump = jump_point(first, block.lines.as_slice());
-        begin_live(lifetimes, live, registers, first)?;
-        use_points(lifetimes, points, first, jump)?;
-        reach_live(lifetimes, live, registers, jump);
-        first = jump.saturating_add(1);
+    for (block, stretch) in text.stretches.iter().enumerate() {
+        begin_all(lifetimes, starts.of(block), stretch.first)?;
+        use_points(lifetimes, points, stretch.first, stretch.jump)?;
+        reach_jump(lifetimes, points, starts, *stretch);
     }
     Ok(())
 }
 
-fn no_lifetimes(alloc: Global, registers: u32) -> Result<Vec<Lifetime>, AllocError> {
+// All positions for a register that has a value throughout, none yet for any other.
+fn first_ranges(alloc: Global, is_throughout: bool, end: usize) -> Result<Vec<Range>, AllocError> {
+    let mut ranges = Vec::new(alloc);
+    if is_throughout {
+        ranges.push(Range { start: 0, end })?;
+    }
+    Ok(ranges)
+}
+
+fn first_lifetimes(
+    alloc: Global,
+    registers: u32,
+    starts: &Starts,
+    end: usize,
+) -> Result<Vec<Lifetime>, AllocError> {
     let mut lifetimes = Vec::new(alloc);
-    for _ in 0..registers {
-        lifetimes.push(Lifetime {
-            ranges: Vec::new(alloc),
-        })?;
+    for register in 0..registers {
+        let ranges = first_ranges(alloc, starts.is_throughout(register), end)?;
+        lifetimes.push(Lifetime { ranges })?;
     }
     Ok(lifetimes)
 }
 
-/// The lifetime of each register; those of parameters start with the code.
+/// The lifetime of each of so many registers; those of parameters start with the code.
 ///
 /// # Errors
 ///
 /// Only where memory was refused.
 pub(crate) fn lifetimes(
     alloc: Global,
-    function: &VFunc,
-    live: &Live,
+    registers: u32,
+    params: &[Destination<u32>],
     points: &[Uses],
+    starts: &Starts,
+    text: &Text,
 ) -> Result<Vec<Lifetime>, AllocError> {
-    let mut lifetimes = no_lifetimes(alloc, function.registers)?;
+    let end = right_after(points.len().saturating_sub(1));
+    let mut lifetimes = first_lifetimes(alloc, registers, starts, end)?;
     let list = lifetimes.as_mut_slice();
-    begin_params(list, function.code.params.as_slice())?;
-    let blocks = function.code.blocks.as_slice();
-    use_blocks(list, points, live, function.registers, blocks)?;
+    begin_params(list, params)?;
+    use_blocks(list, points, starts, text)?;
     Ok(lifetimes)
 }

@@ -13,8 +13,8 @@ use crate::groups::{Group, groups_of};
 use crate::lifetimes::lifetimes;
 use crate::rooms::{Choice, Room, room_for, rooms};
 use crate::slots::{Wish, shared_slots};
+use crate::starts::{self, starts_of};
 use crate::text::text_of;
-use crate::width::is_wide;
 use crate::written::written;
 use certificates::certificate::Certificate;
 use certificates::spill_all::slots;
@@ -26,8 +26,7 @@ use std::alloc::{AllocError, Global};
 use vcode::function::VFunc;
 use vcode::place::Location;
 
-/// Answers for each register one of x5 to x27 or a slot, or several of them one after another, with moves where it changes its place; no places where memory is refused, or where so many registers are live in so many blocks that the
-/// certificate might be far longer than the function.
+/// Answers for each register one of x5 to x27 or a slot, or several of them one after another, with moves where it changes its place; no places where memory is refused.
 #[derive(Drop)]
 pub struct LinearScan {
     alloc: Global,
@@ -39,6 +38,10 @@ impl LinearScan {
         LinearScan { alloc }
     }
 }
+
+// The live registers that certificates name where blocks begin, for each line and jump, at most. What is live at more starts of blocks than that allows is taken
+// to have a value throughout, and is named once.
+const LIVE_A_LINE: usize = 32;
 
 // How many registers of the machine there are: x5 to x27. Those come first that callees need not keep, and of these x17 to x10.
 const MACHINE: usize = 23;
@@ -107,6 +110,13 @@ struct Ground<'a> {
     groups: &'a [Group],
 }
 
+// Whether some of the registers has a value throughout. Those aren't cut.
+fn is_throughout(facts: &Facts, members: &[u32]) -> bool {
+    members
+        .iter()
+        .any(|register| facts.starts.is_throughout(*register))
+}
+
 // The register of the machine for a candidate; none where cutting it costs less.
 fn choice(
     alloc: Global,
@@ -120,7 +130,8 @@ fn choice(
         Some(Choice::Free(k)) => Ok(Some(k)),
         Some(Choice::Unused(k)) if 4 < candidate.weight => {
             let members = group.members.as_slice();
-            let keeps = should_keep(alloc, cutter, ground.facts, ground.live, members)?;
+            let keeps = is_throughout(ground.facts, members)
+                || should_keep(alloc, cutter, ground.facts, ground.live, members)?;
             Ok(if keeps { Some(k) } else { None })
         }
         _ => Ok(None),
@@ -289,16 +300,34 @@ fn place_in(
 }
 
 // What is to be known of the function.
-fn facts(alloc: Global, function: &VFunc, live: &Live) -> Result<Facts, AllocError> {
+fn facts(
+    alloc: Global,
+    function: &VFunc,
+    live: &Live,
+    live_a_line: usize,
+) -> Result<Facts, AllocError> {
     let graph = graph(alloc, function)?;
     let points = graph.uses.as_slice();
-    let lifetimes = lifetimes(alloc, function, live, points)?;
+    let registers = function.registers;
     let blocks = function.code.blocks.as_slice();
     let depths = depths(alloc, blocks)?;
-    let demands = demands_of(alloc, &function.code, function.registers, depths.as_slice())?;
+    let demands = demands_of(alloc, &function.code, registers, depths.as_slice())?;
+    let text = text_of(alloc, blocks, depths.as_slice())?;
+    let ground = starts::Ground {
+        text: &text,
+        live,
+        accesses: &demands.accesses,
+        registers,
+        blocks,
+        live_a_line,
+    };
+    let starts = starts_of(alloc, ground)?;
+    let params = function.code.params.as_slice();
+    let lifetimes = lifetimes(alloc, registers, params, points, &starts, &text)?;
     Ok(Facts {
         points: points.len(),
-        text: text_of(alloc, blocks, depths.as_slice())?,
+        text,
+        starts,
         lifetimes,
         demands,
     })
@@ -322,7 +351,24 @@ fn all_in_slots(alloc: Global, registers: u32) -> Result<Vec<Location>, AllocErr
 pub fn scanned(alloc: Global, function: &VFunc, live: &Live) -> Result<Certificate, AllocError>
     ensures { IfOk result (λ c. IsScanned function.now.registers c) }
 {
-    let mut facts = facts(alloc, function, live)?;
+    let certificate = scanned_within(alloc, function, live, LIVE_A_LINE)?;
+    Ok(certificate)
+}
+
+/// The same, with so many live registers named where blocks begin, for each line and jump, at most.
+///
+/// # Errors
+///
+/// Only where memory was refused.
+pub(crate) fn scanned_within(
+    alloc: Global,
+    function: &VFunc,
+    live: &Live,
+    live_a_line: usize,
+) -> Result<Certificate, AllocError>
+    ensures { IfOk result (λ c. IsScanned function.now.registers c) }
+{
+    let mut facts = facts(alloc, function, live, live_a_line)?;
     let groups = groups_of(
         alloc,
         function.registers,
@@ -332,16 +378,13 @@ pub fn scanned(alloc: Global, function: &VFunc, live: &Live) -> Result<Certifica
     let mut list = all_in_slots(alloc, function.registers)?;
     let groups = groups.groups.as_slice();
     let cuts = place_in(alloc, list.as_mut_slice(), function, live, groups, &facts)?;
-    written(alloc, function, live, &facts.text, list.as_slice(), &cuts)
+    written(alloc, function, &facts.starts, list.as_slice(), &cuts)
 }
 
 impl Strategy for LinearScan {
     fn choose(&mut self, function: &VFunc, live: &Live) -> Option<Certificate>
         ensures { IfSome result (λ c. IsScanned function.now.registers c) }
     {
-        if is_wide(function, live) {
-            return None;
-        }
         scanned(self.alloc, function, live).ok()
     }
 }

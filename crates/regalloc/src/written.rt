@@ -7,10 +7,9 @@ ghost use Rattle.regalloc.specs.Scanned.{are_placed, are_between, IsScanned};
 use crate::accesses::{part, rest};
 use crate::cuts::{Begin, Cuts, Entry, Move, Stay, Way};
 use crate::linear_scan::machine_register;
-use crate::text::Text;
+use crate::starts::Starts;
 use certificates::certificate::{Certificate, Equality, Transfer};
 use cfg_live::points::graph;
-use cfg_live::sets::Live;
 use cfg_live::uses::Uses;
 use il_ast::list::Seq;
 use std::alloc::{AllocError, Global};
@@ -330,21 +329,18 @@ fn push_start(
     registers: u32,
     begins: &[Begin],
     first: usize,
-    live: &Live,
+    live: &[u32],
     block: usize,
-    point: usize,
 ) -> Result<usize, AllocError>
     requires list { list_all (is_place registers) list.now ≡ true }
     requires placed { are_placed registers equalities.old ≡ true }
     ensures { are_placed registers equalities.new ≡ true }
 {
     let mut from = first;
-    for register in 0..registers {
-        if live.holds(point, register) {
-            from = begins_from(begins, from, block, register);
-            let begin = begin_at(begins, from, block, register);
-            push_live(equalities, list, registers, register, begin)?;
-        }
+    for register in live {
+        from = begins_from(begins, from, block, *register);
+        let begin = begin_at(begins, from, block, *register);
+        push_live(equalities, list, registers, *register, begin)?;
     }
     Ok(from)
 }
@@ -355,27 +351,41 @@ fn push_starts(
     list: &[Location],
     registers: u32,
     begins: &[Begin],
-    live: &Live,
-    text: &Text,
+    from: &Starts,
+    blocks: usize,
 ) -> Result<(), AllocError>
     requires list { list_all (is_place registers) list.now ≡ true }
     requires placed { list_all (are_placed registers) starts.old ≡ true }
     ensures { OnOk result (list_all (are_placed registers) starts.new ≡ true) }
 {
     let mut first = 0usize;
-    for (block, stretch) in text.stretches.iter().enumerate() {
+    for block in 0..blocks {
         let mut equalities = Seq::new(alloc);
-        first = push_start(
-            &mut equalities,
-            list,
-            registers,
-            begins,
-            first,
-            live,
-            block,
-            stretch.first,
-        )?;
+        let live = from.of(block);
+        first = push_start(&mut equalities, list, registers, begins, first, live, block)?;
         starts.push(equalities)?;
+    }
+    Ok(())
+}
+
+// ---- starts of all blocks
+
+// The registers that have values throughout, where they are.
+fn push_everywhere(
+    equalities: &mut Seq<Equality>,
+    list: &[Location],
+    registers: u32,
+    starts: &Starts,
+) -> Result<(), AllocError>
+    requires list { list_all (is_place registers) list.now ≡ true }
+    requires placed { are_placed registers equalities.old ≡ true }
+    ensures { are_placed registers equalities.new ≡ true }
+{
+    for register in 0..registers {
+        if starts.is_throughout(register) {
+            let place = own_place(list, registers, register);
+            push_at(equalities, registers, register, place)?;
+        }
     }
     Ok(())
 }
@@ -419,7 +429,8 @@ fn push_params(
     Ok(())
 }
 
-/// The certificate that has each register at its place, but where it is cut, with the moves for that; where a block begins it names the live registers alone.
+/// The certificate that has each register at its place, but where it is cut, with the moves for that; where a block begins it names the live registers alone, and
+/// everywhere those that have values throughout.
 ///
 /// # Errors
 ///
@@ -427,8 +438,7 @@ fn push_params(
 pub(crate) fn written(
     alloc: Global,
     function: &VFunc,
-    live: &Live,
-    text: &Text,
+    live: &Starts,
     list: &[Location],
     cuts: &Cuts,
 ) -> Result<Certificate, AllocError>
@@ -441,7 +451,10 @@ pub(crate) fn written(
     push_params(&mut params, list, registers, cuts.entries.as_slice(), from)?;
     let mut starts = Seq::new(alloc);
     let begins = cuts.begins.as_slice();
-    push_starts(alloc, &mut starts, list, registers, begins, live, text)?;
+    let blocks = function.code.blocks.len();
+    push_starts(alloc, &mut starts, list, registers, begins, live, blocks)?;
+    let mut everywhere = Seq::new(alloc);
+    push_everywhere(&mut everywhere, list, registers, live)?;
     let graph = graph(alloc, function)?;
     let points = graph.uses.as_slice();
     let mut moves = Seq::new(alloc);
@@ -464,6 +477,7 @@ pub(crate) fn written(
     )?;
     Ok(Certificate {
         params,
+        everywhere,
         starts,
         moves,
         places,

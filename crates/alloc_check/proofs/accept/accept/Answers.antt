@@ -9,7 +9,7 @@ use Rattle.vcode.specs.Coded.{coded, virtual_code}
 use Rattle.vcode.specs.Regular.{IsRegular, code_weight}
 use Rattle.alloc_check.specs.Certified.{placed_by}
 use Rattle.alloc_check.specs.Accepted.{is_placed, is_accepted}
-use Rattle.alloc_check.proofs.Accepts.{parts, refused, accepted, accepted_sound}
+use Rattle.alloc_check.proofs.Accepts.{parts, refused, unplaced, accepted, accepted_sound}
 use Rattle.alloc_check.proofs.Certifies.{to_true, certified_regular, weighs_same}
 use Rattle.alloc_check.proofs.Measures.{certified_keeps, fewer_slots}
 use Rattle.alloc_check.proofs.accept.accept.Goals as goal
@@ -19,6 +19,12 @@ returns-then-not-right-clause-no c =
     let v = c.args.function.now in
     let d = c.args.certificate.now in
     λ e. refused v d (sym c.in_ok-right.ensures.right ∙ c.if-not-right.true)
+
+pub returns-then-not-is_placed-clause-no : goal.returns-then-not-is_placed-clause-no
+returns-then-not-is_placed-clause-no c =
+    let v = c.args.function.now in
+    let d = c.args.certificate.now in
+    λ e. unplaced v d (ap (is_placed v.registers) (sym c.in_ok-code.ensures) ∙ sym c.is_placed.ensures ∙ c.if-not-is_placed.true)
 
 pub invariant_of-result : goal.invariant_of-result
 invariant_of-result c =

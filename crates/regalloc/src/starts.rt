@@ -1,0 +1,252 @@
+//! Which registers are live where blocks begin, and which are so at so many blocks that they are taken to be so throughout.
+use crate::accesses::{Accesses, Kind, part};
+use crate::text::Text;
+use cfg_live::sets::Live;
+use std::alloc::{AllocError, Global};
+use vcode::code::Block;
+
+/// The registers that are live where blocks begin. A register that is live at the starts of too many blocks is named for none of them: it is taken to have a
+/// value throughout.
+#[derive(Drop)]
+pub(crate) struct Starts {
+    /// those of a block together, and in their order
+    list: Vec<u32>,
+
+    /// for each block the number of its first register, and that of all registers behind them
+    firsts: Vec<usize>,
+
+    /// of each register whether it has a value throughout
+    throughout: Vec<bool>,
+}
+
+impl Starts {
+    /// The registers that are live where the block begins, but for those that have a value throughout.
+    pub(crate) fn of(&self, block: usize) -> &[u32] {
+        let from = self.firsts.get(block).copied().unwrap_or(0);
+        let next = block.saturating_add(1);
+        let to = self.firsts.get(next).copied().unwrap_or(0);
+        part(self.list.as_slice(), from, to)
+    }
+
+    /// Whether the register is taken to have a value throughout.
+    pub(crate) fn is_throughout(&self, register: u32) -> bool {
+        self.throughout.get(register as usize) == Some(&true)
+    }
+}
+
+/// What is known of the function.
+#[derive(Clone, Copy)]
+pub(crate) struct Ground<'a> {
+    pub(crate) text: &'a Text,
+    pub(crate) live: &'a Live,
+    pub(crate) accesses: &'a Accesses,
+    pub(crate) registers: u32,
+    pub(crate) blocks: &'a [Block<u32>],
+
+    /// how many live registers are named where blocks begin, for each line and jump, at most
+    pub(crate) live_a_line: usize,
+}
+
+// A register is live where a block begins.
+#[derive(Clone, Copy)]
+struct Start {
+    block: usize,
+    register: u32,
+}
+
+// What is found, register by register.
+#[derive(Drop)]
+struct Search {
+    starts: Vec<Start>,
+
+    /// for each block the last register that was found live where it begins
+    last: Vec<Option<u32>>,
+
+    throughout: Vec<bool>,
+}
+
+fn nothing_found(alloc: Global, blocks: usize) -> Result<Search, AllocError> {
+    let mut last = Vec::new(alloc);
+    last.resize(blocks, None)?;
+    Ok(Search {
+        starts: Vec::new(alloc),
+        last,
+        throughout: Vec::new(alloc),
+    })
+}
+
+fn is_live(ground: Ground, block: usize, register: u32) -> bool {
+    match ground.text.stretch(block) {
+        Some(stretch) => ground.live.holds(stretch.first, register),
+        None => false,
+    }
+}
+
+// Notes the block, if the register is live where it begins and that wasn't found yet.
+fn find(
+    search: &mut Search,
+    ground: Ground,
+    block: usize,
+    register: u32,
+) -> Result<(), AllocError> {
+    match search.last.get_mut(block) {
+        Some(last) => {
+            if *last == Some(register) || !is_live(ground, block, register) {
+                return Ok(());
+            }
+            *last = Some(register);
+        }
+        None => return Ok(()),
+    }
+    search.starts.push(Start { block, register })?;
+    Ok(())
+}
+
+// The blocks that the register is read in.
+fn find_reads(search: &mut Search, ground: Ground, register: u32) -> Result<(), AllocError> {
+    for access in ground.accesses.of(register) {
+        if access.kind == Kind::Read {
+            find(search, ground, ground.text.block_of(access.point), register)?;
+        }
+    }
+    Ok(())
+}
+
+// The blocks that lead to this one, as long as no more are found than that.
+fn find_sources(
+    search: &mut Search,
+    ground: Ground,
+    start: Start,
+    most: usize,
+) -> Result<(), AllocError> {
+    for source in ground.text.sources(start.block) {
+        if most < search.starts.len() {
+            break;
+        }
+        find(search, ground, *source, start.register)?;
+    }
+    Ok(())
+}
+
+// Finds the register where blocks begin, back from where it is read; says whether that is at so many blocks at most.
+fn find_all(
+    search: &mut Search,
+    ground: Ground,
+    register: u32,
+    most: usize,
+) -> Result<bool, AllocError> {
+    let first = search.starts.len();
+    let end = first.saturating_add(most);
+    find_reads(search, ground, register)?;
+    for number in first..end {
+        match search.starts.get(number).copied() {
+            Some(start) => find_sources(search, ground, start, end)?,
+            None => break,
+        }
+    }
+    Ok(search.starts.len() <= end)
+}
+
+// Finds all registers; says whether that is no more than so many altogether.
+fn find_within(search: &mut Search, ground: Ground, most: usize) -> Result<bool, AllocError> {
+    for register in 0..ground.registers {
+        let left = most.saturating_sub(search.starts.len());
+        if !find_all(search, ground, register, left)? {
+            return Ok(false);
+        }
+        search.throughout.push(false)?;
+    }
+    Ok(true)
+}
+
+// Finds the registers that are live at so many blocks at most; the others are taken to have values throughout.
+fn find_few(search: &mut Search, ground: Ground, each: usize) -> Result<(), AllocError> {
+    for register in 0..ground.registers {
+        let first = search.starts.len();
+        let is_few = find_all(search, ground, register, each)?;
+        if !is_few {
+            search.starts.truncate(first);
+        }
+        search.throughout.push(!is_few)?;
+    }
+    Ok(())
+}
+
+// How many lines and jumps there are, ticks included.
+fn line_count(blocks: &[Block<u32>]) -> usize {
+    let mut count = 0usize;
+    for block in blocks {
+        count = count.saturating_add(block.lines.len()).saturating_add(1);
+    }
+    count
+}
+
+fn searched(alloc: Global, ground: Ground) -> Result<Search, AllocError> {
+    let blocks = ground.blocks.len();
+    let most = line_count(ground.blocks).saturating_mul(ground.live_a_line);
+    let mut all = nothing_found(alloc, blocks)?;
+    if find_within(&mut all, ground, most)? {
+        return Ok(all);
+    }
+    let mut few = nothing_found(alloc, blocks)?;
+    let each = most / (ground.registers as usize).max(1);
+    find_few(&mut few, ground, each)?;
+    Ok(few)
+}
+
+fn add_one(counts: &mut [usize], at: usize) {
+    match counts.get_mut(at) {
+        Some(count) => *count = count.saturating_add(1),
+        None => {}
+    }
+}
+
+// For each block how many registers are live where it or a block before it begins.
+fn ends(alloc: Global, starts: &[Start], blocks: usize) -> Result<Vec<usize>, AllocError> {
+    let mut ends = Vec::new(alloc);
+    ends.resize(blocks, 0usize)?;
+    for start in starts {
+        add_one(ends.as_mut_slice(), start.block);
+    }
+    let mut before = 0usize;
+    for end in ends.iter_mut() {
+        before = before.saturating_add(*end);
+        *end = before;
+    }
+    Ok(ends)
+}
+
+// Puts the register before those that the block has already.
+fn place(list: &mut [u32], firsts: &mut [usize], start: Start) {
+    match firsts.get_mut(start.block) {
+        Some(first) => {
+            *first = first.saturating_sub(1);
+            match list.get_mut(*first) {
+                Some(at) => *at = start.register,
+                None => {}
+            }
+        }
+        None => {}
+    }
+}
+
+/// Which registers are live where the blocks begin.
+///
+/// # Errors
+///
+/// Only where memory was refused.
+pub(crate) fn starts_of(alloc: Global, ground: Ground) -> Result<Starts, AllocError> {
+    let found = searched(alloc, ground)?;
+    let mut firsts = ends(alloc, found.starts.as_slice(), ground.blocks.len())?;
+    let mut list = Vec::new(alloc);
+    list.resize(found.starts.len(), 0u32)?;
+    for start in found.starts.iter().rev() {
+        place(list.as_mut_slice(), firsts.as_mut_slice(), *start);
+    }
+    firsts.push(found.starts.len())?;
+    Ok(Starts {
+        list,
+        firsts,
+        throughout: found.throughout,
+    })
+}
