@@ -1,10 +1,9 @@
--- Files that hold texts, and lines that go out, one after another.
-use Rattle.std.proofs.Common.{◌≡◌, ℕ, ◌+◌, ◌<◌, ◌++◌, List, [], ◌∷◌, map, take, length, get_or, Option, Vec, Global, Bor, ◌∙◌, ap, sym, subst, append-nil, append_assoc}
-use Rattle.std.proofs.lemmas.List.{map_more, map-append}
-use Rattle.shell.specs.Disk.{Files, Holds}
-use Rattle.shell.specs.Sink.{Went}
-use Rattle.shell.proofs.SinkLemmas.{went_more}
-use Rattle.commands.specs.Parts.{AllHold, all_bytes}
+-- Files that hold texts, one after another.
+use Rattle.std.proofs.Common.{◌≡◌, ℕ, ◌+◌, ◌<◌, ◌++◌, List, [], ◌∷◌, map, take, drop, length, get_or, Option, Vec, Global, Bor, ◌∙◌, ap, sym, subst}
+use Rattle.std.proofs.lemmas.List.{map_more, map-append, take-append-drop, drop_more}
+use Rattle.shell.specs.Disk.{DiskState, Files, Holds}
+use Rattle.commands.specs.declared.failure.Failure.{Failure}
+use Rattle.commands.specs.Parts.{AllHold, IsUnread, MissesFile}
 
 all_hold_more : (told : Option Files) (paths texts : List (List ℕ)) (path text : List ℕ) → AllHold told paths texts → Holds told path text
     → AllHold told (paths ++ path ∷ []) (texts ++ text ∷ [])
@@ -24,15 +23,22 @@ all_hold_next told now paths texts pushed i d text same low is h more =
     (subst (λ ts. AllHold told (map name (take i paths) ++ name (get_or paths i d) ∷ []) ts) (sym (ap (map bytes) is ∙ map-append bytes texts (text ∷ [])))
     (all_hold_more told (map name (take i paths)) (map bytes texts) (name (get_or paths i d)) (bytes text) h (subst (λ o. Holds o (name (get_or paths i d)) (bytes text)) same more)))
 
--- ---- lines that go out
+around : (paths : List (Bor (List ℕ))) (i : ℕ) (d : Bor (List ℕ)) → i < length paths
+    → map (λ (p : Bor (List ℕ)). p.now) paths ≡ map (λ (p : Bor (List ℕ)). p.now) (take i paths) ++ ((get_or paths i d).now ∷ map (λ (p : Bor (List ℕ)). p.now) (drop (i + 1) paths))
+around paths i d low =
+    let name : Bor (List ℕ) → List ℕ = λ p. p.now in
+    ap (map name) (sym (take-append-drop i paths)) ∙ map-append name (take i paths) (drop i paths) ∙ ap (λ rest. map name (take i paths) ++ map name rest) (drop_more paths i d low)
 
-all_bytes_more : (lines : List (List ℕ)) (line : List ℕ) → all_bytes (lines ++ line ∷ []) ≡ all_bytes lines ++ line
-all_bytes_more [] line = append-nil line
-all_bytes_more (l ∷ lines) line = ap (λ bytes. l ++ bytes) (all_bytes_more lines line) ∙ sym (append_assoc l (all_bytes lines) line)
-
--- one more line went out
-pub went_next : {X : Type 0} (bytes : X → List ℕ) (first old new : Option (List ℕ)) (lines : List X) (i : ℕ) (d : X) (line : List ℕ) → i < length lines → line ≡ bytes (get_or lines i d)
-    → Went first old (all_bytes (map bytes (take i lines))) → Went old new line → Went first new (all_bytes (map bytes (take (i + 1) lines)))
-went_next bytes first old new lines i d line low is h more =
-    subst (λ xs. Went first new xs) (sym (ap all_bytes (map_more bytes lines i d low) ∙ all_bytes_more (map bytes (take i lines)) (bytes (get_or lines i d))))
-    (subst (λ xs. Went first new (all_bytes (map bytes (take i lines)) ++ xs)) is (went_more first old new (all_bytes (map bytes (take i lines))) line h more))
+-- or it couldn't be read
+pub missed : (old now new : DiskState) (paths : List (Bor (List ℕ))) (texts : List (List ℕ)) (i : ℕ) (d : Bor (List ℕ)) (f : Failure) → now ≡ old → i < length paths
+    → AllHold old.files (map (λ (p : Bor (List ℕ)). p.now) (take i paths)) texts → IsUnread now new (get_or paths i d) f
+    → MissesFile old new (map (λ (p : Bor (List ℕ)). p.now) paths) f
+missed old now new paths texts i d f same low h unread = record {
+  before = map (λ (p : Bor (List ℕ)). p.now) (take i paths);
+  path = get_or paths i d;
+  after = map (λ (p : Bor (List ℕ)). p.now) (drop (i + 1) paths);
+  are = around paths i d low;
+  texts = texts;
+  held = h;
+  unread = subst (λ disk. IsUnread disk new (get_or paths i d) f) same unread;
+}

@@ -1,29 +1,66 @@
--- What each command did, over a disk (what its files held and hold, where it tells; how many of its calls failed before and after) and standard output.
-use Rattle.std.specs.Prelude.{◌≡◌, ◌⊎◌, ℕ, List, map, Option}
+-- What each command did, over a disk, standard output and standard error: what they told before and after.
+use Rattle.std.specs.Prelude.{◌≡◌, ◌⊎◌, ℕ, List, map}
 use Rattle.command_line.specs.declared.Command.{Command}
 use Rattle.command_line.specs.declared.Command.TheVariants.{Build, Run, Interpret, Disassemble}
 use Rattle.command_line.specs.declared.refusal.Refusal.{Refusal as CommandRefusal}
-use Rattle.shell.specs.Disk.{Files}
+use Rattle.command_line.specs.declared.refusal.Refusal.TheVariants.{Help, Mistake, Memory as NoRoom}
+use Rattle.shell.specs.Disk.{DiskState}
+use Rattle.shell.specs.Sink.{SinkState, Sends, Breaks, Tells}
 use Rattle.commands.specs.declared.failure.Failure.{Failure}
-use Rattle.commands.specs.Parts.{IsBuilt, BuildFails, RunsTo, RunFails, MeansTo, InterpretFails, IsDisassembled, DisassemblyFails, IsShown}
+use Rattle.commands.specs.declared.failure.Failure.TheVariants.{Memory, Output}
+use Rattle.commands.specs.Messages.{line_of}
+use Rattle.commands.specs.Parts.{IsBuilt, BuildFails, RunsTo, RunFails, MeansTo, InterpretFails, IsDisassembled, DisassemblyFails}
 use Rattle.commands.specs.Statuses.{status_of}
 
--- it was done, with this status
-abbrev pub Done : Command → (told later : Option Files) → (old new : Option (List ℕ)) → (status : ℕ) → Type 0
-Done (Build out files) told later old new status = (status ≡ 0) × IsBuilt told later (map (λ p. p.now) files.items) out.now
-Done (Run limit file words) told later old new status = RunsTo told file.now (map (λ w. w.now) words.items) limit old new status
-Done (Interpret limit file words) told later old new status = MeansTo told file.now (map (λ w. w.now) words.items) limit old new status
-Done (Disassemble file) told later old new status = (status ≡ 0) × IsDisassembled told file.now old new
+-- it was done, with this status, and no call of the disk or of standard output failed
+abbrev pub Done : Command → (disk after : DiskState) (old new : SinkState) (status : ℕ) → Type 0
+Done (Build out files) disk after old new status =
+    (status ≡ 0) × IsBuilt disk after (map (λ p. p.now) files.items) out.now × (new ≡ old)
+Done (Run limit file words) disk after old new status =
+    RunsTo disk file.now (map (λ w. w.now) words.items) limit old new status × (after ≡ disk)
+Done (Interpret limit file words) disk after old new status =
+    MeansTo disk file.now (map (λ w. w.now) words.items) limit old new status × (after ≡ disk)
+Done (Disassemble file) disk after old new status =
+    (status ≡ 0) × IsDisassembled disk file.now old new × (after ≡ disk)
 
 -- it failed so
-abbrev pub Fails : Command → (told later : Option Files) → (before after : ℕ) → (old new : Option (List ℕ)) → Failure → Type 0
-Fails (Build out files) told later before after old new f = BuildFails told later before after (map (λ p. p.now) files.items) out f
-Fails (Run limit file words) told later before after old new f = RunFails told before after file (map (λ w. w.now) words.items) limit old new f
-Fails (Interpret limit file words) told later before after old new f = InterpretFails told before after file (map (λ w. w.now) words.items) limit old new f
-Fails (Disassemble file) told later before after old new f = DisassemblyFails told before after file f
+abbrev pub Fails : Command → (disk after : DiskState) (old new : SinkState) → Failure → Type 0
+Fails (Build out files) disk after old new f = BuildFails disk after (map (λ p. p.now) files.items) out f × (new ≡ old)
+Fails (Run limit file words) disk after old new f = RunFails disk after file (map (λ w. w.now) words.items) limit old new f
+Fails (Interpret limit file words) disk after old new f = InterpretFails disk after file (map (λ w. w.now) words.items) limit old new f
+Fails (Disassemble file) disk after old new f = DisassemblyFails disk after file old new f
 
--- some command was done or failed, with its status; or a text of the command line was shown, and no file changed. Which words ask for what isn't said
-abbrev pub Ends : (told later : Option Files) → (before after : ℕ) → (old new : Option (List ℕ)) → (status : ℕ) → Type 0
-Ends told later before after old new status =
-    ((c : Command) × Done c told later old new status) ⊎ ((c : Command) × (f : Failure) × Fails c told later before after old new f × (status ≡ status_of f))
-    ⊎ ((r : CommandRefusal) × IsShown r status × (later ≡ told))
+-- the line of this failure went to standard error, or a beginning of it where that failed; and the status is the failure's
+abbrev pub Reported : Failure → (before after : SinkState) → (status : ℕ) → Type 0
+Reported f before after status = (status ≡ status_of f) × Tells before after (line_of f)
+
+-- a text of help went to standard output, or that failed, or there was no memory for the text. Which text it is isn't said
+unfoldable pub IsHelp : (old new before after : SinkState) → (status : ℕ) → Type 0
+IsHelp old new before after status =
+    ((text : List ℕ) × Sends old new text × (status ≡ 0) × (after ≡ before))
+    ⊎ ((text : List ℕ) × Breaks old new text × Reported Output before after status)
+    ⊎ ((new ≡ old) × Reported Memory before after status)
+
+-- a text that says what is wrong with the words went to standard error, as far as that took it; or there was no memory for the text
+unfoldable pub IsMistake : (before after : SinkState) → (status : ℕ) → Type 0
+IsMistake before after status = ((text : List ℕ) × Tells before after text × (status ≡ 126)) ⊎ Reported Memory before after status
+
+-- a text of the command line was shown so
+abbrev pub IsShown : CommandRefusal → (old new before after : SinkState) → (status : ℕ) → Type 0
+IsShown (Help text) old new before after status = IsHelp old new before after status
+IsShown (Mistake text) old new before after status = IsMistake before after status × (new ≡ old)
+IsShown NoRoom old new before after status = Reported Memory before after status × (new ≡ old)
+
+-- what a disk and the two streams tell at one time
+pub record World : Type 0 where
+  pub disk : DiskState
+  pub out : SinkState
+  pub err : SinkState
+
+-- some command was done, with its status, and nothing went to standard error; or it failed, and that is reported; or a text of the command line was shown, and no
+-- call of the disk failed and no file changed. Which words ask for what isn't said
+unfoldable pub Ends : (old new : World) → (status : ℕ) → Type 0
+Ends old new status =
+    ((c : Command) × Done c old.disk new.disk old.out new.out status × (new.err ≡ old.err))
+    ⊎ ((c : Command) × (f : Failure) × Fails c old.disk new.disk old.out new.out f × Reported f old.err new.err status)
+    ⊎ ((r : CommandRefusal) × IsShown r old.out new.out old.err new.err status × (new.disk ≡ old.disk))

@@ -1,4 +1,6 @@
 pub mod Statuses
+pub mod Messages
+pub mod Examples
 pub mod Runs
 pub mod Refusals
 pub mod Parts

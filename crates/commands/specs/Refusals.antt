@@ -22,10 +22,10 @@ use Rattle.commands.specs.declared.failure.Failure.TheVariants.{Memory as WantsM
 -- ---- which refusal it is
 
 abbrev pub compile_refusal : CompileError → Refusal
-compile_refusal (NoText text line) = Syntax (record { 0 = text }) (record { 0 = line })
-compile_refusal (Broken text fault) = Rule (rule_number fault.rule) (record { 0 = text }) (record { 0 = fault.line })
-compile_refusal (Unknown name) = UnknownName (record { bytes = name })
-compile_refusal (Twice name) = ExportedTwice (record { bytes = name })
+compile_refusal (NoText text line) = Syntax text line
+compile_refusal (Broken text fault) = Rule (rule_number fault.rule) text fault.line
+compile_refusal (Unknown name) = UnknownName name
+compile_refusal (Twice name) = ExportedTwice name
 compile_refusal NotMain = NoMain
 compile_refusal TooMuch = Limit
 compile_refusal NotCompiled = Memory

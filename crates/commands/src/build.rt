@@ -1,6 +1,7 @@
 //! `qbec build`.
-ghost use Rattle.std.specs.Prelude.{◌≡◌, map, IfOk, OnOk, IfErr};
-ghost use Rattle.commands.specs.Parts.{AllHold, CannotRead, IsBuilt, BuildFails};
+ghost use Rattle.std.specs.Prelude.{◌≡◌, ◌⊎◌, map, IfOk, OnOk, IfErr};
+ghost use Rattle.commands.specs.declared.failure.Failure.TheVariants.{Memory};
+ghost use Rattle.commands.specs.Parts.{AllHold, MissesFile, IsBuilt, BuildFails};
 
 use crate::failure::Failure;
 use crate::files::{read, write};
@@ -15,10 +16,9 @@ fn read_all<'a, D: Disk>(
     disk: &mut D,
     paths: &[&'a str],
 ) -> Result<Vec<Vec<u8>>, Failure<'a>>
-    ensures held { IfOk result (λ v. AllHold (D.files disk.old) (map (λ p. p.now) paths.now) (map (λ t. t.items) v.items)) }
-    ensures files { D.files disk.new ≡ D.files disk.old }
-    ensures clean { OnOk result (D.faults disk.new ≡ D.faults disk.old) }
-    ensures fails { IfErr result (λ e. CannotRead (D.faults disk.old) (D.faults disk.new) e) }
+    ensures held { IfOk result (λ v. AllHold (D.told disk.old).files (map (λ p. p.now) paths.now) (map (λ t. t.items) v.items)) }
+    ensures same { OnOk result (D.told disk.new ≡ D.told disk.old) }
+    ensures fails { IfErr result (λ e. MissesFile (D.told disk.old) (D.told disk.new) (map (λ p. p.now) paths.now) e ⊎ ((e ≡ Memory) × (D.told disk.new ≡ D.told disk.old))) }
 {
     let mut texts = Vec::new(alloc);
     for path in paths {
@@ -39,6 +39,7 @@ fn slices(alloc: Global, texts: &[Vec<u8>]) -> Result<Vec<&[u8]>, AllocError>
 }
 
 /// Compiles the files to the file `out`, which is written only after success.
+#[tactic(auto, unfolding(crate::specs::Parts::BuildFails))]
 pub(crate) fn build<'a, D: Disk>(
     alloc: Global,
     how: &mut dyn Strategy,
@@ -47,9 +48,8 @@ pub(crate) fn build<'a, D: Disk>(
     paths: &[&'a str],
 ) -> Result<u8, Failure<'a>>
     ensures status { IfOk result (λ status. status ≡ 0) }
-    ensures built { OnOk result (IsBuilt (D.files disk.old) (D.files disk.new) (map (λ p. p.now) paths.now) out.now) }
-    ensures clean { OnOk result (D.faults disk.new ≡ D.faults disk.old) }
-    ensures fails { IfErr result (λ e. BuildFails (D.files disk.old) (D.files disk.new) (D.faults disk.old) (D.faults disk.new) (map (λ p. p.now) paths.now) out.entry e) }
+    ensures built { OnOk result (IsBuilt (D.told disk.old) (D.told disk.new) (map (λ p. p.now) paths.now) out.now) }
+    ensures fails { IfErr result (BuildFails (D.told disk.old) (D.told disk.new) (map (λ p. p.now) paths.now) out.entry) }
 {
     let texts = read_all(alloc, disk, paths)?;
     let slices = slices(alloc, texts.as_slice())?;

@@ -1,43 +1,67 @@
 //! What the user asks for, done.
-ghost use Rattle.std.specs.Prelude.{◌≡◌, IfOk, OnOk, IfErr};
-ghost use Rattle.commands.specs.Commands.{Done, Fails, Ends};
-ghost use Rattle.commands.specs.Parts.{IsShown};
+ghost use Rattle.std.specs.Prelude.{◌≡◌, IfOk, IfErr};
+ghost use Rattle.shell.specs.Sink.{Tells};
+ghost use Rattle.commands.specs.Commands.{Done, Fails, Ends, IsHelp, IsMistake, IsShown};
+ghost use Rattle.commands.specs.Messages.{line_of};
 ghost use Rattle.commands.specs.Statuses.{status_of};
 
 use crate::build::build;
 use crate::disassemble::disassemble;
 use crate::failure::Failure;
+use crate::files::put_out;
 use crate::run::{interpret, run};
+use crate::tell::{tell, tell_bytes};
+use command_line::refusal::Text;
 use command_line::{Command, Refusal, command_of};
 use regalloc::strategy::Strategy;
 use shell::disk::Disk;
-use shell::message::Message;
 use shell::sink::Sink;
 use std::alloc::Global;
-use std::fmt::Write;
 
 /// Writes the line of a failure, and answers its status. That standard error fails changes nothing.
-fn report<E: Sink>(failure: Failure<'_>, err: &mut E) -> u8
-    ensures { result ≡ status_of failure.entry }
+pub fn report<E: Sink>(failure: Failure<'_>, err: &mut E) -> u8
+    ensures status { result ≡ status_of failure.entry }
+    ensures line { Tells (E.told err.old) (E.told err.new) (line_of failure.entry) }
 {
-    let status = failure.status();
-    let _ = write!(Message::new(err), "qbec: {failure}\n");
-    status
+    tell(&failure, err);
+    failure.status()
+}
+
+/// Puts out a text of help.
+#[tactic(auto, unfolding(crate::specs::Commands::IsHelp))]
+fn show_help<O: Sink, E: Sink>(alloc: Global, text: &Text, out: &mut O, err: &mut E) -> u8
+    ensures { IsHelp (O.told out.old) (O.told out.new) (E.told err.old) (E.told err.new) result }
+{
+    match format!(in alloc; "{text}") {
+        Ok(text) => match put_out(out, text.as_bytes()) {
+            Ok(()) => 0,
+            Err(failure) => report(failure, err),
+        },
+        Err(_) => report(Failure::Memory, err),
+    }
+}
+
+/// Writes what is wrong with the command line to standard error.
+#[tactic(auto, unfolding(crate::specs::Commands::IsMistake))]
+fn show_mistake<E: Sink>(alloc: Global, text: &Text, err: &mut E) -> u8
+    ensures { IsMistake (E.told err.old) (E.told err.new) result }
+{
+    match format!(in alloc; "{text}") {
+        Ok(text) => {
+            tell_bytes(text.as_bytes(), err);
+            126
+        }
+        Err(_) => report(Failure::Memory, err),
+    }
 }
 
 /// Shows a text of the command line.
-fn show<O: Sink, E: Sink>(refusal: Refusal, out: &mut O, err: &mut E) -> u8
-    ensures { IsShown refusal result }
+fn show<O: Sink, E: Sink>(alloc: Global, refusal: Refusal, out: &mut O, err: &mut E) -> u8
+    ensures { IsShown refusal (O.told out.old) (O.told out.new) (E.told err.old) (E.told err.new) result }
 {
     match refusal {
-        Refusal::Help(text) => match write!(Message::new(out), "{text}") {
-            Ok(()) => 0,
-            Err(_) => report(Failure::Output, err),
-        },
-        Refusal::Mistake(text) => {
-            let _ = write!(Message::new(err), "{text}");
-            126
-        }
+        Refusal::Help(text) => show_help(alloc, &text, out, err),
+        Refusal::Mistake(text) => show_mistake(alloc, &text, err),
         Refusal::Memory => report(Failure::Memory, err),
     }
 }
@@ -49,9 +73,8 @@ fn perform<'a, D: Disk, O: Sink>(
     disk: &mut D,
     out: &mut O,
 ) -> Result<u8, Failure<'a>>
-    ensures done { IfOk result (λ status. Done command.now (D.files disk.old) (D.files disk.new) (O.held out.old) (O.held out.new) status) }
-    ensures clean { OnOk result (D.faults disk.new ≡ D.faults disk.old) }
-    ensures fails { IfErr result (λ e. Fails command.now (D.files disk.old) (D.files disk.new) (D.faults disk.old) (D.faults disk.new) (O.held out.old) (O.held out.new) e) }
+    ensures done { IfOk result (Done command.now (D.told disk.old) (D.told disk.new) (O.told out.old) (O.told out.new)) }
+    ensures fails { IfErr result (Fails command.now (D.told disk.old) (D.told disk.new) (O.told out.old) (O.told out.new)) }
 {
     match command {
         Command::Build { out: target, files } => {
@@ -76,12 +99,13 @@ fn perform<'a, D: Disk, O: Sink>(
 /// | `interp [--limit N] FILE WORD...` | interprets one text for at most N turns |
 /// | `dis EXE` | shows the instructions of the executable file |
 ///
-/// A program's output goes to `out`. The status is the program's own, or 0 of `build` and `dis`. Where something ends otherwise, one line goes to `err`: `qbec: `
-/// and the text of the [`Failure`], whose status is answered. Where `out` fails, that is the failure. Help goes to `out`, with status 0; other texts of the
-/// command line go to `err`, with status 126. Which words ask for what, and what goes to `err`, is shown by tests.
+/// A program's output goes to `out`. The status is the program's own, or 0 of `build` and `dis`. Where something ends otherwise, the line of the [`Failure`] goes
+/// to `err`, and its status is answered; that `err` fails changes nothing. Where `out` fails, that is the failure. Help goes to `out`, with status 0; other texts of
+/// the command line go to `err`, with status 126. Which words ask for what, and these texts, are shown by tests.
 ///
 /// Failures are found in this order: the command line; the files in order, at the first that can't be read; refusals of the texts or of the executable file; the
 /// argument words; the run; writing.
+#[tactic(auto, unfolding(crate::specs::Commands::Ends))]
 pub fn command<D: Disk, O: Sink, E: Sink>(
     alloc: Global,
     words: &[&str],
@@ -90,13 +114,15 @@ pub fn command<D: Disk, O: Sink, E: Sink>(
     out: &mut O,
     err: &mut E,
 ) -> u8
-    ensures { Ends (D.files disk.old) (D.files disk.new) (D.faults disk.old) (D.faults disk.new) (O.held out.old) (O.held out.new) result }
+    ensures { Ends (record { disk = D.told disk.old; out = O.told out.old; err = E.told err.old })
+        (record { disk = D.told disk.new; out = O.told out.new; err = E.told err.new })
+        result }
 {
     match command_of(alloc, words) {
         Ok(command) => match perform(alloc, &command, how, disk, out) {
             Ok(status) => status,
             Err(failure) => report(failure, err),
         },
-        Err(refusal) => show(refusal, out, err),
+        Err(refusal) => show(alloc, refusal, out, err),
     }
 }

@@ -1,9 +1,10 @@
 //! `qbec dis`.
-ghost use Rattle.std.specs.Prelude.{◌≡◌, map, IfOk, OnOk, IfErr};
+ghost use Rattle.std.specs.Prelude.{◌≡◌, map, IfOk, OnOk, OnErr, IfErr};
+ghost use Rattle.std.specs.List.{concat};
 ghost use Rattle.std.specs.String.{string_bytes};
-ghost use Rattle.shell.specs.Sink.{Went};
+ghost use Rattle.shell.specs.Sink.{Sends, Breaks};
 ghost use Rattle.commands.specs.declared.failure.Failure.TheVariants.{Output};
-ghost use Rattle.commands.specs.Parts.{all_bytes, IsDisassembled, DisassemblyFails};
+ghost use Rattle.commands.specs.Parts.{IsDisassembled, DisassemblyFails};
 
 use crate::failure::Failure;
 use crate::files::{put_out, read};
@@ -14,8 +15,9 @@ use shell::sink::Sink;
 use std::alloc::Global;
 
 fn put_lines<'a, O: Sink>(out: &mut O, lines: &[String]) -> Result<(), Failure<'a>>
-    ensures all { OnOk result (Went (O.held out.old) (O.held out.new) (all_bytes (map string_bytes lines.now))) }
+    ensures all { OnOk result (Sends (O.told out.old) (O.told out.new) (concat (map string_bytes lines.now))) }
     ensures fault { IfErr result (λ e. e ≡ Output) }
+    ensures some { OnErr result (Breaks (O.told out.old) (O.told out.new) (concat (map string_bytes lines.now))) }
 {
     for line in lines {
         put_out(out, line.as_bytes())?;
@@ -24,17 +26,17 @@ fn put_lines<'a, O: Sink>(out: &mut O, lines: &[String]) -> Result<(), Failure<'
 }
 
 /// Puts out the lines of an executable file.
+#[tactic(auto, unfolding(crate::specs::Parts::DisassemblyFails))]
 pub(crate) fn disassemble<'a, D: Disk, O: Sink>(
     alloc: Global,
     disk: &mut D,
     out: &mut O,
     path: &'a str,
 ) -> Result<u8, Failure<'a>>
-    ensures shows { OnOk result (IsDisassembled (D.files disk.old) path.now (O.held out.old) (O.held out.new)) }
+    ensures shows { OnOk result (IsDisassembled (D.told disk.old) path.now (O.told out.old) (O.told out.new)) }
     ensures status { IfOk result (λ status. status ≡ 0) }
-    ensures fails { IfErr result (λ e. DisassemblyFails (D.files disk.old) (D.faults disk.old) (D.faults disk.new) path.entry e) }
-    ensures files { D.files disk.new ≡ D.files disk.old }
-    ensures clean { OnOk result (D.faults disk.new ≡ D.faults disk.old) }
+    ensures same { OnOk result (D.told disk.new ≡ D.told disk.old) }
+    ensures fails { IfErr result (DisassemblyFails (D.told disk.old) (D.told disk.new) path.entry (O.told out.old) (O.told out.new)) }
 {
     let bytes = read(disk, path)?;
     let file = read_image(alloc, bytes.as_slice())?;

@@ -12,38 +12,28 @@ use rv_machine::start::StartError;
 use rv_machine::stop::Stop;
 use std::alloc::{AllocError, AllocFailed};
 
-/// Why a command did not end well. Shown, it is the line for the user without its first word and its line end.
-#[derive(Debug, Drop, thiserror::Error)]
+/// Why a command did not end well. [`crate::tell::tell`] writes its line.
+#[derive(Debug, Drop)]
 pub enum Failure<'a> {
     /// The program came to `hlt`, or to `ebreak`.
-    #[error("halt")]
     Halt,
     /// The limit of turns or of instructions was reached.
-    #[error("limit")]
     Limit,
     /// The machine refused the instruction at `pc`.
-    #[error("fault F{number} at {pc:016x}")]
     Fault { number: u8, pc: u64 },
     /// The program did what has no meaning.
-    #[error("undefined")]
     Undefined,
     /// A call found too little room on the stack.
-    #[error("stack")]
     Stack,
     /// Memory was refused.
-    #[error("memory")]
     Memory,
     /// Texts, a file or argument words were refused.
-    #[error("refused {0}")]
     Refused(Refusal),
     /// This file could not be read.
-    #[error("cannot read {0}")]
     Unread(&'a str),
     /// This file could not be written.
-    #[error("cannot write {0}")]
     Unwritten(&'a str),
     /// Standard output failed.
-    #[error("cannot write standard output")]
     Output,
 }
 

@@ -1,7 +1,7 @@
 //! Files and standard output, with the failures that they meet.
 ghost use Rattle.std.specs.Prelude.{◌≡◌, IfOk, OnOk, OnErr, IfErr};
 ghost use Rattle.shell.specs.Disk.{Holds, Spares};
-ghost use Rattle.shell.specs.Sink.{Went, HasFailed};
+ghost use Rattle.shell.specs.Sink.{Sends, Breaks};
 ghost use Rattle.commands.specs.declared.failure.Failure.TheVariants.{Output};
 ghost use Rattle.commands.specs.Parts.{IsUnread, IsUnwritten};
 
@@ -12,10 +12,9 @@ use shell::write_exe::write_exe;
 
 /// All bytes of a file.
 pub(crate) fn read<'a, D: Disk>(disk: &mut D, path: &'a str) -> Result<Vec<u8>, Failure<'a>>
-    ensures holds { IfOk result (λ v. Holds (D.files disk.old) path.now v.items) }
-    ensures same { D.files disk.new ≡ D.files disk.old }
-    ensures clean { OnOk result (D.faults disk.new ≡ D.faults disk.old) }
-    ensures fault { IfErr result (λ e. IsUnread (D.faults disk.old) (D.faults disk.new) path.entry e) }
+    ensures holds { IfOk result (λ v. Holds (D.told disk.old).files path.now v.items) }
+    ensures same { OnOk result (D.told disk.new ≡ D.told disk.old) }
+    ensures fault { IfErr result (IsUnread (D.told disk.old) (D.told disk.new) path.entry) }
 {
     match disk.read(path) {
         Ok(bytes) => Ok(bytes),
@@ -30,10 +29,10 @@ pub(crate) fn write<'a, D: Disk>(
     path: &'a str,
     bytes: &[u8],
 ) -> Result<(), Failure<'a>>
-    ensures holds { OnOk result (Holds (D.files disk.new) path.now bytes.now) }
-    ensures spares { Spares (D.files disk.old) (D.files disk.new) path.now }
-    ensures clean { OnOk result (D.faults disk.new ≡ D.faults disk.old) }
-    ensures fault { IfErr result (λ e. IsUnwritten (D.faults disk.old) (D.faults disk.new) path.entry e) }
+    ensures holds { OnOk result (Holds (D.told disk.new).files path.now bytes.now) }
+    ensures spares { OnOk result (Spares (D.told disk.old).files (D.told disk.new).files path.now) }
+    ensures clean { OnOk result ((D.told disk.new).faults ≡ (D.told disk.old).faults) }
+    ensures fault { IfErr result (IsUnwritten (D.told disk.old) (D.told disk.new) path.entry) }
 {
     match disk.write(path, bytes) {
         Ok(()) => Ok(()),
@@ -44,9 +43,9 @@ pub(crate) fn write<'a, D: Disk>(
 
 /// Writes bytes to standard output.
 pub(crate) fn put_out<'a, O: Sink>(out: &mut O, bytes: &[u8]) -> Result<(), Failure<'a>>
-    ensures all { OnOk result (Went (O.held out.old) (O.held out.new) bytes.now) }
+    ensures all { OnOk result (Sends (O.told out.old) (O.told out.new) bytes.now) }
     ensures fault { IfErr result (λ e. e ≡ Output) }
-    ensures blame { OnErr result (HasFailed (O.faults out.old) (O.faults out.new)) }
+    ensures some { OnErr result (Breaks (O.told out.old) (O.told out.new) bytes.now) }
 {
     match write_exe(bytes, out) {
         Ok(()) => Ok(()),

@@ -7,10 +7,11 @@
 //! - [`runs::interpret_text`] interprets one text, exactly as its program means.
 //! - [`failure::Failure`] says why a command did not end well; its status is that of `specs/Statuses.antt`, and which failure a refusal becomes, and what
 //!   it says of the file or of the text, is that of `specs/Refusals.antt`.
+//! - [`tell::tell`] writes the line of a failure, byte by byte that of `specs/Messages.antt`.
 //!
-//! `specs/Parts.antt` says what `run` and `interp` do with what a file holds, down to the bytes that go to standard output, and with which statuses and failures
-//! they and `dis` end. The text of each line is shown by the tests alone; so are the texts of the command line. That `build` writes the bytes that `compile`
-//! answers and nothing else is read in the code.
+//! `specs/Parts.antt` says what each command does with what files hold, down to the bytes that go to standard output, and with which statuses and failures it ends;
+//! `specs/Commands.antt` says the same of the whole, with what goes to standard error. Which words ask for what, and the texts of the command line, are shown by the
+//! tests alone.
 #![tactic(auto)]
 
 mod build;
@@ -18,8 +19,10 @@ pub mod command;
 mod disassemble;
 pub mod failure;
 mod files;
+pub mod laws;
 pub mod refusal;
 mod run;
 pub mod runs;
+pub mod tell;
 #[cfg(test)]
 mod tests;

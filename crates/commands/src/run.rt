@@ -20,6 +20,7 @@ fn as_bytes<'a>(alloc: Global, words: &[&'a str]) -> Result<Vec<&'a [u8]>, Alloc
 }
 
 /// Runs an executable file, puts out what it puts out, and answers its exit status.
+#[tactic(auto, unfolding(crate::specs::Parts::RunsTo, crate::specs::Parts::RunFails))]
 pub(crate) fn run<'a, D: Disk, O: Sink>(
     alloc: Global,
     disk: &mut D,
@@ -28,10 +29,9 @@ pub(crate) fn run<'a, D: Disk, O: Sink>(
     path: &'a str,
     words: &[&str],
 ) -> Result<u8, Failure<'a>>
-    ensures runs { IfOk result (λ status. RunsTo (D.files disk.old) path.now (map (λ w. w.now) words.now) limit (O.held out.old) (O.held out.new) status) }
-    ensures fails { IfErr result (λ e. RunFails (D.files disk.old) (D.faults disk.old) (D.faults disk.new) path.entry (map (λ w. w.now) words.now) limit (O.held out.old) (O.held out.new) e) }
-    ensures files { D.files disk.new ≡ D.files disk.old }
-    ensures clean { OnOk result (D.faults disk.new ≡ D.faults disk.old) }
+    ensures runs { IfOk result (RunsTo (D.told disk.old) path.now (map (λ w. w.now) words.now) limit (O.told out.old) (O.told out.new)) }
+    ensures same { OnOk result (D.told disk.new ≡ D.told disk.old) }
+    ensures fails { IfErr result (RunFails (D.told disk.old) (D.told disk.new) path.entry (map (λ w. w.now) words.now) limit (O.told out.old) (O.told out.new)) }
 {
     let bytes = read(disk, path)?;
     let words = as_bytes(alloc, words)?;
@@ -42,6 +42,7 @@ pub(crate) fn run<'a, D: Disk, O: Sink>(
 }
 
 /// Interprets a text, puts out what it puts out, and answers its exit status.
+#[tactic(auto, unfolding(crate::specs::Parts::MeansTo, crate::specs::Parts::InterpretFails))]
 pub(crate) fn interpret<'a, D: Disk, O: Sink>(
     alloc: Global,
     disk: &mut D,
@@ -50,10 +51,9 @@ pub(crate) fn interpret<'a, D: Disk, O: Sink>(
     path: &'a str,
     words: &[&str],
 ) -> Result<u8, Failure<'a>>
-    ensures means { IfOk result (λ status. MeansTo (D.files disk.old) path.now (map (λ w. w.now) words.now) turns (O.held out.old) (O.held out.new) status) }
-    ensures fails { IfErr result (λ e. InterpretFails (D.files disk.old) (D.faults disk.old) (D.faults disk.new) path.entry (map (λ w. w.now) words.now) turns (O.held out.old) (O.held out.new) e) }
-    ensures files { D.files disk.new ≡ D.files disk.old }
-    ensures clean { OnOk result (D.faults disk.new ≡ D.faults disk.old) }
+    ensures means { IfOk result (MeansTo (D.told disk.old) path.now (map (λ w. w.now) words.now) turns (O.told out.old) (O.told out.new)) }
+    ensures same { OnOk result (D.told disk.new ≡ D.told disk.old) }
+    ensures fails { IfErr result (InterpretFails (D.told disk.old) (D.told disk.new) path.entry (map (λ w. w.now) words.now) turns (O.told out.old) (O.told out.new)) }
 {
     let text = read(disk, path)?;
     let words = as_bytes(alloc, words)?;

@@ -34,9 +34,7 @@ impl BrokenDisk {
 impl Disk for BrokenDisk {
     ghost use Rattle.std.specs.Prelude.{None};
 
-    ghost files = { λ s. None };
-
-    ghost faults = { λ s. s.faults };
+    ghost told = { λ s. record { files = None; faults = s.faults } };
 
     fn read(&mut self, path: &str) -> Result<Vec<u8>, FileFault> {
         let answer = if path == "broken" {

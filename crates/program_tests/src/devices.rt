@@ -4,10 +4,12 @@ use crate::commanded::{perform_with, perform_words};
 use crate::report::Report;
 use commands::failure::Failure;
 use commands::refusal::Refusal;
+use commands::tell::tell;
 use elf_file::LoadError;
 use shell::disk::FileFault;
 use shell::memory::MemorySink;
 use std::alloc::{AllocError, Global};
+use std::str;
 
 /// Puts out `Hi` and a line end, and halts.
 const HALTS: &str =
@@ -153,7 +155,10 @@ fn check_failure(
 ) -> Result<(), AllocError> {
     report.begin(wanted)?;
     let status = failure.status();
-    let said = format!(in report.alloc; "{status} {failure}")?;
+    let mut err = MemorySink::new(report.alloc, 1, 0);
+    tell(&failure, &mut err);
+    let line = str::from_utf8(err.bytes.as_slice()).unwrap_or("no text");
+    let said = format!(in report.alloc; "{status} {line}")?;
     report.compare("line", wanted, said.as_str())
 }
 
@@ -181,8 +186,12 @@ pub fn check(report: &mut Report) -> Result<(), AllocError> {
     ] {
         check_message(words, report)?;
     }
-    check_failure(Failure::Refused(Refusal::Memory), "126 refused E7", report)?;
+    check_failure(
+        Failure::Refused(Refusal::Memory),
+        "126 qbec: refused E7\n",
+        report,
+    )?;
     let file = Failure::Refused(Refusal::File(LoadError::Memory));
-    check_failure(file, "126 refused L6", report)?;
-    check_failure(Failure::Memory, "126 memory", report)
+    check_failure(file, "126 qbec: refused L6\n", report)?;
+    check_failure(Failure::Memory, "126 qbec: memory\n", report)
 }

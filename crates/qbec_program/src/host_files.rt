@@ -1,8 +1,11 @@
 //! The files of the system.
+ghost use Rattle.std.specs.Prelude.{◌≡◌, IfOk};
+ghost use Rattle.std.specs.Io.KnownBytes.{Appends};
+
 use crate::stream::Stream;
 use shell::disk::{Disk, FileFault};
 use shell::write_exe::write_exe;
-use std::io::{Error, ErrorKind};
+use std::io::{Error, ErrorKind, Write};
 use std::os::unix::fs::PermissionsExt;
 use std::rt::Files;
 use std::{fs, io};
@@ -15,7 +18,9 @@ pub(crate) struct HostFiles<'r, R> {
 }
 
 impl<'r, R> HostFiles<'r, R> {
-    pub(crate) fn new(rt: &'r R) -> HostFiles<'r, R> {
+    pub(crate) fn new(rt: &'r R) -> HostFiles<'r, R>
+        ensures { result.faults ≡ 0 }
+    {
         HostFiles { rt, faults: 0 }
     }
 }
@@ -46,18 +51,24 @@ fn read_file<R: Files + AllocGlobal>(rt: &R, path: &str) -> Result<Vec<u8>, File
     }
 }
 
+/// Writes all bytes to a new file, and answers the stream that took them.
+fn write_to<W: Write + Drop>(file: W, bytes: &[u8]) -> Result<Stream<W>, FileFault>
+    ensures { IfOk result (λ stream. Appends (W.contents file) (W.contents stream.writer) bytes.now) }
+{
+    let mut stream = Stream::new(file);
+    match write_exe(bytes, &mut stream) {
+        Ok(()) => Ok(stream),
+        Err(_) => Err(FileFault::Device),
+    }
+}
+
 fn write_file<R: Files + AllocGlobal>(rt: &R, path: &str, bytes: &[u8]) -> Result<(), FileFault> {
     match fs::create(rt, path) {
         Ok(file) => {
-            let mut stream = Stream::new(file);
-            match write_exe(bytes, &mut stream) {
-                Ok(()) => {
-                    // The file is whole; on a file system that has no such permissions it can be executed or not as it is.
-                    let _ = make_executable(rt, path);
-                    Ok(())
-                }
-                Err(_) => Err(FileFault::Device),
-            }
+            let _file = write_to(file, bytes)?;
+            // The file is whole; on a file system that has no such permissions it can be executed or not as it is.
+            let _ = make_executable(rt, path);
+            Ok(())
         }
         Err(error) => Err(fault_of(&error)),
     }
@@ -66,9 +77,7 @@ fn write_file<R: Files + AllocGlobal>(rt: &R, path: &str, bytes: &[u8]) -> Resul
 impl<R: Files + AllocGlobal> Disk for HostFiles<'_, R> {
     ghost use Rattle.std.specs.Prelude.{None};
 
-    ghost files = { λ s. None };
-
-    ghost faults = { λ s. s.faults };
+    ghost told = { λ s. record { files = None; faults = s.faults } };
 
     fn read(&mut self, path: &str) -> Result<Vec<u8>, FileFault> {
         let answer = read_file(self.rt, path);

@@ -6,14 +6,17 @@
 mod host_files;
 mod stream;
 
+ghost use Rattle.std.specs.Prelude.{◌≡◌, IfOk, OnErr};
+ghost use Rattle.std.specs.Process.{exit_status};
+ghost use Rattle.qbec_program.specs.Program.{Performs, Exits};
+
 use crate::host_files::HostFiles;
 use crate::stream::Stream;
-use commands::command::command;
+use commands::command::{command, report};
+use commands::failure::Failure;
 use regalloc::linear_scan::LinearScan;
-use shell::message::Message;
 use shell::sink::Sink;
 use std::alloc::Global;
-use std::fmt::Write;
 use std::process::ExitCode;
 use std::rt::{Env, Files};
 use std::{env, io};
@@ -32,7 +35,11 @@ fn perform<R: Env + Files + AllocGlobal, O: Sink, E: Sink>(
     rt: &R,
     out: &mut O,
     err: &mut E,
-) -> io::Result<u8> {
+) -> io::Result<u8>
+    ensures performs { IfOk result (Performs (O.told out.old) (O.told out.new) (E.told err.old) (E.told err.new)) }
+    ensures out { OnErr result (O.told out.new ≡ O.told out.old) }
+    ensures err { OnErr result (E.told err.new ≡ E.told err.old) }
+{
     let alloc = rt.alloc();
     let args: Vec<String> = env::args(rt)?.collect(alloc)?;
     let words = words_of(alloc, args.as_slice())?;
@@ -41,14 +48,22 @@ fn perform<R: Env + Files + AllocGlobal, O: Sink, E: Sink>(
     Ok(command(alloc, words.as_slice(), &mut how, &mut files, out, err))
 }
 
+/// The same, with the status that the process ends with.
+fn exit_code<R: Env + Files + AllocGlobal, O: Sink, E: Sink>(
+    rt: &R,
+    out: &mut O,
+    err: &mut E,
+) -> ExitCode
+    ensures { Exits (O.told out.old) (O.told out.new) (E.told err.old) (E.told err.new) (exit_status result) }
+{
+    match perform(rt, out, err) {
+        Ok(status) => ExitCode::from(status),
+        Err(_) => ExitCode::from(report(Failure::Memory, err)),
+    }
+}
+
 fn main(rt: HostRuntime) -> ExitCode {
     let mut out = Stream::new(rt.stdout());
     let mut err = Stream::new(rt.stderr());
-    match perform(&rt, &mut out, &mut err) {
-        Ok(status) => ExitCode::from(status),
-        Err(_) => {
-            let _ = write!(Message::new(&mut err), "qbec: memory\n");
-            ExitCode::from(126)
-        }
-    }
+    exit_code(&rt, &mut out, &mut err)
 }

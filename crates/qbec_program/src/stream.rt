@@ -1,25 +1,30 @@
 //! A writer of the system, as a sink.
-ghost use Rattle.std.specs.Prelude.{◌≤◌, length, IfOk};
+ghost use Rattle.std.specs.Prelude.{◌≡◌, ◌≤◌, length, IfOk};
+ghost use Rattle.std.specs.Io.KnownBytes.{WriteAppends};
 
 use shell::sink::{Sink, SinkFault};
 use std::io::{ErrorKind, Write};
 
-/// A file or a standard stream, with the count of its calls that failed. It doesn't tell its bytes.
+/// A file or a standard stream, with the count of its calls that failed. It tells what its writer holds, where that is known: of those of the system it isn't.
 #[derive(Drop)]
 pub(crate) struct Stream<W: Write> {
-    writer: W,
+    pub(crate) writer: W,
     faults: u64,
 }
 
 impl<W: Write> Stream<W> {
-    pub(crate) fn new(writer: W) -> Stream<W> {
+    pub(crate) fn new(writer: W) -> Stream<W>
+        ensures writer { result.writer ≡ writer }
+        ensures faults { result.faults ≡ 0 }
+    {
         Stream { writer, faults: 0 }
     }
 }
 
 /// Writes some of the bytes; again where a signal came between.
 fn write_some<W: Write>(writer: &mut W, bytes: &[u8]) -> Result<usize, SinkFault>
-    ensures { IfOk result (λ count. count ≤ length bytes.now) }
+    ensures fits { IfOk result (λ count. count ≤ length bytes.now) }
+    ensures takes { WriteAppends (W.contents writer.old) (W.contents writer.new) result bytes.now }
 {
     for _ in 0..u64::MAX {
         match writer.write(bytes) {
@@ -35,11 +40,7 @@ fn write_some<W: Write>(writer: &mut W, bytes: &[u8]) -> Result<usize, SinkFault
 }
 
 impl<W: Write> Sink for Stream<W> {
-    ghost use Rattle.std.specs.Prelude.{None};
-
-    ghost held = { λ _. None };
-
-    ghost faults = { λ s. s.faults };
+    ghost told = { λ s. record { held = W.contents s.writer; faults = s.faults } };
 
     fn put(&mut self, bytes: &[u8]) -> Result<usize, SinkFault> {
         match write_some(&mut self.writer, bytes) {

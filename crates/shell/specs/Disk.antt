@@ -1,11 +1,16 @@
 -- What files hold, and how often a disk failed.
-use Rattle.std.specs.Prelude.{◌≡◌, ℕ, ◌+◌, nat_lt, if◌then◌else◌, List, Option, Some, None, Result, Ok, Err}
+use Rattle.std.specs.Prelude.{◌≡◌, ℕ, List, Option, Some, None, Result, Ok, Err}
 use Rattle.shell.specs.declared.disk.FileFault.{FileFault}
-use Rattle.shell.specs.Sink.{most_faults}
+use Rattle.shell.specs.Sink.{one_more}
 
 -- the bytes of the file at each path, where there is one
 abbrev pub Files : Type 0
 Files = List ℕ → Option (List ℕ)
+
+-- what a disk tells at one time: its files, where it tells them, and how many of its calls failed
+pub record DiskState : Type 0 where
+  pub files : Option Files
+  pub faults : ℕ
 
 -- the file at this path has these bytes, where the disk tells what its files hold
 abbrev pub Holds : (told : Option Files) → (path bytes : List ℕ) → Type 0
@@ -19,9 +24,9 @@ Spares None (Some new) path = ⊥
 Spares (Some old) None path = ⊥
 Spares (Some old) (Some new) path = (other : List ℕ) → (other ≡ path → ⊥) → new other ≡ old other
 
--- how many calls failed, after one more that did
-abbrev pub one_more : ℕ → ℕ
-one_more faults = if nat_lt faults most_faults then faults + 1 else faults
+-- one more call failed, and no file changed
+abbrev pub failed : DiskState → DiskState
+failed disk = record disk { faults = one_more disk.faults }
 
 -- how many calls failed, after this one
 abbrev pub counted : {X : Type 0} → ℕ → Result X FileFault → ℕ

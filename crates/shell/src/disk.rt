@@ -13,14 +13,11 @@ pub enum FileFault {
 
 /// Files by their paths.
 pub trait Disk {
-    ghost use Rattle.std.specs.Prelude.{◌≡◌, ℕ, Option, IfOk, OnOk};
-    ghost use Rattle.shell.specs.Disk.{Files, Holds, Spares, counted};
+    ghost use Rattle.std.specs.Prelude.{◌≡◌, IfOk, OnOk};
+    ghost use Rattle.shell.specs.Disk.{DiskState, Holds, Spares, counted};
 
-    /// What its files hold, where it tells that: files in memory can, those of a system don't.
-    ghost files: { Self → Option Files };
-
-    /// How many of its calls failed so far; at most 2^64 - 1.
-    ghost faults: { Self → ℕ };
+    /// What its files hold, where it tells that: files in memory can, those of a system don't. And how many of its calls failed so far; at most 2^64 - 1.
+    ghost told: { Self → DiskState };
 
     /// All bytes of a file.
     ///
@@ -28,9 +25,9 @@ pub trait Disk {
     ///
     /// Where the device or the file system refused, or memory.
     fn read(&mut self, path: &str) -> Result<Vec<u8>, FileFault>
-        ensures holds { IfOk result (λ v. Holds (files self.old) path.now v.items) }
-        ensures same { files self.new ≡ files self.old }
-        ensures counts { faults self.new ≡ counted (faults self.old) result };
+        ensures holds { IfOk result (λ v. Holds (told self.old).files path.now v.items) }
+        ensures same { (told self.new).files ≡ (told self.old).files }
+        ensures counts { (told self.new).faults ≡ counted (told self.old).faults result };
 
     /// Writes a file of these bytes, in the place of one that is there. After a fault it may hold a beginning of them.
     ///
@@ -38,7 +35,7 @@ pub trait Disk {
     ///
     /// Where the device or the file system refused, or memory.
     fn write(&mut self, path: &str, bytes: &[u8]) -> Result<(), FileFault>
-        ensures holds { OnOk result (Holds (files self.new) path.now bytes.now) }
-        ensures spares { Spares (files self.old) (files self.new) path.now }
-        ensures counts { faults self.new ≡ counted (faults self.old) result };
+        ensures holds { OnOk result (Holds (told self.new).files path.now bytes.now) }
+        ensures spares { Spares (told self.old).files (told self.new).files path.now }
+        ensures counts { (told self.new).faults ≡ counted (told self.old).faults result };
 }

@@ -5,7 +5,7 @@
 //! - [`sink::Sink`] is what takes bytes: a file, a standard stream, or memory. Its laws say how many bytes a call took, which ones, and how often a call failed.
 //! - [`memory::MemorySink`] is one in memory, which takes as many bytes a call as its maker says, and fails at the call that its maker says.
 //! - [`write_exe::write_exe`] writes all bytes to any sink, whatever the sink does; a fault tells how many went out, and comes only where the sink failed.
-//! - [`message::Message`] writes text to a sink without taking memory.
+//!   [`write_exe::write_parts`] does so with several parts, one after another.
 //! - [`disk::Disk`] reads and writes files. Its laws say what it read and wrote, as far as it tells what its files hold, and how often a call failed.
 //! - [`memory_disk::MemoryDisk`] is one in memory, which tells.
 //! - [`dis_lines::dis_lines`] gives exactly the lines of a disassembly, as `specs/Lines.antt` says them.
@@ -17,7 +17,6 @@ pub mod dis_lines;
 pub mod disk;
 pub mod memory;
 pub mod memory_disk;
-pub mod message;
 pub mod sink;
 #[cfg(test)]
 mod tests;

@@ -37,9 +37,9 @@ impl MemorySink {
 }
 
 impl Sink for MemorySink {
-    ghost held = { λ s. Some s.bytes.items };
+    ghost use Rattle.std.specs.Prelude.{Some};
 
-    ghost faults = { λ s. s.faults };
+    ghost told = { λ s. record { held = Some s.bytes.items; faults = s.faults } };
 
     /// Takes the first `most` of the bytes, or all where they are fewer.
     ///
@@ -47,7 +47,7 @@ impl Sink for MemorySink {
     ///
     /// At call `fails_at`, and where memory was refused.
     fn put(&mut self, bytes: &[u8]) -> Result<usize, SinkFault>
-        ensures puts { Puts (Some self.old.bytes.items) (Some self.new.bytes.items) bytes.now result }
+        ensures puts { Puts (record { held = Some self.old.bytes.items; faults = self.old.faults }) (record { held = Some self.new.bytes.items; faults = self.new.faults }) bytes.now result }
         ensures counts { self.new.faults ≡ counted self.old.faults bytes.now result }
         ensures few { IfOk result (λ n. n ≡ min (length bytes.now) self.old.most) }
         ensures fails { self.new.calls ≡ self.old.fails_at → IsErr result }

@@ -62,9 +62,7 @@ impl MemoryDisk {
 }
 
 impl Disk for MemoryDisk {
-    ghost files = { λ s. Some (first_at s.files.items) };
-
-    ghost faults = { λ s. s.faults };
+    ghost told = { λ s. record { files = Some (first_at s.files.items); faults = s.faults } };
 
     fn read(&mut self, path: &str) -> Result<Vec<u8>, FileFault> {
         let answer = match self.find(path) {

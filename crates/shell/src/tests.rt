@@ -3,8 +3,7 @@ use crate::dis_lines::dis_lines;
 use crate::disk::Disk;
 use crate::memory::MemorySink;
 use crate::memory_disk::MemoryDisk;
-use crate::message::Message;
-use crate::write_exe::{WriteFault, write_exe};
+use crate::write_exe::{WriteFault, write_exe, write_parts};
 use elf_file::read_image;
 use std::alloc::{AllocError, Global};
 use std::fmt::Write;
@@ -33,16 +32,19 @@ fn all_goes_out_or_a_beginning(rt: HostRuntime) -> Result<(), Fail> {
 }
 
 #[test]
-fn messages_go_out(rt: HostRuntime) -> Result<(), Fail> {
-    let mut sink = MemorySink::new(rt.alloc(), 2, 0);
-    let number = 255;
-    let written = write!(Message::new(&mut sink), "number {number:04x}\n");
-    assert!(rt; written.is_ok());
+fn parts_go_out_one_after_another(rt: HostRuntime) -> Result<(), Fail> {
+    let parts: [&[u8]; 3] = [b"number ", b"00ff", b"\n"];
+    let mut sink = MemorySink::new(rt.alloc(), 3, 0);
+    assert!(rt; write_parts(&parts, &mut sink).is_ok());
     assert_eq!(rt; sink.bytes.as_slice(), b"number 00ff\n".as_slice());
-    let mut sink = MemorySink::new(rt.alloc(), 2, 2);
-    let written = write!(Message::new(&mut sink), "number {number:04x}\n");
-    assert!(rt; written.is_err());
-    assert_eq!(rt; sink.bytes.as_slice(), b"nu".as_slice());
+    assert_eq!(rt; sink.faults, 0);
+    let mut sink = MemorySink::new(rt.alloc(), 3, 5);
+    assert_eq!(rt;
+        write_parts(&parts, &mut sink),
+        Err(WriteFault { written: 3 })
+    );
+    assert_eq!(rt; sink.bytes.as_slice(), b"number 00f".as_slice());
+    assert_eq!(rt; sink.faults, 1);
     Ok(())
 }
 

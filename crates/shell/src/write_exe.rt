@@ -1,6 +1,7 @@
 //! All bytes, written.
-ghost use Rattle.std.specs.Prelude.{◌≡◌, ◌≤◌, length, take, OnOk, OnErr, IfErr};
-ghost use Rattle.shell.specs.Sink.{Went, HasFailed};
+ghost use Rattle.std.specs.Prelude.{OnOk, IfErr, OnErr, map};
+ghost use Rattle.std.specs.List.{concat};
+ghost use Rattle.shell.specs.Sink.{Sends, Stops, Breaks};
 
 use crate::sink::Sink;
 
@@ -20,9 +21,8 @@ pub struct WriteFault {
 ///
 /// A fault comes only where a call of the sink failed or took no byte.
 pub fn write_exe<S: Sink>(bytes: &[u8], out: &mut S) -> Result<(), WriteFault>
-    ensures all { OnOk result (Went (S.held out.old) (S.held out.new) bytes.now) }
-    ensures some { IfErr result (λ fault. (fault.written ≤ length bytes.now) × Went (S.held out.old) (S.held out.new) (take fault.written bytes.now)) }
-    ensures blame { OnErr result (HasFailed (S.faults out.old) (S.faults out.new)) }
+    ensures all { OnOk result (Sends (S.told out.old) (S.told out.new) bytes.now) }
+    ensures some { IfErr result (λ fault. Stops (S.told out.old) (S.told out.new) bytes.now fault.written) }
 {
     let mut written = 0;
     while written < bytes.len() {
@@ -31,6 +31,21 @@ pub fn write_exe<S: Sink>(bytes: &[u8], out: &mut S) -> Result<(), WriteFault>
             Ok(count) => written += count,
             Err(_) => return Err(WriteFault { written }),
         }
+    }
+    Ok(())
+}
+
+/// Writes all of the parts, one after another, as [`write_exe`] writes one.
+///
+/// # Errors
+///
+/// A fault comes only where a call of the sink failed or took no byte. It names how many bytes of its part went out.
+pub fn write_parts<S: Sink>(parts: &[&[u8]], out: &mut S) -> Result<(), WriteFault>
+    ensures all { OnOk result (Sends (S.told out.old) (S.told out.new) (concat (map (λ p. p.now) parts.now))) }
+    ensures some { OnErr result (Breaks (S.told out.old) (S.told out.new) (concat (map (λ p. p.now) parts.now))) }
+{
+    for part in parts {
+        write_exe(*part, out)?;
     }
     Ok(())
 }

@@ -4,7 +4,6 @@ use Rattle.commands.proofs.build.read_all.Given as goal
 
 abbrev pub invariant-loop-path : goal.invariant-loop-path
 invariant-loop-path g l = record {
-  held : AllHold (g.D.Disk.files l.fn.disk) (map (λ (p : Bor (List ℕ)). p.now) (take l.path-index l.paths)) (map (λ t. t.items) l.texts.items);
-  files : g.D.Disk.files l.disk ≡ g.D.Disk.files l.fn.disk;
-  faults : g.D.Disk.faults l.disk ≡ g.D.Disk.faults l.fn.disk;
+  held : AllHold (g.D.Disk.told l.fn.disk).files (map (λ (p : Bor (List ℕ)). p.now) (take l.path-index l.paths)) (map (λ t. t.items) l.texts.items);
+  same : g.D.Disk.told l.disk ≡ g.D.Disk.told l.fn.disk;
 }

@@ -1,8 +1,8 @@
 use Rattle.std.proofs.Common.{map, take}
+use Rattle.std.specs.List.{concat}
 use Rattle.std.specs.String.{string_bytes}
-use Rattle.shell.specs.Sink.{Went}
-use Rattle.commands.specs.Parts.{all_bytes}
+use Rattle.shell.specs.Sink.{Sends}
 use Rattle.commands.proofs.disassemble.put_lines.Given as goal
 
 abbrev pub invariant-loop-line : goal.invariant-loop-line
-invariant-loop-line g l = Went (g.O.Sink.held l.fn.out) (g.O.Sink.held l.out) (all_bytes (map string_bytes (take l.line-index l.lines)))
+invariant-loop-line g l = Sends (g.O.Sink.told l.fn.out) (g.O.Sink.told l.out) (concat (map string_bytes (take l.line-index l.lines)))

@@ -1,0 +1,150 @@
+//! The lines of failures, written without taking memory.
+ghost use Rattle.std.specs.Prelude.{◌≡◌, ◌<◌, false, map};
+ghost use Rattle.std.specs.List.{concat};
+ghost use Rattle.std.specs.Fmt.{digit_glyph};
+ghost use Rattle.shell.specs.Sink.{Tells};
+ghost use Rattle.commands.specs.Messages.{file_number, line_of, refusal_parts, sixteen_digits};
+
+use crate::failure::Failure;
+use crate::refusal::Refusal;
+use elf_file::LoadError;
+use itoa::Buffer;
+use shell::sink::Sink;
+use shell::write_exe::{write_exe, write_parts};
+
+/// The character of a hexadecimal digit.
+fn digit(value: u64) -> u8
+    requires { value < 16 }
+    ensures { result ≡ digit_glyph false value }
+{
+    if value < 10 {
+        b'0' + value as u8
+    } else {
+        b'a' - 10 + value as u8
+    }
+}
+
+/// A number as sixteen hexadecimal digits.
+fn sixteen_digits(number: u64) -> [u8; 16]
+    ensures { result ≡ sixteen_digits number }
+{
+    let mut digits = [0; 16];
+    for place in 0..16 {
+        digits[place] = digit(number >> (60 - 4 * place) & 0xf);
+    }
+    digits
+}
+
+/// The number of a file's refusal.
+fn file_number(error: LoadError) -> &'static str
+    ensures { result.now ≡ file_number error }
+{
+    match error {
+        LoadError::CutOff => "L1",
+        LoadError::OtherKind => "L2",
+        LoadError::OutOfRange => "L3",
+        LoadError::Misplaced => "L4",
+        LoadError::BadEntry => "L5",
+        LoadError::Memory => "L6",
+    }
+}
+
+/// Writes these bytes, as far as standard error takes them.
+pub(crate) fn tell_bytes<E: Sink>(bytes: &[u8], err: &mut E)
+    ensures { Tells (E.told err.old) (E.told err.new) bytes.now }
+{
+    let _ = write_exe(bytes, err);
+}
+
+/// Writes these parts, one after another, as far as standard error takes them.
+fn tell_parts<E: Sink>(parts: &[&[u8]], err: &mut E)
+    ensures { Tells (E.told err.old) (E.told err.new) (concat (map (λ p. p.now) parts.now)) }
+{
+    let _ = write_parts(parts, err);
+}
+
+fn tell_refusal<E: Sink>(refusal: &Refusal, err: &mut E)
+    ensures { Tells (E.told err.old) (E.told err.new) (concat (refusal_parts refusal.now)) }
+{
+    let mut first = Buffer::new();
+    let mut second = Buffer::new();
+    let mut third = Buffer::new();
+    match refusal {
+        Refusal::Syntax { text, line } => {
+            let text = first.format(*text);
+            let line = second.format(*line);
+            tell_parts(
+                &[
+                    b"qbec: refused E1 text ",
+                    text.as_bytes(),
+                    b" line ",
+                    line.as_bytes(),
+                    b"\n",
+                ],
+                err,
+            )
+        }
+        Refusal::Rule { rule, text, line } => {
+            let rule = first.format(*rule);
+            let text = second.format(*text);
+            let line = third.format(*line);
+            tell_parts(
+                &[
+                    b"qbec: refused E2 C",
+                    rule.as_bytes(),
+                    b" text ",
+                    text.as_bytes(),
+                    b" line ",
+                    line.as_bytes(),
+                    b"\n",
+                ],
+                err,
+            )
+        }
+        Refusal::UnknownName(name) => tell_parts(
+            &[b"qbec: refused E3 $", name.as_slice(), b"\n"],
+            err,
+        ),
+        Refusal::ExportedTwice(name) => tell_parts(
+            &[b"qbec: refused E4 $", name.as_slice(), b"\n"],
+            err,
+        ),
+        Refusal::NoMain => tell_parts(&[b"qbec: refused E5\n"], err),
+        Refusal::Limit => tell_parts(&[b"qbec: refused E6\n"], err),
+        Refusal::Memory => tell_parts(&[b"qbec: refused E7\n"], err),
+        Refusal::Words => tell_parts(&[b"qbec: refused E8\n"], err),
+        Refusal::File(error) => tell_parts(
+            &[b"qbec: refused ", file_number(*error).as_bytes(), b"\n"],
+            err,
+        ),
+    }
+}
+
+/// Writes the line of a failure to standard error, or a beginning of it where that fails.
+pub fn tell<E: Sink>(failure: &Failure<'_>, err: &mut E)
+    ensures { Tells (E.told err.old) (E.told err.new) (line_of failure.now) }
+{
+    match failure {
+        Failure::Halt => tell_parts(&[b"qbec: halt\n"], err),
+        Failure::Limit => tell_parts(&[b"qbec: limit\n"], err),
+        Failure::Fault { number, pc } => {
+            let mut buffer = Buffer::new();
+            let number = buffer.format(*number);
+            let digits = sixteen_digits(*pc);
+            tell_parts(
+                &[b"qbec: fault F", number.as_bytes(), b" at ", &digits, b"\n"],
+                err,
+            )
+        }
+        Failure::Undefined => tell_parts(&[b"qbec: undefined\n"], err),
+        Failure::Stack => tell_parts(&[b"qbec: stack\n"], err),
+        Failure::Memory => tell_parts(&[b"qbec: memory\n"], err),
+        Failure::Refused(refusal) => tell_refusal(refusal, err),
+        Failure::Unread(path) => tell_parts(&[b"qbec: cannot read ", path.as_bytes(), b"\n"], err),
+        Failure::Unwritten(path) => tell_parts(
+            &[b"qbec: cannot write ", path.as_bytes(), b"\n"],
+            err,
+        ),
+        Failure::Output => tell_parts(&[b"qbec: cannot write standard output\n"], err),
+    }
+}
