@@ -3,7 +3,7 @@ use Rattle.std.proofs.Common.{◌≡◌, ℕ, Bool, true, false, cond, eqb, List
 use Rattle.phi_copies.specs.Moves.{after, DoesAtOnce}
 use Rattle.phi_copies.specs.declared.moves.Move.{Move}
 
-after_agree : {X : Type 0} (f g : ℕ → X) (ms : List Move) (p : ℕ) → ((q : ℕ) → f q ≡ g q) → after f ms p ≡ after g ms p
+pub after_agree : {X : Type 0} (f g : ℕ → X) (ms : List Move) (p : ℕ) → ((q : ℕ) → f q ≡ g q) → after f ms p ≡ after g ms p
 after_agree f g [] p same = same p
 after_agree f g (m ∷ ms) p same =
     after_agree (λ q. cond (eqb q m.to) (f m.from) (f q)) (λ q. cond (eqb q m.to) (g m.from) (g q)) ms p

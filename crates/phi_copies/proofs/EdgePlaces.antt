@@ -9,9 +9,10 @@ use Rattle.il_ast.specs.declared.block.Block.{Block}
 use Rattle.il_ast.specs.declared.function.Func.{Func}
 use Rattle.il_ast.specs.Mentions.{come_after, temps_of, temps_in_block, temps_in_phi}
 use Rattle.phi_copies.specs.declared.ending.Ending.{Ending}
-use Rattle.phi_copies.specs.Lowered.{phis_before, block_edges, all_edges, block_ending, all_endings}
+use Rattle.phi_copies.specs.Copies.{phis_before}
+use Rattle.phi_copies.specs.Lowered.{Edge, block_edges, all_edges, IsBlockEnding, AreEndings, IsOnEdge, AreOnEdges}
 use Rattle.phi_copies.proofs.MoreKnown.{get_more}
-use Rattle.phi_copies.proofs.TwoRounds.{get_past, AllBelow}
+use Rattle.phi_copies.proofs.Lists.{get_past}
 
 -- ---- temporaries
 
@@ -51,6 +52,11 @@ block_less n (c ∷ blocks) zero b at h =
     let e : c ≡ b = cc in subst (λ x. AllLess n (temps_in_block x)) e (less_left n (temps_in_block c) (flat_map temps_in_block blocks) h)
 block_less n (c ∷ blocks) (suc k) b at h = block_less n blocks k b at (less_right n (temps_in_block c) (flat_map temps_in_block blocks) h)
 
+-- the temporaries that phis assign are numbered below n
+abbrev pub AllBelow : ℕ → List Phi → Type 0
+AllBelow n [] = Unit {0}
+AllBelow n (p ∷ ps) = (p.to.temp < n) × AllBelow n ps
+
 phis_less : (n : ℕ) (phis : List Phi) → AllLess n (flat_map temps_in_phi phis) → AllBelow n phis
 phis_less n [] h = tt
 phis_less n (p ∷ phis) h = (h.0, phis_less n phis (less_right n (temps_in_phi p) (flat_map temps_in_phi phis) h))
@@ -85,30 +91,52 @@ edges_before f [] k = 0
 edges_before f (b ∷ blocks) zero = 0
 edges_before f (b ∷ blocks) (suc k) = length (block_edges f b) + edges_before f blocks k
 
-ending_from : (f : Func) (n : ℕ) (blocks : List Block) (k : ℕ) (b : Block) → slice_get blocks k ≡ Some b → slice_get (all_endings f n blocks) k ≡ Some (block_ending f (n + edges_before f blocks k) b)
-ending_from f n [] k b at = absurd (let no : ⊥ = cc in no)
-ending_from f n (c ∷ blocks) zero b at =
-    let e : c ≡ b = cc in
+-- the ending of a block
+pub record EndingAt (f : Func) (n : ℕ) (b : Block) (es : List Ending) (k : ℕ) : Type 0 where
+  pub ending : Ending
+  pub here : slice_get es k ≡ Some ending
+  pub is : IsBlockEnding f n b ending
+
+ending_from : (f : Func) (n : ℕ) (blocks : List Block) (es : List Ending) (k : ℕ) (b : Block) → AreEndings f n blocks es → slice_get blocks k ≡ Some b → EndingAt f (n + edges_before f blocks k) b es k
+ending_from f n [] es k b are at = absurd (let no : ⊥ = cc in no)
+ending_from f n (c ∷ blocks) [] k b are at = absurd are
+ending_from f n (c ∷ blocks) (e ∷ es) zero b are at =
+    let same : c ≡ b = cc in
     let none : n ≡ n + 0 = omega arith in
-    ap (λ x. Some (block_ending f n x)) e ∙ ap (λ m. Some (block_ending f m b)) none
-ending_from f n (c ∷ blocks) (suc k) b at =
-    let e : n + length (block_edges f c) + edges_before f blocks k ≡ n + (length (block_edges f c) + edges_before f blocks k) = omega arith in
-    ending_from f (n + length (block_edges f c)) blocks k b at ∙ ap (λ m. Some (block_ending f m b)) e
+    record { ending = e; here = refl; is = subst (λ m. IsBlockEnding f m b e) none (subst (λ x. IsBlockEnding f n x e) same are.0) }
+ending_from f n (c ∷ blocks) (e ∷ es) (suc k) b are at =
+    let sum : n + length (block_edges f c) + edges_before f blocks k ≡ n + (length (block_edges f c) + edges_before f blocks k) = omega arith in
+    let r = ending_from f (n + length (block_edges f c)) blocks es k b are.1 at in
+    record { ending = r.ending; here = r.here; is = subst (λ m. IsBlockEnding f m b r.ending) sum r.is }
 
-pub ending_at : (f : Func) (k : ℕ) (b : Block) → slice_get f.blocks k ≡ Some b → slice_get (all_endings f 0 f.blocks) k ≡ Some (block_ending f (edges_before f f.blocks k) b)
-ending_at f k b at =
-    let e : 0 + edges_before f f.blocks k ≡ edges_before f f.blocks k = omega arith in
-    ending_from f 0 f.blocks k b at ∙ ap (λ m. Some (block_ending f m b)) e
+pub ending_at : (f : Func) (es : List Ending) (k : ℕ) (b : Block) → AreEndings f 0 f.blocks es → slice_get f.blocks k ≡ Some b → EndingAt f (edges_before f f.blocks k) b es k
+ending_at f es k b are at =
+    let none : 0 + edges_before f f.blocks k ≡ edges_before f f.blocks k = omega arith in
+    subst (λ m. EndingAt f m b es k) none (ending_from f 0 f.blocks es k b are at)
 
-pub edge_at : (f : Func) (blocks : List Block) (k j : ℕ) (b : Block) (e : Ending) → slice_get blocks k ≡ Some b → slice_get (block_edges f b) j ≡ Some e → slice_get (all_edges f blocks) (edges_before f blocks k + j) ≡ Some e
-edge_at f [] k j b e at here = absurd (let no : ⊥ = cc in no)
-edge_at f (c ∷ blocks) zero j b e at here =
+-- the ending on an edge
+pub record OnEdgeAt (f : Func) (w : Edge) (es : List Ending) (k : ℕ) : Type 0 where
+  pub ending : Ending
+  pub here : slice_get es k ≡ Some ending
+  pub is : IsOnEdge f w ending
+
+pub on_edge_at : (f : Func) (ws : List Edge) (es : List Ending) (k : ℕ) (w : Edge) → AreOnEdges f ws es → slice_get ws k ≡ Some w → OnEdgeAt f w es k
+on_edge_at f [] es k w are at = absurd (let no : ⊥ = cc in no)
+on_edge_at f (x ∷ ws) [] k w are at = absurd are
+on_edge_at f (x ∷ ws) (e ∷ es) zero w are at =
+    let same : x ≡ w = cc in record { ending = e; here = refl; is = subst (λ y. IsOnEdge f y e) same are.0 }
+on_edge_at f (x ∷ ws) (e ∷ es) (suc k) w are at =
+    let r = on_edge_at f ws es k w are.1 at in record { ending = r.ending; here = r.here; is = r.is }
+
+pub edge_at : (f : Func) (blocks : List Block) (k j : ℕ) (b : Block) (w : Edge) → slice_get blocks k ≡ Some b → slice_get (block_edges f b) j ≡ Some w → slice_get (all_edges f blocks) (edges_before f blocks k + j) ≡ Some w
+edge_at f [] k j b w at here = absurd (let no : ⊥ = cc in no)
+edge_at f (c ∷ blocks) zero j b w at here =
     let same : c ≡ b = cc in
     let none : 0 + j ≡ j = omega arith in
     ap (slice_get (block_edges f c ++ all_edges f blocks)) none
-    ∙ get_more (block_edges f c) (all_edges f blocks) j e (ap (λ x. slice_get (block_edges f x) j) same ∙ here)
-edge_at f (c ∷ blocks) (suc k) j b e at here =
+    ∙ get_more (block_edges f c) (all_edges f blocks) j w (ap (λ x. slice_get (block_edges f x) j) same ∙ here)
+edge_at f (c ∷ blocks) (suc k) j b w at here =
     let past : length (block_edges f c) + edges_before f blocks k + j ≡ length (block_edges f c) + (edges_before f blocks k + j) = omega arith in
     ap (slice_get (block_edges f c ++ all_edges f blocks)) past
     ∙ get_past (block_edges f c) (all_edges f blocks) (edges_before f blocks k + j)
-    ∙ edge_at f blocks k j b e at here
+    ∙ edge_at f blocks k j b w at here

@@ -7,7 +7,7 @@ use Rattle.il_types.specs.declared.rule.Rule.TheVariants.{PhiCoversPredecessors}
 use Rattle.il_types.specs.Arguments.{are_all_distinct}
 use Rattle.il_types.proofs.ArgumentLemmas.{block_distinct}
 use Rattle.phi_copies.specs.Good.{IsGoodFunction}
-use Rattle.phi_copies.specs.Lowered.{phis_of, phis_at}
+use Rattle.phi_copies.specs.Copies.{phis_of, phis_at}
 
 -- the phis of the block at a place
 pub good_distinct : (f : Func) (k : ℕ) → IsGoodFunction f → are_all_distinct (phis_at f.blocks k) ≡ true

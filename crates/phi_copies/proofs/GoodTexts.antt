@@ -1,9 +1,7 @@
 -- A function of a good text is such as can be lowered.
-use Rattle.std.proofs.Common.{◌≡◌, ℕ, ◌<◌, ◌*◌, ◌^◌, Bool, true, false, ◌&&◌, nat_lt, nat_le, List, [], ◌∷◌, length, refl, sym, ◌∙◌, ap}
+use Rattle.std.proofs.Common.{◌≡◌, ℕ, ◌*◌, ◌^◌, Bool, true, false, ◌&&◌, nat_le, List, [], ◌∷◌, refl, sym, ◌∙◌, ap}
 use Rattle.std.specs.Prelude.{zero, suc, slice_get, Option, Some, None}
 use Rattle.std.specs.List.{list_all}
-use Rattle.il_ast.specs.declared.block.Phi.{Phi}
-use Rattle.il_ast.specs.declared.block.Block.{Block}
 use Rattle.il_ast.specs.declared.function.Func.{Func}
 use Rattle.il_ast.specs.declared.text.Definition.{Definition}
 use Rattle.il_ast.specs.declared.text.Definition.TheVariants.{Function}

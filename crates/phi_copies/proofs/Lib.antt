@@ -8,7 +8,12 @@ pub mod Counting
 pub mod EdgePlaces
 pub mod EntryNumbers
 pub mod GoodTexts
+pub mod Lists
 pub mod Lowering
+pub mod Members
 pub mod MoreKnown
 pub mod PlaceTable
-pub mod TwoRounds
+pub mod Running
+pub mod Staged
+pub mod PhiRules
+pub mod EntryCopies

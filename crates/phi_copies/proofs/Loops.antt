@@ -291,6 +291,7 @@ sequence_starts ms scratch distinct = record {
     selves = λ i l e. same_self ms i l e;
     size = length-map ms (λ m. eqb m.to m.from);
     between = All-nil (IsBetween ms scratch);
+    reads = tt;
   };
   few = omega (arith, proper ms);
   same = refl;

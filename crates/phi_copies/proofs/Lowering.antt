@@ -1,9 +1,9 @@
 -- A lowered function takes each turn of the function's body.
-use Rattle.std.proofs.Common.{◌≡◌, ℕ, zero, suc, ◌+◌, ◌-◌, ◌%◌, ◌^◌, ◌<◌, ◌≤◌, Bool, true, false, cond, nat_eq, nat_lt, List, [], ◌∷◌, ◌++◌, length, replicate, refl, sym, ◌∙◌, ap, subst, arith}
+use Rattle.std.proofs.Common.{◌≡◌, ℕ, zero, suc, ◌+◌, ◌-◌, ◌%◌, ◌^◌, ◌<◌, ◌≤◌, Bool, true, false, cond, nat_eq, nat_lt, List, [], ◌∷◌, ◌++◌, length, replicate, take, drop, refl, sym, ◌∙◌, ap, subst, arith}
 use Rattle.std.specs.Prelude.{slice_get, slice_set, Option, Some, None}
 use Rattle.std.specs.Option.{option_and_then}
 use Rattle.std.proofs.lemmas.Bool.Decides.{nat_tests}
-use Rattle.std.proofs.lemmas.List.{length-set, length-replicate, replicate-append-replicate}
+use Rattle.std.proofs.lemmas.List.{length-set, length-append, length-replicate, replicate-append-replicate}
 use Rattle.std.proofs.lemmas.Option.{slice_get_past, slice_get_within}
 use Rattle.il_ast.specs.declared.operation.Class.{Class}
 use Rattle.il_ast.specs.declared.operation.Class.TheVariants.{W}
@@ -29,15 +29,16 @@ use Rattle.il_ast.specs.Logged.{Next, On, Over, Event, Does, Calls}
 use Rattle.il_ast.specs.Keeps.{Asked, Given}
 use Rattle.il_ast.specs.Simulation.{Leads, ComesTo, Receives, Resumes, TakesTurn, Takes, TakesTurns}
 use Rattle.il_ast.proofs.TurnsLogged.{turns_keep, both_assoc}
-use Rattle.phi_copies.specs.declared.ending.Leave.TheVariants.{Goto as GotoBlock, Halt as HaltRun}
+use Rattle.phi_copies.specs.declared.ending.Leave.TheVariants.{Goto as GotoBlock, Branch as BranchTo, Return as ReturnWith, Halt as HaltRun}
 use Rattle.phi_copies.specs.declared.ending.Ending.{Ending}
-use Rattle.phi_copies.specs.Endings.{State, begin, weighs, receives, resumes, goes_on, in_turn, copied, branches, returns, returns_in, leaves, copies_and_leaves, after_mark, marked, ends, block_step, step_in, step}
-use Rattle.phi_copies.specs.Lowered.{or_zero, target, phis_of, phis_at, phis_before, copies_of, entry_copies, edge_with, edge, past_edge, branch_target, jump_edges, end_edges, one_turn_ending, jump_ending, end_ending, block_edges, all_edges, block_ending, lowered, straight_if, straight}
+use Rattle.phi_copies.specs.Endings.{Endings, State, begin, weighs, receives, resumes, goes_on, in_turn, copied, branches, returns, returns_in, leaves, copies_and_leaves, after_mark, marked, ends, block_step, step_in, step}
+use Rattle.phi_copies.specs.Copies.{phis_of, phis_at, AreCopies}
+use Rattle.phi_copies.specs.Lowered.{or_zero, target, Edge, edge_with, edge, past_edge, branch_target, jump_edges, end_edges, one_turn_ending, block_edges, all_edges, IsJumpEnding, IsEndEnding, IsOnEdge, IsLowered, straight_if, straight}
 use Rattle.il_ast.specs.Passes.{classes_of}
 use Rattle.phi_copies.specs.Keeping.{KeepsFunction}
 use Rattle.phi_copies.proofs.MoreKnown.{operand_less, behind, set_both, length_behind, Follows, locals, inst_follows}
-use Rattle.phi_copies.proofs.TwoRounds.{get_past, length_with_phis, AllBelow, copies_done}
-use Rattle.phi_copies.proofs.EdgePlaces.{phis_below, phis_counted, edges_before, ending_at, edge_at}
+use Rattle.phi_copies.proofs.Lists.{get_past, take_own, parts_of, length_drop, mapped, length_copied, length_with_phis}
+use Rattle.phi_copies.proofs.EdgePlaces.{edges_before, ending_at, on_edge_at, edge_at}
 
 -- ---- related states
 
@@ -75,11 +76,13 @@ turn_missing i t e left = ap (λ b. cond b e (Does (Over (Ended t.spent Turns)))
 -- all that stays fixed
 record Setting : Type 0 where
   func : Func
+  code : Endings
+  is : IsLowered func code
   globals : List Value
   given : Given
 
 abbrev go : Setting → State → Event State Asked Outcome
-go c = step c.globals c.func (lowered c.func) c.given
+go c = step c.globals c.func c.code c.given
 
 abbrev env : Setting → Env
 env c = record { func = c.func; globals = c.globals }
@@ -87,23 +90,22 @@ env c = record { func = c.func; globals = c.globals }
 abbrev Rel : Setting → Activation → Memory → Spent → State → Type 0
 Rel c = Related c.func
 
-in_block : (c : Setting) (t : State) (b : Block) → slice_get c.func.blocks t.block ≡ Some b → go c t ≡ block_step c.globals c.func (lowered c.func) c.given t (slice_get b.insts t.next)
+in_block : (c : Setting) (t : State) (b : Block) → slice_get c.func.blocks t.block ≡ Some b → go c t ≡ block_step c.globals c.func c.code c.given t (slice_get b.insts t.next)
 unfolding step
-in_block c t b e = ap (step_in c.globals c.func (lowered c.func) c.given t) e
+in_block c t b e = ap (step_in c.globals c.func c.code c.given t) e
 
-past_blocks : (c : Setting) (t : State) → slice_get c.func.blocks t.block ≡ None → go c t ≡ ends c.globals c.func.result c.given t (slice_get (all_edges c.func c.func.blocks) (t.block - length c.func.blocks))
-unfolding step lowered
-past_blocks c t e = ap (step_in c.globals c.func (lowered c.func) c.given t) e
+past_blocks : (c : Setting) (t : State) → slice_get c.func.blocks t.block ≡ None → go c t ≡ ends c.globals c.func.result c.given t (slice_get c.code.edges (t.block - length c.func.blocks))
+unfolding step
+past_blocks c t e = ap (step_in c.globals c.func c.code c.given t) e
 
 at_inst : (c : Setting) (t : State) (b : Block) (i : Lined Inst) → slice_get c.func.blocks t.block ≡ Some b → slice_get b.insts t.next ≡ Some i → go c t ≡ in_turn c.given t (goes_on c.given t (inst_effect c.globals t.locals t.memory i.item))
-at_inst c t b i e f = in_block c t b e ∙ ap (block_step c.globals c.func (lowered c.func) c.given t) f
+at_inst c t b i e f = in_block c t b e ∙ ap (block_step c.globals c.func c.code c.given t) f
 
-at_ending : (c : Setting) (t : State) (b : Block) → slice_get c.func.blocks t.block ≡ Some b → slice_get b.insts t.next ≡ None → go c t ≡ ends c.globals c.func.result c.given t (Some (block_ending c.func (edges_before c.func c.func.blocks t.block) b))
-unfolding lowered
-at_ending c t b e f =
-    in_block c t b e
-    ∙ ap (block_step c.globals c.func (lowered c.func) c.given t) f
-    ∙ ap (ends c.globals c.func.result c.given t) (ending_at c.func t.block b e)
+at_ending : (c : Setting) (t : State) (b : Block) (e : Ending) → slice_get c.func.blocks t.block ≡ Some b → slice_get b.insts t.next ≡ None → slice_get c.code.endings t.block ≡ Some e → go c t ≡ ends c.globals c.func.result c.given t (Some e)
+at_ending c t b e here none ending =
+    in_block c t b here
+    ∙ ap (block_step c.globals c.func c.code c.given t) none
+    ∙ ap (ends c.globals c.func.result c.given t) ending
 
 one_step : (c : Setting) (t : State) (z : Next State Outcome) → go c t ≡ Does z → Leads (go c) 1 (On t) z
 one_step c t z e = (t, refl, (z, e, refl))
@@ -187,26 +189,27 @@ record EntryDone (c : Setting) (a : Activation) (m : Memory) (s : Spent) (extra 
   long : length more ≡ phi_count c.func
   goes : after_mark c.globals c.func.result (at a m s extra) e ≡ Does (On (at (into a k b.phis vs) m s more))
 
-entry_done : (c : Setting) (a : Activation) (m : Memory) (s : Spent) (extra : List (Option Value)) (from l k : ℕ) (b : Block) (vs : List Value) (e : Ending) → length extra ≡ phi_count c.func → length a.locals.temps ≡ length c.func.temps → Enters c a from l k b vs → e.copies ≡ entry_copies c.func from k → e.leave ≡ GotoBlock k → EntryDone c a m s extra k b vs e
+entry_done : (c : Setting) (a : Activation) (m : Memory) (s : Spent) (extra : List (Option Value)) (from l k : ℕ) (b : Block) (vs : List Value) (e : Ending) → length extra ≡ phi_count c.func → length a.locals.temps ≡ length c.func.temps → Enters c a from l k b vs → AreCopies c.func from k e.copies → e.leave ≡ GotoBlock k → EntryDone c a m s extra k b vs e
 entry_done c a m s extra from l k b vs e long own enters copies leave =
-    let blocks = c.func.blocks in
     let xs = a.locals.temps in
-    let d = phis_before blocks k in
-    let n = length c.func.temps + d in
-    let counted = phis_counted blocks k b enters.here in
-    let first : n ≡ length xs + d = omega (arith, own) in
-    let fits : d + length b.phis ≤ length extra = omega (arith, counted, long) in
-    let below = subst (λ j. AllBelow j b.phis) (sym own) (phis_below c.func k b enters.here) in
-    let r = copies_done c.globals xs extra from d b.phis vs n first fits below enters.values in
-    let phis : phis_at blocks k ≡ b.phis = ap phis_of enters.here in
-    let done : copied c.globals (xs ++ extra) e.copies ≡ Some (with_phis xs b.phis vs ++ r.extra) =
-    ap (copied c.globals (xs ++ extra)) (copies ∙ ap (copies_of from n) phis) ∙ r.done in
+    let n = length c.func.temps in
+    let mine : take n (xs ++ extra) ≡ xs = take_own xs extra n (sym own) in
+    let phis : phis_at c.func.blocks k ≡ b.phis = ap phis_of enters.here in
+    let all : length (xs ++ extra) ≡ n + phi_count c.func = length-append xs extra ∙ ap (λ j. j + length extra) own ∙ ap (λ j. n + j) long in
+    let values : phi_values c.globals (take n (xs ++ extra)) from (phis_at c.func.blocks k) ≡ Some vs =
+    ap (λ ts. phi_values c.globals ts from (phis_at c.func.blocks k)) mine ∙ ap (phi_values c.globals xs from) phis ∙ enters.values in
+    let r = mapped (take n) (copied c.globals (xs ++ extra) e.copies) _ (copies.at_once c.globals (xs ++ extra) vs all values) in
+    let now : take n r.item ≡ with_phis xs b.phis vs = r.to ∙ ap (λ ts. with_phis ts (phis_at c.func.blocks k) vs) mine ∙ ap (λ ps. with_phis xs ps vs) phis in
+    let many = length_copied c.globals (xs ++ extra) r.item e.copies r.is in
+    let rest = length_drop n r.item in
+    let done : copied c.globals (xs ++ extra) e.copies ≡ Some (with_phis xs b.phis vs ++ drop n r.item) =
+    r.is ∙ ap Some (parts_of n r.item) ∙ ap (λ ts. Some (ts ++ drop n r.item)) now in
     record {
-      more = r.extra;
-      long = r.long ∙ long;
+      more = drop n r.item;
+      long = omega (arith, rest, many, all);
       goes =
           ap (λ o. copies_and_leaves c.globals c.func.result (at a m s extra) e.leave o) done
-          ∙ ap (leaves c.globals c.func.result (at (record a { locals = record a.locals { temps = with_phis xs b.phis vs } }) m s r.extra)) leave;
+          ∙ ap (leaves c.globals c.func.result (at (record a { locals = record a.locals { temps = with_phis xs b.phis vs } }) m s (drop n r.item))) leave;
     }
 
 inside_at : (blocks : List Block) (k : ℕ) (b : Block) → slice_get blocks k ≡ Some b → k < length blocks
@@ -268,27 +271,35 @@ ends_turn c n a m s extra e due turn goes =
     ∙ ap (marked c.given c.globals c.func.result t e) turn
     ∙ turn_taken c.given t (after_mark c.globals c.func.result (at a m (both s (one_turn e.weight)) extra) e) n due.left
 
-goto_taken : (c : Setting) (n : ℕ) (a : Activation) (m : Memory) (s : Spent) (extra : List (Option Value)) (from number l : ℕ) → Due c n a m s extra → go c (at a m s extra) ≡ ends c.globals c.func.result c.given (at a m s extra) (Some (jump_ending c.func from number (Goto l))) → TakesTurn (Rel c) (go c) c.given.room n m s (at a m s extra) (enter (env c) from a.locals m l)
-goto_taken c n a m s extra from number l due goes =
-    let e = jump_ending c.func from number (Goto l) in
+-- the block that is due ends so
+abbrev EndsWith : Setting → Activation → Memory → Spent → List (Option Value) → Ending → Type 0
+EndsWith c a m s extra e = go c (at a m s extra) ≡ ends c.globals c.func.result c.given (at a m s extra) (Some e)
+
+goto_taken : (c : Setting) (n : ℕ) (a : Activation) (m : Memory) (s : Spent) (extra : List (Option Value)) (from number l : ℕ) → Due c n a m s extra → (e : Ending) → IsJumpEnding c.func from number (Goto l) e → EndsWith c a m s extra e → TakesTurn (Rel c) (go c) c.given.room n m s (at a m s extra) (enter (env c) from a.locals m l)
+goto_taken c n a m s extra from number l due e is goes =
     let blocks = c.func.blocks in
+    let copies = e.copies in
+    let now : Ending = record { turn = true; weight = 1 + length (phis_at blocks (target blocks l)); copies = copies; leave = GotoBlock (target blocks l) } in
     enter_taken c n a m s (at a m s extra) from l
     (λ k b vs enters.
     let here : target blocks l ≡ k = ap or_zero enters.place in
     let phis : length (phis_at blocks (target blocks l)) ≡ length b.phis = ap (λ j. length (phis_at blocks j)) here ∙ ap (λ o. length (phis_of o)) enters.here in
-    entry_comes c (at a m s extra) a m (both s (one_turn e.weight)) (both s (one_turn (1 + length b.phis))) extra from l k b vs e due.own enters
-    (entry_done c a m (both s (one_turn e.weight)) extra from l k b vs e due.long due.own enters (ap (entry_copies c.func from) here) (ap GotoBlock here))
-    (ends_turn c n a m s extra e due refl goes)
+    entry_comes c (at a m s extra) a m (both s (one_turn now.weight)) (both s (one_turn (1 + length b.phis))) extra from l k b vs now due.own enters
+    (entry_done c a m (both s (one_turn now.weight)) extra from l k b vs now due.long due.own enters (subst (λ j. AreCopies c.func from j copies) here is.1) (ap GotoBlock here))
+    (ends_turn c n a m s extra now due refl (subst (EndsWith c a m s extra) is.0 goes))
     (ap (λ w. both s (one_turn (1 + w))) phis))
 
 -- ---- edges
 
--- the edge for these phis has this number
+-- the ending that has this number, for a block with phis
+record EdgeAt (c : Setting) (from number k : ℕ) : Type 0 where
+  ending : Ending
+  here : slice_get c.code.edges number ≡ Some ending
+  is : IsOnEdge c.func (record { from = from; to = k }) ending
+
 abbrev HasEdge : Setting → (from number k : ℕ) → List Phi → Type 0
 HasEdge c from number k [] = Unit {0}
-HasEdge c from number k (p ∷ ps) =
-    slice_get (all_edges c.func c.func.blocks) number
-    ≡ Some (record { turn = false; weight = length (p ∷ ps); copies = entry_copies c.func from k; leave = GotoBlock k })
+HasEdge c from number k (p ∷ ps) = EdgeAt c from number k
 
 -- the way past the edge, if there is one
 edge_comes : (c : Setting) (a : Activation) (m : Memory) (s : Spent) (extra : List (Option Value)) (from number l k : ℕ) (b : Block) (vs : List Value) → length extra ≡ phi_count c.func → length a.locals.temps ≡ length c.func.temps → Enters c a from l k b vs → (phis : List Phi) → b.phis ≡ phis → HasEdge c from number k phis → ComesTo (Rel c) (go c) (On (at (record { block = past_edge c.func number k phis; next = 0; locals = a.locals }) m (both s (one_turn 1)) extra)) (into a k b.phis vs) m (both s (one_turn (1 + length b.phis)))
@@ -299,19 +310,21 @@ edge_comes c a m s extra from number l k b vs long own enters [] e has =
 edge_comes c a m s extra from number l k b vs long own enters (p ∷ ps) e has =
     let u : Activation = record { block = length c.func.blocks + number; next = 0; locals = a.locals } in
     let t = at u m (both s (one_turn 1)) extra in
-    let edge_is : Ending = record { turn = false; weight = length (p ∷ ps); copies = entry_copies c.func from k; leave = GotoBlock k } in
-    let z = both (both s (one_turn 1)) (weighs (length (p ∷ ps))) in
+    let many = length (phis_at c.func.blocks k) in
+    let copies = has.ending.copies in
+    let now : Ending = record { turn = false; weight = many; copies = copies; leave = GotoBlock k } in
+    let z = both (both s (one_turn 1)) (weighs many) in
     let behind_all : slice_get c.func.blocks (length c.func.blocks + number) ≡ None = slice_get_past c.func.blocks (length c.func.blocks + number) (omega arith) in
     let which : length c.func.blocks + number - length c.func.blocks ≡ number = omega arith in
-    let goes : go c t ≡ after_mark c.globals c.func.result (at u m z extra) edge_is =
+    let goes : go c t ≡ after_mark c.globals c.func.result (at u m z extra) now =
     past_blocks c t behind_all
-    ∙ ap (λ j. ends c.globals c.func.result c.given t (slice_get (all_edges c.func c.func.blocks) j)) which
-    ∙ ap (ends c.globals c.func.result c.given t) has in
+    ∙ ap (λ j. ends c.globals c.func.result c.given t (slice_get c.code.edges j)) which
+    ∙ ap (ends c.globals c.func.result c.given t) (has.here ∙ ap Some has.is.0) in
     let spends : z ≡ both s (one_turn (1 + length b.phis)) =
-    both_assoc s (one_turn 1) (weighs (length (p ∷ ps))) ∙ ap (λ (qs : List Phi). both s (one_turn (1 + length qs))) (sym e) in
-    entry_comes c t u m z (both s (one_turn (1 + length b.phis))) extra from l k b vs edge_is own
+    both_assoc s (one_turn 1) (weighs many) ∙ ap (λ (o : Option Block). both s (one_turn (1 + length (phis_of o)))) enters.here in
+    entry_comes c t u m z (both s (one_turn (1 + length b.phis))) extra from l k b vs now own
     (record { place = enters.place; here = enters.here; values = enters.values })
-    (entry_done c u m z extra from l k b vs edge_is long own (record { place = enters.place; here = enters.here; values = enters.values }) refl refl)
+    (entry_done c u m z extra from l k b vs now long own (record { place = enters.place; here = enters.here; values = enters.values }) has.is.1 refl)
     goes spends
 
 -- ---- branches
@@ -346,49 +359,56 @@ side_taken c n a m s extra from number l due has goes =
     (edge_comes c a m s extra from number l k b vs due.long due.own enters b.phis refl edge_is))
 
 -- the edges of a branch have their numbers
-first_edge : (c : Setting) (from number k : ℕ) (rest : List Ending) (phis : List Phi) → ((e : Ending) → slice_get (edge_with c.func from k phis ++ rest) 0 ≡ Some e → slice_get (all_edges c.func c.func.blocks) number ≡ Some e) → HasEdge c from number k phis
+number_has : (c : Setting) (from number k : ℕ) → slice_get (all_edges c.func c.func.blocks) number ≡ Some (record { from = from; to = k }) → EdgeAt c from number k
+number_has c from number k e =
+    let r = on_edge_at c.func (all_edges c.func c.func.blocks) c.code.edges number (record { from = from; to = k }) c.is.edges e in
+    record { ending = r.ending; here = r.here; is = r.is }
+
+first_edge : (c : Setting) (from number k : ℕ) (rest : List Edge) (phis : List Phi) → ((w : Edge) → slice_get (edge_with from k phis ++ rest) 0 ≡ Some w → slice_get (all_edges c.func c.func.blocks) number ≡ Some w) → HasEdge c from number k phis
 first_edge c from number k rest [] h = tt
-first_edge c from number k rest (p ∷ ps) h = h _ refl
+first_edge c from number k rest (p ∷ ps) h = number_has c from number k (h _ refl)
 
-second_edge : (c : Setting) (from number k : ℕ) (before : List Ending) (phis : List Phi) → ((e : Ending) → slice_get (before ++ edge_with c.func from k phis) (length before + 0) ≡ Some e → slice_get (all_edges c.func c.func.blocks) number ≡ Some e) → HasEdge c from number k phis
+second_edge : (c : Setting) (from number k : ℕ) (before : List Edge) (phis : List Phi) → ((w : Edge) → slice_get (before ++ edge_with from k phis) (length before + 0) ≡ Some w → slice_get (all_edges c.func c.func.blocks) number ≡ Some w) → HasEdge c from number k phis
 second_edge c from number k before [] h = tt
-second_edge c from number k before (p ∷ ps) h = h _ (get_past before (edge_with c.func from k (p ∷ ps)) 0)
+second_edge c from number k before (p ∷ ps) h = number_has c from number k (h _ (get_past before (edge_with from k (p ∷ ps)) 0))
 
-branch_taken : (c : Setting) (n : ℕ) (a : Activation) (m : Memory) (s : Spent) (extra : List (Option Value)) (b : Block) (j : Lined Jump) (on : Val) (nonzero otherwise : ℕ) → slice_get c.func.blocks a.block ≡ Some b → b.jump ≡ Some j → j.item ≡ Branch on nonzero otherwise → nat_eq nonzero otherwise ≡ false → Due c n a m s extra → go c (at a m s extra) ≡ ends c.globals c.func.result c.given (at a m s extra) (Some (jump_ending c.func b.label (edges_before c.func c.func.blocks a.block) (Branch on nonzero otherwise))) → TakesTurn (Rel c) (go c) c.given.room n m s (at a m s extra) (branched (env c) b.label a.locals m nonzero otherwise (operand c.globals a.locals.temps W on))
-branch_taken c n a m s extra b j on nonzero otherwise here jump item differ due goes =
+branch_taken : (c : Setting) (n : ℕ) (a : Activation) (m : Memory) (s : Spent) (extra : List (Option Value)) (b : Block) (j : Lined Jump) (on : Val) (nonzero otherwise : ℕ) → slice_get c.func.blocks a.block ≡ Some b → b.jump ≡ Some j → j.item ≡ Branch on nonzero otherwise → nat_eq nonzero otherwise ≡ false → Due c n a m s extra → (e : Ending) → IsJumpEnding c.func b.label (edges_before c.func c.func.blocks a.block) (Branch on nonzero otherwise) e → EndsWith c a m s extra e → TakesTurn (Rel c) (go c) c.given.room n m s (at a m s extra) (branched (env c) b.label a.locals m nonzero otherwise (operand c.globals a.locals.temps W on))
+branch_taken c n a m s extra b j on nonzero otherwise here jump item differ due e is goes =
     by_value (operand c.globals a.locals.temps W on) refl
   where
     edges : block_edges c.func b ≡ edge c.func b.label (target c.func.blocks nonzero) ++ edge c.func b.label (target c.func.blocks otherwise)
     edges = ap (end_edges c.func b.label) jump ∙ (ap (λ x. jump_edges c.func b.label (straight x)) item ∙ ap (λ q. jump_edges c.func b.label (straight_if q on nonzero otherwise)) differ)
 
-    stands : (i : ℕ) (e : Ending) → slice_get (edge c.func b.label (target c.func.blocks nonzero) ++ edge c.func b.label (target c.func.blocks otherwise)) i ≡ Some e → slice_get (all_edges c.func c.func.blocks) (edges_before c.func c.func.blocks a.block + i) ≡ Some e
-    stands i e h = edge_at c.func c.func.blocks a.block i b e here (ap (λ es. slice_get es i) edges ∙ h)
+    stands : (i : ℕ) (w : Edge) → slice_get (edge c.func b.label (target c.func.blocks nonzero) ++ edge c.func b.label (target c.func.blocks otherwise)) i ≡ Some w → slice_get (all_edges c.func c.func.blocks) (edges_before c.func c.func.blocks a.block + i) ≡ Some w
+    stands i w h = edge_at c.func c.func.blocks a.block i b w here (ap (λ es. slice_get es i) edges ∙ h)
 
     first_has : HasEdge c b.label (edges_before c.func c.func.blocks a.block) (target c.func.blocks nonzero) (phis_at c.func.blocks (target c.func.blocks nonzero))
     first_has =
         first_edge c b.label (edges_before c.func c.func.blocks a.block) (target c.func.blocks nonzero) (edge c.func b.label (target c.func.blocks otherwise)) (phis_at c.func.blocks (target c.func.blocks nonzero))
-        (λ e h. let none : edges_before c.func c.func.blocks a.block ≡ edges_before c.func c.func.blocks a.block + 0 = omega arith in
-        ap (slice_get (all_edges c.func c.func.blocks)) none ∙ stands 0 e h)
+        (λ w h. let none : edges_before c.func c.func.blocks a.block ≡ edges_before c.func c.func.blocks a.block + 0 = omega arith in
+        ap (slice_get (all_edges c.func c.func.blocks)) none ∙ stands 0 w h)
 
     second_has : HasEdge c b.label (edges_before c.func c.func.blocks a.block + length (edge c.func b.label (target c.func.blocks nonzero))) (target c.func.blocks otherwise) (phis_at c.func.blocks (target c.func.blocks otherwise))
     second_has =
         second_edge c b.label (edges_before c.func c.func.blocks a.block + length (edge c.func b.label (target c.func.blocks nonzero))) (target c.func.blocks otherwise) (edge c.func b.label (target c.func.blocks nonzero)) (phis_at c.func.blocks (target c.func.blocks otherwise))
-        (λ e h. let none : edges_before c.func c.func.blocks a.block + length (edge c.func b.label (target c.func.blocks nonzero)) ≡ edges_before c.func c.func.blocks a.block + (length (edge c.func b.label (target c.func.blocks nonzero)) + 0) = omega arith in
-        ap (slice_get (all_edges c.func c.func.blocks)) none ∙ stands (length (edge c.func b.label (target c.func.blocks nonzero)) + 0) e h)
+        (λ w h. let none : edges_before c.func c.func.blocks a.block + length (edge c.func b.label (target c.func.blocks nonzero)) ≡ edges_before c.func c.func.blocks a.block + (length (edge c.func b.label (target c.func.blocks nonzero)) + 0) = omega arith in
+        ap (slice_get (all_edges c.func c.func.blocks)) none ∙ stands (length (edge c.func b.label (target c.func.blocks nonzero)) + 0) w h)
 
     by_test : (x : Bool) → go c (at a m s extra) ≡ Does (On (at (record { block = cond x (branch_target c.func (edges_before c.func c.func.blocks a.block + length (edge c.func b.label (target c.func.blocks nonzero))) (target c.func.blocks otherwise)) (branch_target c.func (edges_before c.func c.func.blocks a.block) (target c.func.blocks nonzero)); next = 0; locals = a.locals }) m (both s (one_turn 1)) extra)) → TakesTurn (Rel c) (go c) c.given.room n m s (at a m s extra) (enter (env c) b.label a.locals m (cond x otherwise nonzero))
     by_test true h = side_taken c n a m s extra b.label (edges_before c.func c.func.blocks a.block + length (edge c.func b.label (target c.func.blocks nonzero))) otherwise due second_has h
     by_test false h = side_taken c n a m s extra b.label (edges_before c.func c.func.blocks a.block) nonzero due first_has h
 
     by_value : (v : Option Value) → operand c.globals a.locals.temps W on ≡ v → TakesTurn (Rel c) (go c) c.given.room n m s (at a m s extra) (branched (env c) b.label a.locals m nonzero otherwise v)
-    by_value None e = λ fine. absurd fine
-    by_value (Some v) e =
-        let w = word_place (value_at c.globals a.locals.temps on) v e in
+    by_value None known = λ fine. absurd fine
+    by_value (Some v) is_known =
+        let w = word_place (value_at c.globals a.locals.temps on) v is_known in
         let known : operand c.globals (a.locals.temps ++ extra) W on ≡ Some (Integer w.number) =
-        operand_less c.globals a.locals.temps extra W on v e ∙ ap Some w.is in
+        operand_less c.globals a.locals.temps extra W on v is_known ∙ ap Some w.is in
         subst (λ u. TakesTurn (Rel c) (go c) c.given.room n m s (at a m s extra) (branched (env c) b.label a.locals m nonzero otherwise (Some u))) (sym w.is)
         (by_test (nat_eq w.number 0)
-        (ends_turn c n a m s extra (jump_ending c.func b.label (edges_before c.func c.func.blocks a.block) (Branch on nonzero otherwise)) due refl goes
+        (ends_turn c n a m s extra
+        (one_turn_ending (BranchTo on (branch_target c.func (edges_before c.func c.func.blocks a.block) (target c.func.blocks nonzero)) (branch_target c.func (edges_before c.func c.func.blocks a.block + length (edge c.func b.label (target c.func.blocks nonzero))) (target c.func.blocks otherwise))))
+        due refl (subst (EndsWith c a m s extra) is goes)
         ∙ ap (branches (at a m (both s (one_turn 1)) extra)
         (branch_target c.func (edges_before c.func c.func.blocks a.block) (target c.func.blocks nonzero))
         (branch_target c.func (edges_before c.func c.func.blocks a.block + length (edge c.func b.label (target c.func.blocks nonzero))) (target c.func.blocks otherwise))) known))
@@ -401,23 +421,23 @@ one_way n a b same = by (nat_eq n 0)
     by true = grind (arith, nat_tests)
     by false = refl
 
-straight_taken : (c : Setting) (n : ℕ) (a : Activation) (m : Memory) (s : Spent) (extra : List (Option Value)) (from number : ℕ) (on : Val) (nonzero otherwise : ℕ) → nat_eq nonzero otherwise ≡ true → Due c n a m s extra → go c (at a m s extra) ≡ ends c.globals c.func.result c.given (at a m s extra) (Some (jump_ending c.func from number (Goto nonzero))) → TakesTurn (Rel c) (go c) c.given.room n m s (at a m s extra) (branched (env c) from a.locals m nonzero otherwise (operand c.globals a.locals.temps W on))
-straight_taken c n a m s extra from number on nonzero otherwise same due goes = by_value (operand c.globals a.locals.temps W on) refl
+straight_taken : (c : Setting) (n : ℕ) (a : Activation) (m : Memory) (s : Spent) (extra : List (Option Value)) (from number : ℕ) (on : Val) (nonzero otherwise : ℕ) → nat_eq nonzero otherwise ≡ true → Due c n a m s extra → (e : Ending) → IsJumpEnding c.func from number (Goto nonzero) e → EndsWith c a m s extra e → TakesTurn (Rel c) (go c) c.given.room n m s (at a m s extra) (branched (env c) from a.locals m nonzero otherwise (operand c.globals a.locals.temps W on))
+straight_taken c n a m s extra from number on nonzero otherwise same due e is goes = by_value (operand c.globals a.locals.temps W on) refl
   where
     by_value : (v : Option Value) → operand c.globals a.locals.temps W on ≡ v → TakesTurn (Rel c) (go c) c.given.room n m s (at a m s extra) (branched (env c) from a.locals m nonzero otherwise v)
     by_value None e = λ fine. absurd fine
-    by_value (Some v) e =
-        let w = word_place (value_at c.globals a.locals.temps on) v e in
+    by_value (Some v) known =
+        let w = word_place (value_at c.globals a.locals.temps on) v known in
         let there : branch_to v nonzero otherwise ≡ nonzero = ap (λ u. branch_to u nonzero otherwise) w.is ∙ one_way w.number nonzero otherwise same in
-        subst (λ l. TakesTurn (Rel c) (go c) c.given.room n m s (at a m s extra) (enter (env c) from a.locals m l)) (sym there) (goto_taken c n a m s extra from number nonzero due goes)
+        subst (λ l. TakesTurn (Rel c) (go c) c.given.room n m s (at a m s extra) (enter (env c) from a.locals m l)) (sym there) (goto_taken c n a m s extra from number nonzero due e is goes)
 
 -- ---- other jumps
 
-return_taken : (c : Setting) (n : ℕ) (a : Activation) (m : Memory) (s : Spent) (extra : List (Option Value)) (from number : ℕ) (v : Option Val) → Due c n a m s extra → go c (at a m s extra) ≡ ends c.globals c.func.result c.given (at a m s extra) (Some (jump_ending c.func from number (Return v))) → TakesTurn (Rel c) (go c) c.given.room n m s (at a m s extra) (jump_effect (env c) from a.locals m (Return v))
-return_taken c n a m s extra from number None due goes =
-    λ fine. (1, one_step c (at a m s extra) _ (ends_turn c n a m s extra (jump_ending c.func from number (Return None)) due refl goes))
-return_taken c n a m s extra from number (Some v) due goes =
-    by_class c.func.result (ends_turn c n a m s extra (jump_ending c.func from number (Return (Some v))) due refl goes)
+return_taken : (c : Setting) (n : ℕ) (a : Activation) (m : Memory) (s : Spent) (extra : List (Option Value)) (from number : ℕ) (v : Option Val) → Due c n a m s extra → (e : Ending) → IsJumpEnding c.func from number (Return v) e → EndsWith c a m s extra e → TakesTurn (Rel c) (go c) c.given.room n m s (at a m s extra) (jump_effect (env c) from a.locals m (Return v))
+return_taken c n a m s extra from number None due e is goes =
+    λ fine. (1, one_step c (at a m s extra) _ (ends_turn c n a m s extra (one_turn_ending (ReturnWith None)) due refl (subst (EndsWith c a m s extra) is goes)))
+return_taken c n a m s extra from number (Some v) due e is goes =
+    by_class c.func.result (ends_turn c n a m s extra (one_turn_ending (ReturnWith (Some v))) due refl (subst (EndsWith c a m s extra) is goes))
   where
     by_value : (k : Class) (w : Option Value) → operand c.globals a.locals.temps k v ≡ w → go c (at a m s extra) ≡ returns (at a m (both s (one_turn 1)) extra) (operand c.globals (a.locals.temps ++ extra) k v) → TakesTurn (Rel c) (go c) c.given.room n m s (at a m s extra) (returned a.locals m w)
     by_value k None e h = λ fine. absurd fine
@@ -432,25 +452,23 @@ return_taken c n a m s extra from number (Some v) due goes =
     by_class None h = λ fine. absurd fine
     by_class (Some k) h = by_value k (operand c.globals a.locals.temps k v) refl h
 
-jump_taken : (c : Setting) (n : ℕ) (a : Activation) (m : Memory) (s : Spent) (extra : List (Option Value)) (b : Block) (j : Lined Jump) (x : Jump) → slice_get c.func.blocks a.block ≡ Some b → b.jump ≡ Some j → j.item ≡ x → Due c n a m s extra → go c (at a m s extra) ≡ ends c.globals c.func.result c.given (at a m s extra) (Some (jump_ending c.func b.label (edges_before c.func c.func.blocks a.block) (straight x))) → TakesTurn (Rel c) (go c) c.given.room n m s (at a m s extra) (jump_effect (env c) b.label a.locals m x)
-jump_taken c n a m s extra b j (Goto l) here jump item due goes = goto_taken c n a m s extra b.label (edges_before c.func c.func.blocks a.block) l due goes
-jump_taken c n a m s extra b j (Branch on nonzero otherwise) here jump item due goes = by_ways (nat_eq nonzero otherwise) refl
+jump_taken : (c : Setting) (n : ℕ) (a : Activation) (m : Memory) (s : Spent) (extra : List (Option Value)) (b : Block) (j : Lined Jump) (x : Jump) → slice_get c.func.blocks a.block ≡ Some b → b.jump ≡ Some j → j.item ≡ x → Due c n a m s extra → (e : Ending) → IsJumpEnding c.func b.label (edges_before c.func c.func.blocks a.block) (straight x) e → EndsWith c a m s extra e → TakesTurn (Rel c) (go c) c.given.room n m s (at a m s extra) (jump_effect (env c) b.label a.locals m x)
+jump_taken c n a m s extra b j (Goto l) here jump item due e is goes = goto_taken c n a m s extra b.label (edges_before c.func c.func.blocks a.block) l due e is goes
+jump_taken c n a m s extra b j (Branch on nonzero otherwise) here jump item due e is goes = by_ways (nat_eq nonzero otherwise) refl
   where
-    as_it_is : (q : Bool) → nat_eq nonzero otherwise ≡ q → go c (at a m s extra) ≡ ends c.globals c.func.result c.given (at a m s extra) (Some (jump_ending c.func b.label (edges_before c.func c.func.blocks a.block) (straight_if q on nonzero otherwise)))
-    as_it_is q e =
-        goes
-        ∙ ap (λ x. ends c.globals c.func.result c.given (at a m s extra) (Some (jump_ending c.func b.label (edges_before c.func c.func.blocks a.block) (straight_if x on nonzero otherwise)))) e
+    as_it_is : (q : Bool) → nat_eq nonzero otherwise ≡ q → IsJumpEnding c.func b.label (edges_before c.func c.func.blocks a.block) (straight_if q on nonzero otherwise) e
+    as_it_is q same = subst (λ x. IsJumpEnding c.func b.label (edges_before c.func c.func.blocks a.block) (straight_if x on nonzero otherwise) e) same is
 
     by_ways : (q : Bool) → nat_eq nonzero otherwise ≡ q → TakesTurn (Rel c) (go c) c.given.room n m s (at a m s extra) (branched (env c) b.label a.locals m nonzero otherwise (operand c.globals a.locals.temps W on))
-    by_ways true e = straight_taken c n a m s extra b.label (edges_before c.func c.func.blocks a.block) on nonzero otherwise e due (as_it_is true e)
-    by_ways false e = branch_taken c n a m s extra b j on nonzero otherwise here jump item e due (as_it_is false e)
-jump_taken c n a m s extra b j (Return v) here jump item due goes = return_taken c n a m s extra b.label (edges_before c.func c.func.blocks a.block) v due goes
-jump_taken c n a m s extra b j Halt here jump item due goes =
-    λ fine. (1, one_step c (at a m s extra) _ (ends_turn c n a m s extra (one_turn_ending HaltRun) due refl goes))
+    by_ways true same = straight_taken c n a m s extra b.label (edges_before c.func c.func.blocks a.block) on nonzero otherwise same due e (as_it_is true same) goes
+    by_ways false same = branch_taken c n a m s extra b j on nonzero otherwise here jump item same due e (as_it_is false same) goes
+jump_taken c n a m s extra b j (Return v) here jump item due e is goes = return_taken c n a m s extra b.label (edges_before c.func c.func.blocks a.block) v due e is goes
+jump_taken c n a m s extra b j Halt here jump item due e is goes =
+    λ fine. (1, one_step c (at a m s extra) _ (ends_turn c n a m s extra (one_turn_ending HaltRun) due refl (subst (EndsWith c a m s extra) is goes)))
 
-end_taken : (c : Setting) (n : ℕ) (a : Activation) (m : Memory) (s : Spent) (extra : List (Option Value)) (b : Block) (j : Option (Lined Jump)) → slice_get c.func.blocks a.block ≡ Some b → b.jump ≡ j → Due c n a m s extra → go c (at a m s extra) ≡ ends c.globals c.func.result c.given (at a m s extra) (Some (end_ending c.func b.label (edges_before c.func c.func.blocks a.block) j)) → TakesTurn (Rel c) (go c) c.given.room n m s (at a m s extra) (end_effect (env c) b.label a.locals m j)
-end_taken c n a m s extra b None here jump due goes = λ fine. absurd fine
-end_taken c n a m s extra b (Some j) here jump due goes = jump_taken c n a m s extra b j j.item here jump refl due goes
+end_taken : (c : Setting) (n : ℕ) (a : Activation) (m : Memory) (s : Spent) (extra : List (Option Value)) (b : Block) (j : Option (Lined Jump)) → slice_get c.func.blocks a.block ≡ Some b → b.jump ≡ j → Due c n a m s extra → (e : Ending) → IsEndEnding c.func b.label (edges_before c.func c.func.blocks a.block) j e → EndsWith c a m s extra e → TakesTurn (Rel c) (go c) c.given.room n m s (at a m s extra) (end_effect (env c) b.label a.locals m j)
+end_taken c n a m s extra b None here jump due e is goes = λ fine. absurd fine
+end_taken c n a m s extra b (Some j) here jump due e is goes = jump_taken c n a m s extra b j j.item here jump refl due e is goes
 
 -- ---- a turn
 
@@ -463,7 +481,8 @@ turn_of_block c n a m s extra b here due (Some i) is =
     (inst_follows c.globals xs extra a.locals.owned m i.item)
     (at_inst c t b i here is ∙ turn_taken c.given t (goes_on c.given t e2) n due.left)
 turn_of_block c n a m s extra b here due None is =
-    end_taken c n a m s extra b b.jump here refl due (at_ending c (at a m s extra) b here is)
+    let r = ending_at c.func c.code.endings a.block b c.is.endings here in
+    end_taken c n a m s extra b b.jump here refl due r.ending r.is (at_ending c (at a m s extra) b r.ending here is r.here)
 
 turn_due : (c : Setting) (n : ℕ) (a : Activation) (m : Memory) (s : Spent) (extra : List (Option Value)) → Due c n a m s extra → (b : Option Block) → slice_get c.func.blocks a.block ≡ b → TakesTurn (Rel c) (go c) c.given.room n m s (at a m s extra) (turn_of (env c) a m b)
 turn_due c n a m s extra due None here = λ fine. absurd fine
@@ -471,15 +490,15 @@ turn_due c n a m s extra due (Some b) here = turn_of_block c n a m s extra b her
 
 -- ---- no turn left
 
-ending_turns : (f : Func) (from number : ℕ) (j : Option (Lined Jump)) → (end_ending f from number j).turn ≡ true
-ending_turns f from number None = refl
-ending_turns f from number (Some j) = by (straight j.item)
+ending_turns : (f : Func) (from number : ℕ) (j : Option (Lined Jump)) (e : Ending) → IsEndEnding f from number j e → e.turn ≡ true
+ending_turns f from number None e is = ap (λ (x : Ending). x.turn) is
+ending_turns f from number (Some j) e is = by (straight j.item) is
   where
-    by : (x : Jump) → (jump_ending f from number x).turn ≡ true
-    by (Goto l) = refl
-    by (Branch on nonzero otherwise) = refl
-    by (Return v) = refl
-    by Halt = refl
+    by : (x : Jump) → IsJumpEnding f from number x e → e.turn ≡ true
+    by (Goto l) h = ap (λ (x : Ending). x.turn) h.0
+    by (Branch on nonzero otherwise) h = ap (λ (x : Ending). x.turn) h
+    by (Return v) h = ap (λ (x : Ending). x.turn) h
+    by Halt h = ap (λ (x : Ending). x.turn) h
 
 not_inside : {A : Type 0} (xs : List A) (k : ℕ) → k < length xs → slice_get xs k ≡ None → ⊥
 not_inside [] k lt e = omega arith
@@ -496,8 +515,9 @@ stops c a m s extra inside left (Some b) e = by (slice_get b.insts a.next) refl
     by : (i : Option (Lined Inst)) → slice_get b.insts a.next ≡ i → go c (at a m s extra) ≡ Does (Over (Ended s Turns))
     by (Some i) is = at_inst c (at a m s extra) b i e is ∙ turn_missing c.given (at a m s extra) _ left
     by None is =
-        at_ending c (at a m s extra) b e is
-        ∙ ended_turn c (at a m s extra) (block_ending c.func (edges_before c.func c.func.blocks a.block) b) (ending_turns c.func b.label _ b.jump) left
+        let r = ending_at c.func c.code.endings a.block b c.is.endings e in
+        at_ending c (at a m s extra) b r.ending e is r.here
+        ∙ ended_turn c (at a m s extra) r.ending (ending_turns c.func b.label (edges_before c.func c.func.blocks a.block) b.jump r.ending r.is) left
 
 -- ---- the body
 
@@ -553,8 +573,8 @@ starts f i some =
 some_block : (f : Func) → 0 < length f.blocks
 some_block f = let some : nat_lt 0 (length f.blocks) ≡ true = f.some_block in grind (arith, nat_tests)
 
-pub lowered_keeps : (f : Func) → KeepsFunction f (lowered f)
-lowered_keeps f globals =
-    turns_keep (classes_of f.params) (record { func = f; globals = globals }) (begin f) (step globals f (lowered f)) (λ i. Related f)
+pub lowered_keeps : (f : Func) (code : Endings) → IsLowered f code → KeepsFunction f code
+lowered_keeps f code is globals =
+    turns_keep (classes_of f.params) (record { func = f; globals = globals }) (begin f) (step globals f code) (λ i. Related f)
     (λ i args. starts f i (some_block f))
-    (λ i. takes_turns (record { func = f; globals = globals; given = i }))
+    (λ i. takes_turns (record { func = f; code = code; is = is; globals = globals; given = i }))

@@ -5,8 +5,8 @@ use Rattle.std.proofs.lemmas.List.{reverse-append, length-set, get_or_default}
 use Rattle.std.proofs.lemmas.List.Elements.{All-push}
 use Rattle.std.proofs.lemmas.List.Sums.{sum_by-set}
 use Rattle.std.proofs.lemmas.Option.{same_Some, none-some}
-use Rattle.phi_copies.specs.Moves.{DoesAtOnce, IsBetween}
-use Rattle.phi_copies.specs.Order.{no_move, to_of, from_of, is_placed, Given, State, waiting_count, IsFew}
+use Rattle.phi_copies.specs.Moves.{DoesAtOnce, IsBetween, IsRead, ReadsKnown}
+use Rattle.phi_copies.specs.Order.{no_move, to_of, from_of, is_placed, Given, Known, State, waiting_count, IsFew}
 use Rattle.phi_copies.specs.declared.moves.Move.{Move}
 use Rattle.phi_copies.proofs.Placing.{place, save, source_cases, cases_eq, placed_same, placed_other}
 
@@ -24,6 +24,24 @@ names_to_either ms i l = (i, get_or ms i no_move, l, get_or_default ms i (get_or
 
 names_from : (ms : List Move) (i : ℕ) → i < length ms → Any (λ n. (n.to ≡ from_of ms i) ⊎ (n.from ≡ from_of ms i)) ms
 names_from ms i l = (i, get_or ms i no_move, l, get_or_default ms i (get_or ms i no_move) no_move l, inr refl)
+
+-- what a move reads
+is_read : (ms : List Move) (i p : ℕ) → i < length ms → from_of ms i ≡ p → IsRead ms p
+is_read ms i p l e = (i, get_or ms i no_move, l, get_or_default ms i (get_or ms i no_move) no_move l, e)
+
+known_read : (ms : List Move) (scratch : ℕ) (open' : Option ℕ) (p : ℕ) → IsRead ms p → Known ms scratch open' p
+known_read ms scratch None p h = h
+known_read ms scratch (Some z) p h = inr h
+
+reads_more : (known more : ℕ → Type 0) (ms : List Move) → ((p : ℕ) → known p → more p) → ReadsKnown known ms → ReadsKnown more ms
+reads_more known more [] h reads = tt
+reads_more known more (m ∷ ms) h reads =
+    (h m.from reads.0, reads_more (λ p. (p ≡ m.to) ⊎ known p) (λ p. (p ≡ m.to) ⊎ more p) ms (λ p k. ⊎_elim (λ e. inl e) (λ l. inr (h p l)) k) reads.1)
+
+-- one move more, in front
+read_first : (known more : ℕ → Type 0) (out : List Move) (m : Move) → more m.from → ((p : ℕ) → known p → (p ≡ m.to) ⊎ more p) → ReadsKnown known (reverse out) → ReadsKnown more (reverse (out ++ m ∷ []))
+read_first known more out m here rest reads =
+    rw (reverse_push out m) (here, reads_more known (λ p. (p ≡ m.to) ⊎ more p) (reverse out) rest reads)
 
 -- a move whose source no waiting move writes
 pub place_plain : (ms : List Move) (scratch : ℕ) (open' : Option ℕ) (placed : List Bool) (out : List Move) (i : ℕ)
@@ -44,6 +62,9 @@ place_plain ms scratch open' placed out i given state l waiting other settled =
       selves = λ j m e. placed_kept placed i j inside (state.selves j m e);
       size = length-set placed i true ∙ state.size;
       between = All-push (IsBetween ms scratch) out _ state.between (proper, inr (names_to ms i l), inr (names_from ms i l));
+      reads =
+          read_first (Known ms scratch open') (Known ms scratch open') out (record { to = to_of ms i; from = from_of ms i })
+          (known_read ms scratch open' (from_of ms i) (is_read ms i (from_of ms i) l refl)) (λ p k. inr k) state.reads;
     }
 
 -- the last move of a cycle, which will find its value in the scratch place
@@ -64,6 +85,9 @@ place_open ms scratch placed out z given state l waiting =
       selves = λ j m e. placed_kept placed z j inside (state.selves j m e);
       size = length-set placed z true ∙ state.size;
       between = All-push (IsBetween ms scratch) out _ state.between (given.to_free z l, inr (names_to ms z l), inl refl);
+      reads =
+          read_first (Known ms scratch None) (Known ms scratch (Some z)) out (record { to = to_of ms z; from = scratch })
+          (inl refl) (λ p k. inr (inr k)) state.reads;
     }
 
 -- the move to the scratch place, once the move whose destination the open one reads is placed
@@ -81,6 +105,9 @@ place_save ms scratch placed out z c given state l there same lz = record {
   selves = state.selves;
   size = state.size;
   between = All-push (IsBetween ms scratch) out _ state.between (λ e. given.to_free c l (sym e), inl refl, inr (names_to_either ms c l));
+  reads =
+      read_first (Known ms scratch (Some z)) (Known ms scratch None) out (record { to = scratch; from = to_of ms c })
+      (is_read ms z (to_of ms c) lz (sym same)) (λ p k. k) state.reads;
 }
 
 waiting_less : (placed : List Bool) (i : ℕ) → i < length placed → is_placed placed i ≡ false → waiting_count (set placed i true) + 1 ≡ waiting_count placed

@@ -1,3 +1,5 @@
+pub mod Classed
+pub mod Copies
 pub mod Endings
 pub mod Good
 pub mod Keeping
@@ -5,4 +7,7 @@ pub mod Laws
 pub mod Lowered
 pub mod Map
 pub mod Moves
+pub mod OneProof
 pub mod Order
+pub mod Source
+pub mod Together

@@ -29,6 +29,15 @@ IsBetween moves scratch m =
     × ((m.to ≡ scratch) ⊎ Any (λ n. n.to ≡ m.to) moves)
     × ((m.from ≡ scratch) ⊎ Any (λ n. (n.to ≡ m.from) ⊎ (n.from ≡ m.from)) moves)
 
+-- the moves read the place
+abbrev pub IsRead : List Move → ℕ → Type 0
+IsRead moves place = Any (λ m. m.from ≡ place) moves
+
+-- each move reads a place that is known, or one that a move before it went to
+abbrev pub ReadsKnown : (ℕ → Type 0) → List Move → Type 0
+ReadsKnown known [] = Unit {0}
+ReadsKnown known (m ∷ ms) = known m.from × ReadsKnown (λ p. (p ≡ m.to) ⊎ known p) ms
+
 -- how many moves are between two places
 abbrev pub proper_count : List Move → ℕ
 proper_count moves = count_by (λ m. not (m.to == m.from)) moves

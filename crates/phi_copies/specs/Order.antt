@@ -1,6 +1,6 @@
 -- What is true while moves are put in an order, from the last to the first.
 use Rattle.std.specs.Prelude.{◌≡◌, ◌≢◌, ◌⊎◌, [], ℕ, ◌+◌, ◌*◌, ◌<◌, ◌≤◌, Bool, true, false, not, if◌then◌else◌, ◌==◌, List, length, reverse, Option, Some, None, All, count_by, slice_index_or}
-use Rattle.phi_copies.specs.Moves.{after, IsBetween, proper_count}
+use Rattle.phi_copies.specs.Moves.{after, IsBetween, IsRead, ReadsKnown, proper_count}
 use Rattle.phi_copies.specs.declared.moves.Move.{Move}
 
 abbrev pub no_move : Move
@@ -35,6 +35,11 @@ pub record Holds (ms : List Move) (scratch : ℕ) (open' : Option ℕ) (placed :
 abbrev pub Closed : List Move → Option ℕ → List Bool → Type 0
 Closed ms open' placed = (i b : ℕ) → i < length ms → is_placed placed i ≡ true → b < length ms → to_of ms b ≡ from_of ms i → (is_placed placed b ≡ true) ⊎ (open' ≡ Some i)
 
+-- a place that is read from outside: by one of the moves, or by the open one in scratch
+abbrev pub Known : List Move → ℕ → Option ℕ → ℕ → Type 0
+Known ms scratch None p = IsRead ms p
+Known ms scratch (Some z) p = (p ≡ scratch) ⊎ IsRead ms p
+
 -- what is true of the moves in `out`, which go from its end, and of those that are placed
 pub record State (ms : List Move) (scratch : ℕ) (open' : Option ℕ) (placed : List Bool) (out : List Move) : Type 0 where
   pub holds : (env : ℕ → ℕ) → Holds ms scratch open' placed (reverse out) env
@@ -42,6 +47,7 @@ pub record State (ms : List Move) (scratch : ℕ) (open' : Option ℕ) (placed :
   pub selves : (i : ℕ) → i < length ms → to_of ms i ≡ from_of ms i → is_placed placed i ≡ true
   pub size : length placed ≡ length ms
   pub between : All (IsBetween ms scratch) out
+  pub reads : ReadsKnown (Known ms scratch open') (reverse out)
 
 -- how many moves wait
 abbrev pub waiting_count : List Bool → ℕ

@@ -1,7 +1,7 @@
 //! The blocks between a branch and a block with phis.
-ghost use Rattle.std.specs.Prelude.{◌≡◌, ◌+◌, ◌*◌, ◌++◌, ◌≤◌, length, OnOk};
+ghost use Rattle.std.specs.Prelude.{◌≡◌, ◌+◌, ◌*◌, ◌≤◌, length, OnOk};
 ghost use Rattle.il_ast.specs.declared.limits.TheConstants.{FUNCTION_WEIGHT};
-ghost use Rattle.phi_copies.specs.Lowered.{edge, block_edges, branch_target, straight};
+ghost use Rattle.phi_copies.specs.Lowered.{edge, block_edges, branch_target, straight, Adds};
 
 use crate::copies::entry_copies;
 use crate::ending::{Ending, Leave};
@@ -38,7 +38,7 @@ fn push_edge(
     place: usize,
     edges: &mut Vec<Ending>,
 ) -> Result<(), AllocError>
-    ensures { OnOk result (edges.new.items ≡ edges.old.items ++ edge map.now.func.now from place) }
+    ensures { OnOk result (Adds map.now.func.now (edge map.now.func.now from place) edges.old.items edges.new.items) }
 {
     let phis = phis_at(map, place);
     if phis.is_empty() {
@@ -87,7 +87,7 @@ pub fn push_edges(
     block: &Block,
     edges: &mut Vec<Ending>,
 ) -> Result<(), AllocError>
-    ensures { OnOk result (edges.new.items ≡ edges.old.items ++ block_edges map.now.func.now block.now) }
+    ensures { OnOk result (Adds map.now.func.now (block_edges map.now.func.now block.now) edges.old.items edges.new.items) }
 {
     match &block.jump {
         Some(jump) => match straight(&jump.item) {

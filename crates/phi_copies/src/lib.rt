@@ -4,9 +4,15 @@
 //!
 //! `lower::lower` takes a function's phis away: `no_phi::NoPhi` has the function's blocks with their instructions as they are, and for each block an ending in the
 //! place of its jump, [`ending::Ending`]: what turn and weight it spends, copies, and where it leaves to. The phis of a block are done where the block is entered
-//! from: each operand is read into a temporary of the phi's own, and then each is written. After a branch they stand in a block of their own, an edge, so that they
-//! are done on that way alone. The lowered function keeps what the function means, turn for turn (`specs/Endings` has what it does, `specs/Lowered` what it is,
-//! `specs/Keeping` what it owes; `laws::lowering_keeps`). The work is linear in the function: where an argument of a phi stands is noted once for its label, and looked up there.
+//! from, by copies in an order. After a branch they stand in a block of their own, an edge, so that they are done on that way alone. The lowered function keeps what
+//! the function means, turn for turn (`specs/Endings` has what it does, `specs/Lowered` what it is, `specs/Keeping` what it owes; `laws::lowering_keeps`).
+//!
+//! Of the copies on an entry `specs/Copies` says that they leave what writing all phis at once leaves, that they fit any classes that the phis fit, which temporaries
+//! they name, and how many they are; not which ones they are. `together` makes them: first the moves of words between two temporaries, then those of longs, then
+//! numbers and names, and phis of themselves. The moves of each class are put in an order by `sequence`, with the own temporary of the first phi of the class to be
+//! used besides. What the words write no long reads, by the rules of a good text; that a word reads a long is why words go first.
+//!
+//! Where an argument of a phi stands is noted once for its label, and looked up there. So the work is linear in the function, but for the look-ups of `sequence`.
 //!
 //! `sequence::sequence` puts copies that are to be done at once in an order. Places are numbers, and the scratch place is one that no move names. Done one after
 //! another, the moves of the answer leave in each destination what its source held before, and change no other place but scratch. For n moves between two places
@@ -33,3 +39,6 @@ pub mod no_phi;
 pub mod sequence;
 #[cfg(test)]
 mod tests;
+mod together;
+#[cfg(test)]
+mod together_tests;

@@ -3,7 +3,7 @@ ghost use Rattle.std.specs.Prelude.{◌≡◌, ◌*◌, ◌≤◌, [], true, IfO
 ghost use Rattle.il_ast.specs.declared.limits.TheConstants.{FUNCTION_WEIGHT};
 ghost use Rattle.phi_copies.specs.Good.{IsGoodFunction};
 ghost use Rattle.phi_copies.specs.Keeping.{KeepsFunction};
-ghost use Rattle.phi_copies.specs.Lowered.{block_ending, jump_ending};
+ghost use Rattle.phi_copies.specs.Lowered.{IsBlockEnding, IsJumpEnding};
 ghost use Rattle.std.proofs.Props.{props};
 
 use crate::copies::entry_copies;
@@ -48,7 +48,7 @@ fn block_ending(
     block: &Block,
 ) -> Result<Ending, AllocError>
     requires { number ≤ 2 * FUNCTION_WEIGHT }
-    ensures { IfOk result (λ ending. ending ≡ block_ending map.now.func.now number block.now) }
+    ensures { IfOk result (λ ending. IsBlockEnding map.now.func.now number block.now ending) }
 {
     match &block.jump {
         Some(jump) => jump_ending(alloc, map, block.label, number, &straight(&jump.item)),
@@ -77,7 +77,7 @@ fn jump_ending(
     jump: &Jump,
 ) -> Result<Ending, AllocError>
     requires { number ≤ 2 * FUNCTION_WEIGHT }
-    ensures { IfOk result (λ ending. ending ≡ jump_ending map.now.func.now from number jump.now) }
+    ensures { IfOk result (λ ending. IsJumpEnding map.now.func.now from number jump.now ending) }
 {
     match *jump {
         Jump::Goto(label) => {

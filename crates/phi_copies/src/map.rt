@@ -2,7 +2,8 @@
 ghost use Rattle.std.specs.Prelude.{◌≡◌, ℕ, length, slice_get, IfOk};
 ghost use Rattle.il_ast.specs.Effect.{place_of};
 ghost use Rattle.phi_copies.specs.Good.{IsGoodFunction};
-ghost use Rattle.phi_copies.specs.Lowered.{target, phis_at};
+ghost use Rattle.phi_copies.specs.Copies.{phis_at};
+ghost use Rattle.phi_copies.specs.Lowered.{target};
 ghost use Rattle.il_types.specs.Places.{place_in};
 ghost use Rattle.phi_copies.specs.Map.{first_numbers};
 ghost use Rattle.std.proofs.Props.{props};

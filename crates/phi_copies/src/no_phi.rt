@@ -1,7 +1,7 @@
 //! Functions without phis.
-ghost use Rattle.std.specs.Prelude.{◌≡◌};
 ghost use Rattle.phi_copies.specs.Good.{IsGoodFunction};
-ghost use Rattle.phi_copies.specs.Lowered.{all_endings, all_edges};
+ghost use Rattle.phi_copies.specs.Lowered.{IsLowered};
+ghost use Rattle.phi_copies.specs.OneProof.{lowered_prop};
 ghost use Rattle.std.proofs.Props.{props};
 
 use crate::ending::Ending;
@@ -18,6 +18,5 @@ pub struct NoPhi<'a> {
     /// the blocks behind them, which are numbered after them
     pub edges: Seq<Ending>,
     pub ghost good: { IsGoodFunction func.now } by { Prim.hlevel props },
-    pub ghost endings_are: { endings ≡ all_endings func.now 0 func.now.blocks } by { Prim.hlevel props },
-    pub ghost edges_are: { edges ≡ all_edges func.now func.now.blocks } by { Prim.hlevel props },
+    pub ghost lowered: { IsLowered func.now (record { endings = endings; edges = edges }) } by { lowered_prop func.now _ },
 }

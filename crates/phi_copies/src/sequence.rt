@@ -3,7 +3,7 @@
 ghost use Rattle.std.specs.Prelude.{◌≡◌, ◌≢◌, ℕ, ◌+◌, ◌/◌, ◌<◌, ◌≤◌, ◌==◌, List, [], ◌∷◌, ◌++◌, Bool, true, length, map, Some, None, IfOk, OnOk, IfSome, All, slice_set};
 ghost use Rattle.std.specs.Ordering.{nat_cmp};
 ghost use Rattle.std.specs.BTreeMap.{get};
-ghost use Rattle.phi_copies.specs.Moves.{HasDistinctDestinations, IsUnnamed, DoesAtOnce, IsBetween, proper_count};
+ghost use Rattle.phi_copies.specs.Moves.{HasDistinctDestinations, IsUnnamed, DoesAtOnce, IsBetween, IsRead, ReadsKnown, proper_count};
 ghost use Rattle.phi_copies.specs.Order.{to_of, from_of, is_placed, Given, State, IsFew, at, Way, Seen, IsWritten, Leads, Settled, Keeps, Open, Ends, Sequencing};
 
 use crate::moves::Move;
@@ -229,6 +229,7 @@ pub fn sequence(alloc: Global, moves: &[Move], scratch: usize) -> Result<Vec<Mov
     requires unnamed { IsUnnamed scratch moves.now }
     ensures at_once { IfOk result (λ v. (env : ℕ → ℕ) → DoesAtOnce moves.now v.items scratch env) }
     ensures between { IfOk result (λ v. All (IsBetween moves.now scratch) v.items) }
+    ensures reads { IfOk result (λ v. ReadsKnown (IsRead moves.now) v.items) }
     ensures few { IfOk result (λ v. length v.items ≤ proper_count moves.now + proper_count moves.now / 2) }
 {
     let writers = writers(alloc, moves)?;

@@ -14,7 +14,7 @@ fn goes_elsewhere(place: usize, moves: &[Move]) -> bool
     moves.iter().all(|n| place != n.to)
 }
 
-fn is_distinct(moves: &[Move]) -> bool
+pub(crate) fn is_distinct(moves: &[Move]) -> bool
     ensures { IsTrue result → HasDistinctDestinations moves.now }
 {
     for i in 0..moves.len() {
@@ -26,7 +26,7 @@ fn is_distinct(moves: &[Move]) -> bool
     true
 }
 
-fn is_unnamed(place: usize, moves: &[Move]) -> bool
+pub(crate) fn is_unnamed(place: usize, moves: &[Move]) -> bool
     ensures { IsTrue result → IsUnnamed place moves.now }
 {
     moves.iter().all(|m| m.to != place && m.from != place)

@@ -18,9 +18,9 @@ use Rattle.il_types.specs.First.{when, first}
 use Rattle.il_types.specs.Sites.{jump_sites, end_sites, block_targets, targets_of, sources_of}
 use Rattle.il_types.specs.Locals.{is_label, is_entry}
 use Rattle.phi_copies.specs.declared.ending.Ending.{Ending}
-use Rattle.phi_copies.specs.declared.ending.Leave.TheVariants.{Goto as GotoBlock}
 use Rattle.phi_copies.specs.Good.{IsGoodFunction}
-use Rattle.phi_copies.specs.Lowered.{target, phis_at, entry_copies, edge_with, edge, jump_edges, end_edges, block_edges, all_edges, block_ending, all_endings, straight, straight_if}
+use Rattle.phi_copies.specs.Copies.{phis_at}
+use Rattle.phi_copies.specs.Lowered.{target, Edge, edge_with, edge, jump_edges, end_edges, block_edges, all_edges, straight, straight_if, IsBlockEnding, AreEndings, IsOnEdge, AreOnEdges}
 use Rattle.vcode.specs.declared.code.Block.{Block as VirtualBlock}
 use Rattle.select.specs.Selected.{block_of, edge_of, blocks_of}
 use Rattle.select.specs.Typed.{Classes}
@@ -28,17 +28,19 @@ use Rattle.select.proofs.Typing.{Among, among_left, among_right, neither_first, 
 
 -- ---- blocks, and the edges behind them
 
--- of each block and the number of its first edge
+-- of each block, its ending and the number of its first edge
 abbrev pub EachBlock : Classes → Func → (VirtualBlock ℕ → Bool) → (total : ℕ) → List Block → Type 0
 EachBlock classes f test total bs =
-    (b : Block) (m : ℕ) → Among b bs → m + length (block_edges f b) ≤ total → test (block_of classes b (block_ending f m b)) ≡ true
+    (b : Block) (e : Ending) (m : ℕ) → Among b bs → IsBlockEnding f m b e → m + length (block_edges f b) ≤ total → test (block_of classes b e) ≡ true
 
-pub blocks_all : (classes : Classes) (f : Func) (test : VirtualBlock ℕ → Bool) (total n : ℕ) (bs : List Block) (rest : List (VirtualBlock ℕ)) → n + length (all_edges f bs) ≡ total → EachBlock classes f test total bs → list_all test rest ≡ true → list_all test (blocks_of classes bs (all_endings f n bs) ++ rest) ≡ true
-blocks_all classes f test total n [] rest sum each h = h
-blocks_all classes f test total n (b ∷ bs) rest sum each h =
+pub blocks_all : (classes : Classes) (f : Func) (test : VirtualBlock ℕ → Bool) (total n : ℕ) (bs : List Block) (es : List Ending) (rest : List (VirtualBlock ℕ)) → AreEndings f n bs es → n + length (all_edges f bs) ≡ total → EachBlock classes f test total bs → list_all test rest ≡ true → list_all test (blocks_of classes bs es ++ rest) ≡ true
+blocks_all classes f test total n [] [] rest are sum each h = h
+blocks_all classes f test total n [] (e ∷ es) rest are sum each h = absurd are
+blocks_all classes f test total n (b ∷ bs) [] rest are sum each h = absurd are
+blocks_all classes f test total n (b ∷ bs) (e ∷ es) rest are sum each h =
     let long = length-append (block_edges f b) (all_edges f bs) in
-    both (test (block_of classes b (block_ending f n b))) _ (each b n (inl refl) (omega (arith, sum, long)))
-    (blocks_all classes f test total (n + length (block_edges f b)) bs rest (omega (arith, sum, long)) (λ c m a. each c m (inr a)) h)
+    both (test (block_of classes b e)) _ (each b e n (inl refl) are.0 (omega (arith, sum, long)))
+    (blocks_all classes f test total (n + length (block_edges f b)) bs es rest are.1 (omega (arith, sum, long)) (λ c x m a. each c x m (inr a)) h)
   where
     both : (x y : Bool) → x ≡ true → y ≡ true → (x && y) ≡ true
     both true y e g = g
@@ -54,12 +56,17 @@ pub record Branches (b : Block) (l : ℕ) : Type 0 where
   pub is : jump.item ≡ Branch on nonzero otherwise
   pub label : (l ≡ nonzero) ⊎ (l ≡ otherwise)
 
-abbrev pub edge_for : Func → (from k : ℕ) → List Phi → Ending
-edge_for f from k phis = record { turn = false; weight = length phis; copies = entry_copies f from k; leave = GotoBlock k }
+-- an edge of these blocks: one of them branches there, to a block with phis
+pub record Leaves (f : Func) (bs : List Block) (w : Edge) : Type 0 where
+  pub block : Block
+  pub there : Among block bs
+  pub label : ℕ
+  pub branches : Branches block label
+  pub is : w ≡ record { from = block.label; to = target f.blocks label }
+  pub some : 0 < length (phis_at f.blocks w.to)
 
 abbrev pub EachEdge : Classes → Func → (VirtualBlock ℕ → Bool) → List Block → Type 0
-EachEdge classes f test bs =
-    (b : Block) (l : ℕ) (p : Phi) (ps : List Phi) → Among b bs → Branches b l → phis_at f.blocks (target f.blocks l) ≡ p ∷ ps → test (edge_of classes (edge_for f b.label (target f.blocks l) (p ∷ ps))) ≡ true
+EachEdge classes f test bs = (w : Edge) (e : Ending) → Leaves f bs w → IsOnEdge f w e → test (edge_of classes e) ≡ true
 
 pub all_both : {A : Type 0} (test : A → Bool) (xs ys : List A) → list_all test xs ≡ true → list_all test ys ≡ true → list_all test (xs ++ ys) ≡ true
 all_both test [] ys h k = k
@@ -69,37 +76,57 @@ all_both test (x ∷ xs) ys h k = by (test x) h (all_both test xs ys)
     by true e rest = rest e k
     by false e rest = e
 
-map_both : {A B : Type 0} (g : A → B) (xs ys : List A) → map g (xs ++ ys) ≡ map g xs ++ map g ys
-map_both g [] ys = refl
-map_both g (x ∷ xs) ys = ap (λ zs. g x ∷ zs) (map_both g xs ys)
-
-pub edges_all : (classes : Classes) (f : Func) (test : VirtualBlock ℕ → Bool) (bs : List Block) → EachEdge classes f test bs → list_all test (map (edge_of classes) (all_edges f bs)) ≡ true
-edges_all classes f test [] each = refl
-edges_all classes f test (b ∷ bs) each =
-    ap (list_all test) (map_both (edge_of classes) (block_edges f b) (all_edges f bs))
-    ∙ all_both test (map (edge_of classes) (block_edges f b)) (map (edge_of classes) (all_edges f bs)) (by b.jump refl) (edges_all classes f test bs (λ c l p ps a. each c l p ps (inr a)))
+split_among : {A : Type 0} (x : A) (xs ys : List A) → Among x (xs ++ ys) → Among x xs ⊎ Among x ys
+split_among x [] ys h = inr h
+split_among x (y ∷ xs) ys (inl e) = inl (inl e)
+split_among {A} x (y ∷ xs) ys (inr h) = by (split_among x xs ys h)
   where
-    side : (l : ℕ) (ps : List Phi) → Branches b l → phis_at f.blocks (target f.blocks l) ≡ ps → list_all test (map (edge_of classes) (edge_with f b.label (target f.blocks l) ps)) ≡ true
-    side l [] br e = refl
-    side l (p ∷ ps) br e = ap (λ x. x && true) (each b l p ps (inl refl) br e)
+    by : Among x xs ⊎ Among x ys → Among x (y ∷ xs) ⊎ Among x ys
+    by (inl a) = inl (inr a)
+    by (inr a) = inr a
 
-    by_ways : (j : Lined Jump) (on : Val) (nonzero otherwise : ℕ) (q : Bool) → b.jump ≡ Some j → j.item ≡ Branch on nonzero otherwise → list_all test (map (edge_of classes) (jump_edges f b.label (straight_if q on nonzero otherwise))) ≡ true
-    by_ways j on nonzero otherwise true e i = refl
-    by_ways j on nonzero otherwise false e i =
-        ap (list_all test) (map_both (edge_of classes) (edge f b.label (target f.blocks nonzero)) (edge f b.label (target f.blocks otherwise)))
-        ∙ all_both test (map (edge_of classes) (edge f b.label (target f.blocks nonzero))) (map (edge_of classes) (edge f b.label (target f.blocks otherwise)))
-        (side nonzero (phis_at f.blocks (target f.blocks nonzero)) (record { jump = j; ends = e; on = on; nonzero = nonzero; otherwise = otherwise; is = i; label = inl refl }) refl)
-        (side otherwise (phis_at f.blocks (target f.blocks otherwise)) (record { jump = j; ends = e; on = on; nonzero = nonzero; otherwise = otherwise; is = i; label = inr refl }) refl)
+edge_leaves : (f : Func) (bs : List Block) (w : Edge) → Among w (all_edges f bs) → Leaves f bs w
+edge_leaves f [] w h = absurd h
+edge_leaves f (b ∷ bs) w h = by (split_among w (block_edges f b) (all_edges f bs) h) (edge_leaves f bs w)
+  where
+    side : (l : ℕ) (ps : List Phi) → Branches b l → phis_at f.blocks (target f.blocks l) ≡ ps → Among w (edge_with b.label (target f.blocks l) ps) → Leaves f (b ∷ bs) w
+    side l [] br e a = absurd a
+    side l (p ∷ ps) br e (inr a) = absurd a
+    side l (p ∷ ps) br e (inl same) =
+        let many : length (phis_at f.blocks w.to) ≡ suc (length ps) = ap (λ (x : Edge). length (phis_at f.blocks x.to)) same ∙ ap length e in
+        record { block = b; there = inl refl; label = l; branches = br; is = same; some = omega (arith, many) }
 
-    by_jump : (j : Lined Jump) (x : Jump) → b.jump ≡ Some j → j.item ≡ x → list_all test (map (edge_of classes) (jump_edges f b.label (straight x))) ≡ true
-    by_jump j (Goto l) e i = refl
-    by_jump j (Branch on nonzero otherwise) e i = by_ways j on nonzero otherwise (nat_eq nonzero otherwise) e i
-    by_jump j (Return a) e i = refl
-    by_jump j Halt e i = refl
+    by_ways : (j : Lined Jump) (on : Val) (nonzero otherwise : ℕ) (q : Bool) → b.jump ≡ Some j → j.item ≡ Branch on nonzero otherwise → Among w (jump_edges f b.label (straight_if q on nonzero otherwise)) → Leaves f (b ∷ bs) w
+    by_ways j on nonzero otherwise true e i a = absurd a
+    by_ways j on nonzero otherwise false e i a = at (split_among w (edge f b.label (target f.blocks nonzero)) (edge f b.label (target f.blocks otherwise)) a)
+      where
+        at : Among w (edge f b.label (target f.blocks nonzero)) ⊎ Among w (edge f b.label (target f.blocks otherwise)) → Leaves f (b ∷ bs) w
+        at (inl s) = side nonzero (phis_at f.blocks (target f.blocks nonzero)) (record { jump = j; ends = e; on = on; nonzero = nonzero; otherwise = otherwise; is = i; label = inl refl }) refl s
+        at (inr s) = side otherwise (phis_at f.blocks (target f.blocks otherwise)) (record { jump = j; ends = e; on = on; nonzero = nonzero; otherwise = otherwise; is = i; label = inr refl }) refl s
 
-    by : (j : Option (Lined Jump)) → b.jump ≡ j → list_all test (map (edge_of classes) (end_edges f b.label j)) ≡ true
-    by None e = refl
-    by (Some j) e = by_jump j j.item e refl
+    by_jump : (j : Lined Jump) (x : Jump) → b.jump ≡ Some j → j.item ≡ x → Among w (jump_edges f b.label (straight x)) → Leaves f (b ∷ bs) w
+    by_jump j (Goto l) e i a = absurd a
+    by_jump j (Branch on nonzero otherwise) e i a = by_ways j on nonzero otherwise (nat_eq nonzero otherwise) e i a
+    by_jump j (Return v) e i a = absurd a
+    by_jump j Halt e i a = absurd a
+
+    by_end : (j : Option (Lined Jump)) → b.jump ≡ j → Among w (end_edges f b.label j) → Leaves f (b ∷ bs) w
+    by_end None e a = absurd a
+    by_end (Some j) e a = by_jump j j.item e refl a
+
+    by : Among w (block_edges f b) ⊎ Among w (all_edges f bs) → (Among w (all_edges f bs) → Leaves f bs w) → Leaves f (b ∷ bs) w
+    by (inl a) rest = by_end b.jump refl a
+    by (inr a) rest = let r = rest a in record { block = r.block; there = inr r.there; label = r.label; branches = r.branches; is = r.is; some = r.some }
+
+on_edges_all : (classes : Classes) (f : Func) (test : VirtualBlock ℕ → Bool) (ws : List Edge) (es : List Ending) → AreOnEdges f ws es → ((w : Edge) (e : Ending) → Among w ws → IsOnEdge f w e → test (edge_of classes e) ≡ true) → list_all test (map (edge_of classes) es) ≡ true
+on_edges_all classes f test [] [] are each = refl
+on_edges_all classes f test [] (e ∷ es) are each = absurd are
+on_edges_all classes f test (w ∷ ws) [] are each = absurd are
+on_edges_all classes f test (w ∷ ws) (e ∷ es) are each =
+    ap (λ x. x && list_all test (map (edge_of classes) es)) (each w e (inl refl) are.0) ∙ on_edges_all classes f test ws es are.1 (λ x d a. each x d (inr a))
+
+pub edges_all : (classes : Classes) (f : Func) (test : VirtualBlock ℕ → Bool) (bs : List Block) (es : List Ending) → AreOnEdges f (all_edges f bs) es → EachEdge classes f test bs → list_all test (map (edge_of classes) es) ≡ true
+edges_all classes f test bs es are each = on_edges_all classes f test (all_edges f bs) es are (λ w e a. each w e (edge_leaves f bs w a))
 
 -- ---- labels
 

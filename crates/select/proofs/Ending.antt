@@ -36,7 +36,7 @@ use Rattle.vcode.specs.declared.line.Line.TheVariants.{Tick}
 use Rattle.vcode.specs.declared.code.Block.{Block as VirtualBlock}
 use Rattle.vcode.specs.Operations.{held, operate}
 use Rattle.vcode.specs.Places.{Values, virtual, put, unknown}
-use Rattle.vcode.specs.Step.{State, value_of, read, ticks, line_step, jump_step, enters, compared, branches, returns, bound, begin as begin_code, step as step_code, read_result}
+use Rattle.vcode.specs.Step.{State, value_of, ticks, line_step, jump_step, enters, compared, branches, returns, bound, begin as begin_code, step as step_code, read_result}
 use Rattle.select.specs.Selected.{not_zero, operand_of, parameter_of, copy_lines, assignment_lines, ending_lines, jump_of, block_of, edge_of, all_lines, selected, result_of}
 use Rattle.select.specs.Typed.{Classes, Fits, CopiesFit, LeaveFits, EndingFits, ReturnFits, ParamsFit, IsTyped}
 use Rattle.select.specs.Keeping.{KeepsEndings}

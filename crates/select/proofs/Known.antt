@@ -1,7 +1,7 @@
 -- The virtual code of a lowered function of a good text names registers below its count, and its parameters have low ones of their own.
-use Rattle.std.proofs.Common.{◌≡◌, ℕ, ◌+◌, ◌<◌, ◌≤◌, Bool, true, not, nat_eq, ◌&&◌, List, [], ◌∷◌, ◌++◌, length, map, refl, sym, ◌∙◌, ap, subst, arith, ◌⊎◌, inl, inr, false}
-use Rattle.std.specs.Prelude.{slice_get, Option, Some, None}
-use Rattle.std.specs.List.{list_all, flat_map, find}
+use Rattle.std.proofs.Common.{◌≡◌, ℕ, ◌+◌, ◌<◌, Bool, true, not, nat_eq, ◌&&◌, List, [], ◌∷◌, ◌++◌, length, map, refl, sym, ◌∙◌, ap, subst, arith, ◌⊎◌, inl, inr, false}
+use Rattle.std.specs.Prelude.{Option, Some, None}
+use Rattle.std.specs.List.{list_all, flat_map}
 use Rattle.std.proofs.lemmas.Bool.Decides.{nat_tests}
 use Rattle.il_ast.specs.declared.operation.Class.{Class}
 use Rattle.il_ast.specs.declared.operation.Class.TheVariants.{W, L}
@@ -15,8 +15,6 @@ use Rattle.il_ast.specs.declared.instruction.Inst.TheVariants.{Unary, Binary, Al
 use Rattle.il_ast.specs.declared.instruction.Jump.{Jump}
 use Rattle.il_ast.specs.declared.instruction.Jump.TheVariants.{Goto, Branch, Return, Halt}
 use Rattle.il_ast.specs.declared.instruction.Lined.{Lined}
-use Rattle.il_ast.specs.declared.block.Phi.{Phi}
-use Rattle.il_ast.specs.declared.block.PhiArg.{PhiArg}
 use Rattle.il_ast.specs.declared.block.Block.{Block}
 use Rattle.il_ast.specs.declared.function.Param.{Param}
 use Rattle.il_ast.specs.declared.function.Func.{Func}
@@ -33,8 +31,9 @@ use Rattle.il_types.specs.Locals.{is_defined, in_returns, returned_breaks, break
 use Rattle.phi_copies.specs.declared.ending.Assignment.{Assignment}
 use Rattle.phi_copies.specs.declared.ending.Ending.{Ending}
 use Rattle.phi_copies.specs.Good.{IsGoodFunction}
-use Rattle.phi_copies.specs.Lowered.{value_or_zero, source, reads, writes, copies_of, phis_of, phis_before, entry_copies, target, all_edges, jump_ending, end_ending, block_ending, all_endings, lowered, straight, straight_if}
-use Rattle.phi_copies.proofs.EdgePlaces.{phis_counted}
+use Rattle.phi_copies.specs.Copies.{ValueBelow, CopiesBelow}
+use Rattle.phi_copies.specs.Endings.{Endings}
+use Rattle.phi_copies.specs.Lowered.{Edge, target, all_edges, straight, straight_if, IsGoto, IsJumpEnding, IsEndEnding, IsBlockEnding, IsOnEdge, IsLowered}
 use Rattle.vcode.specs.declared.place.Operand.{Operand}
 use Rattle.vcode.specs.declared.place.Operand.TheVariants.{At, Number, Name}
 use Rattle.vcode.specs.declared.place.Argument.{Argument}
@@ -43,7 +42,7 @@ use Rattle.vcode.specs.Named.{operand_keeps, line_keeps, jump_keeps, block_keeps
 use Rattle.select.specs.Selected.{are_whole, word, words_compared, comparison_of, operand_of, argument_of, inst_lines, turn_lines, all_lines, copy_lines, assignment_lines, ending_lines, jump_of, block_of, edge_of, blocks_of, parameter_of, selected, binary_lines}
 use Rattle.select.specs.Typed.{Classes}
 use Rattle.select.proofs.Typing.{Among, among_left, among_right, neither_first, neither_second, not_broken, none_among, not_false, either_true, assigned_own}
-use Rattle.select.proofs.LoweredTyping.{there, own_temps, find_among, phi_argument_at, param_among}
+use Rattle.select.proofs.LoweredTyping.{own_temps, param_among}
 use Rattle.select.proofs.EachBlock.{blocks_all, edges_all, all_both}
 use Rattle.select.proofs.UsedPlaces.{AllKeep, copy_sets, unary_sets, binary_sets, sets_keep, and_both}
 
@@ -163,54 +162,15 @@ assignments_keep classes f (c ∷ cs) h =
     (sets_keep (Below f) c.to.temp (operand_of c.value ∷ []) _ (below f c.to.temp h.0.to) (only (Below f) (operand_of c.value) h.0.value) (copy_sets classes c.to.temp c.to.class (operand_of c.value)))
     (assignments_keep classes f cs h.1)
 
-copies_both : (f : Func) (cs ds : List Assignment) → AllCopies f cs → AllCopies f ds → AllCopies f (cs ++ ds)
-copies_both f [] ds h k = k
-copies_both f (c ∷ cs) ds h k = (h.0, copies_both f cs ds h.1 k)
+-- what is below the count of registers
+value_keeps : (f : Func) (a : Val) → ValueBelow (registers f) a → operand_keeps (Below f) (operand_of a) ≡ true
+value_keeps f (Int n) h = refl
+value_keeps f (Temp t) h = below f t h
+value_keeps f (Global g) h = refl
 
--- a phi of the function
-record PhiKnown (f : Func) (p : Phi) : Type 0 where
-  own : p.to.temp < length f.temps
-  arguments : (a : PhiArg) → Among a p.args → operand_keeps (Below f) (operand_of a.value) ≡ true
-
-source_keeps : (f : Func) (from : ℕ) (p : Phi) → PhiKnown f p → operand_keeps (Below f) (operand_of (source from p)) ≡ true
-source_keeps f from p k = by (find (λ (x : PhiArg). nat_eq x.from from) p.args) refl
-  where
-    by : (o : Option PhiArg) → find (λ (x : PhiArg). nat_eq x.from from) p.args ≡ o → operand_keeps (Below f) (operand_of (value_or_zero o)) ≡ true
-    by None e = refl
-    by (Some a) e = k.arguments a (find_among from p.args a e)
-
-reads_keep : (f : Func) (from n : ℕ) (ps : List Phi) → n + length ps ≤ registers f → ((p : Phi) → Among p ps → PhiKnown f p) → AllCopies f (reads from n ps)
-reads_keep f from n [] le each = tt
-reads_keep f from n (p ∷ ps) le each =
-    (record { to = omega (arith, le); value = source_keeps f from p (each p (inl refl)) }, reads_keep f from (n + 1) ps (omega (arith, le)) (λ q a. each q (inr a)))
-
-writes_keep : (f : Func) (n : ℕ) (ps : List Phi) → n + length ps ≤ registers f → ((p : Phi) → Among p ps → PhiKnown f p) → AllCopies f (writes n ps)
-writes_keep f n [] le each = tt
-writes_keep f n (p ∷ ps) le each =
-    let own = (each p (inl refl)).own in
-    (record { to = omega (arith, own); value = below f n (omega (arith, le)) }, writes_keep f (n + 1) ps (omega (arith, le)) (λ q a. each q (inr a)))
-
-phi_known : (f : Func) → IsGoodFunction f → (b : Block) (p : Phi) → Among b f.blocks → Among p b.phis → PhiKnown f p
-phi_known f good b p here at =
-    record {
-      own = own_temps f (definer p.line p.to)
-          (among_right _ (flat_map param_definers f.params) (flat_map block_definers f.blocks)
-          (flat_among block_definers f.blocks b _ here (among_left _ (flat_map phi_definers b.phis) (flat_map inst_definers b.insts) (flat_among phi_definers b.phis p _ at (inl refl)))));
-      arguments = λ a h. reading_keeps f good (operand_at p.line p.to.class a.value)
-          (flat_among block_operands f.blocks b _ here
-          (among_left _ (flat_map phi_operands b.phis) (flat_map inst_operands b.insts ++ end_operands b.jump) (flat_among phi_operands b.phis p _ at (phi_argument_at p p.args a h))));
-    }
-
-pub entry_keeps : (f : Func) → IsGoodFunction f → (from k : ℕ) → AllCopies f (entry_copies f from k)
-entry_keeps f good from k = by (slice_get f.blocks k) refl
-  where
-    by : (b : Option Block) → slice_get f.blocks k ≡ b → AllCopies f (copies_of from (length f.temps + phis_before f.blocks k) (phis_of b))
-    by None e = tt
-    by (Some b) e =
-        let n = length f.temps + phis_before f.blocks k in
-        let all = phis_counted f.blocks k b e in
-        let known = λ (p : Phi) (a : Among p b.phis). phi_known f good b p (there f.blocks k b e) a in
-        copies_both f (reads from n b.phis) (writes n b.phis) (reads_keep f from n b.phis (omega (arith, all)) known) (writes_keep f n b.phis (omega (arith, all)) known)
+copies_keep : (f : Func) (cs : List Assignment) → CopiesBelow (registers f) cs → AllCopies f cs
+copies_keep f [] h = tt
+copies_keep f (c ∷ cs) h = (record { to = h.0; value = value_keeps f c.value h.1 }, copies_keep f cs h.2)
 
 -- ---- jumps
 
@@ -245,14 +205,18 @@ pub record EndingKeeps (classes : Classes) (f : Func) (e : Ending) : Type 0 wher
   pub copies : AllCopies f e.copies
   pub leaves : jump_keeps (Below f) (jump_of classes e.leave) ≡ true
 
-jump_ending_keeps : (classes : Classes) (f : Func) → IsGoodFunction f → (b : Block) (j : Lined Jump) (x : Jump) (m : ℕ) → Among b f.blocks → b.jump ≡ Some j → j.item ≡ x → EndingKeeps classes f (jump_ending f b.label m (straight x))
-jump_ending_keeps classes f good b j (Goto l) m a e i = record { copies = entry_keeps f good b.label (target f.blocks l); leaves = refl }
-jump_ending_keeps classes f good b j (Branch on nonzero otherwise) m a e i = by_ways (nat_eq nonzero otherwise)
+goto_keeps : (classes : Classes) (f : Func) (from k : ℕ) (e : Ending) → IsGoto f from k e → EndingKeeps classes f e
+goto_keeps classes f from k e is = subst (EndingKeeps classes f) (sym is.0) (record { copies = copies_keep f e.copies is.1.below; leaves = refl })
+
+jump_ending_keeps : (classes : Classes) (f : Func) → IsGoodFunction f → (b : Block) (j : Lined Jump) (x : Jump) (m : ℕ) (d : Ending) → Among b f.blocks → b.jump ≡ Some j → j.item ≡ x → IsJumpEnding f b.label m (straight x) d → EndingKeeps classes f d
+jump_ending_keeps classes f good b j (Goto l) m d a e i is = goto_keeps classes f b.label (target f.blocks l) d is
+jump_ending_keeps classes f good b j (Branch on nonzero otherwise) m d a e i is = by_ways (nat_eq nonzero otherwise) is
   where
-    by_ways : (q : Bool) → EndingKeeps classes f (jump_ending f b.label m (straight_if q on nonzero otherwise))
-    by_ways true = record { copies = entry_keeps f good b.label (target f.blocks nonzero); leaves = refl }
-    by_ways false =
-        record {
+    by_ways : (q : Bool) → IsJumpEnding f b.label m (straight_if q on nonzero otherwise) d → EndingKeeps classes f d
+    by_ways true h = goto_keeps classes f b.label (target f.blocks nonzero) d h
+    by_ways false h =
+        subst (EndingKeeps classes f) (sym h)
+        (record {
           copies = tt;
           leaves = comparison_keeps classes (Below f) NotEqual W (operand_of on) (Number 0)
               (reading_keeps f good (operand_at j.line W on)
@@ -261,30 +225,37 @@ jump_ending_keeps classes f good b j (Branch on nonzero otherwise) m a e i = by_
               (among_right _ (flat_map inst_operands b.insts) (end_operands b.jump)
               (subst (λ o. Among (operand_at j.line W on) (end_operands o)) (sym e) (subst (λ y. Among (operand_at j.line W on) (jump_operands j.line y)) (sym i) (inl refl)))))))
               refl;
-        }
-jump_ending_keeps classes f good b j (Return None) m a e i = record { copies = tt; leaves = refl }
-jump_ending_keeps classes f good b j (Return (Some x)) m a e i = record { copies = tt; leaves = return_keeps f good b j x a e i }
-jump_ending_keeps classes f good b j Halt m a e i = record { copies = tt; leaves = refl }
+        })
+jump_ending_keeps classes f good b j (Return None) m d a e i is = subst (EndingKeeps classes f) (sym is) (record { copies = tt; leaves = refl })
+jump_ending_keeps classes f good b j (Return (Some x)) m d a e i is = subst (EndingKeeps classes f) (sym is) (record { copies = tt; leaves = return_keeps f good b j x a e i })
+jump_ending_keeps classes f good b j Halt m d a e i is = subst (EndingKeeps classes f) (sym is) (record { copies = tt; leaves = refl })
 
-pub end_ending_keeps : (classes : Classes) (f : Func) → IsGoodFunction f → (b : Block) (j : Option (Lined Jump)) (m : ℕ) → Among b f.blocks → b.jump ≡ j → EndingKeeps classes f (end_ending f b.label m j)
-end_ending_keeps classes f good b None m a e = record { copies = tt; leaves = refl }
-end_ending_keeps classes f good b (Some j) m a e = jump_ending_keeps classes f good b j j.item m a e refl
+pub end_ending_keeps : (classes : Classes) (f : Func) → IsGoodFunction f → (b : Block) (j : Option (Lined Jump)) (m : ℕ) (d : Ending) → Among b f.blocks → b.jump ≡ j → IsEndEnding f b.label m j d → EndingKeeps classes f d
+end_ending_keeps classes f good b None m d a e is = subst (EndingKeeps classes f) (sym is) (record { copies = tt; leaves = refl })
+end_ending_keeps classes f good b (Some j) m d a e is = jump_ending_keeps classes f good b j j.item m d a e refl is
+
+pub on_edge_keeps : (classes : Classes) (f : Func) (w : Edge) (e : Ending) → IsOnEdge f w e → EndingKeeps classes f e
+on_edge_keeps classes f w e is = subst (EndingKeeps classes f) (sym is.0) (record { copies = copies_keep f e.copies is.1.below; leaves = refl })
 
 -- ---- blocks
 
-block_of_keeps : (classes : Classes) (f : Func) → IsGoodFunction f → (b : Block) (m : ℕ) → Among b f.blocks → block_keeps (Below f) (block_of classes b (block_ending f m b)) ≡ true
-block_of_keeps classes f good b m a =
-    let e = end_ending_keeps classes f good b b.jump m a refl in
-    and_both (list_all (line_keeps (Below f)) (all_lines classes b.insts ++ ending_lines classes (block_ending f m b))) _
-    (all_both (line_keeps (Below f)) (all_lines classes b.insts) (ending_lines classes (block_ending f m b)) (insts_keep classes f good b a b.insts (λ i h. h)) (assignments_keep classes f (block_ending f m b).copies e.copies))
-    e.leaves
+block_of_keeps : (classes : Classes) (f : Func) → IsGoodFunction f → (b : Block) (e : Ending) (m : ℕ) → Among b f.blocks → IsBlockEnding f m b e → block_keeps (Below f) (block_of classes b e) ≡ true
+block_of_keeps classes f good b e m a is =
+    let k = end_ending_keeps classes f good b b.jump m e a refl is in
+    and_both (list_all (line_keeps (Below f)) (all_lines classes b.insts ++ ending_lines classes e)) _
+    (all_both (line_keeps (Below f)) (all_lines classes b.insts) (ending_lines classes e) (insts_keep classes f good b a b.insts (λ i h. h)) (assignments_keep classes f e.copies k.copies))
+    k.leaves
 
-blocks_keep : (classes : Classes) (f : Func) → IsGoodFunction f → list_all (block_keeps (Below f)) (blocks_of classes f.blocks (all_endings f 0 f.blocks) ++ map (edge_of classes) (all_edges f f.blocks)) ≡ true
-blocks_keep classes f good =
-    blocks_all classes f (block_keeps (Below f)) (0 + length (all_edges f f.blocks)) 0 f.blocks (map (edge_of classes) (all_edges f f.blocks)) refl
-    (λ b m a le. block_of_keeps classes f good b m a)
-    (edges_all classes f (block_keeps (Below f)) f.blocks
-    (λ b l p ps a br e. and_both (list_all (line_keeps (Below f)) (assignment_lines classes (entry_copies f b.label (target f.blocks l)))) true (assignments_keep classes f (entry_copies f b.label (target f.blocks l)) (entry_keeps f good b.label (target f.blocks l))) refl))
+edge_of_keeps : (classes : Classes) (f : Func) (w : Edge) (e : Ending) → IsOnEdge f w e → block_keeps (Below f) (edge_of classes e) ≡ true
+edge_of_keeps classes f w e is =
+    let k = on_edge_keeps classes f w e is in
+    and_both (list_all (line_keeps (Below f)) (ending_lines classes e)) _ (assignments_keep classes f e.copies k.copies) k.leaves
+
+blocks_keep : (classes : Classes) (f : Func) (code : Endings) → IsGoodFunction f → IsLowered f code → list_all (block_keeps (Below f)) (blocks_of classes f.blocks code.endings ++ map (edge_of classes) code.edges) ≡ true
+blocks_keep classes f code good is =
+    blocks_all classes f (block_keeps (Below f)) (0 + length (all_edges f f.blocks)) 0 f.blocks code.endings (map (edge_of classes) code.edges) is.endings refl
+    (λ b e m a h le. block_of_keeps classes f good b e m a h)
+    (edges_all classes f (block_keeps (Below f)) f.blocks code.edges is.edges (λ w e l h. edge_of_keeps classes f w e h))
 
 params_keep : (f : Func) (ps : List Param) → ((p : Param) → Among p ps → Among p f.params) → list_all (λ d. Below f d.place) (map parameter_of ps) ≡ true
 params_keep f [] sub = refl
@@ -293,6 +264,6 @@ params_keep f (p ∷ ps) sub =
     (own_below f p.temp (own_temps f (record { line = p.line; temp = p.temp; class = p.class }) (among_left _ (flat_map param_definers f.params) (flat_map block_definers f.blocks) (param_among f.params p (sub p (inl refl))))))
     (params_keep f ps (λ q a. sub q (inr a)))
 
-pub known : (classes : Classes) (f : Func) → IsGoodFunction f → keeps_places (is_below (registers f)) (selected classes f (lowered f)) ≡ true
-unfolding selected lowered
-known classes f good = and_both (list_all (λ d. Below f d.place) (map parameter_of f.params)) _ (params_keep f f.params (λ p a. a)) (blocks_keep classes f good)
+pub known : (classes : Classes) (f : Func) (code : Endings) → IsGoodFunction f → IsLowered f code → keeps_places (is_below (registers f)) (selected classes f code) ≡ true
+unfolding selected
+known classes f code good is = and_both (list_all (λ d. Below f d.place) (map parameter_of f.params)) _ (params_keep f f.params (λ p a. a)) (blocks_keep classes f code good is)

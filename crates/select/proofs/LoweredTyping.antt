@@ -9,7 +9,7 @@ use Rattle.il_ast.specs.declared.operation.Extension.TheVariants.{SignedWord, Un
 use Rattle.il_ast.specs.declared.operation.UnaryOp.{UnaryOp}
 use Rattle.il_ast.specs.declared.operation.UnaryOp.TheVariants.{Neg, Copy, Extend, LoadLong, Load}
 use Rattle.il_ast.specs.declared.operand.Val.{Val}
-use Rattle.il_ast.specs.declared.operand.Val.TheVariants.{Int, Temp}
+use Rattle.il_ast.specs.declared.operand.Val.TheVariants.{Int}
 use Rattle.il_ast.specs.declared.operand.Arg.{Arg}
 use Rattle.il_ast.specs.declared.instruction.Inst.{Inst}
 use Rattle.il_ast.specs.declared.instruction.Inst.TheVariants.{Unary, Binary, Alloc, Store, Blit, Call}
@@ -33,10 +33,14 @@ use Rattle.il_types.specs.Locals.{fits, fits_result, is_defined, is_long_only, i
 use Rattle.phi_copies.specs.declared.ending.Assignment.{Assignment}
 use Rattle.phi_copies.specs.declared.ending.Ending.{Ending}
 use Rattle.phi_copies.specs.Good.{IsGoodFunction}
-use Rattle.phi_copies.specs.Lowered.{value_or_zero, source, reads, writes, copies_of, phis_of, phis_at, phis_before, entry_copies, edge_with, edge, jump_edges, end_edges, block_edges, all_edges, target, jump_ending, end_ending, block_ending, all_endings, lowered, straight, straight_if}
+use Rattle.phi_copies.specs.Classed.{PhisFit}
+use Rattle.phi_copies.specs.Copies.{phis_of, phis_before, first_own, AreCopies}
+use Rattle.phi_copies.specs.Endings.{Endings}
+use Rattle.phi_copies.specs.Lowered.{Edge, block_edges, all_edges, target, straight, straight_if, IsGoto, IsJumpEnding, IsEndEnding, IsBlockEnding, AreEndings, AreOnEdges, IsLowered}
+use Rattle.phi_copies.specs.Source.{value_or_zero, source}
 use Rattle.phi_copies.proofs.EdgePlaces.{AllLess, come_up}
 use Rattle.phi_copies.proofs.MoreKnown.{get_more}
-use Rattle.phi_copies.proofs.TwoRounds.{get_past}
+use Rattle.phi_copies.proofs.Lists.{get_past}
 use Rattle.select.specs.Typed.{Classes, Fits, ArgsFit, HasResult, InstFits, CopiesFit, ReturnFits, EndingFits, ParamsFit, IsTyped}
 use Rattle.select.specs.Classes.{class_given, or_long, all_phis, classes_in}
 use Rattle.select.proofs.Typing.{Among, among_left, among_right, among_at, neither_second, not_broken, none_among, not_false, class_is, OwnTemps, own_class, value_fits, operand_fits}
@@ -251,10 +255,6 @@ source_fits f n from p fit = by p.to.class (find (λ (x : PhiArg). nat_eq x.from
     by c None e h = zero_fits p.to.class
     by c (Some a) e h = fit.arguments a (find_among from p.args a h)
 
-own_fits : (f : Func) (n : ℕ) (c : Class) → classes_in f n ≡ c → Fits (classes_in f) c (Temp n)
-own_fits f n W e = tt
-own_fits f n L e = e
-
 -- the phis of a list, with their own temporaries numbered from n
 abbrev AllFit : Func → ℕ → List Phi → Type 0
 AllFit f n ps = (j : ℕ) (p : Phi) → slice_get ps j ≡ Some p → PhiFits f (n + j) p
@@ -265,29 +265,17 @@ first_fits f n p ps each = let none : n + 0 ≡ n = omega arith in subst (λ m. 
 rest_fit : (f : Func) (n : ℕ) (p : Phi) (ps : List Phi) → AllFit f n (p ∷ ps) → AllFit f (n + 1) ps
 rest_fit f n p ps each j q e = let next : n + suc j ≡ n + 1 + j = omega arith in subst (λ m. PhiFits f m q) next (each (suc j) q e)
 
-reads_fit : (f : Func) (from n : ℕ) (ps : List Phi) → AllFit f n ps → CopiesFit (classes_in f) (reads from n ps)
-reads_fit f from n [] each = tt
-reads_fit f from n (p ∷ ps) each =
-    let fit = first_fits f n p ps each in (fit.own, source_fits f n from p fit, reads_fit f from (n + 1) ps (rest_fit f n p ps each))
+phis_fit : (f : Func) (from n : ℕ) (ps : List Phi) → AllFit f n ps → PhisFit (classes_in f) from n ps
+phis_fit f from n [] each = tt
+phis_fit f from n (p ∷ ps) each =
+    let fit = first_fits f n p ps each in (fit.own, fit.destination, source_fits f n from p fit, phis_fit f from (n + 1) ps (rest_fit f n p ps each))
 
-writes_fit : (f : Func) (n : ℕ) (ps : List Phi) → AllFit f n ps → CopiesFit (classes_in f) (writes n ps)
-writes_fit f n [] each = tt
-writes_fit f n (p ∷ ps) each =
-    let fit = first_fits f n p ps each in (fit.destination, own_fits f n p.to.class fit.own, writes_fit f (n + 1) ps (rest_fit f n p ps each))
-
-copies_both : (classes : Classes) (cs ds : List Assignment) → CopiesFit classes cs → CopiesFit classes ds → CopiesFit classes (cs ++ ds)
-copies_both classes [] ds h k = k
-copies_both classes (c ∷ cs) ds h k = (h.0, h.1, copies_both classes cs ds h.2 k)
-
-entry_fits : (f : Func) → IsGoodFunction f → (from k : ℕ) → CopiesFit (classes_in f) (entry_copies f from k)
-entry_fits f good from k = by (slice_get f.blocks k) refl
+entry_fits : (f : Func) → IsGoodFunction f → (from k : ℕ) (cs : List Assignment) → AreCopies f from k cs → CopiesFit (classes_in f) cs
+entry_fits f good from k cs are = are.fit (classes_in f) (by (slice_get f.blocks k) refl)
   where
-    by : (b : Option Block) → slice_get f.blocks k ≡ b → CopiesFit (classes_in f) (copies_of from (length f.temps + phis_before f.blocks k) (phis_of b))
+    by : (b : Option Block) → slice_get f.blocks k ≡ b → PhisFit (classes_in f) from (first_own f k) (phis_of b)
     by None e = tt
-    by (Some b) e =
-        let n = length f.temps + phis_before f.blocks k in
-        copies_both (classes_in f) (reads from n b.phis) (writes n b.phis)
-        (reads_fit f from n b.phis (λ j p at. phi_fits f good k j b p e at)) (writes_fit f n b.phis (λ j p at. phi_fits f good k j b p e at))
+    by (Some b) e = phis_fit f from (first_own f k) b.phis (λ j p at. phi_fits f good k j b p e at)
 
 -- ---- endings
 
@@ -307,62 +295,51 @@ return_fits f good b j x a jump item (Some c) e =
         (sym (ap (returned_breaks broken) jump ∙ ap (λ y. breaks_in broken j.line (value_returned y)) item)
         ∙ none_among (λ (c : Block). returned_breaks broken c.jump) f.blocks b h a)
 
-ending_fits : (f : Func) → IsGoodFunction f → (number : ℕ) (b : Block) → Among b f.blocks → EndingFits (classes_in f) f.result (block_ending f number b)
-ending_fits f good number b a = by b.jump refl
+goto_fits : (f : Func) → IsGoodFunction f → (from k : ℕ) (e : Ending) → IsGoto f from k e → EndingFits (classes_in f) f.result e
+goto_fits f good from k e is = subst (EndingFits (classes_in f) f.result) (sym is.0) (entry_fits f good from k e.copies is.1, tt)
+
+ending_fits : (f : Func) → IsGoodFunction f → (number : ℕ) (b : Block) (e : Ending) → Among b f.blocks → IsBlockEnding f number b e → EndingFits (classes_in f) f.result e
+ending_fits f good number b e a is = by b.jump refl is
   where
-    by_ways : (q : Bool) (on : Val) (nonzero otherwise : ℕ) → EndingFits (classes_in f) f.result (jump_ending f b.label number (straight_if q on nonzero otherwise))
-    by_ways true on nonzero otherwise = (entry_fits f good b.label (target f.blocks nonzero), tt)
-    by_ways false on nonzero otherwise = (tt, tt)
+    by_ways : (q : Bool) (on : Val) (nonzero otherwise : ℕ) → IsJumpEnding f b.label number (straight_if q on nonzero otherwise) e → EndingFits (classes_in f) f.result e
+    by_ways true on nonzero otherwise h = goto_fits f good b.label (target f.blocks nonzero) e h
+    by_ways false on nonzero otherwise h = subst (EndingFits (classes_in f) f.result) (sym h) (tt, tt)
 
-    by_jump : (j : Lined Jump) (x : Jump) → b.jump ≡ Some j → j.item ≡ x → EndingFits (classes_in f) f.result (jump_ending f b.label number (straight x))
-    by_jump j (Goto l) e i = (entry_fits f good b.label (target f.blocks l), tt)
-    by_jump j (Branch on nonzero otherwise) e i = by_ways (nat_eq nonzero otherwise) on nonzero otherwise
-    by_jump j (Return None) e i = (tt, tt)
-    by_jump j (Return (Some x)) e i = (tt, return_fits f good b j x a e i f.result refl)
-    by_jump j Halt e i = (tt, tt)
+    by_jump : (j : Lined Jump) (x : Jump) → b.jump ≡ Some j → j.item ≡ x → IsJumpEnding f b.label number (straight x) e → EndingFits (classes_in f) f.result e
+    by_jump j (Goto l) g i h = goto_fits f good b.label (target f.blocks l) e h
+    by_jump j (Branch on nonzero otherwise) g i h = by_ways (nat_eq nonzero otherwise) on nonzero otherwise h
+    by_jump j (Return None) g i h = subst (EndingFits (classes_in f) f.result) (sym h) (tt, tt)
+    by_jump j (Return (Some x)) g i h = subst (EndingFits (classes_in f) f.result) (sym h) (tt, return_fits f good b j x a g i f.result refl)
+    by_jump j Halt g i h = subst (EndingFits (classes_in f) f.result) (sym h) (tt, tt)
 
-    by : (j : Option (Lined Jump)) → b.jump ≡ j → EndingFits (classes_in f) f.result (end_ending f b.label number j)
-    by None e = (tt, tt)
-    by (Some j) e = by_jump j j.item e refl
+    by : (j : Option (Lined Jump)) → b.jump ≡ j → IsEndEnding f b.label number j e → EndingFits (classes_in f) f.result e
+    by None g h = subst (EndingFits (classes_in f) f.result) (sym h) (tt, tt)
+    by (Some j) g h = by_jump j j.item g refl h
 
-endings_fit : (f : Func) → IsGoodFunction f → (n : ℕ) (blocks : List Block) → ((b : Block) → Among b blocks → Among b f.blocks) → (k : ℕ) (e : Ending) → slice_get (all_endings f n blocks) k ≡ Some e → EndingFits (classes_in f) f.result e
-endings_fit f good n [] all k e h = absurd (let no : ⊥ = cc in no)
-endings_fit f good n (b ∷ blocks) all zero e h =
-    let same : block_ending f n b ≡ e = cc in subst (EndingFits (classes_in f) f.result) same (ending_fits f good n b (all b (inl refl)))
-endings_fit f good n (b ∷ blocks) all (suc k) e h = endings_fit f good (n + length (block_edges f b)) blocks (λ c a. all c (inr a)) k e h
+endings_fit : (f : Func) → IsGoodFunction f → (n : ℕ) (blocks : List Block) (es : List Ending) → AreEndings f n blocks es → ((b : Block) → Among b blocks → Among b f.blocks) → (k : ℕ) (e : Ending) → slice_get es k ≡ Some e → EndingFits (classes_in f) f.result e
+endings_fit f good n [] [] are all k e h = absurd (let no : ⊥ = cc in no)
+endings_fit f good n [] (d ∷ es) are all k e h = absurd are
+endings_fit f good n (b ∷ blocks) [] are all k e h = absurd are
+endings_fit f good n (b ∷ blocks) (d ∷ es) are all zero e h =
+    let same : d ≡ e = cc in subst (EndingFits (classes_in f) f.result) same (ending_fits f good n b d (all b (inl refl)) are.0)
+endings_fit f good n (b ∷ blocks) (d ∷ es) are all (suc k) e h = endings_fit f good (n + length (block_edges f b)) blocks es are.1 (λ c a. all c (inr a)) k e h
 
-edge_fits : (f : Func) → IsGoodFunction f → (from k : ℕ) (phis : List Phi) (e : Ending) → Among e (edge_with f from k phis) → EndingFits (classes_in f) f.result e
-edge_fits f good from k [] e h = absurd h
-edge_fits f good from k (p ∷ ps) e (inl is) = subst (EndingFits (classes_in f) f.result) (sym is) (entry_fits f good from k, tt)
-edge_fits f good from k (p ∷ ps) e (inr h) = absurd h
-
-edges_fit : (f : Func) → IsGoodFunction f → (blocks : List Block) (e : Ending) → Among e (all_edges f blocks) → EndingFits (classes_in f) f.result e
-edges_fit f good [] e h = absurd h
-edges_fit f good (b ∷ blocks) e h = by (split_among e (block_edges f b) (all_edges f blocks) h) (edges_fit f good blocks e)
-  where
-    by_jump : (x : Jump) → Among e (jump_edges f b.label x) → EndingFits (classes_in f) f.result e
-    by_jump (Goto l) a = absurd a
-    by_jump (Branch on nonzero otherwise) a = by_side (split_among e (edge f b.label (target f.blocks nonzero)) (edge f b.label (target f.blocks otherwise)) a)
-      where
-        by_side : Among e (edge f b.label (target f.blocks nonzero)) ⊎ Among e (edge f b.label (target f.blocks otherwise)) → EndingFits (classes_in f) f.result e
-        by_side (inl s) = edge_fits f good b.label (target f.blocks nonzero) (phis_at f.blocks (target f.blocks nonzero)) e s
-        by_side (inr s) = edge_fits f good b.label (target f.blocks otherwise) (phis_at f.blocks (target f.blocks otherwise)) e s
-    by_jump (Return v) a = absurd a
-    by_jump Halt a = absurd a
-
-    by_end : (j : Option (Lined Jump)) → Among e (end_edges f b.label j) → EndingFits (classes_in f) f.result e
-    by_end None a = absurd a
-    by_end (Some j) a = by_jump (straight j.item) a
-
-    by : Among e (block_edges f b) ⊎ Among e (all_edges f blocks) → (Among e (all_edges f blocks) → EndingFits (classes_in f) f.result e) → EndingFits (classes_in f) f.result e
-    by (inl a) rest = by_end b.jump a
-    by (inr a) rest = rest a
+edges_fit : (f : Func) → IsGoodFunction f → (ws : List Edge) (es : List Ending) → AreOnEdges f ws es → (k : ℕ) (e : Ending) → slice_get es k ≡ Some e → EndingFits (classes_in f) f.result e
+edges_fit f good [] [] are k e h = absurd (let no : ⊥ = cc in no)
+edges_fit f good [] (d ∷ es) are k e h = absurd are
+edges_fit f good (w ∷ ws) [] are k e h = absurd are
+edges_fit f good (w ∷ ws) (d ∷ es) are zero e h =
+    let same : d ≡ e = cc in
+    subst (EndingFits (classes_in f) f.result) same (subst (EndingFits (classes_in f) f.result) (sym are.0.0) (entry_fits f good w.from w.to d.copies are.0.1, tt))
+edges_fit f good (w ∷ ws) (d ∷ es) are (suc k) e h = edges_fit f good ws es are.1 k e h
 
 -- ---- the whole
 
-each_ends : (f : Func) (n : ℕ) (blocks : List Block) → length (all_endings f n blocks) ≡ length blocks
-each_ends f n [] = refl
-each_ends f n (b ∷ blocks) = ap suc (each_ends f (n + length (block_edges f b)) blocks)
+pub each_ends : (f : Func) (n : ℕ) (blocks : List Block) (es : List Ending) → AreEndings f n blocks es → length es ≡ length blocks
+each_ends f n [] [] are = refl
+each_ends f n [] (e ∷ es) are = absurd are
+each_ends f n (b ∷ blocks) [] are = absurd are
+each_ends f n (b ∷ blocks) (e ∷ es) are = ap suc (each_ends f (n + length (block_edges f b)) blocks es are.1)
 
 params_fit : (f : Func) → IsGoodFunction f → (ps : List Param) → ((p : Param) → Among p ps → Among (record { line = p.line; temp = p.temp; class = p.class }) (definers_of f)) → ParamsFit (classes_in f) ps
 params_fit f good [] each = tt
@@ -373,13 +350,12 @@ param_among [] p h = absurd h
 param_among (q ∷ ps) p (inl e) = inl (ap (λ (x : Param). record { line = x.line; temp = x.temp; class = x.class }) e)
 param_among (q ∷ ps) p (inr h) = inr (param_among ps p h)
 
-pub lowered_is_typed : (f : Func) → IsGoodFunction f → IsTyped (classes_in f) f (lowered f)
-unfolding lowered
-lowered_is_typed f good =
+pub lowered_is_typed : (f : Func) (code : Endings) → IsGoodFunction f → IsLowered f code → IsTyped (classes_in f) f code
+lowered_is_typed f code good is =
     record {
       params = params_fit f good f.params (λ p a. among_left _ (flat_map param_definers f.params) (flat_map block_definers f.blocks) (param_among f.params p a));
       insts = λ k j b i here at. item_fits f good b i.line i.item (inst_at f good k j b i here at);
-      endings = endings_fit f good 0 f.blocks (λ b a. a);
-      edges = λ k e h. edges_fit f good f.blocks e (there (all_edges f f.blocks) k e h);
-      each_ends = each_ends f 0 f.blocks;
+      endings = endings_fit f good 0 f.blocks code.endings is.endings (λ b a. a);
+      edges = edges_fit f good (all_edges f f.blocks) code.edges is.edges;
+      each_ends = each_ends f 0 f.blocks code.endings is.endings;
     }

@@ -1,5 +1,5 @@
 -- In the virtual code of a good function no register and no weight is longer than 32 bits.
-use Rattle.std.proofs.Common.{◌≡◌, ℕ, ◌+◌, ◌<◌, ◌≤◌, ◌^◌, Bool, true, false, nat_le, ◌&&◌, List, [], ◌∷◌, ◌++◌, length, map, refl, sym, ◌∙◌, ap, arith, inl, inr}
+use Rattle.std.proofs.Common.{◌≡◌, ℕ, ◌+◌, ◌<◌, ◌≤◌, ◌^◌, Bool, true, false, nat_le, ◌&&◌, List, [], ◌∷◌, ◌++◌, length, map, refl, ◌∙◌, ap, arith, inl, inr}
 use Rattle.std.specs.Prelude.{slice_get, Option, Some, None}
 use Rattle.std.specs.List.{sum_by, flat_map}
 use Rattle.std.proofs.Math.Nat.{mod-eq_of_lt}
@@ -17,7 +17,6 @@ use Rattle.il_ast.specs.declared.instruction.Inst.TheVariants.{Unary, Binary, Al
 use Rattle.il_ast.specs.declared.instruction.Jump.{Jump}
 use Rattle.il_ast.specs.declared.instruction.Jump.TheVariants.{Goto, Branch, Return, Halt}
 use Rattle.il_ast.specs.declared.instruction.Lined.{Lined}
-use Rattle.il_ast.specs.declared.block.Phi.{Phi}
 use Rattle.il_ast.specs.declared.block.Block.{Block}
 use Rattle.il_ast.specs.declared.function.Param.{Param}
 use Rattle.il_ast.specs.declared.function.Func.{Func}
@@ -31,7 +30,9 @@ use Rattle.phi_copies.specs.declared.ending.Leave.{Leave}
 use Rattle.phi_copies.specs.declared.ending.Leave.TheVariants.{Goto as GotoBlock, Branch as BranchTo, Return as ReturnWith, Halt as HaltRun}
 use Rattle.phi_copies.specs.declared.ending.Ending.{Ending}
 use Rattle.phi_copies.specs.Good.{IsGoodFunction}
-use Rattle.phi_copies.specs.Lowered.{target, phis_of, phis_at, entry_copies, edge_with, edge, jump_edges, end_edges, block_edges, all_edges, jump_ending, end_ending, block_ending, all_endings, lowered, straight}
+use Rattle.phi_copies.specs.Copies.{phis_of, phis_at}
+use Rattle.phi_copies.specs.Endings.{Endings}
+use Rattle.phi_copies.specs.Lowered.{Edge, target, block_edges, all_edges, straight, IsJumpEnding, IsEndEnding, IsBlockEnding, AreEndings, IsOnEdge, AreOnEdges, IsLowered}
 use Rattle.phi_copies.proofs.Counting.{is_small}
 use Rattle.phi_copies.proofs.EdgePlaces.{phis_counted}
 use Rattle.vcode.specs.declared.place.Operand.TheVariants.{At, Number}
@@ -50,7 +51,7 @@ use Rattle.select.specs.Narrow.{narrow, narrow_val, narrow_dest, narrow_arg, nar
 use Rattle.select.proofs.Typing.{Among, among_left}
 use Rattle.select.proofs.LoweredTyping.{own_temps, param_among}
 use Rattle.select.proofs.TableOf.{same_classes}
-use Rattle.select.proofs.Known.{registers, Below, Within, within, AllCopies, entry_keeps, EndingKeeps, end_ending_keeps}
+use Rattle.select.proofs.Known.{registers, Below, Within, within, AllCopies, EndingKeeps, end_ending_keeps, on_edge_keeps}
 
 -- ---- operands
 
@@ -184,74 +185,49 @@ phis_few f good k = by (slice_get f.blocks k) refl
     by None e = omega arith
     by (Some b) e = let all = phis_counted f.blocks k b e in let few = (is_small f good).temporaries in omega (arith, all, few)
 
-jump_weight : (f : Func) → IsGoodFunction f → (from number : ℕ) (j : Jump) → (jump_ending f from number j).weight ≤ 44001
-jump_weight f good from number (Goto l) = let few = phis_few f good (target f.blocks l) in omega (arith, few)
-jump_weight f good from number (Branch on nonzero otherwise) = omega arith
-jump_weight f good from number (Return a) = omega arith
-jump_weight f good from number Halt = omega arith
+jump_weight : (f : Func) → IsGoodFunction f → (from number : ℕ) (j : Jump) (e : Ending) → IsJumpEnding f from number j e → e.weight ≤ 44001
+jump_weight f good from number (Goto l) e is = let few = phis_few f good (target f.blocks l) in let same = ap (λ (x : Ending). x.weight) is.0 in omega (arith, few, same)
+jump_weight f good from number (Branch on nonzero otherwise) e is = let same = ap (λ (x : Ending). x.weight) is in omega (arith, same)
+jump_weight f good from number (Return a) e is = let same = ap (λ (x : Ending). x.weight) is in omega (arith, same)
+jump_weight f good from number Halt e is = let same = ap (λ (x : Ending). x.weight) is in omega (arith, same)
 
-end_weight_few : (f : Func) → IsGoodFunction f → (from number : ℕ) (j : Option (Lined Jump)) → (end_ending f from number j).weight ≤ 44001
-end_weight_few f good from number None = omega arith
-end_weight_few f good from number (Some j) = jump_weight f good from number (straight j.item)
+end_weight_few : (f : Func) → IsGoodFunction f → (from number : ℕ) (j : Option (Lined Jump)) (e : Ending) → IsEndEnding f from number j e → e.weight ≤ 44001
+end_weight_few f good from number None e is = let same = ap (λ (x : Ending). x.weight) is in omega (arith, same)
+end_weight_few f good from number (Some j) e is = jump_weight f good from number (straight j.item) e is
 
 -- ---- blocks
 
-block_small : (classes : Classes) (f : Func) → IsGoodFunction f → (b : Block) (n : ℕ) → Among b f.blocks → narrow_block classes b (block_ending f n b) ≡ block_of classes b (block_ending f n b)
-block_small classes f good b n a =
-    let e = block_ending f n b in
-    let s = ending_small classes f good e (end_ending_keeps classes f good b b.jump n a refl) (end_weight_few f good b.label n b.jump) in
+block_small : (classes : Classes) (f : Func) → IsGoodFunction f → (b : Block) (n : ℕ) (e : Ending) → Among b f.blocks → IsBlockEnding f n b e → narrow_block classes b e ≡ block_of classes b e
+block_small classes f good b n e a is =
+    let s = ending_small classes f good e (end_ending_keeps classes f good b b.jump n e a refl is) (end_weight_few f good b.label n b.jump e is) in
     let with : List (Line ℕ) → Leave → VirtualBlock ℕ = λ ls l. record { lines = ls; jump = jump_of classes l } in
     ap (λ ls. with (ls ++ narrow_ending classes e) (narrow_leave e.leave)) (turns_small classes f good b a b.insts (λ i h. h))
     ∙ ap (λ ls. with (all_lines classes b.insts ++ ls) (narrow_leave e.leave)) s.lines
     ∙ ap (with (all_lines classes b.insts ++ ending_lines classes e)) s.leave
 
-blocks_small : (classes : Classes) (f : Func) → IsGoodFunction f → (n : ℕ) (bs : List Block) → ((b : Block) → Among b bs → Among b f.blocks) → narrow_blocks classes bs (all_endings f n bs) ≡ blocks_of classes bs (all_endings f n bs)
-blocks_small classes f good n [] sub = refl
-blocks_small classes f good n (b ∷ bs) sub =
-    let rest = all_endings f (n + length (block_edges f b)) bs in
-    ap (λ x. x ∷ narrow_blocks classes bs rest) (block_small classes f good b n (sub b (inl refl)))
-    ∙ ap (λ xs. block_of classes b (block_ending f n b) ∷ xs) (blocks_small classes f good (n + length (block_edges f b)) bs (λ c a. sub c (inr a)))
+blocks_small : (classes : Classes) (f : Func) → IsGoodFunction f → (n : ℕ) (bs : List Block) (es : List Ending) → AreEndings f n bs es → ((b : Block) → Among b bs → Among b f.blocks) → narrow_blocks classes bs es ≡ blocks_of classes bs es
+blocks_small classes f good n [] es are sub = refl
+blocks_small classes f good n (b ∷ bs) [] are sub = refl
+blocks_small classes f good n (b ∷ bs) (e ∷ es) are sub =
+    ap (λ x. x ∷ narrow_blocks classes bs es) (block_small classes f good b n e (sub b (inl refl)) are.0)
+    ∙ ap (λ xs. block_of classes b e ∷ xs) (blocks_small classes f good (n + length (block_edges f b)) bs es are.1 (λ c a. sub c (inr a)))
 
 -- ---- edges
 
-map_both : {A B : Type 0} (g : A → B) (xs ys : List A) → map g (xs ++ ys) ≡ map g xs ++ map g ys
-map_both g [] ys = refl
-map_both g (x ∷ xs) ys = ap (λ zs. g x ∷ zs) (map_both g xs ys)
+edge_small : (classes : Classes) (f : Func) → IsGoodFunction f → (w : Edge) (e : Ending) → IsOnEdge f w e → narrow_edge classes e ≡ edge_of classes e
+edge_small classes f good w e is =
+    let few = phis_few f good w.to in
+    let same = ap (λ (x : Ending). x.weight) is.0 in
+    let s = ending_small classes f good e (on_edge_keeps classes f w e is) (omega (arith, few, same)) in
+    let with : List (Line ℕ) → Leave → VirtualBlock ℕ = λ ls l. record { lines = ls; jump = jump_of classes l } in
+    ap (λ ls. with ls (narrow_leave e.leave)) s.lines ∙ ap (with (ending_lines classes e)) s.leave
 
-abbrev SameEdges : Classes → List Ending → Type 0
-SameEdges classes es = map (narrow_edge classes) es ≡ map (edge_of classes) es
-
-same_both : (classes : Classes) (es ds : List Ending) → SameEdges classes es → SameEdges classes ds → SameEdges classes (es ++ ds)
-same_both classes es ds h k =
-    map_both (narrow_edge classes) es ds ∙ ap (λ xs. xs ++ map (narrow_edge classes) ds) h ∙ ap (λ xs. map (edge_of classes) es ++ xs) k ∙ sym (map_both (edge_of classes) es ds)
-
-edge_small : (classes : Classes) (f : Func) → IsGoodFunction f → (from k : ℕ) → SameEdges classes (edge f from k)
-edge_small classes f good from k = by (phis_at f.blocks k) refl
-  where
-    by : (ps : List Phi) → phis_at f.blocks k ≡ ps → SameEdges classes (edge_with f from k ps)
-    by [] e = refl
-    by (p ∷ ps) e =
-        let few = phis_few f good k in
-        let long = ap length e in
-        let this : Ending = record { turn = false; weight = length (p ∷ ps); copies = entry_copies f from k; leave = GotoBlock k } in
-        let s = ending_small classes f good this (record { copies = entry_keeps f good from k; leaves = refl }) (omega (arith, few, long)) in
-        let with : List (Line ℕ) → VirtualBlock ℕ = λ ls. record { lines = ls; jump = jump_of classes (GotoBlock k) } in
-        ap (λ ls. with ls ∷ []) s.lines
-
-jump_edges_small : (classes : Classes) (f : Func) → IsGoodFunction f → (from : ℕ) (j : Jump) → SameEdges classes (jump_edges f from j)
-jump_edges_small classes f good from (Goto l) = refl
-jump_edges_small classes f good from (Branch on nonzero otherwise) =
-    same_both classes (edge f from (target f.blocks nonzero)) (edge f from (target f.blocks otherwise)) (edge_small classes f good from (target f.blocks nonzero)) (edge_small classes f good from (target f.blocks otherwise))
-jump_edges_small classes f good from (Return a) = refl
-jump_edges_small classes f good from Halt = refl
-
-end_edges_small : (classes : Classes) (f : Func) → IsGoodFunction f → (from : ℕ) (j : Option (Lined Jump)) → SameEdges classes (end_edges f from j)
-end_edges_small classes f good from None = refl
-end_edges_small classes f good from (Some j) = jump_edges_small classes f good from (straight j.item)
-
-edges_small : (classes : Classes) (f : Func) → IsGoodFunction f → (bs : List Block) → SameEdges classes (all_edges f bs)
-edges_small classes f good [] = refl
-edges_small classes f good (b ∷ bs) = same_both classes (block_edges f b) (all_edges f bs) (end_edges_small classes f good b.label b.jump) (edges_small classes f good bs)
+edges_small : (classes : Classes) (f : Func) → IsGoodFunction f → (ws : List Edge) (es : List Ending) → AreOnEdges f ws es → map (narrow_edge classes) es ≡ map (edge_of classes) es
+edges_small classes f good [] [] are = refl
+edges_small classes f good [] (e ∷ es) are = absurd are
+edges_small classes f good (w ∷ ws) [] are = absurd are
+edges_small classes f good (w ∷ ws) (e ∷ es) are =
+    ap (λ x. x ∷ map (narrow_edge classes) es) (edge_small classes f good w e are.0) ∙ ap (λ xs. edge_of classes e ∷ xs) (edges_small classes f good ws es are.1)
 
 -- ---- all of it
 
@@ -262,26 +238,17 @@ params_small f good (p ∷ ps) sub =
     ap (λ n. record { place = n; class = p.class } ∷ map narrow_parameter ps) (register_small f good p.temp (own f p.temp low))
     ∙ ap (λ xs. parameter_of p ∷ xs) (params_small f good ps (λ q a. sub q (inr a)))
 
-pub nothing_long : (classes : Classes) (f : Func) → IsGoodFunction f → narrow_code classes f (lowered f) ≡ selected classes f (lowered f)
-unfolding narrow_code selected lowered
-nothing_long classes f good =
-    let es = all_endings f 0 f.blocks in
-    let ds = all_edges f f.blocks in
-    let code : List (Destination ℕ) → List (VirtualBlock ℕ) → Code ℕ = λ ps bs. record { result = f.result; params = ps; blocks = bs } in
-    ap (λ ps. code ps (narrow_blocks classes f.blocks es ++ map (narrow_edge classes) ds)) (params_small f good f.params (λ p a. a))
-    ∙ ap (λ bs. code (map parameter_of f.params) (bs ++ map (narrow_edge classes) ds)) (blocks_small classes f good 0 f.blocks (λ b a. a))
-    ∙ ap (λ bs. code (map parameter_of f.params) (blocks_of classes f.blocks es ++ bs)) (edges_small classes f good f.blocks)
-
-pub is_selected : (classes : Classes) (f : Func) → IsGoodFunction f → (es ds : List Ending) → es ≡ all_endings f 0 f.blocks → ds ≡ all_edges f f.blocks → narrow_code classes f (record { endings = es; edges = ds }) ≡ selected classes f (lowered f)
-unfolding lowered
-is_selected classes f good es ds e d =
-    ap (λ xs. narrow_code classes f (record { endings = xs; edges = ds })) e
-    ∙ ap (λ xs. narrow_code classes f (record { endings = all_endings f 0 f.blocks; edges = xs })) d
-    ∙ nothing_long classes f good
+pub nothing_long : (classes : Classes) (f : Func) (code : Endings) → IsGoodFunction f → IsLowered f code → narrow_code classes f code ≡ selected classes f code
+unfolding narrow_code selected
+nothing_long classes f code good is =
+    let made : List (Destination ℕ) → List (VirtualBlock ℕ) → Code ℕ = λ ps bs. record { result = f.result; params = ps; blocks = bs } in
+    ap (λ ps. made ps (narrow_blocks classes f.blocks code.endings ++ map (narrow_edge classes) code.edges)) (params_small f good f.params (λ p a. a))
+    ∙ ap (λ bs. made (map parameter_of f.params) (bs ++ map (narrow_edge classes) code.edges)) (blocks_small classes f good 0 f.blocks code.endings is.endings (λ b a. a))
+    ∙ ap (λ bs. made (map parameter_of f.params) (blocks_of classes f.blocks code.endings ++ bs)) (edges_small classes f good (all_edges f f.blocks) code.edges is.edges)
 
 -- by a table of the classes
-pub is_selected_by : (f : Func) → IsGoodFunction f → (given table : List Class) → given ≡ table → ((t : ℕ) → listed table t ≡ classes_in f t) → (es ds : List Ending) → es ≡ all_endings f 0 f.blocks → ds ≡ all_edges f f.blocks → narrow_code (listed given) f (record { endings = es; edges = ds }) ≡ selected (classes_in f) f (lowered f)
-is_selected_by f good given table is each es ds e d =
-    ap (λ (cs : List Class). narrow_code (listed cs) f (record { endings = es; edges = ds })) is
-    ∙ ap (λ classes. narrow_code classes f (record { endings = es; edges = ds })) (same_classes f table each)
-    ∙ is_selected (classes_in f) f good es ds e d
+pub is_selected_by : (f : Func) (code : Endings) → IsGoodFunction f → IsLowered f code → (given table : List Class) → given ≡ table → ((t : ℕ) → listed table t ≡ classes_in f t) → narrow_code (listed given) f code ≡ selected (classes_in f) f code
+is_selected_by f code good lowered given table is each =
+    ap (λ (cs : List Class). narrow_code (listed cs) f code) is
+    ∙ ap (λ classes. narrow_code classes f code) (same_classes f table each)
+    ∙ nothing_long (classes_in f) f code good lowered

@@ -13,7 +13,8 @@ use Rattle.il_types.specs.declared.site.Site.{Site}
 use Rattle.il_types.specs.First.{when}
 use Rattle.il_types.specs.Locals.{times, first_repeated, param_sites, label_sites}
 use Rattle.phi_copies.specs.Good.{IsGoodFunction}
-use Rattle.phi_copies.specs.Lowered.{lowered}
+use Rattle.phi_copies.specs.Endings.{Endings}
+use Rattle.phi_copies.specs.Lowered.{IsLowered}
 use Rattle.vcode.specs.declared.place.Destination.{Destination}
 use Rattle.vcode.specs.Named.{are_low, are_distinct}
 use Rattle.vcode.specs.Places.{virtual}
@@ -151,6 +152,7 @@ are_distinct_all f good =
 
 -- ---- all of it
 
-pub is_virtual : (f : Func) → IsGoodFunction f → IsVirtual (selected (classes_in f) f (lowered f)) (length f.temps + phi_count f)
+pub is_virtual : (f : Func) (code : Endings) → IsGoodFunction f → IsLowered f code → IsVirtual (selected (classes_in f) f code) (length f.temps + phi_count f)
 unfolding selected
-is_virtual f good = record { regular = regular (classes_in f) f good; known = known (classes_in f) f good; low = are_low_all f good; distinct = are_distinct_all f good }
+is_virtual f code good is =
+    record { regular = regular (classes_in f) f code good is; known = known (classes_in f) f code good is; low = are_low_all f good; distinct = are_distinct_all f good }

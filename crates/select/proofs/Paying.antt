@@ -1,8 +1,8 @@
 -- The weight of ticks pays for the lines behind them.
-use Rattle.std.proofs.Common.{◌≡◌, ℕ, suc, ◌+◌, ◌-◌, ◌*◌, ◌≤◌, Bool, true, false, cond, nat_le, ◌&&◌, List, [], ◌∷◌, ◌++◌, length, map, refl, sym, ◌∙◌, ap, subst, arith, append_assoc}
+use Rattle.std.proofs.Common.{◌≡◌, ℕ, ◌+◌, ◌-◌, ◌*◌, ◌<◌, ◌≤◌, Bool, true, false, cond, nat_le, ◌&&◌, List, [], ◌∷◌, ◌++◌, length, map, refl, sym, ◌∙◌, ap, subst, arith, append_assoc}
 use Rattle.std.specs.Prelude.{Option, Some, None}
 use Rattle.std.proofs.lemmas.Bool.Decides.{nat_tests}
-use Rattle.std.proofs.lemmas.List.{length-map, length-append, append-nil}
+use Rattle.std.proofs.lemmas.List.{length-map, append-nil}
 use Rattle.il_ast.specs.declared.operation.Class.{Class}
 use Rattle.il_ast.specs.declared.operation.Class.TheVariants.{W, L}
 use Rattle.il_ast.specs.declared.operation.Extension.{Extension}
@@ -17,18 +17,18 @@ use Rattle.il_ast.specs.declared.instruction.Inst.TheVariants.{Unary, Binary, Al
 use Rattle.il_ast.specs.declared.instruction.Jump.{Jump as SourceJump}
 use Rattle.il_ast.specs.declared.instruction.Jump.TheVariants.{Goto as GotoLabel, Branch as BranchLabel, Return as ReturnVal, Halt as HaltJump}
 use Rattle.il_ast.specs.declared.instruction.Lined.{Lined}
-use Rattle.il_ast.specs.declared.block.Phi.{Phi}
 use Rattle.il_ast.specs.declared.function.Func.{Func}
 use Rattle.il_ast.specs.Cost.{inst_weight}
 use Rattle.phi_copies.specs.declared.ending.Assignment.{Assignment}
 use Rattle.phi_copies.specs.declared.ending.Ending.{Ending}
-use Rattle.phi_copies.specs.Lowered.{reads, writes, phis_before, phis_at, entry_copies, target, jump_ending, end_ending, straight}
+use Rattle.phi_copies.specs.Copies.{phis_at}
+use Rattle.phi_copies.specs.Lowered.{Edge, straight, IsJumpEnding, IsEndEnding, IsOnEdge}
 use Rattle.rv_isa.specs.declared.instruction.RegOp.{RegOp}
 use Rattle.rv_isa.specs.declared.instruction.RegOp.TheVariants.{Add as AddReg, Sub as SubReg, Sll as SllReg, Srl as SrlReg, Sra as SraReg, Xor as XorReg, Or as OrReg, And as AndReg, Mul as MulReg, Div as DivReg, Divu as DivuReg, Rem as RemReg, Remu as RemuReg}
 use Rattle.rv_isa.specs.declared.instruction.RegWOp.TheVariants.{Addw, Subw, Sllw, Srlw, Sraw, Mulw, Divw, Divuw, Remw, Remuw}
 use Rattle.rv_isa.specs.declared.instruction.LoadOp.{LoadOp}
 use Rattle.rv_isa.specs.declared.instruction.LoadOp.TheVariants.{Ld}
-use Rattle.phi_copies.specs.declared.ending.Leave.TheVariants.{Goto as GotoBlock, Return as ReturnWith}
+use Rattle.phi_copies.specs.declared.ending.Leave.TheVariants.{Return as ReturnWith}
 use Rattle.vcode.specs.declared.line.Operation.{Operation}
 use Rattle.vcode.specs.declared.line.Operation.TheVariants.{Reg, RegW, Compare}
 use Rattle.vcode.specs.declared.place.Operand.{Operand}
@@ -277,23 +277,6 @@ insts_pay classes (i ∷ insts) jump rest h =
 
 -- ---- the endings of a lowered function
 
-length_reads : (from n : ℕ) (ps : List Phi) → length (reads from n ps) ≡ length ps
-length_reads from n [] = refl
-length_reads from n (p ∷ ps) = ap suc (length_reads from (n + 1) ps)
-
-length_writes : (n : ℕ) (ps : List Phi) → length (writes n ps) ≡ length ps
-length_writes n [] = refl
-length_writes n (p ∷ ps) = ap suc (length_writes (n + 1) ps)
-
-length_copies : (f : Func) (from k : ℕ) → length (entry_copies f from k) ≡ 2 * length (phis_at f.blocks k)
-length_copies f from k =
-    let n = length f.temps + phis_before f.blocks k in
-    let ps = phis_at f.blocks k in
-    let r = length_reads from n ps in
-    let w = length_writes n ps in
-    let all = length-append (reads from n ps) (writes n ps) in
-    omega (arith, r, w, all)
-
 return_few : (classes : Classes) (a : Option Val) → jump_cost (jump_of classes (ReturnWith a)) ≤ 32
 return_few classes None = omega arith
 return_few classes (Some a) = let x = operand_few (operand_of a) in omega (arith, x)
@@ -302,23 +285,21 @@ branch_few : (k : Class) → branch_cost k ≤ 7
 branch_few W = omega arith
 branch_few L = omega arith
 
-jump_ending_pays : (classes : Classes) (f : Func) (from number : ℕ) (j : SourceJump) → EndingPays classes (jump_ending f from number j)
-jump_ending_pays classes f from number (GotoLabel l) = let c = length_copies f from (target f.blocks l) in omega (arith, c)
-jump_ending_pays classes f from number (BranchLabel on nonzero otherwise) =
+jump_ending_pays : (classes : Classes) (f : Func) (from number : ℕ) (j : SourceJump) (e : Ending) → IsJumpEnding f from number j e → EndingPays classes e
+jump_ending_pays classes f from number (GotoLabel l) e is =
+    let few = is.1.few in subst (EndingPays classes) (sym is.0) (omega (arith, few))
+jump_ending_pays classes f from number (BranchLabel on nonzero otherwise) e is =
     let c = not_zero classes (operand_of on) in
     let x = operand_few c.left in
     let y = operand_few c.right in
     let z = branch_few c.class in
-    omega (arith, x, y, z)
-jump_ending_pays classes f from number (ReturnVal a) = let x = return_few classes a in omega (arith, x)
-jump_ending_pays classes f from number HaltJump = omega arith
+    subst (EndingPays classes) (sym is) (omega (arith, x, y, z))
+jump_ending_pays classes f from number (ReturnVal a) e is = let x = return_few classes a in subst (EndingPays classes) (sym is) (omega (arith, x))
+jump_ending_pays classes f from number HaltJump e is = subst (EndingPays classes) (sym is) (omega arith)
 
-pub end_ending_pays : (classes : Classes) (f : Func) (from number : ℕ) (j : Option (Lined SourceJump)) → EndingPays classes (end_ending f from number j)
-end_ending_pays classes f from number None = omega arith
-end_ending_pays classes f from number (Some j) = jump_ending_pays classes f from number (straight j.item)
+pub end_ending_pays : (classes : Classes) (f : Func) (from number : ℕ) (j : Option (Lined SourceJump)) (e : Ending) → IsEndEnding f from number j e → EndingPays classes e
+end_ending_pays classes f from number None e is = subst (EndingPays classes) (sym is) (omega arith)
+end_ending_pays classes f from number (Some j) e is = jump_ending_pays classes f from number (straight j.item) e is
 
-pub edge_pays : (classes : Classes) (f : Func) (from k : ℕ) (p : Phi) (ps : List Phi) → phis_at f.blocks k ≡ p ∷ ps → EndingPays classes (record { turn = false; weight = length (p ∷ ps); copies = entry_copies f from k; leave = GotoBlock k })
-edge_pays classes f from k p ps e =
-    let c = length_copies f from k in
-    let n : length (phis_at f.blocks k) ≡ suc (length ps) = ap length e in
-    omega (arith, c, n)
+pub edge_pays : (classes : Classes) (f : Func) (w : Edge) (e : Ending) → 0 < length (phis_at f.blocks w.to) → IsOnEdge f w e → EndingPays classes e
+edge_pays classes f w e some is = let few = is.1.few in subst (EndingPays classes) (sym is.0) (omega (arith, few, some))

@@ -23,7 +23,10 @@ use Rattle.il_types.specs.Locals.{is_alloc as is_alloc_inst, in_insts, has_wrong
 use Rattle.phi_copies.specs.declared.ending.Assignment.{Assignment}
 use Rattle.phi_copies.specs.declared.ending.Ending.{Ending}
 use Rattle.phi_copies.specs.Good.{IsGoodFunction}
-use Rattle.phi_copies.specs.Lowered.{or_zero, target, phis_at, entry_copies, edge_with, edge, jump_edges, end_edges, block_edges, all_edges, past_edge, branch_target, jump_ending, end_ending, block_ending, all_endings, lowered, straight, straight_if}
+use Rattle.phi_copies.specs.Copies.{phis_at}
+use Rattle.phi_copies.specs.Endings.{Endings}
+use Rattle.phi_copies.specs.Lowered.{or_zero, target, Edge, edge_with, edge, jump_edges, end_edges, block_edges, all_edges, past_edge, branch_target, straight, straight_if, IsGoto, IsJumpEnding, IsEndEnding, AreEndings, IsOnEdge, IsLowered}
+use Rattle.phi_copies.proofs.EntryNumbers.{on_edges_many}
 use Rattle.vcode.specs.declared.line.Line.{Line}
 use Rattle.vcode.specs.Addresses.{at_once}
 use Rattle.vcode.specs.declared.line.Line.TheVariants.{Tick, Alloc, Store, Blit, Call}
@@ -34,7 +37,7 @@ use Rattle.select.specs.Selected.{operand_of, destination_of, argument_of, inst_
 use Rattle.select.specs.Typed.{Classes}
 use Rattle.select.proofs.Typing.{Among, neither_first, neither_second, not_broken, none_among}
 use Rattle.select.proofs.Paying.{ending_pays, insts_pay, end_ending_pays, edge_pays}
-use Rattle.select.proofs.EachBlock.{blocks_all, Branches, edge_for, edges_all, IsTarget, is_target}
+use Rattle.select.proofs.EachBlock.{blocks_all, Branches, Leaves, edges_all, IsTarget, is_target}
 use Rattle.select.proofs.UsedPlaces.{copy_sets, unary_sets, binary_sets, no_alloc, no_area, no_turn, all_few, and_both}
 
 -- ---- tests
@@ -66,27 +69,28 @@ neither p (x ∷ xs) ys h k = by (p x) h (neither p xs ys)
 
 -- ---- every block is paid for
 
-paid_blocks : (classes : Classes) (f : Func) → list_all is_paid (blocks_of classes f.blocks (all_endings f 0 f.blocks) ++ map (edge_of classes) (all_edges f f.blocks)) ≡ true
-paid_blocks classes f =
-    blocks_all classes f is_paid (0 + length (all_edges f f.blocks)) 0 f.blocks (map (edge_of classes) (all_edges f f.blocks)) refl
-    (λ b m a le. insts_pay classes b.insts (jump_of classes (block_ending f m b).leave) (ending_lines classes (block_ending f m b)) (ending_pays classes (block_ending f m b) (end_ending_pays classes f b.label m b.jump)))
-    (edges_all classes f is_paid f.blocks (λ b l p ps a br e. ending_pays classes (edge_for f b.label (target f.blocks l) (p ∷ ps)) (edge_pays classes f b.label (target f.blocks l) p ps e)))
+paid_blocks : (classes : Classes) (f : Func) (code : Endings) → IsLowered f code → list_all is_paid (blocks_of classes f.blocks code.endings ++ map (edge_of classes) code.edges) ≡ true
+paid_blocks classes f code is =
+    blocks_all classes f is_paid (0 + length (all_edges f f.blocks)) 0 f.blocks code.endings (map (edge_of classes) code.edges) is.endings refl
+    (λ b e m a h le. insts_pay classes b.insts (jump_of classes e.leave) (ending_lines classes e) (ending_pays classes e (end_ending_pays classes f b.label m b.jump e h)))
+    (edges_all classes f is_paid f.blocks code.edges is.edges (λ w e l h. ending_pays classes e (edge_pays classes f w e l.some h)))
 
 -- ---- jumps lead to blocks behind the first
 
-length_blocks : (classes : Classes) (f : Func) (n : ℕ) (bs : List Block) → length (blocks_of classes bs (all_endings f n bs)) ≡ length bs
-length_blocks classes f n [] = refl
-length_blocks classes f n (b ∷ bs) = ap suc (length_blocks classes f (n + length (block_edges f b)) bs)
+length_blocks : (classes : Classes) (f : Func) (n : ℕ) (bs : List Block) (es : List Ending) → AreEndings f n bs es → length (blocks_of classes bs es) ≡ length bs
+length_blocks classes f n [] es are = refl
+length_blocks classes f n (b ∷ bs) [] are = absurd are
+length_blocks classes f n (b ∷ bs) (e ∷ es) are = ap suc (length_blocks classes f (n + length (block_edges f b)) bs es are.1)
 
 -- all blocks
 abbrev total : Func → ℕ
 total f = length f.blocks + length (all_edges f f.blocks)
 
-total_is : (classes : Classes) (f : Func) → length (blocks_of classes f.blocks (all_endings f 0 f.blocks) ++ map (edge_of classes) (all_edges f f.blocks)) ≡ total f
-total_is classes f =
-    length-append (blocks_of classes f.blocks (all_endings f 0 f.blocks)) (map (edge_of classes) (all_edges f f.blocks))
-    ∙ ap (λ n. n + length (map (edge_of classes) (all_edges f f.blocks))) (length_blocks classes f 0 f.blocks)
-    ∙ ap (λ n. length f.blocks + n) (length-map (all_edges f f.blocks) (edge_of classes))
+total_is : (classes : Classes) (f : Func) (code : Endings) → IsLowered f code → length (blocks_of classes f.blocks code.endings ++ map (edge_of classes) code.edges) ≡ total f
+total_is classes f code is =
+    length-append (blocks_of classes f.blocks code.endings) (map (edge_of classes) code.edges)
+    ∙ ap (λ n. n + length (map (edge_of classes) code.edges)) (length_blocks classes f 0 f.blocks code.endings is.endings)
+    ∙ ap (λ n. length f.blocks + n) (length-map code.edges (edge_of classes) ∙ on_edges_many f (all_edges f f.blocks) code.edges is.edges)
 
 inside_at : (n k : ℕ) → 0 < k → k < n → is_target_in n k ≡ true
 inside_at n k h j = and_both (nat_lt 0 k) (nat_lt k n) (lt_true 0 k h) (lt_true k n j)
@@ -105,14 +109,21 @@ side_inside f l number (p ∷ ps) t h =
     let some = t.within in
     inside_at (total f) (length f.blocks + number) (omega (arith, some)) (omega (arith, within))
 
-edge_long : (f : Func) (from k : ℕ) (phis : List Phi) → 0 < length phis → length (edge_with f from k phis) ≡ 1
-edge_long f from k [] h = absurd (omega (arith, h))
-edge_long f from k (p ∷ ps) h = refl
+edge_long : (from k : ℕ) (phis : List Phi) → 0 < length phis → length (edge_with from k phis) ≡ 1
+edge_long from k [] h = absurd (omega (arith, h))
+edge_long from k (p ∷ ps) h = refl
 
-jump_inside : (classes : Classes) (f : Func) → IsGoodFunction f → (b : Block) (j : Lined Jump) (x : Jump) (m : ℕ) → Among b f.blocks → b.jump ≡ Some j → j.item ≡ x → m + length (block_edges f b) ≤ length (all_edges f f.blocks) → leads_inside (total f) (jump_of classes (jump_ending f b.label m (straight x)).leave) ≡ true
-jump_inside classes f good b j (Goto l) m a e i le =
-    label_inside f l (is_target f good b j l j.line a e (subst (λ y. Among (record { line = j.line; number = l }) (jump_sites j.line y)) (sym i) (inl refl)))
-jump_inside classes f good b j (Branch on nonzero otherwise) m a e i le = by_ways (nat_eq nonzero otherwise) refl
+-- an ending that leads to blocks behind the first
+abbrev LeadsInside : Classes → Func → Ending → Type 0
+LeadsInside classes f d = leads_inside (total f) (jump_of classes d.leave) ≡ true
+
+goto_inside : (classes : Classes) (f : Func) (from l : ℕ) (d : Ending) → IsTarget f l → IsGoto f from (target f.blocks l) d → LeadsInside classes f d
+goto_inside classes f from l d t is = subst (LeadsInside classes f) (sym is.0) (label_inside f l t)
+
+jump_inside : (classes : Classes) (f : Func) → IsGoodFunction f → (b : Block) (j : Lined Jump) (x : Jump) (m : ℕ) (d : Ending) → Among b f.blocks → b.jump ≡ Some j → j.item ≡ x → m + length (block_edges f b) ≤ length (all_edges f f.blocks) → IsJumpEnding f b.label m (straight x) d → LeadsInside classes f d
+jump_inside classes f good b j (Goto l) m d a e i le is =
+    goto_inside classes f b.label l d (is_target f good b j l j.line a e (subst (λ y. Among (record { line = j.line; number = l }) (jump_sites j.line y)) (sym i) (inl refl))) is
+jump_inside classes f good b j (Branch on nonzero otherwise) m d a e i le is = by_ways (nat_eq nonzero otherwise) refl is
   where
     from : ℕ
     from = b.label
@@ -129,20 +140,21 @@ jump_inside classes f good b j (Branch on nonzero otherwise) m a e i le = by_way
     two : IsTarget f otherwise
     two = is_target f good b j otherwise j.line a e (subst (λ y. Among (record { line = j.line; number = otherwise }) (jump_sites j.line y)) (sym i) (inr (inl refl)))
 
-    by_ways : (q : Bool) → nat_eq nonzero otherwise ≡ q → leads_inside (total f) (jump_of classes (jump_ending f b.label m (straight_if q on nonzero otherwise)).leave) ≡ true
-    by_ways true differ = label_inside f nonzero one
-    by_ways false differ =
+    by_ways : (q : Bool) → nat_eq nonzero otherwise ≡ q → IsJumpEnding f b.label m (straight_if q on nonzero otherwise) d → LeadsInside classes f d
+    by_ways true differ h = goto_inside classes f b.label nonzero d one h
+    by_ways false differ h =
         let edges : block_edges f b ≡ edge f from t1 ++ edge f from t2 = ap (end_edges f from) e ∙ (ap (λ y. jump_edges f from (straight y)) i ∙ ap (λ q. jump_edges f from (straight_if q on nonzero otherwise)) differ) in
         let long : length (block_edges f b) ≡ length (edge f from t1) + length (edge f from t2) = ap length edges ∙ length-append (edge f from t1) (edge f from t2) in
-        and_both (is_target_in (total f) (branch_target f m t1)) (is_target_in (total f) (branch_target f (m + length (edge f from t1)) t2))
-        (side_inside f nonzero m (phis_at f.blocks t1) one (λ h. let n = edge_long f from t1 (phis_at f.blocks t1) h in omega (arith, n, long, le)))
-        (side_inside f otherwise (m + length (edge f from t1)) (phis_at f.blocks t2) two (λ h. let n = edge_long f from t2 (phis_at f.blocks t2) h in omega (arith, n, long, le)))
-jump_inside classes f good b j (Return v) m a e i le = refl
-jump_inside classes f good b j Halt m a e i le = refl
+        subst (LeadsInside classes f) (sym h)
+        (and_both (is_target_in (total f) (branch_target f m t1)) (is_target_in (total f) (branch_target f (m + length (edge f from t1)) t2))
+        (side_inside f nonzero m (phis_at f.blocks t1) one (λ h. let n = edge_long from t1 (phis_at f.blocks t1) h in omega (arith, n, long, le)))
+        (side_inside f otherwise (m + length (edge f from t1)) (phis_at f.blocks t2) two (λ h. let n = edge_long from t2 (phis_at f.blocks t2) h in omega (arith, n, long, le))))
+jump_inside classes f good b j (Return v) m d a e i le is = subst (LeadsInside classes f) (sym is) refl
+jump_inside classes f good b j Halt m d a e i le is = subst (LeadsInside classes f) (sym is) refl
 
-end_inside : (classes : Classes) (f : Func) → IsGoodFunction f → (b : Block) (j : Option (Lined Jump)) (m : ℕ) → Among b f.blocks → b.jump ≡ j → m + length (block_edges f b) ≤ length (all_edges f f.blocks) → leads_inside (total f) (jump_of classes (end_ending f b.label m j).leave) ≡ true
-end_inside classes f good b None m a e le = refl
-end_inside classes f good b (Some j) m a e le = jump_inside classes f good b j j.item m a e refl le
+end_inside : (classes : Classes) (f : Func) → IsGoodFunction f → (b : Block) (j : Option (Lined Jump)) (m : ℕ) (d : Ending) → Among b f.blocks → b.jump ≡ j → m + length (block_edges f b) ≤ length (all_edges f f.blocks) → IsEndEnding f b.label m j d → LeadsInside classes f d
+end_inside classes f good b None m d a e le is = subst (LeadsInside classes f) (sym is) refl
+end_inside classes f good b (Some j) m d a e le is = jump_inside classes f good b j j.item m d a e refl le is
 
 edge_inside : (f : Func) → IsGoodFunction f → (b : Block) (l : ℕ) → Among b f.blocks → Branches b l → is_target_in (total f) (target f.blocks l) ≡ true
 edge_inside f good b l a br = label_inside f l (is_target f good b br.jump l br.jump.line a br.ends (subst (λ y. Among (record { line = br.jump.line; number = l }) (jump_sites br.jump.line y)) (sym br.is) (by br.label)))
@@ -151,12 +163,17 @@ edge_inside f good b l a br = label_inside f l (is_target f good b br.jump l br.
     by (inl e) = inl (ap (λ n. record { line = br.jump.line; number = n }) e)
     by (inr e) = inr (inl (ap (λ n. record { line = br.jump.line; number = n }) e))
 
-pub inside_blocks : (classes : Classes) (f : Func) → IsGoodFunction f → list_all (λ (b : VirtualBlock ℕ). leads_inside (total f) b.jump) (blocks_of classes f.blocks (all_endings f 0 f.blocks) ++ map (edge_of classes) (all_edges f f.blocks)) ≡ true
-inside_blocks classes f good =
+on_edge_inside : (classes : Classes) (f : Func) → IsGoodFunction f → (w : Edge) (e : Ending) → Leaves f f.blocks w → IsOnEdge f w e → LeadsInside classes f e
+on_edge_inside classes f good w e l is =
+    subst (LeadsInside classes f) (sym is.0)
+    (ap (λ (x : Edge). is_target_in (total f) x.to) l.is ∙ edge_inside f good l.block l.label l.there l.branches)
+
+pub inside_blocks : (classes : Classes) (f : Func) (code : Endings) → IsGoodFunction f → IsLowered f code → list_all (λ (b : VirtualBlock ℕ). leads_inside (total f) b.jump) (blocks_of classes f.blocks code.endings ++ map (edge_of classes) code.edges) ≡ true
+inside_blocks classes f code good is =
     let none : 0 + length (all_edges f f.blocks) ≡ length (all_edges f f.blocks) = omega arith in
-    blocks_all classes f (λ (b : VirtualBlock ℕ). leads_inside (total f) b.jump) (length (all_edges f f.blocks)) 0 f.blocks (map (edge_of classes) (all_edges f f.blocks)) none
-    (λ b m a le. end_inside classes f good b b.jump m a refl le)
-    (edges_all classes f (λ (b : VirtualBlock ℕ). leads_inside (total f) b.jump) f.blocks (λ b l p ps a br e. edge_inside f good b l a br))
+    blocks_all classes f (λ (b : VirtualBlock ℕ). leads_inside (total f) b.jump) (length (all_edges f f.blocks)) 0 f.blocks code.endings (map (edge_of classes) code.edges) is.endings none
+    (λ b e m a h le. end_inside classes f good b b.jump m e a refl le h)
+    (edges_all classes f (λ (b : VirtualBlock ℕ). leads_inside (total f) b.jump) f.blocks code.edges is.edges (λ w e l h. on_edge_inside classes f good w e l h))
 
 -- ---- blocks of memory are made in the first block
 
@@ -188,21 +205,22 @@ makes_none b = not (list_any is_alloc b.lines)
 none_made : (classes : Classes) (b : Block) (e : Ending) → first (λ (i : Lined Inst). when (is_alloc_inst i.item) i.line) b.insts ≡ None → makes_none (block_of classes b e) ≡ true
 none_made classes b e h = ap not (insts_no_alloc classes b.insts (ending_lines classes e) h (copies_no_alloc classes e.copies))
 
-first_alone : (classes : Classes) (f : Func) (blocks : List Block) → wrong_alloc_in blocks ≡ None → list_all makes_none (map (edge_of classes) (all_edges f f.blocks)) ≡ true → (n : ℕ) → allocs_first (blocks_of classes blocks (all_endings f n blocks) ++ map (edge_of classes) (all_edges f f.blocks)) ≡ true
-first_alone classes f [] h edges n = by (map (edge_of classes) (all_edges f f.blocks)) edges
+first_alone : (classes : Classes) (f : Func) (n : ℕ) (blocks : List Block) (es : List Ending) (rest : List (VirtualBlock ℕ)) → AreEndings f n blocks es → wrong_alloc_in blocks ≡ None → list_all makes_none rest ≡ true → allocs_first (blocks_of classes blocks es ++ rest) ≡ true
+first_alone classes f n [] es rest are h edges = by rest edges
   where
     by : (bs : List (VirtualBlock ℕ)) → list_all makes_none bs ≡ true → allocs_first bs ≡ true
     by [] e = refl
     by (b ∷ bs) e = and_right (makes_none b) (list_all makes_none bs) e
-first_alone classes f (b ∷ blocks) h edges n =
-    let rest = neither_second (in_insts has_wrong_size (b ∷ [])) (in_insts is_alloc_inst blocks) h in
-    blocks_all classes f makes_none (n + length (block_edges f b) + length (all_edges f blocks)) (n + length (block_edges f b)) blocks (map (edge_of classes) (all_edges f f.blocks)) refl
-    (λ c m a le. none_made classes c (block_ending f m c) (none_among (λ (x : Block). first (λ (i : Lined Inst). when (is_alloc_inst i.item) i.line) x.insts) blocks c rest a)) edges
+first_alone classes f n (b ∷ blocks) [] rest are h edges = absurd are
+first_alone classes f n (b ∷ blocks) (e ∷ es) rest are h edges =
+    let others = neither_second (in_insts has_wrong_size (b ∷ [])) (in_insts is_alloc_inst blocks) h in
+    blocks_all classes f makes_none (n + length (block_edges f b) + length (all_edges f blocks)) (n + length (block_edges f b)) blocks es rest are.1 refl
+    (λ c d m a is le. none_made classes c d (none_among (λ (x : Block). first (λ (i : Lined Inst). when (is_alloc_inst i.item) i.line) x.insts) blocks c others a)) edges
 
-allocs_are_first : (classes : Classes) (f : Func) → IsGoodFunction f → allocs_first (blocks_of classes f.blocks (all_endings f 0 f.blocks) ++ map (edge_of classes) (all_edges f f.blocks)) ≡ true
-allocs_are_first classes f good =
-    first_alone classes f f.blocks (good.rules AllocInEntry)
-    (edges_all classes f makes_none f.blocks (λ b l p ps a br e. ap not (copies_no_alloc classes (entry_copies f b.label (target f.blocks l))))) 0
+allocs_are_first : (classes : Classes) (f : Func) (code : Endings) → IsGoodFunction f → IsLowered f code → allocs_first (blocks_of classes f.blocks code.endings ++ map (edge_of classes) code.edges) ≡ true
+allocs_are_first classes f code good is =
+    first_alone classes f 0 f.blocks code.endings (map (edge_of classes) code.edges) is.endings (good.rules AllocInEntry)
+    (edges_all classes f makes_none f.blocks code.edges is.edges (λ w e l h. ap not (copies_no_alloc classes e.copies)))
 
 -- ---- the stack that they take
 
@@ -259,20 +277,21 @@ edges_area classes (e ∷ es) =
     let rest = edges_area classes es in
     omega (arith, all, one, rest)
 
-blocks_area : (classes : Classes) (f : Func) (n : ℕ) (bs : List Block) → sum_by bytes_in (blocks_of classes bs (all_endings f n bs)) ≡ sum_by (λ (b : Block). sum_by (λ (i : Lined Inst). inst_bytes i.item) b.insts) bs
-blocks_area classes f n [] = refl
-blocks_area classes f n (b ∷ bs) =
-    let all = sum_by-cons bytes_in (block_of classes b (block_ending f n b)) (blocks_of classes bs (all_endings f (n + length (block_edges f b)) bs)) in
+blocks_area : (classes : Classes) (f : Func) (n : ℕ) (bs : List Block) (es : List Ending) → AreEndings f n bs es → sum_by bytes_in (blocks_of classes bs es) ≡ sum_by (λ (b : Block). sum_by (λ (i : Lined Inst). inst_bytes i.item) b.insts) bs
+blocks_area classes f n [] es are = refl
+blocks_area classes f n (b ∷ bs) [] are = absurd are
+blocks_area classes f n (b ∷ bs) (e ∷ es) are =
+    let all = sum_by-cons bytes_in (block_of classes b e) (blocks_of classes bs es) in
     let source = sum_by-cons (λ (c : Block). sum_by (λ (i : Lined Inst). inst_bytes i.item) c.insts) b bs in
-    let one = block_area classes b (block_ending f n b) in
-    let rest = blocks_area classes f (n + length (block_edges f b)) bs in
+    let one = block_area classes b e in
+    let rest = blocks_area classes f (n + length (block_edges f b)) bs es are.1 in
     omega (arith, all, source, one, rest)
 
-pub area_is : (classes : Classes) (f : Func) → sum_by bytes_in (blocks_of classes f.blocks (all_endings f 0 f.blocks) ++ map (edge_of classes) (all_edges f f.blocks)) ≡ alloc_area f
-area_is classes f =
-    let both = sum_by-append bytes_in (blocks_of classes f.blocks (all_endings f 0 f.blocks)) (map (edge_of classes) (all_edges f f.blocks)) in
-    let one = blocks_area classes f 0 f.blocks in
-    let none = edges_area classes (all_edges f f.blocks) in
+pub area_is : (classes : Classes) (f : Func) (code : Endings) → IsLowered f code → sum_by bytes_in (blocks_of classes f.blocks code.endings ++ map (edge_of classes) code.edges) ≡ alloc_area f
+area_is classes f code is =
+    let both = sum_by-append bytes_in (blocks_of classes f.blocks code.endings) (map (edge_of classes) code.edges) in
+    let one = blocks_area classes f 0 f.blocks code.endings is.endings in
+    let none = edges_area classes code.edges in
     omega (arith, both, one, none)
 
 -- ---- the turns of a block
@@ -353,11 +372,11 @@ few_turns classes f good b e a =
 abbrev is_paced : VirtualBlock ℕ → Bool
 is_paced b = nat_le (sum_by turns_of b.lines) 40000
 
-paced_blocks : (classes : Classes) (f : Func) → IsGoodFunction f → list_all is_paced (blocks_of classes f.blocks (all_endings f 0 f.blocks) ++ map (edge_of classes) (all_edges f f.blocks)) ≡ true
-paced_blocks classes f good =
-    blocks_all classes f is_paced (0 + length (all_edges f f.blocks)) 0 f.blocks (map (edge_of classes) (all_edges f f.blocks)) refl
-    (λ b m a le. le_true _ 40000 (few_turns classes f good b (block_ending f m b) a))
-    (edges_all classes f is_paced f.blocks (λ b l p ps a br e. let one = ending_turns classes (edge_for f b.label (target f.blocks l) (p ∷ ps)) in le_true _ 40000 (omega (arith, one))))
+paced_blocks : (classes : Classes) (f : Func) (code : Endings) → IsGoodFunction f → IsLowered f code → list_all is_paced (blocks_of classes f.blocks code.endings ++ map (edge_of classes) code.edges) ≡ true
+paced_blocks classes f code good is =
+    blocks_all classes f is_paced (0 + length (all_edges f f.blocks)) 0 f.blocks code.endings (map (edge_of classes) code.edges) is.endings refl
+    (λ b e m a h le. le_true _ 40000 (few_turns classes f good b e a))
+    (edges_all classes f is_paced f.blocks code.edges is.edges (λ w e l h. let one = ending_turns classes e in le_true _ 40000 (omega (arith, one))))
 
 -- ---- the arguments of calls
 
@@ -395,11 +414,11 @@ all_among p [] b h a = absurd a
 all_among p (c ∷ bs) b h (inl e) = ap p e ∙ and_left (p c) (list_all p bs) h
 all_among p (c ∷ bs) b h (inr a) = all_among p bs b (and_right (p c) (list_all p bs) h) a
 
-few_blocks : (classes : Classes) (f : Func) → list_all calls_few f.blocks ≡ true → list_all (λ (b : VirtualBlock ℕ). list_all passes_few b.lines) (blocks_of classes f.blocks (all_endings f 0 f.blocks) ++ map (edge_of classes) (all_edges f f.blocks)) ≡ true
-few_blocks classes f h =
-    blocks_all classes f (λ (b : VirtualBlock ℕ). list_all passes_few b.lines) (0 + length (all_edges f f.blocks)) 0 f.blocks (map (edge_of classes) (all_edges f f.blocks)) refl
-    (λ b m a le. insts_few classes b.insts (ending_lines classes (block_ending f m b)) (all_among calls_few f.blocks b h a) (copies_few classes (block_ending f m b).copies))
-    (edges_all classes f (λ (b : VirtualBlock ℕ). list_all passes_few b.lines) f.blocks (λ b l p ps a br e. copies_few classes (edge_for f b.label (target f.blocks l) (p ∷ ps)).copies))
+few_blocks : (classes : Classes) (f : Func) (code : Endings) → IsLowered f code → list_all calls_few f.blocks ≡ true → list_all (λ (b : VirtualBlock ℕ). list_all passes_few b.lines) (blocks_of classes f.blocks code.endings ++ map (edge_of classes) code.edges) ≡ true
+few_blocks classes f code is h =
+    blocks_all classes f (λ (b : VirtualBlock ℕ). list_all passes_few b.lines) (0 + length (all_edges f f.blocks)) 0 f.blocks code.endings (map (edge_of classes) code.edges) is.endings refl
+    (λ b e m a d le. insts_few classes b.insts (ending_lines classes e) (all_among calls_few f.blocks b h a) (copies_few classes e.copies))
+    (edges_all classes f (λ (b : VirtualBlock ℕ). list_all passes_few b.lines) f.blocks code.edges is.edges (λ w e l d. copies_few classes e.copies))
 
 -- ---- the whole
 
@@ -417,21 +436,21 @@ limits_of f good =
     let behind_params = and_right (nat_le (length f.params) 64) _ behind_temps in
     (le_of (length f.params) 64 (and_left (nat_le (length f.params) 64) _ behind_temps), le_of (alloc_area f) 1048576 (and_left (nat_le (alloc_area f) 1048576) _ behind_params))
 
-pub regular : (classes : Classes) (f : Func) → IsGoodFunction f → IsRegular (selected classes f (lowered f))
-unfolding selected lowered
-regular classes f good =
+pub regular : (classes : Classes) (f : Func) (code : Endings) → IsGoodFunction f → IsLowered f code → IsRegular (selected classes f code)
+unfolding selected
+regular classes f code good is =
     let few = (limits_of f good).0 in
     let params : length (map parameter_of f.params) ≡ length f.params = length-map f.params parameter_of in
     let bytes = (limits_of f good).1 in
-    let all = area_is classes f in
+    let all = area_is classes f code is in
     record {
       few_params = le_true (length (map parameter_of f.params)) 64 (omega (arith, few, params));
-      inside = ap (λ n. list_all (λ (b : VirtualBlock ℕ). leads_inside n b.jump) (blocks_of classes f.blocks (all_endings f 0 f.blocks) ++ map (edge_of classes) (all_edges f f.blocks))) (total_is classes f) ∙ inside_blocks classes f good;
-      first = allocs_are_first classes f good;
+      inside = ap (λ n. list_all (λ (b : VirtualBlock ℕ). leads_inside n b.jump) (blocks_of classes f.blocks code.endings ++ map (edge_of classes) code.edges)) (total_is classes f code is) ∙ inside_blocks classes f code good is;
+      first = allocs_are_first classes f code good is;
       small = le_true _ 1048576 (omega (arith, bytes, all));
-      paid = paid_blocks classes f;
-      paced = paced_blocks classes f good;
-      few_args = few_blocks classes f (calls_within f good);
+      paid = paid_blocks classes f code is;
+      paced = paced_blocks classes f code good is;
+      few_args = few_blocks classes f code is (calls_within f good);
     }
 
 pub few_params : (f : Func) → IsGoodFunction f → length f.params ≤ 64

@@ -1,5 +1,5 @@
 -- The virtual code of a function passes no more arguments on the stack, and makes no larger blocks of memory, than the function does.
-use Rattle.std.proofs.Common.{◌≡◌, ℕ, ◌+◌, ◌≤◌, List, [], ◌∷◌, ◌++◌, length, map, refl, sym, subst, arith, append_assoc}
+use Rattle.std.proofs.Common.{◌≡◌, ℕ, ◌≤◌, List, [], ◌∷◌, ◌++◌, length, map, refl, sym, subst, arith, append_assoc}
 use Rattle.std.specs.Prelude.{max}
 use Rattle.std.proofs.lemmas.List.{length-map}
 use Rattle.il_ast.specs.declared.instruction.Inst.{Inst}
@@ -10,7 +10,8 @@ use Rattle.il_ast.specs.declared.function.Func.{Func}
 use Rattle.il_ast.specs.Cost.{args_on_stack as inst_args, largest_in, largest_of, alloc_area}
 use Rattle.phi_copies.specs.declared.ending.Assignment.{Assignment}
 use Rattle.phi_copies.specs.declared.ending.Ending.{Ending}
-use Rattle.phi_copies.specs.Lowered.{all_edges, block_edges, block_ending, all_endings, lowered}
+use Rattle.phi_copies.specs.Endings.{Endings}
+use Rattle.phi_copies.specs.Lowered.{IsLowered}
 use Rattle.vcode.specs.declared.place.Operand.{Operand}
 use Rattle.vcode.specs.declared.line.Line.{Line}
 use Rattle.vcode.specs.declared.line.Line.TheVariants.{Tick, Set, Operate, Load, Store, Alloc, Blit, Call}
@@ -67,21 +68,21 @@ edges_pass : (classes : Classes) (es : List Ending) → most_in_blocks (map (edg
 edges_pass classes [] = omega arith
 edges_pass classes (e ∷ es) = let one = copies_pass classes e.copies in let rest = edges_pass classes es in omega (arith, one, rest)
 
-blocks_pass : (classes : Classes) (f : Func) (n : ℕ) (bs : List Block) (rest : List (VirtualBlock ℕ)) → most_in_blocks rest ≤ 0 → most_in_blocks (blocks_of classes bs (all_endings f n bs) ++ rest) ≤ largest_of bs
-blocks_pass classes f n [] rest h = h
-blocks_pass classes f n (b ∷ bs) rest h =
-    let ending = block_ending f n b in
-    let copies = copies_pass classes ending.copies in
-    let one = insts_pass classes b.insts (ending_lines classes ending) (omega (arith, copies)) in
-    let more = blocks_pass classes f (n + length (block_edges f b)) bs rest h in
+blocks_pass : (classes : Classes) (bs : List Block) (es : List Ending) (rest : List (VirtualBlock ℕ)) → most_in_blocks rest ≤ 0 → most_in_blocks (blocks_of classes bs es ++ rest) ≤ largest_of bs
+blocks_pass classes [] es rest h = h
+blocks_pass classes (b ∷ bs) [] rest h = omega (arith, h)
+blocks_pass classes (b ∷ bs) (e ∷ es) rest h =
+    let copies = copies_pass classes e.copies in
+    let one = insts_pass classes b.insts (ending_lines classes e) (omega (arith, copies)) in
+    let more = blocks_pass classes bs es rest h in
     omega (arith, one, more)
 
-pub code_passes : (classes : Classes) (f : Func) → outgoing (selected classes f (lowered f)) ≤ largest_of f.blocks
-unfolding selected lowered
-code_passes classes f = blocks_pass classes f 0 f.blocks (map (edge_of classes) (all_edges f f.blocks)) (edges_pass classes (all_edges f f.blocks))
+pub code_passes : (classes : Classes) (f : Func) (code : Endings) → outgoing (selected classes f code) ≤ largest_of f.blocks
+unfolding selected
+code_passes classes f code = blocks_pass classes f.blocks code.endings (map (edge_of classes) code.edges) (edges_pass classes code.edges)
 
 -- ---- blocks of memory
 
-pub code_area : (classes : Classes) (f : Func) → area (selected classes f (lowered f)) ≡ alloc_area f
-unfolding selected lowered
-code_area classes f = area_is classes f
+pub code_area : (classes : Classes) (f : Func) (code : Endings) → IsLowered f code → area (selected classes f code) ≡ alloc_area f
+unfolding selected
+code_area classes f code is = area_is classes f code is

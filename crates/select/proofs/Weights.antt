@@ -24,7 +24,9 @@ use Rattle.il_types.specs.Sites.{jump_sites}
 use Rattle.phi_copies.specs.declared.ending.Assignment.{Assignment}
 use Rattle.phi_copies.specs.declared.ending.Ending.{Ending}
 use Rattle.phi_copies.specs.Good.{IsGoodFunction}
-use Rattle.phi_copies.specs.Lowered.{phis_of, phis_at, target, or_zero, edge, edge_with, straight_if, straight, jump_edges, end_edges, block_edges, all_edges, jump_ending, end_ending, block_ending, all_endings, lowered}
+use Rattle.phi_copies.specs.Copies.{phis_of, phis_at}
+use Rattle.phi_copies.specs.Endings.{Endings}
+use Rattle.phi_copies.specs.Lowered.{target, or_zero, Edge, edge, edge_with, straight_if, straight, jump_edges, end_edges, block_edges, all_edges, IsJumpEnding, IsEndEnding, IsBlockEnding, AreEndings, AreOnEdges, IsLowered}
 use Rattle.vcode.specs.declared.place.Operand.{Operand}
 use Rattle.vcode.specs.declared.line.Line.{Line}
 use Rattle.vcode.specs.declared.line.Line.TheVariants.{Tick, Set, Operate, Load, Store, Alloc, Blit, Call}
@@ -236,22 +238,28 @@ either_way a n o k differ = by (nat_eq a n) (nat_eq a o) refl refl
     by false true h j = omega arith
     by false false h j = omega arith
 
-edge_total : (f : Func) (from k : ℕ) (ps : List Phi) → total (λ (e : Ending). e.weight) (edge_with f from k ps) ≡ length ps
-edge_total f from k [] = refl
-edge_total f from k (p ∷ ps) = omega arith
+-- what the ending on an edge weighs
+abbrev edge_weight : Func → Edge → ℕ
+edge_weight f w = length (phis_at f.blocks w.to)
 
-leaving : (f : Func) → IsGoodFunction f → (c : Block) → Among c f.blocks → (n : ℕ) → (block_ending f n c).weight + total (λ (e : Ending). e.weight) (block_edges f c) ≤ 1 + total (λ (b : Block). copied c b) f.blocks
-leaving f good c a n = by_end c.jump refl
+edge_total : (f : Func) (from k : ℕ) (ps : List Phi) → phis_at f.blocks k ≡ ps → total (edge_weight f) (edge_with from k ps) ≡ length ps
+edge_total f from k [] e = refl
+edge_total f from k (p ∷ ps) e = let many : length (phis_at f.blocks k) ≡ suc (length ps) = ap length e in omega (arith, many)
+
+leaving : (f : Func) → IsGoodFunction f → (c : Block) → Among c f.blocks → (n : ℕ) (d : Ending) → IsBlockEnding f n c d → d.weight + total (edge_weight f) (block_edges f c) ≤ 1 + total (λ (b : Block). copied c b) f.blocks
+leaving f good c a n d is = by_end c.jump refl is
   where
     jumps : (j : Lined Jump) (x : Jump) (b : Block) → c.jump ≡ Some j → j.item ≡ x → jumps_to b.label c.jump ≡ goes_to b.label x
     jumps j x b e i = ap (jumps_to b.label) e ∙ ap (goes_to b.label) i
 
-    by_ways : (j : Lined Jump) (on : Val) (nonzero otherwise : ℕ) (q : Bool) → c.jump ≡ Some j → j.item ≡ BranchJump on nonzero otherwise → nat_eq nonzero otherwise ≡ q → (jump_ending f c.label n (straight_if q on nonzero otherwise)).weight + total (λ (e : Ending). e.weight) (jump_edges f c.label (straight_if q on nonzero otherwise)) ≤ 1 + total (λ (b : Block). copied c b) f.blocks
-    by_ways j on nonzero otherwise true e i same =
+    by_ways : (j : Lined Jump) (on : Val) (nonzero otherwise : ℕ) (q : Bool) → c.jump ≡ Some j → j.item ≡ BranchJump on nonzero otherwise → nat_eq nonzero otherwise ≡ q → IsJumpEnding f c.label n (straight_if q on nonzero otherwise) d → d.weight + total (edge_weight f) (jump_edges f c.label (straight_if q on nonzero otherwise)) ≤ 1 + total (λ (b : Block). copied c b) f.blocks
+    by_ways j on nonzero otherwise true e i same is_end =
+        let weighs = ap (λ (x : Ending). x.weight) is_end.0 in
         let t = is_target f good c j nonzero j.line a e (subst (λ y. Among (record { line = j.line; number = nonzero }) (jump_sites j.line y)) (sym i) (inl refl)) in
         let here = way f c nonzero t (λ b h. jumps j (BranchJump on nonzero otherwise) b e i ∙ ap (λ q. q || nat_eq b.label otherwise) h) in
-        omega (arith, here)
-    by_ways j on nonzero otherwise false e i differ =
+        omega (arith, here, weighs)
+    by_ways j on nonzero otherwise false e i differ is_end =
+        let weighs = ap (λ (x : Ending). x.weight) is_end in
         let t1 = is_target f good c j nonzero j.line a e (subst (λ y. Among (record { line = j.line; number = nonzero }) (jump_sites j.line y)) (sym i) (inl refl)) in
         let t2 = is_target f good c j otherwise j.line a e (subst (λ y. Among (record { line = j.line; number = otherwise }) (jump_sites j.line y)) (sym i) (inr (inl refl))) in
         let one_side = side f nonzero t1 in
@@ -259,48 +267,55 @@ leaving f good c a n = by_end c.jump refl
         let both = total_plus (λ (b : Block). cond (nat_eq b.label nonzero) (length b.phis) 0) (λ (b : Block). cond (nat_eq b.label otherwise) (length b.phis) 0) f.blocks in
         let less = total_less (λ (b : Block). cond (nat_eq b.label nonzero) (length b.phis) 0 + cond (nat_eq b.label otherwise) (length b.phis) 0) (λ (b : Block). copied c b) f.blocks
         (λ b h. subst (λ q. cond (nat_eq b.label nonzero) (length b.phis) 0 + cond (nat_eq b.label otherwise) (length b.phis) 0 ≤ cond q (length b.phis) 0) (sym (jumps j (BranchJump on nonzero otherwise) b e i)) (either_way b.label nonzero otherwise (length b.phis) differ)) in
-        let edges = total_both (λ (x : Ending). x.weight) (edge f c.label (target f.blocks nonzero)) (edge f c.label (target f.blocks otherwise)) in
-        let first_edge = edge_total f c.label (target f.blocks nonzero) (phis_at f.blocks (target f.blocks nonzero)) in
-        let second_edge = edge_total f c.label (target f.blocks otherwise) (phis_at f.blocks (target f.blocks otherwise)) in
-        omega (arith, one_side, other_side, both, less, edges, first_edge, second_edge)
+        let edges = total_both (edge_weight f) (edge f c.label (target f.blocks nonzero)) (edge f c.label (target f.blocks otherwise)) in
+        let first_edge = edge_total f c.label (target f.blocks nonzero) (phis_at f.blocks (target f.blocks nonzero)) refl in
+        let second_edge = edge_total f c.label (target f.blocks otherwise) (phis_at f.blocks (target f.blocks otherwise)) refl in
+        omega (arith, one_side, other_side, both, less, edges, first_edge, second_edge, weighs)
 
-    by_jump : (j : Lined Jump) (x : Jump) → c.jump ≡ Some j → j.item ≡ x → (jump_ending f c.label n (straight x)).weight + total (λ (e : Ending). e.weight) (jump_edges f c.label (straight x)) ≤ 1 + total (λ (b : Block). copied c b) f.blocks
-    by_jump j (Goto l) e i =
+    by_jump : (j : Lined Jump) (x : Jump) → c.jump ≡ Some j → j.item ≡ x → IsJumpEnding f c.label n (straight x) d → d.weight + total (edge_weight f) (jump_edges f c.label (straight x)) ≤ 1 + total (λ (b : Block). copied c b) f.blocks
+    by_jump j (Goto l) e i is_end =
+        let weighs = ap (λ (x : Ending). x.weight) is_end.0 in
         let t = is_target f good c j l j.line a e (subst (λ y. Among (record { line = j.line; number = l }) (jump_sites j.line y)) (sym i) (inl refl)) in
         let here = way f c l t (λ b h. jumps j (Goto l) b e i ∙ h) in
-        omega (arith, here)
-    by_jump j (BranchJump on nonzero otherwise) e i = by_ways j on nonzero otherwise (nat_eq nonzero otherwise) e i refl
-    by_jump j (Return v) e i = omega arith
-    by_jump j Halt e i = omega arith
+        omega (arith, here, weighs)
+    by_jump j (BranchJump on nonzero otherwise) e i is_end = by_ways j on nonzero otherwise (nat_eq nonzero otherwise) e i refl is_end
+    by_jump j (Return v) e i is_end = let weighs = ap (λ (x : Ending). x.weight) is_end in omega (arith, weighs)
+    by_jump j Halt e i is_end = let weighs = ap (λ (x : Ending). x.weight) is_end in omega (arith, weighs)
 
-    by_end : (jo : Option (Lined Jump)) → c.jump ≡ jo → (end_ending f c.label n jo).weight + total (λ (e : Ending). e.weight) (end_edges f c.label jo) ≤ 1 + total (λ (b : Block). copied c b) f.blocks
-    by_end None e = omega arith
-    by_end (Some j) e = by_jump j j.item e refl
+    by_end : (jo : Option (Lined Jump)) → c.jump ≡ jo → IsEndEnding f c.label n jo d → d.weight + total (edge_weight f) (end_edges f c.label jo) ≤ 1 + total (λ (b : Block). copied c b) f.blocks
+    by_end None e is_end = let weighs = ap (λ (x : Ending). x.weight) is_end in omega (arith, weighs)
+    by_end (Some j) e is_end = by_jump j j.item e refl is_end
 
 -- ---- the whole
 
 abbrev lines_of : VirtualBlock ℕ → ℕ
 lines_of b = sum_by weight_of b.lines
 
-edges_total : (classes : Classes) (es : List Ending) → total lines_of (map (edge_of classes) es) ≡ total (λ (e : Ending). e.weight) es
-edges_total classes [] = refl
-edges_total classes (e ∷ es) = let here = ending_weighs classes e in let rest = edges_total classes es in omega (arith, here, rest)
+edges_total : (classes : Classes) (f : Func) (ws : List Edge) (es : List Ending) → AreOnEdges f ws es → total lines_of (map (edge_of classes) es) ≡ total (edge_weight f) ws
+edges_total classes f [] [] are = refl
+edges_total classes f [] (e ∷ es) are = absurd are
+edges_total classes f (w ∷ ws) [] are = absurd are
+edges_total classes f (w ∷ ws) (e ∷ es) are =
+    let here = ending_weighs classes e in
+    let weighs = ap (λ (x : Ending). x.weight) are.0.0 in
+    let rest = edges_total classes f ws es are.1 in
+    omega (arith, here, weighs, rest)
 
 -- a block's own, without phis and its jump
 abbrev insts_of : Block → ℕ
 insts_of b = 1 + sum_by (λ (i : Lined Inst). inst_weight i.item) b.insts
 
-blocks_total : (classes : Classes) (f : Func) → IsGoodFunction f → (number : ℕ) (bs : List Block) → ((b : Block) → Among b bs → Among b f.blocks)
-    → total lines_of (blocks_of classes bs (all_endings f number bs)) + total (λ (e : Ending). e.weight) (all_edges f bs) ≤ total insts_of bs + total (λ (c : Block). total (λ (b : Block). copied c b) f.blocks) bs
-blocks_total classes f good number [] sub = omega arith
-blocks_total classes f good number (c ∷ bs) sub =
-    let e = block_ending f number c in
+blocks_total : (classes : Classes) (f : Func) → IsGoodFunction f → (number : ℕ) (bs : List Block) (es : List Ending) → AreEndings f number bs es → ((b : Block) → Among b bs → Among b f.blocks)
+    → total lines_of (blocks_of classes bs es) + total (edge_weight f) (all_edges f bs) ≤ total insts_of bs + total (λ (c : Block). total (λ (b : Block). copied c b) f.blocks) bs
+blocks_total classes f good number [] es are sub = omega arith
+blocks_total classes f good number (c ∷ bs) [] are sub = absurd are
+blocks_total classes f good number (c ∷ bs) (e ∷ es) are sub =
     let lines = sum_by-append weight_of (all_lines classes c.insts) (ending_lines classes e) in
     let insts = insts_weigh classes c.insts in
     let ends = ending_weighs classes e in
-    let edges = total_both (λ (x : Ending). x.weight) (block_edges f c) (all_edges f bs) in
-    let here = leaving f good c (sub c (inl refl)) number in
-    let rest = blocks_total classes f good (number + length (block_edges f c)) bs (λ b a. sub b (inr a)) in
+    let edges = total_both (edge_weight f) (block_edges f c) (all_edges f bs) in
+    let here = leaving f good c (sub c (inl refl)) number e are.0 in
+    let rest = blocks_total classes f good (number + length (block_edges f c)) bs es are.1 (λ b a. sub b (inr a)) in
     omega (arith, lines, insts, ends, edges, here, rest)
 
 paid_all : (f : Func) → IsGoodFunction f → total insts_of f.blocks + total (λ (c : Block). total (λ (b : Block). copied c b) f.blocks) f.blocks ≤ total block_weight f.blocks
@@ -312,13 +327,13 @@ paid_all f good =
     (λ b a. let same = sum_total (λ (p : Phi). length p.args) b.phis in omega (arith, same)) in
     omega (arith, turned, paid, both, less)
 
-pub weighs_no_more : (classes : Classes) (f : Func) → IsGoodFunction f → code_weight (selected classes f (lowered f)) ≤ weight f
-unfolding selected lowered
-weighs_no_more classes f good =
-    let sums = sum_total lines_of (blocks_of classes f.blocks (all_endings f 0 f.blocks) ++ map (edge_of classes) (all_edges f f.blocks)) in
-    let both = total_both lines_of (blocks_of classes f.blocks (all_endings f 0 f.blocks)) (map (edge_of classes) (all_edges f f.blocks)) in
-    let edges = edges_total classes (all_edges f f.blocks) in
-    let blocks = blocks_total classes f good 0 f.blocks (λ b a. a) in
+pub weighs_no_more : (classes : Classes) (f : Func) (code : Endings) → IsGoodFunction f → IsLowered f code → code_weight (selected classes f code) ≤ weight f
+unfolding selected
+weighs_no_more classes f code good is =
+    let sums = sum_total lines_of (blocks_of classes f.blocks code.endings ++ map (edge_of classes) code.edges) in
+    let both = total_both lines_of (blocks_of classes f.blocks code.endings) (map (edge_of classes) code.edges) in
+    let edges = edges_total classes f (all_edges f f.blocks) code.edges is.edges in
+    let blocks = blocks_total classes f good 0 f.blocks code.endings is.endings (λ b a. a) in
     let paid = paid_all f good in
     let weights = sum_total block_weight f.blocks in
     omega (arith, sums, both, edges, blocks, paid, weights)

@@ -6,9 +6,9 @@ use Rattle.il_ast.specs.declared.function.Func.{Func}
 use Rattle.il_ast.specs.Cost.{phi_count}
 use Rattle.il_ast.specs.Passes.{IsCodeOf, classes_of, body_of}
 use Rattle.il_ast.proofs.Simulated.{meaning_composes}
-use Rattle.phi_copies.specs.Endings.{begin as begin_source, step as step_source}
+use Rattle.phi_copies.specs.Endings.{Endings, begin as begin_source, step as step_source}
 use Rattle.phi_copies.specs.Good.{IsGoodFunction}
-use Rattle.phi_copies.specs.Lowered.{lowered}
+use Rattle.phi_copies.specs.Lowered.{IsLowered}
 use Rattle.phi_copies.proofs.Lowering.{lowered_keeps}
 use Rattle.vcode.specs.Coded.{classes_in, coded}
 use Rattle.vcode.specs.Places.{virtual}
@@ -25,27 +25,27 @@ classes_are : (ps : List Param) → classes_in (map parameter_of ps) ≡ classes
 classes_are [] = refl
 classes_are (p ∷ ps) = ap (λ (cs : List Class). p.class ∷ cs) (classes_are ps)
 
-selected_classes : (classes : Classes) (f : Func) → classes_in (selected classes f (lowered f)).params ≡ classes_of f.params
+selected_classes : (classes : Classes) (f : Func) (code : Endings) → classes_in (selected classes f code).params ≡ classes_of f.params
 unfolding selected
-selected_classes classes f = classes_are f.params
+selected_classes classes f code = classes_are f.params
 
-selected_result : (classes : Classes) (f : Func) → (selected classes f (lowered f)).result ≡ f.result
+selected_result : (classes : Classes) (f : Func) (code : Endings) → (selected classes f code).result ≡ f.result
 unfolding selected
-selected_result classes f = refl
+selected_result classes f code = refl
 
-pub is_code : (f : Func) → IsGoodFunction f → IsCodeOf f (coded virtual (selected (temp_classes f) f (lowered f)) (length f.temps + phi_count f))
-is_code f good =
+pub is_code : (f : Func) (code : Endings) → IsGoodFunction f → IsLowered f code → IsCodeOf f (coded virtual (selected (temp_classes f) f code) (length f.temps + phi_count f))
+is_code f code good is =
     let classes = temp_classes f in
-    let v = selected classes f (lowered f) in
-    let bytes = code_area classes f in
+    let v = selected classes f code in
+    let bytes = code_area classes f code is in
     record {
-      params = selected_classes classes f;
-      result = selected_result classes f;
-      weight = weighs_no_more classes f good;
+      params = selected_classes classes f code;
+      result = selected_result classes f code;
+      weight = weighs_no_more classes f code good is;
       area = omega (arith, bytes);
-      outgoing = code_passes classes f;
+      outgoing = code_passes classes f code;
       places = omega arith;
       runs = λ globals.
-          meaning_composes (classes_of f.params) (body_of f globals) (begin_source f) (step_source globals f (lowered f)) (begin virtual v) (step virtual globals v)
-          (lowered_keeps f globals) (selected_keeps classes f (lowered f) (lowered_is_typed f good) globals);
+          meaning_composes (classes_of f.params) (body_of f globals) (begin_source f) (step_source globals f code) (begin virtual v) (step virtual globals v)
+          (lowered_keeps f code is globals) (selected_keeps classes f code (lowered_is_typed f code good is) globals);
     }

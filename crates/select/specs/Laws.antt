@@ -5,7 +5,7 @@ use Rattle.il_ast.specs.Cost.{phi_count}
 use Rattle.il_ast.specs.Passes.{IsCodeOf}
 use Rattle.phi_copies.specs.Endings.{Endings}
 use Rattle.phi_copies.specs.Good.{IsGoodFunction}
-use Rattle.phi_copies.specs.Lowered.{lowered}
+use Rattle.phi_copies.specs.Lowered.{IsLowered}
 use Rattle.vcode.specs.Coded.{coded}
 use Rattle.vcode.specs.Places.{virtual}
 use Rattle.select.specs.Selected.{selected}
@@ -18,11 +18,15 @@ abbrev pub SelectionKeeps : Type 0
 SelectionKeeps = (classes : Classes) (f : Func) (code : Endings) → IsTyped classes f code → KeepsEndings f code (selected classes f code)
 
 abbrev pub LoweredIsTyped : Type 0
-LoweredIsTyped = (f : Func) → IsGoodFunction f → IsTyped (classes_in f) f (lowered f)
+LoweredIsTyped = (f : Func) (code : Endings) → IsGoodFunction f → IsLowered f code → IsTyped (classes_in f) f code
 
 abbrev pub SelectedIsVirtual : Type 0
-SelectedIsVirtual = (f : Func) → IsGoodFunction f → IsVirtual (selected (classes_in f) f (lowered f)) (length f.temps + phi_count f)
+SelectedIsVirtual =
+    (f : Func) (code : Endings) → IsGoodFunction f → IsLowered f code
+    → IsVirtual (selected (classes_in f) f code) (length f.temps + phi_count f)
 
 -- the virtual code is the function's, whatever its text's global names mean: it takes no more than the function is counted for
 abbrev pub SelectedIsCode : Type 0
-SelectedIsCode = (f : Func) → IsGoodFunction f → IsCodeOf f (coded virtual (selected (classes_in f) f (lowered f)) (length f.temps + phi_count f))
+SelectedIsCode =
+    (f : Func) (code : Endings) → IsGoodFunction f → IsLowered f code
+    → IsCodeOf f (coded virtual (selected (classes_in f) f code) (length f.temps + phi_count f))

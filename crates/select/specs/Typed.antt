@@ -1,12 +1,11 @@
 -- Each temporary has one class, and each operand fits the place that it is read in: what the rules of a good text say of the function without its phis.
 use Rattle.std.specs.Prelude.{◌≡◌, ℕ, List, [], ◌∷◌, length, slice_get, Option, Some, None}
 use Rattle.il_ast.specs.declared.operation.Class.{Class}
-use Rattle.il_ast.specs.declared.operation.Class.TheVariants.{W, L}
+use Rattle.il_ast.specs.declared.operation.Class.TheVariants.{L}
 use Rattle.il_ast.specs.declared.operation.Extension.TheVariants.{SignedWord, UnsignedWord}
 use Rattle.il_ast.specs.declared.operation.UnaryOp.{UnaryOp}
 use Rattle.il_ast.specs.declared.operation.UnaryOp.TheVariants.{Extend, LoadLong}
 use Rattle.il_ast.specs.declared.operand.Val.{Val}
-use Rattle.il_ast.specs.declared.operand.Val.TheVariants.{Int, Temp, Global}
 use Rattle.il_ast.specs.declared.operand.Dest.{Dest}
 use Rattle.il_ast.specs.declared.operand.Arg.{Arg}
 use Rattle.il_ast.specs.declared.instruction.Inst.{Inst}
@@ -17,25 +16,11 @@ use Rattle.il_ast.specs.declared.function.Param.{Param}
 use Rattle.il_ast.specs.declared.function.Func.{Func}
 use Rattle.il_ast.specs.Operations.{operand_class, left_class, right_class}
 use Rattle.il_ast.specs.Effect.{stored_class}
-use Rattle.phi_copies.specs.declared.ending.Assignment.{Assignment}
 use Rattle.phi_copies.specs.declared.ending.Leave.{Leave}
 use Rattle.phi_copies.specs.declared.ending.Leave.TheVariants.{Goto, Branch, Return, Halt}
 use Rattle.phi_copies.specs.declared.ending.Ending.{Ending}
 use Rattle.phi_copies.specs.Endings.{Endings}
-
--- the class of each temporary
-abbrev pub Classes : Type 0
-Classes = ℕ → Class
-
--- a long place takes no word
-abbrev pub Fits : Classes → Class → Val → Type 0
-Fits classes W a = Unit {0}
-Fits classes L (Int n) = Unit {0}
-Fits classes L (Temp t) = classes t ≡ L
-Fits classes L (Global g) = Unit {0}
-
-abbrev pub Takes : Classes → Dest → Type 0
-Takes classes d = classes d.temp ≡ d.class
+pub use Rattle.phi_copies.specs.Classed.{Classes, Fits, Takes, CopiesFit}
 
 abbrev pub TakesWanted : Classes → Option Dest → Type 0
 TakesWanted classes None = Unit {0}
@@ -59,10 +44,6 @@ InstFits classes (Alloc to alignment size) = classes to.temp ≡ L
 InstFits classes (Store size a at) = Fits classes (stored_class size) a × Fits classes L at
 InstFits classes (Blit from to count) = Fits classes L from × Fits classes L to
 InstFits classes (Call to callee args) = TakesWanted classes to × Fits classes L callee × ArgsFit classes args
-
-abbrev pub CopiesFit : Classes → List Assignment → Type 0
-CopiesFit classes [] = Unit {0}
-CopiesFit classes (c ∷ cs) = Takes classes c.to × Fits classes c.to.class c.value × CopiesFit classes cs
 
 abbrev pub ReturnFits : Classes → Option Class → Option Val → Type 0
 ReturnFits classes result None = Unit {0}

@@ -2,7 +2,6 @@
 ghost use Rattle.std.specs.Prelude.{◌≡◌, ◌≤◌, ◌+◌, ◌++◌, length, map, IfOk, OnOk};
 ghost use Rattle.il_ast.specs.declared.limits.TheConstants.{FUNCTION_WEIGHT, TEMPORARIES};
 ghost use Rattle.il_ast.specs.Cost.{phi_count};
-ghost use Rattle.phi_copies.specs.Lowered.{lowered};
 ghost use Rattle.select.specs.Classes.{classes_in};
 ghost use Rattle.select.specs.Tables.{listed};
 ghost use Rattle.select.specs.Selected.{selected};
@@ -126,7 +125,7 @@ fn count_registers(func: &Func) -> usize
 ///
 /// Only where memory was refused.
 pub fn select(alloc: Global, source: &NoPhi<'_>) -> Result<VFunc, AllocError>
-    ensures code { IfOk result (λ v. v.code ≡ selected (classes_in source.now.func.now) source.now.func.now (lowered source.now.func.now)) }
+    ensures code { IfOk result (λ v. v.code ≡ selected (classes_in source.now.func.now) source.now.func.now (record { endings = source.now.endings; edges = source.now.edges })) }
     ensures registers { IfOk result (λ v. v.registers ≡ length source.now.func.now.temps + phi_count source.now.func.now) }
     ensures is { IfOk result (λ v. IsCodeOf source.now.func.now (virtual_code v)) }
 {

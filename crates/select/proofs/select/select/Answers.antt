@@ -1,5 +1,6 @@
 use Rattle.std.proofs.Common.{ℕ, ◌+◌, length, sym, ◌∙◌, ap, subst, arith}
 use Rattle.il_ast.specs.Cost.{phi_count}
+use Rattle.phi_copies.specs.Endings.{Endings}
 use Rattle.phi_copies.proofs.Counting.{is_small}
 use Rattle.il_ast.specs.Passes.{IsCodeOf}
 use Rattle.vcode.specs.declared.code.Code.{Code}
@@ -21,7 +22,7 @@ count_registers-registers-requires c = (is_small c.args.source.now.func.now c.ar
 pub returns-clause-code : goal.returns-clause-code
 returns-clause-code c =
     let s = c.args.source.now in
-    c.in_ok-code.ensures ∙ is_selected_by s.func.now s.good c.as_slice.result.now c.in_ok-classes.classes c.as_slice.ensures c.in_ok-classes.ensures.entries s.endings s.edges s.endings_are s.edges_are
+    c.in_ok-code.ensures ∙ is_selected_by s.func.now (record { endings = s.endings; edges = s.edges }) s.good s.lowered c.as_slice.result.now c.in_ok-classes.classes c.as_slice.ensures c.in_ok-classes.ensures.entries
 
 pub returns-clause-registers : goal.returns-clause-registers
 returns-clause-registers c =
@@ -33,23 +34,25 @@ pub returns-clause-is : goal.returns-clause-is
 returns-clause-is c =
     let s = c.args.source.now in
     let f = s.func.now in
-    let is = c.in_ok-code.ensures ∙ is_selected_by f s.good c.as_slice.result.now c.in_ok-classes.classes c.as_slice.ensures c.in_ok-classes.ensures.entries s.endings s.edges s.endings_are s.edges_are in
+    let code : Endings = record { endings = s.endings; edges = s.edges } in
+    let is = c.in_ok-code.ensures ∙ is_selected_by f code s.good s.lowered c.as_slice.result.now c.in_ok-classes.classes c.as_slice.ensures c.in_ok-classes.ensures.entries in
     let all = c.count_registers-registers.ensures in
     let few = (is_small f s.good).temporaries in
     let many = c.low_bits.ensures ∙ small c.count_registers-registers.result (omega (arith, all, few)) ∙ all in
     subst (λ n. IsCodeOf f (coded virtual c.in_ok-code.code n)) (sym many)
-    (subst (λ (v : Code ℕ). IsCodeOf f (coded virtual v (length f.temps + phi_count f))) (sym is) (is_code f s.good))
+    (subst (λ (v : Code ℕ). IsCodeOf f (coded virtual v (length f.temps + phi_count f))) (sym is) (is_code f code s.good s.lowered))
 
 pub invariant_of-result : goal.invariant_of-result
 invariant_of-result c =
     let s = c.args.source.now in
     let f = s.func.now in
-    let is = c.in_ok-code.ensures ∙ is_selected_by f s.good c.as_slice.result.now c.in_ok-classes.classes c.as_slice.ensures c.in_ok-classes.ensures.entries s.endings s.edges s.endings_are s.edges_are in
+    let code : Endings = record { endings = s.endings; edges = s.edges } in
+    let is = c.in_ok-code.ensures ∙ is_selected_by f code s.good s.lowered c.as_slice.result.now c.in_ok-classes.classes c.as_slice.ensures c.in_ok-classes.ensures.entries in
     let all = c.count_registers-registers.ensures in
     let few = (is_small f s.good).temporaries in
     let many = c.low_bits.ensures ∙ small c.count_registers-registers.result (omega (arith, all, few)) ∙ all in
-    let v = subst (λ n. IsVirtual c.in_ok-code.code n) (sym many) (subst (λ (x : Code ℕ). IsVirtual x (length f.temps + phi_count f)) (sym is) (is_virtual f s.good)) in
+    let v = subst (λ n. IsVirtual c.in_ok-code.code n) (sym many) (subst (λ (x : Code ℕ). IsVirtual x (length f.temps + phi_count f)) (sym is) (is_virtual f code s.good s.lowered)) in
     let weighs = ap (λ (x : Code ℕ). code_weight x) is in
-    let less = weighs_no_more (classes_in f) f s.good in
+    let less = weighs_no_more (classes_in f) f code s.good s.lowered in
     let most = light f s.good in
     record { few = omega (arith, many, few); regular = v.regular; light = le_true (code_weight c.in_ok-code.code) 40000 (omega (arith, weighs, less, most)); known = v.known; low = v.low; distinct = v.distinct }
