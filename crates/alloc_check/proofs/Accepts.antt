@@ -9,6 +9,7 @@ use Rattle.vcode.specs.Named.{keeps_places, is_below, is_place, are_near, are_di
 use Rattle.vcode.specs.Places.{located}
 use Rattle.certificates.specs.declared.certificate.Certificate.{Certificate}
 use Rattle.alloc_check.specs.Certified.{placed_by, is_sound}
+use Rattle.alloc_check.specs.Owners.{are_apart}
 use Rattle.alloc_check.specs.Accepted.{exists_in, equalities_exist, names_once, has_lengths, is_whole, is_placed, is_accepted}
 use Rattle.alloc_check.specs.Walk.{sound_in}
 use Rattle.alloc_check.proofs.Agreeing.{both_true}
@@ -42,8 +43,12 @@ joined true w r false e = never w ∙ sym (never r)
     never true = refl
     never false = refl
 
+and_three : (a b d : Bool) → ((a && b) && d) ≡ (a && (b && d))
+and_three true b d = refl
+and_three false b d = refl
+
 -- what is known where blocks begin, of every one and of each, exists
-starts_there : (v : VFunc) (c : Certificate) → is_whole v c ≡ true → (list_all (exists_in v.registers) c.everywhere ≡ true) × (equalities_exist v.registers c.starts ≡ true)
+pub starts_there : (v : VFunc) (c : Certificate) → is_whole v c ≡ true → (list_all (exists_in v.registers) c.everywhere ≡ true) × (equalities_exist v.registers c.starts ≡ true)
 starts_there v c h =
     let places : Bool = equalities_exist v.registers c.places && list_all names_once c.places in
     let rest = both_true (has_lengths v.code c) (list_all (exists_in v.registers) c.everywhere && (equalities_exist v.registers c.starts && places)) h in
@@ -52,8 +57,9 @@ starts_there v c h =
 
 pub tests_accept : (v : VFunc) (c : Certificate) → (right_in v c && is_placed v.registers (placed_by v.code c)) ≡ is_accepted v c
 tests_accept v c =
-    joined (is_whole v c) (sound_in v.registers v.code c) (is_sound v.code c) (is_placed v.registers (placed_by v.code c))
+    joined (is_whole v c) (sound_in v.registers v.code c) (are_apart c.everywhere && is_sound v.code c) (is_placed v.registers (placed_by v.code c))
     (λ whole placed. sound_is v.registers v.code c (from_true (keeps_places (is_below v.registers) v.code) v.known) (starts_there v c whole).0 (starts_there v c whole).1 (parts v.registers (placed_by v.code c) placed).places)
+    ∙ ap (λ b. is_whole v c && b) (and_three (are_apart c.everywhere) (is_sound v.code c) (is_placed v.registers (placed_by v.code c)))
 
 pub refused : (v : VFunc) (c : Certificate) → right_in v c ≡ false → is_accepted v c ≡ false
 refused v c h = sym (tests_accept v c) ∙ ap (λ b. b && is_placed v.registers (placed_by v.code c)) h
@@ -61,15 +67,21 @@ refused v c h = sym (tests_accept v c) ∙ ap (λ b. b && is_placed v.registers 
 pub accepted : (v : VFunc) (c : Certificate) → right_in v c ≡ true → is_placed v.registers (placed_by v.code c) ≡ true → is_accepted v c ≡ true
 accepted v c h d = sym (tests_accept v c) ∙ ap (λ b. b && is_placed v.registers (placed_by v.code c)) h ∙ d
 
+-- that it is whole, and that it is sound and placed
+pub accepted_parts : (v : VFunc) (c : Certificate) → is_accepted v c ≡ true → (is_whole v c ≡ true) × ((is_sound v.code c && is_placed v.registers (placed_by v.code c)) ≡ true)
+accepted_parts v c h =
+    let first = both_true (is_whole v c) (are_apart c.everywhere && (is_sound v.code c && is_placed v.registers (placed_by v.code c))) h in
+    (first.0, (both_true (are_apart c.everywhere) (is_sound v.code c && is_placed v.registers (placed_by v.code c)) first.1).1)
+
 pub accepted_sound : (v : VFunc) (c : Certificate) → is_accepted v c ≡ true → is_sound v.code c ≡ true
 accepted_sound v c h =
-    let first = both_true (is_whole v c) (is_sound v.code c && is_placed v.registers (placed_by v.code c)) h in
-    (both_true (is_sound v.code c) (is_placed v.registers (placed_by v.code c)) first.1).0
+    (both_true (is_sound v.code c) (is_placed v.registers (placed_by v.code c)) (accepted_parts v c h).1).0
 
 pub unplaced : (v : VFunc) (c : Certificate) → is_placed v.registers (placed_by v.code c) ≡ false → is_accepted v c ≡ false
-unplaced v c h = ap (λ b. is_whole v c && (is_sound v.code c && b)) h ∙ never (is_whole v c) (is_sound v.code c)
+unplaced v c h = ap (λ b. is_whole v c && (are_apart c.everywhere && (is_sound v.code c && b))) h ∙ never (is_whole v c) (are_apart c.everywhere) (is_sound v.code c)
   where
-    never : (a b : Bool) → (a && (b && false)) ≡ false
-    never false b = refl
-    never true false = refl
-    never true true = refl
+    never : (a b d : Bool) → (a && (b && (d && false))) ≡ false
+    never false b d = refl
+    never true false d = refl
+    never true true false = refl
+    never true true true = refl

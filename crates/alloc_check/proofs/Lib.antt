@@ -6,6 +6,7 @@ pub mod Holding
 pub mod Counted
 pub mod Entering
 pub mod Starting
+pub mod Untouched
 pub mod Walks
 pub mod Certifies
 pub mod Measures

@@ -23,10 +23,10 @@ use Rattle.certificates.specs.declared.certificate.Certificate.{Certificate}
 use Rattle.certificates.specs.Listed.{has}
 use Rattle.alloc_check.specs.Placed.{placed_operand, placed_argument, placed_destination, placed_line, placed_jump}
 use Rattle.alloc_check.specs.Certified.{place_by, places_at, layout_at, transfers, next_point, jump_point, certified_lines, certified_block, certified_blocks, placed_by, is_sound}
-use Rattle.alloc_check.specs.Accepted.{exists_in, equalities_exist, names_once, has_lengths, is_whole, is_placed, is_accepted}
+use Rattle.alloc_check.specs.Accepted.{exists_in, equalities_exist, names_once, has_lengths, is_placed, is_accepted}
 use Rattle.alloc_check.specs.Laws.{lines_named, blocks_named}
 use Rattle.alloc_check.specs.Walk.{moves_before}
-use Rattle.alloc_check.proofs.Accepts.{parts}
+use Rattle.alloc_check.proofs.Accepts.{accepted_parts, parts}
 use Rattle.alloc_check.proofs.Agreeing.{both_true}
 use Rattle.alloc_check.proofs.Certifies.{line_on}
 
@@ -117,7 +117,7 @@ blocks_have n c p (b ∷ blocks) h =
 pub each_named : (v : VFunc) (c : Certificate) → is_accepted v c ≡ true → (blocks_named c 0 v.code.blocks ≡ true) × (list_all names_once c.places ≡ true)
 each_named v c h =
     let l = placed_by v.code c in
-    let first = both_true (is_whole v c) (is_sound v.code c && is_placed v.registers l) h in
+    let first = accepted_parts v c h in
     let placed = parts v.registers l (both_true (is_sound v.code c) (is_placed v.registers l) first.1).1 in
     let places : Bool = equalities_exist v.registers c.places && list_all names_once c.places in
     let lengths = both_true (has_lengths v.code c) (list_all (exists_in v.registers) c.everywhere && (equalities_exist v.registers c.starts && places)) first.0 in

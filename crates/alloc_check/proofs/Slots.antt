@@ -25,7 +25,7 @@ use Rattle.certificates.specs.declared.certificate.Transfer.{Transfer}
 use Rattle.certificates.specs.declared.certificate.Certificate.{Certificate}
 use Rattle.cfg_live.specs.Registers.{with_operand, with_args, line_reads, jump_reads}
 use Rattle.alloc_check.specs.Placed.{placed_operand, placed_address, placed_argument, placed_destination, placed_line, placed_jump, placed_block, in_slots}
-use Rattle.alloc_check.specs.Owners.{Owners, nobody, other_than, own_put, own_also, own_kept, moved, known, owns, operand_held, args_held, all_hold, where_held, received, after_line}
+use Rattle.alloc_check.specs.Owners.{Owners, nobody, other_than, own_put, own_also, own_kept, moved, known, owns, operand_held, args_held, all_hold, are_apart, where_held, received, after_line}
 use Rattle.alloc_check.specs.Certified.{moves_at, begins_at, starts_at, layout_at, transfers, next_point, jump_point, certified_lines, certified_blocks, certified_params, placed_by, jump_right, lines_right, blocks_right, own_params, is_param, params_placed, entry_right, is_sound}
 use Rattle.alloc_check.specs.Accepted.{exists_in, equalities_exist, names_once, is_whole, is_placed, is_accepted}
 use Rattle.alloc_check.specs.Slotted.{is_empty, is_own, own_at, lines_own, blocks_own, Wanted, start_wanted, targets_wanted, writes_to, LinesWant, names, BlocksWant, IsSlotted}
@@ -494,6 +494,7 @@ slotted_whole wanted v c is =
 
 pub slotted_accepted : (wanted : Wanted) (v : VFunc) (c : Certificate) → IsSlotted wanted v c → is_accepted v c ≡ true
 slotted_accepted wanted v c is =
-    ap (λ b. b && (is_sound v.code c && is_placed v.registers (placed_by v.code c))) (slotted_whole wanted v c is)
+    ap (λ b. b && (are_apart c.everywhere && (is_sound v.code c && is_placed v.registers (placed_by v.code c)))) (slotted_whole wanted v c is)
+    ∙ ap (λ (es : List Equality). are_apart es && (is_sound v.code c && is_placed v.registers (placed_by v.code c))) is.everywhere
     ∙ ap (λ b. b && is_placed v.registers (placed_by v.code c)) (slotted_sound wanted v c is)
     ∙ slotted_placed wanted v c is

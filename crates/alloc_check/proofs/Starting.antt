@@ -1,10 +1,17 @@
 -- What holds of two lists of equalities, one behind the other.
-use Rattle.std.proofs.Common.{◌≡◌, ℕ, Bool, true, false, not, ◌&&◌, ◌||◌, List, [], ◌∷◌, ◌++◌, refl, sym, ◌∙◌, ap}
+use Rattle.std.proofs.Common.{◌≡◌, ℕ, zero, suc, ◌+◌, ◌<◌, Bool, true, false, not, ◌&&◌, ◌||◌, nat_lt, if◌then◌else◌, List, [], ◌∷◌, ◌++◌, length, drop, slice_index_or, Option, Some, refl, sym, ◌∙◌, ap, subst, arith}
 use Rattle.std.specs.List.{list_all}
-use Rattle.alloc_check.specs.Owners.{Owners, all_hold, owns}
+use Rattle.std.specs.Option.{option_map_or}
+use Rattle.std.proofs.lemmas.Bool.Decides.{nat_tests}
+use Rattle.alloc_check.specs.Owners.{Owners, own_also, known, stand_also, standing, all_hold, owns}
 use Rattle.alloc_check.specs.Certified.{is_param}
 use Rattle.alloc_check.specs.Walk.{entry_holds}
 use Rattle.vcode.specs.declared.place.Destination.{Destination}
+use Rattle.vcode.specs.declared.place.Location.{Location}
+use Rattle.vcode.specs.Named.{is_place}
+use Rattle.vcode.specs.Places.{same_location}
+use Rattle.alloc_check.specs.Accepted.{exists_in}
+use Rattle.alloc_check.proofs.Agreeing.{both_true}
 use Rattle.certificates.specs.declared.certificate.Equality.{Equality}
 
 and_three : (a b c : Bool) → ((a && b) && c) ≡ (a && (b && c))
@@ -20,3 +27,37 @@ both_hold own xs ys = every_append (λ (e : Equality). owns own e.place e.regist
 
 pub both_enter : (ds : List (Destination ℕ)) (xs ys : List Equality) (own : Owners) → entry_holds ds (xs ++ ys) own ≡ (entry_holds ds xs own && entry_holds ds ys own)
 both_enter ds xs ys own = every_append (λ (e : Equality). owns own e.place e.register || not (is_param ds e.register)) xs ys
+
+-- what is known of registers that there are is of such
+pub known_low : (n : ℕ) (es : List Equality) (own : Owners) → list_all (exists_in n) es ≡ true → ((q : Location) (r : ℕ) → own q ≡ Some r → r < n)
+    → (q : Location) (r : ℕ) → known es own q ≡ Some r → r < n
+known_low n [] own exist low q r is = low q r is
+known_low n (e ∷ es) own exist low q r is =
+    let s = both_true (exists_in n e) (list_all (exists_in n) es) exist in
+    let t = both_true (is_place n e.place) (nat_lt e.register n) s.0 in
+    known_low n es (own_also e own) s.1 (λ p k h. by t.1 p k (same_location p e.place) h) q r is
+  where
+    by : nat_lt e.register n ≡ true → (p : Location) (k : ℕ) (b : Bool) → (if b then Some e.register else own p) ≡ Some k → k < n
+    by here p k true h =
+        let same : e.register ≡ k = ap (λ (o : Option ℕ). option_map_or (λ x. x) o e.register) h in
+        subst (λ i. i < n) same (let below : e.register < n = grind (arith, nat_tests) in below)
+    by here p k false h = low p k h
+
+-- ---- one item after another
+
+index_next : {X : Type 0} (xs : List X) (i : ℕ) (d : X) → i < length xs → drop i xs ≡ slice_index_or xs i d ∷ drop (i + 1) xs
+index_next [] i d low = absurd (omega arith)
+index_next (y ∷ ys) zero d low = refl
+index_next (y ∷ ys) (suc i) d low = index_next ys i d (omega arith) ∙ ap (λ k. slice_index_or ys i d ∷ drop k (y ∷ ys)) (let f : suc (i + 1) ≡ suc i + 1 = omega arith in f)
+
+pub known_next : (es : List Equality) (i : ℕ) (d : Equality) (old new whole : Owners) → i < length es → new ≡ own_also (slice_index_or es i d) old → known (drop i es) old ≡ whole → known (drop (i + 1) es) new ≡ whole
+known_next es i d old new whole low is before = ap (known (drop (i + 1) es)) is ∙ sym (ap (λ (xs : List Equality). known xs old) (index_next es i d low)) ∙ before
+
+pub standing_next : (es : List Equality) (i : ℕ) (d : Equality) (old new whole : ℕ → Option Location) → i < length es → new ≡ stand_also (slice_index_or es i d) old → standing (drop i es) old ≡ whole
+    → standing (drop (i + 1) es) new ≡ whole
+standing_next es i d old new whole low is before = ap (standing (drop (i + 1) es)) is ∙ sym (ap (λ (xs : List Equality). standing xs old) (index_next es i d low)) ∙ before
+
+pub every_next : {X : Type 0} (test : X → Bool) (xs : List X) (i : ℕ) → i < length xs → list_all test (drop i xs) ≡ true → list_all test (drop (i + 1) xs) ≡ true
+every_next test [] i low h = absurd (omega arith)
+every_next test (y ∷ ys) zero low h = (both_true (test y) (list_all test ys) h).1
+every_next test (y ∷ ys) (suc i) low h = ap (λ k. list_all test (drop k (y ∷ ys))) (let f : suc i + 1 ≡ suc (i + 1) = omega arith in f) ∙ every_next test ys i (omega arith) h

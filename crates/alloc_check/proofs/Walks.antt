@@ -9,6 +9,7 @@ use Rattle.vcode.specs.declared.place.Destination.{Destination}
 use Rattle.vcode.specs.declared.line.Line.{Line}
 use Rattle.vcode.specs.declared.line.Line.TheVariants.{Tick, Set, Operate, Load, Store, Alloc, Blit, Call}
 use Rattle.vcode.specs.declared.line.Jump.{Jump}
+use Rattle.vcode.specs.declared.line.Jump.TheVariants.{Goto, Branch, Return, Halt}
 use Rattle.vcode.specs.declared.code.Block.{Block}
 use Rattle.vcode.specs.declared.code.Code.{Code}
 use Rattle.vcode.specs.Named.{operand_keeps, wanted_keeps, line_keeps, jump_keeps, block_keeps, keeps_places, is_below, is_place}
@@ -16,12 +17,14 @@ use Rattle.certificates.specs.declared.certificate.Equality.{Equality}
 use Rattle.certificates.specs.declared.certificate.Transfer.{Transfer}
 use Rattle.certificates.specs.declared.certificate.Certificate.{Certificate}
 use Rattle.alloc_check.specs.Placed.{Layout, placed_operand, placed_argument, placed_destination, placed_line, placed_jump}
-use Rattle.alloc_check.specs.Owners.{Owners, nobody, own_put, own_move, own_kept, own_also, moved, known, operand_held, args_held, where_held, received, after_line}
+use Rattle.alloc_check.specs.Owners.{Owners, nobody, own_put, own_move, own_kept, own_also, moved, known, operand_held, args_held, all_hold, are_apart, where_held, received, after_line}
 use Rattle.alloc_check.specs.Certified.{moves_at, begins_at, starts_at, layout_at, transfers, next_point, jump_point, certified_lines, certified_block, certified_blocks, certified_params, placed_by, jump_right, lines_right, blocks_right, own_params, params_placed, entry_right, is_sound}
 use Rattle.alloc_check.specs.Accepted.{exists_in, equalities_exist}
 use Rattle.alloc_check.specs.Table.{in_table}
-use Rattle.alloc_check.specs.Walk.{put_in, moved_in, known_in, starts_in, after_reads, receives_in, line_in, lines_in, jump_in, blocks_in, params_in, entry_holds, sound_in, certified_line}
+use Rattle.alloc_check.specs.Walk.{put_in, moved_in, known_in, after_reads, receives_in, line_in, lines_in, block_stays, targets_in, jump_in, block_in, blocks_in, params_in, entry_holds, entry_in, sound_in, certified_line}
 use Rattle.alloc_check.proofs.Agreeing.{both_true}
+use Rattle.alloc_check.proofs.Starting.{both_hold}
+use Rattle.alloc_check.proofs.Untouched.{stays_is}
 use Rattle.vcode.proofs.Lists.{item_next}
 
 -- ---- the code, line by line
@@ -100,12 +103,16 @@ moves_are n (m ∷ ms) rest own h =
 
 -- ---- lines
 
+-- what a jump at point p finds, after the moves before it
+abbrev pub jump_plain : ℕ → Certificate → ℕ → Jump ℕ → Owners → Bool
+jump_plain n c p j own = option_map_or (λ o. jump_right c o (layout_at c p) j) (moved_in n (moves_at c p) own) false
+
 -- what a block finds from here on, lines and jump
 abbrev pub rest_in : ℕ → Certificate → ℕ → Owners → Jump ℕ → List (Line ℕ) → Bool
-rest_in n c p own j lines = option_map_or (jump_in n c (jump_point p lines) j) (lines_in n c p own lines) false
+rest_in n c p own j lines = option_map_or (jump_plain n c (jump_point p lines) j) (lines_in n c p own lines) false
 
 then_or : (n : ℕ) (c : Certificate) (p : ℕ) (j : Jump ℕ) (lines : List (Line ℕ)) (q : ℕ) (o : Option Owners)
-    → option_map_or (jump_in n c (jump_point p lines) j) (option_and_then (λ w. lines_in n c p w lines) o) false ≡ option_map_or (λ w. rest_in n c p w j lines) o false
+    → option_map_or (jump_plain n c (jump_point p lines) j) (option_and_then (λ w. lines_in n c p w lines) o) false ≡ option_map_or (λ w. rest_in n c p w j lines) o false
 then_or n c p j lines q None = refl
 then_or n c p j lines q (Some o) = refl
 
@@ -117,7 +124,7 @@ same_or (Some o) f g e = e o
 point_right : (n : ℕ) (c : Certificate) (p : ℕ) (own : Owners) (j : Jump ℕ) (l : Line ℕ) (lines : List (Line ℕ))
     → line_keeps (is_below n) l ≡ true → list_all (line_keeps (is_place n)) (transfers (moves_at c p) ++ placed_line (layout_at c p) l ∷ certified_lines c (p + 1) lines) ≡ true
     → ((o : Owners) → list_all (line_keeps (is_place n)) (certified_lines c (p + 1) lines) ≡ true → rest_in n c (p + 1) o j lines ≡ lines_right c (p + 1) o j lines)
-    → option_map_or (jump_in n c (jump_point (p + 1) lines) j) (option_and_then (λ o. lines_in n c (p + 1) o lines) (option_and_then (λ o. line_in n o (layout_at c p) l) (moved_in n (moves_at c p) own))) false
+    → option_map_or (jump_plain n c (jump_point (p + 1) lines) j) (option_and_then (λ o. lines_in n c (p + 1) o lines) (option_and_then (λ o. line_in n o (layout_at c p) l) (moved_in n (moves_at c p) own))) false
     ≡ option_map_or (λ (o : Owners). lines_right c (p + 1) o j lines) (after_line (moved (moves_at c p) own) (layout_at c p) l) false
 point_right n c p own j l lines e h on =
     let m = moves_are n (moves_at c p) (placed_line (layout_at c p) l ∷ certified_lines c (p + 1) lines) own h in
@@ -165,26 +172,55 @@ known_append : (xs ys : List Equality) (own : Owners) → known (xs ++ ys) own �
 known_append [] ys own = refl
 known_append (e ∷ xs) ys own = known_append xs ys (own_also e own)
 
-starts_are : (n : ℕ) (c : Certificate) (k : ℕ) → list_all (exists_in n) c.everywhere ≡ true → equalities_exist n c.starts ≡ true → starts_in n c k ≡ Some (known (starts_at c k) nobody)
-starts_are n c k every starts =
-    ap (option_and_then (known_in n (begins_at c k))) (known_is n c.everywhere nobody every)
-    ∙ known_is n (begins_at c k) (known c.everywhere nobody) (start_exists n c.starts k starts)
-    ∙ ap (λ (o : Owners). Some o) (sym (known_append c.everywhere (begins_at c k) nobody))
+same_at : (x : Option Owners) (f g : Owners → Bool) → ((w : Owners) → x ≡ Some w → f w ≡ g w) → option_map_or f x false ≡ option_map_or g x false
+same_at None f g e = refl
+same_at (Some w) f g e = e w refl
 
-pub blocks_are : (n : ℕ) (c : Certificate) (p k : ℕ) (blocks : List (Block ℕ)) → list_all (exists_in n) c.everywhere ≡ true → equalities_exist n c.starts ≡ true → list_all (block_keeps (is_below n)) blocks ≡ true
-    → list_all (block_keeps (is_place n)) (certified_blocks c p blocks) ≡ true → blocks_in n c p k blocks ≡ blocks_right c p k blocks
-blocks_are n c p k [] every starts e h = refl
-blocks_are n c p k (b ∷ blocks) every starts e h =
+-- what its targets ask for, where it is known whether all holds that holds everywhere
+targets_right : (c : Certificate) (own : Owners) (f : Layout) (j : Jump ℕ) → targets_in c (all_hold own c.everywhere) own f j ≡ jump_right c own f j
+targets_right c own f (Goto k) = sym (both_hold own c.everywhere (begins_at c k))
+targets_right c own f (Branch on met otherwise) =
+    ap (λ b. (operand_held own f on.left && operand_held own f on.right) && b)
+    (both (all_hold own c.everywhere) (all_hold own (begins_at c met)) (all_hold own (begins_at c otherwise))
+    ∙ ap (λ b. b && (all_hold own c.everywhere && all_hold own (begins_at c otherwise))) (sym (both_hold own c.everywhere (begins_at c met)))
+    ∙ ap (λ b. all_hold own (starts_at c met) && b) (sym (both_hold own c.everywhere (begins_at c otherwise))))
+  where
+    both : (a b d : Bool) → (a && (b && d)) ≡ ((a && b) && (a && d))
+    both false b d = refl
+    both true b d = refl
+targets_right c own f (Return None) = refl
+targets_right c own f (Return (Some a)) = refl
+targets_right c own f Halt = refl
+
+block_is : (n : ℕ) (c : Certificate) (p k : ℕ) (b : Block ℕ) → list_all (exists_in n) c.everywhere ≡ true → are_apart c.everywhere ≡ true → equalities_exist n c.starts ≡ true
+    → list_all (line_keeps (is_below n)) b.lines ≡ true → list_all (line_keeps (is_place n)) (certified_lines c p b.lines) ≡ true
+    → block_in n c.everywhere c p k b ≡ lines_right c p (known (starts_at c k) nobody) b.jump b.lines
+block_is n c p k b every apart starts lines made =
+    let es : List Equality = c.everywhere in
+    let own : Owners = known (begins_at c k) (known es nobody) in
+    let begins : known_in n (begins_at c k) (known es nobody) ≡ Some own = known_is n (begins_at c k) (known es nobody) (start_exists n c.starts k starts) in
+    ap (λ o. option_map_or (jump_in n es c p k b) (option_and_then (λ w. lines_in n c p w b.lines) o) false) begins
+    ∙ same_at (lines_in n c p own b.lines) (jump_in n es c p k b) (jump_plain n c (jump_point p b.lines) b.jump)
+    (λ o goes. same_at (moved_in n (moves_at c (jump_point p b.lines)) o)
+    (λ w. targets_in c (block_stays es c p k w b.lines) w (layout_at c (jump_point p b.lines)) b.jump)
+    (λ w. jump_right c w (layout_at c (jump_point p b.lines)) b.jump)
+    (λ w moves. ap (λ t. targets_in c t w (layout_at c (jump_point p b.lines)) b.jump) (stays_is n c p k es b.lines own o w every apart begins goes moves)
+    ∙ targets_right c w (layout_at c (jump_point p b.lines)) b.jump))
+    ∙ ap (λ w. rest_in n c p w b.jump b.lines) (sym (known_append es (begins_at c k) nobody))
+    ∙ lines_are n c p (known (starts_at c k) nobody) b.jump b.lines lines made
+
+pub blocks_are : (n : ℕ) (c : Certificate) (p k : ℕ) (blocks : List (Block ℕ)) → list_all (exists_in n) c.everywhere ≡ true → are_apart c.everywhere ≡ true → equalities_exist n c.starts ≡ true
+    → list_all (block_keeps (is_below n)) blocks ≡ true
+    → list_all (block_keeps (is_place n)) (certified_blocks c p blocks) ≡ true → blocks_in n c.everywhere c p k blocks ≡ blocks_right c p k blocks
+blocks_are n c p k [] every apart starts e h = refl
+blocks_are n c p k (b ∷ blocks) every apart starts e h =
     let below = both_true (block_keeps (is_below n) b) (list_all (block_keeps (is_below n)) blocks) e in
     let placed = both_true (block_keeps (is_place n) (certified_block c p b)) (list_all (block_keeps (is_place n)) (certified_blocks c (jump_point p b.lines + 1) blocks)) h in
     let lines : list_all (line_keeps (is_below n)) b.lines ≡ true = (both_true (list_all (line_keeps (is_below n)) b.lines) (jump_keeps (is_below n) b.jump) below.0).0 in
     let made : list_all (line_keeps (is_place n)) (certified_lines c p b.lines) ≡ true =
     (both_true (list_all (line_keeps (is_place n)) (certified_lines c p b.lines)) (jump_keeps (is_place n) (placed_jump (layout_at c (jump_point p b.lines)) b.jump)) placed.0).0 in
-    let own : Owners = known (starts_at c k) nobody in
-    ap (λ o. option_map_or (jump_in n c (jump_point p b.lines) b.jump) (option_and_then (λ w. lines_in n c p w b.lines) o) false && blocks_in n c (jump_point p b.lines + 1) (k + 1) blocks)
-    (starts_are n c k every starts)
-    ∙ ap (λ t. t && blocks_in n c (jump_point p b.lines + 1) (k + 1) blocks) (lines_are n c p own b.jump b.lines lines made)
-    ∙ ap (λ t. lines_right c p own b.jump b.lines && t) (blocks_are n c (jump_point p b.lines + 1) (k + 1) blocks every starts below.1 placed.1)
+    ap (λ t. t && blocks_in n c.everywhere c (jump_point p b.lines + 1) (k + 1) blocks) (block_is n c p k b every apart starts lines made)
+    ∙ ap (λ t. lines_right c p (known (starts_at c k) nobody) b.jump b.lines && t) (blocks_are n c (jump_point p b.lines + 1) (k + 1) blocks every apart starts below.1 placed.1)
 
 -- ---- on entry
 
@@ -203,14 +239,25 @@ and_assoc : (a b c : Bool) → ((a && b) && c) ≡ (a && (b && c))
 and_assoc true b c = refl
 and_assoc false b c = refl
 
-pub sound_is : (n : ℕ) (v : Code ℕ) (c : Certificate) → keeps_places (is_below n) v ≡ true → list_all (exists_in n) c.everywhere ≡ true → equalities_exist n c.starts ≡ true → keeps_places (is_place n) (placed_by v c) ≡ true
-    → sound_in n v c ≡ is_sound v c
-sound_is n v c e every starts h =
+apart_sound : (n : ℕ) (v : Code ℕ) (c : Certificate) → keeps_places (is_below n) v ≡ true → list_all (exists_in n) c.everywhere ≡ true → equalities_exist n c.starts ≡ true
+    → keeps_places (is_place n) (placed_by v c) ≡ true → are_apart c.everywhere ≡ true → (entry_in n v c && blocks_in n c.everywhere c 0 0 v.blocks) ≡ is_sound v c
+apart_sound n v c e every starts h apart =
     let below = both_true (list_all (λ (d : Destination ℕ). is_below n d.place) v.params) (list_all (block_keeps (is_below n)) v.blocks) e in
     let placed = both_true (list_all (λ (d : Destination Location). is_place n d.place) (certified_params v.params c.params)) (list_all (block_keeps (is_place n)) (certified_blocks c 0 v.blocks)) h in
-    ap (λ t. t && blocks_in n c 0 0 v.blocks) (params_are n v.params c.params nobody (entry_holds v.params (starts_at c 0)) below.0 placed.0)
-    ∙ ap (λ t. (params_placed v.params c.params && entry_right v c) && t) (blocks_are n c 0 0 v.blocks every starts below.1 placed.1)
+    ap (λ t. t && blocks_in n c.everywhere c 0 0 v.blocks) (params_are n v.params c.params nobody (entry_holds v.params (starts_at c 0)) below.0 placed.0)
+    ∙ ap (λ t. (params_placed v.params c.params && entry_right v c) && t) (blocks_are n c 0 0 v.blocks every apart starts below.1 placed.1)
     ∙ and_assoc (params_placed v.params c.params) (entry_right v c) (blocks_right c 0 0 v.blocks)
+
+pub sound_is : (n : ℕ) (v : Code ℕ) (c : Certificate) → keeps_places (is_below n) v ≡ true → list_all (exists_in n) c.everywhere ≡ true → equalities_exist n c.starts ≡ true
+    → keeps_places (is_place n) (placed_by v c) ≡ true → sound_in n v c ≡ (are_apart c.everywhere && is_sound v c)
+sound_is n v c e every starts h = by (are_apart c.everywhere) refl
+  where
+    by : (b : Bool) → are_apart c.everywhere ≡ b → sound_in n v c ≡ (are_apart c.everywhere && is_sound v c)
+    by true f =
+        ap (λ b. b && (entry_in n v c && blocks_in n c.everywhere c 0 0 v.blocks)) f
+        ∙ apart_sound n v c e every starts h f
+        ∙ sym (ap (λ b. b && is_sound v c) f)
+    by false f = ap (λ b. b && (entry_in n v c && blocks_in n c.everywhere c 0 0 v.blocks)) f ∙ sym (ap (λ b. b && is_sound v c) f)
 
 -- ---- in a loop
 

@@ -11,6 +11,7 @@ use Rattle.certificates.specs.declared.certificate.Equality.{Equality}
 use Rattle.certificates.specs.declared.certificate.Certificate.{Certificate}
 use Rattle.certificates.specs.Listed.{has}
 pub use Rattle.certificates.specs.Listed.{end_point}
+use Rattle.alloc_check.specs.Owners.{are_apart}
 use Rattle.alloc_check.specs.Certified.{placed_by, is_sound}
 
 -- an equality of a register and a place that there are
@@ -42,6 +43,6 @@ is_whole v c =
 abbrev pub is_placed : (slots : ℕ) → Code Location → Bool
 is_placed slots l = keeps_places (is_place slots) l && (are_near l.params && (are_distinct located l.params && list_all is_paid l.blocks))
 
--- the certificate is whole and sound, and makes a function
+-- the certificate is whole, what holds everywhere is apart, and it is sound and makes a function
 abbrev pub is_accepted : VFunc → Certificate → Bool
-is_accepted v c = is_whole v c && (is_sound v.code c && is_placed v.registers (placed_by v.code c))
+is_accepted v c = is_whole v c && (are_apart c.everywhere && (is_sound v.code c && is_placed v.registers (placed_by v.code c)))

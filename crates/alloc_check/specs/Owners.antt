@@ -53,6 +53,19 @@ abbrev pub known : List Equality → Owners → Owners
 known [] own = own
 known (e ∷ es) own = known es (own_also e own)
 
+-- ---- where registers are
+
+abbrev pub nowhere : ℕ → Option Location
+nowhere r = None
+
+abbrev pub stand_also : Equality → (ℕ → Option Location) → ℕ → Option Location
+stand_also e f r = if nat_eq r e.register then Some e.place else f r
+
+-- each at the place of the last equality that names it
+abbrev pub standing : List Equality → (ℕ → Option Location) → ℕ → Option Location
+standing [] f = f
+standing (e ∷ es) f = standing es (stand_also e f)
+
 -- ---- what is asked
 
 abbrev pub owns : Owners → Location → ℕ → Bool
@@ -67,6 +80,13 @@ args_held own f args = list_all (λ a. operand_held own f a.value) args
 
 abbrev pub all_hold : Owners → List Equality → Bool
 all_hold own es = list_all (λ e. owns own e.place e.register) es
+
+abbrev pub is_at : Location → Option Location → Bool
+is_at d p = option_map_or (λ q. same_location q d) p false
+
+-- no register has two of the places, and no place two registers: each equality is the one of its place and of its register
+abbrev pub are_apart : List Equality → Bool
+are_apart es = list_all (λ e. owns (known es nobody) e.place e.register && is_at e.place (standing es nowhere e.register)) es
 
 -- ---- the owners after a line, if it finds what it reads
 

@@ -1,20 +1,24 @@
 -- What the checker does, step by step: as `Certified` has it, but none where a place or a register has no room in its table.
-use Rattle.std.specs.Prelude.{ℕ, ◌+◌, Bool, true, false, not, ◌&&◌, ◌||◌, nat_lt, nat_le, if◌then◌else◌, List, [], ◌∷◌, ◌++◌, Option, Some, None}
+use Rattle.std.specs.Prelude.{ℕ, zero, suc, ◌+◌, Bool, true, false, not, ◌&&◌, ◌||◌, nat_lt, nat_le, if◌then◌else◌, List, [], ◌∷◌, ◌++◌, Option, Some, None}
 use Rattle.std.specs.List.{list_all}
 use Rattle.std.specs.Option.{option_map_or, option_and_then}
+use Rattle.rv_isa.specs.declared.abi.TheConstants.{LAST_SAVED}
 use Rattle.vcode.specs.declared.place.Location.{Location}
+use Rattle.vcode.specs.declared.place.Location.TheVariants.{Register}
 use Rattle.vcode.specs.declared.place.Destination.{Destination}
 use Rattle.vcode.specs.declared.line.Line.{Line}
 use Rattle.vcode.specs.declared.line.Line.TheVariants.{Tick, Set, Operate, Load, Store, Alloc, Blit, Call}
 use Rattle.vcode.specs.declared.line.Jump.{Jump}
+use Rattle.vcode.specs.declared.line.Jump.TheVariants.{Goto, Branch, Return, Halt}
 use Rattle.vcode.specs.declared.code.Block.{Block}
 use Rattle.vcode.specs.declared.code.Code.{Code}
 use Rattle.certificates.specs.declared.certificate.Equality.{Equality}
 use Rattle.certificates.specs.declared.certificate.Transfer.{Transfer}
 use Rattle.certificates.specs.declared.certificate.Certificate.{Certificate}
+use Rattle.cfg_live.specs.Registers.{line_writes}
 use Rattle.alloc_check.specs.Placed.{Layout, placed_line}
-use Rattle.alloc_check.specs.Owners.{Owners, nobody, own_put, own_move, own_also, own_kept, owns, operand_held, args_held, where_held}
-use Rattle.alloc_check.specs.Certified.{moves_at, begins_at, starts_at, layout_at, transfers, next_point, jump_point, jump_right, is_param}
+use Rattle.alloc_check.specs.Owners.{Owners, nobody, known, nowhere, standing, own_put, own_move, own_also, own_kept, owns, operand_held, args_held, all_hold, are_apart, where_held}
+use Rattle.alloc_check.specs.Certified.{moves_at, begins_at, starts_at, layout_at, transfers, next_point, jump_point, is_param}
 use Rattle.alloc_check.specs.Table.{in_table}
 
 abbrev pub put_in : ℕ → Location → ℕ → Owners → Option Owners
@@ -57,6 +61,11 @@ line_in n own f (Alloc to size) = makes_in n f to own
 line_in n own f (Blit from to count) = where_held (operand_held own f from && operand_held own f to) own
 line_in n own f (Call to callee args) = after_reads (operand_held own f callee && args_held own f args) (receives_in n f to (own_kept own))
 
+-- the moves before a line; a tick has none
+abbrev pub moves_before : Certificate → ℕ → Line ℕ → List Transfer
+moves_before c p (Tick turn w) = []
+moves_before c p l = moves_at c p
+
 -- a line with the moves before it; a tick is no point
 abbrev pub point_in : ℕ → Certificate → ℕ → Owners → Line ℕ → Option Owners
 point_in n c p own (Tick turn w) = Some own
@@ -66,21 +75,68 @@ abbrev pub lines_in : ℕ → Certificate → ℕ → Owners → List (Line ℕ)
 lines_in n c p own [] = Some own
 lines_in n c p own (l ∷ lines) = option_and_then (λ o. lines_in n c (next_point p l) o lines) (point_in n c p own l)
 
--- what a jump at point p finds, after the moves before it
-abbrev pub jump_in : ℕ → Certificate → ℕ → Jump ℕ → Owners → Bool
-jump_in n c p j own = option_map_or (λ o. jump_right c o (layout_at c p) j) (moved_in n (moves_at c p) own) false
+-- ---- whether all holds at the end of a block that holds at the start of every one: only what the block may have changed is looked at
 
--- where block k begins
-abbrev pub starts_in : ℕ → Certificate → ℕ → Option Owners
-starts_in n c k = option_and_then (known_in n (begins_at c k)) (known_in n c.everywhere nobody)
+-- the place has its owner, and the register is in its place
+abbrev pub place_stays : List Equality → Owners → Location → Bool
+place_stays es own q = option_map_or (λ r. owns own q r) (known es nobody q) true
 
-abbrev pub block_in : ℕ → Certificate → (p k : ℕ) → Block ℕ → Bool
-block_in n c p k b =
-    option_map_or (jump_in n c (jump_point p b.lines) b.jump) (option_and_then (λ o. lines_in n c p o b.lines) (starts_in n c k)) false
+abbrev pub register_stays : List Equality → Owners → ℕ → Bool
+register_stays es own r = option_map_or (λ q. owns own q r) (standing es nowhere r) true
 
-abbrev pub blocks_in : ℕ → Certificate → (p k : ℕ) → List (Block ℕ) → Bool
-blocks_in n c p k [] = true
-blocks_in n c p k (b ∷ blocks) = block_in n c p k b && blocks_in n c (jump_point p b.lines + 1) (k + 1) blocks
+abbrev pub moves_stay : List Equality → Owners → List Transfer → Bool
+moves_stay es own ms = list_all (λ (m : Transfer). place_stays es own m.to) ms
+
+abbrev pub starts_stay : List Equality → Owners → List Equality → Bool
+starts_stay es own begins = list_all (λ (e : Equality). place_stays es own e.place) begins
+
+abbrev pub write_stays : List Equality → Owners → Layout → Option ℕ → Bool
+write_stays es own f None = true
+write_stays es own f (Some r) = place_stays es own (f r) && register_stays es own r
+
+abbrev pub line_stays : List Equality → Certificate → ℕ → Owners → Line ℕ → Bool
+line_stays es c p own l = moves_stay es own (moves_before c p l) && write_stays es own (layout_at c p) (line_writes l)
+
+abbrev pub lines_stay : List Equality → Certificate → ℕ → Owners → List (Line ℕ) → Bool
+lines_stay es c p own [] = moves_stay es own (moves_at c p)
+lines_stay es c p own (l ∷ lines) = line_stays es c p own l && lines_stay es c (next_point p l) own lines
+
+-- the registers of the machine below a bound, as calls may change them
+abbrev pub machine_stays : List Equality → Owners → ℕ → Bool
+machine_stays es own zero = true
+machine_stays es own (suc k) = machine_stays es own k && place_stays es own (Register k)
+
+abbrev pub block_stays : List Equality → Certificate → (p k : ℕ) → Owners → List (Line ℕ) → Bool
+block_stays [] c p k own lines = true
+block_stays (e ∷ es) c p k own lines =
+    machine_stays (e ∷ es) own (LAST_SAVED + 1) && (starts_stay (e ∷ es) own (begins_at c k) && lines_stay (e ∷ es) c p own lines)
+
+-- ---- blocks
+
+-- what the jump of a block finds, after the moves before it; `stays` says whether all holds that holds at the start of every block
+abbrev pub targets_in : Certificate → Bool → Owners → Layout → Jump ℕ → Bool
+targets_in c stays own f (Goto k) = stays && all_hold own (begins_at c k)
+targets_in c stays own f (Branch on met otherwise) =
+    (operand_held own f on.left && operand_held own f on.right)
+    && (stays && (all_hold own (begins_at c met) && all_hold own (begins_at c otherwise)))
+targets_in c stays own f (Return None) = true
+targets_in c stays own f (Return (Some a)) = operand_held own f a.value
+targets_in c stays own f Halt = true
+
+abbrev pub jump_in : ℕ → List Equality → Certificate → (p k : ℕ) → Block ℕ → Owners → Bool
+jump_in n es c p k b own =
+    option_map_or
+    (λ o. targets_in c (block_stays es c p k o b.lines) o (layout_at c (jump_point p b.lines)) b.jump)
+    (moved_in n (moves_at c (jump_point p b.lines)) own)
+    false
+
+abbrev pub block_in : ℕ → List Equality → Certificate → (p k : ℕ) → Block ℕ → Bool
+block_in n es c p k b =
+    option_map_or (jump_in n es c p k b) (option_and_then (λ o. lines_in n c p o b.lines) (known_in n (begins_at c k) (known es nobody))) false
+
+abbrev pub blocks_in : ℕ → List Equality → Certificate → (p k : ℕ) → List (Block ℕ) → Bool
+blocks_in n es c p k [] = true
+blocks_in n es c p k (b ∷ blocks) = block_in n es c p k b && blocks_in n es c (jump_point p b.lines + 1) (k + 1) blocks
 
 -- on entry
 abbrev pub params_in : ℕ → List (Destination ℕ) → List Location → Owners → Option Owners
@@ -95,15 +151,11 @@ abbrev pub entry_in : ℕ → Code ℕ → Certificate → Bool
 entry_in n v c = option_map_or (entry_holds v.params (starts_at c 0)) (params_in n v.params c.params nobody) false
 
 abbrev pub sound_in : ℕ → Code ℕ → Certificate → Bool
-sound_in n v c = entry_in n v c && blocks_in n c 0 0 v.blocks
+sound_in n v c = are_apart c.everywhere && (entry_in n v c && blocks_in n c.everywhere c 0 0 v.blocks)
 
 -- where that is not beyond the limit
 abbrev pub bounded : ℕ → ℕ → Option ℕ
 bounded limit p = if nat_le p limit then Some p else None
-
-abbrev pub moves_before : Certificate → ℕ → Line ℕ → List Transfer
-moves_before c p (Tick turn w) = []
-moves_before c p l = moves_at c p
 
 -- the code for a line, with the moves before it
 abbrev pub certified_line : Certificate → ℕ → Line ℕ → List (Line Location)

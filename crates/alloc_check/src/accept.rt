@@ -54,8 +54,8 @@ fn is_right(alloc: Global, function: &VFunc, certificate: &Certificate) -> Resul
 ///
 /// # Errors
 ///
-/// `Refused::No` only where the certificate isn't accepted: a list is too short or too long, a register or place isn't there, a point has for a register no place
-/// or two, two parameters have one place, a line or a jump doesn't find what it asks for, or the ticks don't pay for the moves. `Refused::Memory` only where memory
+/// `Refused::No` only where the certificate isn't accepted: a list is too short or too long, a register or place isn't there, a register has two places everywhere or a place two
+/// registers, a point has for a register no place or two, two parameters have one place, a line or a jump doesn't find what it asks for, or the ticks don't pay for the moves. `Refused::Memory` only where memory
 /// was refused.
 pub fn accept(alloc: Global, function: &VFunc, certificate: &Certificate) -> Result<LFunc, Refused>
     ensures code { IfOk result (λ l. l.code ≡ placed_by function.now.code certificate.now) }

@@ -805,6 +805,37 @@ fn places_everywhere_must_be_there(rt: HostRuntime) -> Result<(), Fail> {
     Ok(())
 }
 
+#[test]
+fn places_everywhere_are_apart(rt: HostRuntime) -> Result<(), Fail> {
+    let alloc = rt.alloc();
+    let at = |register: u32, place: Location| Equality { register, place };
+    let [slot, one, x9] = [Location::Slot(0), Location::Slot(1), Location::Register(9)];
+    // the same again is let pass
+    let again = [at(0, slot), at(0, slot)];
+    assert!(rt; stays(alloc, again.as_slice(), in_its_slot(), &[], &[])?);
+    // two registers in a place
+    let shared = [at(0, slot), at(1, slot)];
+    assert!(rt; !stays(alloc, shared.as_slice(), in_its_slot(), &[], &[])?);
+    // a register in two places, both of which have its value at the jump
+    let both = [moving(one, x9)];
+    for (everywhere, is_taken) in [
+        ([at(0, slot), at(1, one), at(1, one)], true),
+        ([at(0, slot), at(1, x9), at(1, x9)], true),
+        ([at(0, slot), at(1, one), at(1, x9)], false),
+        ([at(0, slot), at(1, x9), at(1, one)], false),
+    ] {
+        let answer = stays(
+            alloc,
+            everywhere.as_slice(),
+            layout_apart(),
+            &[],
+            both.as_slice(),
+        )?;
+        assert_eq!(rt; answer, is_taken);
+    }
+    Ok(())
+}
+
 /// Both registers in their slots.
 fn layout_apart() -> Behind {
     Behind {

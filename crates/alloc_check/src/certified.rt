@@ -5,7 +5,7 @@ ghost use Rattle.alloc_check.specs.Accepted.{end_point};
 ghost use Rattle.alloc_check.specs.Walk.{moves_before, certified_line};
 
 use crate::placing::{jump, line};
-use crate::says::{By, moves_at, places_at};
+use crate::says::{By, moves_at, moves_before, places_at};
 use certificates::certificate::{Certificate, Transfer};
 use cfg_live::numbering::{jump_point, next_point};
 use il_ast::list::Seq;
@@ -24,16 +24,6 @@ fn push_moves(placed: &mut Seq<Line<Location>>, moves: &[Transfer]) -> Result<()
         })?;
     }
     Ok(())
-}
-
-// The moves before a line; a tick has none.
-fn moves_before<'a>(certificate: &'a Certificate, at: usize, from: &Line<u32>) -> &'a [Transfer]
-    ensures { result.now ≡ moves_before certificate.now at from.now }
-{
-    match from {
-        Line::Tick { .. } => &[],
-        _ => moves_at(certificate, at),
-    }
 }
 
 fn push_point(

@@ -6,6 +6,7 @@ ghost use Rattle.vcode.specs.Named.{operand_keeps, wanted_keeps, made_keeps, lin
 ghost use Rattle.vcode.specs.Places.{located, same_location};
 ghost use Rattle.alloc_check.specs.Accepted.{is_placed, exists_in, equalities_exist};
 
+use crate::says::is_same;
 use certificates::certificate::Equality;
 use il_ast::list::Seq;
 use il_ast::operation::Class;
@@ -138,16 +139,6 @@ fn are_near(params: &[Destination<Location>]) -> bool
     ensures { result ≡ are_near params.now }
 {
     params.iter().all(|param| is_near(param.place))
-}
-
-fn is_same(one: Location, other: Location) -> bool
-    ensures { result ≡ same_location one other }
-{
-    match (one, other) {
-        (Location::Register(a), Location::Register(b)) => a == b,
-        (Location::Slot(a), Location::Slot(b)) => a == b,
-        _ => false,
-    }
 }
 
 fn is_among(place: Location, params: &[Destination<Location>]) -> bool

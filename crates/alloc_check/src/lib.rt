@@ -10,9 +10,12 @@
 //!
 //! [`accept::accept`] takes a certificate from anyone and makes its code, or answers `Refused::No`. Its contract says what the code is, that it keeps the virtual
 //! code, and that the answer is no only for certificates that `specs/Accepted` doesn't accept: those that aren't sound, name places or registers that there
-//! aren't, have a list that is too short or too long, have for a point a register without a place or with two, put two parameters into one place, or move
-//! more than the ticks pay for. The check goes once over the code, with a table of the
-//! places' owners in which asking and writing take the same time however many places there are; the code is made after it.
+//! aren't, have a list that is too short or too long, have for a point a register without a place or with two, have everywhere two registers in a place or two
+//! places for a register, put two parameters into one place, or move more than the ticks pay for.
+//!
+//! The check goes over the code, with a table of the places' owners in which asking and writing take the same time however many places there are; the code is made
+//! after it. What holds at the start of every block lies under that table, so that a block begins at once, and before a jump only that of it is looked at which
+//! the block may have changed (`specs/Walk`).
 //!
 //! [`placing`] makes lines and jumps with a place for each register, wherever a [`placing::Placing`] says that is.
 //!
@@ -24,6 +27,7 @@ pub mod accept;
 mod accept_tests;
 mod certified;
 mod check;
+mod first;
 mod fits;
 mod frame_slots;
 pub mod laws;
@@ -31,6 +35,7 @@ pub mod placing;
 mod points;
 mod says;
 pub mod spill_all;
+mod stays;
 mod table;
 #[cfg(test)]
 mod tests;

@@ -1,9 +1,12 @@
 //! What a certificate says of a point or a block; nothing where it is too short.
 ghost use Rattle.std.specs.Prelude.{◌≡◌};
+ghost use Rattle.vcode.specs.Places.{same_location};
 ghost use Rattle.alloc_check.specs.Certified.{moves_at, begins_at, places_at, place_by};
+ghost use Rattle.alloc_check.specs.Walk.{moves_before};
 
 use crate::placing::Placing;
 use certificates::certificate::{Certificate, Equality, Transfer};
+use vcode::line::Line;
 use vcode::place::Location;
 
 /// The moves right before a point.
@@ -13,6 +16,20 @@ pub(crate) fn moves_at(certificate: &Certificate, point: usize) -> &[Transfer]
     match certificate.moves.as_slice().get(point) {
         Some(moves) => moves.as_slice(),
         None => &[],
+    }
+}
+
+/// The moves before a line; a tick has none.
+pub(crate) fn moves_before<'a>(
+    certificate: &'a Certificate,
+    at: usize,
+    from: &Line<u32>,
+) -> &'a [Transfer]
+    ensures { result.now ≡ moves_before certificate.now at from.now }
+{
+    match from {
+        Line::Tick { .. } => &[],
+        _ => moves_at(certificate, at),
     }
 }
 
@@ -46,6 +63,17 @@ pub(crate) fn place_by(equalities: &[Equality], register: u32) -> Location
         }
     }
     Location::Register(0)
+}
+
+/// Whether two places are one.
+pub(crate) fn is_same(one: Location, other: Location) -> bool
+    ensures { result ≡ same_location one other }
+{
+    match (one, other) {
+        (Location::Register(a), Location::Register(b)) => a == b,
+        (Location::Slot(a), Location::Slot(b)) => a == b,
+        _ => false,
+    }
 }
 
 /// Each register where these equalities have it.

@@ -1,52 +1,43 @@
 //! Whose value each place holds, in a table: asking and writing take the same time however many places there are.
-ghost use Rattle.std.specs.Prelude.{◌≡◌, ◌<◌, ◌≤◌, ◌+◌, ◌^◌, ℕ, length, if◌then◌else◌, None, IfOk, IsTrue, slice_get, nat_le, ◌&&◌};
+ghost use Rattle.std.specs.Prelude.{◌≡◌, ◌<◌, ◌≤◌, ◌+◌, ◌^◌, ℕ, true, length, if◌then◌else◌, None, IfOk, IsTrue, slice_get, nat_le, ◌&&◌};
+ghost use Rattle.std.specs.List.{list_all};
 ghost use Rattle.rv_isa.specs.declared.abi.TheConstants.{LAST_SAVED};
 ghost use Rattle.vcode.specs.declared.place.Location.TheVariants.{Register};
 ghost use Rattle.vcode.specs.Places.{is_callers};
-ghost use Rattle.alloc_check.specs.Owners.{nobody, own_kept, where_held};
-ghost use Rattle.alloc_check.specs.Table.{cell, cell_at, counts, own_of, in_table, IsTable, Rewrites};
+ghost use Rattle.alloc_check.specs.Owners.{nobody, known, nowhere, standing, own_kept, where_held};
+ghost use Rattle.alloc_check.specs.Accepted.{exists_in};
+ghost use Rattle.alloc_check.specs.Table.{item, cell_at, first_at, latest, counts, own_of, in_table, forgets, Forgotten, IsFirst, IsTable, Rewrites};
 ghost use Rattle.alloc_check.specs.Walk.{put_in, move_in, also_in};
 
+use crate::first::{First, MACHINE, empty, has_cell, item};
 use certificates::certificate::{Equality, Transfer};
 use rv_isa::abi;
 use std::alloc::{AllocError, Global};
 use vcode::place::Location;
 
-/// How many registers have a cell: those that code may name are below.
-const MACHINE: usize = abi::LAST_SAVED as usize + 1;
-
-/// A virtual register whose value came to a place at a time.
+/// The virtual register whose value a place has held since a time, if it holds one.
 #[derive(Clone, Copy)]
 pub(crate) struct Held {
-    register: u32,
+    owner: Option<u32>,
     since: usize,
 }
 
-/// Whose value each place holds. What came to a place counts as long as no block began and its register was not written since.
+/// What a table is for: so many virtual registers, and what holds at the start of every block.
+#[derive(Clone, Copy)]
+pub(crate) struct Ground<'a> {
+    pub(crate) registers: u32,
+    pub(crate) everywhere: &'a [Equality],
+}
+
+/// Whose value each place holds: what became of it since the block began, or else what it holds at the start of every block. Its owner counts as long as that
+/// was not written since.
 #[derive(Drop)]
 pub(crate) struct Table {
     machine: Vec<Option<Held>>,
     slots: Vec<Option<Held>>,
     written: Vec<usize>,
     begun: usize,
-}
-
-fn cell(cells: &[Option<Held>], at: usize) -> Option<Held>
-    ensures { result ≡ cell cells.now at }
-{
-    match cells.get(at) {
-        Some(held) => *held,
-        None => None,
-    }
-}
-
-fn has_cell(registers: u32, place: Location) -> bool
-    ensures { result ≡ in_table registers place }
-{
-    match place {
-        Location::Register(number) => number <= abi::LAST_SAVED,
-        Location::Slot(slot) => slot < registers,
-    }
+    first: First,
 }
 
 fn is_between(first: u8, last: u8, register: usize) -> bool
@@ -64,30 +55,28 @@ fn is_callers(register: usize) -> bool
         || is_between(abi::FIRST_SCRATCH, abi::JUMP_SCRATCH, register)
 }
 
-// What a register of the machine holds after a call.
-fn kept(register: usize, held: Option<Held>) -> Option<Held>
-    ensures { result ≡ (if is_callers (Register register) then None else held) }
+// What is known of a register of the machine after a call at that time.
+fn kept(register: usize, held: Option<Held>, time: usize) -> Option<Held>
+    ensures { result ≡ forgets time register held }
 {
-    if is_callers(register) { None } else { held }
-}
-
-// Takes out what the caller's registers hold.
-fn forget_callers(cells: &mut [Option<Held>])
-    ensures { (k : ℕ) → cell cells.new k ≡ (if is_callers (Register k) then None else cell cells.old k) }
-{
-    for register in 0..cells.len() {
-        let held = cell(cells, register);
-        cells[register] = kept(register, held);
+    if is_callers(register) {
+        Some(Held {
+            owner: None,
+            since: time,
+        })
+    } else {
+        held
     }
 }
 
-fn empty(alloc: Global, count: usize) -> Result<Vec<Option<Held>>, AllocError>
-    ensures count { IfOk result (λ v. length v.items ≡ count) }
-    ensures empty { IfOk result (λ v. (k : ℕ) → cell v.items k ≡ None) }
+// Takes out what the caller's registers hold.
+fn forget_callers(cells: &mut [Option<Held>], time: usize)
+    ensures { Forgotten time cells.new cells.old }
 {
-    let mut cells = Vec::new(alloc);
-    cells.resize(count, None)?;
-    Ok(cells)
+    for register in 0..cells.len() {
+        let held = item(cells, register);
+        cells[register] = kept(register, held, time);
+    }
 }
 
 fn unwritten(alloc: Global, count: usize) -> Result<Vec<usize>, AllocError>
@@ -100,19 +89,26 @@ fn unwritten(alloc: Global, count: usize) -> Result<Vec<usize>, AllocError>
 }
 
 impl Table {
-    /// A table for so many virtual registers, in which no place holds anything.
-    pub(crate) fn new(alloc: Global, registers: u32) -> Result<Table, AllocError>
-        ensures own { IfOk result (λ t. own_of t ≡ nobody) }
-        ensures table { IfOk result (λ t. IsTable registers 0 t) }
+    /// A table in which each place holds what it does at the start of every block.
+    ///
+    /// # Errors
+    ///
+    /// Only where memory was refused.
+    pub(crate) fn new(alloc: Global, ground: &Ground) -> Result<Table, AllocError>
+        requires { list_all (exists_in ground.now.registers) ground.now.everywhere.now ≡ true }
+        ensures own { IfOk result (λ t. own_of t ≡ known ground.now.everywhere.now nobody) }
+        ensures table { IfOk result (λ t. IsTable ground.now.registers ground.now.everywhere.now 0 t) }
     {
+        let first = First::new(alloc, ground.registers, ground.everywhere)?;
         let machine = empty(alloc, MACHINE)?;
-        let slots = empty(alloc, registers as usize)?;
-        let written = unwritten(alloc, registers as usize)?;
+        let slots = empty(alloc, ground.registers as usize)?;
+        let written = unwritten(alloc, ground.registers as usize)?;
         Ok(Table {
             machine,
             slots,
             written,
             begun: 0,
+            first,
         })
     }
 
@@ -120,17 +116,37 @@ impl Table {
         ensures { result ≡ cell_at self.now place }
     {
         match place {
-            Location::Register(number) => cell(&self.machine, number as usize),
-            Location::Slot(slot) => cell(&self.slots, slot as usize),
+            Location::Register(number) => item(&self.machine, number as usize),
+            Location::Slot(slot) => item(&self.slots, slot as usize),
         }
     }
 
-    fn counts(&self, held: Held) -> bool
-        ensures { result ≡ counts self.now.begun self.now.written.items held }
+    fn counts(&self, since: usize, register: u32) -> bool
+        ensures { result ≡ counts self.now.written.items since register }
     {
-        match self.written.get(held.register as usize) {
-            Some(written) => self.begun <= held.since && *written <= held.since,
+        match self.written.get(register as usize) {
+            Some(written) => *written <= since,
             None => false,
+        }
+    }
+
+    // What is known last of a place.
+    fn latest(&self, place: Location) -> Held
+        ensures { result ≡ latest self.now.begun (cell_at self.now place) (first_at self.now.first place) }
+    {
+        let first = Held {
+            owner: self.first.owner(place),
+            since: self.begun,
+        };
+        match self.cell(place) {
+            Some(held) => {
+                if self.begun <= held.since {
+                    held
+                } else {
+                    first
+                }
+            }
+            None => first,
         }
     }
 
@@ -138,10 +154,11 @@ impl Table {
     pub(crate) fn owner(&self, place: Location) -> Option<u32>
         ensures { result ≡ own_of self.now place }
     {
-        match self.cell(place) {
-            Some(held) => {
-                if self.counts(held) {
-                    Some(held.register)
+        let held = self.latest(place);
+        match held.owner {
+            Some(register) => {
+                if self.counts(held.since, register) {
+                    Some(register)
                 } else {
                     None
                 }
@@ -150,24 +167,40 @@ impl Table {
         }
     }
 
-    fn write(&mut self, registers: u32, place: Location, held: Option<Held>)
+    /// The virtual register whose value a place holds at the start of every block.
+    pub(crate) fn first_owner(&self, ground: &Ground, place: Location) -> Option<u32>
+        requires { IsFirst ground.now.registers ground.now.everywhere.now self.now.first }
+        ensures { result ≡ known ground.now.everywhere.now nobody place }
+    {
+        self.first.owner(place)
+    }
+
+    /// The place of a virtual register at the start of every block.
+    pub(crate) fn first_place(&self, ground: &Ground, register: u32) -> Option<Location>
+        requires { IsFirst ground.now.registers ground.now.everywhere.now self.now.first }
+        ensures { result ≡ standing ground.now.everywhere.now nowhere register }
+    {
+        self.first.place(register)
+    }
+
+    fn write(&mut self, registers: u32, place: Location, held: Held)
         requires inside { IsTrue (in_table registers place) }
         requires machine { length self.old.machine.items ≡ LAST_SAVED + 1 }
         requires slots { length self.old.slots.items ≡ registers }
         ensures { Rewrites place held self.old self.new }
     {
         match place {
-            Location::Register(number) => self.machine[number as usize] = held,
-            Location::Slot(slot) => self.slots[slot as usize] = held,
+            Location::Register(number) => self.machine[number as usize] = Some(held),
+            Location::Slot(slot) => self.slots[slot as usize] = Some(held),
         }
     }
 
-    /// A block begins after this time: nothing is known of any place.
-    pub(crate) fn begin(&mut self, registers: u32, time: usize)
-        requires table { IsTable registers time self.old }
+    /// A block begins after this time: each place holds what it does at the start of every block.
+    pub(crate) fn begin(&mut self, ground: &Ground, time: usize)
+        requires table { IsTable ground.now.registers ground.now.everywhere.now time self.old }
         requires room { time + 1 < 2 ^ 64 }
-        ensures own { own_of self.new ≡ nobody }
-        ensures table { IsTable registers (time + 1) self.new }
+        ensures own { own_of self.new ≡ known ground.now.everywhere.now nobody }
+        ensures table { IsTable ground.now.registers ground.now.everywhere.now (time + 1) self.new }
     {
         self.begun = time + 1;
     }
@@ -175,63 +208,69 @@ impl Table {
     /// The register is written, at the next time, and its value is in that place alone. Answers false where the table has no room for one of them.
     pub(crate) fn put(
         &mut self,
-        registers: u32,
+        ground: &Ground,
         place: Location,
         register: u32,
         time: usize,
     ) -> bool
-        requires table { IsTable registers time self.old }
+        requires table { IsTable ground.now.registers ground.now.everywhere.now time self.old }
         requires room { time + 1 < 2 ^ 64 }
-        ensures own { where_held result (own_of self.new) ≡ put_in registers place register (own_of self.old) }
-        ensures table { IsTable registers (time + 1) self.new }
+        ensures own { where_held result (own_of self.new) ≡ put_in ground.now.registers place register (own_of self.old) }
+        ensures table { IsTable ground.now.registers ground.now.everywhere.now (time + 1) self.new }
     {
-        if !has_cell(registers, place) || register >= registers {
+        if !has_cell(ground.registers, place) || register >= ground.registers {
             return false;
         }
-        let since = time + 1;
-        self.write(registers, place, Some(Held { register, since }));
-        self.written[register as usize] = since;
+        let held = Held {
+            owner: Some(register),
+            since: time + 1,
+        };
+        self.write(ground.registers, place, held);
+        self.written[register as usize] = time + 1;
         true
     }
 
     /// The register's value is known to be in that place too. Answers false where the table has no room for one of them.
-    pub(crate) fn also(&mut self, registers: u32, equality: Equality, time: usize) -> bool
-        requires table { IsTable registers time self.old }
-        ensures own { where_held result (own_of self.new) ≡ also_in registers equality (own_of self.old) }
-        ensures table { IsTable registers time self.new }
+    pub(crate) fn also(&mut self, ground: &Ground, equality: Equality, time: usize) -> bool
+        requires table { IsTable ground.now.registers ground.now.everywhere.now time self.old }
+        ensures own { where_held result (own_of self.new) ≡ also_in ground.now.registers equality (own_of self.old) }
+        ensures table { IsTable ground.now.registers ground.now.everywhere.now time self.new }
     {
         let register = equality.register;
-        if !has_cell(registers, equality.place) || register >= registers {
+        if !has_cell(ground.registers, equality.place) || register >= ground.registers {
             return false;
         }
         let held = Held {
-            register,
+            owner: Some(register),
             since: time,
         };
-        self.write(registers, equality.place, Some(held));
+        self.write(ground.registers, equality.place, held);
         true
     }
 
     /// What a place holds is moved to another. Answers false where the table has no room for that.
-    pub(crate) fn transfer(&mut self, registers: u32, transfer: Transfer, time: usize) -> bool
-        requires table { IsTable registers time self.old }
-        ensures own { where_held result (own_of self.new) ≡ move_in registers transfer (own_of self.old) }
-        ensures table { IsTable registers time self.new }
+    pub(crate) fn transfer(&mut self, ground: &Ground, transfer: Transfer, time: usize) -> bool
+        requires table { IsTable ground.now.registers ground.now.everywhere.now time self.old }
+        ensures own { where_held result (own_of self.new) ≡ move_in ground.now.registers transfer (own_of self.old) }
+        ensures table { IsTable ground.now.registers ground.now.everywhere.now time self.new }
     {
-        if !has_cell(registers, transfer.to) {
+        if !has_cell(ground.registers, transfer.to) {
             return false;
         }
-        let held = self.cell(transfer.from);
-        self.write(registers, transfer.to, held);
+        let held = Held {
+            owner: self.owner(transfer.from),
+            since: time,
+        };
+        self.write(ground.registers, transfer.to, held);
         true
     }
 
     /// A call is made: the caller's registers are forgotten.
-    pub(crate) fn call(&mut self, registers: u32, time: usize)
-        requires table { IsTable registers time self.old }
+    pub(crate) fn call(&mut self, ground: &Ground, time: usize)
+        requires table { IsTable ground.now.registers ground.now.everywhere.now time self.old }
         ensures own { own_of self.new ≡ own_kept (own_of self.old) }
-        ensures table { IsTable registers time self.new }
+        ensures table { IsTable ground.now.registers ground.now.everywhere.now time self.new }
     {
-        forget_callers(self.machine.as_mut_slice());
+        forget_callers(self.machine.as_mut_slice(), time);
     }
 }

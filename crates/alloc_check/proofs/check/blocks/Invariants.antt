@@ -7,7 +7,7 @@ use Rattle.alloc_check.proofs.check.blocks.Given as goal
 abbrev pub invariant-loop-index : goal.invariant-loop-index
 invariant-loop-index l =
     record {
-      walk : blocks_in l.registers l.certificate l.first l.index (drop l.index l.blocks) ≡ blocks_in l.registers l.certificate 0 0 l.fn.blocks;
+      walk : blocks_in l.ground.registers l.ground.everywhere.now l.certificate l.first l.index (drop l.index l.blocks) ≡ blocks_in l.ground.registers l.ground.everywhere.now l.certificate 0 0 l.fn.blocks;
       points : end_point l.first (drop l.index l.blocks) ≡ end_point 0 l.fn.blocks;
-      table : IsTable l.registers l.first l.table;
+      table : IsTable l.ground.registers l.ground.everywhere.now l.first l.table;
     }

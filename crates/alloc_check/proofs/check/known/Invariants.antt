@@ -6,6 +6,6 @@ use Rattle.alloc_check.proofs.check.known.Given as goal
 abbrev pub invariant-loop-equality : goal.invariant-loop-equality
 invariant-loop-equality l =
     record {
-      walk : known_in l.registers (drop l.equality-index l.equalities) (own_of l.table) ≡ known_in l.registers l.fn.equalities (own_of l.fn.table);
-      table : IsTable l.registers l.time l.table;
+      walk : known_in l.ground.registers (drop l.equality-index l.equalities) (own_of l.table) ≡ known_in l.ground.registers l.fn.equalities (own_of l.fn.table);
+      table : IsTable l.ground.registers l.ground.everywhere.now l.time l.table;
     }

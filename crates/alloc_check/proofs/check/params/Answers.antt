@@ -5,4 +5,4 @@ use Rattle.alloc_check.proofs.check.params.Goals as goal
 
 pub returns-in-None : goal.returns-in-None
 returns-in-None c =
-    sym (too_few c.args.registers c.args.params.now c.args.places.now c.loop-k.k (own_of c.loop-k.table) c.loop-k-test.true c.in-None.ensures.lookup.3) ∙ c.loop-k.invariant.walk
+    sym (too_few c.args.ground.now.registers c.args.params.now c.args.places.now c.loop-k.k (own_of c.loop-k.table) c.loop-k-test.true c.in-None.ensures.lookup.3) ∙ c.loop-k.invariant.walk

@@ -1,0 +1,7 @@
+use Rattle.std.proofs.Common.{◌≡◌}
+use Rattle.alloc_check.specs.Table.{own_of}
+use Rattle.alloc_check.specs.Walk.{machine_stays}
+use Rattle.alloc_check.proofs.stays.machine_stays.Given as goal
+
+abbrev pub invariant-loop-register : goal.invariant-loop-register
+invariant-loop-register l = l.all ≡ machine_stays l.ground.everywhere.now (own_of l.fn.table) l.register
