@@ -38,4 +38,3 @@ pub use flags::Flags;
 pub use loaded::{Loaded, Segment};
 pub use read::read_image;
 pub use write::write_image;
-

@@ -73,11 +73,7 @@ pub fn arguments<R: Replace>(
 /// # Errors
 ///
 /// Only where memory was refused.
-pub fn line<R: Replace>(
-    alloc: Global,
-    by: &R,
-    from: &Line<u32>,
-) -> Result<Line<u32>, AllocError>
+pub fn line<R: Replace>(alloc: Global, by: &R, from: &Line<u32>) -> Result<Line<u32>, AllocError>
     ensures { IfOk result (λ v. v ≡ with_line (R.replacing by.now) from.now) }
 {
     Ok(match from {
