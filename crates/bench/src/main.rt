@@ -39,7 +39,7 @@ use std::time::Instant;
 use std::{env, fs, io};
 
 /// A measure, a kind and a size, for each part.
-const LITTLE: [(&str, &str, u64); 10] = [
+const LITTLE: [(&str, &str, u64); 9] = [
     ("machine", "alu", 1000),
     ("machine", "memory-paged", 1000),
     ("interpreter", "alu", 1000),
@@ -47,19 +47,17 @@ const LITTLE: [(&str, &str, u64); 10] = [
     ("front", "functions", 10),
     ("compile", "bytes", 10),
     ("certificates", "functions", 10),
-    ("certificates", "wide", 300),
     ("liveness", "live", 10),
     ("moves", "", 10),
 ];
 
 /// The rows of the table.
-const TABLE: [(&str, &str, u64); 10] = [
+const TABLE: [(&str, &str, u64); 9] = [
     ("front", "lines", 36_000),
     ("front", "bytes", 4_000_000),
     ("compile", "functions", 10_000),
     ("compile", "lines", 36_000),
     ("compile", "locals", 11_900),
-    ("compile", "wide", 4_500),
     ("interpreter", "alu", 20_000_000),
     ("machine", "alu", 1_000_000_000),
     ("machine", "memory-paged", 1_000_000_000),
