@@ -9,7 +9,7 @@
 //! |---|---|---|
 //! | `machine` | `alu` (operations and a branch), `memory` (with a load and a store), `alu-paged`, `memory-paged` (over pages) | instructions |
 //! | `interpreter` | `alu`, `memory`, `calls` (a recursion 50,000 deep), `phis` (a block of 195 phis) | turns |
-//! | `front`, `compile`, `certificates` | `functions` (of six lines with a loop), `lines` (one function over 4,000 temporaries), `locals` (one function over 3,990 locals in memory), `wide` (one function of blocks, over 3,990 temporaries that are live throughout), `phi`, `bytes` (a datum) | functions, lines, changes, blocks, bytes |
+//! | `front`, `compile`, `certificates` | `functions` (of six lines with a loop), `lines` (one function over 4,000 temporaries), `locals` (one function over 3,990 locals in memory), `phi`, `bytes` (a datum) | functions, lines, changes, blocks, bytes |
 //! | `text` | the same | the text itself is printed |
 //! | `liveness` | `live` (blocks in reverse), `ladder`, `nest` (loops in one another) | blocks of 40 points, over 4,000 registers |
 //! | `sets` | | a thousand joins of sets of numbers below it |
@@ -68,7 +68,6 @@ fn shape_of(kind: &str) -> Shape {
     match kind {
         "lines" => Shape::Lines,
         "locals" => Shape::Locals,
-        "wide" => Shape::Wide,
         "phi" => Shape::Phi,
         "bytes" => Shape::Bytes,
         _ => Shape::Functions,

@@ -10,8 +10,6 @@ pub enum Shape {
     Lines,
     /// one function that so many times loads, adds and stores one of 3,990 locals in memory
     Locals,
-    /// one function of so many blocks of five lines, which use temporaries of their own and two of the 3,990 that are live throughout
-    Wide,
     /// so many blocks before a phi that names them all
     Phi,
     /// a datum of so many bytes, of four characters each
@@ -25,7 +23,6 @@ pub fn text_of(alloc: Global, shape: Shape, size: u32) -> Result<String, AllocEr
         Shape::Functions => functions(&mut text, size)?,
         Shape::Lines => lines(&mut text, size)?,
         Shape::Locals => locals(&mut text, size)?,
-        Shape::Wide => wide(&mut text, size)?,
         Shape::Phi => phi(&mut text, size)?,
         Shape::Bytes => bytes(&mut text, size)?,
     }
@@ -65,25 +62,6 @@ fn locals(text: &mut String, count: u32) -> Result<(), AllocError> {
         writeln!(text, "\t%t =w add %t, {number}\n\tstorew %t, %l{to}")?;
     }
     text.push_str("\tret 0\n}\n")
-}
-
-fn wide(text: &mut String, count: u32) -> Result<(), AllocError> {
-    text.push_str("export function w $main() {\n@start\n\t%t0 =w copy 1\n")?;
-    for number in 1..3_990 {
-        writeln!(text, "\t%t{number} =w add %t{}, {number}", number - 1)?;
-    }
-    for number in 0..count {
-        let [from, to] = [number % 3_990, (number + 1) % 3_990];
-        writeln!(text, "@block{number}\n\t%a =w add %t{from}, {number}")?;
-        text.push_str("\t%b =w mul %a, %a\n\t%c =w xor %b, %a\n")?;
-        writeln!(text, "\t%d =w sub %c, %b\n\t%t{to} =w add %d, %a")?;
-        writeln!(text, "\tjnz %c, @block{}, @end", number + 1)?;
-    }
-    writeln!(text, "@block{count}\n\tjmp @end\n@end\n\t%sum =w copy 0")?;
-    for number in 0..3_990 {
-        writeln!(text, "\t%sum =w xor %sum, %t{number}")?;
-    }
-    text.push_str("\tret %sum\n}\n")
 }
 
 fn phi(text: &mut String, count: u32) -> Result<(), AllocError> {

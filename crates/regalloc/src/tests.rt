@@ -1,8 +1,8 @@
 //! A function of one line, and its certificates.
 ghost use Rattle.std.specs.Prelude.{◌<◌};
 
-use crate::linear_scan::{LinearScan, scanned, scanned_within};
-use certificates::certificate::{Certificate, Equality, Transfer};
+use crate::linear_scan::{LinearScan, scanned};
+use certificates::certificate::{Equality, Transfer};
 use certificates::strategy::Strategy;
 use cfg_live::live::live;
 use il_ast::list::Seq;
@@ -171,102 +171,4 @@ fn registers_without_values_are_let_pass(rt: HostRuntime) -> Result<(), Fail> {
     let choice = LinearScan::new(alloc).choose(&function, &live);
     assert!(rt; choice.is_some());
     Ok(())
-}
-
-fn comparing(to: u32, left: u32, right: u32) -> Line<u32> {
-    Line::Operate {
-        to,
-        operation: Operation::Compare(Condition::Equal, Class::L),
-        left: Operand::At(left),
-        right: Operand::At(right),
-    }
-}
-
-/// Compares its arguments, registers 0 and 1, what comes of it with itself, in register 3 and back in register 2, and that with its second argument: in a block each.
-fn chaining(alloc: Global) -> Result<VFunc, AllocError> {
-    let mut params = Seq::new(alloc);
-    params.push(Destination {
-        place: 0,
-        class: Class::L,
-    })?;
-    params.push(Destination {
-        place: 1,
-        class: Class::L,
-    })?;
-    let mut first = Seq::new(alloc);
-    first.push(Line::Tick {
-        turn: true,
-        weight: 2,
-    })?;
-    first.push(comparing(2, 0, 1))?;
-    let mut second = Seq::new(alloc);
-    second.push(Line::Tick {
-        turn: false,
-        weight: 4,
-    })?;
-    second.push(comparing(3, 2, 2))?;
-    second.push(comparing(2, 3, 3))?;
-    let mut last = Seq::new(alloc);
-    last.push(Line::Tick {
-        turn: false,
-        weight: 3,
-    })?;
-    last.push(comparing(0, 2, 1))?;
-    let mut blocks = Seq::new(alloc);
-    blocks.push(Block {
-        lines: first,
-        jump: Jump::Goto(1),
-    })?;
-    blocks.push(Block {
-        lines: second,
-        jump: Jump::Goto(2),
-    })?;
-    blocks.push(Block {
-        lines: last,
-        jump: Jump::Return(Some(ReturnValue::of(Operand::At(0)))),
-    })?;
-    Ok(VFunc {
-        code: Code {
-            result: Some(Class::L),
-            params,
-            blocks,
-        },
-        registers: 4,
-    })
-}
-
-/// Where no live registers may be named for the starts of single blocks, those that are live there have one place throughout, and only the one that isn't is
-/// placed by its lifetime.
-#[test]
-fn registers_of_wide_functions_have_places_throughout(rt: HostRuntime) -> Result<(), Fail> {
-    let alloc = rt.alloc();
-    let function = chaining(alloc)?;
-    let live = live(alloc, &function)?;
-    let few = scanned(alloc, &function, &live)?;
-    assert!(rt; few.everywhere.as_slice().is_empty());
-    assert_eq!(rt; few.starts.len(), 3);
-    assert_eq!(rt; few.starts.as_slice()[1].len(), 2);
-    let wide = scanned_within(alloc, &function, &live, 0)?;
-    assert_eq!(rt; wide.starts.len(), 3);
-    for start in wide.starts.as_slice() {
-        assert!(rt; start.as_slice().is_empty());
-    }
-    let registers: [u32; 3] = [0, 1, 2];
-    assert_eq!(rt; wide.everywhere.len(), registers.len());
-    for (equality, register) in wide.everywhere.as_slice().iter().zip(registers) {
-        assert_eq!(rt; equality.register, register);
-        assert!(rt; matches!(equality.place, Location::Register(_)));
-    }
-    assert!(rt; matches!(equality_of(&wide, 2, 3), Some(Location::Register(_))));
-    Ok(())
-}
-
-/// The place of the register at the point.
-fn equality_of(certificate: &Certificate, point: usize, register: u32) -> Option<Location> {
-    let places = certificate.places.as_slice().get(point)?;
-    let found = places
-        .as_slice()
-        .iter()
-        .find(|equality| equality.register == register)?;
-    Some(found.place)
 }
