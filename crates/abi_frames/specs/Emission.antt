@@ -1,4 +1,5 @@
--- The machine code of each line and jump. x2 is the stack pointer; x28 to x30 hold operands and addresses for a moment.
+-- The machine code of each line and jump. x2 is the stack pointer; x28 to x30 hold operands and
+-- addresses for a moment.
 use Rattle.std.specs.Prelude.{ℕ, zero, suc, ◌+◌, ◌-◌, ◌*◌, ◌/◌, ◌%◌, ◌^◌, ◌&&◌, nat_eq, nat_lt, nat_le, if◌then◌else◌, List, [], ◌∷◌, ◌++◌, length, Option, Some, None}
 use Rattle.rv_isa.specs.declared.abi.TheConstants.{ZERO, RETURN_ADDRESS, STACK_POINTER, FIRST_ARGUMENT, LAST_ARGUMENT, ARGUMENT_REGISTERS, RESULT, FIRST_SCRATCH, SECOND_SCRATCH, THIRD_SCRATCH}
 use Rattle.il_ast.specs.declared.operation.Class.{Class}
@@ -49,16 +50,21 @@ use Rattle.abi_frames.specs.Immediates.{right_form, left_form, form_items}
 -- ---- the frame: eight bytes at an offset from the stack pointer
 
 abbrev pub far_load : (d offset : ℕ) → List Item
-far_load d offset = Plain (Lui (reg d) (high offset)) ∷ sum_to d d STACK_POINTER ∷ load_8 d d offset ∷ []
+far_load d offset =
+    Plain (Lui (reg d) (high offset)) ∷ sum_to d d STACK_POINTER ∷ load_8 d d offset ∷ []
 
 abbrev pub load_slot : (d offset : ℕ) → List Item
-load_slot d offset = if nat_lt offset 2048 then load_8 d STACK_POINTER offset ∷ [] else far_load d offset
+load_slot d offset =
+    if nat_lt offset 2048 then load_8 d STACK_POINTER offset ∷ [] else far_load d offset
 
 abbrev pub far_store : (v offset : ℕ) → List Item
-far_store v offset = Plain (Lui (reg SECOND_SCRATCH) (high offset)) ∷ sum_to SECOND_SCRATCH SECOND_SCRATCH STACK_POINTER ∷ store_8 v SECOND_SCRATCH offset ∷ []
+far_store v offset =
+    Plain (Lui (reg SECOND_SCRATCH) (high offset))
+    ∷ sum_to SECOND_SCRATCH SECOND_SCRATCH STACK_POINTER ∷ store_8 v SECOND_SCRATCH offset ∷ []
 
 abbrev pub store_slot : (v offset : ℕ) → List Item
-store_slot v offset = if nat_lt offset 2048 then store_8 v STACK_POINTER offset ∷ [] else far_store v offset
+store_slot v offset =
+    if nat_lt offset 2048 then store_8 v STACK_POINTER offset ∷ [] else far_store v offset
 
 -- ---- names
 
@@ -113,7 +119,8 @@ deliver y (Slot i) = store_slot FIRST_SCRATCH (slot_offset y i)
 
 abbrev pub set_items : Layout → Location → Operand Location → List Item
 set_items y (InRegister r) a = into y r a
-set_items y (Slot i) a = fetch y FIRST_SCRATCH a ++ store_slot (source FIRST_SCRATCH a) (slot_offset y i)
+set_items y (Slot i) a =
+    fetch y FIRST_SCRATCH a ++ store_slot (source FIRST_SCRATCH a) (slot_offset y i)
 
 -- a comparison of two registers by all 64 bits
 abbrev pub compare_items : Condition → (d a b : ℕ) → List Item
@@ -151,14 +158,18 @@ abbrev pub on_registers : Layout → Location → Operation → (a b : Operand L
 on_registers y to op a b =
     operand_into y op FIRST_SCRATCH a
     ++ (operand_into y op SECOND_SCRATCH b
-    ++ (operation_items op (target to) (operand_source op FIRST_SCRATCH a) (operand_source op SECOND_SCRATCH b) ++ deliver y to))
+    ++ (operation_items op (target to) (operand_source op FIRST_SCRATCH a)
+    (operand_source op SECOND_SCRATCH b) ++ deliver y to))
 
 -- with the other operand's number in the instruction
 abbrev pub by_form : Layout → Location → Operation → Operand Location → Form → List Item
-by_form y to op a form = operand_into y op FIRST_SCRATCH a ++ (form_items form (target to) (operand_source op FIRST_SCRATCH a) ++ deliver y to)
+by_form y to op a form =
+    operand_into y op FIRST_SCRATCH a ++ (form_items form (target to)
+    (operand_source op FIRST_SCRATCH a) ++ deliver y to)
 
 -- where the right operand gives a form, where the left one does, and else
-abbrev pub operate_by : Layout → Location → Operation → (a b : Operand Location) → (right left : Option Form) → List Item
+abbrev pub operate_by : Layout → Location → Operation → (a b : Operand Location) →
+    (right left : Option Form) → List Item
 operate_by y to op a b (Some form) left = by_form y to op a form
 operate_by y to op a b None (Some form) = by_form y to op b form
 operate_by y to op a b None None = on_registers y to op a b
@@ -182,7 +193,8 @@ store_op Half = Sh
 store_op Word = Sw
 store_op Long = Sd
 
--- what an access at this offset from the base has in the register d: of the address beyond a name, its upper part
+-- what an access at this offset from the base has in the register d: of the address beyond a name,
+-- its upper part
 abbrev pub base_items : Layout → (d : ℕ) → Operand Location → (offset : Immediate) → List Item
 base_items y d (Name g) o = with_name (Upper (reg d)) g o ∷ []
 base_items y d a o = fetch y d a
@@ -198,10 +210,13 @@ store_by op v a o = store_from op v (source SECOND_SCRATCH a) o
 abbrev pub store_items : Layout → Size → Operand Location → MemoryAddress Location → List Item
 store_items y size a at =
     fetch y FIRST_SCRATCH a
-    ++ (base_items y SECOND_SCRATCH at.base at.offset ++ (store_by (store_op size) (source FIRST_SCRATCH a) at.base at.offset ∷ []))
+    ++ (base_items y SECOND_SCRATCH at.base at.offset
+    ++ (store_by (store_op size) (source FIRST_SCRATCH a) at.base at.offset ∷ []))
 
 abbrev pub load_items : Layout → Location → LoadOp → MemoryAddress Location → List Item
-load_items y to op at = base_items y FIRST_SCRATCH at.base at.offset ++ ((load_by op (target to) at.base at.offset ∷ []) ++ deliver y to)
+load_items y to op at =
+    base_items y FIRST_SCRATCH at.base at.offset
+    ++ ((load_by op (target to) at.base at.offset ∷ []) ++ deliver y to)
 
 -- ---- calls
 
@@ -217,7 +232,10 @@ pass_into y d W a = word_into y d a
 
 -- the k-th argument, past the eighth: to the stack, eight bytes each from the stack pointer upward
 abbrev pub stack_items : Layout → (k : ℕ) → Argument Location → List Item
-stack_items y k a = if nat_lt k ARGUMENT_REGISTERS then [] else pass_into y FIRST_SCRATCH (passed_class a.extension a.class) a.value ++ (store_8 FIRST_SCRATCH STACK_POINTER (8 * (k - ARGUMENT_REGISTERS)) ∷ [])
+stack_items y k a =
+    if nat_lt k ARGUMENT_REGISTERS then [] else pass_into y FIRST_SCRATCH
+    (passed_class a.extension a.class) a.value
+    ++ (store_8 FIRST_SCRATCH STACK_POINTER (8 * (k - ARGUMENT_REGISTERS)) ∷ [])
 
 abbrev pub stack_all : Layout → (k : ℕ) → List (Argument Location) → List Item
 stack_all y k [] = []
@@ -225,7 +243,9 @@ stack_all y k (a ∷ args) = stack_items y k a ++ stack_all y (k + 1) args
 
 -- the first eight go into x10 to x17
 abbrev pub register_items : Layout → (k : ℕ) → Argument Location → List Item
-register_items y k a = if nat_lt k ARGUMENT_REGISTERS then pass_into y (FIRST_ARGUMENT + k) (passed_class a.extension a.class) a.value else []
+register_items y k a =
+    if nat_lt k ARGUMENT_REGISTERS then pass_into y (FIRST_ARGUMENT + k)
+    (passed_class a.extension a.class) a.value else []
 
 abbrev pub register_all : Layout → (k : ℕ) → List (Argument Location) → List Item
 register_all y k [] = []
@@ -233,25 +253,32 @@ register_all y k (a ∷ args) = register_items y k a ++ register_all y (k + 1) a
 
 -- arguments into x10 to x17, wherever they are
 abbrev pub passed_items : Layout → List (Argument Location) → List Item
-passed_items y args = all_move_up (length args) args ++ register_all y 0 (all_moved_up (length args) args)
+passed_items y args =
+    all_move_up (length args) args ++ register_all y 0 (all_moved_up (length args) args)
 
--- the address of the callee in a register in which no argument is passed; that of a name is left to the jump
+-- the address of the callee in a register in which no argument is passed; that of a name is left to
+-- the jump
 abbrev pub callee_items : Layout → Operand Location → List Item
 callee_items y (Name g) = []
-callee_items y (At (InRegister r)) = if nat_le FIRST_ARGUMENT r && nat_le r LAST_ARGUMENT then add_low FIRST_SCRATCH r 0 ∷ [] else []
+callee_items y (At (InRegister r)) =
+    if nat_le FIRST_ARGUMENT r && nat_le r LAST_ARGUMENT then add_low FIRST_SCRATCH r 0 ∷ [] else []
 callee_items y a = fetch y FIRST_SCRATCH a
 
 abbrev pub callee_source : Operand Location → ℕ
-callee_source (At (InRegister r)) = if nat_le FIRST_ARGUMENT r && nat_le r LAST_ARGUMENT then FIRST_SCRATCH else r
+callee_source (At (InRegister r)) =
+    if nat_le FIRST_ARGUMENT r && nat_le r LAST_ARGUMENT then FIRST_SCRATCH else r
 callee_source a = source FIRST_SCRATCH a
 
 -- arguments on the stack, the callee's address, and arguments in registers
-abbrev pub prepare_items : Layout → (callee : Operand Location) → List (Argument Location) → List Item
+abbrev pub prepare_items : Layout → (callee : Operand Location) → List (Argument Location) →
+    List Item
 prepare_items y callee args = stack_all y 0 args ++ (callee_items y callee ++ passed_items y args)
 
 -- to the callee, with the address of the next instruction in x1
 abbrev pub call_through : Operand Location → List Item
-call_through (Name g) = with_name (Upper (reg RETURN_ADDRESS)) g (low 0) ∷ with_name (JumpBy (reg RETURN_ADDRESS) (reg RETURN_ADDRESS)) g (low 0) ∷ []
+call_through (Name g) =
+    with_name (Upper (reg RETURN_ADDRESS)) g (low 0)
+    ∷ with_name (JumpBy (reg RETURN_ADDRESS) (reg RETURN_ADDRESS)) g (low 0) ∷ []
 call_through a = Plain (Jalr (reg RETURN_ADDRESS) (reg (callee_source a)) (low 0)) ∷ []
 
 -- the result from x10 to its place
@@ -259,17 +286,23 @@ abbrev pub receive_items : Layout → Option (Destination Location) → List Ite
 receive_items y None = []
 receive_items y (Some d) = set_items y d.place (At (InRegister RESULT))
 
-abbrev pub call_items : Layout → Option (Destination Location) → (callee : Operand Location) → List (Argument Location) → List Item
-call_items y to callee args = prepare_items y callee args ++ (call_through callee ++ receive_items y to)
+abbrev pub call_items : Layout → Option (Destination Location) → (callee : Operand Location) →
+    List (Argument Location) → List Item
+call_items y to callee args =
+    prepare_items y callee args ++ (call_through callee ++ receive_items y to)
 
 -- ---- each line
 
 -- as many bytes as the load and the store take, at an offset from the addresses in x28 and x29
 abbrev pub copy_at : LoadOp → StoreOp → (offset : ℕ) → List Item
-copy_at load store o = Plain (Load load (reg THIRD_SCRATCH) (reg FIRST_SCRATCH) (low o)) ∷ store_at store THIRD_SCRATCH SECOND_SCRATCH o ∷ []
+copy_at load store o =
+    Plain (Load load (reg THIRD_SCRATCH) (reg FIRST_SCRATCH) (low o))
+    ∷ store_at store THIRD_SCRATCH SECOND_SCRATCH o ∷ []
 
 abbrev pub copy_eight : List Item
-copy_eight = copy_at Ld Sd 0 ++ (add_low FIRST_SCRATCH FIRST_SCRATCH 8 ∷ add_low SECOND_SCRATCH SECOND_SCRATCH 8 ∷ [])
+copy_eight =
+    copy_at Ld Sd 0 ++ (add_low FIRST_SCRATCH FIRST_SCRATCH 8
+    ∷ add_low SECOND_SCRATCH SECOND_SCRATCH 8 ∷ [])
 
 -- so many times eight bytes
 abbrev pub copy_eights : ℕ → List Item
@@ -280,15 +313,19 @@ copy_eights (suc n) = copy_eight ++ copy_eights n
 abbrev pub copy_rest : ℕ → List Item
 copy_rest n =
     (if nat_lt n 4 then [] else copy_at Lwu Sw 0)
-    ++ ((if nat_lt (n % 4) 2 then [] else copy_at Lhu Sh (n / 4 * 4)) ++ (if nat_lt (n % 2) 1 then [] else copy_at Lbu Sb (n / 2 * 2)))
+    ++ ((if nat_lt (n % 4) 2 then [] else copy_at Lhu Sh (n / 4 * 4))
+    ++ (if nat_lt (n % 2) 1 then [] else copy_at Lbu Sb (n / 2 * 2)))
 
 abbrev pub blit_items : Layout → (from to : Operand Location) → (count : ℕ) → List Item
-blit_items y from to count = into y FIRST_SCRATCH from ++ (into y SECOND_SCRATCH to ++ (copy_eights (count / 8) ++ copy_rest (count % 8)))
+blit_items y from to count =
+    into y FIRST_SCRATCH from ++ (into y SECOND_SCRATCH to
+    ++ (copy_eights (count / 8) ++ copy_rest (count % 8)))
 
 -- the address at an offset from the stack pointer, into the register d
 abbrev pub address_at : (d offset : ℕ) → List Item
 address_at d offset =
-    if nat_lt offset 2048 then add_low d STACK_POINTER offset ∷ [] else Plain (Lui (reg d) (high offset)) ∷ sum_to d d STACK_POINTER ∷ add_low d d offset ∷ []
+    if nat_lt offset 2048 then add_low d STACK_POINTER offset ∷ []
+    else Plain (Lui (reg d) (high offset)) ∷ sum_to d d STACK_POINTER ∷ add_low d d offset ∷ []
 
 -- the address of the next block of memory, where a place takes it
 abbrev pub alloc_items : Layout → (used : ℕ) → Option Location → List Item
@@ -313,7 +350,9 @@ lines_items y used (l ∷ lines) = line_items y used l ++ lines_items y (used + 
 -- ---- the begin and the end of a frame
 
 abbrev pub move_pointer : ℕ → List Item
-move_pointer n = if is_immediate n then add_low STACK_POINTER STACK_POINTER n ∷ [] else constant FIRST_SCRATCH n ++ (sum_to STACK_POINTER STACK_POINTER FIRST_SCRATCH ∷ [])
+move_pointer n =
+    if is_immediate n then add_low STACK_POINTER STACK_POINTER n ∷ []
+    else constant FIRST_SCRATCH n ++ (sum_to STACK_POINTER STACK_POINTER FIRST_SCRATCH ∷ [])
 
 -- by the size of the frame; for an empty one it stays where it is
 abbrev pub lower_pointer : ℕ → List Item
@@ -389,11 +428,13 @@ compared_into y c d a = operand_into y (Compare c.condition c.class) d a
 abbrev pub compared_source : Comparison Location → ℕ → Operand Location → ℕ
 compared_source c d a = operand_source (Compare c.condition c.class) d a
 
-abbrev pub branch_items : Layout → (next : ℕ) → Comparison Location → (met otherwise : ℕ) → List Item
+abbrev pub branch_items : Layout → (next : ℕ) → Comparison Location → (met otherwise : ℕ) →
+    List Item
 branch_items y next c met otherwise =
     compared_into y c FIRST_SCRATCH c.left
     ++ (compared_into y c SECOND_SCRATCH c.right
-    ++ ways_items y next c.condition (compared_source c FIRST_SCRATCH c.left) (compared_source c SECOND_SCRATCH c.right) met otherwise)
+    ++ ways_items y next c.condition (compared_source c FIRST_SCRATCH c.left)
+    (compared_source c SECOND_SCRATCH c.right) met otherwise)
 
 abbrev pub return_items : Layout → (next : ℕ) → Option (ReturnValue Location) → List Item
 return_items y next None = goto_items y next y.leave

@@ -35,7 +35,8 @@ counter =
     ∷ Operate (Slot 0) (Reg Add) (At (Slot 0)) (Number 1)
     ∷ Operate (Register 8) (Compare SignedLess L) (At (Slot 0)) (Number 10)
     ∷ [])
-    (Branch (record { condition = NotEqual; class = L; left = At (Register 8); right = Number 0 }) 1 2)
+    (Branch (record { condition = NotEqual; class = L; left = At (Register 8); right = Number 0 }) 1
+    2)
     ∷ block (Tick true 1 ∷ []) (Return (returned (At (Slot 0))))
     ∷ [])
 
@@ -55,18 +56,21 @@ ninth =
     ∷ [])
     (block (Tick true 1 ∷ []) (Return (returned (At (Slot 8)))) ∷ [])
 
--- calls the function whose address it is given, with a word and that address, and returns what it returns
+-- calls the function whose address it is given, with a word and that address, and returns what it
+-- returns
 abbrev pub caller : Code Location
 caller =
     code (Some W) (destination (Slot 0) L ∷ [])
     (block
     (Tick true 4
-    ∷ Call (Some (destination (Register 9) W)) (At (Slot 0)) (argument W (Number 7) ∷ argument L (At (Slot 0)) ∷ [])
+    ∷ Call (Some (destination (Register 9) W)) (At (Slot 0))
+    (argument W (Number 7) ∷ argument L (At (Slot 0)) ∷ [])
     ∷ [])
     (Return (returned (At (Register 9))))
     ∷ [])
 
--- makes two blocks of memory, stores a number into one, copies its 15 bytes into the other, and returns what stands there
+-- makes two blocks of memory, stores a number into one, copies its 15 bytes into the other, and
+-- returns what stands there
 abbrev pub copier : Code Location
 copier =
     code (Some L) []

@@ -73,7 +73,8 @@ is_not_zero d a = Plain (Reg Sltu (reg d) (reg ZERO) (reg a))
 -- the top 31 bits
 abbrev pub top_part : (d m : ℕ) → List Item
 top_part d m =
-    Plain (Lui (reg d) (field (m / 2 ^ 44))) ∷ Plain (Shift Srli (reg d) (reg d) (amount 1)) ∷ add_low d d (m / 2 ^ 33 % 2 ^ 11) ∷ []
+    Plain (Lui (reg d) (field (m / 2 ^ 44))) ∷ Plain (Shift Srli (reg d) (reg d) (amount 1))
+    ∷ add_low d d (m / 2 ^ 33 % 2 ^ 11) ∷ []
 
 -- 11 bits more
 abbrev pub next_part : (d bits : ℕ) → List Item
@@ -81,7 +82,8 @@ next_part d bits = shift_11 d ∷ add_low d d bits ∷ []
 
 abbrev pub long_constant : (d m : ℕ) → List Item
 long_constant d m =
-    top_part d m ++ (next_part d (m / 2 ^ 22 % 2 ^ 11) ++ (next_part d (m / 2 ^ 11 % 2 ^ 11) ++ next_part d (m % 2 ^ 11)))
+    top_part d m ++ (next_part d (m / 2 ^ 22 % 2 ^ 11)
+    ++ (next_part d (m / 2 ^ 11 % 2 ^ 11) ++ next_part d (m % 2 ^ 11)))
 
 -- ---- numbers of 32 bits
 

@@ -1,4 +1,5 @@
--- The machine code of a whole function: the begin of its frame, what brings its arguments to the places of its parameters, its blocks, and the end of the frame.
+-- The machine code of a whole function: the begin of its frame, what brings its arguments to the
+-- places of its parameters, its blocks, and the end of the frame.
 use Rattle.std.specs.Prelude.{ℕ, zero, suc, ◌+◌, ◌-◌, ◌*◌, Bool, false, not, ◌&&◌, nat_le, nat_lt, if◌then◌else◌, List, [], ◌∷◌, ◌++◌, length}
 use Rattle.rv_isa.specs.declared.abi.TheConstants.{STACK_POINTER, FIRST_ARGUMENT, LAST_ARGUMENT, ARGUMENT_REGISTERS, FIRST_SCRATCH, THIRD_SCRATCH}
 use Rattle.rv_isa.specs.declared.labelled.Item.{Item}
@@ -19,7 +20,8 @@ use Rattle.abi_frames.specs.Emission.{passed_items, store_slot, slot_offset, pro
 
 -- the caller's stack pointer into x30
 abbrev pub caller_pointer : Layout → List Item
-caller_pointer y = constant THIRD_SCRATCH y.size ++ (sum_to THIRD_SCRATCH THIRD_SCRATCH STACK_POINTER ∷ [])
+caller_pointer y =
+    constant THIRD_SCRATCH y.size ++ (sum_to THIRD_SCRATCH THIRD_SCRATCH STACK_POINTER ∷ [])
 
 -- an argument that is passed in a register, into a place in which none is
 abbrev pub from_register : Layout → (argument : ℕ) → Location → List Item
@@ -29,16 +31,20 @@ from_register y k (Slot i) = store_slot (FIRST_ARGUMENT + k) (slot_offset y i)
 -- one that is passed on the stack, in eight bytes from the caller's stack pointer upward
 abbrev pub from_stack : Layout → (argument : ℕ) → Location → List Item
 from_stack y k (InRegister r) = load_8 r THIRD_SCRATCH (8 * (k - ARGUMENT_REGISTERS)) ∷ []
-from_stack y k (Slot i) = load_8 FIRST_SCRATCH THIRD_SCRATCH (8 * (k - ARGUMENT_REGISTERS)) ∷ store_slot FIRST_SCRATCH (slot_offset y i)
+from_stack y k (Slot i) =
+    load_8 FIRST_SCRATCH THIRD_SCRATCH (8 * (k - ARGUMENT_REGISTERS))
+    ∷ store_slot FIRST_SCRATCH (slot_offset y i)
 
 -- the first eight arguments are passed in x10 to x17
 abbrev pub argument_items : Layout → (argument : ℕ) → Location → List Item
 argument_items y k p = if nat_lt k ARGUMENT_REGISTERS then from_register y k p else from_stack y k p
 
 -- those arguments that pass the test
-abbrev pub arguments_items : Layout → (test : ℕ → Location → Bool) → (argument : ℕ) → List (Destination Location) → List Item
+abbrev pub arguments_items : Layout → (test : ℕ → Location → Bool) → (argument : ℕ) →
+    List (Destination Location) → List Item
 arguments_items y test k [] = []
-arguments_items y test k (d ∷ ds) = (if test k d.place then argument_items y k d.place else []) ++ arguments_items y test (k + 1) ds
+arguments_items y test k (d ∷ ds) =
+    (if test k d.place then argument_items y k d.place else []) ++ arguments_items y test (k + 1) ds
 
 -- a register in which an argument is passed
 abbrev pub is_for_arguments : Location → Bool
@@ -56,7 +62,8 @@ is_on_stack k p = nat_le ARGUMENT_REGISTERS k
 abbrev pub comes_to : (i argument : ℕ) → Location → Bool
 comes_to i k p = nat_lt k ARGUMENT_REGISTERS && is_register (FIRST_ARGUMENT + i) p
 
--- the register of the argument, of these from the k-th on, whose place is x(10 + i); else that register itself
+-- the register of the argument, of these from the k-th on, whose place is x(10 + i); else that
+-- register itself
 abbrev pub source_in : (i k : ℕ) → List (Destination Location) → ℕ
 source_in i k [] = FIRST_ARGUMENT + i
 source_in i k (d ∷ ds) = if comes_to i k d.place then FIRST_ARGUMENT + k else source_in i (k + 1) ds
@@ -64,21 +71,27 @@ source_in i k (d ∷ ds) = if comes_to i k d.place then FIRST_ARGUMENT + k else 
 -- what so many registers from x(10 + i) on take, as arguments of a call would be
 abbrev pub sources : (count i : ℕ) → List (Destination Location) → List (Argument Location)
 sources zero i ds = []
-sources (suc n) i ds = record { class = L; value = At (InRegister (source_in i 0 ds)); extension = Made } ∷ sources n (i + 1) ds
+sources (suc n) i ds =
+    record { class = L; value = At (InRegister (source_in i 0 ds)); extension = Made }
+    ∷ sources n (i + 1) ds
 
 abbrev pub pointer_items : Layout → (params : ℕ) → List Item
 pointer_items y n = if nat_lt ARGUMENT_REGISTERS n then caller_pointer y else []
 
--- arguments in registers to places elsewhere, then those to places in one another's registers, and last those on the stack
+-- arguments in registers to places elsewhere, then those to places in one another's registers, and
+-- last those on the stack
 abbrev pub entry_items : Layout → List (Destination Location) → List Item
 entry_items y params =
     pointer_items y (length params)
     ++ (arguments_items y goes_away 0 params
-    ++ (passed_items y (sources ARGUMENT_REGISTERS 0 params) ++ arguments_items y is_on_stack 0 params))
+    ++ (passed_items y (sources ARGUMENT_REGISTERS 0 params)
+    ++ arguments_items y is_on_stack 0 params))
 
-abbrev pub function_items : Layout → (saved : List ℕ) → List (Destination Location) → List (Block Location) → List Item
+abbrev pub function_items : Layout → (saved : List ℕ) → List (Destination Location) →
+    List (Block Location) → List Item
 function_items y rs params blocks =
-    prologue y rs ++ (entry_items y params ++ (blocks_items y 0 blocks ++ (Label y.leave ∷ epilogue y rs)))
+    prologue y rs ++ (entry_items y params ++ (blocks_items y 0 blocks
+    ++ (Label y.leave ∷ epilogue y rs)))
 
 abbrev pub frame_items : Code Location → (slots : ℕ) → List Item
 frame_items f slots = function_items (layout f slots) (saved_registers f) f.params f.blocks

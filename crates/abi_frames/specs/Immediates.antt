@@ -1,4 +1,5 @@
--- Which operations with a number as their right operand are done by instructions that have the number in them.
+-- Which operations with a number as their right operand are done by instructions that have the
+-- number in them.
 use Rattle.std.specs.Prelude.{ℕ, ◌+◌, ◌-◌, ◌*◌, ◌%◌, ◌^◌, Bool, not, ◌&&◌, nat_eq, nat_lt, if◌then◌else◌, List, [], ◌∷◌, Option, Some, None}
 use Rattle.std.specs.Int.{trailing_zeros, w64}
 use Rattle.std.specs.Option.{option_and_then}
@@ -49,7 +50,8 @@ sum_form n = form_if (is_immediate n) (AddWord n)
 
 -- whether n is a power of two that has fewer than so many zeros
 abbrev pub is_power : (bits n : ℕ) → Bool
-is_power bits n = nat_lt (trailing_zeros w64 n) bits && nat_eq n ((1 * 2 ^ trailing_zeros w64 n) % 2 ^ 64)
+is_power bits n =
+    nat_lt (trailing_zeros w64 n) bits && nat_eq n ((1 * 2 ^ trailing_zeros w64 n) % 2 ^ 64)
 
 -- a product with a power of two is a shift by its zeros
 abbrev pub product_form : ℕ → Option Form
@@ -146,16 +148,20 @@ left_form op a = option_and_then (λ o. right_form o a) (swapped op)
 -- ---- the instructions of a form, on a register
 
 abbrev pub compare_number : Condition → (d a n : ℕ) → List Item
-compare_number Equal d a n = if nat_eq n 0 then is_zero d a ∷ [] else add_low d a (opposite n) ∷ is_zero d d ∷ []
-compare_number NotEqual d a n = if nat_eq n 0 then is_not_zero d a ∷ [] else add_low d a (opposite n) ∷ is_not_zero d d ∷ []
+compare_number Equal d a n =
+    if nat_eq n 0 then is_zero d a ∷ [] else add_low d a (opposite n) ∷ is_zero d d ∷ []
+compare_number NotEqual d a n =
+    if nat_eq n 0 then is_not_zero d a ∷ [] else add_low d a (opposite n) ∷ is_not_zero d d ∷ []
 compare_number SignedLess d a n = Plain (Imm Slti (reg d) (reg a) (low n)) ∷ []
 compare_number SignedGreaterEqual d a n = Plain (Imm Slti (reg d) (reg a) (low n)) ∷ negate d ∷ []
 compare_number SignedLessEqual d a n = Plain (Imm Slti (reg d) (reg a) (low (next n))) ∷ []
 compare_number SignedGreater d a n = Plain (Imm Slti (reg d) (reg a) (low (next n))) ∷ negate d ∷ []
 compare_number UnsignedLess d a n = Plain (Imm Sltiu (reg d) (reg a) (low n)) ∷ []
-compare_number UnsignedGreaterEqual d a n = Plain (Imm Sltiu (reg d) (reg a) (low n)) ∷ negate d ∷ []
+compare_number UnsignedGreaterEqual d a n =
+    Plain (Imm Sltiu (reg d) (reg a) (low n)) ∷ negate d ∷ []
 compare_number UnsignedLessEqual d a n = Plain (Imm Sltiu (reg d) (reg a) (low (next n))) ∷ []
-compare_number UnsignedGreater d a n = Plain (Imm Sltiu (reg d) (reg a) (low (next n))) ∷ negate d ∷ []
+compare_number UnsignedGreater d a n =
+    Plain (Imm Sltiu (reg d) (reg a) (low (next n))) ∷ negate d ∷ []
 
 abbrev pub form_items : Form → (d a : ℕ) → List Item
 form_items (ByImmediate op n) d a = Plain (Imm op (reg d) (reg a) (low n)) ∷ []

@@ -27,7 +27,9 @@ FramesAreLabelled =
     → IsLabelled (record { items = frame_items f slots; labels = length f.blocks + 1 })
 
 abbrev pub FramesAreSmall : Type 0
-FramesAreSmall = (f : Code Location) (slots : ℕ) → IsCode f slots → longest_size (frame_items f slots) ≤ 32 * code_weight f + 256
+FramesAreSmall =
+    (f : Code Location) (slots : ℕ) → IsCode f slots →
+    longest_size (frame_items f slots) ≤ 32 * code_weight f + 256
 
 -- and performs what the code on bytes runs
 abbrev pub FramesPerform : Type 0

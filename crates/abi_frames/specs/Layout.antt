@@ -1,5 +1,6 @@
--- Where things stand in a function's frame. Upward from the stack pointer: arguments of calls past the eighth, saved registers, slots, and the area for blocks
--- of memory, up to the stack pointer of the caller.
+-- Where things stand in a function's frame. Upward from the stack pointer: arguments of calls past
+-- the eighth, saved registers, slots, and the area for blocks of memory, up to the stack pointer of
+-- the caller.
 use Rattle.std.specs.Prelude.{ℕ, ◌+◌, ◌-◌, ◌*◌, Bool, true, false, ◌||◌, nat_eq, nat_le, if◌then◌else◌, List, [], ◌∷◌, ◌++◌, length, Option, Some, None}
 use Rattle.std.specs.List.{list_any, sum_by}
 use Rattle.rv_isa.specs.declared.abi.TheConstants.{RETURN_ADDRESS, SAVED}
@@ -45,7 +46,9 @@ block_writes n b = list_any (writes n) b.lines
 
 -- a register that is the place of a parameter, or the destination of a line
 abbrev pub is_written : Code Location → (number : ℕ) → Bool
-is_written f n = list_any (λ (d : Destination Location). is_register n d.place) f.params || list_any (block_writes n) f.blocks
+is_written f n =
+    list_any (λ (d : Destination Location). is_register n d.place) f.params
+    || list_any (block_writes n) f.blocks
 
 -- those of these registers that the code writes
 abbrev pub written_of : Code Location → List ℕ → List ℕ
@@ -74,7 +77,8 @@ return_address f = if makes_call f then RETURN_ADDRESS ∷ [] else []
 unfoldable pub saved_registers : Code Location → List ℕ
 saved_registers f = return_address f ++ written_of f callee_saved
 
--- the offset of the first saved register, and that of the first slot, in bytes from the stack pointer
+-- the offset of the first saved register, and that of the first slot, in bytes from the stack
+-- pointer
 abbrev pub saves_offset : Code Location → ℕ
 saves_offset f = 8 * outgoing f
 
@@ -93,8 +97,9 @@ frame_bound f slots = round_16 (area f + 8 * (slots + outgoing f + 16))
 abbrev pub turns_in : Code Location → ℕ
 turns_in f = sum_by (λ b. sum_by turns_of b.lines) f.blocks
 
--- Whether a block may fall into the one behind it. No instruction need then stand between two ticks: so all turns that begin in the code may begin between two
--- instructions, and these are at most as many as may.
+-- Whether a block may fall into the one behind it. No instruction need then stand between two
+-- ticks: so all turns that begin in the code may begin between two instructions, and these are at
+-- most as many as may.
 abbrev pub falls_through : Code Location → Bool
 falls_through f = nat_le (turns_in f) TURN_BOUND
 

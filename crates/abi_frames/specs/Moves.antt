@@ -1,5 +1,6 @@
--- Arguments that stand in one another's registers (RISC-V ELF psABI, "Integer Calling Convention": the first eight are passed in x10 to x17). One that stands in
--- the register of an earlier one moves before the others do, the last such first; after that they can be moved in their order.
+-- Arguments that stand in one another's registers (RISC-V ELF psABI, "Integer Calling Convention":
+-- the first eight are passed in x10 to x17). One that stands in the register of an earlier one
+-- moves before the others do, the last such first; after that they can be moved in their order.
 use Rattle.std.specs.Prelude.{ℕ, zero, suc, ◌+◌, Bool, true, false, ◌&&◌, nat_eq, nat_lt, nat_le, if◌then◌else◌, List, [], ◌∷◌, ◌++◌, map, slice_get, Option, Some, None}
 use Rattle.std.specs.List.{list_any}
 use Rattle.rv_isa.specs.declared.abi.TheConstants.{FIRST_ARGUMENT, ARGUMENT_REGISTERS, SECOND_SCRATCH}
@@ -23,7 +24,8 @@ operand_exchanged a b (Number n) = Number n
 operand_exchanged a b (Name g) = Name g
 
 abbrev pub argument_exchanged : (a b : ℕ) → Argument Location → Argument Location
-argument_exchanged a b x = record { class = x.class; value = operand_exchanged a b x.value; extension = x.extension }
+argument_exchanged a b x =
+    record { class = x.class; value = operand_exchanged a b x.value; extension = x.extension }
 
 abbrev pub exchange : (a b : ℕ) → List (Argument Location) → List (Argument Location)
 exchange a b args = map (argument_exchanged a b) args
@@ -40,7 +42,8 @@ is_read n args = list_any (λ a. is_in n a.value) args
 
 -- the register, one of those before that of the k-th argument
 abbrev pub earlier : (k : ℕ) → Operand Location → Option ℕ
-earlier k (At (Register r)) = if nat_le FIRST_ARGUMENT r && nat_lt r (FIRST_ARGUMENT + k) then Some r else None
+earlier k (At (Register r)) =
+    if nat_le FIRST_ARGUMENT r && nat_lt r (FIRST_ARGUMENT + k) then Some r else None
 earlier k a = None
 
 abbrev pub earlier_in : (k : ℕ) → Option (Argument Location) → Option ℕ
@@ -53,10 +56,13 @@ earlier_at k args = if nat_lt k ARGUMENT_REGISTERS then earlier_in k (slice_get 
 
 -- ---- it moves
 
--- to the k-th register from another one, which takes what was there by way of x29, if that is still to be read
+-- to the k-th register from another one, which takes what was there by way of x29, if that is still
+-- to be read
 abbrev pub move_up : (k from : ℕ) → (read : Bool) → List Item
 move_up k r false = add_low (FIRST_ARGUMENT + k) r 0 ∷ []
-move_up k r true = add_low SECOND_SCRATCH (FIRST_ARGUMENT + k) 0 ∷ add_low (FIRST_ARGUMENT + k) r 0 ∷ add_low r SECOND_SCRATCH 0 ∷ []
+move_up k r true =
+    add_low SECOND_SCRATCH (FIRST_ARGUMENT + k) 0 ∷ add_low (FIRST_ARGUMENT + k) r 0
+    ∷ add_low r SECOND_SCRATCH 0 ∷ []
 
 abbrev pub moves_up : (k : ℕ) → List (Argument Location) → Option ℕ → List Item
 moves_up k args None = []
@@ -65,10 +71,12 @@ moves_up k args (Some r) = move_up k r (is_read (FIRST_ARGUMENT + k) args)
 -- the k-th argument is then in this register
 abbrev pub settled : (number k : ℕ) → List (Argument Location) → List (Argument Location)
 settled n k [] = []
-settled n zero (a ∷ args) = record { class = a.class; value = At (Register n); extension = a.extension } ∷ args
+settled n zero (a ∷ args) =
+    record { class = a.class; value = At (Register n); extension = a.extension } ∷ args
 settled n (suc k) (a ∷ args) = a ∷ settled n k args
 
-abbrev pub arrived : (k from : ℕ) → (read : Bool) → List (Argument Location) → List (Argument Location)
+abbrev pub arrived : (k from : ℕ) → (read : Bool) → List (Argument Location) →
+    List (Argument Location)
 arrived k r false args = settled (FIRST_ARGUMENT + k) k args
 arrived k r true args = exchange (FIRST_ARGUMENT + k) r args
 
@@ -79,7 +87,8 @@ moved_up k args (Some r) = arrived k r (is_read (FIRST_ARGUMENT + k) args) args
 -- of the first k arguments those that are to, the last first
 abbrev pub all_move_up : (k : ℕ) → List (Argument Location) → List Item
 all_move_up zero args = []
-all_move_up (suc k) args = moves_up k args (earlier_at k args) ++ all_move_up k (moved_up k args (earlier_at k args))
+all_move_up (suc k) args =
+    moves_up k args (earlier_at k args) ++ all_move_up k (moved_up k args (earlier_at k args))
 
 -- where the arguments then are
 abbrev pub all_moved_up : (k : ℕ) → List (Argument Location) → List (Argument Location)

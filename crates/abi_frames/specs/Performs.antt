@@ -1,4 +1,5 @@
--- What it means that the machine performs a call, within its price and with a bound on the turns between two instructions; and what a function's machine code owes.
+-- What it means that the machine performs a call, within its price and with a bound on the turns
+-- between two instructions; and what a function's machine code owes.
 use Rattle.std.specs.Prelude.{◌≡◌, ℕ, ◌+◌, ◌-◌, ◌*◌, ◌%◌, ◌≤◌, List, [], ◌∷◌, ◌++◌, Option}
 use Rattle.il_ast.specs.declared.operation.Class.{Class}
 use Rattle.il_ast.specs.declared.value.End.TheVariants.{Exit, Halt, Undefined, Stack, Turns}
@@ -12,7 +13,8 @@ use Rattle.flat_code.specs.Flat.{FlatGiven, FlatAsked, FlatOutcome, FlatReturned
 use Rattle.abi_frames.specs.declared.pace.TheConstants.{TURN_BOUND}
 use Rattle.abi_frames.specs.Calls.{World, GoodStack, Ready, ResultIn, Back}
 
--- the instructions that may be done for what was spent: 32 for each unit of weight, and 256 for each call entered
+-- the instructions that may be done for what was spent: 32 for each unit of weight, and 256 for
+-- each call entered
 abbrev pub allowance : Spent → ℕ
 allowance t = 32 * t.weight + 256 * t.calls
 
@@ -21,7 +23,8 @@ abbrev pub turn_bound : ℕ
 turn_bound = TURN_BOUND
 
 -- the machine goes from s to a return
-pub record Returns (w : World) (sp : ℕ) (wants : Option Class) (before : Spots) (s : State) (t : Spent) (x : Option ℕ) (now : Spots) : Type 0 where
+pub record Returns (w : World) (sp : ℕ) (wants : Option Class) (before : Spots) (s : State)
+    (t : Spent) (x : Option ℕ) (now : Spots) : Type 0 where
   pub steps : ℕ
   pub after : State
   pub comes : Comes s steps after
@@ -48,7 +51,8 @@ pub record KeepsOn (s : State) (t : Spent) : Type 0 where
   pub pace : t.turns ≤ turn_bound * (steps + 1)
   pub output : after.output ≡ s.output ++ t.output
 
--- the machine performs from s what goes so; nothing is asked where the program becomes undefined or runs out of stack
+-- the machine performs from s what goes so; nothing is asked where the program becomes undefined or
+-- runs out of stack
 abbrev pub Performs : World → ℕ → Option Class → Spots → State → FlatOutcome → Type 0
 Performs w sp wants before s (FlatReturned t x now) = Returns w sp wants before s t x now
 Performs w sp wants before s (FlatEnded t (Exit n)) = Stops s t (Exited n)
@@ -58,8 +62,10 @@ Performs w sp wants before s (FlatEnded t Stack) = Unit {0}
 Performs w sp wants before s (FlatEnded t Turns) = KeepsOn s t
 
 -- from every state that is ready for the call
-abbrev pub PerformsAt : World → (at sp : ℕ) → List Class → Option Class → FlatGiven → FlatOutcome → Type 0
-PerformsAt w at sp classes wants j r = (s : State) → Ready w at sp classes j s → Performs w sp wants j.memory s r
+abbrev pub PerformsAt : World → (at sp : ℕ) → List Class → Option Class → FlatGiven → FlatOutcome →
+    Type 0
+PerformsAt w at sp classes wants j r =
+    (s : State) → Ready w at sp classes j s → Performs w sp wants j.memory s r
 
 -- a return leaves no further address to be accessed
 abbrev pub ReachStays : Spots → FlatOutcome → Type 0
@@ -70,12 +76,17 @@ ReachStays before (FlatEnded t e) = Unit {0}
 abbrev pub AllPerform : World → (sp : ℕ) → List (Entry FlatAsked FlatOutcome) → Type 0
 AllPerform w sp [] = Unit {0}
 AllPerform w sp (l ∷ log) =
-    PerformsAt w l.asked.at sp l.asked.classes l.asked.wants l.asked.given l.went × (l.asked.at % 4 ≡ 0) × ReachStays l.asked.given.memory l.went
+    PerformsAt w l.asked.at sp l.asked.classes l.asked.wants l.asked.given l.went
+    × (l.asked.at % 4 ≡ 0) × ReachStays l.asked.given.memory l.went
     × AllPerform w sp log
 
--- The machine code of a function performs what its code on bytes runs, if it performs the calls that this makes: at `at`, in a frame of `frame` bytes below
--- the stack pointer, the uppermost `area` of which hold the blocks that it makes. `need` is the stack that a call of the function takes from the room.
-abbrev pub KeepsFrame : {T : Type 0} → World → (at need frame area : ℕ) → List Class → Option Class → ((base : ℕ) → FlatGiven → T) → ((base : ℕ) → FlatGiven → T → Event T FlatAsked FlatOutcome) → Type 0
+-- The machine code of a function performs what its code on bytes runs, if it performs the calls
+-- that this makes: at `at`, in a frame of `frame` bytes below the stack pointer, the uppermost
+-- `area` of which hold the blocks that it makes. `need` is the stack that a call of the function
+-- takes from the room.
+abbrev pub KeepsFrame : {T : Type 0} → World → (at need frame area : ℕ) → List Class →
+    Option Class → ((base : ℕ) → FlatGiven → T) →
+    ((base : ℕ) → FlatGiven → T → Event T FlatAsked FlatOutcome) → Type 0
 KeepsFrame w at need frame area params result start step =
     (sp : ℕ) (j : FlatGiven)
     → GoodStack w sp (need + j.room)

@@ -8,9 +8,13 @@ use Rattle.flat_code.specs.Flat.{FlatGiven, FlatAsked, FlatOutcome}
 use Rattle.abi_frames.specs.Calls.{World, IsWorld}
 use Rattle.abi_frames.specs.Performs.{KeepsFrame}
 
--- The frame has at most `need` bytes, and the area for blocks of memory lies in it. In every world, at every address where the labelled code stands, with
--- the globals at addresses below 2^30, those that the code on bytes names at these ones, the machine performs what the code on bytes runs.
-pub record FramePromise {T : Type 0} (items : List Item) (need frame area : ℕ) (params : List Class) (result : Option Class) (start : (addresses : List ℕ) → (base : ℕ) → FlatGiven → T) (step : (addresses : List ℕ) → (base : ℕ) → FlatGiven → T → Event T FlatAsked FlatOutcome) : Type 0 where
+-- The frame has at most `need` bytes, and the area for blocks of memory lies in it. In every world,
+-- at every address where the labelled code stands, with the globals at addresses below 2^30, those
+-- that the code on bytes names at these ones, the machine performs what the code on bytes runs.
+pub record FramePromise {T : Type 0} (items : List Item) (need frame area : ℕ) (params : List Class)
+    (result : Option Class) (start : (addresses : List ℕ) → (base : ℕ) → FlatGiven → T)
+    (step : (addresses : List ℕ) → (base : ℕ) → FlatGiven → T →
+    Event T FlatAsked FlatOutcome) : Type 0 where
   pub fits : frame ≤ need
   pub area_fits : area ≤ frame
   pub some : area < need

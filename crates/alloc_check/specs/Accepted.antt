@@ -19,30 +19,41 @@ abbrev pub exists_in : (registers : ℕ) → Equality → Bool
 exists_in registers e = is_place registers e.place && nat_lt e.register registers
 
 abbrev pub equalities_exist : (registers : ℕ) → List (List Equality) → Bool
-equalities_exist registers lists = list_all (λ (es : List Equality). list_all (exists_in registers) es) lists
+equalities_exist registers lists =
+    list_all (λ (es : List Equality). list_all (exists_in registers) es) lists
 
 -- no register has two places
 abbrev pub names_once : List Equality → Bool
 names_once [] = true
 names_once (e ∷ es) = not (has es e.register) && names_once es
 
--- a place for each parameter, what holds for each block, moves and places for each point, and no more
+-- a place for each parameter, what holds for each block, moves and places for each point, and no
+-- more
 abbrev pub has_lengths : Code ℕ → Certificate → Bool
 has_lengths v c =
     nat_eq (length c.params) (length v.params)
-    && (nat_eq (length c.starts) (length v.blocks) && (nat_eq (end_point 0 v.blocks) (length c.moves) && nat_eq (end_point 0 v.blocks) (length c.places)))
+    && (nat_eq (length c.starts) (length v.blocks)
+    && (nat_eq (end_point 0 v.blocks) (length c.moves)
+    && nat_eq (end_point 0 v.blocks) (length c.places)))
 
--- its lists are as long as they must be, name registers and places that there are, and no register twice for one point
+-- its lists are as long as they must be, name registers and places that there are, and no register
+-- twice for one point
 abbrev pub is_whole : VFunc → Certificate → Bool
 is_whole v c =
     has_lengths v.code c
     && (list_all (exists_in v.registers) c.everywhere
-    && (equalities_exist v.registers c.starts && (equalities_exist v.registers c.places && list_all names_once c.places)))
+    && (equalities_exist v.registers c.starts
+    && (equalities_exist v.registers c.places && list_all names_once c.places)))
 
--- location code over so many slots that a function may have: its places exist, its parameters are near and apart, and its ticks pay for its moves too
+-- location code over so many slots that a function may have: its places exist, its parameters are
+-- near and apart, and its ticks pay for its moves too
 abbrev pub is_placed : (slots : ℕ) → Code Location → Bool
-is_placed slots l = keeps_places (is_place slots) l && (are_near l.params && (are_distinct located l.params && list_all is_paid l.blocks))
+is_placed slots l =
+    keeps_places (is_place slots) l && (are_near l.params
+    && (are_distinct located l.params && list_all is_paid l.blocks))
 
 -- the certificate is whole, what holds everywhere is apart, and it is sound and makes a function
 abbrev pub is_accepted : VFunc → Certificate → Bool
-is_accepted v c = is_whole v c && (are_apart c.everywhere && (is_sound v.code c && is_placed v.registers (placed_by v.code c)))
+is_accepted v c =
+    is_whole v c && (are_apart c.everywhere && (is_sound v.code c
+    && is_placed v.registers (placed_by v.code c)))

@@ -27,11 +27,13 @@ moves_at c p = option_map_or (λ (ms : List Transfer). ms) (slice_get c.moves p)
 abbrev pub begins_at : Certificate → ℕ → List Equality
 begins_at c k = option_map_or (λ (es : List Equality). es) (slice_get c.starts k) []
 
--- what holds where block k begins: what holds at the start of every block, and what is said of this one
+-- what holds where block k begins: what holds at the start of every block, and what is said of this
+-- one
 abbrev pub starts_at : Certificate → ℕ → List Equality
 starts_at c k = c.everywhere ++ begins_at c k
 
--- the place of the register by the first equality that names it; where none does it is x0, which no code may name
+-- the place of the register by the first equality that names it; where none does it is x0, which no
+-- code may name
 abbrev pub place_by : List Equality → Layout
 place_by [] r = Register 0
 place_by (e ∷ es) r = if nat_eq e.register r then e.place else place_by es r
@@ -51,15 +53,20 @@ transfers ms = map (λ m. Set m.to (At m.from)) ms
 abbrev pub certified_lines : Certificate → ℕ → List (Line ℕ) → List (Line Location)
 certified_lines c p [] = transfers (moves_at c p)
 certified_lines c p (Tick turn w ∷ lines) = Tick turn w ∷ certified_lines c p lines
-certified_lines c p (l ∷ lines) = transfers (moves_at c p) ++ placed_line (layout_at c p) l ∷ certified_lines c (p + 1) lines
+certified_lines c p (l ∷ lines) =
+    transfers (moves_at c p) ++ placed_line (layout_at c p) l ∷ certified_lines c (p + 1) lines
 
 abbrev pub certified_block : Certificate → ℕ → Block ℕ → Block Location
 certified_block c p b =
-    record { lines = certified_lines c p b.lines; jump = placed_jump (layout_at c (jump_point p b.lines)) b.jump }
+    record {
+      lines = certified_lines c p b.lines;
+      jump = placed_jump (layout_at c (jump_point p b.lines)) b.jump;
+    }
 
 abbrev pub certified_blocks : Certificate → ℕ → List (Block ℕ) → List (Block Location)
 certified_blocks c p [] = []
-certified_blocks c p (b ∷ blocks) = certified_block c p b ∷ certified_blocks c (jump_point p b.lines + 1) blocks
+certified_blocks c p (b ∷ blocks) =
+    certified_block c p b ∷ certified_blocks c (jump_point p b.lines + 1) blocks
 
 -- each parameter at the place that the certificate has for it
 abbrev pub certified_params : List (Destination ℕ) → List Location → List (Destination Location)
@@ -69,7 +76,11 @@ certified_params (d ∷ ds) (q ∷ qs) = record { place = q; class = d.class } �
 
 abbrev pub placed_by : Code ℕ → Certificate → Code Location
 placed_by v c =
-    record { result = v.result; params = certified_params v.params c.params; blocks = certified_blocks c 0 v.blocks }
+    record {
+      result = v.result;
+      params = certified_params v.params c.params;
+      blocks = certified_blocks c 0 v.blocks;
+    }
 
 -- ---- what makes it right
 
@@ -77,7 +88,8 @@ placed_by v c =
 abbrev pub jump_right : Certificate → Owners → Layout → Jump ℕ → Bool
 jump_right c own f (Goto k) = all_hold own (starts_at c k)
 jump_right c own f (Branch on met otherwise) =
-    (operand_held own f on.left && operand_held own f on.right) && (all_hold own (starts_at c met) && all_hold own (starts_at c otherwise))
+    (operand_held own f on.left && operand_held own f on.right)
+    && (all_hold own (starts_at c met) && all_hold own (starts_at c otherwise))
 jump_right c own f (Return None) = true
 jump_right c own f (Return (Some a)) = operand_held own f a.value
 jump_right c own f Halt = true
@@ -87,13 +99,15 @@ abbrev pub lines_right : Certificate → ℕ → Owners → Jump ℕ → List (L
 lines_right c p own j [] = jump_right c (moved (moves_at c p) own) (layout_at c p) j
 lines_right c p own j (Tick turn w ∷ lines) = lines_right c p own j lines
 lines_right c p own j (l ∷ lines) =
-    option_map_or (λ (o : Owners). lines_right c (p + 1) o j lines) (after_line (moved (moves_at c p) own) (layout_at c p) l) false
+    option_map_or (λ (o : Owners). lines_right c (p + 1) o j lines)
+    (after_line (moved (moves_at c p) own) (layout_at c p) l) false
 
 -- block k, from point p, begins with what the certificate says of it
 abbrev pub blocks_right : Certificate → (p k : ℕ) → List (Block ℕ) → Bool
 blocks_right c p k [] = true
 blocks_right c p k (b ∷ blocks) =
-    lines_right c p (known (starts_at c k) nobody) b.jump b.lines && blocks_right c (jump_point p b.lines + 1) (k + 1) blocks
+    lines_right c p (known (starts_at c k) nobody) b.jump b.lines
+    && blocks_right c (jump_point p b.lines + 1) (k + 1) blocks
 
 -- on entry each parameter's place is its own
 abbrev pub own_params : List (Destination ℕ) → List Location → Owners → Owners
@@ -107,7 +121,8 @@ is_param ds r = list_any (λ (d : Destination ℕ). nat_eq r d.place) ds
 -- what the first block asks for: of parameters that it holds; other registers have no value yet
 abbrev pub entry_right : Code ℕ → Certificate → Bool
 entry_right v c =
-    list_all (λ (e : Equality). owns (own_params v.params c.params nobody) e.place e.register || not (is_param v.params e.register)) (starts_at c 0)
+    list_all (λ (e : Equality). owns (own_params v.params c.params nobody) e.place e.register
+    || not (is_param v.params e.register)) (starts_at c 0)
 
 -- each parameter has a place
 abbrev pub params_placed : List (Destination ℕ) → List Location → Bool

@@ -7,8 +7,10 @@ use Rattle.vcode.specs.declared.code.Code.{Code}
 use Rattle.vcode.specs.Places.{virtual, located}
 use Rattle.vcode.specs.Step.{begin, step}
 
--- whatever the global names mean: where the virtual code runs as an outcome that is not undefined, so does the other, with the same calls
+-- whatever the global names mean: where the virtual code runs as an outcome that is not undefined,
+-- so does the other, with the same calls
 abbrev pub RunsAlike : Code ℕ → Code Location → Type 0
 RunsAlike v l =
     (globals : List Value)
-    → KeepsCode (map (λ d. d.class) v.params) (begin virtual v) (step virtual globals v) (begin located l) (step located globals l)
+    → KeepsCode (map (λ d. d.class) v.params) (begin virtual v) (step virtual globals v)
+    (begin located l) (step located globals l)

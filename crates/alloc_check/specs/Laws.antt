@@ -29,7 +29,9 @@ use Rattle.alloc_check.specs.Slotted.{Wanted, IsSlotted}
 
 -- the code that a sound certificate makes keeps the virtual code
 abbrev pub SoundKeeps : Type 0
-SoundKeeps = (v : Code ℕ) (c : Certificate) (places : ℕ) → is_sound v c ≡ true → Keeps (coded virtual v places) (coded located (placed_by v c) places)
+SoundKeeps =
+    (v : Code ℕ) (c : Certificate) (places : ℕ) → is_sound v c ≡ true →
+    Keeps (coded virtual v places) (coded located (placed_by v c) places)
 
 -- with each register in its slot the code is that in slots, and is accepted
 abbrev pub SlotsAreAccepted : Type 0
@@ -43,25 +45,31 @@ abbrev pub SpillAllIsAccepted : Type 0
 SpillAllIsAccepted =
     (v : VFunc) (rows : List Bits)
     → AreLive (graph_of v.code) v.registers rows
-    → (is_accepted v (slotted v.code v.registers rows) ≡ true) × (placed_by v.code (slotted v.code v.registers rows) ≡ in_slots v.code)
+    → (is_accepted v (slotted v.code v.registers rows) ≡ true)
+    × (placed_by v.code (slotted v.code v.registers rows) ≡ in_slots v.code)
 
 -- each register that a line from point p on or the jump reads or writes has a place there
 abbrev pub lines_named : Certificate → ℕ → Jump ℕ → List (Line ℕ) → Bool
 lines_named c p j [] = jump_keeps (has (places_at c p)) j
-lines_named c p j (l ∷ lines) = line_keeps (has (places_at c p)) l && lines_named c (next_point p l) j lines
+lines_named c p j (l ∷ lines) =
+    line_keeps (has (places_at c p)) l && lines_named c (next_point p l) j lines
 
 abbrev pub blocks_named : Certificate → ℕ → List (Block ℕ) → Bool
 blocks_named c p [] = true
-blocks_named c p (b ∷ blocks) = lines_named c p b.jump b.lines && blocks_named c (jump_point p b.lines + 1) blocks
+blocks_named c p (b ∷ blocks) =
+    lines_named c p b.jump b.lines && blocks_named c (jump_point p b.lines + 1) blocks
 
 -- an accepted certificate has for each point one place for each register that it reads or writes
 abbrev pub EachHasOnePlace : Type 0
 EachHasOnePlace =
-    (v : VFunc) (c : Certificate) → is_accepted v c ≡ true → (blocks_named c 0 v.code.blocks ≡ true) × (list_all names_once c.places ≡ true)
+    (v : VFunc) (c : Certificate) → is_accepted v c ≡ true →
+    (blocks_named c 0 v.code.blocks ≡ true) × (list_all names_once c.places ≡ true)
 
--- a call weighs one and one for each argument, a jump one; each unit pays for 32 instructions: that is enough for a move before it too
+-- a call weighs one and one for each argument, a jump one; each unit pays for 32 instructions: that
+-- is enough for a move before it too
 abbrev pub OneMoveIsPaid : Type 0
 OneMoveIsPaid =
-    ((from to : Location) (d : Option (Destination Location)) (callee : Operand Location) (args : List (Argument Location))
+    ((from to : Location) (d : Option (Destination Location)) (callee : Operand Location)
+    (args : List (Argument Location))
     → line_cost (Set to (At from)) + line_cost (Call d callee args) ≤ 32 * (1 + length args))
     × ((from to : Location) (j : Jump Location) → line_cost (Set to (At from)) + jump_cost j ≤ 32)

@@ -24,7 +24,8 @@ nobody q = None
 
 -- where the owner has a value, its place has that
 abbrev pub Agrees : Owners → Values ℕ → Values Location → Type 0
-Agrees own ev el = (q : Location) (r : ℕ) (v : Value) → own q ≡ Some r → ev r ≡ Some v → el q ≡ Some v
+Agrees own ev el =
+    (q : Location) (r : ℕ) (v : Value) → own q ≡ Some r → ev r ≡ Some v → el q ≡ Some v
 
 abbrev pub other_than : ℕ → Option ℕ → Option ℕ
 other_than r None = None
@@ -84,9 +85,12 @@ all_hold own es = list_all (λ e. owns own e.place e.register) es
 abbrev pub is_at : Location → Option Location → Bool
 is_at d p = option_map_or (λ q. same_location q d) p false
 
--- no register has two of the places, and no place two registers: each equality is the one of its place and of its register
+-- no register has two of the places, and no place two registers: each equality is the one of its
+-- place and of its register
 abbrev pub are_apart : List Equality → Bool
-are_apart es = list_all (λ e. owns (known es nobody) e.place e.register && is_at e.place (standing es nowhere e.register)) es
+are_apart es =
+    list_all (λ e. owns (known es nobody) e.place e.register
+    && is_at e.place (standing es nowhere e.register)) es
 
 -- ---- the owners after a line, if it finds what it reads
 
@@ -105,9 +109,13 @@ made f (Some r) own = own_put (f r) r own
 abbrev pub after_line : Owners → Layout → Line ℕ → Option Owners
 after_line own f (Tick turn w) = Some own
 after_line own f (Set to a) = where_held (operand_held own f a) (own_put (f to) to own)
-after_line own f (Operate to op a b) = where_held (operand_held own f a && operand_held own f b) (own_put (f to) to own)
+after_line own f (Operate to op a b) =
+    where_held (operand_held own f a && operand_held own f b) (own_put (f to) to own)
 after_line own f (Load to op at) = where_held (operand_held own f at.base) (own_put (f to) to own)
-after_line own f (Store size a at) = where_held (operand_held own f a && operand_held own f at.base) own
+after_line own f (Store size a at) =
+    where_held (operand_held own f a && operand_held own f at.base) own
 after_line own f (Alloc to size) = Some (made f to own)
-after_line own f (Blit from to count) = where_held (operand_held own f from && operand_held own f to) own
-after_line own f (Call to callee args) = where_held (operand_held own f callee && args_held own f args) (received f to (own_kept own))
+after_line own f (Blit from to count) =
+    where_held (operand_held own f from && operand_held own f to) own
+after_line own f (Call to callee args) =
+    where_held (operand_held own f callee && args_held own f args) (received f to (own_kept own))

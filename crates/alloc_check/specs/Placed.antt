@@ -30,7 +30,8 @@ abbrev pub placed_address : Layout → Address ℕ → Address Location
 placed_address f at = record { base = placed_operand f at.base; offset = at.offset }
 
 abbrev pub placed_argument : Layout → Argument ℕ → Argument Location
-placed_argument f a = record { class = a.class; value = placed_operand f a.value; extension = a.extension }
+placed_argument f a =
+    record { class = a.class; value = placed_operand f a.value; extension = a.extension }
 
 abbrev pub placed_returned : Layout → ReturnValue ℕ → ReturnValue Location
 placed_returned f a = record { value = placed_operand f a.value; extension = a.extension }
@@ -46,10 +47,18 @@ placed_line f (Load to op at) = Load (f to) op (placed_address f at)
 placed_line f (Store size a at) = Store size (placed_operand f a) (placed_address f at)
 placed_line f (Alloc to size) = Alloc (option_map f to) size
 placed_line f (Blit from to count) = Blit (placed_operand f from) (placed_operand f to) count
-placed_line f (Call to callee args) = Call (option_map (placed_destination f) to) (placed_operand f callee) (map (placed_argument f) args)
+placed_line f (Call to callee args) =
+    Call (option_map (placed_destination f) to) (placed_operand f callee)
+    (map (placed_argument f) args)
 
 abbrev pub placed_comparison : Layout → Comparison ℕ → Comparison Location
-placed_comparison f c = record { condition = c.condition; class = c.class; left = placed_operand f c.left; right = placed_operand f c.right }
+placed_comparison f c =
+    record {
+      condition = c.condition;
+      class = c.class;
+      left = placed_operand f c.left;
+      right = placed_operand f c.right;
+    }
 
 abbrev pub placed_jump : Layout → Jump ℕ → Jump Location
 placed_jump f (Goto k) = Goto k

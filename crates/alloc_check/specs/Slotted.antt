@@ -1,4 +1,5 @@
--- Certificates that have each register in the slot of its number, and know of each block's start what is wanted there.
+-- Certificates that have each register in the slot of its number, and know of each block's start
+-- what is wanted there.
 use Rattle.std.specs.Prelude.{◌≡◌, ℕ, ◌+◌, Bool, true, false, ◌&&◌, ◌||◌, nat_eq, nat_lt, List, [], ◌∷◌, map}
 use Rattle.std.specs.List.{list_all, list_any}
 use Rattle.std.specs.Option.{option_map_or}
@@ -36,9 +37,11 @@ lines_own c p j (l ∷ lines) = line_keeps (own_at c p) l && lines_own c (next_p
 
 abbrev pub blocks_own : Certificate → ℕ → List (Block ℕ) → Bool
 blocks_own c p [] = true
-blocks_own c p (b ∷ blocks) = lines_own c p b.jump b.lines && blocks_own c (jump_point p b.lines + 1) blocks
+blocks_own c p (b ∷ blocks) =
+    lines_own c p b.jump b.lines && blocks_own c (jump_point p b.lines + 1) blocks
 
--- ---- what is wanted at a point: all that it reads, and all that is wanted behind it but for what it writes
+-- ---- what is wanted at a point: all that it reads, and all that is wanted behind it but for what
+-- it writes
 
 abbrev pub Wanted : Type 0
 Wanted = ℕ → ℕ → Bool
@@ -49,7 +52,8 @@ start_wanted wanted c p k = list_all (λ (e : Equality). wanted p e.register) (s
 
 abbrev pub targets_wanted : Wanted → Certificate → ℕ → Jump ℕ → Bool
 targets_wanted wanted c p (Goto k) = start_wanted wanted c p k
-targets_wanted wanted c p (Branch on met otherwise) = start_wanted wanted c p met && start_wanted wanted c p otherwise
+targets_wanted wanted c p (Branch on met otherwise) =
+    start_wanted wanted c p met && start_wanted wanted c p otherwise
 targets_wanted wanted c p (Return a) = true
 targets_wanted wanted c p Halt = true
 
@@ -57,10 +61,12 @@ abbrev pub writes_to : Line ℕ → ℕ → Bool
 writes_to l r = option_map_or (λ k. nat_eq k r) (line_writes l) false
 
 abbrev pub LinesWant : Wanted → Certificate → ℕ → Jump ℕ → List (Line ℕ) → Type 0
-LinesWant wanted c p j [] = (list_all (wanted p) (jump_reads j) ≡ true) × (targets_wanted wanted c p j ≡ true)
+LinesWant wanted c p j [] =
+    (list_all (wanted p) (jump_reads j) ≡ true) × (targets_wanted wanted c p j ≡ true)
 LinesWant wanted c p j (l ∷ lines) =
     (list_all (wanted p) (line_reads l) ≡ true)
-    × (((r : ℕ) → wanted (next_point p l) r ≡ true → (wanted p r || writes_to l r) ≡ true) × LinesWant wanted c (next_point p l) j lines)
+    × (((r : ℕ) → wanted (next_point p l) r ≡ true → (wanted p r || writes_to l r) ≡ true)
+    × LinesWant wanted c (next_point p l) j lines)
 
 abbrev pub names : List Equality → ℕ → Bool
 names es r = list_any (λ (e : Equality). nat_eq e.register r) es
@@ -69,7 +75,8 @@ abbrev pub BlocksWant : Wanted → Certificate → (p k : ℕ) → List (Block �
 BlocksWant wanted c p k [] = Unit {0}
 BlocksWant wanted c p k (b ∷ blocks) =
     ((r : ℕ) → wanted p r ≡ true → names (starts_at c k) r ≡ true)
-    × (LinesWant wanted c p b.jump b.lines × BlocksWant wanted c (jump_point p b.lines + 1) (k + 1) blocks)
+    × (LinesWant wanted c p b.jump b.lines × BlocksWant wanted c (jump_point p b.lines + 1) (k + 1)
+    blocks)
 
 pub record IsSlotted (wanted : Wanted) (v : VFunc) (c : Certificate) : Type 0 where
   pub params : c.params ≡ map (λ (d : Destination ℕ). Slot d.place) v.code.params

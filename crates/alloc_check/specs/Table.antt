@@ -53,7 +53,8 @@ cell_at t (Slot s) = item t.slots.items s
 -- what is known of a place: what became of it since the block began, or what it held then
 abbrev pub latest : (begun : ℕ) → Option Held → Option ℕ → Held
 latest begun None first = record { owner = first; since = begun }
-latest begun (Some h) first = if nat_le begun h.since then h else record { owner = first; since = begun }
+latest begun (Some h) first =
+    if nat_le begun h.since then h else record { owner = first; since = begun }
 
 -- the register was not written since
 abbrev pub counts : List ℕ → ℕ → ℕ → Bool
@@ -70,26 +71,31 @@ abbrev pub own_of : Table → Owners
 own_of t q = own_by t.written.items (latest t.begun (cell_at t q) (first_at t.first q))
 
 -- a table for so many virtual registers, in which nothing is later than this
-pub record IsTable (registers : ℕ) (everywhere : List Equality) (time : ℕ) (t : Table) : Type 0 where
-  pub machine : length t.machine.items ≡ LAST_SAVED + 1
-  pub slots : length t.slots.items ≡ registers
-  pub written : length t.written.items ≡ registers
-  pub begun : t.begun ≤ time
-  pub writes : (r w : ℕ) → slice_get t.written.items r ≡ Some w → w ≤ time
-  pub cells : (q : Location) (h : Held) → cell_at t q ≡ Some h → h.since ≤ time
-  pub first : IsFirst registers everywhere t.first
+pub record IsTable (registers : ℕ) (everywhere : List Equality) (time : ℕ) (t : Table) : Type 0
+  where
+    pub machine : length t.machine.items ≡ LAST_SAVED + 1
+    pub slots : length t.slots.items ≡ registers
+    pub written : length t.written.items ≡ registers
+    pub begun : t.begun ≤ time
+    pub writes : (r w : ℕ) → slice_get t.written.items r ≡ Some w → w ≤ time
+    pub cells : (q : Location) (h : Held) → cell_at t q ≡ Some h → h.since ≤ time
+    pub first : IsFirst registers everywhere t.first
 
 -- a register of the machine after a call: nothing has been known of a caller's since then
 abbrev pub forgets : (time k : ℕ) → Option Held → Option Held
-forgets time k x = if is_callers (Register k) then Some (record { owner = None; since = time }) else x
+forgets time k x =
+    if is_callers (Register k) then Some (record { owner = None; since = time }) else x
 
 -- all of them, as many as there are
 abbrev pub Forgotten : (time : ℕ) (new old : List (Option Held)) → Type 0
-Forgotten time new old = (k : ℕ) → item new k ≡ (if nat_lt k (length old) then forgets time k (item old k) else item old k)
+Forgotten time new old =
+    (k : ℕ) → item new k ≡ (if nat_lt k (length old) then forgets time k (item old k)
+    else item old k)
 
 -- one cell is written
 pub record Rewrites (place : Location) (held : Held) (old new : Table) : Type 0 where
-  pub cells : (q : Location) → cell_at new q ≡ (if same_location q place then Some held else cell_at old q)
+  pub cells : (q : Location) → cell_at new q ≡ (if same_location q place then Some held
+      else cell_at old q)
   pub machine : length new.machine.items ≡ length old.machine.items
   pub slots : length new.slots.items ≡ length old.slots.items
   pub written : new.written.items ≡ old.written.items

@@ -1,4 +1,5 @@
--- What the checker does, step by step: as `Certified` has it, but none where a place or a register has no room in its table.
+-- What the checker does, step by step: as `Certified` has it, but none where a place or a register
+-- has no room in its table.
 use Rattle.std.specs.Prelude.{ℕ, zero, suc, ◌+◌, Bool, true, false, not, ◌&&◌, ◌||◌, nat_lt, nat_le, if◌then◌else◌, List, [], ◌∷◌, ◌++◌, Option, Some, None}
 use Rattle.std.specs.List.{list_all}
 use Rattle.std.specs.Option.{option_map_or, option_and_then}
@@ -54,12 +55,17 @@ makes_in n f (Some r) own = put_in n (f r) r own
 abbrev pub line_in : ℕ → Owners → Layout → Line ℕ → Option Owners
 line_in n own f (Tick turn w) = Some own
 line_in n own f (Set to a) = after_reads (operand_held own f a) (put_in n (f to) to own)
-line_in n own f (Operate to op a b) = after_reads (operand_held own f a && operand_held own f b) (put_in n (f to) to own)
+line_in n own f (Operate to op a b) =
+    after_reads (operand_held own f a && operand_held own f b) (put_in n (f to) to own)
 line_in n own f (Load to op at) = after_reads (operand_held own f at.base) (put_in n (f to) to own)
-line_in n own f (Store size a at) = where_held (operand_held own f a && operand_held own f at.base) own
+line_in n own f (Store size a at) =
+    where_held (operand_held own f a && operand_held own f at.base) own
 line_in n own f (Alloc to size) = makes_in n f to own
-line_in n own f (Blit from to count) = where_held (operand_held own f from && operand_held own f to) own
-line_in n own f (Call to callee args) = after_reads (operand_held own f callee && args_held own f args) (receives_in n f to (own_kept own))
+line_in n own f (Blit from to count) =
+    where_held (operand_held own f from && operand_held own f to) own
+line_in n own f (Call to callee args) =
+    after_reads (operand_held own f callee && args_held own f args)
+    (receives_in n f to (own_kept own))
 
 -- the moves before a line; a tick has none
 abbrev pub moves_before : Certificate → ℕ → Line ℕ → List Transfer
@@ -69,13 +75,16 @@ moves_before c p l = moves_at c p
 -- a line with the moves before it; a tick is no point
 abbrev pub point_in : ℕ → Certificate → ℕ → Owners → Line ℕ → Option Owners
 point_in n c p own (Tick turn w) = Some own
-point_in n c p own l = option_and_then (λ o. line_in n o (layout_at c p) l) (moved_in n (moves_at c p) own)
+point_in n c p own l =
+    option_and_then (λ o. line_in n o (layout_at c p) l) (moved_in n (moves_at c p) own)
 
 abbrev pub lines_in : ℕ → Certificate → ℕ → Owners → List (Line ℕ) → Option Owners
 lines_in n c p own [] = Some own
-lines_in n c p own (l ∷ lines) = option_and_then (λ o. lines_in n c (next_point p l) o lines) (point_in n c p own l)
+lines_in n c p own (l ∷ lines) =
+    option_and_then (λ o. lines_in n c (next_point p l) o lines) (point_in n c p own l)
 
--- ---- whether all holds at the end of a block that holds at the start of every one: only what the block may have changed is looked at
+-- ---- whether all holds at the end of a block that holds at the start of every one: only what the
+-- block may have changed is looked at
 
 -- the place has its owner, and the register is in its place
 abbrev pub place_stays : List Equality → Owners → Location → Bool
@@ -95,11 +104,13 @@ write_stays es own f None = true
 write_stays es own f (Some r) = place_stays es own (f r) && register_stays es own r
 
 abbrev pub line_stays : List Equality → Certificate → ℕ → Owners → Line ℕ → Bool
-line_stays es c p own l = moves_stay es own (moves_before c p l) && write_stays es own (layout_at c p) (line_writes l)
+line_stays es c p own l =
+    moves_stay es own (moves_before c p l) && write_stays es own (layout_at c p) (line_writes l)
 
 abbrev pub lines_stay : List Equality → Certificate → ℕ → Owners → List (Line ℕ) → Bool
 lines_stay es c p own [] = moves_stay es own (moves_at c p)
-lines_stay es c p own (l ∷ lines) = line_stays es c p own l && lines_stay es c (next_point p l) own lines
+lines_stay es c p own (l ∷ lines) =
+    line_stays es c p own l && lines_stay es c (next_point p l) own lines
 
 -- the registers of the machine below a bound, as calls may change them
 abbrev pub machine_stays : List Equality → Owners → ℕ → Bool
@@ -109,11 +120,13 @@ machine_stays es own (suc k) = machine_stays es own k && place_stays es own (Reg
 abbrev pub block_stays : List Equality → Certificate → (p k : ℕ) → Owners → List (Line ℕ) → Bool
 block_stays [] c p k own lines = true
 block_stays (e ∷ es) c p k own lines =
-    machine_stays (e ∷ es) own (LAST_SAVED + 1) && (starts_stay (e ∷ es) own (begins_at c k) && lines_stay (e ∷ es) c p own lines)
+    machine_stays (e ∷ es) own (LAST_SAVED + 1)
+    && (starts_stay (e ∷ es) own (begins_at c k) && lines_stay (e ∷ es) c p own lines)
 
 -- ---- blocks
 
--- what the jump of a block finds, after the moves before it; `stays` says whether all holds that holds at the start of every block
+-- what the jump of a block finds, after the moves before it; `stays` says whether all holds that
+-- holds at the start of every block
 abbrev pub targets_in : Certificate → Bool → Owners → Layout → Jump ℕ → Bool
 targets_in c stays own f (Goto k) = stays && all_hold own (begins_at c k)
 targets_in c stays own f (Branch on met otherwise) =
@@ -126,17 +139,20 @@ targets_in c stays own f Halt = true
 abbrev pub jump_in : ℕ → List Equality → Certificate → (p k : ℕ) → Block ℕ → Owners → Bool
 jump_in n es c p k b own =
     option_map_or
-    (λ o. targets_in c (block_stays es c p k o b.lines) o (layout_at c (jump_point p b.lines)) b.jump)
+    (λ o. targets_in c (block_stays es c p k o b.lines) o (layout_at c (jump_point p b.lines))
+    b.jump)
     (moved_in n (moves_at c (jump_point p b.lines)) own)
     false
 
 abbrev pub block_in : ℕ → List Equality → Certificate → (p k : ℕ) → Block ℕ → Bool
 block_in n es c p k b =
-    option_map_or (jump_in n es c p k b) (option_and_then (λ o. lines_in n c p o b.lines) (known_in n (begins_at c k) (known es nobody))) false
+    option_map_or (jump_in n es c p k b) (option_and_then (λ o. lines_in n c p o b.lines)
+    (known_in n (begins_at c k) (known es nobody))) false
 
 abbrev pub blocks_in : ℕ → List Equality → Certificate → (p k : ℕ) → List (Block ℕ) → Bool
 blocks_in n es c p k [] = true
-blocks_in n es c p k (b ∷ blocks) = block_in n es c p k b && blocks_in n es c (jump_point p b.lines + 1) (k + 1) blocks
+blocks_in n es c p k (b ∷ blocks) =
+    block_in n es c p k b && blocks_in n es c (jump_point p b.lines + 1) (k + 1) blocks
 
 -- on entry
 abbrev pub params_in : ℕ → List (Destination ℕ) → List Location → Owners → Option Owners
@@ -145,13 +161,17 @@ params_in n (d ∷ ds) [] own = None
 params_in n (d ∷ ds) (q ∷ qs) own = option_and_then (params_in n ds qs) (put_in n q d.place own)
 
 abbrev pub entry_holds : List (Destination ℕ) → List Equality → Owners → Bool
-entry_holds ds es own = list_all (λ (e : Equality). owns own e.place e.register || not (is_param ds e.register)) es
+entry_holds ds es own =
+    list_all (λ (e : Equality). owns own e.place e.register || not (is_param ds e.register)) es
 
 abbrev pub entry_in : ℕ → Code ℕ → Certificate → Bool
-entry_in n v c = option_map_or (entry_holds v.params (starts_at c 0)) (params_in n v.params c.params nobody) false
+entry_in n v c =
+    option_map_or (entry_holds v.params (starts_at c 0)) (params_in n v.params c.params nobody)
+    false
 
 abbrev pub sound_in : ℕ → Code ℕ → Certificate → Bool
-sound_in n v c = are_apart c.everywhere && (entry_in n v c && blocks_in n c.everywhere c 0 0 v.blocks)
+sound_in n v c =
+    are_apart c.everywhere && (entry_in n v c && blocks_in n c.everywhere c 0 0 v.blocks)
 
 -- where that is not beyond the limit
 abbrev pub bounded : ℕ → ℕ → Option ℕ

@@ -1,6 +1,8 @@
--- The forms of jumps and branches, where items stand, and the words that they become. Places are numbers of words from the function's first.
+-- The forms of jumps and branches, where items stand, and the words that they become. Places are
+-- numbers of words from the function's first.
 --
--- A form is chosen by the places that items would have if all of them took their longest form. Real distances are never longer, so it fits.
+-- A form is chosen by the places that items would have if all of them took their longest form. Real
+-- distances are never longer, so it fits.
 use Rattle.std.specs.Prelude.{ℕ, ◌+◌, ◌-◌, ◌*◌, ◌%◌, ◌^◌, ◌<◌, ◌≤◌, ◌&&◌, nat_le, if◌then◌else◌, ℤ, pos, ◌-ℤ◌, List, [], ◌∷◌, ◌++◌, length, slice_index, slice_set, replicate}
 use Rattle.bits.specs.Words.{upper_field, lower_field}
 use Rattle.rv_isa.specs.declared.abi.TheConstants.{ZERO, JUMP_SCRATCH}
@@ -19,8 +21,8 @@ use Rattle.asm_layout.specs.declared.reach.Reach.TheVariants.{Short, Middle, Far
 
 -- ---- forms
 
--- what reaches from one place to another: a branch, from 1024 words back to 1023 ahead; `jal`, from there or from the word after it; or nothing less than
--- `auipc` and `jalr`
+-- what reaches from one place to another: a branch, from 1024 words back to 1023 ahead; `jal`, from
+-- there or from the word after it; or nothing less than `auipc` and `jalr`
 abbrev pub reach_of : (here there : ℕ) → Reach
 reach_of here there =
     if nat_le (there - here) 1023 && nat_le (here - there) 1024 then Short
@@ -68,7 +70,8 @@ longest_places f places (i ∷ items) = longest_places (f + longest i) (marked p
 -- in the forms that are chosen, of items from p on
 abbrev pub chosen_places : (far : List ℕ) (f p : ℕ) (places : List ℕ) → List Item → List ℕ
 chosen_places far f p places [] = places
-chosen_places far f p places (i ∷ items) = chosen_places far (f + longest i) (p + size far f i) (marked places p i) items
+chosen_places far f p places (i ∷ items) =
+    chosen_places far (f + longest i) (p + size far f i) (marked places p i) items
 
 -- ---- words
 
@@ -91,7 +94,8 @@ abbrev pub jump_words : Reach → (here there : ℕ) → List ℕ
 jump_words Short here there = j_type 0x6f ZERO (distance here there) ∷ []
 jump_words Middle here there = j_type 0x6f ZERO (distance here there) ∷ []
 jump_words Far here there =
-    u_type 0x17 JUMP_SCRATCH (upper_field (distance_word here there)) ∷ i_type 0x67 0 ZERO JUMP_SCRATCH (lower_field (distance_word here there)) ∷ []
+    u_type 0x17 JUMP_SCRATCH (upper_field (distance_word here there))
+    ∷ i_type 0x67 0 ZERO JUMP_SCRATCH (lower_field (distance_word here there)) ∷ []
 
 -- a jump of these forms fits; one may stand a word after the branch that it is for
 abbrev pub JumpFits : Reach → (here there : ℕ) → Type 0
@@ -101,9 +105,14 @@ JumpFits Far here there = Unit {0}
 
 -- a branch, or the inverse branch to the word after a jump
 abbrev pub branch_words : Reach → BranchOp → (rs1 rs2 : Register) → (here there : ℕ) → List ℕ
-branch_words Short op rs1 rs2 here there = b_type 0x63 (branch_row op) rs1.number rs2.number (distance here there) ∷ []
-branch_words Middle op rs1 rs2 here there = b_type 0x63 (branch_row (inverse op)) rs1.number rs2.number (distance here (here + 2)) ∷ jump_words Middle (here + 1) there
-branch_words Far op rs1 rs2 here there = b_type 0x63 (branch_row (inverse op)) rs1.number rs2.number (distance here (here + 3)) ∷ jump_words Far (here + 1) there
+branch_words Short op rs1 rs2 here there =
+    b_type 0x63 (branch_row op) rs1.number rs2.number (distance here there) ∷ []
+branch_words Middle op rs1 rs2 here there =
+    b_type 0x63 (branch_row (inverse op)) rs1.number rs2.number (distance here (here + 2))
+    ∷ jump_words Middle (here + 1) there
+branch_words Far op rs1 rs2 here there =
+    b_type 0x63 (branch_row (inverse op)) rs1.number rs2.number (distance here (here + 3))
+    ∷ jump_words Far (here + 1) there
 
 -- an item's words at p, with globals at these addresses
 abbrev pub item_words : (far places : List ℕ) (global : ℕ → ℕ) (f p : ℕ) → Item → List ℕ
@@ -111,14 +120,16 @@ item_words far places global f p (Plain i) = word i ∷ []
 item_words far places global f p (Label l) = []
 item_words far places global f p (Branch op rs1 rs2 l) =
     branch_words (reach_of f (slice_index far l)) op rs1 rs2 p (slice_index places l)
-item_words far places global f p (Goto l) = jump_words (reach_of f (slice_index far l)) p (slice_index places l)
+item_words far places global f p (Goto l) =
+    jump_words (reach_of f (slice_index far l)) p (slice_index places l)
 item_words far places global f p (Relocated r) = word (relocated r (global r.global)) ∷ []
 
 -- these words, and those of items after them
 abbrev pub words_with : (far places : List ℕ) (global : ℕ → ℕ) (f : ℕ) → List ℕ → List Item → List ℕ
 words_with far places global f words [] = words
 words_with far places global f words (i ∷ items) =
-    words_with far places global (f + longest i) (words ++ item_words far places global f (length words) i) items
+    words_with far places global (f + longest i) (words
+    ++ item_words far places global f (length words) i) items
 
 -- ---- holes
 
@@ -131,7 +142,8 @@ item_holes p (Relocated r) = record { word = p; relocation = r } ∷ []
 
 abbrev pub holes_with : (far : List ℕ) (f p : ℕ) → List Hole → List Item → List Hole
 holes_with far f p holes [] = holes
-holes_with far f p holes (i ∷ items) = holes_with far (f + longest i) (p + size far f i) (holes ++ item_holes p i) items
+holes_with far f p holes (i ∷ items) =
+    holes_with far (f + longest i) (p + size far f i) (holes ++ item_holes p i) items
 
 -- ---- the whole
 
@@ -155,10 +167,13 @@ holes_of c = holes_with (far_of c) 0 0 [] c.items
 abbrev pub ItemFits : (far places : List ℕ) (f p : ℕ) → Item → Type 0
 ItemFits far places f p (Plain i) = Unit {0}
 ItemFits far places f p (Label l) = Unit {0}
-ItemFits far places f p (Branch op rs1 rs2 l) = Fits (reach_of f (slice_index far l)) p (slice_index places l) × (slice_index places l < 2 ^ 28)
-ItemFits far places f p (Goto l) = Fits (reach_of f (slice_index far l)) p (slice_index places l) × (slice_index places l < 2 ^ 28)
+ItemFits far places f p (Branch op rs1 rs2 l) =
+    Fits (reach_of f (slice_index far l)) p (slice_index places l) × (slice_index places l < 2 ^ 28)
+ItemFits far places f p (Goto l) =
+    Fits (reach_of f (slice_index far l)) p (slice_index places l) × (slice_index places l < 2 ^ 28)
 ItemFits far places f p (Relocated r) = Unit {0}
 
 abbrev pub AllFit : (far places : List ℕ) (f p : ℕ) → List Item → Type 0
 AllFit far places f p [] = Unit {0}
-AllFit far places f p (i ∷ items) = ItemFits far places f p i × AllFit far places (f + longest i) (p + size far f i) items
+AllFit far places f p (i ∷ items) =
+    ItemFits far places f p i × AllFit far places (f + longest i) (p + size far f i) items

@@ -1,4 +1,5 @@
--- Words of 32 and 64 bits, read as numbers. `cast_signed w32 n` is the signed reading of 32 bits, and `cast_unsigned w64 z` the bits of z.
+-- Words of 32 and 64 bits, read as numbers. `cast_signed w32 n` is the signed reading of 32 bits,
+-- and `cast_unsigned w64 z` the bits of z.
 use Rattle.std.specs.Prelude.{◌≡◌, ℕ, ◌+◌, ◌-◌, ◌*◌, ◌/◌, ◌%◌, ◌^◌, ◌<◌, Bool, ◌&&◌, nat_lt, if◌then◌else◌, ℤ, pos, negsuc, ◌≤ℤ◌}
 use Rattle.std.specs.Int.{cast_signed, cast_unsigned, w32, w64}
 use Rattle.std.specs.Int.RustNames.{int_lt}
@@ -23,7 +24,8 @@ Fits12 z = (negsuc 2047 ≤ℤ z) × (z ≤ℤ pos 2047)
 abbrev pub fits_12 : ℤ → Bool
 fits_12 z = int_lt (negsuc 2048) z && int_lt z (pos 2048)
 
--- `lui` with the upper field and `addiw` with the lower make n, modulo 2^32, and both fields are in range
+-- `lui` with the upper field and `addiw` with the lower make n, modulo 2^32, and both fields are in
+-- range
 pub record Makes (n upper : ℕ) (lower : ℤ) : Type 0 where
   pub upper_fits : upper < 2 ^ 20
   pub lower_fits : Fits12 lower

@@ -1,4 +1,5 @@
--- A set of numbers below a length, as words of 64 bits: the number i is in it where bit i % 64 of word i / 64 is set.
+-- A set of numbers below a length, as words of 64 bits: the number i is in it where bit i % 64 of
+-- word i / 64 is set.
 use Rattle.std.specs.Prelude.{◌≡◌, ℕ, ◌+◌, ◌/◌, ◌%◌, ◌<◌, Bool, true, false, ◌==◌, List, length, slice_index}
 use Rattle.std.specs.Int.{bit_at}
 

@@ -11,7 +11,8 @@ use Rattle.vcode.specs.declared.function.VFunc.{VFunc}
 abbrev pub Order : Type 0
 Order = List ℕ
 
--- the place in the order at which a block stands, from 0; of one that isn't named, the first place past the end
+-- the place in the order at which a block stands, from 0; of one that isn't named, the first place
+-- past the end
 abbrev pub place_in : Order → ℕ → ℕ
 place_in [] k = 0
 place_in (j ∷ order) k = if nat_eq j k then 0 else suc (place_in order k)
@@ -37,7 +38,11 @@ placed order b = record { lines = b.lines; jump = led order b.jump }
 
 abbrev pub in_order : Order → Code ℕ → Code ℕ
 in_order order f =
-    record { result = f.result; params = f.params; blocks = map (λ k. placed order (block_at f.blocks k)) order }
+    record {
+      result = f.result;
+      params = f.params;
+      blocks = map (λ k. placed order (block_at f.blocks k)) order;
+    }
 
 -- ---- what an order is
 
@@ -56,11 +61,13 @@ leads_within order (Goto k) = is_named order k
 leads_within order (Branch on met otherwise) = is_named order met && is_named order otherwise
 leads_within order j = true
 
--- it begins with the first block, names no block twice, and names only blocks of the code, with each block that one of them leads to
+-- it begins with the first block, names no block twice, and names only blocks of the code, with
+-- each block that one of them leads to
 abbrev pub is_order : Order → Code ℕ → Bool
 is_order order f =
     begins (length f.blocks) order
-    && ((names_once order && list_all (λ k. nat_lt k (length f.blocks)) order) && list_all (λ k. leads_within order (block_at f.blocks k).jump) order)
+    && ((names_once order && list_all (λ k. nat_lt k (length f.blocks)) order)
+    && list_all (λ k. leads_within order (block_at f.blocks k).jump) order)
 
 -- the second function is the first with its blocks in an order
 pub record IsOrdered (v w : VFunc) : Type 0 where

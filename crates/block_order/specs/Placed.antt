@@ -3,7 +3,8 @@ use Rattle.std.specs.Prelude.{◌≡◌, ℕ, Bool, ◌&&◌, nat_lt, List, leng
 use Rattle.std.specs.List.{list_all}
 use Rattle.block_order.specs.Ordered.{Order, place_in, names_once}
 
--- what a list has at the block's number, where it has anything; past its end, where nothing stands in the order
+-- what a list has at the block's number, where it has anything; past its end, where nothing stands
+-- in the order
 abbrev pub kept_place : Order → List ℕ → ℕ → ℕ
 kept_place order places k = unwrap_or (slice_get places k) (length order)
 

@@ -18,7 +18,8 @@ pub use Rattle.cfg_live.specs.Numbering.{next_point, jump_point, end_point}
 
 -- the register at its place, if the list has one
 abbrev pub place_in : List Location → ℕ → List Equality
-place_in list r = option_map_or (λ (q : Location). record { register = r; place = q } ∷ []) (slice_get list r) []
+place_in list r =
+    option_map_or (λ (q : Location). record { register = r; place = q } ∷ []) (slice_get list r) []
 
 abbrev pub has : List Equality → ℕ → Bool
 has es r = list_any (λ (e : Equality). nat_eq e.register r) es
@@ -42,16 +43,21 @@ point_places list u = with_written list (with_places list [] u.reads) u.writes
 -- the places of the registers below a bound that are live right before point p
 abbrev pub live_places : List Location → List Bits → (p registers : ℕ) → List Equality
 live_places list rows p zero = []
-live_places list rows p (suc r) = live_places list rows p r ++ (if holds rows p r then place_in list r else [])
+live_places list rows p (suc r) =
+    live_places list rows p r ++ (if holds rows p r then place_in list r else [])
 
 abbrev pub listed_params : List Location → List (Destination ℕ) → List Location
 listed_params list [] = []
-listed_params list (d ∷ ds) = option_map_or (λ (q : Location). q ∷ []) (slice_get list d.place) [] ++ listed_params list ds
+listed_params list (d ∷ ds) =
+    option_map_or (λ (q : Location). q ∷ []) (slice_get list d.place) [] ++ listed_params list ds
 
 -- what is live where each block begins
-abbrev pub listed_starts : List Location → List Bits → (registers p : ℕ) → List (Block ℕ) → List (List Equality)
+abbrev pub listed_starts : List Location → List Bits → (registers p : ℕ) → List (Block ℕ) →
+    List (List Equality)
 listed_starts list rows registers p [] = []
-listed_starts list rows registers p (b ∷ blocks) = live_places list rows p registers ∷ listed_starts list rows registers (jump_point p b.lines + 1) blocks
+listed_starts list rows registers p (b ∷ blocks) =
+    live_places list rows p registers ∷ listed_starts list rows registers (jump_point p b.lines + 1)
+    blocks
 
 abbrev pub no_moves : Uses → List Transfer
 no_moves u = []

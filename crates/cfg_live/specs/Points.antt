@@ -1,4 +1,5 @@
--- The points of virtual code, numbered from 0 in the order of its text: its lines but for ticks, and its jumps.
+-- The points of virtual code, numbered from 0 in the order of its text: its lines but for ticks,
+-- and its jumps.
 use Rattle.std.specs.Prelude.{ℕ, ◌+◌, List, [], ◌∷◌, ◌++◌, length, slice_get, Option, Some, None}
 use Rattle.vcode.specs.declared.line.Line.{Line}
 use Rattle.vcode.specs.declared.line.Line.TheVariants.{Tick}

@@ -16,7 +16,8 @@ Justified g rows = (p r : ℕ) → holds rows p r ≡ true → IsLive g p r
 -- what is read or live behind is marked
 pub record Closed (g : Graph) (registers : ℕ) (rows : List Bits) : Type 0 where
   pub read : (p r : ℕ) → r < registers → reads g p r ≡ true → holds rows p r ≡ true
-  pub behind : (p q r : ℕ) → r < registers → writes g p r ≡ false → leads g p q ≡ true → holds rows q r ≡ true → holds rows p r ≡ true
+  pub behind : (p q r : ℕ) → r < registers → writes g p r ≡ false → leads g p q ≡ true →
+      holds rows q r ≡ true → holds rows p r ≡ true
 
 -- the sets have just the live registers
 pub record AreLive (g : Graph) (registers : ℕ) (rows : List Bits) : Type 0 where
@@ -37,7 +38,8 @@ next_of g p = option_map_or (λ (ks : List ℕ). ks) (slice_get g.nexts p) []
 
 -- what p has to hold by what the sets behind it have
 abbrev pub flows : Graph → ℕ → List Bits → ℕ → ℕ → Bool
-flows g registers rows p r = (nat_lt r registers && reads g p r) || (any_holds rows r (next_of g p) && not (writes g p r))
+flows g registers rows p r =
+    (nat_lt r registers && reads g p r) || (any_holds rows r (next_of g p) && not (writes g p r))
 
 -- it holds that
 abbrev pub Stable : Graph → ℕ → List Bits → ℕ → Type 0
@@ -69,7 +71,8 @@ SameMarks old new = (p r : ℕ) → holds new p r ≡ holds old p r
 
 -- whether a mark came in
 abbrev pub Changed : ℕ → (old new : List Bits) → Bool → Type 0
-Changed registers old new changed = MatchBool changed (NewMark registers old new) (SameMarks old new)
+Changed registers old new changed =
+    MatchBool changed (NewMark registers old new) (SameMarks old new)
 
 -- empty sets of numbers below one length
 pub record AreBlank (registers : ℕ) (rows : List Bits) : Type 0 where

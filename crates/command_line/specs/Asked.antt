@@ -25,14 +25,18 @@ pub record IsLimit (m : ArgMatches) (limit : ℕ) : Type 0 where
 -- the subcommand of this name, with these matches of its own, asks for the command
 abbrev pub Asks : (name : List ℕ) → ArgMatches → Command → Type 0
 Asks name m (Build out files) =
-    (name ≡ codes "build") × (out.now ≡ word_in m (codes "OUT")) × (map (λ s. s.now) files.items ≡ words_in m (codes "FILES"))
+    (name ≡ codes "build") × (out.now ≡ word_in m (codes "OUT"))
+    × (map (λ s. s.now) files.items ≡ words_in m (codes "FILES"))
 Asks name m (Run limit file words) =
-    (name ≡ codes "run") × IsLimit m limit × (file.now ≡ word_in m (codes "EXE")) × (map (λ s. s.now) words.items ≡ words_in m (codes "WORDS"))
+    (name ≡ codes "run") × IsLimit m limit × (file.now ≡ word_in m (codes "EXE"))
+    × (map (λ s. s.now) words.items ≡ words_in m (codes "WORDS"))
 Asks name m (Interpret limit file words) =
-    (name ≡ codes "interp") × IsLimit m limit × (file.now ≡ word_in m (codes "FILE")) × (map (λ s. s.now) words.items ≡ words_in m (codes "WORDS"))
+    (name ≡ codes "interp") × IsLimit m limit × (file.now ≡ word_in m (codes "FILE"))
+    × (map (λ s. s.now) words.items ≡ words_in m (codes "WORDS"))
 Asks name m (Disassemble file) = (name ≡ codes "dis") × (file.now ≡ word_in m (codes "EXE"))
 
 -- the same where no subcommand may have the name: then there is no command
 abbrev pub AsksFor : (name : List ℕ) → ArgMatches → Option Command → Type 0
-AsksFor name m None = (name ≢ codes "build") × (name ≢ codes "run") × (name ≢ codes "interp") × (name ≢ codes "dis")
+AsksFor name m None =
+    (name ≢ codes "build") × (name ≢ codes "run") × (name ≢ codes "interp") × (name ≢ codes "dis")
 AsksFor name m (Some command) = Asks name m command

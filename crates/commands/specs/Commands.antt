@@ -1,4 +1,5 @@
--- What each command did, over a disk, standard output and standard error: what they told before and after.
+-- What each command did, over a disk, standard output and standard error: what they told before and
+-- after.
 use Rattle.std.specs.Prelude.{◌≡◌, ◌⊎◌, ℕ, List, map}
 use Rattle.command_line.specs.declared.Command.{Command}
 use Rattle.command_line.specs.declared.Command.TheVariants.{Build, Run, Interpret, Disassemble}
@@ -25,25 +26,33 @@ Done (Disassemble file) disk after old new status =
 
 -- it failed so
 abbrev pub Fails : Command → (disk after : DiskState) (old new : SinkState) → Failure → Type 0
-Fails (Build out files) disk after old new f = BuildFails disk after (map (λ p. p.now) files.items) out f × (new ≡ old)
-Fails (Run limit file words) disk after old new f = RunFails disk after file (map (λ w. w.now) words.items) limit old new f
-Fails (Interpret limit file words) disk after old new f = InterpretFails disk after file (map (λ w. w.now) words.items) limit old new f
+Fails (Build out files) disk after old new f =
+    BuildFails disk after (map (λ p. p.now) files.items) out f × (new ≡ old)
+Fails (Run limit file words) disk after old new f =
+    RunFails disk after file (map (λ w. w.now) words.items) limit old new f
+Fails (Interpret limit file words) disk after old new f =
+    InterpretFails disk after file (map (λ w. w.now) words.items) limit old new f
 Fails (Disassemble file) disk after old new f = DisassemblyFails disk after file old new f
 
--- the line of this failure went to standard error, or a beginning of it where that failed; and the status is the failure's
+-- the line of this failure went to standard error, or a beginning of it where that failed; and the
+-- status is the failure's
 abbrev pub Reported : Failure → (before after : SinkState) → (status : ℕ) → Type 0
 Reported f before after status = (status ≡ status_of f) × Tells before after (line_of f)
 
--- a text of help went to standard output, or that failed, or there was no memory for the text. Which text it is isn't said
+-- a text of help went to standard output, or that failed, or there was no memory for the text.
+-- Which text it is isn't said
 unfoldable pub IsHelp : (old new before after : SinkState) → (status : ℕ) → Type 0
 IsHelp old new before after status =
     ((text : List ℕ) × Sends old new text × (status ≡ 0) × (after ≡ before))
     ⊎ ((text : List ℕ) × Breaks old new text × Reported Output before after status)
     ⊎ ((new ≡ old) × Reported Memory before after status)
 
--- a text that says what is wrong with the words went to standard error, as far as that took it; or there was no memory for the text
+-- a text that says what is wrong with the words went to standard error, as far as that took it; or
+-- there was no memory for the text
 unfoldable pub IsMistake : (before after : SinkState) → (status : ℕ) → Type 0
-IsMistake before after status = ((text : List ℕ) × Tells before after text × (status ≡ 126)) ⊎ Reported Memory before after status
+IsMistake before after status =
+    ((text : List ℕ) × Tells before after text × (status ≡ 126))
+    ⊎ Reported Memory before after status
 
 -- a text of the command line was shown so
 abbrev pub IsShown : CommandRefusal → (old new before after : SinkState) → (status : ℕ) → Type 0
@@ -57,10 +66,13 @@ pub record World : Type 0 where
   pub out : SinkState
   pub err : SinkState
 
--- some command was done, with its status, and nothing went to standard error; or it failed, and that is reported; or a text of the command line was shown, and no
--- call of the disk failed and no file changed. Which words ask for what isn't said
+-- some command was done, with its status, and nothing went to standard error; or it failed, and
+-- that is reported; or a text of the command line was shown, and no call of the disk failed and no
+-- file changed. Which words ask for what isn't said
 unfoldable pub Ends : (old new : World) → (status : ℕ) → Type 0
 Ends old new status =
     ((c : Command) × Done c old.disk new.disk old.out new.out status × (new.err ≡ old.err))
-    ⊎ ((c : Command) × (f : Failure) × Fails c old.disk new.disk old.out new.out f × Reported f old.err new.err status)
-    ⊎ ((r : CommandRefusal) × IsShown r old.out new.out old.err new.err status × (new.disk ≡ old.disk))
+    ⊎ ((c : Command) × (f : Failure) × Fails c old.disk new.disk old.out new.out f
+    × Reported f old.err new.err status)
+    ⊎ ((r : CommandRefusal) × IsShown r old.out new.out old.err new.err status
+    × (new.disk ≡ old.disk))

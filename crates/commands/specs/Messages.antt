@@ -11,7 +11,8 @@ use Rattle.commands.specs.declared.failure.Failure.TheVariants.{Halt, Limit, Fau
 
 -- a number as sixteen hexadecimal digits, in lower case
 unfoldable pub sixteen_digits : ℕ → List ℕ
-sixteen_digits number = map (λ place. digit_glyph false (number / 2 ^ (60 - 4 * place) % 16)) (range_with_len 0 16)
+sixteen_digits number =
+    map (λ place. digit_glyph false (number / 2 ^ (60 - 4 * place) % 16)) (range_with_len 0 16)
 
 -- ---- lines, each with its line end, part by part
 
@@ -24,9 +25,11 @@ file_number BadEntry = codes "L5"
 file_number NotLoaded = codes "L6"
 
 abbrev pub refusal_parts : Refusal → List (List ℕ)
-refusal_parts (Syntax text line) = codes "qbec: refused E1 text " ∷ decimal text ∷ codes " line " ∷ decimal line ∷ codes "\n" ∷ []
+refusal_parts (Syntax text line) =
+    codes "qbec: refused E1 text " ∷ decimal text ∷ codes " line " ∷ decimal line ∷ codes "\n" ∷ []
 refusal_parts (Rule rule text line) =
-    codes "qbec: refused E2 C" ∷ decimal rule ∷ codes " text " ∷ decimal text ∷ codes " line " ∷ decimal line ∷ codes "\n" ∷ []
+    codes "qbec: refused E2 C" ∷ decimal rule ∷ codes " text " ∷ decimal text ∷ codes " line "
+    ∷ decimal line ∷ codes "\n" ∷ []
 refusal_parts (UnknownName name) = codes "qbec: refused E3 $" ∷ name.items ∷ codes "\n" ∷ []
 refusal_parts (ExportedTwice name) = codes "qbec: refused E4 $" ∷ name.items ∷ codes "\n" ∷ []
 refusal_parts NoMain = codes "qbec: refused E5\n" ∷ []
@@ -38,7 +41,8 @@ refusal_parts (File error) = codes "qbec: refused " ∷ file_number error ∷ co
 abbrev pub parts_of : Failure → List (List ℕ)
 parts_of Halt = codes "qbec: halt\n" ∷ []
 parts_of Limit = codes "qbec: limit\n" ∷ []
-parts_of (Fault number pc) = codes "qbec: fault F" ∷ decimal number ∷ codes " at " ∷ sixteen_digits pc ∷ codes "\n" ∷ []
+parts_of (Fault number pc) =
+    codes "qbec: fault F" ∷ decimal number ∷ codes " at " ∷ sixteen_digits pc ∷ codes "\n" ∷ []
 parts_of Undefined = codes "qbec: undefined\n" ∷ []
 parts_of Stack = codes "qbec: stack\n" ∷ []
 parts_of Memory = codes "qbec: memory\n" ∷ []

@@ -42,15 +42,19 @@ start_failure NotStarted = WantsMemory
 
 -- ---- what it says
 
--- of a file that was not run: it is none, or the words pass a limit, or there was no memory for the machine
+-- of a file that was not run: it is none, or the words pass a limit, or there was no memory for the
+-- machine
 abbrev pub FileIsRefused : List ℕ → (words : List (List ℕ)) → Failure → Type 0
 FileIsRefused bytes words (Refused (File e)) = RefusesFile e bytes
-FileIsRefused bytes words (Refused Words) = (x : Executable) × Loads bytes x × (are_arguments words ≡ false)
+FileIsRefused bytes words (Refused Words) =
+    (x : Executable) × Loads bytes x × (are_arguments words ≡ false)
 FileIsRefused bytes words WantsMemory = (x : Executable) × Loads bytes x
 FileIsRefused bytes words f = ⊥
 
--- of a text that was not interpreted: it is refused as compiling it is, or it is a program and the words are refused
+-- of a text that was not interpreted: it is refused as compiling it is, or it is a program and the
+-- words are refused
 unfoldable pub TextIsRefused : List ℕ → (words : List (List ℕ)) → Failure → Type 0
 TextIsRefused text words f =
     ((e : CompileError) × RefusesTexts e (text ∷ []) × (f ≡ Refused (compile_refusal e)))
-    ⊎ ((e : RunError) × (p : Program) × AreProgram (text ∷ []) p × RefusesWords e words × (f ≡ Refused (run_refusal e)))
+    ⊎ ((e : RunError) × (p : Program) × AreProgram (text ∷ []) p × RefusesWords e words
+    × (f ≡ Refused (run_refusal e)))

@@ -9,7 +9,8 @@ use Rattle.il_ast.specs.declared.value.End.TheVariants.{Exit as Ends, Halt as Ha
 use Rattle.commands.specs.declared.failure.Failure.{Failure}
 use Rattle.commands.specs.declared.failure.Failure.TheVariants.{Halt, Limit, Fault, Undefined, Stack, Memory}
 
--- 128 and SIGABRT for a halt, 124 as timeout(1) answers, 125 for what the program did wrong, and 126 for what was not run
+-- 128 and SIGABRT for a halt, 124 as timeout(1) answers, 125 for what the program did wrong, and
+-- 126 for what was not run
 abbrev pub status_of : Failure → ℕ
 status_of Halt = 134
 status_of Limit = 124

@@ -1,6 +1,7 @@
--- Which files are accepted and what they load as; what each refusal says of a file.
--- ELF64 object file format, "File Header" and "Program Header"; RISC-V ELF psABI, "File Header" (EM_RISCV is 243).
--- An accepted file has no more than the layout written here: which values are taken where ELF leaves more is this project's choice.
+-- Which files are accepted and what they load as; what each refusal says of a file. ELF64 object
+-- file format, "File Header" and "Program Header"; RISC-V ELF psABI, "File Header" (EM_RISCV is
+-- 243). An accepted file has no more than the layout written here: which values are taken where ELF
+-- leaves more is this project's choice.
 use Rattle.std.specs.Prelude.{◌≡◌, ◌≢◌, ℕ, zero, suc, ◌+◌, ◌%◌, ◌<◌, ◌≤◌, Bool, true, false, ◌&&◌, ◌==◌, nat_le, nat_lt, nat_eq, List, [], ◌∷◌, length, take, drop, slice_get, Some, is_some, ◌⊎◌}
 use Rattle.std.specs.List.{starts_with}
 use Rattle.obj_link.specs.Image.{code_start, image_end}
@@ -12,18 +13,21 @@ use Rattle.elf_file.specs.Flags.{flags_of}
 use Rattle.elf_file.specs.Headers.{file_header, program_header, program_header_offset}
 use Rattle.elf_file.specs.Loaded.{Mapping, Executable, has_entry}
 
--- e_ident: the magic number, ELFCLASS64, ELFDATA2LSB, EV_CURRENT, ELFOSABI_NONE, ABI version 0, padding
+-- e_ident: the magic number, ELFCLASS64, ELFDATA2LSB, EV_CURRENT, ELFOSABI_NONE, ABI version 0,
+-- padding
 abbrev pub e_ident : List ℕ
 e_ident = 0x7f ∷ 0x45 ∷ 0x4c ∷ 0x46 ∷ 2 ∷ 1 ∷ 1 ∷ 0 ∷ 0 ∷ 0 ∷ 0 ∷ 0 ∷ 0 ∷ 0 ∷ 0 ∷ 0 ∷ []
 
 -- ET_EXEC is 2, EM_RISCV is 243, EV_CURRENT is 1
 abbrev pub is_kind : FileHeader → Bool
-is_kind h = h.e_type == 2 && h.e_machine == 243 && h.e_version == 1 && h.e_flags == 0 && h.e_ehsize == 64 && h.e_phentsize == 56
+is_kind h = h.e_type == 2 && h.e_machine == 243 && h.e_version == 1 && h.e_flags == 0
+    && h.e_ehsize == 64 && h.e_phentsize == 56
 
 -- one table of program headers, right after the file's header, and no section headers
 abbrev pub has_one_table : FileHeader → Bool
 has_one_table h =
-    h.e_phoff == 64 && h.e_shoff == 0 && nat_lt 0 h.e_phnum && nat_le h.e_phnum 16 && h.e_shentsize == 0 && h.e_shnum == 0 && h.e_shstrndx == 0
+    h.e_phoff == 64 && h.e_shoff == 0 && nat_lt 0 h.e_phnum && nat_le h.e_phnum 16
+    && h.e_shentsize == 0 && h.e_shnum == 0 && h.e_shstrndx == 0
 
 -- PT_LOAD is 1; a page has 4096 bytes
 abbrev pub is_loadable : ProgramHeader → Bool
@@ -46,7 +50,8 @@ abbrev pub lowest : List ℕ → ℕ → ℕ
 lowest file zero = code_start
 lowest file (suc k) = let h = program_header file k in h.p_vaddr + h.p_memsz
 
--- program header h puts the segment m into memory: file bytes from p_offset at p_vaddr, zeros from p_filesz to p_memsz
+-- program header h puts the segment m into memory: file bytes from p_offset at p_vaddr, zeros from
+-- p_filesz to p_memsz
 pub record Maps (file : List ℕ) (low : ℕ) (h : ProgramHeader) (m : Mapping) : Type 0 where
   pub loadable : is_loadable h ≡ true
   pub whole : is_whole file h ≡ true
@@ -59,7 +64,8 @@ pub record Maps (file : List ℕ) (low : ℕ) (h : ProgramHeader) (m : Mapping) 
 -- these are the file's first `count` segments, in order
 pub record MapsAll (file : List ℕ) (count : ℕ) (mappings : List Mapping) : Type 0 where
   pub number : length mappings ≡ count
-  pub each : (k : ℕ) (m : Mapping) → slice_get mappings k ≡ Some m → Maps file (lowest file k) (program_header file k) m
+  pub each : (k : ℕ) (m : Mapping) → slice_get mappings k ≡ Some m →
+      Maps file (lowest file k) (program_header file k) m
 
 -- the file has a header of an executable for RISC-V, and all the program headers that it tells of
 pub record HasHeaders (file : List ℕ) : Type 0 where
@@ -88,16 +94,24 @@ RefusesSegment Memory file low h = Unit {0}
 
 -- a fact of one of the file's segments: of the lowest address that it may have, and of its header
 abbrev pub OfSegment : List ℕ → (ℕ → ProgramHeader → Type 0) → Type 0
-OfSegment file P = (k : ℕ) × (k < (file_header file).e_phnum) × (program_header_offset (k + 1) ≤ length file) × P (lowest file k) (program_header file k)
+OfSegment file P =
+    (k : ℕ) × (k < (file_header file).e_phnum) × (program_header_offset (k + 1) ≤ length file)
+    × P (lowest file k) (program_header file k)
 
 -- what a refusal says of the file; one for want of memory says nothing of it
 abbrev pub Refuses : LoadError → List ℕ → Type 0
 Refuses CutOff file =
-    (length file < 64) ⊎ (length file < program_header_offset (file_header file).e_phnum) ⊎ OfSegment file (λ low h. is_whole file h ≡ false)
-Refuses OtherKind file = (64 ≤ length file) × ((starts_with nat_eq file e_ident ≡ false) ⊎ (is_kind (file_header file) ≡ false))
-Refuses OutOfRange file = (64 ≤ length file) × ((has_one_table (file_header file) ≡ false) ⊎ OfSegment file (λ low h. is_loadable h ≡ false))
+    (length file < 64) ⊎ (length file < program_header_offset (file_header file).e_phnum)
+    ⊎ OfSegment file (λ low h. is_whole file h ≡ false)
+Refuses OtherKind file =
+    (64 ≤ length file) × ((starts_with nat_eq file e_ident ≡ false)
+    ⊎ (is_kind (file_header file) ≡ false))
+Refuses OutOfRange file =
+    (64 ≤ length file) × ((has_one_table (file_header file) ≡ false)
+    ⊎ OfSegment file (λ low h. is_loadable h ≡ false))
 Refuses Misplaced file = OfSegment file (λ low h. is_placed low h ≡ false)
 Refuses BadEntry file =
     ((file_header file).e_entry % 4 ≢ 0)
-    ⊎ ((mappings : List Mapping) × MapsAll file (file_header file).e_phnum mappings × (has_entry (file_header file).e_entry mappings ≡ false))
+    ⊎ ((mappings : List Mapping) × MapsAll file (file_header file).e_phnum mappings
+    × (has_entry (file_header file).e_entry mappings ≡ false))
 Refuses Memory file = Unit {0}

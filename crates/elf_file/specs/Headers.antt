@@ -1,5 +1,6 @@
--- The headers of an ELF64 file whose numbers stand lowest byte first (ELFDATA2LSB), by the names of their fields.
--- ELF64 object file format, "File Header" (Elf64_Ehdr, 64 bytes) and "Program Header" (Elf64_Phdr, 56 bytes).
+-- The headers of an ELF64 file whose numbers stand lowest byte first (ELFDATA2LSB), by the names of
+-- their fields. ELF64 object file format, "File Header" (Elf64_Ehdr, 64 bytes) and "Program Header"
+-- (Elf64_Phdr, 56 bytes).
 use Rattle.std.specs.Prelude.{ℕ, ◌+◌, ◌*◌, List, drop}
 use Rattle.byteorder.specs.Endian.{little_number}
 use Rattle.elf_file.specs.declared.headers.FileHeader.{FileHeader}

@@ -51,9 +51,11 @@ pub record IsMapping (m : Mapping) : Type 0 where
   pub above_start : code_start ≤ m.address
   pub below_stack : m.address + m.size ≤ image_end
 
--- what every loaded file keeps: its segments rise without overlap, and it starts at an instruction's address in code
+-- what every loaded file keeps: its segments rise without overlap, and it starts at an
+-- instruction's address in code
 pub record IsExecutable (x : Executable) : Type 0 where
   pub each : (k : ℕ) (m : Mapping) → slice_get x.mappings k ≡ Some m → IsMapping m
-  pub rising : (k : ℕ) (a b : Mapping) → slice_get x.mappings k ≡ Some a → slice_get x.mappings (k + 1) ≡ Some b → a.address + a.size ≤ b.address
+  pub rising : (k : ℕ) (a b : Mapping) → slice_get x.mappings k ≡ Some a →
+      slice_get x.mappings (k + 1) ≡ Some b → a.address + a.size ≤ b.address
   pub aligned : x.entry % 4 ≡ 0
   pub in_code : has_entry x.entry x.mappings ≡ true

@@ -45,7 +45,8 @@ shown args = record { turns = 9; room = 4096; args = args; memory = nowhere }
 
 -- with the blocks from 8192 upward; name 0 stands for 500
 abbrev pub Returns : Code Location → List ℕ → Option ℕ → Type 0
-Returns f args x = number_within (flat_step f (500 ∷ []) 8192 (shown args)) 20 (flat_begin f 8192 (shown args)) ≡ x
+Returns f args x =
+    number_within (flat_step f (500 ∷ []) 8192 (shown args)) 20 (flat_begin f 8192 (shown args)) ≡ x
 
 -- ---- codes
 
@@ -58,24 +59,31 @@ b = Register 11
 -- a number is stored in a fresh block, and comes back
 abbrev pub keeps_number : Code Location
 keeps_number =
-    straight L [] (Tick true 2 ∷ Alloc (Some a) 8 ∷ Store Long (Number 7) (at_once (At a)) ∷ Load b Ld (at_once (At a)) ∷ []) (At b)
+    straight L [] (Tick true 2 ∷ Alloc (Some a) 8 ∷ Store Long (Number 7) (at_once (At a))
+    ∷ Load b Ld (at_once (At a)) ∷ []) (At b)
 
 abbrev pub reads_blank : Code Location
 reads_blank = straight L [] (Alloc (Some a) 8 ∷ Load b Ld (at_once (At a)) ∷ []) (At b)
 
 abbrev pub stores_past_the_end : Code Location
-stores_past_the_end = straight L [] (Alloc (Some a) 7 ∷ Store Long (Number 7) (at_once (At a)) ∷ []) (Number 1)
+stores_past_the_end =
+    straight L [] (Alloc (Some a) 7 ∷ Store Long (Number 7) (at_once (At a)) ∷ []) (Number 1)
 
 abbrev pub stores_bytes : Code Location
-stores_bytes = straight L [] (Alloc (Some a) 1 ∷ Store Byte (Number 511) (at_once (At a)) ∷ Load b Lb (at_once (At a)) ∷ []) (At b)
+stores_bytes =
+    straight L [] (Alloc (Some a) 1 ∷ Store Byte (Number 511) (at_once (At a))
+    ∷ Load b Lb (at_once (At a)) ∷ []) (At b)
 
 abbrev pub blocks_apart : Code Location
-blocks_apart = straight L [] (Alloc (Some a) 17 ∷ Alloc (Some b) 1 ∷ Operate b (Reg Sub) (At b) (At a) ∷ []) (At b)
+blocks_apart =
+    straight L [] (Alloc (Some a) 17 ∷ Alloc (Some b) 1 ∷ Operate b (Reg Sub) (At b) (At a) ∷ [])
+    (At b)
 
 abbrev pub copies : Code Location
 copies =
     straight L []
-    (Alloc (Some a) 8 ∷ Alloc (Some b) 8 ∷ Store Long (Number 258) (at_once (At a)) ∷ Blit (At a) (At b) 8 ∷ Load a Ld (at_once (At b)) ∷ [])
+    (Alloc (Some a) 8 ∷ Alloc (Some b) 8 ∷ Store Long (Number 258) (at_once (At a))
+    ∷ Blit (At a) (At b) 8 ∷ Load a Ld (at_once (At b)) ∷ [])
     (At a)
 
 -- the argument, of this class, returned as a value of another
@@ -101,7 +109,8 @@ pub record PremisesHold : Type 0 where
   pub shows : ShowsGiven no_entries no_bases 0 (8192 + area keeps_number) given (shown [])
   pub below_end : 8192 + area keeps_number < 2 ^ 64
   pub runs : Logged (step located [] keeps_number given) 20 (begin located keeps_number given) []
-      (Returned (record { turns = 1; weight = 2; calls = 0; output = [] }) (Some (Integer 7)) (None ∷ []))
+      (Returned (record { turns = 1; weight = 2; calls = 0; output = [] }) (Some (Integer 7))
+      (None ∷ []))
 
 -- ---- all of them
 
@@ -112,7 +121,8 @@ pub record Examples : Type 0 where
   pub low_byte_with_its_sign : Returns stores_bytes [] (Some (2 ^ 64 - 1))
   pub fresh_blocks_follow : Returns blocks_apart [] (Some 32)
   pub bytes_are_copied : Returns copies [] (Some 258)
-  pub first_block_at_the_base : Returns (straight L [] (Alloc (Some a) 8 ∷ []) (At a)) [] (Some 8192)
+  pub first_block_at_the_base : Returns (straight L [] (Alloc (Some a) 8 ∷ []) (At a)) []
+      (Some 8192)
   pub name_has_an_address : Returns (straight L [] [] (Name 0)) [] (Some 500)
   pub word_is_extended : Returns (passes W L) ((2 ^ 31) ∷ []) (Some (2 ^ 64 - 2 ^ 31))
   pub word_is_cut : Returns (passes L W) ((2 ^ 32 + 5) ∷ []) (Some 5)

@@ -1,4 +1,5 @@
--- Calls and outcomes on flat bytes, and what it means that a code on flat bytes keeps a code on blocks.
+-- Calls and outcomes on flat bytes, and what it means that a code on flat bytes keeps a code on
+-- blocks.
 use Rattle.std.specs.Prelude.{◌≡◌, ℕ, zero, suc, ◌+◌, ◌^◌, ◌<◌, ◌≤◌, List, [], ◌∷◌, Option, Some}
 use Rattle.il_ast.specs.declared.operation.Class.{Class}
 use Rattle.il_ast.specs.declared.value.Value.{Value}
@@ -9,14 +10,16 @@ use Rattle.il_ast.specs.Logged.{Next, On, Over, Event, Does, Calls, Logged}
 use Rattle.il_ast.specs.Keeps.{Asked, Given, AreArgs, Suits, Log, Fine}
 use Rattle.flat_code.specs.Spots.{Entries, Bases, Spots, AreEntries, Grown, AllShow, ShowsResult, ShowsMemory, Clear, SameReach, SameBlocks}
 
--- what a body is given: the turns that are left, the room for its own calls, its arguments as numbers, the bytes
+-- what a body is given: the turns that are left, the room for its own calls, its arguments as
+-- numbers, the bytes
 pub record FlatGiven : Type 0 where
   pub turns : ℕ
   pub room : ℕ
   pub args : List ℕ
   pub memory : Spots
 
--- what a call asks: the address of the callee, the classes of its arguments and of the result that it wants, and what it gives
+-- what a call asks: the address of the callee, the classes of its arguments and of the result that
+-- it wants, and what it gives
 pub record FlatAsked : Type 0 where
   pub at : ℕ
   pub classes : List Class
@@ -36,26 +39,31 @@ flat_after s (FlatEnded t e) = FlatEnded (both s t) e
 -- ---- what shows what
 
 -- j shows i, and no access is allowed from low up to high
-pub record ShowsGiven (e : Entries) (p : Bases) (low high : ℕ) (i : Given) (j : FlatGiven) : Type 0 where
-  pub turns : j.turns ≡ i.turns
-  pub room : j.room ≡ i.room
-  pub args : AllShow e p i.args j.args
-  pub memory : ShowsMemory e p i.memory j.memory
-  pub clear : Clear low high j.memory
+pub record ShowsGiven (e : Entries) (p : Bases) (low high : ℕ) (i : Given) (j : FlatGiven) : Type 0
+  where
+    pub turns : j.turns ≡ i.turns
+    pub room : j.room ≡ i.room
+    pub args : AllShow e p i.args j.args
+    pub memory : ShowsMemory e p i.memory j.memory
+    pub clear : Clear low high j.memory
 
 -- what a call gives to its callee
 abbrev pub given_by : Asked → Given
 given_by i = record { turns = i.turns; room = i.room; args = i.call.args; memory = i.memory }
 
-pub record ShowsAsked (e : Entries) (p : Bases) (low high : ℕ) (i : Asked) (j : FlatAsked) : Type 0 where
-  pub at : e i.call.callee ≡ Some j.at
-  pub classes : j.classes ≡ i.call.classes
-  pub wants : j.wants ≡ i.call.wants
-  pub typed : AreArgs i.call.classes i.call.args
-  pub given : ShowsGiven e p low high (given_by i) j.given
+pub record ShowsAsked (e : Entries) (p : Bases) (low high : ℕ) (i : Asked) (j : FlatAsked) : Type 0
+  where
+    pub at : e i.call.callee ≡ Some j.at
+    pub classes : j.classes ≡ i.call.classes
+    pub wants : j.wants ≡ i.call.wants
+    pub typed : AreArgs i.call.classes i.call.args
+    pub given : ShowsGiven e p low high (given_by i) j.given
 
--- a return: with the same spent, a result of the class that is wanted, no further address, and the blocks of before
-pub record ShowsReturn (e : Entries) (p : Bases) (wants : Option Class) (before : Spots) (made : Memory) (s : Spent) (v : Option Value) (m : Memory) (t : Spent) (x : Option ℕ) (f : Spots) : Type 0 where
+-- a return: with the same spent, a result of the class that is wanted, no further address, and the
+-- blocks of before
+pub record ShowsReturn (e : Entries) (p : Bases) (wants : Option Class) (before : Spots)
+    (made : Memory) (s : Spent) (v : Option Value) (m : Memory) (t : Spent) (x : Option ℕ)
+    (f : Spots) : Type 0 where
   pub spent : t ≡ s
   pub suits : Suits wants v
   pub result : ShowsResult e p v x
@@ -63,17 +71,20 @@ pub record ShowsReturn (e : Entries) (p : Bases) (wants : Option Class) (before 
   pub reach : SameReach before f
   pub blocks : SameBlocks made m
 
--- how the call goes on bytes shows how it goes on blocks; before are the bytes and made the blocks that it found
-abbrev pub ShowsOutcome : Entries → Bases → Option Class → Spots → Memory → Outcome → FlatOutcome → Type 0
-ShowsOutcome e p wants before made (Returned s v m) (FlatReturned t x f) = ShowsReturn e p wants before made s v m t x f
+-- how the call goes on bytes shows how it goes on blocks; before are the bytes and made the blocks
+-- that it found
+abbrev pub ShowsOutcome : Entries → Bases → Option Class → Spots → Memory → Outcome → FlatOutcome →
+    Type 0
+ShowsOutcome e p wants before made (Returned s v m) (FlatReturned t x f) =
+    ShowsReturn e p wants before made s v m t x f
 ShowsOutcome e p wants before made (Returned s v m) (FlatEnded t y) = ⊥
 ShowsOutcome e p wants before made (Ended s z) (FlatReturned t x f) = ⊥
 ShowsOutcome e p wants before made (Ended s z) (FlatEnded t y) = (t ≡ s) × (y ≡ z)
 
 -- ---- runs on bytes beside runs on blocks
 
--- what stays during the run of a body: functions' addresses, what its calls may use of the stack, and the room that they have; the result's
--- class, and the bytes and blocks that the body found
+-- what stays during the run of a body: functions' addresses, what its calls may use of the stack,
+-- and the room that they have; the result's class, and the bytes and blocks that the body found
 pub record Frame : Type 0 where
   pub entries : Entries
   pub low : ℕ
@@ -84,35 +95,46 @@ pub record Frame : Type 0 where
   pub made : Memory
 
 -- more blocks may have been made; it goes on, or it is over as shown
-abbrev pub PlaysNext : {S : Type 0} → Frame → (Bases → S → Log → Type 0) → Outcome → Bases → Next S FlatOutcome → Log → Type 0
+abbrev pub PlaysNext : {S : Type 0} → Frame → (Bases → S → Log → Type 0) → Outcome → Bases →
+    Next S FlatOutcome → Log → Type 0
 PlaysNext c go o p (On s) log = (q : Bases) × Grown p q × go q s log
-PlaysNext c go o p (Over r) log = (q : Bases) × Grown p q × ShowsOutcome c.entries q c.result c.before c.made o r × (log ≡ [])
+PlaysNext c go o p (Over r) log =
+    (q : Bases) × Grown p q × ShowsOutcome c.entries q c.result c.before c.made o r × (log ≡ [])
 
--- a call asks what shows the next call of the list, and whatever shows how that goes, the run goes on
-abbrev pub PlaysEvent : {S : Type 0} → Frame → (Bases → S → Log → Type 0) → Outcome → Bases → Event S FlatAsked FlatOutcome → Log → Type 0
+-- a call asks what shows the next call of the list, and whatever shows how that goes, the run goes
+-- on
+abbrev pub PlaysEvent : {S : Type 0} → Frame → (Bases → S → Log → Type 0) → Outcome → Bases →
+    Event S FlatAsked FlatOutcome → Log → Type 0
 PlaysEvent c go o p (Does n) log = PlaysNext c go o p n log
 PlaysEvent c go o p (Calls j k) [] = ⊥
 PlaysEvent c go o p (Calls j k) (l ∷ log) =
-    (q : Bases) × Grown p q × ShowsAsked c.entries q c.low c.high l.asked j × (l.asked.room ≡ c.room)
+    (q : Bases) × Grown p q × ShowsAsked c.entries q c.low c.high l.asked j
+    × (l.asked.room ≡ c.room)
     × ((u : Bases) (r : FlatOutcome)
     → Grown q u
     → ShowsOutcome c.entries u l.asked.call.wants j.given.memory l.asked.memory l.went r
     → PlaysNext c go o u (k r) log)
 
 -- within n steps the code on bytes goes as o does on blocks, with calls that show those of the list
-unfoldable pub Plays : {S : Type 0} → Frame → (S → Event S FlatAsked FlatOutcome) → Outcome → ℕ → Bases → S → Log → Type 0
+unfoldable pub Plays : {S : Type 0} → Frame → (S → Event S FlatAsked FlatOutcome) → Outcome → ℕ →
+    Bases → S → Log → Type 0
 Plays c step o zero p s log = ⊥
-Plays c step o (suc n) p s log = PlaysEvent c (λ q t rest. Plays c step o n q t rest) o p (step s) log
+Plays c step o (suc n) p s log =
+    PlaysEvent c (λ q t rest. Plays c step o n q t rest) o p (step s) log
 
--- what is known of the names that the code uses: the values of global names, and the numbers that stand for them
+-- what is known of the names that the code uses: the values of global names, and the numbers that
+-- stand for them
 pub record Names : Type 0 where
   pub entries : Entries
   pub globals : List Value
   pub addresses : List ℕ
 
--- The code on bytes keeps the code on blocks: with the blocks that it makes in `area` bytes from `base` upward, its calls below those, and from any
--- bytes that show what the code on blocks is given. `params` are the classes of its parameters, `result` that of its result.
-abbrev pub KeepsFlat : {S T : Type 0} → Names → List Class → Option Class → (area : ℕ) → (Given → S) → (Given → S → Event S Asked Outcome) → ((base : ℕ) → FlatGiven → T) → ((base : ℕ) → FlatGiven → T → Event T FlatAsked FlatOutcome) → Type 0
+-- The code on bytes keeps the code on blocks: with the blocks that it makes in `area` bytes from
+-- `base` upward, its calls below those, and from any bytes that show what the code on blocks is
+-- given. `params` are the classes of its parameters, `result` that of its result.
+abbrev pub KeepsFlat : {S T : Type 0} → Names → List Class → Option Class → (area : ℕ) →
+    (Given → S) → (Given → S → Event S Asked Outcome) → ((base : ℕ) → FlatGiven → T) →
+    ((base : ℕ) → FlatGiven → T → Event T FlatAsked FlatOutcome) → Type 0
 KeepsFlat c params result area start step flat_start flat_step =
     (low high base : ℕ)
     → high ≤ base
@@ -128,5 +150,13 @@ KeepsFlat c params result area start step flat_start flat_step =
     → AllShow c.entries p c.globals c.addresses
     → ShowsGiven c.entries p low (base + area) i j
     → (m : ℕ) × Plays
-    (record { entries = c.entries; low = low; high = high; room = i.room; result = result; before = j.memory; made = i.memory })
+    (record {
+      entries = c.entries;
+      low = low;
+      high = high;
+      room = i.room;
+      result = result;
+      before = j.memory;
+      made = i.memory;
+    })
     (flat_step base j) o m p (flat_start base j) log

@@ -12,7 +12,8 @@ use Rattle.flat_code.specs.Step.{flat_begin, flat_step}
 abbrev pub FlatKept : Code Location → Type 0
 FlatKept f =
     (names : Names)
-    → KeepsFlat names (map (λ d. d.class) f.params) f.result (area f) (begin located f) (step located names.globals f) (flat_begin f) (flat_step f names.addresses)
+    → KeepsFlat names (map (λ d. d.class) f.params) f.result (area f) (begin located f)
+    (step located names.globals f) (flat_begin f) (flat_step f names.addresses)
 
 -- every code that is regular is kept
 abbrev pub RegularIsKept : Type 0

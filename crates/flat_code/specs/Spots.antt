@@ -1,4 +1,5 @@
--- Bytes that stand for the blocks of the language's memory. This is the only place where a block gets an address.
+-- Bytes that stand for the blocks of the language's memory. This is the only place where a block
+-- gets an address.
 use Rattle.std.specs.Prelude.{◌≡◌, ◌≢◌, ◌⊎◌, ℕ, ◌+◌, ◌%◌, ◌^◌, ◌<◌, ◌≤◌, List, [], ◌∷◌, length, slice_get, Option, Some, None}
 use Rattle.std.specs.Int.{byte_at}
 use Rattle.il_ast.specs.declared.value.Callee.{Callee}
@@ -70,7 +71,8 @@ pub record IsPlaced (p : Bases) (b : ℕ) (cells : List Cell) : Type 0 where
   pub above_zero : 0 < base
   pub below_end : base + length cells < 2 ^ 64
 
--- each live block stands at its address, blocks not yet made have none, live blocks have no address in common, and known bytes are bytes
+-- each live block stands at its address, blocks not yet made have none, live blocks have no address
+-- in common, and known bytes are bytes
 pub record ShowsMemory (e : Entries) (p : Bases) (m : Memory) (f : Spots) : Type 0 where
   pub placed : (b : ℕ) (cells : List Cell) → block_at m b ≡ Some cells → IsPlaced p b cells
   pub unmade : (b : ℕ) → length m ≤ b → p b ≡ None

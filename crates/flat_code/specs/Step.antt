@@ -1,6 +1,8 @@
--- What a line or a jump of location code does on bytes: the same code as on blocks, with numbers for values and bytes by address for memory. An access to a byte that is
--- away is undefined, and so is a read of one that isn't known. The blocks that the code makes stand one after another from `base` upward, each at
--- a multiple of 16 bytes from there, and none may be accessed after the return.
+-- What a line or a jump of location code does on bytes: the same code as on blocks, with numbers
+-- for values and bytes by address for memory. An access to a byte that is away is undefined, and so
+-- is a read of one that isn't known. The blocks that the code makes stand one after another from
+-- `base` upward, each at a multiple of 16 bytes from there, and none may be accessed after the
+-- return.
 use Rattle.std.specs.Prelude.{ℕ, zero, suc, ◌+◌, ◌-◌, ◌*◌, ◌%◌, ◌^◌, Bool, true, false, ◌&&◌, ◌||◌, nat_eq, nat_lt, nat_le, if◌then◌else◌, List, [], ◌∷◌, map, slice_get, Option, Some, None}
 use Rattle.std.specs.Int.{byte_at}
 use Rattle.std.specs.Option.{option_map, option_and_then}
@@ -87,7 +89,8 @@ with_copy f n from to x = if is_in to n x then f (from + (x - to)) else f x
 unfoldable pub copied : Spots → (n from to : ℕ) → Option Spots
 copied f zero from to = Some f
 copied f (suc n) from to =
-    if apart_or_same (suc n) from to && (all_there f from (suc n) && all_there f to (suc n)) then Some (with_copy f (suc n) from to) else None
+    if apart_or_same (suc n) from to && (all_there f from (suc n) && all_there f to (suc n))
+    then Some (with_copy f (suc n) from to) else None
 
 -- n bytes that may be accessed and hold anything
 abbrev pub opened : Spots → (at n : ℕ) → Spots
@@ -132,7 +135,8 @@ computed (Compare on k) a b = truth (holds on k (taken k a) (taken k b))
 
 -- ---- states
 
--- the block and the line in it that are next, what places hold, the bytes, how much of the area for blocks is used, and what was spent
+-- the block and the line in it that are next, what places hold, the bytes, how much of the area for
+-- blocks is used, and what was spent
 pub record FlatState : Type 0 where
   pub block : ℕ
   pub next : ℕ
@@ -149,7 +153,14 @@ bound numbers (d ∷ ds) (x ∷ xs) = bound (put d.place (Some (held d.class x))
 
 abbrev pub flat_begin : Code Location → (base : ℕ) → FlatGiven → FlatState
 flat_begin f base j =
-    record { block = 0; next = 0; numbers = bound (λ p. None) f.params j.args; memory = j.memory; used = 0; spent = nothing }
+    record {
+      block = 0;
+      next = 0;
+      numbers = bound (λ p. None) f.params j.args;
+      memory = j.memory;
+      used = 0;
+      spent = nothing;
+    }
 
 -- ---- operands
 
@@ -163,16 +174,19 @@ abbrev pub read : List ℕ → Numbers → Class → Operand Location → Option
 read addresses numbers k a = option_map (taken k) (number_of addresses numbers a)
 
 abbrev pub read_argument : List ℕ → Numbers → Argument Location → Option ℕ
-read_argument addresses numbers a = option_and_then (passed a.extension a.class) (number_of addresses numbers a.value)
+read_argument addresses numbers a =
+    option_and_then (passed a.extension a.class) (number_of addresses numbers a.value)
 
 -- what is returned as a result of class k
 abbrev pub read_result : List ℕ → Numbers → Class → ReturnValue Location → Option ℕ
-read_result addresses numbers k a = option_and_then (passed a.extension k) (number_of addresses numbers a.value)
+read_result addresses numbers k a =
+    option_and_then (passed a.extension k) (number_of addresses numbers a.value)
 
 abbrev pub read_all : List ℕ → Numbers → List (Argument Location) → Option (List ℕ)
 read_all addresses numbers [] = Some []
 read_all addresses numbers (a ∷ args) =
-    option_and_then (λ x. option_map (λ xs. x ∷ xs) (read_all addresses numbers args)) (read_argument addresses numbers a)
+    option_and_then (λ x. option_map (λ xs. x ∷ xs) (read_all addresses numbers args))
+    (read_argument addresses numbers a)
 
 -- what an operation gives for what two operands give
 abbrev pub operated : Operation → (a b : Option ℕ) → Option ℕ
@@ -182,7 +196,8 @@ operated op a b = option_and_then (λ x. option_map (λ y. computed op x y) b) a
 abbrev pub address_of : List ℕ → Numbers → Address Location → Option ℕ
 address_of addresses numbers at =
     if nat_eq (distance at) 0 then number_of addresses numbers at.base
-    else operated (Reg Add) (number_of addresses numbers at.base) (number_of addresses numbers (Number (distance at)))
+    else operated (Reg Add) (number_of addresses numbers at.base)
+    (number_of addresses numbers (Number (distance at)))
 
 -- ---- lines
 
@@ -207,28 +222,39 @@ changes s (Some f) = goes_on (record s { memory = f })
 abbrev pub ticks : FlatGiven → FlatState → Bool → ℕ → FlatEvent
 ticks j s false w = goes_on (record s { spent = both s.spent (weighs w) })
 ticks j s true w =
-    if nat_lt s.spent.turns j.turns then goes_on (record s { spent = both s.spent (one_turn w) }) else Does (Over (FlatEnded s.spent Turns))
+    if nat_lt s.spent.turns j.turns then goes_on (record s { spent = both s.spent (one_turn w) })
+    else Does (Over (FlatEnded s.spent Turns))
 
 -- ---- calls
 
 -- a result that is wanted is written, and one that is missing is undefined
-abbrev pub receives : FlatState → Option (Destination Location) → Option ℕ → Next FlatState FlatOutcome
+abbrev pub receives : FlatState → Option (Destination Location) → Option ℕ →
+    Next FlatState FlatOutcome
 receives s None x = On (record s { next = s.next + 1 })
 receives s (Some d) None = Over (FlatEnded s.spent Undefined)
-receives s (Some d) (Some x) = On (record s { next = s.next + 1; numbers = put d.place (Some (held d.class x)) s.numbers })
+receives s (Some d) (Some x) =
+    On (record s { next = s.next + 1; numbers = put d.place (Some (held d.class x)) s.numbers })
 
-abbrev pub resumes : FlatState → Option (Destination Location) → FlatOutcome → Next FlatState FlatOutcome
-resumes s to (FlatReturned t x f) = receives (record s { numbers = kept s.numbers; memory = f; spent = both s.spent t }) to x
+abbrev pub resumes : FlatState → Option (Destination Location) → FlatOutcome →
+    Next FlatState FlatOutcome
+resumes s to (FlatReturned t x f) =
+    receives (record s { numbers = kept s.numbers; memory = f; spent = both s.spent t }) to x
 resumes s to (FlatEnded t e) = Over (FlatEnded (both s.spent t) e)
 
-abbrev pub calls : FlatGiven → FlatState → Option (Destination Location) → List (Argument Location) → Option ℕ → Option (List ℕ) → FlatEvent
+abbrev pub calls : FlatGiven → FlatState → Option (Destination Location) →
+    List (Argument Location) → Option ℕ → Option (List ℕ) → FlatEvent
 calls j s to args (Some at) (Some xs) =
     Calls
     (record {
       at = at;
       classes = map (λ a. a.class) args;
       wants = option_map (λ d. d.class) to;
-      given = record { turns = j.turns - s.spent.turns; room = j.room; args = xs; memory = s.memory };
+      given = record {
+        turns = j.turns - s.spent.turns;
+        room = j.room;
+        args = xs;
+        memory = s.memory;
+      };
     })
     (resumes s to)
 calls j s to args at xs = fails s
@@ -242,16 +268,19 @@ made_in (Some p) x numbers = put p (Some x) numbers
 
 unfoldable pub flat_line : List ℕ → (base : ℕ) → FlatGiven → FlatState → Line Location → FlatEvent
 flat_line addresses base j s (Tick turn w) = ticks j s turn w
-flat_line addresses base j s (Set to a) = goes_on (record s { numbers = put to (number_of addresses s.numbers a) s.numbers })
+flat_line addresses base j s (Set to a) =
+    goes_on (record s { numbers = put to (number_of addresses s.numbers a) s.numbers })
 flat_line addresses base j s (Operate to op a b) =
     sets s to (operated op (number_of addresses s.numbers a) (number_of addresses s.numbers b))
 flat_line addresses base j s (Load to op at) =
     sets s to
-    (option_and_then (λ x. option_map (load_value op) (known_number s.memory x (load_size op))) (address_of addresses s.numbers at))
+    (option_and_then (λ x. option_map (load_value op) (known_number s.memory x (load_size op)))
+    (address_of addresses s.numbers at))
 flat_line addresses base j s (Store size a at) =
     changes s
     (option_and_then
-    (λ v. option_and_then (λ x. stored s.memory x (byte_count size) v) (address_of addresses s.numbers at))
+    (λ v. option_and_then (λ x. stored s.memory x (byte_count size) v)
+    (address_of addresses s.numbers at))
     (read addresses s.numbers (stored_class size) a))
 flat_line addresses base j s (Alloc to size) =
     goes_on
@@ -262,7 +291,8 @@ flat_line addresses base j s (Alloc to size) =
     })
 flat_line addresses base j s (Blit from to count) =
     changes s
-    (option_and_then (λ x. option_and_then (λ y. copied s.memory count x y) (number_of addresses s.numbers to)) (number_of addresses s.numbers from))
+    (option_and_then (λ x. option_and_then (λ y. copied s.memory count x y)
+    (number_of addresses s.numbers to)) (number_of addresses s.numbers from))
 flat_line addresses base j s (Call to callee args) =
     calls j s to args (number_of addresses s.numbers callee) (read_all addresses s.numbers args)
 
@@ -274,7 +304,8 @@ enters s k = Does (On (record s { block = k; next = 0 }))
 -- what a comparison gives, 1 where it holds
 abbrev pub compared : List ℕ → FlatState → Comparison Location → Option ℕ
 compared addresses s c =
-    option_and_then (λ x. option_map (λ y. computed (Compare c.condition c.class) x y) (number_of addresses s.numbers c.right))
+    option_and_then (λ x. option_map (λ y. computed (Compare c.condition c.class) x y)
+    (number_of addresses s.numbers c.right))
     (number_of addresses s.numbers c.left)
 
 abbrev pub branches : FlatState → (met otherwise : ℕ) → Option ℕ → FlatEvent
@@ -289,24 +320,29 @@ abbrev pub returns : Code Location → (base : ℕ) → FlatState → Option ℕ
 returns f base s None = fails s
 returns f base s (Some x) = leaves f base s (Some x)
 
-abbrev pub returns_as : Code Location → List ℕ → (base : ℕ) → FlatState → Option Class → ReturnValue Location → FlatEvent
+abbrev pub returns_as : Code Location → List ℕ → (base : ℕ) → FlatState → Option Class →
+    ReturnValue Location → FlatEvent
 returns_as f addresses base s None a = fails s
 returns_as f addresses base s (Some k) a = returns f base s (read_result addresses s.numbers k a)
 
-unfoldable pub flat_jump : Code Location → List ℕ → (base : ℕ) → FlatState → Jump Location → FlatEvent
+unfoldable pub flat_jump : Code Location → List ℕ → (base : ℕ) → FlatState → Jump Location →
+    FlatEvent
 flat_jump f addresses base s (Goto k) = enters s k
-flat_jump f addresses base s (Branch on met otherwise) = branches s met otherwise (compared addresses s on)
+flat_jump f addresses base s (Branch on met otherwise) =
+    branches s met otherwise (compared addresses s on)
 flat_jump f addresses base s (Return None) = leaves f base s None
 flat_jump f addresses base s (Return (Some a)) = returns_as f addresses base s f.result a
 flat_jump f addresses base s Halt = Does (Over (FlatEnded s.spent Halted))
 
 -- ---- a step
 
-abbrev pub block_step : Code Location → List ℕ → (base : ℕ) → FlatGiven → FlatState → Block Location → Option (Line Location) → FlatEvent
+abbrev pub block_step : Code Location → List ℕ → (base : ℕ) → FlatGiven → FlatState →
+    Block Location → Option (Line Location) → FlatEvent
 block_step f addresses base j s b (Some l) = flat_line addresses base j s l
 block_step f addresses base j s b None = flat_jump f addresses base s b.jump
 
-abbrev pub step_in : Code Location → List ℕ → (base : ℕ) → FlatGiven → FlatState → Option (Block Location) → FlatEvent
+abbrev pub step_in : Code Location → List ℕ → (base : ℕ) → FlatGiven → FlatState →
+    Option (Block Location) → FlatEvent
 step_in f addresses base j s None = fails s
 step_in f addresses base j s (Some b) = block_step f addresses base j s b (slice_get b.lines s.next)
 

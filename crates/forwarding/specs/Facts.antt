@@ -33,7 +33,8 @@ asks_memory (Test c) = true
 abbrev pub summed : Option Value → ℕ → Option Value
 summed o n = operated [] (Reg Add) o (Some (Integer (n % 2 ^ 64)))
 
--- the register holds what the operand does, the sum of that and the number, or what the comparison gives
+-- the register holds what the operand does, the sum of that and the number, or what the comparison
+-- gives
 abbrev pub Truth : List Value → State ℕ → ℕ → Fact → Type 0
 Truth globals s r (Same a) = s.values r ≡ value_of globals s.values a
 Truth globals s r (Sum a n) = s.values r ≡ summed (value_of globals s.values a) n

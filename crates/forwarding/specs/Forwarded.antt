@@ -71,7 +71,8 @@ operands_of fs op a b = folded fs op (forward fs a) (forward fs b)
 -- an address from what its base is known to be a sum of, where the offset still fits and is not 0
 abbrev pub further : Address ℕ → Option Fact → Address ℕ
 further at (Some (Sum (At b) n)) =
-    let d = (n + distance at) % 2 ^ 64 in if not (nat_eq d 0) && is_immediate d then beyond (At b) d else at
+    let d = (n + distance at) % 2 ^ 64 in if not (nat_eq d 0) && is_immediate d then beyond (At b) d
+    else at
 further at o = at
 
 abbrev pub from_base : Facts → Address ℕ → Operand ℕ → Address ℕ
@@ -89,7 +90,8 @@ with_line fs (Load to op at) = Load to op (with_address fs at)
 with_line fs (Store size a at) = Store size (forward fs a) (with_address fs at)
 with_line fs (Alloc to size) = Alloc to size
 with_line fs (Blit from to count) = Blit (forward fs from) (forward fs to) count
-with_line fs (Call to callee args) = Call to (forward fs callee) (map (with_argument (forward fs)) args)
+with_line fs (Call to callee args) =
+    Call to (forward fs callee) (map (with_argument (forward fs)) args)
 
 -- ---- jumps
 
@@ -106,13 +108,18 @@ tested_by fs a b = None
 abbrev pub afforded : (lines : List (Line ℕ)) → (old new : Jump ℕ) → Jump ℕ
 afforded lines old new = if affords 0 new lines then new else old
 
-abbrev pub with_test : (lines : List (Line ℕ)) → Condition → Comparison ℕ → (met otherwise : ℕ) → Option (Comparison ℕ) → Jump ℕ
-with_test lines NotEqual on met otherwise (Some c) = afforded lines (Branch on met otherwise) (Branch c met otherwise)
-with_test lines Equal on met otherwise (Some c) = afforded lines (Branch on met otherwise) (Branch c otherwise met)
+abbrev pub with_test : (lines : List (Line ℕ)) → Condition → Comparison ℕ → (met otherwise : ℕ) →
+    Option (Comparison ℕ) → Jump ℕ
+with_test lines NotEqual on met otherwise (Some c) =
+    afforded lines (Branch on met otherwise) (Branch c met otherwise)
+with_test lines Equal on met otherwise (Some c) =
+    afforded lines (Branch on met otherwise) (Branch c otherwise met)
 with_test lines k on met otherwise o = Branch on met otherwise
 
-abbrev pub with_branch : (lines : List (Line ℕ)) → Facts → Comparison ℕ → (met otherwise : ℕ) → Jump ℕ
-with_branch lines fs on met otherwise = with_test lines on.condition on met otherwise (tested_by fs on.left on.right)
+abbrev pub with_branch : (lines : List (Line ℕ)) → Facts → Comparison ℕ → (met otherwise : ℕ) →
+    Jump ℕ
+with_branch lines fs on met otherwise =
+    with_test lines on.condition on met otherwise (tested_by fs on.left on.right)
 
 -- whether a comparison of two numbers, each read in a place of class k, holds
 abbrev pub numbers_hold : Condition → Class → (left right : Operand ℕ) → Option Bool
@@ -124,13 +131,17 @@ abbrev pub decided : Option Bool → (met otherwise : ℕ) → Jump ℕ → Jump
 decided (Some t) met otherwise j = Goto (if t then met else otherwise)
 decided None met otherwise j = j
 
-abbrev pub with_outcome : (lines : List (Line ℕ)) → Facts → Comparison ℕ → (met otherwise : ℕ) → Jump ℕ
-with_outcome lines fs on met otherwise = decided (numbers_hold on.condition on.class on.left on.right) met otherwise (with_branch lines fs on met otherwise)
+abbrev pub with_outcome : (lines : List (Line ℕ)) → Facts → Comparison ℕ → (met otherwise : ℕ) →
+    Jump ℕ
+with_outcome lines fs on met otherwise =
+    decided (numbers_hold on.condition on.class on.left on.right) met otherwise
+    (with_branch lines fs on met otherwise)
 
 -- the jump after all these lines
 abbrev pub with_jump : (lines : List (Line ℕ)) → Facts → Jump ℕ → Jump ℕ
 with_jump lines fs (Goto k) = Goto k
-with_jump lines fs (Branch on met otherwise) = with_outcome lines fs (with_comparison (forward fs) on) met otherwise
+with_jump lines fs (Branch on met otherwise) =
+    with_outcome lines fs (with_comparison (forward fs) on) met otherwise
 with_jump lines fs (Return a) = Return (option_map (with_returned (forward fs)) a)
 with_jump lines fs Halt = Halt
 
@@ -155,25 +166,35 @@ sum_of a b = None
 abbrev pub fact_of : Line ℕ → Option Fact
 fact_of (Set to a) = Some (Same a)
 fact_of (Operate to (Reg op) a b) = if is_add (Reg op) then sum_of a b else None
-fact_of (Operate to (Compare on k) a b) = Some (Test (record { condition = on; class = k; left = a; right = b }))
+fact_of (Operate to (Compare on k) a b) =
+    Some (Test (record { condition = on; class = k; left = a; right = b }))
 fact_of l = None
 
--- a line leaves a fact true that names no register that it writes, and asks no memory that it changes
+-- a line leaves a fact true that names no register that it writes, and asks no memory that it
+-- changes
 abbrev pub leaves : Line ℕ → Fact → Bool
-leaves l f = not (option_map_or (fact_names f) (line_writes l) false) && not (changes_memory l && asks_memory f)
+leaves l f =
+    not (option_map_or (fact_names f) (line_writes l) false)
+    && not (changes_memory l && asks_memory f)
 
--- what is known after a line, of n registers: what it makes known, and what was known, each if the line leaves it true
+-- what is known after a line, of n registers: what it makes known, and what was known, each if the
+-- line leaves it true
 abbrev pub after : (n : ℕ) → Line ℕ → Facts → Facts
-after n l fs r = kept_if (λ f. nat_lt r n && (fact_below n f && leaves l f)) (if writes_it l r then fact_of l else fs r)
+after n l fs r =
+    kept_if (λ f. nat_lt r n && (fact_below n f && leaves l f))
+    (if writes_it l r then fact_of l else fs r)
 
 -- ---- blocks
 
--- the lines and the jump, put by what is known, which is `fs` before them, and the lines then in their short form; `whole` is all lines of the new block
-abbrev pub AreForwarded : (n : ℕ) → (whole : List (Line ℕ)) → Facts → (lines new : List (Line ℕ)) → (jump next : Jump ℕ) → Type 0
+-- the lines and the jump, put by what is known, which is `fs` before them, and the lines then in
+-- their short form; `whole` is all lines of the new block
+abbrev pub AreForwarded : (n : ℕ) → (whole : List (Line ℕ)) → Facts → (lines new : List (Line ℕ)) →
+    (jump next : Jump ℕ) → Type 0
 AreForwarded n whole fs [] [] j k = k ≡ with_jump whole fs j
 AreForwarded n whole fs [] (m ∷ new) j k = ⊥
 AreForwarded n whole fs (l ∷ lines) [] j k = ⊥
-AreForwarded n whole fs (l ∷ lines) (m ∷ new) j k = (m ≡ shortened (with_line fs l)) × AreForwarded n whole (after n m fs) lines new j k
+AreForwarded n whole fs (l ∷ lines) (m ∷ new) j k =
+    (m ≡ shortened (with_line fs l)) × AreForwarded n whole (after n m fs) lines new j k
 
 -- nothing is known where a block begins
 abbrev pub IsForwarded : (n : ℕ) → (b c : Block ℕ) → Type 0

@@ -25,10 +25,12 @@ result_of (Compare on k) a b = truth (holds on k (a % modulus k) (b % modulus k)
 
 -- whether to have the number costs no more than the operation
 abbrev pub is_cheaper : (to : ℕ) → Operation → (a b n : ℕ) → Bool
-is_cheaper to op a b n = nat_le (line_cost (Set to (Number n))) (line_cost (Operate to op (Number a) (Number b)))
+is_cheaper to op a b n =
+    nat_le (line_cost (Set to (Number n))) (line_cost (Operate to op (Number a) (Number b)))
 
 abbrev pub with_result : (to : ℕ) → Operation → (a b n : ℕ) → Line ℕ
-with_result to op a b n = if is_cheaper to op a b n then Set to (Number n) else Operate to op (Number a) (Number b)
+with_result to op a b n =
+    if is_cheaper to op a b n then Set to (Number n) else Operate to op (Number a) (Number b)
 
 abbrev pub computed : Line ℕ → Line ℕ
 computed (Operate to op (Number a) (Number b)) = with_result to op a b (result_of op a b)
@@ -38,7 +40,9 @@ computed l = l
 
 -- the k of which a number below 2^64 is the power 2^k
 abbrev pub exponent : ℕ → Option ℕ
-exponent n = if nat_lt (trailing_zeros w64 n) 64 && nat_eq (2 ^ trailing_zeros w64 n) n then Some (trailing_zeros w64 n) else None
+exponent n =
+    if nat_lt (trailing_zeros w64 n) 64 && nat_eq (2 ^ trailing_zeros w64 n) n
+    then Some (trailing_zeros w64 n) else None
 
 abbrev pub if_below : (k m : ℕ) → Operation → ℕ → Option (Operation × ℕ)
 if_below k m op n = if nat_lt k m then Some (op, n) else None
@@ -58,7 +62,8 @@ with_operation to op a n (Some p) = Operate to p.0 a (Number p.1)
 with_operation to op a n None = Operate to op a (Number n)
 
 abbrev pub by_shift : Line ℕ → Line ℕ
-by_shift (Operate to op a (Number n)) = with_operation to op a n (option_and_then (by_power op) (exponent n))
+by_shift (Operate to op a (Number n)) =
+    with_operation to op a n (option_and_then (by_power op) (exponent n))
 by_shift l = l
 
 -- ---- lines

@@ -1,4 +1,5 @@
--- What registers are known to hold, as a table has it: facts with the times since when they are known, and when registers and memory were last written.
+-- What registers are known to hold, as a table has it: facts with the times since when they are
+-- known, and when registers and memory were last written.
 use Rattle.std.specs.Prelude.{◌≡◌, ℕ, ◌<◌, ◌≤◌, Bool, true, false, not, ◌&&◌, nat_eq, nat_lt, nat_le, if◌then◌else◌, List, length, slice_get, Option, Some, None}
 use Rattle.std.specs.Option.{option_map_or}
 use Rattle.vcode.specs.declared.place.Operand.{Operand}
@@ -20,11 +21,13 @@ is_fresh written since a = true
 abbrev pub stands : (written : List ℕ) → (memory since : ℕ) → Fact → Bool
 stands written memory since (Same a) = is_fresh written since a
 stands written memory since (Sum a n) = is_fresh written since a
-stands written memory since (Test c) = is_fresh written since c.left && (is_fresh written since c.right && nat_le memory since)
+stands written memory since (Test c) =
+    is_fresh written since c.left && (is_fresh written since c.right && nat_le memory since)
 
 abbrev pub counted : (written : List ℕ) → (memory begun : ℕ) → Option Known → Option Fact
 counted written memory begun None = None
-counted written memory begun (Some k) = if nat_lt begun k.since && stands written memory k.since k.fact then Some k.fact else None
+counted written memory begun (Some k) =
+    if nat_lt begun k.since && stands written memory k.since k.fact then Some k.fact else None
 
 -- what the table knows
 abbrev pub facts_of : Table → Facts
@@ -50,4 +53,6 @@ changed memory fs q = kept_if (λ f. not (memory && asks_memory f)) (fs q)
 
 -- after register r was written, of which `known` is known then, of n registers
 abbrev pub over : (n r : ℕ) → Option Fact → Facts → Facts
-over n r known fs q = kept_if (λ f. nat_lt q n && (fact_below n f && not (fact_names f r))) (if nat_eq q r then known else fs q)
+over n r known fs q =
+    kept_if (λ f. nat_lt q n && (fact_below n f && not (fact_names f r)))
+    (if nat_eq q r then known else fs q)

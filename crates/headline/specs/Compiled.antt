@@ -1,4 +1,5 @@
--- What the words that are made for a function owe, and what the executable of a program whose functions have such words does.
+-- What the words that are made for a function owe, and what the executable of a program whose
+-- functions have such words does.
 use Rattle.std.specs.Prelude.{ℕ, ◌≤◌, List, [], ◌∷◌, length}
 use Rattle.il_ast.specs.declared.limits.TheConstants.{WORDS, WORD_BYTES}
 use Rattle.il_ast.specs.declared.function.Func.{Func}
@@ -24,7 +25,8 @@ use Rattle.rv_machine.specs.Start.{Starts}
 use Rattle.headline.specs.Headline.{Executes}
 use Rattle.headline.specs.Executables.{NamesAreThere}
 
--- Words that stand for a function: they are the layout of labelled code that performs what location code, which is the function's, runs on bytes.
+-- Words that stand for a function: they are the layout of labelled code that performs what location
+-- code, which is the function's, runs on bytes.
 pub record StandFor (f : Func) (c : Words) : Type 0 where
   pub code : Code Location
   pub slots : ℕ
@@ -41,8 +43,9 @@ EachStands [] (f ∷ fs) = ⊥
 EachStands (c ∷ codes) [] = ⊥
 EachStands (c ∷ codes) (f ∷ fs) = StandFor f.item c × EachStands codes fs
 
--- From every start of the program's executable, with words within their limits, the machine executes the program. It needn't be a program of texts: its
--- functions may be any that the words stand for.
+-- From every start of the program's executable, with words within their limits, the machine
+-- executes the program. It needn't be a program of texts: its functions may be any that the words
+-- stand for.
 abbrev pub CompiledRuns : Type 0
 CompiledRuns =
     (p : Program) (codes : List Words) (x : Executable) (words : List (List ℕ)) (s : State)

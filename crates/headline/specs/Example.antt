@@ -53,7 +53,11 @@ spot a = if nat_le (stack_top + 8) a && nat_lt a (stack_top + 16) then Known 0 e
 abbrev pub setting : Setting
 setting =
     record {
-      world = record { memory_map = record { allows = is_code; code = byte }; bottom = stack_bottom; top = stack_top };
+      world = record {
+        memory_map = record { allows = is_code; code = byte };
+        bottom = stack_bottom;
+        top = stack_top;
+      };
       entries = entry;
       start = base;
     }

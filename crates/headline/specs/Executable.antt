@@ -1,4 +1,5 @@
--- The theorem of the whole, from every start of an executable: what its file, its functions, `write` and `exit`, and its start code owe.
+-- The theorem of the whole, from every start of an executable: what its file, its functions,
+-- `write` and `exit`, and its start code owe.
 use Rattle.std.specs.Prelude.{◌≡◌, ℕ, ◌+◌, ◌%◌, ◌≤◌, List, [], ◌∷◌, length, slice_get, Some}
 use Rattle.il_ast.specs.declared.limits.TheConstants.{WORDS, WORD_BYTES}
 use Rattle.rv_isa.specs.declared.abi.TheConstants.{RETURN_ADDRESS, RESULT}
@@ -22,13 +23,15 @@ use Rattle.headline.specs.Start.{ExitsWith}
 use Rattle.headline.specs.Places.{Places, DataStands, setting_of, start_spots}
 use Rattle.headline.specs.Headline.{Executes}
 
--- the numbers that `main` is called with: none, or how many words there are and where their list stands
+-- the numbers that `main` is called with: none, or how many words there are and where their list
+-- stands
 abbrev pub main_numbers : List (List ℕ) → List Param → List ℕ
 main_numbers words [] = []
 main_numbers words (x ∷ xs) = length words ∷ (stack_top + 8) ∷ []
 
--- The start code comes from s to a call of `main`, having changed no byte of the data and of the arguments, and from the return of that it exits with the
--- result, both in at most 256 instructions.
+-- The start code comes from s to a call of `main`, having changed no byte of the data and of the
+-- arguments, and from the return of that it exits with the result, both in at most 256
+-- instructions.
 pub record StartRuns (at : Places) (p : Program) (words : List (List ℕ)) (s : State) : Type 0 where
   pub main : ℕ
   pub is_main : at.entries (Defined p.main) ≡ Some main
@@ -39,9 +42,17 @@ pub record StartRuns (at : Places) (p : Program) (words : List (List ℕ)) (s : 
   pub comes : Comes s steps called
   pub output : called.output ≡ s.output
   pub ready : (turns : ℕ) → Ready (setting_of at words s).world main sp (main_call p words).classes
-      (record { turns = turns; room = stack_room; args = main_numbers words (params_of (slice_get p.functions p.main)); memory = start_spots at words s }) called
+      (record {
+        turns = turns;
+        room = stack_room;
+        args = main_numbers words (params_of (slice_get p.functions p.main));
+        memory =
+            start_spots at words s;
+      }) called
   pub leaving : ℕ
-  pub leaves : (u : State) (n : ℕ) → Fixed (setting_of at words s).world.memory_map u → u.pc ≡ called.registers RETURN_ADDRESS → u.registers RESULT ≡ passed W n → ExitsWith leaving n u
+  pub leaves : (u : State) (n : ℕ) → Fixed (setting_of at words s).world.memory_map u →
+      u.pc ≡ called.registers RETURN_ADDRESS → u.registers RESULT ≡ passed W n →
+      ExitsWith leaving n u
   pub price : steps + leaving ≤ 256
 
 abbrev pub ExecutableRuns : Type 0

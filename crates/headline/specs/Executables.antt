@@ -1,4 +1,5 @@
--- Where the functions and data of a placed program stand, and what its executable does of itself: its data, `write`, `exit` and the start code.
+-- Where the functions and data of a placed program stand, and what its executable does of itself:
+-- its data, `write`, `exit` and the start code.
 use Rattle.std.specs.Prelude.{◌≡◌, ℕ, ◌+◌, ◌%◌, ◌^◌, ◌<◌, ◌≤◌, List, length, slice_get, Some}
 use Rattle.il_ast.specs.declared.limits.TheConstants.{WORDS, WORD_BYTES}
 use Rattle.il_ast.specs.declared.program.Program.{Program}
@@ -54,14 +55,17 @@ PlacedStart =
     → DataStands p (places_of p codes) x
     → length words ≤ WORDS
     → length (word_bytes words) ≤ WORD_BYTES
-    → slice_get (addresses_of p codes).functions p.main ≡ Some (callee_address (addresses_of p codes) (Defined p.main))
+    → slice_get (addresses_of p codes).functions p.main ≡ Some
+    (callee_address (addresses_of p codes) (Defined p.main))
     → callee_address (addresses_of p codes) (Defined p.main) < 2 ^ 31
     → callee_address (addresses_of p codes) (Defined p.main) % 4 ≡ 0
     → StartRuns (places_of p codes) p words s
 
 -- all that names of a program mean is there, and so is its `main`
 pub record NamesAreThere (p : Program) : Type 0 where
-  pub targets : (t n : ℕ) (targets : List Target) (target : Target) → slice_get p.targets t ≡ Some targets → slice_get targets n ≡ Some target → IsThere (length p.functions) (length p.objects) target
+  pub targets : (t n : ℕ) (targets : List Target) (target : Target) →
+      slice_get p.targets t ≡ Some targets → slice_get targets n ≡ Some target →
+      IsThere (length p.functions) (length p.objects) target
   pub main : p.main < length p.functions
 
 -- programs of texts are so

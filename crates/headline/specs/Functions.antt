@@ -15,7 +15,9 @@ use Rattle.headline.specs.Natives.{NativesPerform}
 
 -- the body of a function of the program
 abbrev pub body_of : Program → Placed Func → Body
-body_of p f callees i = body (record { func = f.item; globals = globals_of p f.text }) callees i.turns i.room i.args i.memory
+body_of p f callees i =
+    body (record { func = f.item; globals = globals_of p f.text }) callees i.turns i.room i.args
+    i.memory
 
 -- each function is kept at its address
 abbrev pub FunctionsKept : Setting → Program → Type 0
@@ -23,9 +25,12 @@ FunctionsKept c p =
     (k at : ℕ) (f : Placed Func)
     → slice_get p.functions k ≡ Some f
     → c.entries (Defined k) ≡ Some at
-    → KeepsBody c at (need f.item) (map (λ (x : Param). x.class) f.item.params) f.item.result (body_of p f)
+    → KeepsBody c at (need f.item) (map (λ (x : Param). x.class) f.item.params) f.item.result
+    (body_of p f)
 
--- Where each function is kept if the calls that it makes are, all calls are kept, however deep they nest.
+-- Where each function is kept if the calls that it makes are, all calls are kept, however deep they
+-- nest.
 abbrev pub CallsAreKept : Type 0
 CallsAreKept =
-    (c : Setting) (p : Program) → IsSetting c → FunctionsKept c p → NativesPerform c → (depth : ℕ) → AllKept c (callees p depth)
+    (c : Setting) (p : Program) → IsSetting c → FunctionsKept c p → NativesPerform c → (depth : ℕ) →
+    AllKept c (callees p depth)

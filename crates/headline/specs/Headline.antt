@@ -14,14 +14,16 @@ abbrev pub price_at : Program → List (List ℕ) → ℕ → ℕ
 price_at p words n = price (spent_of (outcome p words n))
 
 -- the machine stops so, with the program's output, within its price
-pub record StopsSo (p : Program) (words : List (List ℕ)) (n : ℕ) (s : State) (stop : Stop) : Type 0 where
-  pub steps : ℕ
-  pub last : State
-  pub stopped : runs steps s ≡ Stopped stop last
-  pub output : last.output ≡ (meaning p words n).output
-  pub price : steps ≤ price_at p words n
+pub record StopsSo (p : Program) (words : List (List ℕ)) (n : ℕ) (s : State) (stop : Stop) : Type 0
+  where
+    pub steps : ℕ
+    pub last : State
+    pub stopped : runs steps s ≡ Stopped stop last
+    pub output : last.output ≡ (meaning p words n).output
+    pub price : steps ≤ price_at p words n
 
--- the machine hasn't stopped, has the program's output, and has done at most the price; for each instruction, and before the first, at most 40,000 turns begin
+-- the machine hasn't stopped, has the program's output, and has done at most the price; for each
+-- instruction, and before the first, at most 40,000 turns begin
 pub record GoesOnSo (p : Program) (words : List (List ℕ)) (n : ℕ) (s : State) : Type 0 where
   pub steps : ℕ
   pub now : State
@@ -37,12 +39,15 @@ pub record PutsOut (s : State) (output : List ℕ) : Type 0 where
   pub going : runs steps s ≡ Going now
   pub output_is : now.output ≡ output
 
--- From s the machine executes the program with these words, at every number of turns: where the program exits or halts, the machine does, with the same
--- output; while the program goes on, so does the machine, with the same output; and what the program puts out before it becomes undefined or runs out of
--- stack, the machine puts out too.
+-- From s the machine executes the program with these words, at every number of turns: where the
+-- program exits or halts, the machine does, with the same output; while the program goes on, so
+-- does the machine, with the same output; and what the program puts out before it becomes undefined
+-- or runs out of stack, the machine puts out too.
 pub record Executes (p : Program) (words : List (List ℕ)) (s : State) : Type 0 where
-  pub exits : (n status : ℕ) → (meaning p words n).ending ≡ Exit status → StopsSo p words n s (Exited status)
+  pub exits : (n status : ℕ) → (meaning p words n).ending ≡ Exit status →
+      StopsSo p words n s (Exited status)
   pub halts : (n : ℕ) → (meaning p words n).ending ≡ Halt → StopsSo p words n s Broken
   pub goes_on : (n : ℕ) → (meaning p words n).ending ≡ Turns → GoesOnSo p words n s
-  pub undefined : (n : ℕ) → (meaning p words n).ending ≡ Undefined → PutsOut s (meaning p words n).output
+  pub undefined : (n : ℕ) → (meaning p words n).ending ≡ Undefined →
+      PutsOut s (meaning p words n).output
   pub stack : (n : ℕ) → (meaning p words n).ending ≡ Stack → PutsOut s (meaning p words n).output

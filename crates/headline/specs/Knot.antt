@@ -1,4 +1,5 @@
--- What it means that the machine keeps a program's calls: for each function from what its layers promise, and for all together where each is kept.
+-- What it means that the machine keeps a program's calls: for each function from what its layers
+-- promise, and for all together where each is kept.
 use Rattle.std.specs.Prelude.{◌≡◌, ℕ, ◌+◌, ◌%◌, ◌<◌, ◌≤◌, List, Option, Some}
 use Rattle.il_ast.specs.declared.operation.Class.{Class}
 use Rattle.il_ast.specs.declared.value.Callee.{Callee}
@@ -11,7 +12,8 @@ use Rattle.flat_code.specs.Flat.{FlatGiven, FlatAsked, FlatOutcome, flat_after, 
 use Rattle.abi_frames.specs.Calls.{World, IsWorld, GoodStack}
 use Rattle.abi_frames.specs.Performs.{PerformsAt, KeepsFrame}
 
--- what stays while a program runs: the machine's memory, the functions' addresses, and where the blocks of the start stand
+-- what stays while a program runs: the machine's memory, the functions' addresses, and where the
+-- blocks of the start stand
 pub record Setting : Type 0 where
   pub world : World
   pub entries : Entries
@@ -25,7 +27,8 @@ pub record IsSetting (c : Setting) : Type 0 where
 -- ---- calls
 
 -- the call goes on bytes in a way that shows how it goes on blocks, and the machine performs that
-pub record KeptCall (c : Setting) (sp : ℕ) (p : Bases) (i : Asked) (j : FlatAsked) (o : Outcome) : Type 0 where
+pub record KeptCall (c : Setting) (sp : ℕ) (p : Bases) (i : Asked) (j : FlatAsked)
+    (o : Outcome) : Type 0 where
   pub placed : Bases
   pub went : FlatOutcome
   pub grown : Grown p placed
@@ -47,7 +50,8 @@ AllKept c callees = (sp : ℕ) (i : Asked) → KeepsCall c sp i (callees i.call 
 
 -- ---- bodies
 
-pub record KeptBody (c : Setting) (at sp : ℕ) (params : List Class) (result : Option Class) (p : Bases) (i : Given) (j : FlatGiven) (o : Outcome) : Type 0 where
+pub record KeptBody (c : Setting) (at sp : ℕ) (params : List Class) (result : Option Class)
+    (p : Bases) (i : Given) (j : FlatGiven) (o : Outcome) : Type 0 where
   pub placed : Bases
   pub went : FlatOutcome
   pub grown : Grown p placed
@@ -66,11 +70,16 @@ KeepsBody c at need params result body =
     → GoodStack c.world sp (need + i.room)
     → KeptBody c at sp params result p i j (body callees i)
 
--- What the layers of one function promise together: its code on blocks keeps its meaning, its code on bytes keeps that, and its machine code at `at` keeps
--- that in a frame of at most `need` bytes.
-pub record Layers {S T : Type 0} (c : Setting) (at need frame area : ℕ) (params : List Class) (result : Option Class) (globals : List Value) (addresses : List ℕ) (body : Body) (start : Given → S) (step : Given → S → Event S Asked Outcome) (flat_start : (base : ℕ) → FlatGiven → T) (flat_step : (base : ℕ) → FlatGiven → T → Event T FlatAsked FlatOutcome) : Type 0 where
+-- What the layers of one function promise together: its code on blocks keeps its meaning, its code
+-- on bytes keeps that, and its machine code at `at` keeps that in a frame of at most `need` bytes.
+pub record Layers {S T : Type 0} (c : Setting) (at need frame area : ℕ) (params : List Class)
+    (result : Option Class) (globals : List Value) (addresses : List ℕ) (body : Body)
+    (start : Given → S) (step : Given → S → Event S Asked Outcome)
+    (flat_start : (base : ℕ) → FlatGiven → T) (flat_step : (base : ℕ) → FlatGiven → T →
+    Event T FlatAsked FlatOutcome) : Type 0 where
   pub meaning : KeepsMeaning params start step body
-  pub flat : KeepsFlat (record { entries = c.entries; globals = globals; addresses = addresses }) params result area start step flat_start flat_step
+  pub flat : KeepsFlat (record { entries = c.entries; globals = globals; addresses = addresses })
+      params result area start step flat_start flat_step
   pub machine : KeepsFrame c.world at need frame area params result flat_start flat_step
   pub names : AllShow c.entries c.start globals addresses
   pub area_fits : area ≤ frame

@@ -20,7 +20,8 @@ known_byte (Known b) = Some b
 -- the n bytes from an address upward, where each is known
 abbrev pub known_bytes : Spots → (at n : ℕ) → Option (List ℕ)
 known_bytes f at zero = Some []
-known_bytes f at (suc n) = option_and_then (λ b. option_map (λ bs. b ∷ bs) (known_bytes f (at + 1) n)) (known_byte (f at))
+known_bytes f at (suc n) =
+    option_and_then (λ b. option_map (λ bs. b ∷ bs) (known_bytes f (at + 1) n)) (known_byte (f at))
 
 abbrev pub flat_answered : List ℕ → ℕ → Spots → FlatOutcome
 flat_answered output n f = FlatReturned (record one_call { output = output }) (Some n) f
@@ -42,7 +43,8 @@ abbrev pub flat_exit : List ℕ → FlatOutcome
 flat_exit (s ∷ []) = FlatEnded one_call (Exit (s % 256))
 flat_exit args = FlatEnded nothing Undefined
 
--- what stands at the addresses of the two performs them, at every stack pointer and with no stack of its own
+-- what stands at the addresses of the two performs them, at every stack pointer and with no stack
+-- of its own
 pub record NativesPerform (c : Setting) : Type 0 where
   pub write : (at sp : ℕ) (j : FlatGiven)
       → c.entries SystemWrite ≡ Some at

@@ -11,4 +11,5 @@ use Rattle.phi_copies.specs.Good.{IsGoodFunction}
 -- each is one that can be lowered
 abbrev pub FunctionsAreGood : Type 0
 FunctionsAreGood =
-    (texts : List Checked) (l : Linked) → IsLinked texts l → (k : ℕ) (f : Placed (Bor Func)) → slice_get l.functions k ≡ Some f → IsGoodFunction f.item.now
+    (texts : List Checked) (l : Linked) → IsLinked texts l → (k : ℕ) (f : Placed (Bor Func)) →
+    slice_get l.functions k ≡ Some f → IsGoodFunction f.item.now

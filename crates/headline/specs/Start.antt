@@ -22,8 +22,8 @@ pub record ExitsWith (most n : ℕ) (u : State) : Type 0 where
   pub stopped : runs steps u ≡ Stopped (Exited (n % 256)) last
   pub output : last.output ≡ u.output
 
--- the machine comes from s to a call of `main`, with the program's start memory, and from every return of that it exits with the result; both in at
--- most 256 instructions
+-- the machine comes from s to a call of `main`, with the program's start memory, and from every
+-- return of that it exits with the result; both in at most 256 instructions
 pub record CallsMain (c : Setting) (p : Program) (words : List (List ℕ)) (s : State) : Type 0 where
   pub at : ℕ
   pub is_main : c.entries (Defined p.main) ≡ Some at
@@ -38,7 +38,10 @@ pub record CallsMain (c : Setting) (p : Program) (words : List (List ℕ)) (s : 
   pub called : State
   pub comes : Comes s steps called
   pub output : called.output ≡ []
-  pub ready : (turns : ℕ) → Ready c.world at sp (main_call p words).classes (record { turns = turns; room = stack_room; args = args; memory = memory }) called
+  pub ready : (turns : ℕ) → Ready c.world at sp (main_call p words).classes
+      (record { turns = turns; room = stack_room; args = args; memory = memory }) called
   pub leaving : ℕ
-  pub leaves : (u : State) (n : ℕ) → Fixed c.world.memory_map u → u.pc ≡ called.registers RETURN_ADDRESS → u.registers RESULT ≡ passed W n → ExitsWith leaving n u
+  pub leaves : (u : State) (n : ℕ) → Fixed c.world.memory_map u →
+      u.pc ≡ called.registers RETURN_ADDRESS → u.registers RESULT ≡ passed W n →
+      ExitsWith leaving n u
   pub price : steps + leaving ≤ 256

@@ -1,4 +1,5 @@
--- The theorem of the whole: where all calls are kept and the start code calls `main`, the machine executes the program.
+-- The theorem of the whole: where all calls are kept and the start code calls `main`, the machine
+-- executes the program.
 use Rattle.std.specs.Prelude.{◌≡◌, ℕ, ◌^◌, ◌<◌, List, [], length}
 use Rattle.il_ast.specs.declared.program.Program.{Program}
 use Rattle.rv_isa.specs.State.{State}

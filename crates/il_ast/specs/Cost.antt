@@ -14,7 +14,8 @@ use Rattle.il_ast.specs.Effect.{blit_weight, call_weight}
 abbrev pub round_16 : ℕ → ℕ
 round_16 n = (n + 15) / 16 * 16
 
--- ---- weight: 1 for each block, instruction, jump, parameter, argument of a call or phi, and 8 bytes of a blit begun
+-- ---- weight: 1 for each block, instruction, jump, parameter, argument of a call or phi, and 8
+-- bytes of a blit begun
 
 abbrev pub inst_weight : Inst → ℕ
 inst_weight (Blit from to count) = blit_weight count
@@ -27,7 +28,8 @@ end_weight (Some j) = 1
 
 abbrev pub block_weight : Block → ℕ
 block_weight b =
-    1 + end_weight b.jump + sum_by (λ (p : Phi). length p.args) b.phis + sum_by (λ (i : Lined Inst). inst_weight i.item) b.insts
+    1 + end_weight b.jump + sum_by (λ (p : Phi). length p.args) b.phis + sum_by
+    (λ (i : Lined Inst). inst_weight i.item) b.insts
 
 abbrev pub weight : Func → ℕ
 weight f = length f.params + sum_by block_weight f.blocks
@@ -40,7 +42,8 @@ alloc_bytes (Alloc to alignment size) = round_16 size
 alloc_bytes i = 0
 
 abbrev pub alloc_area : Func → ℕ
-alloc_area f = sum_by (λ (b : Block). sum_by (λ (i : Lined Inst). alloc_bytes i.item) b.insts) f.blocks
+alloc_area f =
+    sum_by (λ (b : Block). sum_by (λ (i : Lined Inst). alloc_bytes i.item) b.insts) f.blocks
 
 abbrev pub phi_count : Func → ℕ
 phi_count f = sum_by (λ (b : Block). length b.phis) f.blocks

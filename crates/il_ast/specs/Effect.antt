@@ -1,4 +1,5 @@
--- What one turn does: one instruction, or one jump with the phis of the block that it enters (QBE IL, "Instructions", "Jumps", "Phi").
+-- What one turn does: one instruction, or one jump with the phis of the block that it enters (QBE
+-- IL, "Instructions", "Jumps", "Phi").
 use Rattle.std.specs.Prelude.{ℕ, ◌+◌, ◌/◌, ◌%◌, ◌^◌, nat_eq, if◌then◌else◌, List, [], ◌∷◌, ◌++◌, map, length, slice_get, slice_set, Option, Some, None}
 use Rattle.std.specs.List.{position, find}
 use Rattle.std.specs.Option.{option_map, option_and_then, option_flatten}
@@ -28,12 +29,14 @@ use Rattle.il_ast.specs.Values.{in_place, byte_count}
 use Rattle.il_ast.specs.Memory.{Memory, store, copy, fresh, free_all}
 use Rattle.il_ast.specs.Operations.{operand_class, left_class, right_class, operate_one, operate_two}
 
--- what an activation holds: the values of its temporaries, none for one not assigned yet, and the blocks that it made by `alloc`
+-- what an activation holds: the values of its temporaries, none for one not assigned yet, and the
+-- blocks that it made by `alloc`
 pub record Locals : Type 0 where
   pub temps : List (Option Value)
   pub owned : List ℕ
 
--- where an activation stands: a block by its place in the function, the next instruction in it, and what it holds
+-- where an activation stands: a block by its place in the function, the next instruction in it, and
+-- what it holds
 pub record Activation : Type 0 where
   pub block : ℕ
   pub next : ℕ
@@ -44,7 +47,8 @@ pub record Env : Type 0 where
   pub func : Func
   pub globals : List Value
 
--- a call: its callee, the classes of its arguments, the class of the result that it wants, its arguments
+-- a call: its callee, the classes of its arguments, the class of the result that it wants, its
+-- arguments
 pub record Call : Type 0 where
   pub callee : Callee
   pub classes : List Class
@@ -66,7 +70,8 @@ operand globals temps c a = option_and_then (in_place c) (value_at globals temps
 abbrev pub all_operands : List Value → List (Option Value) → List Arg → Option (List Value)
 all_operands globals temps [] = Some []
 all_operands globals temps (a ∷ args) =
-    option_and_then (λ v. option_map (λ vs. v ∷ vs) (all_operands globals temps args)) (operand globals temps a.class a.value)
+    option_and_then (λ v. option_map (λ vs. v ∷ vs) (all_operands globals temps args))
+    (operand globals temps a.class a.value)
 
 abbrev pub assign : Locals → ℕ → Value → Locals
 assign here t v = record here { temps = slice_set here.temps t (Some v) }
@@ -106,7 +111,12 @@ call_weight args = 1 + length args
 abbrev pub calls_value : Option Dest → List Arg → Value → List Value → InstEffect
 calls_value to args (Function f) values =
     Asks (call_weight args)
-    (record { callee = f; classes = map (λ (a : Arg). a.class) args; wants = option_map (λ (d : Dest). d.class) to; args = values })
+    (record {
+      callee = f;
+      classes = map (λ (a : Arg). a.class) args;
+      wants = option_map (λ (d : Dest). d.class) to;
+      args = values;
+    })
     to
 calls_value to args (Integer n) values = Fails
 calls_value to args (Pointer b o) values = Fails
@@ -119,15 +129,20 @@ call_effect to args (Some f) (Some values) = calls_value to args f values
 unfoldable pub inst_effect : List Value → Locals → Memory → Inst → InstEffect
 inst_effect globals here m (Unary to op a) =
     assigned here m to.temp
-    (option_and_then (operate_one m op to.class) (operand globals here.temps (operand_class op to.class) a))
+    (option_and_then (operate_one m op to.class)
+    (operand globals here.temps (operand_class op to.class) a))
 inst_effect globals here m (Binary to op a b) =
     assigned here m to.temp
     (option_and_then
-    (λ u. option_and_then (λ v. operate_two m op to.class u v) (operand globals here.temps (right_class op to.class) b))
+    (λ u. option_and_then (λ v. operate_two m op to.class u v)
+    (operand globals here.temps (right_class op to.class) b))
     (operand globals here.temps (left_class op to.class) a))
 inst_effect globals here m (Alloc to alignment size) =
     Done 1
-    (record { temps = slice_set here.temps to.temp (Some (Pointer (length m) 0)); owned = here.owned ++ length m ∷ [] })
+    (record {
+      temps = slice_set here.temps to.temp (Some (Pointer (length m) 0));
+      owned = here.owned ++ length m ∷ [];
+    })
     (fresh m size)
 inst_effect globals here m (Store size a at) =
     changed here 1
@@ -144,7 +159,8 @@ inst_effect globals here m (CallInst to callee args) =
 
 -- ---- turns
 
--- what a turn does: it goes on; or it makes a call whose result goes to the destination; or it returns; or it ends the run
+-- what a turn does: it goes on; or it makes a call whose result goes to the destination; or it
+-- returns; or it ends the run
 pub data Effect : Type 0 where
   Goes : (weight : ℕ) → Activation → Memory → Effect
   Calls : (weight : ℕ) → Call → Option Dest → Activation → Effect
@@ -154,13 +170,16 @@ pub data Effect : Type 0 where
 -- the value of a phi where its block is entered from this one
 abbrev pub phi_value : List Value → List (Option Value) → (from : ℕ) → Phi → Option Value
 phi_value globals temps from p =
-    option_and_then (λ (a : PhiArg). operand globals temps p.to.class a.value) (find (λ (a : PhiArg). nat_eq a.from from) p.args)
+    option_and_then (λ (a : PhiArg). operand globals temps p.to.class a.value)
+    (find (λ (a : PhiArg). nat_eq a.from from) p.args)
 
 -- the values of phis, all read before one is written
-abbrev pub phi_values : List Value → List (Option Value) → (from : ℕ) → List Phi → Option (List Value)
+abbrev pub phi_values : List Value → List (Option Value) → (from : ℕ) → List Phi →
+    Option (List Value)
 phi_values globals temps from [] = Some []
 phi_values globals temps from (p ∷ ps) =
-    option_and_then (λ v. option_map (λ vs. v ∷ vs) (phi_values globals temps from ps)) (phi_value globals temps from p)
+    option_and_then (λ v. option_map (λ vs. v ∷ vs) (phi_values globals temps from ps))
+    (phi_value globals temps from p)
 
 abbrev pub with_phis : List (Option Value) → List Phi → List Value → List (Option Value)
 with_phis temps [] vs = temps
@@ -174,12 +193,17 @@ place_of blocks l = position (λ (b : Block). nat_eq b.label l) blocks
 abbrev pub entered : Locals → Memory → ℕ → List Phi → Option (List Value) → Effect
 entered here m k phis None = Ends Undefined
 entered here m k phis (Some vs) =
-    Goes (1 + length phis) (record { block = k; next = 0; locals = record here { temps = with_phis here.temps phis vs } }) m
+    Goes (1 + length phis) (record {
+      block = k;
+      next = 0;
+      locals = record here { temps = with_phis here.temps phis vs };
+    }) m
 
 -- the block at place k is entered from the block with this label
 abbrev pub enter_at : Env → (from : ℕ) → Locals → Memory → ℕ → Option Block → Effect
 enter_at env from here m k None = Ends Undefined
-enter_at env from here m k (Some b) = entered here m k b.phis (phi_values env.globals here.temps from b.phis)
+enter_at env from here m k (Some b) =
+    entered here m k b.phis (phi_values env.globals here.temps from b.phis)
 
 abbrev pub enter_place : Env → (from : ℕ) → Locals → Memory → Option ℕ → Effect
 enter_place env from here m None = Ends Undefined
@@ -194,7 +218,8 @@ branch_to v nonzero otherwise = otherwise
 
 abbrev pub branched : Env → (from : ℕ) → Locals → Memory → ℕ → ℕ → Option Value → Effect
 branched env from here m nonzero otherwise None = Ends Undefined
-branched env from here m nonzero otherwise (Some v) = enter env from here m (branch_to v nonzero otherwise)
+branched env from here m nonzero otherwise (Some v) =
+    enter env from here m (branch_to v nonzero otherwise)
 
 abbrev pub returned : Locals → Memory → Option Value → Effect
 returned here m None = Ends Undefined
@@ -220,13 +245,16 @@ end_effect env from here m (Some j) = jump_effect env from here m j.item
 
 -- after an instruction at place k of block b
 abbrev pub after_inst : (block next : ℕ) → Locals → InstEffect → Effect
-after_inst b k here (Done weight now m) = Goes weight (record { block = b; next = k + 1; locals = now }) m
-after_inst b k here (Asks weight call to) = Calls weight call to (record { block = b; next = k + 1; locals = here })
+after_inst b k here (Done weight now m) =
+    Goes weight (record { block = b; next = k + 1; locals = now }) m
+after_inst b k here (Asks weight call to) =
+    Calls weight call to (record { block = b; next = k + 1; locals = here })
 after_inst b k here Fails = Ends Undefined
 
 -- the instruction, or the jump where none is left
 abbrev pub turn_in : Env → Activation → Memory → Block → Option (Lined Inst) → Effect
-turn_in env a m b (Some i) = after_inst a.block a.next a.locals (inst_effect env.globals a.locals m i.item)
+turn_in env a m b (Some i) =
+    after_inst a.block a.next a.locals (inst_effect env.globals a.locals m i.item)
 turn_in env a m b None = end_effect env b.label a.locals m b.jump
 
 abbrev pub turn_of : Env → Activation → Memory → Option Block → Effect

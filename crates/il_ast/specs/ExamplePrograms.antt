@@ -51,7 +51,14 @@ abbrev pub from : ℕ → Val → PhiArg
 from l a = record { from = l; value = a }
 
 abbrev pub block : ℕ → List Phi → List Inst → Jump → Block
-block l phis insts jump = record { line = 1; label = l; phis = phis; insts = map lined insts; jump = Some (record { line = 1; item = jump }) }
+block l phis insts jump =
+    record {
+      line = 1;
+      label = l;
+      phis = phis;
+      insts = map lined insts;
+      jump = Some (record { line = 1; item = jump });
+    }
 
 abbrev pub param : Dest → Param
 param d = record { line = 1; temp = d.temp; class = d.class }
@@ -65,7 +72,11 @@ names zero = []
 names (suc n) = (n ∷ []) ∷ names n
 
 -- a function whose result is a word, with so many temporaries and labels
-abbrev pub function : (params : List Param) (blocks : List Block) (temps labels : ℕ) → come_after 0 (temps_of params blocks) ≡ Some (length (names temps)) → come_after 0 (labels_of blocks) ≡ Some (length (names labels)) → are_distinct (names temps) ≡ true → are_distinct (names labels) ≡ true → has_block blocks ≡ true → have_arguments blocks ≡ true → Func
+abbrev pub function : (params : List Param) (blocks : List Block) (temps labels : ℕ) →
+    come_after 0 (temps_of params blocks) ≡ Some (length (names temps)) →
+    come_after 0 (labels_of blocks) ≡ Some (length (names labels)) →
+    are_distinct (names temps) ≡ true → are_distinct (names labels) ≡ true →
+    has_block blocks ≡ true → have_arguments blocks ≡ true → Func
 function params blocks temps labels h k d e some args =
     record {
       line = 1;
@@ -106,7 +117,8 @@ sum_function =
     function []
     (block 0 [] [] (Goto 1)
     ∷ block 1
-    (phi (word 0) (from 0 (Int 1) ∷ from 1 (Temp 1) ∷ []) ∷ phi (word 2) (from 0 (Int 0) ∷ from 1 (Temp 3) ∷ []) ∷ [])
+    (phi (word 0) (from 0 (Int 1) ∷ from 1 (Temp 1) ∷ [])
+    ∷ phi (word 2) (from 0 (Int 0) ∷ from 1 (Temp 3) ∷ []) ∷ [])
     (Binary (word 3) Add (Temp 2) (Temp 0)
     ∷ Binary (word 1) Add (Temp 0) (Int 1)
     ∷ Binary (word 4) (Compare SignedLess W) (Temp 0) (Int 100)
@@ -117,8 +129,11 @@ sum_function =
     5 3 refl refl refl refl refl refl
 
 -- `main` of one block, with so many temporaries
-abbrev pub straight : (temps : ℕ) (insts : List Inst) (result : Val) → come_after 0 (temps_of [] (block 0 [] insts (Return (Some result)) ∷ [])) ≡ Some (length (names temps)) → are_distinct (names temps) ≡ true → Func
-straight temps insts result h d = function [] (block 0 [] insts (Return (Some result)) ∷ []) temps 1 h refl d refl refl refl
+abbrev pub straight : (temps : ℕ) (insts : List Inst) (result : Val) →
+    come_after 0 (temps_of [] (block 0 [] insts (Return (Some result)) ∷ []))
+    ≡ Some (length (names temps)) → are_distinct (names temps) ≡ true → Func
+straight temps insts result h d =
+    function [] (block 0 [] insts (Return (Some result)) ∷ []) temps 1 h refl d refl refl refl
 
 -- phis that exchange two values
 abbrev pub swap_function : Func
@@ -132,7 +147,8 @@ swap_function =
     ∷ [])
     []
     (Branch (Temp 2) 2 1)
-    ∷ block 2 [] (Binary (word 3) Mul (Temp 0) (Int 10) ∷ Binary (word 4) Add (Temp 3) (Temp 1) ∷ []) (Return (Some (Temp 4)))
+    ∷ block 2 [] (Binary (word 3) Mul (Temp 0) (Int 10) ∷ Binary (word 4) Add (Temp 3) (Temp 1)
+    ∷ []) (Return (Some (Temp 4)))
     ∷ [])
     5 3 refl refl refl refl refl refl
 
@@ -142,19 +158,22 @@ of_two op a b = alone (straight 1 (Binary (word 0) op (Int a) (Int b) ∷ []) (T
 
 -- an `l` temporary in a `w` place
 abbrev pub wrap : Program
-wrap = alone (straight 2 (Unary (long 0) Copy (Int 4294967298) ∷ Binary (word 1) Add (Temp 0) (Int 1) ∷ []) (Temp 1) refl refl)
+wrap = alone (straight 2 (Unary (long 0) Copy (Int 4294967298)
+    ∷ Binary (word 1) Add (Temp 0) (Int 1) ∷ []) (Temp 1) refl refl)
 
 -- ten parameters, of which the last two make the result
 abbrev pub ten_function : Func
 ten_function =
     function (map (λ (t : ℕ). param (word t)) (0 ∷ 1 ∷ 2 ∷ 3 ∷ 4 ∷ 5 ∷ 6 ∷ 7 ∷ 8 ∷ 9 ∷ []))
-    (block 0 [] (Binary (word 10) Mul (Temp 8) (Int 10) ∷ Binary (word 11) Add (Temp 10) (Temp 9) ∷ []) (Return (Some (Temp 11))) ∷ [])
+    (block 0 [] (Binary (word 10) Mul (Temp 8) (Int 10) ∷ Binary (word 11) Add (Temp 10) (Temp 9)
+    ∷ []) (Return (Some (Temp 11))) ∷ [])
     12 1 refl refl refl refl refl refl
 
 abbrev pub ten_main : Func
 ten_main =
     straight 1
-    (Call (Some (word 0)) (Global 0) (map (λ (n : ℕ). arg W (Int n)) (1 ∷ 2 ∷ 3 ∷ 4 ∷ 5 ∷ 6 ∷ 7 ∷ 8 ∷ 9 ∷ 10 ∷ [])) ∷ [])
+    (Call (Some (word 0)) (Global 0) (map (λ (n : ℕ). arg W (Int n))
+    (1 ∷ 2 ∷ 3 ∷ 4 ∷ 5 ∷ 6 ∷ 7 ∷ 8 ∷ 9 ∷ 10 ∷ [])) ∷ [])
     (Temp 0) refl refl
 
 abbrev pub ten : Program
@@ -191,14 +210,16 @@ down_function =
     function (param (word 0) ∷ [])
     (block 0 [] [] (Branch (Temp 0) 1 2)
     ∷ block 1 []
-    (Binary (word 1) Sub (Temp 0) (Int 1) ∷ Call (Some (word 2)) (Global 0) (arg W (Temp 1) ∷ []) ∷ [])
+    (Binary (word 1) Sub (Temp 0) (Int 1) ∷ Call (Some (word 2)) (Global 0) (arg W (Temp 1) ∷ [])
+    ∷ [])
     (Return (Some (Temp 2)))
     ∷ block 2 [] [] (Return (Some (Int 7)))
     ∷ [])
     3 3 refl refl refl refl refl refl
 
 abbrev pub down_main : ℕ → Func
-down_main n = straight 1 (Call (Some (word 0)) (Global 0) (arg W (Int n) ∷ []) ∷ []) (Temp 0) refl refl
+down_main n =
+    straight 1 (Call (Some (word 0)) (Global 0) (arg W (Int n) ∷ []) ∷ []) (Temp 0) refl refl
 
 abbrev pub down : ℕ → Program
 down n = program (Code (Defined 0) ∷ []) (down_function ∷ down_main n ∷ []) [] 1
@@ -206,7 +227,8 @@ down n = program (Code (Defined 0) ∷ []) (down_function ∷ down_main n ∷ []
 -- a function with a large frame that calls itself for ever
 abbrev pub endless_function : Func
 endless_function =
-    straight 2 (Call (Some (word 0)) (Global 0) [] ∷ Alloc (long 1) Eight 1048576 ∷ []) (Temp 0) refl refl
+    straight 2 (Call (Some (word 0)) (Global 0) [] ∷ Alloc (long 1) Eight 1048576 ∷ []) (Temp 0)
+    refl refl
 
 abbrev pub endless : Program
 endless = program (Code (Defined 0) ∷ []) (endless_function ∷ []) [] 0
@@ -214,7 +236,13 @@ endless = program (Code (Defined 0) ∷ []) (endless_function ∷ []) [] 0
 -- a datum, and `main` that writes from it
 abbrev pub datum : List ℕ → DataDef
 datum bytes =
-    record { line = 1; exported = false; name = 0; alignment = 8; fields = Items Byte (Bytes bytes ∷ []) ∷ [] }
+    record {
+      line = 1;
+      exported = false;
+      name = 0;
+      alignment = 8;
+      fields = Items Byte (Bytes bytes ∷ []) ∷ [];
+    }
 
 abbrev pub writes : (descriptor : ℕ) → Val → (count : ℕ) → Inst
 writes d at n = Call (Some (long 0)) (Global 0) (arg W (Int d) ∷ arg L at ∷ arg L (Int n) ∷ [])
@@ -227,7 +255,8 @@ hello =
 
 abbrev pub bad_descriptor : Program
 bad_descriptor =
-    program (Code SystemWrite ∷ []) (straight 1 (writes 2 (Int 0) 5 ∷ []) (Temp 0) refl refl ∷ []) [] 0
+    program (Code SystemWrite ∷ []) (straight 1 (writes 2 (Int 0) 5 ∷ []) (Temp 0) refl refl ∷ [])
+    [] 0
 
 -- more bytes than the datum has, after some that went out
 abbrev pub past_end : Program
@@ -238,7 +267,8 @@ past_end =
 
 abbrev pub exits : Program
 exits =
-    program (Code SystemExit ∷ []) (straight 0 (Call None (Global 0) (arg W (Int 257) ∷ []) ∷ []) (Int 0) refl refl ∷ []) [] 0
+    program (Code SystemExit ∷ []) (straight 0 (Call None (Global 0) (arg W (Int 257) ∷ []) ∷ [])
+    (Int 0) refl refl ∷ []) [] 0
 
 -- a pointer copied by `blit`, in whole or in part
 abbrev pub blit_function : ℕ → Func
@@ -260,7 +290,8 @@ abbrev pub compared : ℕ → Program
 compared n =
     program (Object 0 ∷ Object 1 ∷ [])
     (straight 2
-    (Binary (long 0) Add (Global 0) (Int n) ∷ Binary (word 1) (Compare Equal L) (Temp 0) (Global 1) ∷ [])
+    (Binary (long 0) Add (Global 0) (Int n) ∷ Binary (word 1) (Compare Equal L) (Temp 0) (Global 1)
+    ∷ [])
     (Temp 1) refl refl
     ∷ [])
     (datum (1 ∷ []) ∷ datum (2 ∷ []) ∷ []) 0
@@ -284,11 +315,13 @@ with_words =
 -- a temporary read before it is assigned
 abbrev pub early_read : Program
 early_read =
-    alone (straight 2 (Binary (word 0) Add (Temp 1) (Int 1) ∷ Unary (word 1) Copy (Int 1) ∷ []) (Temp 0) refl refl)
+    alone (straight 2 (Binary (word 0) Add (Temp 1) (Int 1) ∷ Unary (word 1) Copy (Int 1) ∷ [])
+    (Temp 0) refl refl)
 
 -- `main` that halts; and `main` that returns no result
 abbrev pub halts : Program
 halts = alone (function [] (block 0 [] [] Halt ∷ []) 0 1 refl refl refl refl refl refl)
 
 abbrev pub returns_nothing : Program
-returns_nothing = alone (function [] (block 0 [] [] (Return None) ∷ []) 0 1 refl refl refl refl refl refl)
+returns_nothing =
+    alone (function [] (block 0 [] [] (Return None) ∷ []) 0 1 refl refl refl refl refl refl)

@@ -50,7 +50,8 @@ pub record Examples : Type 0 where
   pub blit_needs : need (blit_function 8) ≡ 224
   pub two_data_differ : does (compared 0) 3 ≡ ends [] (Exit 0)
   pub not_at_the_end : does (compared 1) 3 ≡ ends [] Undefined
-  pub words_are_read : meaning with_words ((112 ∷ []) ∷ (97 ∷ 98 ∷ 99 ∷ []) ∷ []) 4 ≡ ends (97 ∷ 98 ∷ 99 ∷ []) (Exit 0)
+  pub words_are_read : meaning with_words ((112 ∷ []) ∷ (97 ∷ 98 ∷ 99 ∷ []) ∷ []) 4
+      ≡ ends (97 ∷ 98 ∷ 99 ∷ []) (Exit 0)
   pub read_too_early : does early_read 3 ≡ ends [] Undefined
   pub halt_ends : does halts 1 ≡ ends [] Halt
   pub halt_is_a_turn : does halts 0 ≡ ends [] Turns

@@ -17,7 +17,8 @@ pub record Asked : Type 0 where
   pub room : ℕ
   pub memory : Memory
 
--- what a body is given: the turns that are left, the room for its own calls, its arguments, the memory
+-- what a body is given: the turns that are left, the room for its own calls, its arguments, the
+-- memory
 pub record Given : Type 0 where
   pub turns : ℕ
   pub room : ℕ
@@ -61,14 +62,22 @@ Log = List (Entry Asked Outcome)
 -- each call of the list goes as these callees have it
 abbrev pub AllGo : Callees → Log → Type 0
 AllGo callees [] = Unit {0}
-AllGo callees (e ∷ log) = (callees e.asked.call e.asked.turns e.asked.room e.asked.memory ≡ e.went) × AllGo callees log
+AllGo callees (e ∷ log) =
+    (callees e.asked.call e.asked.turns e.asked.room e.asked.memory ≡ e.went) × AllGo callees log
 
--- given arguments of these classes, the code runs as the body does, whatever its calls do, with calls that go so
-abbrev pub KeepsMeaning : {S : Type 0} → List Class → (Given → S) → (Given → S → Event S Asked Outcome) → Body → Type 0
+-- given arguments of these classes, the code runs as the body does, whatever its calls do, with
+-- calls that go so
+abbrev pub KeepsMeaning : {S : Type 0} → List Class → (Given → S) →
+    (Given → S → Event S Asked Outcome) → Body → Type 0
 KeepsMeaning params start step body =
-    (callees : Callees) (i : Given) → AreArgs params i.args → Fine (body callees i) → (log : Log) × AllGo callees log × ((n : ℕ) × Logged (step i) n (start i) log (body callees i))
+    (callees : Callees) (i : Given) → AreArgs params i.args → Fine (body callees i) →
+    (log : Log) × AllGo callees log × ((n : ℕ)
+    × Logged (step i) n (start i) log (body callees i))
 
--- whatever calls are made and however they go: where the first code runs as o, so does the second, with the same calls
-abbrev pub KeepsCode : {S T : Type 0} → List Class → (Given → S) → (Given → S → Event S Asked Outcome) → (Given → T) → (Given → T → Event T Asked Outcome) → Type 0
+-- whatever calls are made and however they go: where the first code runs as o, so does the second,
+-- with the same calls
+abbrev pub KeepsCode : {S T : Type 0} → List Class → (Given → S) →
+    (Given → S → Event S Asked Outcome) → (Given → T) → (Given → T → Event T Asked Outcome) → Type 0
 KeepsCode params start step start2 step2 =
-    (log : Log) (i : Given) (o : Outcome) → AreArgs params i.args → Fine o → (n : ℕ) → Logged (step i) n (start i) log o → (m : ℕ) × Logged (step2 i) m (start2 i) log o
+    (log : Log) (i : Given) (o : Outcome) → AreArgs params i.args → Fine o → (n : ℕ) →
+    Logged (step i) n (start i) log o → (m : ℕ) × Logged (step2 i) m (start2 i) log o

@@ -1,4 +1,5 @@
--- The laws of the meaning: more turns go on from where fewer stopped, and depth beyond the turns changes nothing.
+-- The laws of the meaning: more turns go on from where fewer stopped, and depth beyond the turns
+-- changes nothing.
 use Rattle.std.specs.Prelude.{◌≡◌, ◌≢◌, ◌⊎◌, ℕ, ◌<◌, ◌≤◌, List, [], ◌++◌}
 use Rattle.il_ast.specs.declared.program.Program.{Program}
 use Rattle.il_ast.specs.declared.value.End.{End}
@@ -10,7 +11,8 @@ use Rattle.il_ast.specs.Meaning.{outcome, meaning, callees}
 
 -- an end other than Turns, and the output with it, is the same at every greater number of turns
 abbrev pub EndsStay : Type 0
-EndsStay = (p : Program) (words : List (List ℕ)) (n k : ℕ) → n ≤ k → (meaning p words n).ending ≢ Turns → meaning p words k ≡ meaning p words n
+EndsStay = (p : Program) (words : List (List ℕ)) (n k : ℕ) → n ≤ k →
+    (meaning p words n).ending ≢ Turns → meaning p words k ≡ meaning p words n
 
 -- the output at fewer turns is a beginning of that at more
 abbrev pub OutputGrows : Type 0
@@ -29,7 +31,9 @@ DepthIsEnough =
 
 -- a run that is out of turns has done them all
 abbrev pub TurnsAreSpent : Type 0
-TurnsAreSpent = (p : Program) (words : List (List ℕ)) (n : ℕ) (s : Spent) → outcome p words n ≡ Ended s Turns → s.turns ≡ n
+TurnsAreSpent =
+    (p : Program) (words : List (List ℕ)) (n : ℕ) (s : Spent) → outcome p words n ≡ Ended s Turns →
+    s.turns ≡ n
 
 -- at some number of turns, at most n, the program still goes on, and has put out so much
 pub record StillGoes (p : Program) (words : List (List ℕ)) (n : ℕ) (output : List ℕ) : Type 0 where
@@ -46,7 +50,8 @@ IsFailure Undefined = Unit {0}
 IsFailure Stack = Unit {0}
 IsFailure Turns = ⊥
 
--- what a run puts out before it becomes undefined or runs out of stack, it puts out while it goes on
+-- what a run puts out before it becomes undefined or runs out of stack, it puts out while it goes
+-- on
 abbrev pub OutputComesFirst : Type 0
 OutputComesFirst =
     (p : Program) (words : List (List ℕ)) (n : ℕ) (s : Spent) (e : End)

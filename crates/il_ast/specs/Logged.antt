@@ -1,4 +1,5 @@
--- Runs of a code, with the list of the calls that it makes: what each asks and how it goes are given, as data.
+-- Runs of a code, with the list of the calls that it makes: what each asks and how it goes are
+-- given, as data.
 use Rattle.std.specs.Prelude.{◌≡◌, ℕ, zero, suc, List, [], ◌∷◌}
 
 -- what comes after a step, or after a call: another state, or how the run goes
@@ -17,12 +18,14 @@ pub record Entry (I O : Type 0) : Type 0 where
   pub went : O
 
 -- the run goes on from a state, or it is over, as o and without a further call
-abbrev pub LoggedNext : {S I O : Type 0} → (S → List (Entry I O) → Type 0) → O → Next S O → List (Entry I O) → Type 0
+abbrev pub LoggedNext : {S I O : Type 0} → (S → List (Entry I O) → Type 0) → O → Next S O →
+    List (Entry I O) → Type 0
 LoggedNext go o (On s) log = go s log
 LoggedNext go o (Over p) log = (p ≡ o) × (log ≡ [])
 
 -- a call is the next one of the list
-abbrev pub LoggedEvent : {S I O : Type 0} → (S → List (Entry I O) → Type 0) → O → Event S I O → List (Entry I O) → Type 0
+abbrev pub LoggedEvent : {S I O : Type 0} → (S → List (Entry I O) → Type 0) → O → Event S I O →
+    List (Entry I O) → Type 0
 LoggedEvent go o (Does n) log = LoggedNext go o n log
 LoggedEvent go o (Calls i k) [] = ⊥
 LoggedEvent go o (Calls i k) (e ∷ log) = (e.asked ≡ i) × LoggedNext go o (k e.went) log

@@ -1,4 +1,5 @@
--- What a program means: the output and the end of its run, for argument words and a number of turns (QBE IL, "Call", "Linkage").
+-- What a program means: the output and the end of its run, for argument words and a number of turns
+-- (QBE IL, "Call", "Linkage").
 use Rattle.std.specs.Prelude.{ℕ, zero, suc, ◌+◌, ◌-◌, ◌%◌, ◌^◌, Bool, true, false, nat_eq, nat_lt, ◌&&◌, if◌then◌else◌, List, [], ◌∷◌, map, length, slice_get, Option, Some, None}
 use Rattle.std.specs.Option.{option_and_then}
 use Rattle.il_ast.specs.declared.operation.Class.{Class}
@@ -49,7 +50,9 @@ put_out n m (Some bytes) = answered bytes n m
 
 -- n bytes from a place of memory; none are taken from anywhere
 abbrev pub write_bytes : Value → ℕ → Memory → Outcome
-write_bytes (Pointer b o) n m = if nat_eq n 0 then answered [] 0 m else put_out n m (option_and_then plain_bytes (cells_at m b o n))
+write_bytes (Pointer b o) n m =
+    if nat_eq n 0 then answered [] 0 m else put_out n m
+    (option_and_then plain_bytes (cells_at m b o n))
 write_bytes p n m = if nat_eq n 0 then answered [] 0 m else Ended nothing Undefined
 
 abbrev pub write_integer : Value → Value → Memory → Outcome
@@ -57,9 +60,11 @@ write_integer p (Integer n) m = write_bytes p n m
 write_integer p (Pointer b o) m = Ended nothing Undefined
 write_integer p (Function f) m = Ended nothing Undefined
 
--- `write (w descriptor, l from, l count)` with result `l`: to descriptor 1 alone, else the answer is -9
+-- `write (w descriptor, l from, l count)` with result `l`: to descriptor 1 alone, else the answer
+-- is -9
 abbrev pub write_call : List Value → Memory → Outcome
-write_call (Integer d ∷ p ∷ n ∷ []) m = if nat_eq d 1 then write_integer p n m else answered [] (2 ^ 64 - 9) m
+write_call (Integer d ∷ p ∷ n ∷ []) m =
+    if nat_eq d 1 then write_integer p n m else answered [] (2 ^ 64 - 9) m
 write_call args m = Ended nothing Undefined
 
 -- `exit (w status)` without a result
@@ -70,24 +75,29 @@ exit_call args = Ended nothing Undefined
 -- ---- calls
 
 -- first the types, then the room
-abbrev pub call_function : Program → Callees → Call → (turns room : ℕ) → Memory → Option (Placed Func) → Outcome
+abbrev pub call_function : Program → Callees → Call → (turns room : ℕ) → Memory →
+    Option (Placed Func) → Outcome
 call_function p callees call t room m None = Ended nothing Undefined
 call_function p callees call t room m (Some f) =
     if call_fits call (map (λ (x : Param). x.class) f.item.params) f.item.result
     then (if nat_lt room (need f.item)
     then Ended nothing Stack
     else after one_call
-    (body (record { func = f.item; globals = globals_of p f.text }) callees t (room - need f.item) call.args m))
+    (body (record { func = f.item; globals = globals_of p f.text }) callees t (room - need f.item)
+    call.args m))
     else Ended nothing Undefined
 
 abbrev pub call_named : Program → Callees → Call → (turns room : ℕ) → Memory → Callee → Outcome
-call_named p callees call t room m (Defined f) = call_function p callees call t room m (slice_get p.functions f)
+call_named p callees call t room m (Defined f) =
+    call_function p callees call t room m (slice_get p.functions f)
 call_named p callees call t room m SystemWrite =
-    if call_fits call (W ∷ L ∷ L ∷ []) (Some L) then write_call call.args m else Ended nothing Undefined
+    if call_fits call (W ∷ L ∷ L ∷ []) (Some L) then write_call call.args m
+    else Ended nothing Undefined
 call_named p callees call t room m SystemExit =
     if call_fits call (W ∷ []) None then exit_call call.args else Ended nothing Undefined
 
--- what calls do where they nest at most so deep; a call takes a turn, so turns bound the depth that is reached
+-- what calls do where they nest at most so deep; a call takes a turn, so turns bound the depth that
+-- is reached
 unfoldable pub callees : Program → (depth : ℕ) → Callees
 callees p zero call t room m = Ended nothing Turns
 callees p (suc k) call t room m = call_named p (callees p k) call t room m call.callee
@@ -115,7 +125,12 @@ params_of (Some f) = f.item.params
 abbrev pub main_call : Program → List (List ℕ) → Call
 main_call p words =
     let params = params_of (slice_get p.functions p.main)
-    in record { callee = Defined p.main; classes = main_classes params; wants = Some W; args = main_args (length p.objects) (length words) params }
+    in record {
+      callee = Defined p.main;
+      classes = main_classes params;
+      wants = Some W;
+      args = main_args (length p.objects) (length words) params;
+    }
 
 -- how the call of `main` goes in n turns
 unfoldable pub outcome : Program → List (List ℕ) → (turns : ℕ) → Outcome

@@ -1,4 +1,5 @@
--- Memory (QBE IL, "Memory"): blocks of cells, with no addresses. A block is known by its number, which is never used again.
+-- Memory (QBE IL, "Memory"): blocks of cells, with no addresses. A block is known by its number,
+-- which is never used again.
 use Rattle.std.specs.Prelude.{ℕ, zero, suc, ◌+◌, Bool, false, not, nat_eq, nat_le, ◌&&◌, ◌||◌, if◌then◌else◌, List, [], ◌∷◌, ◌++◌, map, length, take, drop, replicate, slice_get, slice_set, Option, Some, None}
 use Rattle.std.specs.Option.{option_map, option_and_then, option_flatten}
 use Rattle.il_ast.specs.declared.value.Value.{Value}
@@ -38,10 +39,12 @@ plain_bytes (Blank ∷ cells) = None
 abbrev pub are_parts_from : ℕ → Value → List Cell → Bool
 are_parts_from k v [] = nat_eq k 8
 are_parts_from k v (Plain b ∷ cells) = false
-are_parts_from k v (Part u i ∷ cells) = same_value u v && (nat_eq i k && are_parts_from (k + 1) v cells)
+are_parts_from k v (Part u i ∷ cells) =
+    same_value u v && (nat_eq i k && are_parts_from (k + 1) v cells)
 are_parts_from k v (Blank ∷ cells) = false
 
--- the value of these cells: the one whose eight parts they are, in order, or else the number of their bytes
+-- the value of these cells: the one whose eight parts they are, in order, or else the number of
+-- their bytes
 abbrev pub value_of : List Cell → Option Value
 value_of (Part v i ∷ cells) = if are_parts_from 0 v (Part v i ∷ cells) then Some v else None
 value_of cells = option_map Integer (option_map number_of (plain_bytes cells))
@@ -55,7 +58,8 @@ span o n cells = if nat_le (o + n) (length cells) then Some (take n (drop o cell
 -- the cells with new ones from offset o, where those lie wholly inside
 abbrev pub put : ℕ → List Cell → List Cell → Option (List Cell)
 put o new cells =
-    if nat_le (o + length new) (length cells) then Some (take o cells ++ (new ++ drop (o + length new) cells)) else None
+    if nat_le (o + length new) (length cells)
+    then Some (take o cells ++ (new ++ drop (o + length new) cells)) else None
 
 -- the n cells from offset o of a live block
 abbrev pub cells_at : Memory → ℕ → ℕ → ℕ → Option (List Cell)
@@ -63,7 +67,8 @@ cells_at m b o n = option_and_then (span o n) (block_at m b)
 
 -- the memory with these cells from offset o of a live block
 abbrev pub write_at : Memory → ℕ → ℕ → List Cell → Option Memory
-write_at m b o new = option_map (λ cells. slice_set m b (Some cells)) (option_and_then (put o new) (block_at m b))
+write_at m b o new =
+    option_map (λ cells. slice_set m b (Some cells)) (option_and_then (put o new) (block_at m b))
 
 -- ---- access
 
@@ -87,7 +92,8 @@ apart_or_same n a o b q = not (nat_eq a b) || (nat_eq o q || (nat_le (o + n) q |
 unfoldable pub copy : Memory → ℕ → Value → Value → Option Memory
 copy m zero from to = Some m
 copy m (suc n) (Pointer a o) (Pointer b q) =
-    if apart_or_same (suc n) a o b q then option_and_then (write_at m b q) (cells_at m a o (suc n)) else None
+    if apart_or_same (suc n) a o b q then option_and_then (write_at m b q) (cells_at m a o (suc n))
+    else None
 copy m (suc n) from to = None
 
 -- ---- blocks

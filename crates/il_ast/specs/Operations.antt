@@ -1,4 +1,5 @@
--- The operations (QBE IL, "Arithmetic and Bits", "Memory", "Comparisons", "Conversions"), on integers and on pointers and functions. No result: the operation is undefined there.
+-- The operations (QBE IL, "Arithmetic and Bits", "Memory", "Comparisons", "Conversions"), on
+-- integers and on pointers and functions. No result: the operation is undefined there.
 use Rattle.std.specs.Prelude.{ℕ, ◌+◌, ◌-◌, ◌*◌, ◌/◌, ◌%◌, ◌^◌, Bool, true, false, not, nat_eq, nat_lt, nat_le, ◌&&◌, if◌then◌else◌, int_lt, int_le, int_div, int_rem, bit_and, bit_or, bit_xor, Option, Some, None}
 use Rattle.std.specs.Int.{w8, w16, w32, cast_signed, int_shr}
 use Rattle.std.specs.Option.{option_map, option_and_then, option_map_or}
@@ -72,8 +73,10 @@ on_integers Mul c a b = Some ((a * b) % modulus c)
 on_integers And c a b = Some (bit_and a b)
 on_integers Or c a b = Some (bit_or a b)
 on_integers Xor c a b = Some (bit_xor a b)
-on_integers Div c a b = if can_divide c a b then Some (unsigned c (int_div (signed c a) (signed c b))) else None
-on_integers Rem c a b = if can_divide c a b then Some (unsigned c (int_rem (signed c a) (signed c b))) else None
+on_integers Div c a b =
+    if can_divide c a b then Some (unsigned c (int_div (signed c a) (signed c b))) else None
+on_integers Rem c a b =
+    if can_divide c a b then Some (unsigned c (int_rem (signed c a) (signed c b))) else None
 on_integers Udiv c a b = if nat_eq b 0 then None else Some (a / b)
 on_integers Urem c a b = if nat_eq b 0 then None else Some (a % b)
 on_integers Sar c a b = Some (unsigned c (int_shr (signed c a) (shift_amount c b)))
@@ -147,7 +150,8 @@ abbrev pub on_places : Memory → BinaryOp → Value → Value → Option Value
 on_places m Add (Pointer b o) (Integer n) = Some (Pointer b ((o + n) % 2 ^ 64))
 on_places m Add (Integer n) (Pointer b o) = Some (Pointer b ((o + n) % 2 ^ 64))
 on_places m Sub (Pointer b o) (Integer n) = Some (Pointer b ((o + (2 ^ 64 - n)) % 2 ^ 64))
-on_places m Sub (Pointer a o) (Pointer b q) = if nat_eq a b then Some (Integer ((o + (2 ^ 64 - q % 2 ^ 64)) % 2 ^ 64)) else None
+on_places m Sub (Pointer a o) (Pointer b q) =
+    if nat_eq a b then Some (Integer ((o + (2 ^ 64 - q % 2 ^ 64)) % 2 ^ 64)) else None
 on_places m (Compare on k) u v = option_map (λ t. Integer (truth t)) (compare_places m on u v)
 on_places m op u v = None
 

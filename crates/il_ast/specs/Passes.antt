@@ -9,8 +9,10 @@ use Rattle.il_ast.specs.Run.{Outcome, body}
 use Rattle.il_ast.specs.Logged.{Event}
 use Rattle.il_ast.specs.Keeps.{Asked, Given, Body, KeepsMeaning, KeepsCode}
 
--- A function's code, as passes see it: the classes of its parameters and of its result; the weight of all that its text marks, each counted once; the bytes of the
--- blocks of memory that it makes; the most arguments past the eighth that a call of it passes; how many places it has; and how it runs, given its text's global names.
+-- A function's code, as passes see it: the classes of its parameters and of its result; the weight
+-- of all that its text marks, each counted once; the bytes of the blocks of memory that it makes;
+-- the most arguments past the eighth that a call of it passes; how many places it has; and how it
+-- runs, given its text's global names.
 pub record Coded : Type 1 where
   pub State : Type 0
   pub params : List Class
@@ -22,8 +24,9 @@ pub record Coded : Type 1 where
   pub start : Given → State
   pub step : List Value → Given → State → Event State Asked Outcome
 
--- The second code keeps the first: it has the same parameters and result, takes no more of anything, and where the first runs as an outcome that is not undefined, so
--- does the second, with the same calls, whatever the global names mean and however the calls go.
+-- The second code keeps the first: it has the same parameters and result, takes no more of
+-- anything, and where the first runs as an outcome that is not undefined, so does the second, with
+-- the same calls, whatever the global names mean and however the calls go.
 pub record Keeps (before after : Coded) : Type 0 where
   pub params : after.params ≡ before.params
   pub result : after.result ≡ before.result
@@ -31,16 +34,19 @@ pub record Keeps (before after : Coded) : Type 0 where
   pub area : after.area ≤ before.area
   pub outgoing : after.outgoing ≤ before.outgoing
   pub places : after.places ≤ before.places
-  pub runs : (globals : List Value) → KeepsCode before.params before.start (before.step globals) after.start (after.step globals)
+  pub runs : (globals : List Value) → KeepsCode before.params before.start (before.step globals)
+      after.start (after.step globals)
 
 abbrev pub classes_of : List Param → List Class
 classes_of params = map (λ (x : Param). x.class) params
 
 -- what a function means, with these values of its text's global names
 abbrev pub body_of : Func → (globals : List Value) → Body
-body_of f globals callees i = body (record { func = f; globals = globals }) callees i.turns i.room i.args i.memory
+body_of f globals callees i =
+    body (record { func = f; globals = globals }) callees i.turns i.room i.args i.memory
 
--- The code is a function's: given arguments of its parameters' classes it runs as the function's body, and it takes no more than the function is counted for.
+-- The code is a function's: given arguments of its parameters' classes it runs as the function's
+-- body, and it takes no more than the function is counted for.
 pub record IsCodeOf (f : Func) (c : Coded) : Type 0 where
   pub params : c.params ≡ classes_of f.params
   pub result : c.result ≡ f.result
@@ -48,4 +54,5 @@ pub record IsCodeOf (f : Func) (c : Coded) : Type 0 where
   pub area : c.area ≤ alloc_area f
   pub outgoing : c.outgoing ≤ largest_of f.blocks
   pub places : c.places ≤ length f.temps + phi_count f
-  pub runs : (globals : List Value) → KeepsMeaning (classes_of f.params) c.start (c.step globals) (body_of f globals)
+  pub runs : (globals : List Value) → KeepsMeaning (classes_of f.params) c.start (c.step globals)
+      (body_of f globals)

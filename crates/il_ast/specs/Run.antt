@@ -28,7 +28,12 @@ one_call = record { turns = 0; weight = 0; calls = 1; output = [] }
 -- what was spent by one and then by the other
 abbrev pub both : Spent → Spent → Spent
 both s t =
-    record { turns = s.turns + t.turns; weight = s.weight + t.weight; calls = s.calls + t.calls; output = s.output ++ t.output }
+    record {
+      turns = s.turns + t.turns;
+      weight = s.weight + t.weight;
+      calls = s.calls + t.calls;
+      output = s.output ++ t.output;
+    }
 
 -- how a call goes: it returns, with a result or none, or the run ends in it
 pub data Outcome : Type 0 where
@@ -61,15 +66,18 @@ resume rest t to a (Ended s e) = Ended s e
 -- one turn, with t turns left after it
 abbrev pub perform : Callees → (room : ℕ) → Rest → (turns : ℕ) → Memory → Effect → Outcome
 perform callees room rest t m (Goes w a now) = after (one_turn w) (rest t a now)
-perform callees room rest t m (Calls w call to a) = after (one_turn w) (resume rest t to a (callees call t room m))
+perform callees room rest t m (Calls w call to a) =
+    after (one_turn w) (resume rest t to a (callees call t room m))
 perform callees room rest t m (Returns v now) = Returned (one_turn 1) v now
 perform callees room rest t m (Ends e) = Ended (one_turn 1) e
 
--- at most so many steps, and turns: a turn that is due where none is left ends the run before anything of it is done
+-- at most so many steps, and turns: a turn that is due where none is left ends the run before
+-- anything of it is done
 unfoldable pub run : Env → Callees → (room : ℕ) → (steps : ℕ) → Rest
 run env callees room zero t a m = Ended nothing Turns
 run env callees room (suc k) zero a m = Ended nothing Turns
-run env callees room (suc k) (suc t) a m = perform callees room (run env callees room k) t m (effect env a m)
+run env callees room (suc k) (suc t) a m =
+    perform callees room (run env callees room k) t m (effect env a m)
 
 abbrev pub with_args : List (Option Value) → List Param → List Value → List (Option Value)
 with_args temps [] vs = temps
@@ -79,9 +87,18 @@ with_args temps (p ∷ ps) (v ∷ vs) = with_args (slice_set temps p.temp (Some 
 -- the activation at the begin of a call
 abbrev pub begun : Func → List Value → Activation
 begun f args =
-    record { block = 0; next = 0; locals = record { temps = with_args (replicate (length f.temps) None) f.params args; owned = [] } }
+    record {
+      block = 0;
+      next = 0;
+      locals = record {
+        temps = with_args
+            (replicate (length f.temps) None) f.params args;
+        owned = [];
+      };
+    }
 
--- the run of a function's body: steps above the turns change nothing, so as many as turns are enough
+-- the run of a function's body: steps above the turns change nothing, so as many as turns are
+-- enough
 abbrev pub body : Env → Callees → (turns room : ℕ) → List Value → Memory → Outcome
 body env callees t room args m = run env callees room t t (begun env.func args) m
 

@@ -33,10 +33,12 @@ globals_of p t = values_of (slice_get p.targets t)
 
 -- ---- data
 
--- a name with an offset: a pointer moved by it; a function, or eight blank cells where its offset isn't 0
+-- a name with an offset: a pointer moved by it; a function, or eight blank cells where its offset
+-- isn't 0
 abbrev pub address_cells : Option Value → ℕ → List Cell
 address_cells (Some (Pointer b o)) offset = parts (Pointer b ((o + offset) % 2 ^ 64))
-address_cells (Some (Function f)) offset = if nat_eq offset 0 then parts (Function f) else replicate 8 Blank
+address_cells (Some (Function f)) offset =
+    if nat_eq offset 0 then parts (Function f) else replicate 8 Blank
 address_cells (Some (Integer n)) offset = replicate 8 Blank
 address_cells None offset = replicate 8 Blank
 
@@ -72,4 +74,5 @@ list_cells first n = pointers_from first n ++ replicate 8 (Plain 0)
 abbrev pub start_memory : Program → List (List ℕ) → Memory
 start_memory p words =
     map (λ (d : Placed DataDef). Some (object_cells p d)) p.objects
-    ++ (map (λ (w : List ℕ). Some (word_cells w)) words ++ Some (list_cells (length p.objects) (length words)) ∷ [])
+    ++ (map (λ (w : List ℕ). Some (word_cells w)) words
+    ++ Some (list_cells (length p.objects) (length words)) ∷ [])

@@ -32,7 +32,8 @@ symbols_in_inst (Binary to op a b) = symbols_in_value a ++ symbols_in_value b
 symbols_in_inst (Alloc to alignment size) = []
 symbols_in_inst (Store size a at) = symbols_in_value a ++ symbols_in_value at
 symbols_in_inst (Blit from to count) = symbols_in_value from ++ symbols_in_value to
-symbols_in_inst (Call to callee args) = symbols_in_value callee ++ flat_map (λ (a : Arg). symbols_in_value a.value) args
+symbols_in_inst (Call to callee args) =
+    symbols_in_value callee ++ flat_map (λ (a : Arg). symbols_in_value a.value) args
 
 abbrev pub symbols_in_jump : Jump → List ℕ
 symbols_in_jump (Goto l) = []
@@ -50,7 +51,8 @@ symbols_in_phi p = flat_map (λ (a : PhiArg). symbols_in_value a.value) p.args
 
 abbrev pub symbols_in_block : Block → List ℕ
 symbols_in_block b =
-    flat_map symbols_in_phi b.phis ++ (flat_map (λ (i : Lined Inst). symbols_in_inst i.item) b.insts ++ symbols_at_end b.jump)
+    flat_map symbols_in_phi b.phis ++ (flat_map (λ (i : Lined Inst). symbols_in_inst i.item) b.insts
+    ++ symbols_at_end b.jump)
 
 abbrev pub symbols_in_item : Item → List ℕ
 symbols_in_item (NumberItem n) = []

@@ -1,4 +1,5 @@
--- Numbers of 32 and 64 bits, their signed reading and their bytes; what a place of a class takes of a value (QBE IL, "Types").
+-- Numbers of 32 and 64 bits, their signed reading and their bytes; what a place of a class takes of
+-- a value (QBE IL, "Types").
 use Rattle.std.specs.Prelude.{ℕ, zero, suc, ◌+◌, ◌*◌, ◌/◌, ◌%◌, ◌^◌, ℤ, Bool, true, false, nat_eq, ◌&&◌, List, [], ◌∷◌, Option, Some, None}
 use Rattle.std.specs.Int.{Width, w32, w64, cast_signed, cast_unsigned}
 use Rattle.il_ast.specs.declared.operation.Class.{Class}

@@ -1,4 +1,5 @@
--- A machine that runs a program turn by turn, with a list of the activations that wait for a result.
+-- A machine that runs a program turn by turn, with a list of the activations that wait for a
+-- result.
 use Rattle.std.specs.Prelude.{ℕ, zero, suc, ◌-◌, nat_lt, if◌then◌else◌, List, [], ◌∷◌, ◌++◌, map, length, replicate, slice_get, slice_set, Option, Some, None}
 use Rattle.std.specs.Option.{option_map}
 use Rattle.il_ast.specs.declared.operation.Class.TheVariants.{W, L}
@@ -28,10 +29,15 @@ pub data Next : Type 0 where
   Over : List ℕ → End → Next
 
 abbrev pub act_of : Frame → Activation
-act_of f = record { block = f.block; next = f.next; locals = record { temps = f.temps; owned = f.owned } }
+act_of f = record {
+  block = f.block;
+  next = f.next;
+  locals = record { temps = f.temps; owned = f.owned };
+}
 
 abbrev pub standing : Frame → Activation → Frame
-standing f a = record f { block = a.block; next = a.next; temps = a.locals.temps; owned = a.locals.owned }
+standing f a =
+    record f { block = a.block; next = a.next; temps = a.locals.temps; owned = a.locals.owned }
 
 abbrev pub env_of : Program → Placed Func → Env
 env_of p f = record { func = f.item; globals = globals_of p f.text }
@@ -42,12 +48,14 @@ env_of p f = record { func = f.item; globals = globals_of p f.text }
 abbrev pub received : State → Option Dest → Option Value → Next
 received st None v = On st
 received st (Some to) None = Over st.output Undefined
-received st (Some to) (Some v) = On (record st { frame = record st.frame { temps = slice_set st.frame.temps to.temp (Some v) } })
+received st (Some to) (Some v) =
+    On (record st { frame = record st.frame { temps = slice_set st.frame.temps to.temp (Some v) } })
 
 -- the return of the activation above these
 abbrev pub return_to : List ℕ → Memory → Option Value → List Frame → Next
 return_to out m v [] = Over out (end_of v)
-return_to out m v (f ∷ fs) = received (record { frame = f; below = fs; memory = m; output = out }) f.waits v
+return_to out m v (f ∷ fs) =
+    received (record { frame = f; below = fs; memory = m; output = out }) f.waits v
 
 -- ---- calls
 
@@ -76,25 +84,30 @@ abbrev pub function_step : State → Option Dest → Call → ℕ → Option (Pl
 function_step st to call k None = Over st.output Undefined
 function_step st to call k (Some f) =
     if call_fits call (map (λ (x : Param). x.class) f.item.params) f.item.result
-    then (if nat_lt st.frame.room (need f.item) then Over st.output Stack else On (entered st to call k f.item))
+    then (if nat_lt st.frame.room (need f.item) then Over st.output Stack
+    else On (entered st to call k f.item))
     else Over st.output Undefined
 
 abbrev pub native_step : State → Option Dest → Outcome → Next
-native_step st to (Returned s v m) = received (record st { memory = m; output = st.output ++ s.output }) to v
+native_step st to (Returned s v m) =
+    received (record st { memory = m; output = st.output ++ s.output }) to v
 native_step st to (Ended s e) = Over (st.output ++ s.output) e
 
 abbrev pub named_step : Program → State → Option Dest → Call → Callee → Next
 named_step p st to call (Defined k) = function_step st to call k (slice_get p.functions k)
 named_step p st to call SystemWrite =
-    if call_fits call (W ∷ L ∷ L ∷ []) (Some L) then native_step st to (write_call call.args st.memory) else Over st.output Undefined
+    if call_fits call (W ∷ L ∷ L ∷ []) (Some L)
+    then native_step st to (write_call call.args st.memory) else Over st.output Undefined
 named_step p st to call SystemExit =
-    if call_fits call (W ∷ []) None then native_step st to (exit_call call.args) else Over st.output Undefined
+    if call_fits call (W ∷ []) None then native_step st to (exit_call call.args)
+    else Over st.output Undefined
 
 -- ---- turns
 
 abbrev pub react : Program → State → Effect → Next
 react p st (Goes w a m) = On (record st { frame = standing st.frame a; memory = m })
-react p st (Calls w call to a) = named_step p (record st { frame = standing st.frame a }) to call call.callee
+react p st (Calls w call to a) =
+    named_step p (record st { frame = standing st.frame a }) to call call.callee
 react p st (Returns v m) = return_to st.output m v st.below
 react p st (Ends e) = Over st.output e
 
@@ -123,12 +136,18 @@ main_frame m call k (Some f) =
     if call_fits call (map (λ (x : Param). x.class) f.item.params) f.item.result
     then (if nat_lt stack_room (need f.item)
     then Over [] Stack
-    else On (record { frame = first_frame k stack_room f.item call.args; below = []; memory = m; output = [] }))
+    else On (record {
+      frame = first_frame k stack_room f.item call.args;
+      below = [];
+      memory = m;
+      output = [];
+    }))
     else Over [] Undefined
 
 -- `main` is called
 unfoldable pub started : Program → List (List ℕ) → Next
-started p words = main_frame (start_memory p words) (main_call p words) p.main (slice_get p.functions p.main)
+started p words =
+    main_frame (start_memory p words) (main_call p words) p.main (slice_get p.functions p.main)
 
 -- ---- pieces of a turn
 
@@ -147,4 +166,9 @@ stepped st (Some e) = Over st.output e
 -- a call of this function with these arguments
 abbrev pub call_of : Callee → Option Dest → List Arg → List Value → Call
 call_of f to args values =
-    record { callee = f; classes = map (λ (a : Arg). a.class) args; wants = option_map (λ (d : Dest). d.class) to; args = values }
+    record {
+      callee = f;
+      classes = map (λ (a : Arg). a.class) args;
+      wants = option_map (λ (d : Dest). d.class) to;
+      args = values;
+    }

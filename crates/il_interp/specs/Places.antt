@@ -17,4 +17,5 @@ placed tables k l = option_and_then (λ table. place_in table l) (slice_get tabl
 
 -- the place of the block with this label in this function
 abbrev pub places_of : List (Placed Func) → ℕ → ℕ → Option ℕ
-places_of functions k l = option_and_then (λ (f : Placed Func). place_of f.item.blocks l) (slice_get functions k)
+places_of functions k l =
+    option_and_then (λ (f : Placed Func). place_of f.item.blocks l) (slice_get functions k)

@@ -8,4 +8,5 @@ use Rattle.il_ast.specs.Cost.{need}
 abbrev pub LeavesRoom : Option (Placed Func) → ℕ → Option ℕ → Type 0
 LeavesRoom None room left = Unit {0}
 LeavesRoom (Some f) room None = nat_lt room (need f.item) ≡ true
-LeavesRoom (Some f) room (Some left) = (nat_lt room (need f.item) ≡ false) × (left ≡ room - need f.item)
+LeavesRoom (Some f) room (Some left) =
+    (nat_lt room (need f.item) ≡ false) × (left ≡ room - need f.item)

@@ -30,7 +30,7 @@ is_symbol b = b == 44 || (b == 61 || (b == 123 || (b == 125 || (b == 40 || (b ==
 abbrev pub is_in_comment : ℕ → Bool
 is_in_comment b = not (b == 10 || b == 13)
 
--- what may follow a token that is no symbol with nothing between: spacing, a line feed, the `#` of a
--- comment, a symbol
+-- what may follow a token that is no symbol with nothing between: spacing, a line feed, the `#` of
+-- a comment, a symbol
 abbrev pub ends_token : ℕ → Bool
 ends_token b = is_spacing b || (b == 10 || (b == 35 || is_symbol b))

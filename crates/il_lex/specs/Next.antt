@@ -48,7 +48,8 @@ IsSpacing bytes = IsTrue (list_all is_spacing bytes)
 abbrev pub IsBlank : List ℕ → Type 0
 IsBlank bytes =
     IsSpacing bytes
-    ⊎ ((spacing comment : List ℕ) × (bytes ≡ spacing ++ (35 ∷ comment)) × IsSpacing spacing × IsTrue (list_all is_in_comment comment))
+    ⊎ ((spacing comment : List ℕ) × (bytes ≡ spacing ++ (35 ∷ comment)) × IsSpacing spacing
+    × IsTrue (list_all is_in_comment comment))
 
 -- what may stand before a token: spacing, and before the end of a line perhaps a comment
 abbrev pub IsGap : Kind → List ℕ → Type 0
@@ -83,10 +84,11 @@ pub record IsBad (bytes : List ℕ) : Type 0 where
   pub end : ¬ IsEnd bytes
   pub next : (kind : Kind) (gap text rest : List ℕ) → ¬ IsNext bytes kind gap text rest
 
--- what `scan` answers: the end, or the kind and the lengths of the gap and the text of the next token,
--- or that neither is there
+-- what `scan` answers: the end, or the kind and the lengths of the gap and the text of the next
+-- token, or that neither is there
 abbrev pub IsAhead : List ℕ → Ahead → Type 0
 IsAhead bytes End = IsEnd bytes
 IsAhead bytes Bad = IsBad bytes
 IsAhead bytes (Found kind gap len) =
-    IsNext bytes kind (take gap bytes) (take len (drop gap bytes)) (drop len (drop gap bytes)) × (0 < len) × (gap + len ≤ length bytes)
+    IsNext bytes kind (take gap bytes) (take len (drop gap bytes)) (drop len (drop gap bytes))
+    × (0 < len) × (gap + len ≤ length bytes)

@@ -5,7 +5,8 @@ use Rattle.il_lex.specs.Bytes.{is_octal}
 
 -- a byte that stands for itself: printable ASCII or above 127, but neither `"` nor a backslash
 abbrev pub is_plain : ℕ → Bool
-is_plain b = ((nat_le 32 b && nat_le b 126) || (nat_le 128 b && nat_le b 255)) && not (b == 34 || b == 92)
+is_plain b =
+    ((nat_le 32 b && nat_le b 126) || (nat_le 128 b && nat_le b 255)) && not (b == 34 || b == 92)
 
 -- what a character behind a backslash stands for: `\` `"` `n` `t` `r` `b` `f`
 abbrev pub escaped : ℕ → Option ℕ
@@ -48,7 +49,8 @@ IsItem item byte after =
 abbrev pub Spells : List ℕ → List ℕ → Type 0
 Spells text [] = text ≡ 34 ∷ []
 Spells text (byte ∷ bytes) =
-    (item : List ℕ) × (after : List ℕ) × (text ≡ item ++ after) × IsItem item byte after × Spells after bytes
+    (item : List ℕ) × (after : List ℕ) × (text ≡ item ++ after) × IsItem item byte after
+    × Spells after bytes
 
 -- `text` is a string with its quotes, and stands for the bytes
 abbrev pub IsString : List ℕ → List ℕ → Type 0

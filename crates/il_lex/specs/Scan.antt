@@ -14,13 +14,15 @@ use Rattle.il_lex.specs.declared.scan.Ahead.TheVariants.{End, Bad, Found}
 -- the value of the digits behind digits of value n, unless it passes 64 bits
 abbrev pub number_from : ℕ → List ℕ → Option ℕ
 number_from n [] = Some n
-number_from n (d ∷ ds) = if nat_lt (10 * n + (d - 48)) (2 ^ 64) then number_from (10 * n + (d - 48)) ds else None
+number_from n (d ∷ ds) =
+    if nat_lt (10 * n + (d - 48)) (2 ^ 64) then number_from (10 * n + (d - 48)) ds else None
 
 -- an octal item, from its third digit, its second, its first: its byte and its length
 abbrev pub octal_third : ℕ → List ℕ → Option (ℕ × ℕ)
 octal_third n [] = Some (n, 3)
 octal_third n (d ∷ ds) =
-    if is_octal d then (if nat_le (8 * n + (d - 48)) 0xff then Some (8 * n + (d - 48), 4) else None) else Some (n, 3)
+    if is_octal d then (if nat_le (8 * n + (d - 48)) 0xff then Some (8 * n + (d - 48), 4) else None)
+    else Some (n, 3)
 
 abbrev pub octal_second : ℕ → List ℕ → Option (ℕ × ℕ)
 octal_second n [] = Some (n, 2)
@@ -29,7 +31,8 @@ octal_second n (d ∷ ds) = if is_octal d then octal_third (8 * n + (d - 48)) ds
 -- what stands behind a backslash
 abbrev pub escape : List ℕ → Option (ℕ × ℕ)
 escape [] = None
-escape (c ∷ cs) = if is_octal c then octal_second (c - 48) cs else option_map (λ byte. (byte, 2)) (escaped c)
+escape (c ∷ cs) =
+    if is_octal c then octal_second (c - 48) cs else option_map (λ byte. (byte, 2)) (escaped c)
 
 -- the item of a string at the front: its byte and its length
 unfoldable pub item : List ℕ → Option (ℕ × ℕ)
@@ -62,7 +65,8 @@ abbrev pub is_ended : List ℕ → Bool
 is_ended [] = true
 is_ended (b ∷ bs) = ends_token b
 
--- a token's kind and length, of what stands behind its first byte: digits, a name, a minus sign, a quote
+-- a token's kind and length, of what stands behind its first byte: digits, a name, a minus sign, a
+-- quote
 unfoldable pub natural : List ℕ → Option (Kind × ℕ)
 natural bytes =
     let len = prefix_len is_digit bytes in
@@ -77,7 +81,8 @@ unfoldable pub negative : List ℕ → Option (Kind × ℕ)
 negative bytes =
     let len = prefix_len is_digit bytes in
     if len == 0 then None else
-    option_and_then (λ amount. if nat_le amount (2 ^ 63) then Some (Negative ((2 ^ 64 - amount) % 2 ^ 64), 1 + len) else None)
+    option_and_then (λ amount. if nat_le amount (2 ^ 63)
+    then Some (Negative ((2 ^ 64 - amount) % 2 ^ 64), 1 + len) else None)
     (number_from 0 (take len bytes))
 
 unfoldable pub quoted : List ℕ → Option (Kind × ℕ)
@@ -116,12 +121,14 @@ line_end gap (b ∷ bs) = if b == 10 then Found Newline gap 1 else Bad
 
 -- what follows `#`
 unfoldable pub comment : ℕ → List ℕ → Ahead
-comment gap bytes = let len = prefix_len is_in_comment bytes in line_end (gap + 1 + len) (drop len bytes)
+comment gap bytes = let len =
+    prefix_len is_in_comment bytes in line_end (gap + 1 + len) (drop len bytes)
 
 -- a token that is no symbol has to be ended by what follows
 abbrev pub ended : ℕ → List ℕ → Option (Kind × ℕ) → Ahead
 ended gap bytes None = Bad
-ended gap bytes (Some token) = if is_ended (drop token.1 bytes) then Found token.0 gap token.1 else Bad
+ended gap bytes (Some token) =
+    if is_ended (drop token.1 bytes) then Found token.0 gap token.1 else Bad
 
 abbrev pub symbol_or : ℕ → List ℕ → Option TheSymbol → Ahead
 symbol_or gap bytes (Some s) = Found (Symbol s) gap 1

@@ -24,16 +24,21 @@ cells_put o new cells = option_and_then (λ xs. put o xs cells) new
 -- the cells with n of them, from offset o, copied to offset q; the two spans are the same or apart
 abbrev pub within_put : ℕ → ℕ → ℕ → List Cell → Option (List Cell)
 within_put q o n cells =
-    if nat_eq o q || (nat_le (o + n) q || nat_le (q + n) o) then cells_put q (span o n cells) cells else None
+    if nat_eq o q || (nat_le (o + n) q || nat_le (q + n) o) then cells_put q (span o n cells) cells
+    else None
 
--- the block becomes what f gives for it; where f gives nothing the answer is false and the block stays
-pub record ChangesBlock (f : List Cell → Option (List Cell)) (old new : List Cell) (changed : Bool) : Type 0 where
+-- the block becomes what f gives for it; where f gives nothing the answer is false and the block
+-- stays
+pub record ChangesBlock (f : List Cell → Option (List Cell)) (old new : List Cell)
+    (changed : Bool) : Type 0 where
   pub done : changed ≡ true → f old ≡ Some new
   pub nothing : changed ≡ false → f old ≡ None
   pub stays : changed ≡ false → new ≡ old
 
--- the block with this number becomes what f gives for it, and the others stay; without such a block, or where f gives nothing, the answer is false and all stay
-pub record Changes (f : List Cell → Option (List Cell)) (old new : BTreeMap ℕ (List Cell)) (key : ℕ) (changed : Bool) : Type 0 where
+-- the block with this number becomes what f gives for it, and the others stay; without such a
+-- block, or where f gives nothing, the answer is false and all stay
+pub record Changes (f : List Cell → Option (List Cell)) (old new : BTreeMap ℕ (List Cell)) (key : ℕ)
+    (changed : Bool) : Type 0 where
   pub done : changed ≡ true → get nat_cmp new key ≡ option_and_then f (get nat_cmp old key)
   pub found : changed ≡ is_some (option_and_then f (get nat_cmp old key))
   pub stays : changed ≡ false → get nat_cmp new key ≡ get nat_cmp old key

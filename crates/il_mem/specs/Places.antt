@@ -13,9 +13,11 @@ place_in (Function f) = None
 
 -- n cells from o in block a, copied to q in block b
 abbrev pub copied_place : Memory → ℕ → ℕ → ℕ → ℕ → ℕ → Option Memory
-copied_place m n a o b q = if apart_or_same n a o b q then option_and_then (write_at m b q) (cells_at m a o n) else None
+copied_place m n a o b q =
+    if apart_or_same n a o b q then option_and_then (write_at m b q) (cells_at m a o n) else None
 
--- the answer says whether there is a wanted memory; then it is the new one, and else nothing has changed
+-- the answer says whether there is a wanted memory; then it is the new one, and else nothing has
+-- changed
 pub record Gives (wanted : Option Memory) (old new : Memory) (given : Bool) : Type 0 where
   pub done : given ≡ true → wanted ≡ Some new
   pub nothing : given ≡ false → wanted ≡ None

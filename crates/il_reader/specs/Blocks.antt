@@ -1,4 +1,5 @@
--- The rules of a block and its lines as functions of the state, which look at no more than the next token.
+-- The rules of a block and its lines as functions of the state, which look at no more than the next
+-- token.
 use Rattle.std.specs.Prelude.{ℕ, zero, suc, length, Bool, true, false, not, if◌then◌else◌, List, [], ◌∷◌, codes, is_some, Option, Some, None, option_and_then}
 use Rattle.std.specs.Option.{option_map}
 use Rattle.il_lex.specs.declared.kind.Symbol.TheVariants.{LeftParen, RightParen}
@@ -31,7 +32,8 @@ abbrev pub operation_of : List ℕ → Option Operation
 operation_of text =
     if is_text (codes "phi") text then Some PhiWord
     else (if is_text (codes "call") text then Some CallWord
-    else or_else (option_map AllocWord (alloc_of text)) (or_else (option_map UnaryWord (unary_of text)) (option_map BinaryWord (binary_of text))))
+    else or_else (option_map AllocWord (alloc_of text))
+    (or_else (option_map UnaryWord (unary_of text)) (option_map BinaryWord (binary_of text))))
 
 -- a call behind its word
 abbrev pub called : Option Dest → Step Inst
@@ -116,17 +118,19 @@ with_phi p x = Some ((p ∷ x.0.0, x.0.1), x.1)
 abbrev pub with_inst : Lined Inst → Lines × State → Option (Lines × State)
 with_inst i x = Some ((x.0.0, i ∷ x.0.1), x.1)
 
--- a line before others, which are read by a function of whether an instruction has come: no phi stands
--- behind an instruction
+-- a line before others, which are read by a function of whether an instruction has come: no phi
+-- stands behind an instruction
 abbrev pub before_lines : (Bool → Step Lines) → Bool → Statement → Step Lines
-before_lines more begun (PhiLine p) s = if begun then None else option_and_then (with_phi p) (more false s)
+before_lines more begun (PhiLine p) s =
+    if begun then None else option_and_then (with_phi p) (more false s)
 before_lines more begun (InstLine i) s = option_and_then (with_inst i) (more true s)
 
 -- at most n lines before the jump, where an instruction has come or not
 abbrev pub lines : ℕ → Bool → Step Lines
 lines zero begun s = None
 lines (suc n) begun s =
-    if sees_statement s then option_and_then (λ x. before_lines (lines n) begun x.0 x.1) (on_line statement s) else Some (([], []), s)
+    if sees_statement s then option_and_then (λ x. before_lines (lines n) begun x.0 x.1)
+    (on_line statement s) else Some (([], []), s)
 
 abbrev pub body : Step Lines
 body s = lines (suc (length s.rest)) false s

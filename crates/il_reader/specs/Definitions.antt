@@ -58,7 +58,8 @@ parameter = do
   give (record { line = n; temp = t; class = c })
 
 abbrev pub parameters : Step (List Param)
-parameters s = if sees is_word s then commas (sees is_comma) comma (sees is_word) parameter s else Some ([], s)
+parameters s =
+    if sees is_word s then commas (sees is_comma) comma (sees is_word) parameter s else Some ([], s)
 
 -- a new function has no names yet
 abbrev pub forget_names : Step (Unit {0})
@@ -204,7 +205,13 @@ object exported = do
   head ← object_head
   a ← alignment
   xs ← fields
-  give (record { line = head.0; exported = exported; name = head.1; alignment = unwrap_or a 8; fields = xs })
+  give (record {
+    line = head.0;
+    exported = exported;
+    name = head.1;
+    alignment = unwrap_or a 8;
+    fields = xs;
+  })
 
 -- ---- texts
 
@@ -217,12 +224,14 @@ definition_parts (Function f) = FunctionOf (function_parts f)
 definition_parts (Object d) = ObjectOf d
 
 abbrev pub exporting : Step Bool
-exporting = either (sees_word (is_text (codes "export"))) (word (codes "export") >> (newlines >> give true)) (give false)
+exporting = either (sees_word (is_text (codes "export")))
+    (word (codes "export") >> (newlines >> give true)) (give false)
 
 abbrev pub definition : Step DefinitionParts
 definition = do
   exported ← exporting
-  either (sees_word (is_text (codes "data"))) (object exported >>= λ d. give (ObjectOf d)) (function exported >>= λ f. give (FunctionOf f))
+  either (sees_word (is_text (codes "data"))) (object exported >>= λ d. give (ObjectOf d))
+      (function exported >>= λ f. give (FunctionOf f))
 
 -- the ends of lines between definitions
 abbrev pub between : Step (Unit {0})
@@ -230,7 +239,8 @@ between = line_ends >> give tt
 
 abbrev pub definitions : Step (List DefinitionParts)
 definitions =
-    newlines >> (λ s. if sees is_word s then commas (sees is_newline) between (sees is_word) definition s else Some ([], s))
+    newlines >> (λ s. if sees is_word s then commas (sees is_newline) between (sees is_word)
+    definition s else Some ([], s))
 
 -- the parts of a text
 pub record TextParts : Type 0 where
@@ -240,7 +250,13 @@ pub record TextParts : Type 0 where
   pub bytes : ℕ
 
 abbrev pub text_parts : Text → TextParts
-text_parts t = record { definitions = map definition_parts t.definitions; symbols = t.symbols; lines = t.lines; bytes = t.bytes }
+text_parts t =
+    record {
+      definitions = map definition_parts t.definitions;
+      symbols = t.symbols;
+      lines = t.lines;
+      bytes = t.bytes;
+    }
 
 abbrev pub is_end : Ahead → Bool
 is_end End = true
@@ -250,7 +266,12 @@ is_end (Found kind gap len) = false
 -- the parts of the text that these definitions make, where nothing is left behind them
 abbrev pub whole : List ℕ → List DefinitionParts × State → Option TextParts
 whole bytes x =
-    if is_end (scan x.1.rest) then Some (record { definitions = x.0; symbols = x.1.symbols; lines = lines_in bytes + 1; bytes = length bytes }) else None
+    if is_end (scan x.1.rest) then Some (record {
+      definitions = x.0;
+      symbols = x.1.symbols;
+      lines = lines_in bytes + 1;
+      bytes = length bytes;
+    }) else None
 
 abbrev pub text_step : List ℕ → Option TextParts
 text_step bytes = option_and_then (whole bytes) (definitions (start bytes))

@@ -31,7 +31,15 @@ abbrev pub empty_text : List ℕ
 empty_text = codes "# no definition\n"
 
 abbrev pub empty_tree : Text
-empty_tree = record { definitions = []; symbols = []; lines = 2; bytes = 16; symbols_in_order = refl; symbols_distinct = refl }
+empty_tree =
+    record {
+      definitions = [];
+      symbols = [];
+      lines = 2;
+      bytes = 16;
+      symbols_in_order = refl;
+      symbols_distinct = refl;
+    }
 
 -- a comma may stand behind the last field
 abbrev pub data_text : List ℕ
@@ -39,7 +47,14 @@ data_text = codes "data $d = { b 1 -2, z 3, }"
 
 abbrev pub data_tree : Text
 data_tree = record {
-  definitions = Object (record { line = 1; exported = false; name = 0; alignment = 8; fields = Items Byte (Number 1 ∷ Number (2 ^ 64 - 2) ∷ []) ∷ Zeros 3 ∷ [] }) ∷ [];
+  definitions =
+      Object (record {
+        line = 1;
+        exported = false;
+        name = 0;
+        alignment = 8;
+        fields = Items Byte (Number 1 ∷ Number (2 ^ 64 - 2) ∷ []) ∷ Zeros 3 ∷ [];
+      }) ∷ [];
   symbols = codes "d" ∷ [];
   lines = 1;
   bytes = 26;
@@ -53,7 +68,15 @@ table_text = codes "export\ndata $d = align 4 {\n l $g + 8 $d\n, b \"a\\0\" }\n"
 
 abbrev pub table_tree : Text
 table_tree = record {
-  definitions = Object (record { line = 2; exported = true; name = 0; alignment = 4; fields = Items Long (Address 1 8 ∷ Address 0 0 ∷ []) ∷ Items Byte (Bytes (97 ∷ 0 ∷ []) ∷ []) ∷ [] }) ∷ [];
+  definitions =
+      Object (record {
+        line = 2;
+        exported = true;
+        name = 0;
+        alignment = 4;
+        fields = Items Long (Address 1 8 ∷ Address 0 0 ∷ []) ∷ Items Byte (Bytes (97 ∷ 0 ∷ []) ∷ [])
+            ∷ [];
+      }) ∷ [];
   symbols = codes "d" ∷ codes "g" ∷ [];
   lines = 5;
   bytes = 52;
@@ -65,7 +88,8 @@ table_tree = record {
 
 -- @a goes to @b; the names of another function begin anew
 abbrev pub falls_text : List ℕ
-falls_text = codes "function w $f(w %x) {\n@a\n%y =w add %x, 1\n@b\nret %y\n}\nfunction $g() {\n@b\n%r =l call $f(w 7,)\nret\n}"
+falls_text =
+    codes "function w $f(w %x) {\n@a\n%y =w add %x, 1\n@b\nret %y\n}\nfunction $g() {\n@b\n%r =l call $f(w 7,)\nret\n}"
 
 abbrev pub falls_tree : Text
 falls_tree = record {
@@ -77,8 +101,21 @@ falls_tree = record {
         result = Some W;
         params = record { line = 1; temp = 0; class = W } ∷ [];
         blocks =
-            record { line = 2; label = 0; phis = []; insts = on 3 (Binary (to 1 W) Add (Temp 0) (Int 1)) ∷ []; jump = Some (on 4 (Goto 1)) }
-            ∷ record { line = 4; label = 1; phis = []; insts = []; jump = Some (on 5 (Return (Some (Temp 1)))) }
+            record {
+              line = 2;
+              label = 0;
+              phis = [];
+              insts = on 3 (Binary (to 1 W) Add (Temp 0) (Int 1)) ∷ [];
+              jump =
+                  Some (on 4 (Goto 1));
+            }
+            ∷ record {
+              line = 4;
+              label = 1;
+              phis = [];
+              insts = [];
+              jump = Some (on 5 (Return (Some (Temp 1))));
+            }
             ∷ [];
         temps = codes "x" ∷ codes "y" ∷ [];
         labels = codes "a" ∷ codes "b" ∷ [];
@@ -95,7 +132,15 @@ falls_tree = record {
         name = 1;
         result = None;
         params = [];
-        blocks = record { line = 8; label = 0; phis = []; insts = on 9 (Call (Some (to 0 L)) (Global 0) (record { class = W; value = Int 7 } ∷ [])) ∷ []; jump = Some (on 10 (Return None)) } ∷ [];
+        blocks = record {
+          line = 8;
+          label = 0;
+          phis = [];
+          insts = on 9 (Call (Some (to 0 L)) (Global 0)
+              (record { class = W; value = Int 7 } ∷ [])) ∷ [];
+          jump = Some (on 10 (Return None));
+        }
+            ∷ [];
         temps = codes "r" ∷ [];
         labels = codes "b" ∷ [];
         temps_in_order = refl;
@@ -115,7 +160,8 @@ falls_tree = record {
 
 -- a phi names a temporary and labels before they are defined; the last block may lack a jump
 abbrev pub loop_text : List ℕ
-loop_text = codes "function $f() {\n@a\njmp @l\n@l\n%i =w phi @a 0, @l %j\n%j =w loadw $p\njnz %j, @l, @e\n@e\nstorel %i, $p\n}\n"
+loop_text = codes
+    "function $f() {\n@a\njmp @l\n@l\n%i =w phi @a 0, @l %j\n%j =w loadw $p\njnz %j, @l, @e\n@e\nstorel %i, $p\n}\n"
 
 abbrev pub loop_tree : Text
 loop_tree = record {
@@ -131,11 +177,22 @@ loop_tree = record {
             ∷ record {
               line = 4;
               label = 1;
-              phis = record { line = 5; to = to 0 W; args = record { from = 0; value = Int 0 } ∷ record { from = 1; value = Temp 1 } ∷ [] } ∷ [];
+              phis = record {
+                line = 5;
+                to = to 0 W;
+                args = record { from = 0; value = Int 0 } ∷ record { from = 1; value = Temp 1 }
+                    ∷ [];
+              } ∷ [];
               insts = on 6 (Unary (to 1 W) (Load SignedWord) (Global 1)) ∷ [];
               jump = Some (on 7 (Branch (Temp 1) 1 2));
             }
-            ∷ record { line = 8; label = 2; phis = []; insts = on 9 (Store Long (Temp 0) (Global 1)) ∷ []; jump = None }
+            ∷ record {
+              line = 8;
+              label = 2;
+              phis = [];
+              insts = on 9 (Store Long (Temp 0) (Global 1)) ∷ [];
+              jump = None;
+            }
             ∷ [];
         temps = codes "i" ∷ codes "j" ∷ [];
         labels = codes "a" ∷ codes "l" ∷ codes "e" ∷ [];

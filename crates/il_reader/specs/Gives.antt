@@ -22,11 +22,13 @@ use Rattle.il_reader.specs.Reading.{is_newline, is_word}
 
 -- what a step reads and the state afterwards, and a syntax error only where the step reads nothing
 abbrev pub Gives : {A : Type 0} → Step A → State → State → Result A Fault → Type 0
-Gives step old new result = MatchResult result (λ x. step old ≡ Some (x, new)) (λ e. e ≡ Syntax → step old ≡ None)
+Gives step old new result =
+    MatchResult result (λ x. step old ≡ Some (x, new)) (λ e. e ≡ Syntax → step old ≡ None)
 
 -- the same of a step that reads a text
 abbrev pub GivesText : Step (List ℕ) → State → State → Result (Bor (List ℕ)) Fault → Type 0
-GivesText step old new result = MatchResult result (λ text. step old ≡ Some (text.now, new)) (λ e. e ≡ Syntax → step old ≡ None)
+GivesText step old new result =
+    MatchResult result (λ text. step old ≡ Some (text.now, new)) (λ e. e ≡ Syntax → step old ≡ None)
 
 -- a table of words, as the code keeps it
 abbrev pub rows_of : {A : Type 0} → List (Bor (List ℕ) × A) → List (List ℕ × A)
@@ -46,15 +48,19 @@ abbrev pub passed : {A : Type 0} → Option (A × State) → Option State
 passed read = option_map (λ x. x.1) read
 
 -- lines of a block, behind the phis and instructions that have been read
-abbrev pub with_lines : List Phi → List (Lined Inst) → Option (Lines × State) → Option (Lines × State)
+abbrev pub with_lines : List Phi → List (Lined Inst) → Option (Lines × State) →
+    Option (Lines × State)
 with_lines phis insts read = option_map (λ x. ((phis ++ x.0.0, insts ++ x.0.1), x.1)) read
 
 -- a line of a block behind others, and whether an instruction is among them
-abbrev pub one_line : Bool → List Phi → List (Lined Inst) → Statement → State → Option ((Lines × Bool) × State)
-one_line begun phis insts (PhiLine phi) s = if begun then None else Some (((phis ++ phi ∷ [], insts), false), s)
+abbrev pub one_line : Bool → List Phi → List (Lined Inst) → Statement → State →
+    Option ((Lines × Bool) × State)
+one_line begun phis insts (PhiLine phi) s =
+    if begun then None else Some (((phis ++ phi ∷ [], insts), false), s)
 one_line begun phis insts (InstLine inst) s = Some (((phis, insts ++ inst ∷ []), true), s)
 
-abbrev pub with_line : Bool → List Phi → List (Lined Inst) → Option (Statement × State) → Option ((Lines × Bool) × State)
+abbrev pub with_line : Bool → List Phi → List (Lined Inst) → Option (Statement × State) →
+    Option ((Lines × Bool) × State)
 with_line begun phis insts read = option_and_then (λ x. one_line begun phis insts x.0 x.1) read
 
 -- a step at least once, then as often as the next token tells
@@ -64,10 +70,17 @@ some look p = p >>= λ x. many look p >>= λ xs. give (x ∷ xs)
 -- a block before the next, to which it goes where it has no jump
 abbrev pub fell : Block → Block → Block
 fell last next =
-    record { line = last.line; label = last.label; phis = last.phis; insts = last.insts; jump = Some (jump_to next last.jump) }
+    record {
+      line = last.line;
+      label = last.label;
+      phis = last.phis;
+      insts = last.insts;
+      jump = Some (jump_to next last.jump);
+    }
 
 -- the next block, and the one before it behind the others
-abbrev pub next_fallen : List Block → Block → Option (Block × State) → Option ((List Block × Block) × State)
+abbrev pub next_fallen : List Block → Block → Option (Block × State) →
+    Option ((List Block × Block) × State)
 next_fallen blocks last read = option_map (λ x. ((blocks ++ fell last x.0 ∷ [], x.0), x.1)) read
 
 -- the blocks behind one, and that one, behind the others
@@ -84,7 +97,9 @@ parts_of definitions = map definition_parts definitions
 
 -- definitions, which may be none
 abbrev pub definition_list : Step (List DefinitionParts)
-definition_list s = if sees is_word s then commas (sees is_newline) between (sees is_word) definition s else Some ([], s)
+definition_list s =
+    if sees is_word s then commas (sees is_newline) between (sees is_word) definition s
+    else Some ([], s)
 
 -- the definitions of a text, where nothing is left behind them
 abbrev pub to_the_end : List DefinitionParts → Step (List DefinitionParts)

@@ -64,7 +64,8 @@ phi = do
 
 -- the operation of a word; `loadw` is `loadsw`
 abbrev pub unary_operation : Rule UnaryOp
-unary_operation s op s' = word (unary_word op) s tt s' ⊎ ((op ≡ Load SignedWord) × word (codes "loadw") s tt s')
+unary_operation s op s' =
+    word (unary_word op) s tt s' ⊎ ((op ≡ Load SignedWord) × word (codes "loadw") s tt s')
 
 abbrev pub binary_operation : Rule BinaryOp
 binary_operation s op s' = word (binary_word op) s tt s'

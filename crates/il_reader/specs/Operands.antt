@@ -42,18 +42,23 @@ size_of = word_in (table size_word (Byte ∷ Half ∷ Word ∷ Long ∷ []))
 
 abbrev pub unary_of : List ℕ → Option UnaryOp
 unary_of = word_in ((codes "loadw", Load SignedWord) ∷ table unary_word (Neg ∷ Copy
-    ∷ Extend SignedWord ∷ Extend UnsignedWord ∷ Extend SignedHalf ∷ Extend UnsignedHalf ∷ Extend SignedByte ∷ Extend UnsignedByte ∷ LoadLong
-    ∷ Load SignedWord ∷ Load UnsignedWord ∷ Load SignedHalf ∷ Load UnsignedHalf ∷ Load SignedByte ∷ Load UnsignedByte ∷ []))
+    ∷ Extend SignedWord ∷ Extend UnsignedWord ∷ Extend SignedHalf ∷ Extend UnsignedHalf
+    ∷ Extend SignedByte ∷ Extend UnsignedByte ∷ LoadLong
+    ∷ Load SignedWord ∷ Load UnsignedWord ∷ Load SignedHalf ∷ Load UnsignedHalf ∷ Load SignedByte
+    ∷ Load UnsignedByte ∷ []))
 
 -- the comparisons of one class
 abbrev pub compared : Class → List BinaryOp
 compared class =
     Compare Equal class ∷ Compare NotEqual class
-    ∷ Compare SignedLessEqual class ∷ Compare SignedLess class ∷ Compare SignedGreaterEqual class ∷ Compare SignedGreater class
-    ∷ Compare UnsignedLessEqual class ∷ Compare UnsignedLess class ∷ Compare UnsignedGreaterEqual class ∷ Compare UnsignedGreater class ∷ []
+    ∷ Compare SignedLessEqual class ∷ Compare SignedLess class ∷ Compare SignedGreaterEqual class
+    ∷ Compare SignedGreater class
+    ∷ Compare UnsignedLessEqual class ∷ Compare UnsignedLess class
+    ∷ Compare UnsignedGreaterEqual class ∷ Compare UnsignedGreater class ∷ []
 
 abbrev pub binary_of : List ℕ → Option BinaryOp
-binary_of = word_in (table binary_word (Add ∷ Sub ∷ Mul ∷ And ∷ Or ∷ Xor ∷ Div ∷ Rem ∷ Udiv ∷ Urem ∷ Sar ∷ Shr ∷ Shl ∷ (compared W ++ compared L)))
+binary_of = word_in (table binary_word (Add ∷ Sub ∷ Mul ∷ And ∷ Or ∷ Xor ∷ Div ∷ Rem ∷ Udiv ∷ Urem
+    ∷ Sar ∷ Shr ∷ Shl ∷ (compared W ++ compared L)))
 
 abbrev pub alloc_of : List ℕ → Option Alignment
 alloc_of = word_in (table alloc_word (Four ∷ Eight ∷ Sixteen ∷ []))

@@ -37,7 +37,8 @@ block = do
   end ← maybe (on_line jump)
   give (record { line = n; label = l; phis = phis; insts = insts; jump = end })
 
--- the jump of a block that is followed by another: its own, or one to that block, on its label's line
+-- the jump of a block that is followed by another: its own, or one to that block, on its label's
+-- line
 abbrev pub jump_to : Block → Option (Lined Jump) → Lined Jump
 jump_to next (Some j) = j
 jump_to next None = record { line = next.line; item = Goto next.label }
@@ -47,7 +48,13 @@ abbrev pub falling : List Block → List Block
 falling [] = []
 falling (b ∷ []) = b ∷ []
 falling (b ∷ next ∷ bs) =
-    record { line = b.line; label = b.label; phis = b.phis; insts = b.insts; jump = Some (jump_to next b.jump) } ∷ falling (next ∷ bs)
+    record {
+      line = b.line;
+      label = b.label;
+      phis = b.phis;
+      insts = b.insts;
+      jump = Some (jump_to next b.jump);
+    } ∷ falling (next ∷ bs)
 
 abbrev pub parameter : Rule Param
 parameter = do
@@ -57,14 +64,18 @@ parameter = do
   give (record { line = n; temp = t; class = c })
 
 -- a function of these parts
-abbrev pub IsFunction : Func → Bool → ℕ → ℕ → Option Class → List Param → List Block → List (List ℕ) × List (List ℕ) → Type 0
+abbrev pub IsFunction : Func → Bool → ℕ → ℕ → Option Class → List Param → List Block →
+    List (List ℕ) × List (List ℕ) → Type 0
 IsFunction f exported n name result params blocks names =
-    (f.line ≡ n) × (f.exported ≡ exported) × (f.name ≡ name) × (f.result ≡ result) × (f.params ≡ params)
+    (f.line ≡ n) × (f.exported ≡ exported) × (f.name ≡ name) × (f.result ≡ result)
+    × (f.params ≡ params)
     × (f.blocks ≡ falling blocks) × (f.temps ≡ names.0) × (f.labels ≡ names.1)
 
-abbrev pub function_of : Bool → ℕ → ℕ → Option Class → List Param → List Block → List (List ℕ) × List (List ℕ) → Rule Definition
+abbrev pub function_of : Bool → ℕ → ℕ → Option Class → List Param → List Block →
+    List (List ℕ) × List (List ℕ) → Rule Definition
 function_of exported n name result params blocks names s d s' =
-    (f : Func) × (d ≡ Function f) × IsFunction f exported n name result params blocks names × (s' ≡ s)
+    (f : Func) × (d ≡ Function f) × IsFunction f exported n name result params blocks names
+    × (s' ≡ s)
 
 abbrev pub function : Bool → Rule Definition
 function exported = do
@@ -128,7 +139,13 @@ object exported = do
   spaced (piece LeftBrace)
   fields ← commas (spaced comma) (items ∥ zeros)
   piece RightBrace
-  give (Object (record { line = n; exported = exported; name = name; alignment = unwrap_or aligned 8; fields = fields }))
+  give (Object (record {
+    line = n;
+    exported = exported;
+    name = name;
+    alignment = unwrap_or aligned 8;
+    fields = fields;
+  }))
 
 abbrev pub exporting : Rule Bool
 exporting = (word (codes "export") >> newlines >> give true) ∥ give false

@@ -71,7 +71,8 @@ line s n s' = (n ≡ s.line) × (s' ≡ s)
 -- the next token, with its text
 abbrev pub token : Kind → Rule (List ℕ)
 token kind s text s' =
-    (gap rest : List ℕ) × IsNext s.rest kind gap text rest × (s' ≡ record s { rest = rest; line = s.line + line_ends kind })
+    (gap rest : List ℕ) × IsNext s.rest kind gap text rest
+    × (s' ≡ record s { rest = rest; line = s.line + line_ends kind })
 
 abbrev pub piece : Mark → Rule (Unit {0})
 piece mark = do

@@ -1,4 +1,5 @@
--- The rules of jumps, of instructions that write no temporary, and of arguments as functions of the state.
+-- The rules of jumps, of instructions that write no temporary, and of arguments as functions of the
+-- state.
 use Rattle.std.specs.Prelude.{ℕ, Bool, true, false, if◌then◌else◌, nat_eq, List, [], codes, take, drop, Some}
 use Rattle.std.specs.Cmp.Lexicographic.{pointwise}
 use Rattle.il_lex.specs.declared.kind.Symbol.TheVariants.{Comma}
@@ -100,4 +101,5 @@ is_comma (Symbol Comma) = true
 is_comma _ = false
 
 abbrev pub arguments : Step (List Arg)
-arguments s = if sees is_word s then commas (sees is_comma) comma (sees is_word) argument s else Some ([], s)
+arguments s =
+    if sees is_word s then commas (sees is_comma) comma (sees is_word) argument s else Some ([], s)

@@ -2,8 +2,8 @@
 use Rattle.std.specs.Prelude.{ℕ, suc, List, [], ◌∷◌, if◌then◌else◌, nat_eq}
 use Rattle.std.specs.Cmp.Lexicographic.{pointwise}
 
--- the bytes that are left, the line that they begin on, and the names of the function's temporaries and
--- labels and of the text's globals, each once, in order of first appearance
+-- the bytes that are left, the line that they begin on, and the names of the function's temporaries
+-- and labels and of the text's globals, each once, in order of first appearance
 pub record State : Type 0 where
   pub rest : List ℕ
   pub line : ℕ

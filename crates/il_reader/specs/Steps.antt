@@ -1,4 +1,5 @@
--- The rules as functions of the state, which the code computes: what is read, and the state afterwards.
+-- The rules as functions of the state, which the code computes: what is read, and the state
+-- afterwards.
 use Rattle.std.specs.Prelude.{ℕ, zero, suc, length, ◌+◌, Bool, false, if◌then◌else◌, nat_eq, List, [], ◌∷◌, take, drop, Option, Some, None, option_and_then}
 use Rattle.std.specs.Option.{option_map}
 use Rattle.std.specs.Cmp.Lexicographic.{pointwise}
@@ -27,7 +28,8 @@ give x s = Some (x, s)
 
 -- the state behind a token
 abbrev pub behind : State → Kind → ℕ → ℕ → State
-behind s kind gap len = record s { rest = drop len (drop gap s.rest); line = s.line + line_ends kind }
+behind s kind gap len =
+    record s { rest = drop len (drop gap s.rest); line = s.line + line_ends kind }
 
 abbrev pub found : State → Ahead → Option ((Kind × List ℕ) × State)
 found s End = None
@@ -49,7 +51,8 @@ newline_test Newline text = Some tt
 newline_test _ text = None
 
 abbrev pub piece_test : Mark → Kind → List ℕ → Option (Unit {0})
-piece_test mark (Symbol m) text = if nat_eq (symbol_byte m) (symbol_byte mark) then Some tt else None
+piece_test mark (Symbol m) text =
+    if nat_eq (symbol_byte m) (symbol_byte mark) then Some tt else None
 piece_test mark _ text = None
 
 abbrev pub word_test : {A : Type 0} → (List ℕ → Option A) → Kind → List ℕ → Option A
@@ -108,13 +111,22 @@ abbrev pub string : Step (List ℕ)
 string = choose string_test
 
 abbrev pub temp : Step ℕ
-temp = choose temp_test >>= λ name s. Some (place name s.temps, record s { temps = with_name name s.temps })
+temp = choose temp_test >>= λ name s. Some (
+  place name s.temps,
+  record s { temps = with_name name s.temps },
+)
 
 abbrev pub label : Step ℕ
-label = choose label_test >>= λ name s. Some (place name s.labels, record s { labels = with_name name s.labels })
+label = choose label_test >>= λ name s. Some (
+  place name s.labels,
+  record s { labels = with_name name s.labels },
+)
 
 abbrev pub symbol : Step ℕ
-symbol = choose symbol_test >>= λ name s. Some (place name s.symbols, record s { symbols = with_name name s.symbols })
+symbol = choose symbol_test >>= λ name s. Some (
+  place name s.symbols,
+  record s { symbols = with_name name s.symbols },
+)
 
 -- ---- choices by the next token
 
@@ -134,7 +146,8 @@ either look p q s = if look s then p s else q s
 abbrev pub repeated : {A : Type 0} → ℕ → (State → Bool) → Step A → Step (List A)
 repeated zero look p s = None
 repeated (suc n) look p s =
-    if look s then option_and_then (λ x. option_and_then (λ xs. Some (x.0 ∷ xs.0, xs.1)) (repeated n look p x.1)) (p s) else Some ([], s)
+    if look s then option_and_then (λ x. option_and_then (λ xs. Some (x.0 ∷ xs.0, xs.1))
+    (repeated n look p x.1)) (p s) else Some ([], s)
 
 -- each round reads at least a byte
 abbrev pub many : {A : Type 0} → (State → Bool) → Step A → Step (List A)
@@ -142,17 +155,23 @@ many look p s = repeated (suc (length s.rest)) look p s
 
 -- a step where the next token tells so
 abbrev pub maybe : {A : Type 0} → (State → Bool) → Step A → Step (Option A)
-maybe look p s = if look s then option_and_then (λ x. Some (Some x.0, x.1)) (p s) else Some (None, s)
+maybe look p s =
+    if look s then option_and_then (λ x. Some (Some x.0, x.1)) (p s) else Some (None, s)
 
 -- what follows the first of a list: as long as a comma comes, it and what it separates, unless that
 -- isn't there
-abbrev pub separated : {A : Type 0} → ℕ → (State → Bool) → Step (Unit {0}) → (State → Bool) → Step A → Step (List A)
+abbrev pub separated : {A : Type 0} → ℕ → (State → Bool) → Step (Unit {0}) → (State → Bool) →
+    Step A → Step (List A)
 separated zero is_comma comma begins p s = None
 separated (suc n) is_comma comma begins p s =
     if is_comma s then option_and_then (λ c.
-    if begins c.1 then option_and_then (λ x. option_and_then (λ xs. Some (x.0 ∷ xs.0, xs.1)) (separated n is_comma comma begins p x.1)) (p c.1)
+    if begins c.1 then option_and_then (λ x. option_and_then (λ xs. Some (x.0 ∷ xs.0, xs.1))
+    (separated n is_comma comma begins p x.1)) (p c.1)
     else Some ([], c.1)) (comma s)
     else Some ([], s)
 
-abbrev pub commas : {A : Type 0} → (State → Bool) → Step (Unit {0}) → (State → Bool) → Step A → Step (List A)
-commas is_comma comma begins p = p >>= λ x. (λ s. separated (suc (length s.rest)) is_comma comma begins p s) >>= λ xs. give (x ∷ xs)
+abbrev pub commas : {A : Type 0} → (State → Bool) → Step (Unit {0}) → (State → Bool) → Step A →
+    Step (List A)
+commas is_comma comma begins p =
+    p >>= λ x. (λ s. separated (suc (length s.rest)) is_comma comma begins p s) >>= λ xs. give
+    (x ∷ xs)

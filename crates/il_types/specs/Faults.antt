@@ -23,13 +23,15 @@ unfoldable pub label_fault : Func → Option Fault
 label_fault f =
     fault_or (fault_at DistinctLocals (repeated_local f))
     (fault_or (fault_at KnownLabels (unknown_label f))
-    (fault_or (fault_at EntryNotTarget (jump_to_entry f)) (fault_at LastBlockEnds (block_without_jump f))))
+    (fault_or (fault_at EntryNotTarget (jump_to_entry f))
+    (fault_at LastBlockEnds (block_without_jump f))))
 
 unfoldable pub temp_fault : Func → Option Fault
 temp_fault f =
     fault_or (fault_at OneType (two_types f))
     (fault_or (fault_at OperandFits (misplaced f))
-    (fault_or (fault_at ReturnFits (wrong_return f)) (fault_at DefinedTemporaries (undefined_temp f))))
+    (fault_or (fault_at ReturnFits (wrong_return f))
+    (fault_at DefinedTemporaries (undefined_temp f))))
 
 unfoldable pub size_fault : Func → Option Fault
 size_fault f =
@@ -40,7 +42,8 @@ abbrev pub function_fault : Func → Option Fault
 function_fault f = fault_or (label_fault f) (fault_or (temp_fault f) (size_fault f))
 
 abbrev pub object_fault : DataDef → Option Fault
-object_fault d = fault_or (fault_at DataFields (wrong_fields d)) (fault_at Alignment (wrong_alignment d))
+object_fault d =
+    fault_or (fault_at DataFields (wrong_fields d)) (fault_at Alignment (wrong_alignment d))
 
 abbrev pub definition_fault : Definition → Option Fault
 definition_fault (Function f) = function_fault f

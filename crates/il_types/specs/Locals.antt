@@ -47,7 +47,8 @@ phi_sites phis = map (λ (p : Phi). record { line = p.line; number = p.to.temp }
 
 -- distinct locals: parameters, and labels
 abbrev pub repeated_local : Func → Option ℕ
-repeated_local f = or_else (first_repeated (param_sites f.params)) (first_repeated (label_sites f.blocks))
+repeated_local f =
+    or_else (first_repeated (param_sites f.params)) (first_repeated (label_sites f.blocks))
 
 -- ---- labels
 
@@ -77,9 +78,11 @@ block_without_jump f = first (λ (b : Block). when (is_none b.jump) b.line) f.bl
 -- one type: a temporary that is assigned with both classes
 abbrev pub two_types : Func → Option ℕ
 two_types f =
-    first (λ (d : Definer). when (is_given W d.temp (definers_of f) && is_given L d.temp (definers_of f)) d.line) (definers_of f)
+    first (λ (d : Definer). when (is_given W d.temp (definers_of f)
+    && is_given L d.temp (definers_of f)) d.line) (definers_of f)
 
--- an `l` place takes no temporary that is assigned with the other class, and a `w` place no global name
+-- an `l` place takes no temporary that is assigned with the other class, and a `w` place no global
+-- name
 abbrev pub fits : List Definer → Class → Val → Bool
 fits definers c (Int n) = true
 fits definers W (Temp t) = true
@@ -117,7 +120,8 @@ in_insts broken blocks =
 -- operand fits
 abbrev pub misplaced : Func → Option ℕ
 misplaced f =
-    or_else (first (λ (o : Operand). when (not (fits (definers_of f) o.class o.value)) o.line) (operands_of f))
+    or_else (first (λ (o : Operand). when (not (fits (definers_of f) o.class o.value)) o.line)
+    (operands_of f))
     (in_insts has_wrong_result f.blocks)
 
 abbrev pub is_defined : List Definer → Val → Bool
@@ -154,7 +158,8 @@ wrong_return f = in_returns (λ a. not (fits_result (definers_of f) f.result a))
 -- defined temporaries: operands, and returned values
 abbrev pub undefined_temp : Func → Option ℕ
 undefined_temp f =
-    or_else (first (λ (o : Operand). when (not (is_defined (definers_of f) o.value)) o.line) (operands_of f))
+    or_else (first (λ (o : Operand). when (not (is_defined (definers_of f) o.value)) o.line)
+    (operands_of f))
     (in_returns (λ a. not (is_defined (definers_of f) a)) f.blocks)
 
 -- ---- sizes
@@ -197,7 +202,8 @@ jumps_to l (Some j) = goes_to l j.item
 
 -- the blocks whose jump names this label
 abbrev pub is_predecessor : List Block → (of from : ℕ) → Bool
-is_predecessor blocks l from = list_any (λ (b : Block). nat_eq b.label from && jumps_to l b.jump) blocks
+is_predecessor blocks l from =
+    list_any (λ (b : Block). nat_eq b.label from && jumps_to l b.jump) blocks
 
 abbrev pub names_from : ℕ → List PhiArg → ℕ
 names_from l args = count_by (λ (a : PhiArg). nat_eq a.from l) args
@@ -205,12 +211,15 @@ names_from l args = count_by (λ (a : PhiArg). nat_eq a.from l) args
 -- the labels of a phi are the predecessors of its block, each once
 abbrev pub covers : List Block → ℕ → List PhiArg → Bool
 covers blocks l args =
-    list_all (λ (a : PhiArg). nat_eq (names_from a.from args) 1 && is_predecessor blocks l a.from) args
-    && list_all (λ (b : Block). not (jumps_to l b.jump) || nat_lt 0 (names_from b.label args)) blocks
+    list_all (λ (a : PhiArg). nat_eq (names_from a.from args) 1 && is_predecessor blocks l a.from)
+    args
+    && list_all (λ (b : Block). not (jumps_to l b.jump) || nat_lt 0 (names_from b.label args))
+    blocks
 
 abbrev pub uncovered_in : List Block → Block → Option ℕ
 uncovered_in blocks b =
-    or_else (first_repeated (phi_sites b.phis)) (first (λ (p : Phi). when (not (covers blocks b.label p.args)) p.line) b.phis)
+    or_else (first_repeated (phi_sites b.phis))
+    (first (λ (p : Phi). when (not (covers blocks b.label p.args)) p.line) b.phis)
 
 -- phi covers predecessors, and the phis of a block assign distinct temporaries
 abbrev pub uncovered_phi : Func → Option ℕ

@@ -1,4 +1,5 @@
--- The rules of a text: the line of the first place that breaks a rule, or none where nothing does; and the limits.
+-- The rules of a text: the line of the first place that breaks a rule, or none where nothing does;
+-- and the limits.
 use Rattle.std.specs.Prelude.{◌≡◌, ℕ, ◌*◌, ◌^◌, Bool, true, false, not, nat_eq, nat_lt, nat_le, ◌&&◌, ◌||◌, List, map, length, Option, None}
 use Rattle.std.specs.List.{list_any, list_all}
 use Rattle.il_ast.specs.declared.limits.TheConstants.{TEXT_BYTES, FUNCTION_WEIGHT, TEMPORARIES, ARGUMENTS, ALLOC_BYTES}
@@ -118,7 +119,8 @@ is_within f =
     && (nat_le (length f.temps) TEMPORARIES
     && (nat_le (length f.params) ARGUMENTS
     && (nat_le (alloc_area f) ALLOC_BYTES
-    && list_all (λ (b : Block). list_all (λ (i : Lined Inst). has_few_args i.item) b.insts) f.blocks)))
+    && list_all (λ (b : Block). list_all (λ (i : Lined Inst). has_few_args i.item) b.insts)
+    f.blocks)))
 
 abbrev pub definition_within : Definition → Bool
 definition_within (Function f) = is_within f

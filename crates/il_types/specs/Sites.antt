@@ -70,7 +70,8 @@ item_operands line (Unary to op a) = operand_at line (operand_class op to.class)
 item_operands line (Binary to op a b) =
     operand_at line (left_class op to.class) a ∷ operand_at line (right_class op to.class) b ∷ []
 item_operands line (Alloc to alignment size) = []
-item_operands line (Store size a at) = operand_at line (stored_class size) a ∷ operand_at line L at ∷ []
+item_operands line (Store size a at) =
+    operand_at line (stored_class size) a ∷ operand_at line L at ∷ []
 item_operands line (Blit from to count) = operand_at line L from ∷ operand_at line L to ∷ []
 item_operands line (Call to callee args) = operand_at line L callee ∷ arg_operands line args
 
@@ -88,7 +89,8 @@ end_operands None = []
 end_operands (Some j) = jump_operands j.line j.item
 
 abbrev pub block_operands : Block → List Operand
-block_operands b = flat_map phi_operands b.phis ++ (flat_map inst_operands b.insts ++ end_operands b.jump)
+block_operands b =
+    flat_map phi_operands b.phis ++ (flat_map inst_operands b.insts ++ end_operands b.jump)
 
 abbrev pub operands_of : Func → List Operand
 operands_of f = flat_map block_operands f.blocks
@@ -97,7 +99,8 @@ operands_of f = flat_map block_operands f.blocks
 
 abbrev pub jump_sites : ℕ → Jump → List Site
 jump_sites line (Goto l) = record { line = line; number = l } ∷ []
-jump_sites line (Branch a nonzero otherwise) = record { line = line; number = nonzero } ∷ record { line = line; number = otherwise } ∷ []
+jump_sites line (Branch a nonzero otherwise) =
+    record { line = line; number = nonzero } ∷ record { line = line; number = otherwise } ∷ []
 jump_sites line (Return a) = []
 jump_sites line Halt = []
 

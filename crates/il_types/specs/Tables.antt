@@ -31,7 +31,8 @@ abbrev pub returned_misfit : List Bool → Option Class → List Block → Optio
 returned_misfit words result blocks = in_returns (λ a. not (result_takes words result a)) blocks
 
 abbrev pub returned_undefined : List Bool → List Bool → List Block → Option ℕ
-returned_undefined words longs blocks = in_returns (λ a. not (value_is_defined words longs a)) blocks
+returned_undefined words longs blocks =
+    in_returns (λ a. not (value_is_defined words longs a)) blocks
 
 abbrev pub returned_value : ℕ → Jump → Option (ℕ × Val)
 returned_value line (Goto l) = None

@@ -1,4 +1,5 @@
--- Code in which a constant stands in a register of its own: the register is set in front of loops and read inside.
+-- Code in which a constant stands in a register of its own: the register is set in front of loops
+-- and read inside.
 use Rattle.std.specs.Prelude.{ℕ, ◌+◌, Bool, true, false, not, ◌&&◌, ◌||◌, nat_eq, nat_lt, if◌then◌else◌, List, [], ◌∷◌, ◌++◌, map, slice_index_or}
 use Rattle.std.specs.List.{list_all}
 use Rattle.vcode.specs.declared.place.Operand.{Operand}
@@ -56,10 +57,12 @@ held_block p held set b =
 -- the blocks from the k-th on
 abbrev pub with_blocks : Plan → (k : ℕ) → List (Block ℕ) → List (Block ℕ)
 with_blocks p k [] = []
-with_blocks p k (b ∷ blocks) = held_block p (is_held p k) (is_set p k) b ∷ with_blocks p (k + 1) blocks
+with_blocks p k (b ∷ blocks) =
+    held_block p (is_held p k) (is_set p k) b ∷ with_blocks p (k + 1) blocks
 
 abbrev pub with_constant : Plan → Code ℕ → Code ℕ
-with_constant p f = record { result = f.result; params = f.params; blocks = with_blocks p 0 f.blocks }
+with_constant p f =
+    record { result = f.result; params = f.params; blocks = with_blocks p 0 f.blocks }
 
 -- ---- what a plan has to keep
 
@@ -72,9 +75,12 @@ may_lead p has k = has || not (is_held p k)
 
 abbrev pub leads_well : Plan → (k : ℕ) → List (Block ℕ) → Bool
 leads_well p k [] = true
-leads_well p k (b ∷ blocks) = list_all (may_lead p (is_held p k || is_set p k)) (targets b.jump) && leads_well p (k + 1) blocks
+leads_well p k (b ∷ blocks) =
+    list_all (may_lead p (is_held p k || is_set p k)) (targets b.jump)
+    && leads_well p (k + 1) blocks
 
--- the code names the register nowhere, begins in a block that doesn't hold the constant, and comes to the others by way of one that sets it
+-- the code names the register nowhere, begins in a block that doesn't hold the constant, and comes
+-- to the others by way of one that sets it
 abbrev pub is_safe : Plan → Code ℕ → Bool
 is_safe p f =
     keeps_places (is_other p.register) f && (not (is_held p 0) && leads_well p 0 f.blocks)
@@ -82,4 +88,5 @@ is_safe p f =
 -- the register is one of the function's, and the ticks still pay
 abbrev pub is_right : Plan → VFunc → Bool
 is_right p f =
-    nat_lt p.register f.registers && (is_safe p f.code && list_all is_paid (with_blocks p 0 f.code.blocks))
+    nat_lt p.register f.registers && (is_safe p f.code
+    && list_all is_paid (with_blocks p 0 f.code.blocks))

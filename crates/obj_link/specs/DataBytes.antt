@@ -17,8 +17,10 @@ use Rattle.obj_link.specs.Placed.{callee_address, meaning, in_slots}
 
 abbrev pub address_bytes : Addresses → Option Target → (offset : ℕ) → List ℕ
 address_bytes a None offset = replicate 8 0
-address_bytes a (Some (Code f)) offset = if nat_eq offset 0 then to_le_bytes w64 (callee_address a f) else replicate 8 0
-address_bytes a (Some (Object k)) offset = to_le_bytes w64 ((slice_index a.objects k + offset) % 2 ^ 64)
+address_bytes a (Some (Code f)) offset =
+    if nat_eq offset 0 then to_le_bytes w64 (callee_address a f) else replicate 8 0
+address_bytes a (Some (Object k)) offset =
+    to_le_bytes w64 ((slice_index a.objects k + offset) % 2 ^ 64)
 
 abbrev pub item_bytes : Addresses → List (List Target) → (text : ℕ) → Size → Item → List ℕ
 item_bytes a targets t size (Int n) = bytes_of (byte_count size) n

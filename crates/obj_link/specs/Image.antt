@@ -1,5 +1,6 @@
 -- A linked program: the words and bytes that an executable puts into memory, and where they stand.
--- The addresses are this project's choice; the page is the 4096 bytes of p_align (ELF64, "Program Header").
+-- The addresses are this project's choice; the page is the 4096 bytes of p_align (ELF64, "Program
+-- Header").
 use Rattle.std.specs.Prelude.{◌≡◌, ℕ, ◌+◌, ◌*◌, ◌/◌, ◌%◌, ◌^◌, ◌<◌, ◌≤◌, List, length, slice_index}
 use Rattle.obj_link.specs.declared.image.TheConstants.{CODE_START, IMAGE_END}
 

@@ -12,7 +12,8 @@ use Rattle.obj_link.specs.Refusals.{IsUnknown}
 abbrev pub meaning_by : List Checked → List GlobalName → ℕ → ℕ → List ℕ → Option Target
 meaning_by texts names t s name = option_or (own names t s) (visible texts names name)
 
-pub record IsJoined (texts : List Checked) (names : List GlobalName) (targets : List (List Target)) (main : Option Target) : Type 0 where
+pub record IsJoined (texts : List Checked) (names : List GlobalName) (targets : List (List Target))
+    (main : Option Target) : Type 0 where
   pub found : targets_by (meaning_by texts names) 0 texts ≡ Some targets
   pub once : (name : List ℕ) → times_exported texts names name ≤ 1
   pub main_is : main ≡ visible texts names (codes "main")

@@ -14,7 +14,8 @@ use Rattle.obj_link.specs.Placed.{AreCodes, FitsBelow}
 
 -- texts are at most one program
 abbrev pub AtMostOneProgram : Type 0
-AtMostOneProgram = (texts : List Checked) (p q : Program) → IsProgram texts p → IsProgram texts q → p ≡ q
+AtMostOneProgram =
+    (texts : List Checked) (p q : Program) → IsProgram texts p → IsProgram texts q → p ≡ q
 
 -- of so many functions and data, one that is there, or a predefined function
 abbrev pub IsThere : (functions objects : ℕ) → Target → Type 0
@@ -27,19 +28,28 @@ IsThere functions objects (Object k) = k < objects
 pub record HasWhatNamesMean (texts : List Checked) (p : Program) : Type 0 where
   -- each text has a list of targets, with one for each of its symbols
   pub lists : length p.targets ≡ length texts
-  pub lengths : (t : ℕ) (c : Checked) (targets : List Target) → slice_get texts t ≡ Some c → slice_get p.targets t ≡ Some targets → length targets ≡ length c.text.symbols
+  pub lengths : (t : ℕ) (c : Checked) (targets : List Target) → slice_get texts t ≡ Some c →
+      slice_get p.targets t ≡ Some targets → length targets ≡ length c.text.symbols
   -- what symbol s of text t means
-  pub targets : (t s : ℕ) (targets : List Target) (target : Target) → slice_get p.targets t ≡ Some targets → slice_get targets s ≡ Some target → IsThere (length p.functions) (length p.objects) target
+  pub targets : (t s : ℕ) (targets : List Target) (target : Target) →
+      slice_get p.targets t ≡ Some targets → slice_get targets s ≡ Some target →
+      IsThere (length p.functions) (length p.objects) target
   -- `main` is a function of one of the two forms
   pub main : (f : Placed Func) × (slice_get p.functions p.main ≡ Some f) × (is_main f.item ≡ true)
 
 -- a program begins with a function that is exported as `main`, in one of the two forms
 abbrev pub ProgramsExportMain : Type 0
-ProgramsExportMain = (texts : List Checked) (p : Program) → IsProgram texts p → (f : Placed Func) × (slice_get p.functions p.main ≡ Some f) × IsMain texts f
+ProgramsExportMain =
+    (texts : List Checked) (p : Program) → IsProgram texts p →
+    (f : Placed Func) × (slice_get p.functions p.main ≡ Some f) × IsMain texts f
 
 abbrev pub ProgramsHaveWhatNamesMean : Type 0
-ProgramsHaveWhatNamesMean = (texts : List Checked) (p : Program) → IsProgram texts p → HasWhatNamesMean texts p
+ProgramsHaveWhatNamesMean =
+    (texts : List Checked) (p : Program) → IsProgram texts p → HasWhatNamesMean texts p
 
--- a program whose functions have words enough for their weight and no more, as `AreCodes` says, fits below the stack
+-- a program whose functions have words enough for their weight and no more, as `AreCodes` says,
+-- fits below the stack
 abbrev pub ProgramsFit : Type 0
-ProgramsFit = (texts : List Checked) (p : Program) (codes : List Words) → IsProgram texts p → AreCodes codes p.functions → FitsBelow p codes
+ProgramsFit =
+    (texts : List Checked) (p : Program) (codes : List Words) → IsProgram texts p →
+    AreCodes codes p.functions → FitsBelow p codes

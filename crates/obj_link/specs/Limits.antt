@@ -37,4 +37,5 @@ total_size objects = sum_by (λ (d : Placed DataDef). round_16 (object_size d.it
 abbrev pub within_limits : List Checked → List (Placed Func) → List (Placed DataDef) → Bool
 within_limits texts functions objects =
     nat_le (length texts) TEXTS
-    && (nat_le (length functions) FUNCTIONS && (nat_le (total_weight functions) PROGRAM_WEIGHT && nat_le (total_size objects) DATA_BYTES))
+    && (nat_le (length functions) FUNCTIONS && (nat_le (total_weight functions) PROGRAM_WEIGHT
+    && nat_le (total_size objects) DATA_BYTES))

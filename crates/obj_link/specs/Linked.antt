@@ -8,6 +8,12 @@ use Rattle.il_ast.specs.declared.program.Target.{Target}
 use Rattle.il_ast.specs.declared.program.Program.{Program}
 use Rattle.obj_link.specs.Shown.{shown}
 
-abbrev pub program_with : List (List Target) → List (Placed (Bor Func)) → List (Placed (Bor DataDef)) → ℕ → Program
+abbrev pub program_with : List (List Target) → List (Placed (Bor Func)) →
+    List (Placed (Bor DataDef)) → ℕ → Program
 program_with targets functions objects main =
-    record { targets = targets; functions = map shown functions; objects = map shown objects; main = main }
+    record {
+      targets = targets;
+      functions = map shown functions;
+      objects = map shown objects;
+      main = main;
+    }

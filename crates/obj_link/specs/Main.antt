@@ -50,4 +50,5 @@ pub record IsMain (texts : List Checked) (f : Placed Func) : Type 0 where
 
 -- some function of the texts is
 abbrev pub ExportsMain : List Checked → Type 0
-ExportsMain texts = (k : ℕ) × (f : Placed Func) × (slice_get (functions_of texts) k ≡ Some f) × IsMain texts f
+ExportsMain texts =
+    (k : ℕ) × (f : Placed Func) × (slice_get (functions_of texts) k ≡ Some f) × IsMain texts f

@@ -1,5 +1,5 @@
--- Global names over texts: what defines them, which are exported, and what each means (QBE IL, "Linkage"; names that no text
--- defines are this project's choice).
+-- Global names over texts: what defines them, which are exported, and what each means (QBE IL,
+-- "Linkage"; names that no text defines are this project's choice).
 use Rattle.std.specs.Prelude.{ℕ, ◌+◌, Bool, nat_eq, ◌&&◌, if◌then◌else◌, List, [], ◌∷◌, ◌++◌, slice_get, slice_index_or, codes, count_by, Option, Some, None}
 use Rattle.std.specs.List.{flat_map, find}
 use Rattle.std.specs.Option.{option_map, option_and_then, option_or, is_some}
@@ -40,17 +40,24 @@ functions_of texts = functions_from 0 texts
 abbrev pub objects_of : List Checked → List (Placed DataDef)
 objects_of texts = objects_from 0 texts
 
--- ---- the names that they define: a function gives its name the function with its number, from n on, and a datum the datum
+-- ---- the names that they define: a function gives its name the function with its number, from n
+-- on, and a datum the datum
 
 abbrev pub names_of_functions : ℕ → List (Placed Func) → List GlobalName
 names_of_functions n [] = []
 names_of_functions n (f ∷ fs) =
-    record { text = f.text; symbol = f.item.name; exported = f.item.exported; target = Code (Defined n) } ∷ names_of_functions (n + 1) fs
+    record {
+      text = f.text;
+      symbol = f.item.name;
+      exported = f.item.exported;
+      target = Code (Defined n);
+    } ∷ names_of_functions (n + 1) fs
 
 abbrev pub names_of_objects : ℕ → List (Placed DataDef) → List GlobalName
 names_of_objects n [] = []
 names_of_objects n (d ∷ ds) =
-    record { text = d.text; symbol = d.item.name; exported = d.item.exported; target = Object n } ∷ names_of_objects (n + 1) ds
+    record { text = d.text; symbol = d.item.name; exported = d.item.exported; target = Object n }
+    ∷ names_of_objects (n + 1) ds
 
 abbrev pub names_of : List Checked → List GlobalName
 names_of texts = names_of_functions 0 (functions_of texts) ++ names_of_objects 0 (objects_of texts)
@@ -77,7 +84,8 @@ abbrev pub is_export : List Checked → List ℕ → GlobalName → Bool
 is_export texts name g = g.exported && bytes_eq (symbol_name texts g.text g.symbol) name
 
 abbrev pub exported : List Checked → List GlobalName → List ℕ → Option Target
-exported texts names name = option_map (λ (g : GlobalName). g.target) (find (is_export texts name) names)
+exported texts names name =
+    option_map (λ (g : GlobalName). g.target) (find (is_export texts name) names)
 
 abbrev pub predefined : List ℕ → Option Target
 predefined name =
@@ -88,9 +96,11 @@ predefined name =
 abbrev pub visible : List Checked → List GlobalName → List ℕ → Option Target
 visible texts names name = option_or (exported texts names name) (predefined name)
 
--- symbol s of text t, which has that name, means the text's own definition, or else what texts can see
+-- symbol s of text t, which has that name, means the text's own definition, or else what texts can
+-- see
 abbrev pub meaning_of : List Checked → ℕ → ℕ → List ℕ → Option Target
-meaning_of texts t s name = option_or (own (names_of texts) t s) (visible texts (names_of texts) name)
+meaning_of texts t s name =
+    option_or (own (names_of texts) t s) (visible texts (names_of texts) name)
 
 -- ---- all names of all texts, or none where one has no meaning
 
@@ -99,10 +109,12 @@ symbols_by meaning s [] = Some []
 symbols_by meaning s (x ∷ xs) =
     option_and_then (λ t. option_map (λ ts. t ∷ ts) (symbols_by meaning (s + 1) xs)) (meaning s x)
 
-abbrev pub targets_by : (ℕ → ℕ → List ℕ → Option Target) → ℕ → List Checked → Option (List (List Target))
+abbrev pub targets_by : (ℕ → ℕ → List ℕ → Option Target) → ℕ → List Checked →
+    Option (List (List Target))
 targets_by meaning t [] = Some []
 targets_by meaning t (x ∷ xs) =
-    option_and_then (λ ts. option_map (λ rest. ts ∷ rest) (targets_by meaning (t + 1) xs)) (symbols_by (meaning t) 0 x.text.symbols)
+    option_and_then (λ ts. option_map (λ rest. ts ∷ rest) (targets_by meaning (t + 1) xs))
+    (symbols_by (meaning t) 0 x.text.symbols)
 
 abbrev pub targets_of : List Checked → Option (List (List Target))
 targets_of texts = targets_by (meaning_of texts) 0 texts

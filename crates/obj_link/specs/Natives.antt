@@ -1,5 +1,5 @@
--- The words with which every program begins: its start, and the predefined functions `write` and `exit`.
--- A system call's arguments stand where a function's do.
+-- The words with which every program begins: its start, and the predefined functions `write` and
+-- `exit`. A system call's arguments stand where a function's do.
 use Rattle.std.specs.Prelude.{ℕ, ◌+◌, List, [], ◌∷◌, pos}
 use Rattle.bits.specs.Words.{upper_field, lower_field}
 use Rattle.rv_isa.specs.declared.abi.TheConstants.{ZERO, RETURN_ADDRESS, STACK_POINTER, FIRST_TEMPORARY, FIRST_ARGUMENT, SECOND_ARGUMENT, SYSTEM_CALL, WRITE, EXIT}
@@ -18,8 +18,8 @@ jump_to rd rs1 = i_type 0x67 0 rd rs1 (pos 0)
 abbrev pub system_call : ℕ
 system_call = 0x00000073
 
--- The argument range begins at x2 with the number of words and then has the list of them. `main` is called with both, and what it returns is the status
--- that the program exits with.
+-- The argument range begins at x2 with the number of words and then has the list of them. `main` is
+-- called with both, and what it returns is the status that the program exits with.
 abbrev pub start_words : (main : ℕ) → List ℕ
 start_words main =
     load_double FIRST_ARGUMENT STACK_POINTER 0

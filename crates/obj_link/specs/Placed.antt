@@ -78,14 +78,17 @@ name_address a targets t n = target_address a (meaning targets t n)
 -- ---- code
 
 -- each function's words, with the addresses of its text's names
-abbrev pub functions_words : Addresses → List (List Target) → List Words → List (Placed Func) → List ℕ
+abbrev pub functions_words : Addresses → List (List Target) → List Words → List (Placed Func) →
+    List ℕ
 functions_words a targets [] fs = []
 functions_words a targets (c ∷ codes) [] = []
-functions_words a targets (c ∷ codes) (f ∷ fs) = filled (name_address a targets f.text) c.words c.holes ++ functions_words a targets codes fs
+functions_words a targets (c ∷ codes) (f ∷ fs) =
+    filled (name_address a targets f.text) c.words c.holes ++ functions_words a targets codes fs
 
 abbrev pub code_of : Addresses → Program → List Words → List ℕ
 code_of a p codes =
-    start_words (callee_address a (Defined p.main)) ++ write_words ++ exit_words ++ functions_words a p.targets codes p.functions
+    start_words (callee_address a (Defined p.main)) ++ write_words ++ exit_words
+    ++ functions_words a p.targets codes p.functions
 
 -- ---- data
 
@@ -111,7 +114,8 @@ object_bytes a p d = in_slots (map (cell_byte a) (object_cells p d))
 -- ---- the whole
 
 abbrev pub contents_with : Addresses → Program → List Words → Contents
-contents_with a p codes = record { code = code_of a p codes; data_bytes = flat_map (object_bytes a p) p.objects }
+contents_with a p codes =
+    record { code = code_of a p codes; data_bytes = flat_map (object_bytes a p) p.objects }
 
 -- the image of a program whose functions have these words
 abbrev pub contents_of : Program → List Words → Contents

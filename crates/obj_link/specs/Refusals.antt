@@ -20,7 +20,8 @@ RefusesExports Memory texts names = Unit {0}
 
 -- a symbol has no meaning, or memory was refused
 abbrev pub RefusesSymbols : LinkError → (ℕ → List ℕ → Option Target) → List (List ℕ) → Type 0
-RefusesSymbols (UnknownName name) meaning symbols = (s : ℕ) × (slice_get symbols s ≡ Some name.now) × (meaning s name.now ≡ None)
+RefusesSymbols (UnknownName name) meaning symbols =
+    (s : ℕ) × (slice_get symbols s ≡ Some name.now) × (meaning s name.now ≡ None)
 RefusesSymbols (ExportedTwice name) meaning symbols = ⊥
 RefusesSymbols NoMain meaning symbols = ⊥
 RefusesSymbols Limit meaning symbols = ⊥
@@ -28,11 +29,13 @@ RefusesSymbols Memory meaning symbols = Unit {0}
 
 -- the name of symbol s of text t
 abbrev pub symbol_at : List Checked → ℕ → ℕ → Option (List ℕ)
-symbol_at texts t s = option_and_then (λ (c : Checked). slice_get c.text.symbols s) (slice_get texts t)
+symbol_at texts t s =
+    option_and_then (λ (c : Checked). slice_get c.text.symbols s) (slice_get texts t)
 
 -- a text mentions a name that has no meaning there
 abbrev pub IsUnknown : (ℕ → ℕ → List ℕ → Option Target) → List Checked → List ℕ → Type 0
-IsUnknown meaning texts name = (t : ℕ) × (s : ℕ) × (symbol_at texts t s ≡ Some name) × (meaning t s name ≡ None)
+IsUnknown meaning texts name =
+    (t : ℕ) × (s : ℕ) × (symbol_at texts t s ≡ Some name) × (meaning t s name ≡ None)
 
 abbrev pub RefusesNames : LinkError → (ℕ → ℕ → List ℕ → Option Target) → List Checked → Type 0
 RefusesNames (UnknownName name) meaning texts = IsUnknown meaning texts name.now

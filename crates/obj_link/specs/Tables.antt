@@ -19,5 +19,6 @@ is_free None = true
 is_free (Some t) = false
 
 -- what two such tables give a symbol of a text that has this name
-abbrev pub meaning_in : {S T : Type 0} → HashMap (ℕ × ℕ) Target S → HashMap (Bor (List ℕ)) Target T → ℕ → ℕ → List ℕ → Option Target
+abbrev pub meaning_in : {S T : Type 0} → HashMap (ℕ × ℕ) Target S →
+    HashMap (Bor (List ℕ)) Target T → ℕ → ℕ → List ℕ → Option Target
 meaning_in owned exports t s name = option_or (held owned t s) (seen exports name)

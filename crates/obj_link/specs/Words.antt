@@ -11,4 +11,6 @@ hold_no_zero (w ∷ ws) = not (list_any (λ b. b == 0) w) && hold_no_zero ws
 
 -- not too many, of not too many bytes with their closing zeros
 abbrev pub are_arguments : List (List ℕ) → Bool
-are_arguments words = nat_le (length words) WORDS && nat_le (length (word_bytes words)) WORD_BYTES && hold_no_zero words
+are_arguments words =
+    nat_le (length words) WORDS && nat_le (length (word_bytes words)) WORD_BYTES
+    && hold_no_zero words

@@ -25,7 +25,8 @@ Takes classes d = classes d.temp ≡ d.class
 
 abbrev pub CopiesFit : Classes → List Assignment → Type 0
 CopiesFit classes [] = Unit {0}
-CopiesFit classes (c ∷ cs) = Takes classes c.to × Fits classes c.to.class c.value × CopiesFit classes cs
+CopiesFit classes (c ∷ cs) =
+    Takes classes c.to × Fits classes c.to.class c.value × CopiesFit classes cs
 
 -- so do phis, entered from the block with this label, whose own temporaries are numbered from n
 abbrev pub PhisFit : Classes → (from n : ℕ) → List Phi → Type 0

@@ -28,8 +28,8 @@ phis_before [] k = 0
 phis_before (b ∷ blocks) zero = 0
 phis_before (b ∷ blocks) (suc k) = length b.phis + phis_before blocks k
 
--- the first temporary of the phis of the block at place k: they are numbered after the function's own
--- and those of the phis before
+-- the first temporary of the phis of the block at place k: they are numbered after the function's
+-- own and those of the phis before
 abbrev pub first_own : Func → (k : ℕ) → ℕ
 first_own f k = length f.temps + phis_before f.blocks k
 

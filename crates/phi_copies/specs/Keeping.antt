@@ -9,4 +9,5 @@ use Rattle.phi_copies.specs.Endings.{Endings, begin, step}
 -- with these values of the text's global names
 abbrev pub KeepsFunction : Func → Endings → Type 0
 KeepsFunction f code =
-    (globals : List Value) → KeepsMeaning (classes_of f.params) (begin f) (step globals f code) (body_of f globals)
+    (globals : List Value) → KeepsMeaning (classes_of f.params) (begin f) (step globals f code)
+    (body_of f globals)

@@ -14,4 +14,6 @@ LoweringKeeps = (f : Func) (code : Endings) → IsLowered f code → KeepsFuncti
 
 -- each function of a good text
 abbrev pub GoodTextsAreLowered : Type 0
-GoodTextsAreLowered = (t : Text) → IsGood t → (k : ℕ) (f : Func) → slice_get t.definitions k ≡ Some (Function f) → IsGoodFunction f
+GoodTextsAreLowered =
+    (t : Text) → IsGood t → (k : ℕ) (f : Func) → slice_get t.definitions k ≡ Some (Function f) →
+    IsGoodFunction f

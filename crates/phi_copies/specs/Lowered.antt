@@ -53,7 +53,8 @@ straight Halt = Halt
 
 abbrev pub jump_edges : Func → (from : ℕ) → Jump → List Edge
 jump_edges f from (Goto l) = []
-jump_edges f from (Branch on nonzero otherwise) = edge f from (target f.blocks nonzero) ++ edge f from (target f.blocks otherwise)
+jump_edges f from (Branch on nonzero otherwise) =
+    edge f from (target f.blocks nonzero) ++ edge f from (target f.blocks otherwise)
 jump_edges f from (Return a) = []
 jump_edges f from Halt = []
 
@@ -100,7 +101,8 @@ IsJumpEnding f from number (Branch on nonzero otherwise) e =
     e
     ≡ one_turn_ending
     (BranchTo on (branch_target f number (target f.blocks nonzero))
-    (branch_target f (number + length (edge f from (target f.blocks nonzero))) (target f.blocks otherwise)))
+    (branch_target f (number + length (edge f from (target f.blocks nonzero)))
+    (target f.blocks otherwise)))
 IsJumpEnding f from number (Return a) e = e ≡ one_turn_ending (ReturnWith a)
 IsJumpEnding f from number Halt e = e ≡ one_turn_ending HaltRun
 

@@ -1,4 +1,5 @@
--- What is worked out once for a function, before its endings: the number of the first temporary for each block's phis.
+-- What is worked out once for a function, before its endings: the number of the first temporary for
+-- each block's phis.
 use Rattle.std.specs.Prelude.{ℕ, ◌+◌, List, [], ◌∷◌, length}
 use Rattle.il_ast.specs.declared.block.Block.{Block}
 

@@ -17,12 +17,13 @@ IsUnnamed place moves = All (λ m. (m.to ≢ place) × (m.from ≢ place)) moves
 
 -- Done one after another the moves `out` leave what `moves` leave when they are done at once: each
 -- destination holds what its source held before, and no other place has changed but for scratch.
-pub record DoesAtOnce {X : Type 0} (moves out : List Move) (scratch : ℕ) (env : ℕ → X) : Type 0 where
-  pub moved : All (λ m. after env out m.to ≡ env m.from) moves
-  pub kept : (p : ℕ) → p ≢ scratch → All (λ m. m.to ≢ p) moves → after env out p ≡ env p
+pub record DoesAtOnce {X : Type 0} (moves out : List Move) (scratch : ℕ) (env : ℕ → X) : Type 0
+  where
+    pub moved : All (λ m. after env out m.to ≡ env m.from) moves
+    pub kept : (p : ℕ) → p ≢ scratch → All (λ m. m.to ≢ p) moves → after env out p ≡ env p
 
--- a move to one of the destinations of the moves from another place that they name; one of the two may
--- be scratch
+-- a move to one of the destinations of the moves from another place that they name; one of the two
+-- may be scratch
 abbrev pub IsBetween : List Move → ℕ → Move → Type 0
 IsBetween moves scratch m =
     (m.to ≢ m.from)

@@ -26,7 +26,8 @@ fits_prop classes L (Global g) = hlevel props
 
 copies_fit_prop : (classes : Classes) (cs : List Assignment) → IsProp (CopiesFit classes cs)
 copies_fit_prop classes [] = hlevel props
-copies_fit_prop classes (c ∷ cs) = hlevel (props, fits_prop classes c.to.class c.value, copies_fit_prop classes cs)
+copies_fit_prop classes (c ∷ cs) =
+    hlevel (props, fits_prop classes c.to.class c.value, copies_fit_prop classes cs)
 
 value_below_prop : (n : ℕ) (a : Val) → IsProp (ValueBelow n a)
 value_below_prop n (Int m) = hlevel props
@@ -43,22 +44,29 @@ are_copies_prop f from k cs = hlevel (props, copies_fit_prop, copies_below_prop)
 goto_prop : (f : Func) (from k : ℕ) (e : Ending) → IsProp (IsGoto f from k e)
 goto_prop f from k e = hlevel (props, are_copies_prop)
 
-jump_ending_prop : (f : Func) (from number : ℕ) (j : Jump) (e : Ending) → IsProp (IsJumpEnding f from number j e)
+jump_ending_prop : (f : Func) (from number : ℕ) (j : Jump) (e : Ending) →
+    IsProp (IsJumpEnding f from number j e)
 jump_ending_prop f from number (Goto l) e = goto_prop f from _ e
 jump_ending_prop f from number (Branch on nonzero otherwise) e = hlevel props
 jump_ending_prop f from number (Return a) e = hlevel props
 jump_ending_prop f from number Halt e = hlevel props
 
-end_ending_prop : (f : Func) (from number : ℕ) (j : Option (Lined Jump)) (e : Ending) → IsProp (IsEndEnding f from number j e)
+end_ending_prop : (f : Func) (from number : ℕ) (j : Option (Lined Jump)) (e : Ending) →
+    IsProp (IsEndEnding f from number j e)
 end_ending_prop f from number None e = hlevel props
 end_ending_prop f from number (Some j) e = jump_ending_prop f from number (straight j.item) e
 
-endings_prop : (f : Func) (number : ℕ) (blocks : List Block) (es : List Ending) → IsProp (AreEndings f number blocks es)
+endings_prop : (f : Func) (number : ℕ) (blocks : List Block) (es : List Ending) →
+    IsProp (AreEndings f number blocks es)
 endings_prop f number [] [] = hlevel props
 endings_prop f number [] (e ∷ es) = hlevel props
 endings_prop f number (b ∷ blocks) [] = hlevel props
 endings_prop f number (b ∷ blocks) (e ∷ es) =
-    hlevel (props, end_ending_prop f b.label number b.jump e, endings_prop f (number + length (block_edges f b)) blocks es)
+    hlevel (
+      props,
+      end_ending_prop f b.label number b.jump e,
+      endings_prop f (number + length (block_edges f b)) blocks es,
+    )
 
 on_edge_prop : (f : Func) (w : Edge) (e : Ending) → IsProp (IsOnEdge f w e)
 on_edge_prop f w e = hlevel (props, are_copies_prop)

@@ -27,13 +27,18 @@ source ms scratch None i = from_of ms i
 source ms scratch (Some z) i = if i == z then scratch else from_of ms i
 
 -- seq does the placed moves as if at once
-pub record Holds (ms : List Move) (scratch : ℕ) (open' : Option ℕ) (placed : List Bool) (seq : List Move) (env : ℕ → ℕ) : Type 0 where
-  pub moved : (i : ℕ) → i < length ms → is_placed placed i ≡ true → after env seq (to_of ms i) ≡ env (source ms scratch open' i)
-  pub kept : (p : ℕ) → p ≢ scratch → ((i : ℕ) → i < length ms → is_placed placed i ≡ true → to_of ms i ≢ p) → after env seq p ≡ env p
+pub record Holds (ms : List Move) (scratch : ℕ) (open' : Option ℕ) (placed : List Bool)
+    (seq : List Move) (env : ℕ → ℕ) : Type 0 where
+  pub moved : (i : ℕ) → i < length ms → is_placed placed i ≡ true →
+      after env seq (to_of ms i) ≡ env (source ms scratch open' i)
+  pub kept : (p : ℕ) → p ≢ scratch → ((i : ℕ) → i < length ms → is_placed placed i ≡ true →
+      to_of ms i ≢ p) → after env seq p ≡ env p
 
 -- what a placed move reads is written by a placed one or by none, the open move aside
 abbrev pub Closed : List Move → Option ℕ → List Bool → Type 0
-Closed ms open' placed = (i b : ℕ) → i < length ms → is_placed placed i ≡ true → b < length ms → to_of ms b ≡ from_of ms i → (is_placed placed b ≡ true) ⊎ (open' ≡ Some i)
+Closed ms open' placed =
+    (i b : ℕ) → i < length ms → is_placed placed i ≡ true → b < length ms →
+    to_of ms b ≡ from_of ms i → (is_placed placed b ≡ true) ⊎ (open' ≡ Some i)
 
 -- a place that is read from outside: by one of the moves, or by the open one in scratch
 abbrev pub Known : List Move → ℕ → Option ℕ → ℕ → Type 0
@@ -41,7 +46,8 @@ Known ms scratch None p = IsRead ms p
 Known ms scratch (Some z) p = (p ≡ scratch) ⊎ IsRead ms p
 
 -- what is true of the moves in `out`, which go from its end, and of those that are placed
-pub record State (ms : List Move) (scratch : ℕ) (open' : Option ℕ) (placed : List Bool) (out : List Move) : Type 0 where
+pub record State (ms : List Move) (scratch : ℕ) (open' : Option ℕ) (placed : List Bool)
+    (out : List Move) : Type 0 where
   pub holds : (env : ℕ → ℕ) → Holds ms scratch open' placed (reverse out) env
   pub closed : Closed ms open' placed
   pub selves : (i : ℕ) → i < length ms → to_of ms i ≡ from_of ms i → is_placed placed i ≡ true
@@ -70,7 +76,8 @@ pub record Way (ms : List Move) (placed : List Bool) (path : List ℕ) : Type 0 
 -- what has been visited is placed or on the way
 pub record Seen (ms : List Move) (visited placed : List Bool) (path : List ℕ) : Type 0 where
   pub seen : (t : ℕ) → t < length path → is_placed visited (at path t) ≡ true
-  pub all : (i : ℕ) → i < length ms → is_placed visited i ≡ true → is_placed placed i ≡ false → (t : ℕ) × (t < length path) × (at path t ≡ i)
+  pub all : (i : ℕ) → i < length ms → is_placed visited i ≡ true → is_placed placed i ≡ false →
+      (t : ℕ) × (t < length path) × (at path t ≡ i)
   pub placed_seen : (i : ℕ) → i < length ms → is_placed placed i ≡ true → is_placed visited i ≡ true
 
 -- one of the first n moves, or none, goes to the place
@@ -80,18 +87,24 @@ IsWritten ms place n (Some b) = (b < n) × (to_of ms b ≡ place)
 
 -- the move, or none, that writes what the end of the way reads
 abbrev pub Leads : List Move → List ℕ → Option ℕ → Type 0
-Leads ms path next = (t : ℕ) → t + 1 ≡ length path → IsWritten ms (from_of ms (at path t)) (length ms) next
+Leads ms path next =
+    (t : ℕ) → t + 1 ≡ length path → IsWritten ms (from_of ms (at path t)) (length ms) next
 
 -- no move that waits writes what the end of the way reads
 abbrev pub Settled : List Move → List Bool → List ℕ → Type 0
-Settled ms placed path = (t : ℕ) → t + 1 ≡ length path → (b : ℕ) → b < length ms → to_of ms b ≡ from_of ms (at path t) → is_placed placed b ≡ true
+Settled ms placed path =
+    (t : ℕ) → t + 1 ≡ length path → (b : ℕ) → b < length ms → to_of ms b ≡ from_of ms (at path t) →
+    is_placed placed b ≡ true
 
 -- whatever order was right before is right afterwards
 abbrev pub Keeps : List Move → List Bool → List Move → List Bool → List Move → Type 0
-Keeps ms placed out placed' out' = (scratch : ℕ) → Given ms scratch → State ms scratch None placed out → State ms scratch None placed' out'
+Keeps ms placed out placed' out' =
+    (scratch : ℕ) → Given ms scratch → State ms scratch None placed out →
+    State ms scratch None placed' out'
 
 -- what holds once a part of a way is placed, of the rest of it
-pub record Open (ms : List Move) (scratch : ℕ) (placed : List Bool) (path : List ℕ) (placed' : List Bool) (path' : List ℕ) (out' : List Move) : Type 0 where
+pub record Open (ms : List Move) (scratch : ℕ) (placed : List Bool) (path : List ℕ)
+    (placed' : List Bool) (path' : List ℕ) (out' : List Move) : Type 0 where
   pub way : Way ms placed' path'
   pub settled : Settled ms placed' path'
   pub state : State ms scratch None placed' out'
@@ -101,10 +114,12 @@ pub record Open (ms : List Move) (scratch : ℕ) (placed : List Bool) (path : Li
 -- the move at which a way ends is placed, or on the way
 abbrev pub Ends : List Move → List Bool → List ℕ → Option ℕ → Type 0
 Ends ms placed path None = Unit {0}
-Ends ms placed path (Some c) = (c < length ms) × (is_placed placed c ≡ false → (t : ℕ) × (t < length path) × (at path t ≡ c))
+Ends ms placed path (Some c) =
+    (c < length ms) × (is_placed placed c ≡ false → (t : ℕ) × (t < length path) × (at path t ≡ c))
 
 -- what holds once the ways from the first moves are placed
-pub record Sequencing (ms : List Move) (scratch : ℕ) (visited placed : List Bool) (path : List ℕ) (out : List Move) (start : ℕ) : Type 0 where
+pub record Sequencing (ms : List Move) (scratch : ℕ) (visited placed : List Bool) (path : List ℕ)
+    (out : List Move) (start : ℕ) : Type 0 where
   pub state : State ms scratch None placed out
   pub few : IsFew ms placed out 0
   pub same : visited ≡ placed

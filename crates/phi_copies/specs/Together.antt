@@ -1,5 +1,5 @@
--- Copies that are to be done at once, taken apart: the moves of one class between two temporaries, and
--- the rest. No public promise names what stands here.
+-- Copies that are to be done at once, taken apart: the moves of one class between two temporaries,
+-- and the rest. No public promise names what stands here.
 use Rattle.std.specs.Prelude.{◌≡◌, ℕ, ◌+◌, ◌/◌, ◌≤◌, nat_eq, if◌then◌else◌, List, [], ◌∷◌, ◌++◌, length, map, All, Option, Some, None}
 use Rattle.il_ast.specs.declared.operation.Class.{Class}
 use Rattle.il_ast.specs.declared.operation.Class.TheVariants.{W, L}
@@ -75,7 +75,8 @@ pub record IsInOrder (n : ℕ) (cs copies : List Assignment) : Type 0 where
 -- moves of this class were put behind the other copies, in an order
 abbrev pub AddsMoves : Class → ℕ → List Assignment → (before now : List Assignment) → Type 0
 AddsMoves k scratch cs before now =
-    (out : List Move) × (now ≡ before ++ map (copy_of k) out) × IsSequence (moves_in k cs) scratch out
+    (out : List Move) × (now ≡ before ++ map (copy_of k) out)
+    × IsSequence (moves_in k cs) scratch out
 
 abbrev pub CanMove : Class → ℕ → List Assignment → Type 0
 CanMove k scratch cs = HasDistinctDestinations (moves_in k cs) × IsUnnamed scratch (moves_in k cs)

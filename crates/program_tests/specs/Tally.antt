@@ -20,4 +20,5 @@ after_check fact is_well failures = if fact then failures else with_failure is_w
 
 -- two runs that ended alike, with the same output
 abbrev pub is_same : Told → Told → Bool
-is_same a b = bytes_eq (string_bytes a.end) (string_bytes b.end) && bytes_eq a.output.items b.output.items
+is_same a b =
+    bytes_eq (string_bytes a.end) (string_bytes b.end) && bytes_eq a.output.items b.output.items

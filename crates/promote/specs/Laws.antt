@@ -15,7 +15,8 @@ RulesStay =
     → (rule : Rule)
     → broken_in_function rule g ≡ None
 
--- the function is within the limits just where it was before, weighs as much, and needs as much stack
+-- the function is within the limits just where it was before, weighs as much, and needs as much
+-- stack
 pub record CostsStay (f g : Func) : Type 0 where
   pub limits : is_within g ≡ is_within f
   pub weight : weight g ≡ weight f

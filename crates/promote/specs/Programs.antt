@@ -64,14 +64,16 @@ AreAmong n (Object k ∷ targets) = (k < n) × AreAmong n targets
 
 -- bytes are below 256, names mean data that there is, and the words can be counted
 pub record HasBytes (p : Program) (words : List (List ℕ)) : Type 0 where
-  pub names : (t : ℕ) (targets : List Target) → slice_get p.targets t ≡ Some targets → AreAmong (length p.objects) targets
+  pub names : (t : ℕ) (targets : List Target) → slice_get p.targets t ≡ Some targets →
+      AreAmong (length p.objects) targets
   pub data_bytes : ObjectsHaveBytes p.objects
   pub word_bytes : AreWords words
   pub count : length words < 2 ^ 64
 
 -- ---- the law
 
--- the same is spent, put out and returned, or the same end comes; nothing is asked where the first became undefined
+-- the same is spent, put out and returned, or the same end comes; nothing is asked where the first
+-- became undefined
 abbrev pub SameOutcome : Outcome → Outcome → Type 0
 SameOutcome (Returned s v m) o = (n : Memory) × (o ≡ Returned s v n)
 SameOutcome (Ended s Undefined) o = Unit {0}

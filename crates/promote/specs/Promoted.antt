@@ -74,7 +74,13 @@ promoted_line w i = record { line = i.line; item = promoted w i.item }
 
 abbrev pub promoted_block : Widths → Block → Block
 promoted_block w b =
-    record { line = b.line; label = b.label; phis = b.phis; insts = map (promoted_line w) b.insts; jump = b.jump }
+    record {
+      line = b.line;
+      label = b.label;
+      phis = b.phis;
+      insts = map (promoted_line w) b.insts;
+      jump = b.jump;
+    }
 
 -- the second function is the first with these temporaries promoted
 pub record Rewrites (w : Widths) (f g : Func) : Type 0 where

@@ -45,7 +45,8 @@ extension_size UnsignedHalf = Half
 extension_size SignedByte = Byte
 extension_size UnsignedByte = Byte
 
--- what its operand is to an operation whose result has class c; a long that a `w` temporary takes whole is no access
+-- what its operand is to an operation whose result has class c; a long that a `w` temporary takes
+-- whole is no access
 abbrev pub operand_role : UnaryOp → Class → Role
 operand_role Neg c = Used
 operand_role Copy c = Used
@@ -63,11 +64,13 @@ arg_mentions a = value_mentions Used a.value
 
 abbrev pub item_mentions : Inst → List Mention
 item_mentions (Unary to op a) = mention Used to.temp ∷ value_mentions (operand_role op to.class) a
-item_mentions (Binary to op a b) = mention Used to.temp ∷ (value_mentions Used a ++ value_mentions Used b)
+item_mentions (Binary to op a b) =
+    mention Used to.temp ∷ (value_mentions Used a ++ value_mentions Used b)
 item_mentions (Alloc to alignment size) = mention Made to.temp ∷ []
 item_mentions (Store size a at) = value_mentions Used a ++ value_mentions (Accessed size) at
 item_mentions (Blit from to count) = value_mentions Used from ++ value_mentions Used to
-item_mentions (Call to callee args) = destination_mentions to ++ (value_mentions Used callee ++ flat_map arg_mentions args)
+item_mentions (Call to callee args) =
+    destination_mentions to ++ (value_mentions Used callee ++ flat_map arg_mentions args)
 
 abbrev pub inst_mentions : Lined Inst → List Mention
 inst_mentions i = item_mentions i.item
@@ -90,7 +93,8 @@ abbrev pub phi_mentions : Phi → List Mention
 phi_mentions p = mention Used p.to.temp ∷ flat_map phi_arg_mentions p.args
 
 abbrev pub block_mentions : Block → List Mention
-block_mentions b = flat_map phi_mentions b.phis ++ (flat_map inst_mentions b.insts ++ end_mentions b.jump)
+block_mentions b =
+    flat_map phi_mentions b.phis ++ (flat_map inst_mentions b.insts ++ end_mentions b.jump)
 
 abbrev pub param_mentions : Param → List Mention
 param_mentions p = mention Used p.temp ∷ []

@@ -13,12 +13,15 @@ use Rattle.rv_machine.specs.Start.{Starts}
 use Rattle.headline.specs.Headline.{Executes}
 use Rattle.qbec.specs.Texts.{AreProgram}
 
--- The executable is one of the program: it has the words of its code, which can be executed and neither read nor written, and the bytes of the program's data, which
--- can be read and written, and nothing else; and from every start of the machine with argument words within their limits, the machine executes the program.
+-- The executable is one of the program: it has the words of its code, which can be executed and
+-- neither read nor written, and the bytes of the program's data, which can be read and written, and
+-- nothing else; and from every start of the machine with argument words within their limits, the
+-- machine executes the program.
 pub record IsExecutableOf (p : Program) (x : Executable) : Type 0 where
   pub codes : List Words
   pub stands : Stands (contents_of p codes) x
-  pub runs : (words : List (List ℕ)) (s : State) → Starts x words s → length words ≤ WORDS → length (word_bytes words) ≤ WORD_BYTES → Executes p words s
+  pub runs : (words : List (List ℕ)) (s : State) → Starts x words s → length words ≤ WORDS →
+      length (word_bytes words) ≤ WORD_BYTES → Executes p words s
 
 -- the bytes are an executable file, and whatever they load as is an executable of the program
 pub record IsFile (p : Program) (bytes : List ℕ) : Type 0 where

@@ -8,8 +8,11 @@ use Rattle.qbec.specs.Refusals.{Refuses}
 
 -- texts are at most one program
 abbrev pub AtMostOneProgram : Type 0
-AtMostOneProgram = (texts : List (List ℕ)) (p q : Program) → AreProgram texts p → AreProgram texts q → p ≡ q
+AtMostOneProgram =
+    (texts : List (List ℕ)) (p q : Program) → AreProgram texts p → AreProgram texts q → p ≡ q
 
 -- what a refusal says is true of no program, unless memory was refused
 abbrev pub RefusalsAreOfNoProgram : Type 0
-RefusalsAreOfNoProgram = (texts : List (List ℕ)) (p : Program) (e : CompileError) → AreProgram texts p → Refuses e texts → e ≡ Memory
+RefusalsAreOfNoProgram =
+    (texts : List (List ℕ)) (p : Program) (e : CompileError) → AreProgram texts p →
+    Refuses e texts → e ≡ Memory

@@ -1,4 +1,5 @@
--- The program that is compiled in a program's place: each function with its locals taken out of memory.
+-- The program that is compiled in a program's place: each function with its locals taken out of
+-- memory.
 use Rattle.std.specs.Prelude.{List, [], ◌∷◌}
 use Rattle.il_ast.specs.declared.function.Func.{Func}
 use Rattle.il_ast.specs.declared.program.Placed.{Placed}
@@ -22,4 +23,5 @@ EachPromoted (c ∷ codes) (f ∷ fs) = StandPromoted f.item c × EachPromoted c
 
 -- the program with these functions
 abbrev pub with_functions : Program → List (Placed Func) → Program
-with_functions p functions = record { targets = p.targets; functions = functions; objects = p.objects; main = p.main }
+with_functions p functions =
+    record { targets = p.targets; functions = functions; objects = p.objects; main = p.main }

@@ -46,7 +46,8 @@ RefusesText e number bytes = ⊥
 
 -- one of the texts is so, which are numbered from 1
 abbrev pub OfText : (texts : List (List ℕ)) (number : ℕ) (P : List ℕ → Type 0) → Type 0
-OfText texts number P = (k : ℕ) × (bytes : List ℕ) × (number ≡ k + 1) × (slice_get texts k ≡ Some bytes) × P bytes
+OfText texts number P =
+    (k : ℕ) × (bytes : List ℕ) × (number ≡ k + 1) × (slice_get texts k ≡ Some bytes) × P bytes
 
 -- each of the texts is in the grammar and keeps its rules and limits, and together they are so
 abbrev pub OfAll : (texts : List (List ℕ)) (P : List Checked → Type 0) → Type 0
@@ -56,10 +57,15 @@ OfAll texts P = (checked : List Checked) × AreTexts texts checked × P checked
 abbrev pub Refuses : CompileError → List (List ℕ) → Type 0
 Refuses (Syntax text line) texts = OfText texts text (IsNoText line)
 Refuses (Rule text fault) texts = OfText texts text (Breaks fault)
-Refuses (UnknownName name) texts = OfAll texts (λ checked. IsUnknown (meaning_of checked) checked name.items)
-Refuses (ExportedTwice name) texts = OfAll texts (λ checked. 1 < times_exported checked (names_of checked) name.items)
+Refuses (UnknownName name) texts =
+    OfAll texts (λ checked. IsUnknown (meaning_of checked) checked name.items)
+Refuses (ExportedTwice name) texts =
+    OfAll texts (λ checked. 1 < times_exported checked (names_of checked) name.items)
 Refuses NoMain texts = OfAll texts (λ checked. ExportsMain checked → ⊥)
-Refuses Limit texts = ((number : ℕ) × OfText texts number PassesLimit) ⊎ OfAll texts (λ checked. within_limits checked (functions_of checked) (objects_of checked) ≡ false)
+Refuses Limit texts =
+    ((number : ℕ) × OfText texts number PassesLimit)
+    ⊎ OfAll texts (λ checked. within_limits checked (functions_of checked) (objects_of checked)
+    ≡ false)
 Refuses Memory texts = Unit {0}
 
 -- ---- which refusal it is
@@ -74,7 +80,8 @@ check_refusal number (Broken fault) = Rule number fault
 check_refusal number Passed = Limit
 check_refusal number CheckMemory = Memory
 
--- the refusal says what linking says, with a copy of the name where it has one, or that memory for that was refused
+-- the refusal says what linking says, with a copy of the name where it has one, or that memory for
+-- that was refused
 abbrev pub SaysAsMuch : LinkError → CompileError → Type 0
 SaysAsMuch (LinkUnknown name) (UnknownName copy) = copy.items ≡ name.now
 SaysAsMuch (LinkTwice name) (ExportedTwice copy) = copy.items ≡ name.now

@@ -12,7 +12,8 @@ AreTexts [] (c ∷ checked) = ⊥
 AreTexts (bytes ∷ texts) [] = ⊥
 AreTexts (bytes ∷ texts) (c ∷ checked) = Reads bytes c.text × AreTexts texts checked
 
--- texts that are this program: each is in the grammar and keeps the rules, and together they link to it
+-- texts that are this program: each is in the grammar and keeps the rules, and together they link
+-- to it
 pub record AreProgram (texts : List (List ℕ)) (p : Program) : Type 0 where
   pub checked : List Checked
   pub are : AreTexts texts checked

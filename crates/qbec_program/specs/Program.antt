@@ -1,4 +1,5 @@
--- What the program does, as far as its streams tell. The files of the system tell nothing but how many calls failed.
+-- What the program does, as far as its streams tell. The files of the system tell nothing but how
+-- many calls failed.
 use Rattle.std.specs.Prelude.{◌≡◌, ◌⊎◌, ℕ, None}
 use Rattle.shell.specs.Disk.{DiskState}
 use Rattle.shell.specs.Sink.{SinkState}
@@ -12,8 +13,10 @@ at_first = record { files = None; faults = 0 }
 abbrev pub Performs : (old new before after : SinkState) → (status : ℕ) → Type 0
 Performs old new before after status =
     (disk : DiskState)
-    × Ends (record { disk = at_first; out = old; err = before }) (record { disk = disk; out = new; err = after }) status
+    × Ends (record { disk = at_first; out = old; err = before })
+    (record { disk = disk; out = new; err = after }) status
 
 -- or the words after the program's name couldn't be had, and the line of refused memory says so
 abbrev pub Exits : (old new before after : SinkState) → (status : ℕ) → Type 0
-Exits old new before after status = Performs old new before after status ⊎ ((new ≡ old) × Reported Memory before after status)
+Exits old new before after status =
+    Performs old new before after status ⊎ ((new ≡ old) × Reported Memory before after status)

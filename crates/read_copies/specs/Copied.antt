@@ -33,7 +33,8 @@ surviving (Some r) copies = filter (survives r) copies
 
 -- the copy that a line makes
 abbrev pub made_by : Line ℕ → Option KnownCopy
-made_by (Set to (At from)) = if nat_eq to from then None else Some (record { source = from; copy = to })
+made_by (Set to (At from)) =
+    if nat_eq to from then None else Some (record { source = from; copy = to })
 made_by l = None
 
 -- one more, if fewer than 16 are known
@@ -60,7 +61,11 @@ known_behind copies (l ∷ lines) = known_behind (after (with_line (read_by copi
 -- none is known where a block begins
 abbrev pub reading_block : Block ℕ → Block ℕ
 reading_block b =
-    record { lines = reading_lines [] b.lines; jump = with_jump (read_by (known_behind [] b.lines)) b.jump }
+    record {
+      lines = reading_lines [] b.lines;
+      jump = with_jump (read_by (known_behind [] b.lines)) b.jump;
+    }
 
 abbrev pub reading_copies : Code ℕ → Code ℕ
-reading_copies f = record { result = f.result; params = f.params; blocks = map reading_block f.blocks }
+reading_copies f =
+    record { result = f.result; params = f.params; blocks = map reading_block f.blocks }

@@ -1,4 +1,5 @@
--- Certificates that name no place but those that there are, in registers of the machine and in slots.
+-- Certificates that name no place but those that there are, in registers of the machine and in
+-- slots.
 use Rattle.std.specs.Prelude.{◌≡◌, ℕ, Bool, true, ◌&&◌, List}
 use Rattle.std.specs.List.{list_all}
 use Rattle.vcode.specs.Named.{is_place}
@@ -12,7 +13,8 @@ are_placed registers es = list_all (λ (e : Equality). is_place registers e.plac
 
 -- moves between such places
 abbrev pub are_between : (registers : ℕ) → List Transfer → Bool
-are_between registers ms = list_all (λ (m : Transfer). is_place registers m.from && is_place registers m.to) ms
+are_between registers ms =
+    list_all (λ (m : Transfer). is_place registers m.from && is_place registers m.to) ms
 
 pub record IsScanned (registers : ℕ) (c : Certificate) : Type 0 where
   pub params : list_all (is_place registers) c.params ≡ true

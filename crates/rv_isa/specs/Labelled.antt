@@ -1,5 +1,6 @@
--- What it means that labelled code stands at an address. An item has no meaning of its own: it stands between two addresses where the machine,
--- coming to the first, does what the item says, in a bounded number of instructions.
+-- What it means that labelled code stands at an address. An item has no meaning of its own: it
+-- stands between two addresses where the machine, coming to the first, does what the item says, in
+-- a bounded number of instructions.
 use Rattle.std.specs.Prelude.{◌≡◌, ◌≢◌, ℕ, ◌+◌, ◌%◌, ◌^◌, ◌<◌, ◌≤◌, true, false, if◌then◌else◌, List, [], ◌∷◌, Some}
 use Rattle.rv_isa.specs.State.{State, register}
 use Rattle.rv_isa.specs.Memory.{number_at, allowed, is_code}
@@ -50,7 +51,8 @@ unfoldable pub Stands : (g : Ground) (label global : ℕ → ℕ) → Item → (
 Stands g label global (Plain i) a b = InstrAt g a i × (b ≡ a + 4)
 Stands g label global (Label l) a b = (label l ≡ a) × (b ≡ a)
 Stands g label global (Branch op rs1 rs2 l) a b =
-    (s : State) → Fixed g s → s.pc ≡ a → Moves g 3 (if taken op (register s rs1) (register s rs2) then label l else b) s
+    (s : State) → Fixed g s → s.pc ≡ a → Moves g 3
+    (if taken op (register s rs1) (register s rs2) then label l else b) s
 Stands g label global (Goto l) a b = (s : State) → Fixed g s → s.pc ≡ a → Moves g 2 (label l) s
 Stands g label global (Relocated r) a b = InstrAt g a (relocated r (global r.global)) × (b ≡ a + 4)
 

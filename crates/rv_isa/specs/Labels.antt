@@ -1,4 +1,5 @@
--- Labelled code: the labels, registers and sizes of its items, and what the code of a function keeps.
+-- Labelled code: the labels, registers and sizes of its items, and what the code of a function
+-- keeps.
 use Rattle.std.specs.Prelude.{◌≡◌, ℕ, ◌+◌, ◌^◌, ◌<◌, Bool, true, false, not, ◌&&◌, nat_eq, nat_lt, if◌then◌else◌, IsTrue, List, [], ◌∷◌}
 use Rattle.std.specs.List.{list_all}
 use Rattle.rv_isa.specs.declared.abi.TheConstants.{JUMP_SCRATCH}

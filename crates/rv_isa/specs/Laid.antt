@@ -12,11 +12,13 @@ pub record WordsStand (g : Ground) (at : ℕ) (words : List ℕ) : Type 0 where
   pub aligned : at % 4 ≡ 0
   pub inside : at + 4 * length words < 2 ^ 64
   pub here : (k w : ℕ) → slice_get words k ≡ Some w → number_at g.code (at + 4 * k) 4 ≡ w
-  pub fetched : (k w : ℕ) → slice_get words k ≡ Some w → allowed (λ a. is_code (g.allows a)) (at + 4 * k) 4 ≡ true
+  pub fetched : (k w : ℕ) → slice_get words k ≡ Some w →
+      allowed (λ a. is_code (g.allows a)) (at + 4 * k) 4 ≡ true
 
 -- a hole's word becomes that of its instruction
 abbrev pub fill : (ℕ → ℕ) → List ℕ → Hole → List ℕ
-fill global words h = slice_set words h.word (word (relocated h.relocation (global h.relocation.global)))
+fill global words h =
+    slice_set words h.word (word (relocated h.relocation (global h.relocation.global)))
 
 abbrev pub filled : (ℕ → ℕ) → List ℕ → List Hole → List ℕ
 filled global words [] = words

@@ -33,10 +33,12 @@ i_below w = omega arith
 pub s_below : (w : ℕ) → part w 31 25 * 32 + part w 11 7 < 4096
 s_below w = omega arith
 
-pub b_below : (w : ℕ) → part w 31 31 * 2048 + part w 7 7 * 1024 + part w 30 25 * 16 + part w 11 8 < 4096
+pub b_below : (w : ℕ) → part w 31 31 * 2048 + part w 7 7 * 1024 + part w 30 25 * 16 + part w 11 8
+    < 4096
 b_below w = omega arith
 
-pub j_below : (w : ℕ) → part w 31 31 * 524288 + part w 19 12 * 2048 + part w 20 20 * 1024 + part w 30 21 < 1048576
+pub j_below : (w : ℕ) → part w 31 31 * 524288 + part w 19 12 * 2048 + part w 20 20 * 1024 + part w
+    30 21 < 1048576
 j_below w = omega arith
 
 pub upper_fits : (a : ℕ) → upper_field a < 2 ^ 20

@@ -1,4 +1,5 @@
--- The text of an instruction, in the manner of the manual's assembly listings: registers as x0 to x31, numbers decimal.
+-- The text of an instruction, in the manner of the manual's assembly listings: registers as x0 to
+-- x31, numbers decimal.
 use Rattle.std.specs.Prelude.{ℕ, List, ◌++◌, codes, ℤ}
 use Rattle.std.specs.Fmt.{decimal, signed_decimal}
 use Rattle.rv_isa.specs.declared.ranges.Register.{Register}
@@ -104,22 +105,26 @@ register_text r = codes "x" ++ decimal r.number
 -- `add x10, x11, x12`
 abbrev pub registers_text : (name : List ℕ) (rd rs1 rs2 : Register) → List ℕ
 registers_text name rd rs1 rs2 =
-    name ++ codes " " ++ register_text rd ++ codes ", " ++ register_text rs1 ++ codes ", " ++ register_text rs2
+    name ++ codes " " ++ register_text rd ++ codes ", " ++ register_text rs1 ++ codes ", "
+    ++ register_text rs2
 
 -- `addi x2, x2, -16`
 abbrev pub immediate_text : (name : List ℕ) (rd rs1 : Register) (value : ℤ) → List ℕ
 immediate_text name rd rs1 value =
-    name ++ codes " " ++ register_text rd ++ codes ", " ++ register_text rs1 ++ codes ", " ++ signed_decimal value
+    name ++ codes " " ++ register_text rd ++ codes ", " ++ register_text rs1 ++ codes ", "
+    ++ signed_decimal value
 
 -- `srai x10, x10, 63`
 abbrev pub shift_text : (name : List ℕ) (rd rs1 : Register) (amount : ℕ) → List ℕ
 shift_text name rd rs1 amount =
-    name ++ codes " " ++ register_text rd ++ codes ", " ++ register_text rs1 ++ codes ", " ++ decimal amount
+    name ++ codes " " ++ register_text rd ++ codes ", " ++ register_text rs1 ++ codes ", "
+    ++ decimal amount
 
 -- `ld x1, 8(x2)`
 abbrev pub address_text : (name : List ℕ) (value base : Register) (offset : ℤ) → List ℕ
 address_text name value base offset =
-    name ++ codes " " ++ register_text value ++ codes ", " ++ signed_decimal offset ++ codes "(" ++ register_text base ++ codes ")"
+    name ++ codes " " ++ register_text value ++ codes ", " ++ signed_decimal offset ++ codes "("
+    ++ register_text base ++ codes ")"
 
 -- `jal x0, -4`
 abbrev pub jump_text : (rd : Register) (offset : ℤ) → List ℕ

@@ -1,4 +1,5 @@
--- The memory that a program is started with: the segments of its file, the stack, and its arguments above the stack. Nothing else is mapped.
+-- The memory that a program is started with: the segments of its file, the stack, and its arguments
+-- above the stack. Nothing else is mapped.
 use Rattle.std.specs.Prelude.{◌≡◌, ℕ, ◌+◌, ◌<◌, ◌^◌, Bool, true, false, ◌&&◌, ◌||◌, nat_le, nat_lt, if◌then◌else◌, Option, Some, None, unwrap_or}
 use Rattle.rv_isa.specs.declared.permission.Permission.{Permission}
 use Rattle.rv_isa.specs.Memory.{number_at, stored, allowed}
@@ -19,12 +20,14 @@ abbrev pub read_and_write : Permission
 read_and_write = record { readable = true; writable = true; executable = false }
 
 abbrev pub permission_of : Flags → Permission
-permission_of f = record { readable = is_readable f; writable = is_writable f; executable = is_executable f }
+permission_of f =
+    record { readable = is_readable f; writable = is_writable f; executable = is_executable f }
 
 -- the stack, and above it as many bytes for the arguments
 abbrev pub stack_permission : (arguments at : ℕ) → Permission
 stack_permission arguments at =
-    if nat_le stack_bottom at && nat_lt at (stack_top + arguments) then read_and_write else nothing_allowed
+    if nat_le stack_bottom at && nat_lt at (stack_top + arguments) then read_and_write
+    else nothing_allowed
 
 -- the permission of a segment that has the address, and else another
 abbrev pub flags_or : Option Flags → Permission → Permission

@@ -1,5 +1,6 @@
--- The class of each temporary of a function without phis: a word where a parameter, a phi or an instruction assigns it as one, or where it is the own temporary of a
--- phi whose result is a word; else a long.
+-- The class of each temporary of a function without phis: a word where a parameter, a phi or an
+-- instruction assigns it as one, or where it is the own temporary of a phi whose result is a word;
+-- else a long.
 use Rattle.std.specs.Prelude.{ℕ, ◌-◌, nat_lt, if◌then◌else◌, List, length, slice_get, Option, Some, None}
 use Rattle.std.specs.List.{flat_map}
 use Rattle.il_ast.specs.declared.operation.Class.{Class}
@@ -23,4 +24,6 @@ abbrev pub all_phis : List Block → List Phi
 all_phis blocks = flat_map (λ (b : Block). b.phis) blocks
 
 abbrev pub classes_in : Func → Classes
-classes_in f t = if nat_lt t (length f.temps) then class_given f t else or_long (slice_get (all_phis f.blocks) (t - length f.temps))
+classes_in f t =
+    if nat_lt t (length f.temps) then class_given f t
+    else or_long (slice_get (all_phis f.blocks) (t - length f.temps))

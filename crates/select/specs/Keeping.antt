@@ -13,4 +13,5 @@ use Rattle.vcode.specs.Step.{begin as begin_code, step as step_code}
 abbrev pub KeepsEndings : Func → Endings → Code ℕ → Type 0
 KeepsEndings f code v =
     (globals : List Value)
-    → KeepsCode (classes_of f.params) (begin f) (step globals f code) (begin_code virtual v) (step_code virtual globals v)
+    → KeepsCode (classes_of f.params) (begin f) (step globals f code) (begin_code virtual v)
+    (step_code virtual globals v)

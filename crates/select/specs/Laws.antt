@@ -15,17 +15,22 @@ use Rattle.select.specs.Invariants.{IsVirtual}
 use Rattle.select.specs.Keeping.{KeepsEndings}
 
 abbrev pub SelectionKeeps : Type 0
-SelectionKeeps = (classes : Classes) (f : Func) (code : Endings) → IsTyped classes f code → KeepsEndings f code (selected classes f code)
+SelectionKeeps =
+    (classes : Classes) (f : Func) (code : Endings) → IsTyped classes f code →
+    KeepsEndings f code (selected classes f code)
 
 abbrev pub LoweredIsTyped : Type 0
-LoweredIsTyped = (f : Func) (code : Endings) → IsGoodFunction f → IsLowered f code → IsTyped (classes_in f) f code
+LoweredIsTyped =
+    (f : Func) (code : Endings) → IsGoodFunction f → IsLowered f code →
+    IsTyped (classes_in f) f code
 
 abbrev pub SelectedIsVirtual : Type 0
 SelectedIsVirtual =
     (f : Func) (code : Endings) → IsGoodFunction f → IsLowered f code
     → IsVirtual (selected (classes_in f) f code) (length f.temps + phi_count f)
 
--- the virtual code is the function's, whatever its text's global names mean: it takes no more than the function is counted for
+-- the virtual code is the function's, whatever its text's global names mean: it takes no more than
+-- the function is counted for
 abbrev pub SelectedIsCode : Type 0
 SelectedIsCode =
     (f : Func) (code : Endings) → IsGoodFunction f → IsLowered f code

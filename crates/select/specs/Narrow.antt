@@ -1,5 +1,6 @@
--- Virtual code with registers and weights of 32 bits: whatever is longer loses its high bits. Nothing is in a function of a good text, whose virtual code is then
--- `selected`. No public promise names what stands here.
+-- Virtual code with registers and weights of 32 bits: whatever is longer loses its high bits.
+-- Nothing is in a function of a good text, whose virtual code is then `selected`. No public promise
+-- names what stands here.
 use Rattle.std.specs.Prelude.{ℕ, ◌%◌, ◌^◌, true, List, [], ◌∷◌, ◌++◌, map}
 use Rattle.std.specs.Option.{option_map}
 use Rattle.il_ast.specs.declared.operand.Val.{Val}
@@ -53,10 +54,12 @@ narrow_inst (Binary to op a b) = Binary (narrow_dest to) op (narrow_val a) (narr
 narrow_inst (Alloc to alignment size) = Alloc (narrow_dest to) alignment size
 narrow_inst (Store size a at) = Store size (narrow_val a) (narrow_val at)
 narrow_inst (Blit from to count) = Blit (narrow_val from) (narrow_val to) count
-narrow_inst (Call to callee args) = Call (option_map narrow_dest to) (narrow_val callee) (map narrow_arg args)
+narrow_inst (Call to callee args) =
+    Call (option_map narrow_dest to) (narrow_val callee) (map narrow_arg args)
 
 abbrev pub narrow_turn : Classes → Lined Inst → List (Line ℕ)
-narrow_turn classes i = Tick true (narrow (inst_weight i.item)) ∷ inst_lines classes (narrow_inst i.item)
+narrow_turn classes i =
+    Tick true (narrow (inst_weight i.item)) ∷ inst_lines classes (narrow_inst i.item)
 
 abbrev pub narrow_turns : Classes → List (Lined Inst) → List (Line ℕ)
 narrow_turns classes [] = []
@@ -66,7 +69,9 @@ narrow_turns classes (i ∷ insts) = narrow_turn classes i ++ narrow_turns class
 
 abbrev pub narrow_copies : Classes → List Assignment → List (Line ℕ)
 narrow_copies classes [] = []
-narrow_copies classes (c ∷ cs) = copy_lines classes (narrow c.to.temp) c.to.class (operand_of (narrow_val c.value)) ++ narrow_copies classes cs
+narrow_copies classes (c ∷ cs) =
+    copy_lines classes (narrow c.to.temp) c.to.class (operand_of (narrow_val c.value))
+    ++ narrow_copies classes cs
 
 abbrev pub narrow_ending : Classes → Ending → List (Line ℕ)
 narrow_ending classes e = Tick e.turn (narrow e.weight) ∷ narrow_copies classes e.copies
@@ -80,10 +85,15 @@ narrow_leave Halt = Halt
 -- ---- blocks
 
 abbrev pub narrow_block : Classes → Block → Ending → VirtualBlock ℕ
-narrow_block classes b e = record { lines = narrow_turns classes b.insts ++ narrow_ending classes e; jump = jump_of classes (narrow_leave e.leave) }
+narrow_block classes b e =
+    record {
+      lines = narrow_turns classes b.insts ++ narrow_ending classes e;
+      jump = jump_of classes (narrow_leave e.leave);
+    }
 
 abbrev pub narrow_edge : Classes → Ending → VirtualBlock ℕ
-narrow_edge classes e = record { lines = narrow_ending classes e; jump = jump_of classes (narrow_leave e.leave) }
+narrow_edge classes e =
+    record { lines = narrow_ending classes e; jump = jump_of classes (narrow_leave e.leave) }
 
 abbrev pub narrow_blocks : Classes → List Block → List Ending → List (VirtualBlock ℕ)
 narrow_blocks classes [] es = []
@@ -92,4 +102,9 @@ narrow_blocks classes (b ∷ bs) (e ∷ es) = narrow_block classes b e ∷ narro
 
 unfoldable pub narrow_code : Classes → Func → Endings → Code ℕ
 narrow_code classes f code =
-    record { result = f.result; params = map narrow_parameter f.params; blocks = narrow_blocks classes f.blocks code.endings ++ map (narrow_edge classes) code.edges }
+    record {
+      result = f.result;
+      params = map narrow_parameter f.params;
+      blocks = narrow_blocks classes f.blocks code.endings
+          ++ map (narrow_edge classes) code.edges;
+    }

@@ -1,5 +1,7 @@
--- Virtual code for a function without phis, whose temporaries have these classes. A temporary becomes the virtual register of its number. A word stands
--- sign-extended there, and what reads a word takes the low 32 bits, so that a long needs no conversion in a word's place, and a word none in a word's.
+-- Virtual code for a function without phis, whose temporaries have these classes. A temporary
+-- becomes the virtual register of its number. A word stands sign-extended there, and what reads a
+-- word takes the low 32 bits, so that a long needs no conversion in a word's place, and a word none
+-- in a word's.
 use Rattle.std.specs.Prelude.{ℕ, ◌%◌, ◌^◌, Bool, true, false, ◌&&◌, List, [], ◌∷◌, ◌++◌, map, Some}
 use Rattle.std.specs.Option.{option_map}
 use Rattle.bits.specs.Words.{sign_extended}
@@ -71,7 +73,8 @@ argument_of a = record { class = a.class; value = operand_of a.value; extension 
 
 -- ---- words that stand sign-extended
 
--- the operand's word stands sign-extended as it is, in a register of class W, or is known, in a number
+-- the operand's word stands sign-extended as it is, in a register of class W, or is known, in a
+-- number
 abbrev pub is_whole : Classes → Operand ℕ → Bool
 is_whole classes (At p) = same_class (classes p) W
 is_whole classes (Number n) = true
@@ -115,7 +118,8 @@ word_of classes t a = word_line t a (is_whole classes a)
 
 -- a shift to the left by so many bits, and then this one to the right
 abbrev pub shifted : ℕ → RegOp → (bits : ℕ) → Operand ℕ → List (Line ℕ)
-shifted t back bits a = Operate t (Reg SllReg) a (Number bits) ∷ Operate t (Reg back) (At t) (Number bits) ∷ []
+shifted t back bits a =
+    Operate t (Reg SllReg) a (Number bits) ∷ Operate t (Reg back) (At t) (Number bits) ∷ []
 
 abbrev pub extend_lines : Classes → ℕ → Extension → Operand ℕ → List (Line ℕ)
 extend_lines classes t SignedWord a = word_of classes t a ∷ []
@@ -178,7 +182,8 @@ operation_of Shl W = RegW Sllw
 operation_of Shl L = Reg SllReg
 operation_of (Compare on k) c = CompareValues on k
 
--- an operation on all bits of two words: of two that stand sign-extended the result does too, of any others its low 32 bits count
+-- an operation on all bits of two words: of two that stand sign-extended the result does too, of
+-- any others its low 32 bits count
 abbrev pub bits_of_words : ℕ → RegOp → (left right : Operand ℕ) → (whole : Bool) → List (Line ℕ)
 bits_of_words t op a b true = Operate t (Reg op) (word a) (word b) ∷ []
 bits_of_words t op a b false = Operate t (Reg op) a b ∷ as_word t (At t) ∷ []
@@ -200,11 +205,13 @@ binary_lines classes t op c a b = Operate t (operation_of op c) a b ∷ []
 
 abbrev pub inst_lines : Classes → Inst → List (Line ℕ)
 inst_lines classes (Unary to op a) = unary_lines classes to.temp op to.class (operand_of a)
-inst_lines classes (Binary to op a b) = binary_lines classes to.temp op to.class (operand_of a) (operand_of b)
+inst_lines classes (Binary to op a b) =
+    binary_lines classes to.temp op to.class (operand_of a) (operand_of b)
 inst_lines classes (AllocInst to alignment size) = Alloc (Some to.temp) size ∷ []
 inst_lines classes (StoreInst size a at) = Store size (operand_of a) (at_once (operand_of at)) ∷ []
 inst_lines classes (BlitInst from to count) = Blit (operand_of from) (operand_of to) count ∷ []
-inst_lines classes (CallInst to callee args) = Call (option_map destination_of to) (operand_of callee) (map argument_of args) ∷ []
+inst_lines classes (CallInst to callee args) =
+    Call (option_map destination_of to) (operand_of callee) (map argument_of args) ∷ []
 
 -- an instruction begins a turn, and spends its weight
 abbrev pub turn_lines : Classes → Lined Inst → List (Line ℕ)
@@ -218,21 +225,27 @@ all_lines classes (i ∷ insts) = turn_lines classes i ++ all_lines classes inst
 
 abbrev pub assignment_lines : Classes → List Assignment → List (Line ℕ)
 assignment_lines classes [] = []
-assignment_lines classes (c ∷ cs) = copy_lines classes c.to.temp c.to.class (operand_of c.value) ++ assignment_lines classes cs
+assignment_lines classes (c ∷ cs) =
+    copy_lines classes c.to.temp c.to.class (operand_of c.value) ++ assignment_lines classes cs
 
 abbrev pub ending_lines : Classes → Ending → List (Line ℕ)
 ending_lines classes e = Tick e.turn e.weight ∷ assignment_lines classes e.copies
 
 abbrev pub jump_of : Classes → Leave → Jump ℕ
 jump_of classes (Goto k) = GotoBlock k
-jump_of classes (Branch on nonzero otherwise) = BranchTo (not_zero classes (operand_of on)) nonzero otherwise
+jump_of classes (Branch on nonzero otherwise) =
+    BranchTo (not_zero classes (operand_of on)) nonzero otherwise
 jump_of classes (Return a) = ReturnWith (option_map result_of a)
 jump_of classes Halt = HaltRun
 
 -- ---- blocks
 
 abbrev pub block_of : Classes → Block → Ending → VirtualBlock ℕ
-block_of classes b e = record { lines = all_lines classes b.insts ++ ending_lines classes e; jump = jump_of classes e.leave }
+block_of classes b e =
+    record {
+      lines = all_lines classes b.insts ++ ending_lines classes e;
+      jump = jump_of classes e.leave;
+    }
 
 abbrev pub edge_of : Classes → Ending → VirtualBlock ℕ
 edge_of classes e = record { lines = ending_lines classes e; jump = jump_of classes e.leave }
@@ -248,4 +261,8 @@ parameter_of p = record { place = p.temp; class = p.class }
 
 unfoldable pub selected : Classes → Func → Endings → Code ℕ
 selected classes f code =
-    record { result = f.result; params = map parameter_of f.params; blocks = blocks_of classes f.blocks code.endings ++ map (edge_of classes) code.edges }
+    record {
+      result = f.result;
+      params = map parameter_of f.params;
+      blocks = blocks_of classes f.blocks code.endings ++ map (edge_of classes) code.edges;
+    }

@@ -1,4 +1,5 @@
--- Classes of temporaries in a table, and what it is made from. No public promise names what stands here.
+-- Classes of temporaries in a table, and what it is made from. No public promise names what stands
+-- here.
 use Rattle.std.specs.Prelude.{ℕ, Bool, nat_eq, ◌&&◌, if◌then◌else◌, List, [], ◌∷◌, ◌++◌, map, slice_index_or, Some}
 use Rattle.std.specs.List.{flat_map, list_any}
 use Rattle.il_ast.specs.declared.operation.Class.{Class}

@@ -1,4 +1,5 @@
--- Each temporary has one class, and each operand fits the place that it is read in: what the rules of a good text say of the function without its phis.
+-- Each temporary has one class, and each operand fits the place that it is read in: what the rules
+-- of a good text say of the function without its phis.
 use Rattle.std.specs.Prelude.{◌≡◌, ℕ, List, [], ◌∷◌, length, slice_get, Option, Some, None}
 use Rattle.il_ast.specs.declared.operation.Class.{Class}
 use Rattle.il_ast.specs.declared.operation.Class.TheVariants.{L}
@@ -38,12 +39,16 @@ HasResult LoadLong c = c ≡ L
 HasResult op c = Unit {0}
 
 abbrev pub InstFits : Classes → Inst → Type 0
-InstFits classes (Unary to op a) = Takes classes to × HasResult op to.class × Fits classes (operand_class op to.class) a
-InstFits classes (Binary to op a b) = Takes classes to × Fits classes (left_class op to.class) a × Fits classes (right_class op to.class) b
+InstFits classes (Unary to op a) =
+    Takes classes to × HasResult op to.class × Fits classes (operand_class op to.class) a
+InstFits classes (Binary to op a b) =
+    Takes classes to × Fits classes (left_class op to.class) a
+    × Fits classes (right_class op to.class) b
 InstFits classes (Alloc to alignment size) = classes to.temp ≡ L
 InstFits classes (Store size a at) = Fits classes (stored_class size) a × Fits classes L at
 InstFits classes (Blit from to count) = Fits classes L from × Fits classes L to
-InstFits classes (Call to callee args) = TakesWanted classes to × Fits classes L callee × ArgsFit classes args
+InstFits classes (Call to callee args) =
+    TakesWanted classes to × Fits classes L callee × ArgsFit classes args
 
 abbrev pub ReturnFits : Classes → Option Class → Option Val → Type 0
 ReturnFits classes result None = Unit {0}
@@ -66,7 +71,9 @@ ParamsFit classes (p ∷ ps) = (classes p.temp ≡ p.class) × ParamsFit classes
 -- a function without phis in which all fits, by these classes
 pub record IsTyped (classes : Classes) (f : Func) (code : Endings) : Type 0 where
   pub params : ParamsFit classes f.params
-  pub insts : (k j : ℕ) (b : Block) (i : Lined Inst) → slice_get f.blocks k ≡ Some b → slice_get b.insts j ≡ Some i → InstFits classes i.item
-  pub endings : (k : ℕ) (e : Ending) → slice_get code.endings k ≡ Some e → EndingFits classes f.result e
+  pub insts : (k j : ℕ) (b : Block) (i : Lined Inst) → slice_get f.blocks k ≡ Some b →
+      slice_get b.insts j ≡ Some i → InstFits classes i.item
+  pub endings : (k : ℕ) (e : Ending) → slice_get code.endings k ≡ Some e →
+      EndingFits classes f.result e
   pub edges : (k : ℕ) (e : Ending) → slice_get code.edges k ≡ Some e → EndingFits classes f.result e
   pub each_ends : length code.endings ≡ length f.blocks

@@ -13,7 +13,9 @@ two_digits byte = digit_glyph false (byte / 16) ∷ digit_glyph false (byte % 16
 
 -- a number as eight hexadecimal digits
 unfoldable pub eight_digits : ℕ → List ℕ
-eight_digits number = two_digits (number / 0x1000000 % 256) ++ two_digits (number / 0x10000 % 256) ++ two_digits (number / 0x100 % 256) ++ two_digits (number % 256)
+eight_digits number =
+    two_digits (number / 0x1000000 % 256) ++ two_digits (number / 0x10000 % 256)
+    ++ two_digits (number / 0x100 % 256) ++ two_digits (number % 256)
 
 abbrev pub instruction_text : Option Instr → List ℕ
 instruction_text (Some instruction) = text_of instruction
@@ -25,7 +27,9 @@ word_text word = instruction_text (instruction_of word)
 
 -- address, word and text, and a line end
 unfoldable pub line : ℕ → ℕ → List ℕ
-line address word = eight_digits address ++ codes "  " ++ eight_digits word ++ codes "  " ++ word_text word ++ codes "\n"
+line address word =
+    eight_digits address ++ codes "  " ++ eight_digits word ++ codes "  " ++ word_text word
+    ++ codes "\n"
 
 -- four bytes as a word, the lowest first
 abbrev pub word_of : ℕ → ℕ → ℕ → ℕ → ℕ
@@ -33,7 +37,8 @@ word_of a b c d = a + b * 0x100 + c * 0x10000 + d * 0x1000000
 
 -- a line for each four of the bytes
 abbrev pub lines_of : ℕ → List ℕ → List (List ℕ)
-lines_of address (a ∷ b ∷ c ∷ d ∷ rest) = line address (word_of a b c d) ∷ lines_of (address + 4) rest
+lines_of address (a ∷ b ∷ c ∷ d ∷ rest) =
+    line address (word_of a b c d) ∷ lines_of (address + 4) rest
 lines_of address _ = []
 
 abbrev pub segment_lines : Mapping → List (List ℕ)

@@ -7,4 +7,5 @@ use Rattle.shell.specs.declared.memory_disk.MemoryFile.{MemoryFile}
 
 abbrev pub first_at : List MemoryFile → Files
 first_at [] path = None
-first_at (file ∷ rest) path = if bytes_eq (string_bytes file.path) path then Some file.bytes.items else first_at rest path
+first_at (file ∷ rest) path =
+    if bytes_eq (string_bytes file.path) path then Some file.bytes.items else first_at rest path

@@ -3,7 +3,8 @@ use Rattle.std.specs.Prelude.{◌≡◌, ◌≤◌, ℕ, ◌+◌, ◌-◌, ◌^�
 use Rattle.std.specs.Io.KnownBytes.{Appends}
 use Rattle.shell.specs.declared.sink.SinkFault.{SinkFault}
 
--- what a sink tells at one time: the bytes that it holds, where it tells them, and how many of its calls failed
+-- what a sink tells at one time: the bytes that it holds, where it tells them, and how many of its
+-- calls failed
 pub record SinkState : Type 0 where
   pub held : Option (List ℕ)
   pub faults : ℕ

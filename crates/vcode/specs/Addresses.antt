@@ -10,7 +10,10 @@ use Rattle.vcode.specs.declared.place.Address.{Address}
 
 -- the low 12 bits, read with a sign
 abbrev pub low : ℕ → Immediate
-low n = record { value = signed 12 (n % 4096); in_range = signed12_fits (n % 4096) (mod-lt n (lit< tt)) }
+low n = record {
+  value = signed 12 (n % 4096);
+  in_range = signed12_fits (n % 4096) (mod-lt n (lit< tt));
+}
 
 -- the number modulo 2^64 that is added to the base
 abbrev pub distance : {P : Type 0} → Address P → ℕ

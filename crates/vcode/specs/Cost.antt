@@ -1,4 +1,5 @@
--- At most how many instructions of the machine a line becomes, wherever its places are; and that the weight of ticks pays for them, 32 for each unit.
+-- At most how many instructions of the machine a line becomes, wherever its places are; and that
+-- the weight of ticks pays for them, 32 for each unit.
 use Rattle.std.specs.Prelude.{ℕ, ◌+◌, ◌-◌, ◌*◌, ◌/◌, ◌%◌, ◌^◌, Bool, ◌&&◌, ◌||◌, nat_lt, nat_le, if◌then◌else◌, List, [], ◌∷◌, length, Option, Some, None}
 use Rattle.il_ast.specs.declared.operation.Class.{Class}
 use Rattle.il_ast.specs.declared.operation.Class.TheVariants.{W, L}
@@ -54,7 +55,8 @@ branch_cost L = 5
 -- a return goes to the end of the frame, which the call pays for
 abbrev pub jump_cost : {P : Type 0} → Jump P → ℕ
 jump_cost (Goto k) = 2
-jump_cost (Branch on met otherwise) = operand_cost on.left + operand_cost on.right + branch_cost on.class
+jump_cost (Branch on met otherwise) =
+    operand_cost on.left + operand_cost on.right + branch_cost on.class
 jump_cost (Return a) = return_cost a
 jump_cost Halt = 1
 
@@ -62,7 +64,8 @@ jump_cost Halt = 1
 abbrev pub affords : {P : Type 0} → ℕ → Jump P → List (Line P) → Bool
 affords credit jump [] = nat_le (jump_cost jump) credit
 affords credit jump (Tick turn w ∷ lines) = affords (credit + 32 * w) jump lines
-affords credit jump (l ∷ lines) = nat_le (line_cost l) credit && affords (credit - line_cost l) jump lines
+affords credit jump (l ∷ lines) =
+    nat_le (line_cost l) credit && affords (credit - line_cost l) jump lines
 
 -- a block begins with nothing paid for
 abbrev pub is_paid : {P : Type 0} → Block P → Bool

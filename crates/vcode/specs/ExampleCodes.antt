@@ -57,7 +57,8 @@ sum =
     ∷ [])
 
 -- one block with nothing to spend
-abbrev pub straight : {P : Type 0} → Class → List (Destination P) → List (Line P) → Operand P → Code P
+abbrev pub straight : {P : Type 0} → Class → List (Destination P) → List (Line P) → Operand P →
+    Code P
 straight k params lines a = code (Some k) params (block lines (Return (returned a)) ∷ [])
 
 -- the argument, given as a word and returned as a value of class k
@@ -72,9 +73,11 @@ long_as_word = straight W (destination 0 L ∷ []) [] (At 0)
 abbrev pub is_nonzero : Code ℕ
 is_nonzero =
     code (Some W) (destination 0 L ∷ [])
-    (block [] (Branch (not_zero (At 0)) 1 2) ∷ block [] (Return (returned (Number 1))) ∷ block [] (Return (returned (Number 0))) ∷ [])
+    (block [] (Branch (not_zero (At 0)) 1 2) ∷ block [] (Return (returned (Number 1)))
+    ∷ block [] (Return (returned (Number 0))) ∷ [])
 
--- a call of the function that name 0 means, with 5 from a slot and 7 from x6; then a sum of its result, wanted in x10, and an operand
+-- a call of the function that name 0 means, with 5 from a slot and 7 from x6; then a sum of its
+-- result, wanted in x10, and an operand
 abbrev pub caller : Operand Location → Code Location
 caller a =
     straight L []
@@ -82,7 +85,8 @@ caller a =
     ∷ Set (Slot 0) (Number 5)
     ∷ Set (Register 6) (Number 7)
     ∷ Call (Some (destination (Register 10) W)) (Name 0)
-    (record { class = W; value = At (Slot 0); extension = Made } ∷ record { class = L; value = At (Register 6); extension = Made } ∷ [])
+    (record { class = W; value = At (Slot 0); extension = Made }
+    ∷ record { class = L; value = At (Register 6); extension = Made } ∷ [])
     ∷ Tick true 1
     ∷ Operate (Register 11) (Reg Add) (At (Register 10)) a
     ∷ [])
@@ -130,7 +134,8 @@ makes_unnamed = straight L [] (Set 0 (Number 5) ∷ Alloc None 16 ∷ []) (At 0)
 abbrev pub keeps_pointer : Code ℕ
 keeps_pointer =
     straight L []
-    (Alloc (Some 0) 16 ∷ Operate 1 (Reg Add) (At 0) (Number 8) ∷ Store Long (At 1) (at_once (At 0)) ∷ Load 2 Ld (at_once (At 0)) ∷ Operate 3 (Reg Sub) (At 2) (At 0) ∷ [])
+    (Alloc (Some 0) 16 ∷ Operate 1 (Reg Add) (At 0) (Number 8) ∷ Store Long (At 1) (at_once (At 0))
+    ∷ Load 2 Ld (at_once (At 0)) ∷ Operate 3 (Reg Sub) (At 2) (At 0) ∷ [])
     (At 3)
 
 abbrev pub compares_pointers : Code ℕ
@@ -139,7 +144,8 @@ compares_pointers = in_memory (Operate 2 (Compare UnsignedLess L) (At 0) (At 1) 
 -- of two longs, by their words
 abbrev pub compares_words : Code ℕ
 compares_words =
-    straight W (destination 0 L ∷ destination 1 L ∷ []) (Operate 2 (Compare SignedLess W) (At 0) (At 1) ∷ []) (At 2)
+    straight W (destination 0 L ∷ destination 1 L ∷ [])
+    (Operate 2 (Compare SignedLess W) (At 0) (At 1) ∷ []) (At 2)
 
 -- weight alone, and no turn
 abbrev pub heavy : Code ℕ

@@ -36,11 +36,14 @@ line_keeps test (Load to op at) = test to && operand_keeps test at.base
 line_keeps test (Store size a at) = operand_keeps test a && operand_keeps test at.base
 line_keeps test (Alloc to size) = made_keeps test to
 line_keeps test (Blit from to count) = operand_keeps test from && operand_keeps test to
-line_keeps test (Call to callee args) = wanted_keeps test to && (operand_keeps test callee && list_all (λ a. operand_keeps test a.value) args)
+line_keeps test (Call to callee args) =
+    wanted_keeps test to && (operand_keeps test callee
+    && list_all (λ a. operand_keeps test a.value) args)
 
 abbrev pub jump_keeps : {P : Type 0} → (P → Bool) → Jump P → Bool
 jump_keeps test (Goto k) = true
-jump_keeps test (Branch on met otherwise) = operand_keeps test on.left && operand_keeps test on.right
+jump_keeps test (Branch on met otherwise) =
+    operand_keeps test on.left && operand_keeps test on.right
 jump_keeps test (Return None) = true
 jump_keeps test (Return (Some a)) = operand_keeps test a.value
 jump_keeps test Halt = true
@@ -67,7 +70,8 @@ are_low params = list_all (λ (d : Destination ℕ). nat_lt d.place 128) params
 
 -- ---- registers and slots
 
--- temporaries, arguments and saved registers; the scratch registers are free for the instructions that a line becomes
+-- temporaries, arguments and saved registers; the scratch registers are free for the instructions
+-- that a line becomes
 abbrev pub is_place : (slots : ℕ) → Location → Bool
 is_place slots (Register r) = nat_le FIRST_TEMPORARY r && nat_le r LAST_SAVED
 is_place slots (Slot s) = nat_lt s slots

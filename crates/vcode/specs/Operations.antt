@@ -1,4 +1,5 @@
--- How values stand in places, and what the operations give: those of the machine on integers (Unprivileged ISA manual), the source's rules on pointers and functions.
+-- How values stand in places, and what the operations give: those of the machine on integers
+-- (Unprivileged ISA manual), the source's rules on pointers and functions.
 use Rattle.std.specs.Prelude.{ℕ, ◌%◌, ◌^◌, Bool, false, nat_eq, if◌then◌else◌, Option, Some, None}
 use Rattle.std.specs.Option.{option_and_then}
 use Rattle.bits.specs.Words.{sign_extended}
@@ -22,7 +23,8 @@ use Rattle.vcode.specs.declared.place.Extension.TheVariants.{Claimed}
 use Rattle.vcode.specs.declared.line.Operation.{Operation}
 use Rattle.vcode.specs.declared.line.Operation.TheVariants.{Reg, RegW, Compare as CompareValues}
 
--- how a value of this class stands in a place: a word sign-extended to 64 bits, any other value as it is
+-- how a value of this class stands in a place: a word sign-extended to 64 bits, any other value as
+-- it is
 abbrev pub held : Class → Value → Value
 held W (Integer n) = Integer (sign_extended (n % 2 ^ 32))
 held W (Pointer b o) = Pointer b o
@@ -51,7 +53,9 @@ reg_on_places m op u v = None
 
 -- each operand is read in a place of class k
 abbrev pub compare : Memory → Condition → Class → Value → Value → Option Value
-compare m on k u v = option_and_then (λ a. option_and_then (λ b. operate_two m (Compare on k) W a b) (in_place k v)) (in_place k u)
+compare m on k u v =
+    option_and_then (λ a. option_and_then (λ b. operate_two m (Compare on k) W a b) (in_place k v))
+    (in_place k u)
 
 unfoldable pub operate : Memory → Operation → Value → Value → Option Value
 operate m (Reg op) (Integer a) (Integer b) = Some (Integer (reg_value op a b))
@@ -70,7 +74,8 @@ narrowed Lw n = n % 2 ^ 32
 narrowed Lwu n = n % 2 ^ 32
 narrowed Ld n = n
 
--- a number that was loaded, extended; any other value stands in eight bytes, and only `ld` reads these
+-- a number that was loaded, extended; any other value stands in eight bytes, and only `ld` reads
+-- these
 abbrev pub extended : LoadOp → Value → Option Value
 extended op (Integer n) = Some (Integer (load_value op (narrowed op n)))
 extended Ld v = Some v

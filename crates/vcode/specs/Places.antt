@@ -39,12 +39,14 @@ same_location (Register a) (Register b) = nat_eq a b
 same_location (Slot a) (Slot b) = nat_eq a b
 same_location p q = false
 
--- the caller's registers (RISC-V ELF psABI, "Integer Register Convention"): the return address, temporaries, arguments and scratch
+-- the caller's registers (RISC-V ELF psABI, "Integer Register Convention"): the return address,
+-- temporaries, arguments and scratch
 abbrev pub is_callers : Location → Bool
 is_callers (Register r) =
     nat_eq r RETURN_ADDRESS
     || ((nat_le FIRST_TEMPORARY r && nat_le r LAST_TEMPORARY)
-    || ((nat_le FIRST_ARGUMENT r && nat_le r LAST_ARGUMENT) || (nat_le FIRST_SCRATCH r && nat_le r JUMP_SCRATCH)))
+    || ((nat_le FIRST_ARGUMENT r && nat_le r LAST_ARGUMENT)
+    || (nat_le FIRST_SCRATCH r && nat_le r JUMP_SCRATCH)))
 is_callers (Slot s) = false
 
 abbrev pub located : Places Location

@@ -1,4 +1,5 @@
--- Lines and jumps in which other operands stand: what a pass makes of them that changes only what they read.
+-- Lines and jumps in which other operands stand: what a pass makes of them that changes only what
+-- they read.
 use Rattle.std.specs.Prelude.{ℕ, map}
 use Rattle.std.specs.Option.{option_map}
 use Rattle.vcode.specs.declared.place.Operand.{Operand}
@@ -35,7 +36,8 @@ with_line f (Blit from to count) = Blit (f from) (f to) count
 with_line f (Call to callee args) = Call to (f callee) (map (with_argument f) args)
 
 abbrev pub with_comparison : Replacing → Comparison ℕ → Comparison ℕ
-with_comparison f on = record { condition = on.condition; class = on.class; left = f on.left; right = f on.right }
+with_comparison f on =
+    record { condition = on.condition; class = on.class; left = f on.left; right = f on.right }
 
 abbrev pub with_jump : Replacing → Jump ℕ → Jump ℕ
 with_jump f (Goto k) = Goto k

@@ -1,6 +1,7 @@
--- What a line or a jump of the code does: one step into the next state, an end, or a call, for both kinds of places. A tick begins a turn of the source where it
--- says so; no turn begins where none is left. Words are read by their low 32 bits. What reads an unknown
--- place is undefined, but for `Set`, which makes its place unknown too.
+-- What a line or a jump of the code does: one step into the next state, an end, or a call, for both
+-- kinds of places. A tick begins a turn of the source where it says so; no turn begins where none
+-- is left. Words are read by their low 32 bits. What reads an unknown place is undefined, but for
+-- `Set`, which makes its place unknown too.
 use Rattle.std.specs.Prelude.{ℕ, ◌+◌, ◌-◌, ◌%◌, ◌^◌, Bool, true, false, nat_eq, nat_lt, if◌then◌else◌, List, [], ◌∷◌, ◌++◌, map, length, slice_get, Option, Some, None}
 use Rattle.std.specs.Option.{option_map, option_and_then}
 use Rattle.il_ast.specs.declared.operation.Class.{Class}
@@ -33,7 +34,8 @@ use Rattle.vcode.specs.Addresses.{distance}
 use Rattle.vcode.specs.Operations.{held, passed, operate, loaded}
 use Rattle.vcode.specs.Places.{Places, Values, unknown, put, assign, kept}
 
--- the block and the line in it that are next, what places hold, the memory, the blocks that `alloc` made, and what was spent
+-- the block and the line in it that are next, what places hold, the memory, the blocks that `alloc`
+-- made, and what was spent
 pub record State (P : Type 0) : Type 0 where
   pub block : ℕ
   pub next : ℕ
@@ -73,16 +75,19 @@ abbrev pub read : {P : Type 0} → List Value → Values P → Class → Operand
 read globals values k a = option_and_then (in_place k) (value_of globals values a)
 
 abbrev pub read_argument : {P : Type 0} → List Value → Values P → Argument P → Option Value
-read_argument globals values a = option_and_then (passed a.extension a.class) (value_of globals values a.value)
+read_argument globals values a =
+    option_and_then (passed a.extension a.class) (value_of globals values a.value)
 
 -- what is returned as a result of class k
 abbrev pub read_result : {P : Type 0} → List Value → Values P → Class → ReturnValue P → Option Value
-read_result globals values k a = option_and_then (passed a.extension k) (value_of globals values a.value)
+read_result globals values k a =
+    option_and_then (passed a.extension k) (value_of globals values a.value)
 
 abbrev pub read_all : {P : Type 0} → List Value → Values P → List (Argument P) → Option (List Value)
 read_all globals values [] = Some []
 read_all globals values (a ∷ args) =
-    option_and_then (λ v. option_map (λ vs. v ∷ vs) (read_all globals values args)) (read_argument globals values a)
+    option_and_then (λ v. option_map (λ vs. v ∷ vs) (read_all globals values args))
+    (read_argument globals values a)
 
 -- what an operation gives for what two operands give
 abbrev pub operated : Memory → Operation → (a b : Option Value) → Option Value
@@ -92,7 +97,8 @@ operated m op a b = option_and_then (λ u. option_and_then (λ v. operate m op u
 abbrev pub address_of : {P : Type 0} → List Value → Memory → Values P → Address P → Option Value
 address_of globals m values at =
     if nat_eq (distance at) 0 then value_of globals values at.base
-    else operated m (Reg Add) (value_of globals values at.base) (value_of globals values (Number (distance at)))
+    else operated m (Reg Add) (value_of globals values at.base)
+    (value_of globals values (Number (distance at)))
 
 -- ---- lines
 
@@ -103,11 +109,13 @@ fails s = Does (Over (Ended s.spent Undefined))
 abbrev pub goes_on : {P : Type 0} → State P → Event (State P) Asked Outcome
 goes_on s = Does (On (record s { next = s.next + 1 }))
 
-abbrev pub sets : {P : Type 0} → Places P → State P → P → Option Value → Event (State P) Asked Outcome
+abbrev pub sets : {P : Type 0} → Places P → State P → P → Option Value →
+    Event (State P) Asked Outcome
 sets c s p None = fails s
 sets c s p (Some v) = goes_on (record s { values = put c p v s.values })
 
-abbrev pub takes : {P : Type 0} → Places P → State P → P → Option Value → Event (State P) Asked Outcome
+abbrev pub takes : {P : Type 0} → Places P → State P → P → Option Value →
+    Event (State P) Asked Outcome
 takes c s p o = goes_on (record s { values = assign c p o s.values })
 
 abbrev pub changes : {P : Type 0} → State P → Option Memory → Event (State P) Asked Outcome
@@ -120,25 +128,36 @@ weighs w = record { turns = 0; weight = w; calls = 0; output = [] }
 abbrev pub ticks : {P : Type 0} → Given → State P → Bool → ℕ → Event (State P) Asked Outcome
 ticks i s false w = goes_on (record s { spent = both s.spent (weighs w) })
 ticks i s true w =
-    if nat_lt s.spent.turns i.turns then goes_on (record s { spent = both s.spent (one_turn w) }) else Does (Over (Ended s.spent Turns))
+    if nat_lt s.spent.turns i.turns then goes_on (record s { spent = both s.spent (one_turn w) })
+    else Does (Over (Ended s.spent Turns))
 
 -- ---- calls
 
 -- a result that is wanted is written, and one that is missing is undefined
-abbrev pub receives : {P : Type 0} → Places P → State P → Option (Destination P) → Option Value → Next (State P) Outcome
+abbrev pub receives : {P : Type 0} → Places P → State P → Option (Destination P) → Option Value →
+    Next (State P) Outcome
 receives c s None v = On (record s { next = s.next + 1 })
 receives c s (Some d) None = Over (Ended s.spent Undefined)
-receives c s (Some d) (Some v) = On (record s { next = s.next + 1; values = put c d.place (held d.class v) s.values })
+receives c s (Some d) (Some v) =
+    On (record s { next = s.next + 1; values = put c d.place (held d.class v) s.values })
 
-abbrev pub resumes : {P : Type 0} → Places P → State P → Option (Destination P) → Outcome → Next (State P) Outcome
-resumes c s to (Returned t v m) = receives c (record s { values = kept c s.values; memory = m; spent = both s.spent t }) to v
+abbrev pub resumes : {P : Type 0} → Places P → State P → Option (Destination P) → Outcome →
+    Next (State P) Outcome
+resumes c s to (Returned t v m) =
+    receives c (record s { values = kept c s.values; memory = m; spent = both s.spent t }) to v
 resumes c s to (Ended t e) = Over (Ended (both s.spent t) e)
 
-abbrev pub calls : {P : Type 0} → Places P → Given → State P → Option (Destination P) → List (Argument P) → Option Value → Option (List Value) → Event (State P) Asked Outcome
+abbrev pub calls : {P : Type 0} → Places P → Given → State P → Option (Destination P) →
+    List (Argument P) → Option Value → Option (List Value) → Event (State P) Asked Outcome
 calls c i s to args (Some (Function f)) (Some vs) =
     Calls
     (record {
-      call = record { callee = f; classes = map (λ a. a.class) args; wants = option_map (λ d. d.class) to; args = vs };
+      call = record {
+        callee = f;
+        classes = map (λ a. a.class) args;
+        wants = option_map (λ d. d.class) to;
+        args = vs;
+      };
       turns = i.turns - s.spent.turns;
       room = i.room;
       memory = s.memory;
@@ -153,16 +172,19 @@ abbrev pub made_in : {P : Type 0} → Places P → Option P → Value → Values
 made_in c None v values = values
 made_in c (Some p) v values = put c p v values
 
-unfoldable pub line_step : {P : Type 0} → Places P → List Value → Given → State P → Line P → Event (State P) Asked Outcome
+unfoldable pub line_step : {P : Type 0} → Places P → List Value → Given → State P → Line P →
+    Event (State P) Asked Outcome
 line_step c globals i s (Tick turn w) = ticks i s turn w
 line_step c globals i s (Set to a) = takes c s to (value_of globals s.values a)
 line_step c globals i s (Operate to op a b) =
     sets c s to (operated s.memory op (value_of globals s.values a) (value_of globals s.values b))
-line_step c globals i s (Load to op at) = sets c s to (option_and_then (loaded s.memory op) (address_of globals s.memory s.values at))
+line_step c globals i s (Load to op at) =
+    sets c s to (option_and_then (loaded s.memory op) (address_of globals s.memory s.values at))
 line_step c globals i s (Store size a at) =
     changes s
     (option_and_then
-    (λ v. option_and_then (λ p. store s.memory (byte_count size) p v) (address_of globals s.memory s.values at))
+    (λ v. option_and_then (λ p. store s.memory (byte_count size) p v)
+    (address_of globals s.memory s.values at))
     (read globals s.values (stored_class size) a))
 line_step c globals i s (Alloc to size) =
     goes_on
@@ -173,7 +195,8 @@ line_step c globals i s (Alloc to size) =
     })
 line_step c globals i s (Blit from to count) =
     changes s
-    (option_and_then (λ p. option_and_then (λ q. copy s.memory count p q) (value_of globals s.values to)) (value_of globals s.values from))
+    (option_and_then (λ p. option_and_then (λ q. copy s.memory count p q)
+    (value_of globals s.values to)) (value_of globals s.values from))
 line_step c globals i s (Call to callee args) =
     calls c i s to args (value_of globals s.values callee) (read_all globals s.values args)
 
@@ -185,10 +208,12 @@ enters s k = Does (On (record s { block = k; next = 0 }))
 -- what a comparison gives, 1 where it holds
 abbrev pub compared : {P : Type 0} → List Value → State P → Comparison P → Option Value
 compared globals s c =
-    option_and_then (λ u. option_and_then (λ v. operate s.memory (Compare c.condition c.class) u v) (value_of globals s.values c.right))
+    option_and_then (λ u. option_and_then (λ v. operate s.memory (Compare c.condition c.class) u v)
+    (value_of globals s.values c.right))
     (value_of globals s.values c.left)
 
-abbrev pub branches : {P : Type 0} → State P → (met otherwise : ℕ) → Option Value → Event (State P) Asked Outcome
+abbrev pub branches : {P : Type 0} → State P → (met otherwise : ℕ) → Option Value →
+    Event (State P) Asked Outcome
 branches s met otherwise (Some (Integer n)) = enters s (if nat_eq n 0 then otherwise else met)
 branches s met otherwise v = fails s
 
@@ -196,24 +221,30 @@ abbrev pub returns : {P : Type 0} → State P → Option Value → Event (State 
 returns s None = fails s
 returns s (Some v) = Does (Over (Returned s.spent (Some v) (free_all s.memory s.owned)))
 
-unfoldable pub jump_step : {P : Type 0} → List Value → Option Class → State P → Jump P → Event (State P) Asked Outcome
+unfoldable pub jump_step : {P : Type 0} → List Value → Option Class → State P → Jump P →
+    Event (State P) Asked Outcome
 jump_step globals result s (Goto k) = enters s k
-jump_step globals result s (Branch on met otherwise) = branches s met otherwise (compared globals s on)
-jump_step globals result s (Return None) = Does (Over (Returned s.spent None (free_all s.memory s.owned)))
+jump_step globals result s (Branch on met otherwise) =
+    branches s met otherwise (compared globals s on)
+jump_step globals result s (Return None) =
+    Does (Over (Returned s.spent None (free_all s.memory s.owned)))
 jump_step globals None s (Return (Some a)) = fails s
 jump_step globals (Some k) s (Return (Some a)) = returns s (read_result globals s.values k a)
 jump_step globals result s Halt = Does (Over (Ended s.spent Halted))
 
 -- ---- a step
 
-abbrev pub block_step : {P : Type 0} → Places P → List Value → Code P → Given → State P → Block P → Option (Line P) → Event (State P) Asked Outcome
+abbrev pub block_step : {P : Type 0} → Places P → List Value → Code P → Given → State P → Block P →
+    Option (Line P) → Event (State P) Asked Outcome
 block_step c globals f i s b (Some l) = line_step c globals i s l
 block_step c globals f i s b None = jump_step globals f.result s b.jump
 
-abbrev pub step_in : {P : Type 0} → Places P → List Value → Code P → Given → State P → Option (Block P) → Event (State P) Asked Outcome
+abbrev pub step_in : {P : Type 0} → Places P → List Value → Code P → Given → State P →
+    Option (Block P) → Event (State P) Asked Outcome
 step_in c globals f i s None = fails s
 step_in c globals f i s (Some b) = block_step c globals f i s b (slice_get b.lines s.next)
 
 -- the line that is next, or the jump where none is left
-unfoldable pub step : {P : Type 0} → Places P → List Value → Code P → Given → State P → Event (State P) Asked Outcome
+unfoldable pub step : {P : Type 0} → Places P → List Value → Code P → Given → State P →
+    Event (State P) Asked Outcome
 step c globals f i s = step_in c globals f i s (slice_get f.blocks s.block)

@@ -1,5 +1,6 @@
--- Registers that hold whole words, which stand sign-extended, whatever way the code goes; and the code in which extensions of these are copies, and words that
--- are passed from these are claimed to stand extended.
+-- Registers that hold whole words, which stand sign-extended, whatever way the code goes; and the
+-- code in which extensions of these are copies, and words that are passed from these are claimed to
+-- stand extended.
 use Rattle.std.specs.Prelude.{◌≡◌, ℕ, ◌-◌, ◌%◌, ◌^◌, Bool, true, false, not, ◌&&◌, ◌||◌, nat_eq, nat_lt, nat_le, if◌then◌else◌, List, map, slice_index_or, Option, Some, None}
 use Rattle.std.specs.List.{list_all}
 use Rattle.std.specs.Option.{option_map}
@@ -81,7 +82,8 @@ keeps_marks marks l = true
 -- no line and no parameter writes anything else to a marked register
 abbrev pub are_closed : List Bool → Code ℕ → Bool
 are_closed marks f =
-    list_all (takes_whole marks) f.params && list_all (λ (b : Block ℕ). list_all (keeps_marks marks) b.lines) f.blocks
+    list_all (takes_whole marks) f.params && list_all
+    (λ (b : Block ℕ). list_all (keeps_marks marks) b.lines) f.blocks
 
 -- ---- copies
 
@@ -100,7 +102,8 @@ abbrev pub claim : List Bool → Operand ℕ → Extension → Extension
 claim marks a t = if is_whole marks a then Claimed else t
 
 abbrev pub with_claim : List Bool → Argument ℕ → Argument ℕ
-with_claim marks a = record { class = a.class; value = a.value; extension = claim marks a.value a.extension }
+with_claim marks a =
+    record { class = a.class; value = a.value; extension = claim marks a.value a.extension }
 
 abbrev pub returned_claim : List Bool → ReturnValue ℕ → ReturnValue ℕ
 returned_claim marks a = record { value = a.value; extension = claim marks a.value a.extension }
@@ -117,9 +120,11 @@ with_copy marks (Call to callee args) = Call to callee (map (with_claim marks) a
 with_copy marks l = l
 
 abbrev pub with_copies : List Bool → Block ℕ → Block ℕ
-with_copies marks b = record { lines = map (with_copy marks) b.lines; jump = jump_claim marks b.jump }
+with_copies marks b =
+    record { lines = map (with_copy marks) b.lines; jump = jump_claim marks b.jump }
 
--- the second is the first with copies in the place of extensions of such registers, and with the claims
+-- the second is the first with copies in the place of extensions of such registers, and with the
+-- claims
 pub record IsCopied (v w : VFunc) : Type 0 where
   pub marks : List Bool
   pub closed : are_closed marks v.code ≡ true
