@@ -1,4 +1,5 @@
 -- From the call of a function to its first line: where its code stands, what the begin of its frame leaves, and that it keeps its promise.
+use Rattle.il_ast.specs.declared.limits.TheConstants.{ALLOC_BYTES}
 use Rattle.std.proofs.Common.{◌≡◌, ℕ, zero, suc, ◌+◌, ◌-◌, ◌*◌, ◌%◌, ◌^◌, ◌<◌, ◌≤◌, Bool, true, false, List, [], ◌∷◌, ◌++◌, refl, sym, ◌∙◌, ap, subst, arith, lit<, zero-add, append_assoc, append-nil}
 use Rattle.std.specs.Prelude.{not, nat_le, nat_lt, if◌then◌else◌, map, length, slice_get, Some, None}
 use Rattle.std.specs.List.{list_all, list_any, sum_by}
@@ -253,13 +254,13 @@ setting w label global addresses f slots sp before s =
 -- how large the frame is
 pub record FrameFits (f : Code Location) (slots : ℕ) : Type 0 where
   pub few : outgoing f ≤ 56
-  pub small : area f ≤ 1048576
+  pub small : area f ≤ ALLOC_BYTES
   pub fits : frame_size f slots ≤ frame_bound f slots
 
 pub frame_fits : (f : Code Location) (slots : ℕ) → IsCode f slots → FrameFits f slots
 frame_fits f slots is = record {
   few = few_outgoing f is.regular;
-  small = le_is (area f) 1048576 is.regular.small;
+  small = le_is (area f) ALLOC_BYTES is.regular.small;
   fits = let saved = few_saved_registers f in omega (arith, saved);
 }
 

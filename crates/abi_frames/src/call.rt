@@ -61,7 +61,7 @@ fn push_argument(
     )
 }
 
-// puts an argument on the stack, at an offset from the stack pointer
+/// Puts an argument on the stack, at an offset from the stack pointer.
 fn push_stacked(
     items: &mut Vec<Item>,
     layout: &Layout,
@@ -123,14 +123,14 @@ pub(crate) fn push_passed(
     push_register_arguments(items, layout, now.as_slice())
 }
 
-// a register in which an argument is passed
+/// A register in which an argument is passed.
 fn is_for_arguments(number: u8) -> bool
     ensures { result ≡ (nat_le FIRST_ARGUMENT number && nat_le number LAST_ARGUMENT) }
 {
     abi::FIRST_ARGUMENT <= number && number <= abi::LAST_ARGUMENT
 }
 
-// has the callee's address where no argument changes it, unless the jump makes it
+/// Has the callee's address where no argument changes it, unless the jump makes it.
 fn push_callee(
     items: &mut Vec<Item>,
     layout: &Layout,
@@ -161,7 +161,7 @@ fn callee_source(callee: &Operand<Location>) -> u8
     }
 }
 
-// through the register that gets the return address
+/// Through the register that gets the return address.
 fn push_jump_to_name(items: &mut Vec<Item>, global: usize) -> Result<(), AllocError>
     ensures { OnOk result (items.new.items ≡ items.old.items ++ call_through (Name global)) }
 {
@@ -175,7 +175,7 @@ fn push_jump_to_name(items: &mut Vec<Item>, global: usize) -> Result<(), AllocEr
     Ok(())
 }
 
-// to the callee
+/// To the callee.
 fn push_jump(items: &mut Vec<Item>, callee: &Operand<Location>) -> Result<(), AllocError>
     ensures { OnOk result (items.new.items ≡ items.old.items ++ call_through callee.now) }
 {

@@ -11,7 +11,7 @@ use rv_isa::labelled::Item;
 use std::alloc::AllocError;
 use vcode::place::{Location, Operand};
 
-// as many bytes as the load and the store take
+/// As many bytes as the load and the store take.
 fn push_copy(
     items: &mut Vec<Item>,
     load: LoadOp,
@@ -43,7 +43,7 @@ fn push_eights(items: &mut Vec<Item>, eights: u64) -> Result<(), AllocError>
     Ok(())
 }
 
-// fewer than eight bytes
+/// Fewer than eight bytes.
 fn push_rest(items: &mut Vec<Item>, bytes: u64) -> Result<(), AllocError>
     requires { bytes < 8 }
     ensures { OnOk result (items.new.items ≡ items.old.items ++ copy_rest bytes) }

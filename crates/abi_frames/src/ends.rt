@@ -21,7 +21,7 @@ fn push_far_move(items: &mut Vec<Item>, number: u64) -> Result<(), AllocError>
     Ok(())
 }
 
-// adds a number to the stack pointer
+/// Adds a number to the stack pointer.
 fn push_move_pointer(items: &mut Vec<Item>, number: u64) -> Result<(), AllocError>
     ensures { OnOk result (items.new.items ≡ items.old.items ++ move_pointer number) }
 {
@@ -75,7 +75,7 @@ fn push_restores(items: &mut Vec<Item>, from: u64, registers: &[u8]) -> Result<(
     Ok(())
 }
 
-// the number of 64 bits that takes this one away
+/// The number of 64 bits that takes this one away.
 fn negative(number: u64) -> u64
     requires { 0 < number }
     ensures { result ≡ 2 ^ 64 - number }

@@ -17,7 +17,7 @@ use rv_isa::labelled::Item;
 use std::alloc::{AllocError, Global};
 use vcode::place::{Argument, Destination, Extension, Location, Operand};
 
-// the caller's stack pointer into x30
+/// The caller's stack pointer into x30.
 fn push_caller_pointer(items: &mut Vec<Item>, layout: &Layout) -> Result<(), AllocError>
     ensures { OnOk result (items.new.items ≡ items.old.items ++ caller_pointer layout.now) }
 {
@@ -102,7 +102,7 @@ fn push_argument(
     }
 }
 
-// a register in which an argument is passed
+/// A register in which an argument is passed.
 fn is_for_arguments(place: &Location) -> bool
     ensures { result ≡ is_for_arguments place.now }
 {
@@ -113,14 +113,14 @@ fn is_for_arguments(place: &Location) -> bool
     }
 }
 
-// passed in a register, to a place elsewhere
+/// Passed in a register, to a place elsewhere.
 fn goes_away(argument: usize, place: &Location) -> bool
     ensures { result ≡ goes_away argument place.now }
 {
     argument < usize::from(abi::ARGUMENT_REGISTERS) && !is_for_arguments(place)
 }
 
-// arguments in registers, to places elsewhere
+/// Arguments in registers, to places elsewhere.
 fn push_away(
     items: &mut Vec<Item>,
     layout: &Layout,
@@ -137,7 +137,7 @@ fn push_away(
     Ok(())
 }
 
-// an argument if it is on the stack
+/// An argument if it is on the stack.
 fn push_if_stacked(
     items: &mut Vec<Item>,
     layout: &Layout,
@@ -166,7 +166,7 @@ fn push_stacked(
     Ok(())
 }
 
-// passed in a register, to the place of the argument register of that number
+/// Passed in a register, to the place of the argument register of that number.
 fn comes_to(number: u8, argument: usize, place: &Location) -> bool
     requires { number < ARGUMENT_REGISTERS }
     ensures value { result ≡ comes_to number argument place.now }
@@ -176,7 +176,7 @@ fn comes_to(number: u8, argument: usize, place: &Location) -> bool
         && is_register(place, abi::FIRST_ARGUMENT + number)
 }
 
-// the register from which the one of that number, from x10 on, takes an argument
+/// The register from which the one of that number, from x10 on, takes an argument.
 fn source_in(number: u8, params: &[Destination<Location>]) -> u8
     requires { number < ARGUMENT_REGISTERS }
     ensures { result ≡ source_in number 0 params.now }
@@ -206,7 +206,7 @@ fn sources(
     Ok(all)
 }
 
-// arguments in registers, to places in one another's
+/// Arguments in registers, to places in one another's.
 fn push_exchanged(
     items: &mut Vec<Item>,
     layout: &Layout,

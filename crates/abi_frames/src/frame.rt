@@ -1,4 +1,5 @@
 //! Functions with their frames.
+ghost use Rattle.il_ast.specs.declared.limits.TheConstants.{ALLOC_BYTES};
 ghost use Rattle.std.specs.Prelude.{◌≡◌, ◌+◌, ◌*◌, ◌^◌, ◌<◌, ◌≤◌, IsTrue, [], ◌∷◌, ◌++◌, length, map, nat_le, OnOk, IfOk};
 ghost use Rattle.rv_isa.specs.Labels.{longest_size};
 ghost use Rattle.std.specs.List.{list_all, sum_by};
@@ -30,7 +31,7 @@ fn push_body(
     next: usize,
     block: &Block<Location>,
 ) -> Result<(), AllocError>
-    requires room { sum_by alloc_bytes block.now.lines ≤ 1048576 }
+    requires room { sum_by alloc_bytes block.now.lines ≤ ALLOC_BYTES }
     requires few { IsTrue (list_all passes_few block.now.lines) }
     ensures { OnOk result (items.new.items ≡ items.old.items ++ (lines_items layout.now 0 block.now.lines ++ jump_items layout.now next block.now.jump)) }
 {
@@ -44,7 +45,7 @@ fn push_block(
     label: usize,
     block: &Block<Location>,
 ) -> Result<(), AllocError>
-    requires room { sum_by alloc_bytes block.now.lines ≤ 1048576 }
+    requires room { sum_by alloc_bytes block.now.lines ≤ ALLOC_BYTES }
     requires few { IsTrue (list_all passes_few block.now.lines) }
     requires not_last { label + 1 < 2 ^ 64 }
     ensures { OnOk result (items.new.items ≡ items.old.items ++ block_items layout.now label block.now) }
@@ -58,7 +59,7 @@ fn push_blocks(
     layout: &Layout,
     blocks: &[Block<Location>],
 ) -> Result<(), AllocError>
-    requires room { sum_by (λ b. sum_by alloc_bytes b.lines) blocks.now ≤ 1048576 }
+    requires room { sum_by (λ b. sum_by alloc_bytes b.lines) blocks.now ≤ ALLOC_BYTES }
     requires calls { IsTrue (list_all (λ b. list_all passes_few b.lines) blocks.now) }
     ensures { OnOk result (items.new.items ≡ items.old.items ++ blocks_items layout.now 0 blocks.now) }
 {
@@ -84,7 +85,7 @@ fn push_function(
     params: &[Destination<Location>],
     blocks: &[Block<Location>],
 ) -> Result<(), AllocError>
-    requires room { sum_by (λ b. sum_by alloc_bytes b.lines) blocks.now ≤ 1048576 }
+    requires room { sum_by (λ b. sum_by alloc_bytes b.lines) blocks.now ≤ ALLOC_BYTES }
     requires calls { IsTrue (list_all (λ b. list_all passes_few b.lines) blocks.now) }
     requires few { length params.now ≤ 64 }
     requires few_saved { length saved.now ≤ 13 }

@@ -32,7 +32,7 @@ pub enum Form {
     Compare(Condition, u64),
 }
 
-// the number that gives 0 with this one, modulo 2^64
+/// The number that gives 0 with this one, modulo 2^64.
 fn opposite(number: u64) -> u64
     ensures { result ≡ opposite number }
 {
@@ -43,7 +43,7 @@ fn opposite(number: u64) -> u64
     }
 }
 
-// the number that follows, modulo 2^64
+/// The number that follows, modulo 2^64.
 fn next(number: u64) -> u64
     ensures { result ≡ next number }
 {
@@ -68,7 +68,7 @@ fn sum_form(number: u64) -> Option<Form>
     form_if(has_12_bits(number), Form::AddWord(number))
 }
 
-// is the number a power of two that has fewer than so many zeros?
+/// Is the number a power of two that has fewer than so many zeros?
 fn is_power(bits: u32, number: u64) -> bool
     requires { bits ≤ 64 }
     ensures { result ≡ is_power bits number }
@@ -77,7 +77,7 @@ fn is_power(bits: u32, number: u64) -> bool
     zeros < bits && number == 1_u64 << zeros
 }
 
-// a product with a power of two is a shift by its zeros
+/// A product with a power of two is a shift by its zeros.
 fn product_form(number: u64) -> Option<Form>
     ensures { result ≡ product_form number }
 {
@@ -134,7 +134,7 @@ fn regw_form(op: RegWOp, number: u64) -> Option<Form>
     }
 }
 
-// x is at most n where it is less than n + 1, and is n where x - n is 0
+/// X is at most n where it is less than n + 1, and is n where x - n is 0.
 fn compares_with(condition: Condition, number: u64) -> bool
     ensures { result ≡ compares_with condition number }
 {
@@ -236,7 +236,7 @@ fn swapped_regw(op: RegWOp) -> Option<Operation>
     }
 }
 
-// the operation that gives the same with its operands exchanged
+/// The operation that gives the same with its operands exchanged.
 fn swapped(operation: &Operation) -> Option<Operation>
     ensures { result ≡ swapped operation.now }
 {
@@ -292,7 +292,7 @@ fn push_not_equal(items: &mut Vec<Item>, to: u8, from: u8, number: u64) -> Resul
     Ok(())
 }
 
-// whether the register is not less
+/// Whether the register is not less.
 fn push_not_less(
     items: &mut Vec<Item>,
     op: ImmOp,

@@ -16,7 +16,7 @@ use std::alloc::AllocError;
 use vcode::line::{Comparison, Jump, Operation};
 use vcode::place::{Location, ReturnValue};
 
-// does the label stand next, so that code may fall through to it?
+/// Does the label stand next, so that code may fall through to it?
 fn is_next(layout: &Layout, next: usize, label: usize) -> bool
     ensures { result ≡ (layout.now.falls && nat_eq label next) }
 {
@@ -37,7 +37,7 @@ fn push_goto(
     Ok(())
 }
 
-// to the label where the two registers compare so
+/// To the label where the two registers compare so.
 fn branch_when(condition: Condition, left: u8, right: u8, label: usize) -> Item
     ensures { result ≡ branch_when condition left right label }
 {
@@ -83,7 +83,7 @@ fn inverted(condition: Condition) -> Condition
     }
 }
 
-// a comparison of two registers
+/// A comparison of two registers.
 #[derive(Clone, Copy)]
 struct Test {
     condition: Condition,

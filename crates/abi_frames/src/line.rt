@@ -1,4 +1,5 @@
 //! The machine code of lines.
+ghost use Rattle.il_ast.specs.declared.limits.TheConstants.{ALLOC_BYTES};
 ghost use Rattle.std.specs.Prelude.{◌≡◌, ◌^◌, ◌<◌, ◌≤◌, IsTrue, [], ◌∷◌, ◌++◌, OnOk, ◌+◌};
 ghost use Rattle.std.specs.List.{list_all, sum_by};
 ghost use Rattle.vcode.specs.Regular.{alloc_bytes, passes_few};
@@ -79,7 +80,7 @@ fn push_operation(
     Ok(())
 }
 
-// has an operand of the operation in a register: a word is extended before it is compared
+/// Has an operand of the operation in a register: a word is extended before it is compared.
 pub(crate) fn push_operand_for(
     items: &mut Vec<Item>,
     layout: &Layout,
@@ -131,7 +132,7 @@ fn push_on_registers(
     Ok(())
 }
 
-// the other operand's number is in the form
+/// The other operand's number is in the form.
 fn push_by_form(
     items: &mut Vec<Item>,
     layout: &Layout,
@@ -170,7 +171,7 @@ fn push_operate(
     }
 }
 
-// has in a register what an access at this offset from the base needs there
+/// Has in a register what an access at this offset from the base needs there.
 fn push_base(
     items: &mut Vec<Item>,
     layout: &Layout,
@@ -189,7 +190,7 @@ fn push_base(
     }
 }
 
-// the load at an address of which `push_base` has the base in x28
+/// The load at an address of which `push_base` has the base in x28.
 fn load_by(op: LoadOp, to: u8, at: &Address<Location>) -> Item
     ensures { result ≡ load_by op to at.now.base at.now.offset }
 {
@@ -234,7 +235,7 @@ fn store_op(size: Size) -> StoreOp
     }
 }
 
-// the store of a register at an address of which `push_base` has the base in x29
+/// The store of a register at an address of which `push_base` has the base in x29.
 fn store_by(op: StoreOp, value: u8, at: &Address<Location>) -> Item
     ensures { result ≡ store_by op value at.now.base at.now.offset }
 {
@@ -271,14 +272,14 @@ fn push_store_line(
     Ok(())
 }
 
-// the address of a block of memory, where a place takes it
+/// The address of a block of memory, where a place takes it.
 fn push_alloc(
     items: &mut Vec<Item>,
     layout: &Layout,
     used: u64,
     to: &Option<Location>,
 ) -> Result<(), AllocError>
-    requires near { used ≤ 1048576 }
+    requires near { used ≤ ALLOC_BYTES }
     ensures { OnOk result (items.new.items ≡ items.old.items ++ alloc_items layout.now used to.now) }
 {
     if let Some(to) = to {
@@ -296,7 +297,7 @@ pub(crate) fn push_line(
     line: &Line<Location>,
 ) -> Result<(), AllocError>
     requires few { IsTrue (passes_few line.now) }
-    requires near { used ≤ 1048576 }
+    requires near { used ≤ ALLOC_BYTES }
     ensures { OnOk result (items.new.items ≡ items.old.items ++ line_items layout.now used line.now) }
 {
     match line {
@@ -323,7 +324,7 @@ pub(crate) fn push_lines(
     layout: &Layout,
     lines: &[Line<Location>],
 ) -> Result<(), AllocError>
-    requires room { sum_by alloc_bytes lines.now ≤ 1048576 }
+    requires room { sum_by alloc_bytes lines.now ≤ ALLOC_BYTES }
     requires few { IsTrue (list_all passes_few lines.now) }
     ensures { OnOk result (items.new.items ≡ items.old.items ++ lines_items layout.now 0 lines.now) }
 {

@@ -9,7 +9,7 @@ use rv_isa::labelled::Item;
 use std::alloc::AllocError;
 use vcode::place::{Argument, Location, Operand};
 
-// where something is after two registers have changed places
+/// Where something is after two registers have changed places.
 fn exchanged(a: u8, b: u8, place: Location) -> Location
     ensures { result ≡ exchanged a b place }
 {
@@ -29,7 +29,7 @@ fn operand_exchanged(a: u8, b: u8, operand: Operand<Location>) -> Operand<Locati
     }
 }
 
-// the arguments after two registers have changed places
+/// The arguments after two registers have changed places.
 fn exchange(
     a: u8,
     b: u8,
@@ -68,7 +68,7 @@ fn is_read(number: u8, arguments: &[Argument<Location>]) -> bool
     false
 }
 
-// the register of an earlier argument, in which the one of that number stands
+/// The register of an earlier argument, in which the one of that number stands.
 fn earlier(number: u8, operand: &Operand<Location>) -> Option<u8>
     requires { number < ARGUMENT_REGISTERS }
     ensures { result ≡ earlier number operand.now }
@@ -95,7 +95,7 @@ fn push_move_up(items: &mut Vec<Item>, number: u8, from: u8, read: bool) -> Resu
     Ok(())
 }
 
-// the same of the argument of that number, where it is to be in a register
+/// The same of the argument of that number, where it is to be in a register.
 fn earlier_at(number: usize, arguments: &[Argument<Location>]) -> Option<u8>
     requires { number < length arguments.now }
     ensures value { result ≡ earlier_at number arguments.now }
@@ -108,7 +108,7 @@ fn earlier_at(number: usize, arguments: &[Argument<Location>]) -> Option<u8>
     }
 }
 
-// the argument of that number is then in a register
+/// The argument of that number is then in a register.
 fn settle(arguments: &mut Vec<Argument<Location>>, number: usize, register: u8)
     requires { number < length arguments.old.items }
     ensures { arguments.new.items ≡ settled register number arguments.old.items }
@@ -116,7 +116,7 @@ fn settle(arguments: &mut Vec<Argument<Location>>, number: usize, register: u8)
     arguments[number].value = Operand::At(Location::Register(register));
 }
 
-// where arguments are after the one of that number has moved up
+/// Where arguments are after the one of that number has moved up.
 fn arrived(
     number: usize,
     from: u8,

@@ -16,7 +16,7 @@ use rv_isa::relocation::{Partial, Relocation};
 use std::alloc::AllocError;
 use vcode::place::{Location, Operand, low_part};
 
-// the top 31 bits of a number
+/// The top 31 bits of a number.
 fn push_top(items: &mut Vec<Item>, to: u8, number: u64) -> Result<(), AllocError>
     ensures { OnOk result (items.new.items ≡ items.old.items ++ top_part to number) }
 {
@@ -26,7 +26,7 @@ fn push_top(items: &mut Vec<Item>, to: u8, number: u64) -> Result<(), AllocError
     Ok(())
 }
 
-// 11 bits more
+/// 11 bits more.
 fn push_part(items: &mut Vec<Item>, to: u8, bits: u64) -> Result<(), AllocError>
     ensures { OnOk result (items.new.items ≡ items.old.items ++ next_part to bits) }
 {
@@ -45,7 +45,7 @@ fn push_long_constant(items: &mut Vec<Item>, to: u8, number: u64) -> Result<(), 
     Ok(())
 }
 
-// the upper 20 bits of 32, and the low 12 where they aren't 0
+/// The upper 20 bits of 32, and the low 12 where they aren't 0.
 fn push_word_constant(items: &mut Vec<Item>, to: u8, bits: u64) -> Result<(), AllocError>
     requires { bits < 2 ^ 32 }
     ensures { OnOk result (items.new.items ≡ items.old.items ++ word_constant to bits) }
@@ -70,14 +70,14 @@ pub(crate) fn word(number: u64) -> u64
     }
 }
 
-// is the number its own low 32 bits, sign-extended?
+/// Is the number its own low 32 bits, sign-extended?
 fn is_word(number: u64) -> bool
     ensures { result ≡ is_word number }
 {
     word(number) == number
 }
 
-// a number that has no 12 bits
+/// A number that has no 12 bits.
 fn push_wide_constant(items: &mut Vec<Item>, to: u8, number: u64) -> Result<(), AllocError>
     ensures { OnOk result (items.new.items ≡ items.old.items ++ (if is_word number then word_constant to (number % 2 ^ 32) else long_constant to (number % 2 ^ 64))) }
 {
@@ -108,7 +108,7 @@ pub(crate) fn push_constant(items: &mut Vec<Item>, to: u8, number: u64) -> Resul
     Ok(())
 }
 
-// the upper part of an offset
+/// The upper part of an offset.
 fn upper_part(offset: u64) -> UpperField
     requires { offset < 2 ^ 40 }
     ensures { result ≡ high offset }
@@ -161,7 +161,7 @@ pub(crate) fn push_store(items: &mut Vec<Item>, value: u8, offset: u64) -> Resul
     Ok(())
 }
 
-// the offset of a slot
+/// The offset of a slot.
 fn offset_of(layout: &Layout, slot: u32) -> u64
     ensures value { result ≡ slot_offset layout.now slot }
     ensures near { result < 2 ^ 40 }
@@ -209,7 +209,7 @@ fn push_address(items: &mut Vec<Item>, to: u8, global: usize) -> Result<(), Allo
     Ok(())
 }
 
-// copies a register, unless it is the same
+/// Copies a register, unless it is the same.
 fn push_move(items: &mut Vec<Item>, to: u8, from: u8) -> Result<(), AllocError>
     ensures { OnOk result (items.new.items ≡ items.old.items ++ (if nat_eq to from then [] else add_low to from 0 ∷ [])) }
 {
@@ -219,7 +219,7 @@ fn push_move(items: &mut Vec<Item>, to: u8, from: u8) -> Result<(), AllocError>
     Ok(())
 }
 
-// has a number in a register: 0 in x0
+/// Has a number in a register: 0 in x0.
 fn push_number(items: &mut Vec<Item>, to: u8, number: u64) -> Result<(), AllocError>
     ensures { OnOk result (items.new.items ≡ items.old.items ++ (if nat_eq number 0 then [] else constant to number)) }
 {
@@ -276,7 +276,7 @@ pub(crate) fn source_of(to: u8, operand: &Operand<Location>) -> u8
     }
 }
 
-// an operand that is no number: its low 32 bits, sign-extended
+/// An operand that is no number: its low 32 bits, sign-extended.
 fn push_extended(
     items: &mut Vec<Item>,
     layout: &Layout,

@@ -1,4 +1,5 @@
 //! How much room a function's blocks of memory and the arguments of its calls take in its frame.
+ghost use Rattle.il_ast.specs.declared.limits.TheConstants.{ALLOC_BYTES};
 ghost use Rattle.std.specs.Prelude.{◌≡◌, ◌≤◌};
 ghost use Rattle.std.specs.List.{sum_by};
 ghost use Rattle.vcode.specs.Regular.{alloc_bytes, area};
@@ -11,7 +12,7 @@ use vcode::place::Location;
 
 /// The bytes of the area for blocks of memory that a line takes.
 pub(crate) fn alloc_bytes(line: &Line<Location>) -> u64
-    requires { alloc_bytes line.now ≤ 1048576 }
+    requires { alloc_bytes line.now ≤ ALLOC_BYTES }
     ensures { result ≡ alloc_bytes line.now }
 {
     match line {
@@ -27,7 +28,7 @@ pub(crate) fn alloc_bytes(line: &Line<Location>) -> u64
 }
 
 fn lines_area(lines: &[Line<Location>]) -> u64
-    requires { sum_by alloc_bytes lines.now ≤ 1048576 }
+    requires { sum_by alloc_bytes lines.now ≤ ALLOC_BYTES }
     ensures { result ≡ sum_by alloc_bytes lines.now }
 {
     let mut total = 0;
@@ -38,7 +39,7 @@ fn lines_area(lines: &[Line<Location>]) -> u64
 }
 
 fn blocks_area(blocks: &[Block<Location>]) -> u64
-    requires { sum_by (λ b. sum_by alloc_bytes b.lines) blocks.now ≤ 1048576 }
+    requires { sum_by (λ b. sum_by alloc_bytes b.lines) blocks.now ≤ ALLOC_BYTES }
     ensures { result ≡ sum_by (λ b. sum_by alloc_bytes b.lines) blocks.now }
 {
     let mut total = 0;
@@ -50,7 +51,7 @@ fn blocks_area(blocks: &[Block<Location>]) -> u64
 
 /// The bytes of the area for blocks of memory.
 pub(crate) fn area_of(code: &Code<Location>) -> u64
-    requires { area code.now ≤ 1048576 }
+    requires { area code.now ≤ ALLOC_BYTES }
     ensures { result ≡ area code.now }
 {
     blocks_area(code.blocks.as_slice())

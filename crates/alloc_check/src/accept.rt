@@ -37,7 +37,7 @@ impl From<AllocError> for Refused {
     }
 }
 
-// What is to be known before code is made.
+/// What is to be known before code is made.
 fn is_right(alloc: Global, function: &VFunc, certificate: &Certificate) -> Result<bool, AllocError>
     ensures right { IfOk result (λ b. b ≡ (is_whole function.now certificate.now && sound_in function.now.registers function.now.code certificate.now)) }
     ensures few { IfOk result (λ b. b ≡ true → end_point 0 function.now.code.blocks < 2 ^ 64) }

@@ -165,7 +165,7 @@ fn known(table: &mut Table, ground: &Ground, time: usize, equalities: &[Equality
     true
 }
 
-// A line with the moves before it. A point's time is one more than its number.
+/// A line with the moves before it. A point's time is one more than its number.
 fn point(
     table: &mut Table,
     certificate: &Certificate,
@@ -207,7 +207,7 @@ fn lines(
     true
 }
 
-// Where in the code a block stands: its first point, and its number.
+/// Where in the code a block stands: its first point, and its number.
 #[derive(Clone, Copy)]
 struct Standing<'a> {
     first: usize,
@@ -357,7 +357,7 @@ fn entry_holds(table: &Table, params: &[Destination<u32>], starts: &[Equality]) 
     true
 }
 
-// Whether the first block finds what it asks for on entry.
+/// Whether the first block finds what it asks for on entry.
 #[tactic(auto, using(crate::proofs::Starting::both_enter))]
 fn first_holds(table: &Table, params: &[Destination<u32>], certificate: &Certificate) -> bool
     ensures { result ≡ entry_holds params.now (starts_at certificate.now 0) (own_of table.now) }

@@ -61,7 +61,7 @@ pub(crate) fn has_cell(registers: u32, place: Location) -> bool
     }
 }
 
-// The place holds the register's value.
+/// The place holds the register's value.
 fn hold(first: &mut First, registers: u32, place: Location, register: u32)
     requires inside { IsTrue (in_table registers place) }
     requires room { HasRoom registers first.old }
@@ -75,7 +75,7 @@ fn hold(first: &mut First, registers: u32, place: Location, register: u32)
     }
 }
 
-// Its place is that one.
+/// Its place is that one.
 fn stand(first: &mut First, registers: u32, register: u32, place: Location)
     requires inside { register < registers }
     requires room { HasRoom registers first.old }

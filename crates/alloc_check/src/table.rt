@@ -55,7 +55,7 @@ fn is_callers(register: usize) -> bool
         || is_between(abi::FIRST_SCRATCH, abi::JUMP_SCRATCH, register)
 }
 
-// What is known of a register of the machine after a call at that time.
+/// What is known of a register of the machine after a call at that time.
 fn kept(register: usize, held: Option<Held>, time: usize) -> Option<Held>
     ensures { result ≡ forgets time register held }
 {
@@ -69,7 +69,7 @@ fn kept(register: usize, held: Option<Held>, time: usize) -> Option<Held>
     }
 }
 
-// Takes out what the caller's registers hold.
+/// Takes out what the caller's registers hold.
 fn forget_callers(cells: &mut [Option<Held>], time: usize)
     ensures { Forgotten time cells.new cells.old }
 {
@@ -130,7 +130,7 @@ impl Table {
         }
     }
 
-    // What is known last of a place.
+    /// What is known last of a place.
     fn latest(&self, place: Location) -> Held
         ensures { result ≡ latest self.now.begun (cell_at self.now place) (first_at self.now.first place) }
     {

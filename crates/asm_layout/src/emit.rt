@@ -13,7 +13,7 @@ use rv_isa::encode::encode;
 use rv_isa::labelled::Item;
 use std::alloc::AllocError;
 
-// `here` is the item's place in the longest form.
+/// `here` is the item's place in the longest form.
 fn push_item(
     words: &mut Vec<u32>,
     far: &[usize],

@@ -35,7 +35,7 @@ fn inverse(op: BranchOp) -> BranchOp
     }
 }
 
-// The distance in bytes between two words.
+/// The distance in bytes between two words.
 fn distance(here: usize, there: usize) -> i32
     requires here { here < 2 ^ 28 + 1024 }
     requires there { there < 2 ^ 28 + 1024 }
@@ -44,7 +44,7 @@ fn distance(here: usize, there: usize) -> i32
     (4 * there) as i32 - (4 * here) as i32
 }
 
-// The same modulo 2^32.
+/// The same modulo 2^32.
 fn distance_word(here: usize, there: usize) -> u32
     requires here { here ≤ 2 ^ 28 }
     requires there { there < 2 ^ 28 }
@@ -86,7 +86,7 @@ fn near_branch(op: BranchOp, rs1: Register, rs2: Register, here: usize, there: u
     })
 }
 
-// The first word of a long jump: it leaves the upper half of the way in x31.
+/// The first word of a long jump: it leaves the upper half of the way in x31.
 #[tactic(auto, using(crate::proofs::Running::upper_fits))]
 fn far_first(distance: u32) -> u32
     ensures { result ≡ u_type 0x17 JUMP_SCRATCH (upper_field distance) }

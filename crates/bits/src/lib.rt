@@ -75,7 +75,7 @@ mod tests {
         assert!(rt; fits12(2047) && fits12(-2048) && !fits12(2048) && !fits12(-2049));
     }
 
-    // The pairs that the GNU assembler's `%hi` and `%lo` give.
+    /// The pairs that the GNU assembler's `%hi` and `%lo` give.
     #[test]
     fn splits(rt: HostRuntime) {
         for (number, upper, lower) in [

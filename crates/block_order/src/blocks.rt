@@ -9,7 +9,7 @@ use std::alloc::{AllocError, Global};
 use vcode::code::Block;
 use vcode::line::{Jump, Line};
 
-// The jump to where its targets stand in the order.
+/// The jump to where its targets stand in the order.
 fn led(order: &[usize], places: &[usize], jump: &Jump<u32>) -> Jump<u32>
     requires { ArePlaces order.now places.now }
     ensures { result ≡ led order.now jump.now }
@@ -36,7 +36,7 @@ fn lines(alloc: Global, from: &[Line<u32>]) -> Result<Seq<Line<u32>>, AllocError
     Ok(Seq::from_vec(made))
 }
 
-// The block of that number as it stands in the order.
+/// The block of that number as it stands in the order.
 fn placed(
     alloc: Global,
     order: &[usize],

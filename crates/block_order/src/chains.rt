@@ -4,10 +4,10 @@ use std::alloc::{AllocError, Global};
 use vcode::code::Block;
 use vcode::line::Jump;
 
-// Blocks in more loops than that are as those in so many.
+/// Blocks in more loops than that are as those in so many.
 const DEEPEST: u32 = 5;
 
-// A block of a chain.
+/// A block of a chain.
 #[derive(Clone, Copy)]
 struct Link {
     before: Option<usize>,
@@ -24,7 +24,7 @@ fn mark(marks: &mut [bool], block: usize) {
     }
 }
 
-// Past the end, all have a mark.
+/// Past the end, all have a mark.
 fn is_marked(marks: &[bool], block: usize) -> bool {
     match marks.get(block) {
         Some(mark) => *mark,
@@ -63,7 +63,7 @@ fn reach_targets(
     }
 }
 
-// Marks of the blocks to which a way leads from the first. Each is found once.
+/// Marks of the blocks to which a way leads from the first. Each is found once.
 fn reached(alloc: Global, blocks: &[Block<u32>]) -> Result<Vec<bool>, AllocError> {
     let mut reached = vec![in alloc; false; blocks.len()]?;
     let mut found = Vec::new(alloc);
@@ -77,7 +77,7 @@ fn reached(alloc: Global, blocks: &[Block<u32>]) -> Result<Vec<bool>, AllocError
     Ok(reached)
 }
 
-// A chain for each block.
+/// A chain for each block.
 fn single_links(alloc: Global, blocks: usize) -> Result<Vec<Link>, AllocError> {
     let mut links = Vec::with_capacity(alloc, blocks)?;
     for block in 0..blocks {
@@ -118,7 +118,7 @@ fn set_end(links: &mut [Link], block: usize, end: usize) {
     }
 }
 
-// Whether the first ends a chain and the second begins another.
+/// Whether the first ends a chain and the second begins another.
 fn may_join(links: &[Link], from: usize, to: usize) -> bool {
     from < links.len()
         && to < links.len()
@@ -127,7 +127,7 @@ fn may_join(links: &[Link], from: usize, to: usize) -> bool {
         && end(links, from) != to
 }
 
-// Makes one chain of the one that ends with the first block and the one that begins with the second, where these are two.
+/// Makes one chain of the one that ends with the first block and the one that begins with the second, where these are two.
 fn join(links: &mut [Link], from: usize, to: usize) {
     if !may_join(links, from, to) {
         return;
@@ -146,7 +146,7 @@ fn join(links: &mut [Link], from: usize, to: usize) {
     set_end(links, last, first);
 }
 
-// In how many loops a way lies: in those of both ends.
+/// In how many loops a way lies: in those of both ends.
 fn way_depth(depths: &[u32], from: usize, to: usize) -> u32 {
     match (depths.get(from), depths.get(to)) {
         (Some(from), Some(to)) => (*from).min(*to).min(DEEPEST),
@@ -154,7 +154,7 @@ fn way_depth(depths: &[u32], from: usize, to: usize) -> u32 {
     }
 }
 
-// Joins blocks to those to which they go at once, in so many loops: each saves a jump.
+/// Joins blocks to those to which they go at once, in so many loops: each saves a jump.
 fn join_gotos(
     links: &mut [Link],
     blocks: &[Block<u32>],
@@ -174,7 +174,7 @@ fn join_gotos(
     }
 }
 
-// Joins a block to the one of two to which it branches more often, or else to the other.
+/// Joins a block to the one of two to which it branches more often, or else to the other.
 fn join_branch(links: &mut [Link], depths: &[u32], from: usize, met: usize, otherwise: usize) {
     if way_depth(depths, from, met) < way_depth(depths, from, otherwise) {
         join(links, from, otherwise);
@@ -185,7 +185,7 @@ fn join_branch(links: &mut [Link], depths: &[u32], from: usize, met: usize, othe
     }
 }
 
-// Joins blocks to one of two to which they branch. Either saves a jump beside the branch, which the way that is taken less often would take.
+/// Joins blocks to one of two to which they branch. Either saves a jump beside the branch, which the way that is taken less often would take.
 fn join_branches(
     links: &mut [Link],
     blocks: &[Block<u32>],
@@ -206,7 +206,7 @@ fn join_branches(
     }
 }
 
-// Chains of blocks that are reached: first those ways are taken that lie in the most loops, and of these the ones that leave no choice.
+/// Chains of blocks that are reached: first those ways are taken that lie in the most loops, and of these the ones that leave no choice.
 fn chains(alloc: Global, blocks: &[Block<u32>], reached: &[bool]) -> Result<Vec<Link>, AllocError> {
     let depths = depths(alloc, blocks)?;
     let mut links = single_links(alloc, blocks.len())?;
@@ -229,7 +229,7 @@ fn chains(alloc: Global, blocks: &[Block<u32>], reached: &[bool]) -> Result<Vec<
     Ok(links)
 }
 
-// The first block of the chain that is best put last: its return takes no jump to the end of the frame. A block that returns is the last of its chain.
+/// The first block of the chain that is best put last: its return takes no jump to the end of the frame. A block that returns is the last of its chain.
 fn last_chain(links: &[Link], blocks: &[Block<u32>], reached: &[bool]) -> Option<usize> {
     let mut found = None;
     for (number, block) in blocks.iter().enumerate() {
@@ -246,7 +246,7 @@ fn last_chain(links: &[Link], blocks: &[Block<u32>], reached: &[bool]) -> Option
     found
 }
 
-// Blocks that are put in order.
+/// Blocks that are put in order.
 #[derive(Drop)]
 struct Placing {
     order: Vec<usize>,
@@ -319,7 +319,7 @@ fn place_chain(
     Ok(())
 }
 
-// Places the chains to which those lead that are placed, near these. Each block is placed once, and has at most two targets.
+/// Places the chains to which those lead that are placed, near these. Each block is placed once, and has at most two targets.
 fn place_chains(
     placing: &mut Placing,
     links: &[Link],

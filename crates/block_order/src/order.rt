@@ -13,7 +13,7 @@ use std::alloc::{AllocError, Global};
 use vcode::code::Code;
 use vcode::function::VFunc;
 
-// The function in an order, of which these are the places.
+/// The function in an order, of which these are the places.
 fn ordered(
     alloc: Global,
     function: &VFunc,
@@ -38,7 +38,7 @@ fn ordered(
     })
 }
 
-// Where blocks stand in the order, if it is one of the code.
+/// Where blocks stand in the order, if it is one of the code.
 fn places_in_order(
     alloc: Global,
     function: &VFunc,
@@ -86,7 +86,7 @@ pub fn in_order(
     }
 }
 
-// The numbers below the limit.
+/// The numbers below the limit.
 fn numbers(alloc: Global, limit: usize) -> Result<Vec<usize>, AllocError>
     ensures { IfOk result (λ v. v.items ≡ range_with_len 0 limit) }
 {
@@ -97,7 +97,7 @@ fn numbers(alloc: Global, limit: usize) -> Result<Vec<usize>, AllocError>
     Ok(numbers)
 }
 
-// The function with all its blocks in the order in which they stand.
+/// The function with all its blocks in the order in which they stand.
 fn as_they_stand(alloc: Global, function: &VFunc) -> Result<VFunc, AllocError>
     ensures kept { IfOk result (λ w. Keeps (virtual_code function.now) (virtual_code w)) }
     ensures ordered { IfOk result (λ w. IsOrdered function.now w) }

@@ -19,7 +19,7 @@ pub(crate) fn place(order: &[usize], places: &[usize], block: usize) -> usize
     }
 }
 
-// Writes where the blocks stand that the order names, from the last to the first. Answers whether it names none twice, and none that isn't there.
+/// Writes where the blocks stand that the order names, from the last to the first. Answers whether it names none twice, and none that isn't there.
 fn fill(order: &[usize], places: &mut [usize]) -> bool
     requires { AreUnset order.now places.old }
     ensures named { result ≡ names_blocks order.now (length places.old) }
@@ -80,7 +80,7 @@ fn leads_within(order: &[usize], places: &[usize], jump: &Jump<u32>) -> bool
     }
 }
 
-// Whether the order names each block that the block of this number leads to.
+/// Whether the order names each block that the block of this number leads to.
 fn leads_on(order: &[usize], places: &[usize], blocks: &[Block<u32>], number: usize) -> bool
     requires { ArePlaces order.now places.now }
     ensures { result ≡ leads_within order.now (block_at blocks.now number).jump }

@@ -17,7 +17,7 @@ use vcode::function::VFunc;
 use vcode::line::Line;
 use vcode::place::{Destination, Location};
 
-// Adds the equality of a register and its place, if the list has one.
+/// Adds the equality of a register and its place, if the list has one.
 fn push_place(
     equalities: &mut Seq<Equality>,
     list: &[Location],
@@ -40,7 +40,7 @@ fn has(equalities: &[Equality], register: u32) -> bool
     equalities.iter().any(|e| e.register == register)
 }
 
-// Adds it once.
+/// Adds it once.
 fn push_once(
     equalities: &mut Seq<Equality>,
     list: &[Location],
@@ -81,7 +81,7 @@ fn push_written(
     }
 }
 
-// The places of the registers that a point names, each once.
+/// The places of the registers that a point names, each once.
 fn places_of(alloc: Global, list: &[Location], uses: &Uses) -> Result<Seq<Equality>, AllocError>
     ensures { IfOk result (λ v. v ≡ point_places list.now uses.now) }
 {
@@ -91,7 +91,7 @@ fn places_of(alloc: Global, list: &[Location], uses: &Uses) -> Result<Seq<Equali
     Ok(equalities)
 }
 
-// Adds the place of a register that is live.
+/// Adds the place of a register that is live.
 fn push_if_live(
     equalities: &mut Seq<Equality>,
     list: &[Location],

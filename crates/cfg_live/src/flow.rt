@@ -9,7 +9,7 @@ use crate::graph::Graph;
 use crate::uses::Uses;
 use bitset::BitSet;
 
-// Joins to `set` the set of a point, if there is one.
+/// Joins to `set` the set of a point, if there is one.
 fn join_point(set: &mut BitSet, rows: &[BitSet], point: usize)
     requires { AreSized set.old.length rows.now }
     ensures length { set.new.length ≡ set.old.length }
@@ -23,7 +23,7 @@ fn join_point(set: &mut BitSet, rows: &[BitSet], point: usize)
     }
 }
 
-// Joins to `set` the sets of these points.
+/// Joins to `set` the sets of these points.
 fn join_points(set: &mut BitSet, rows: &[BitSet], points: &[usize])
     requires { AreSized set.old.length rows.now }
     ensures length { set.new.length ≡ set.old.length }
@@ -34,7 +34,7 @@ fn join_points(set: &mut BitSet, rows: &[BitSet], points: &[usize])
     }
 }
 
-// Takes a register out of `set`, if it is one of those that the set may have.
+/// Takes a register out of `set`, if it is one of those that the set may have.
 fn leave_out(set: &mut BitSet, register: u32)
     ensures length { set.new.length ≡ set.old.length }
     ensures members { (r : ℕ) → is_member set.new r ≡ (is_member set.old r && not (nat_eq register r)) }
@@ -72,7 +72,7 @@ fn take_in_all(set: &mut BitSet, registers: &[u32])
     }
 }
 
-// From right after a point to right before it.
+/// From right after a point to right before it.
 fn pass(set: &mut BitSet, uses: &Uses)
     ensures length { set.new.length ≡ set.old.length }
     ensures members { (r : ℕ) → is_member set.new r ≡ ((is_member set.old r && not (option_map_or (λ k. nat_eq k r) uses.now.writes false)) || (nat_lt r set.old.length && list_any (λ k. nat_eq k r) uses.now.reads)) }

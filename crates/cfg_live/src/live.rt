@@ -23,7 +23,7 @@ fn push_blank(alloc: Global, rows: &mut Vec<BitSet>, registers: usize) -> Result
     Ok(())
 }
 
-// So many empty sets.
+/// So many empty sets.
 fn blank_rows(alloc: Global, points: usize, registers: usize) -> Result<Vec<BitSet>, AllocError>
     ensures as_many { IfOk result (λ v. length v.items ≡ points) }
     ensures blank { IfOk result (λ v. AreBlank registers v.items) }

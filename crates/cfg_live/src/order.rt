@@ -4,14 +4,14 @@ use bitset::BitSet;
 use il_ast::list::Seq;
 use std::alloc::{AllocError, Global};
 
-// A place on a walk through the graph.
+/// A place on a walk through the graph.
 #[derive(Clone, Copy)]
 enum Place {
     Enter(usize),
     Leave(usize),
 }
 
-// A walk through the graph, depth first: what is still to be done, the points that were entered, and those that were left, in that order.
+/// A walk through the graph, depth first: what is still to be done, the points that were entered, and those that were left, in that order.
 #[derive(Drop)]
 struct Walk {
     ahead: Vec<Place>,
@@ -59,7 +59,7 @@ fn walk_from(walk: &mut Walk, edges: &[Seq<usize>], point: usize) -> Result<(), 
     Ok(())
 }
 
-// The points in the order in which a walk along these edges leaves them, depth first, from each root in turn.
+/// The points in the order in which a walk along these edges leaves them, depth first, from each root in turn.
 fn postorder(
     alloc: Global,
     edges: &[Seq<usize>],

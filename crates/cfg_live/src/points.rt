@@ -61,7 +61,7 @@ fn push_blocks(
     Ok(())
 }
 
-// What each point reads and writes, and the first point of each block.
+/// What each point reads and writes, and the first point of each block.
 fn uses_and_starts(
     alloc: Global,
     blocks: &[Block<u32>],

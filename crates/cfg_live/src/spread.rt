@@ -8,7 +8,7 @@ use crate::worklist::Worklist;
 use bitset::BitSet;
 use std::alloc::AllocError;
 
-// Visits a point, if it has a set. Where that grew, the points before it are to be visited.
+/// Visits a point, if it has a set. Where that grew, the points before it are to be visited.
 #[tactic(auto, using(crate::proofs::Marks::went_nowhere))]
 fn visit_listed(
     rows: &mut [BitSet],
@@ -32,7 +32,7 @@ fn visit_listed(
     }
 }
 
-// Visits the points in this order.
+/// Visits the points in this order.
 fn sweep_listed(
     rows: &mut [BitSet],
     set: &mut BitSet,
@@ -50,7 +50,7 @@ fn sweep_listed(
     Ok(())
 }
 
-// Visits the points on the stack, until there are none.
+/// Visits the points on the stack, until there are none.
 fn follow(
     rows: &mut [BitSet],
     set: &mut BitSet,

@@ -7,7 +7,7 @@ use crate::flow::flow;
 use crate::graph::Graph;
 use bitset::BitSet;
 
-// Joins the set to that of a point, and says whether that grew.
+/// Joins the set to that of a point, and says whether that grew.
 fn grow(rows: &mut [BitSet], set: &BitSet, point: usize) -> bool
     requires sized { AreSized set.now.length rows.old }
     requires inside { point < length rows.old }
@@ -32,7 +32,7 @@ pub(crate) fn visit(rows: &mut [BitSet], set: &mut BitSet, graph: &Graph, point:
     grow(rows, set, point)
 }
 
-// Visits a point, if it has a set.
+/// Visits a point, if it has a set.
 #[tactic(auto, using(crate::proofs::Marks::went_nowhere))]
 fn visit_if_there(rows: &mut [BitSet], set: &mut BitSet, graph: &Graph, point: usize)
     requires { AreSized set.old.length rows.old }
@@ -55,7 +55,7 @@ pub(crate) fn sweep_along(rows: &mut [BitSet], set: &mut BitSet, graph: &Graph, 
     }
 }
 
-// Visits each point, and says whether a set grew.
+/// Visits each point, and says whether a set grew.
 fn sweep(rows: &mut [BitSet], set: &mut BitSet, graph: &Graph) -> bool
     requires { AreSized set.old.length rows.old }
     ensures length { set.new.length ≡ set.old.length }

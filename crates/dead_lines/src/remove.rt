@@ -19,7 +19,7 @@ use vcode::code::{Block, Code};
 use vcode::function::VFunc;
 use vcode::line::Line;
 
-// The lines that stay, last first, of a block whose jump is `point`.
+/// The lines that stay, last first, of a block whose jump is `point`.
 fn kept_backward(
     alloc: Global,
     overlay: &mut Overlay,
@@ -83,7 +83,7 @@ fn push_blocks(
     Ok(())
 }
 
-// The function by these live registers.
+/// The function by these live registers.
 fn without_dead(alloc: Global, function: &VFunc, live: &Live) -> Result<VFunc, AllocError>
     requires live { AreLive (graph_of function.now.code) function.now.registers live.now }
     requires few { end_point 0 function.now.code.blocks < 2 ^ 64 }

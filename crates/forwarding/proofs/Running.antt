@@ -44,7 +44,7 @@ use Rattle.vcode.specs.Places.{Values, put, assign, kept, virtual}
 use Rattle.vcode.specs.Coded.{classes_in}
 use Rattle.vcode.specs.Step.{State, begin, value_of, read, read_result, read_all, operated, address_of, goes_on, sets, changes, weighs, ticks, receives, resumes, calls, line_step, compared, branches, returns, jump_step, step}
 use Rattle.vcode.specs.Replaced.{Replacing, with_base, with_argument, with_comparison}
-use Rattle.vcode.proofs.Going.{OnNext, OnEvent, Relation, event_self, event_more}
+use Rattle.vcode.proofs.Going.{OnNext, OnEvent, Relation, StartsWith, event_more, one_event, jump_starts}
 use Rattle.vcode.proofs.SameReads.{SameValue, SameArguments, two_same, args_same, calls_same}
 use Rattle.vcode.proofs.Lists.{head_at, tail_at, nothing_at, same_some}
 use Rattle.vcode.proofs.Stepping.{step_line, step_jump, step_nowhere}
@@ -756,34 +756,10 @@ at_start n v w globals all s zero_next =
           };
     }
 
-jump_starts : (globals : List Value) (result : Option Class) (s : State ℕ) (j : Jump ℕ) → OnEvent (λ u. u.next ≡ 0) (jump_step globals result s j)
-unfolding jump_step
-jump_starts globals result s (Goto k) = refl
-jump_starts globals result s (Branch on met otherwise) = by (compared globals s on)
-  where
-    by : (o : Option Value) → OnEvent (λ u. u.next ≡ 0) (branches s met otherwise o)
-    by None = tt
-    by (Some (Integer k)) = refl
-    by (Some (Pointer b k)) = tt
-    by (Some (Function g)) = tt
-jump_starts globals result s (Return None) = tt
-jump_starts globals None s (Return (Some a)) = tt
-jump_starts globals (Some k) s (Return (Some a)) = by (read_result globals s.values k a)
-  where
-    by : (o : Option Value) → OnEvent (λ u. u.next ≡ 0) (returns s o)
-    by None = tt
-    by (Some v) = tt
-jump_starts globals result s Halt = tt
-
 -- ---- a step
 
 abbrev Beside : (n : ℕ) (v w : Code ℕ) (globals : List Value) (i : Given) (s : State ℕ) → Type 0
 Beside n v w globals i s = Together (Related n v w globals) Fine (step virtual globals v i s) (step virtual globals w i s)
-
-one_event : (related : Relation) (x y e : Event (State ℕ) Asked Outcome) → x ≡ e → y ≡ e → OnEvent (λ u. related u u) e → Together related Fine x y
-one_event related x y e a b h =
-    subst (λ (z : Event (State ℕ) Asked Outcome). Together related Fine z y) (sym a)
-    (subst (λ (z : Event (State ℕ) Asked Outcome). Together related Fine e z) (sym b) (event_self related e h))
 
 jump_beside : (n : ℕ) (v w : Code ℕ) (globals : List Value) (i : Given) (s : State ℕ) (b c : Block ℕ) (fs : Facts) → AllForwarded n v.blocks w.blocks → w.result ≡ v.result
     → slice_get v.blocks s.block ≡ Some b → slice_get w.blocks s.block ≡ Some c → drop s.next b.lines ≡ [] → drop s.next c.lines ≡ [] → c.jump ≡ with_jump c.lines fs b.jump → AreTrue globals s fs
@@ -793,7 +769,7 @@ jump_beside n v w globals i s b c fs all result at found ahead ahead2 is facts =
     (step_jump virtual globals v i s b at (nothing_at b.lines s.next ahead))
     (step_jump virtual globals w i s c found (nothing_at c.lines s.next ahead2) ∙ ap (λ (r : Option Class). jump_step globals r s c.jump) result ∙ ap (jump_step globals v.result s) is
     ∙ jump_same c.lines globals v.result s fs facts b.jump)
-    (event_more (λ u. u.next ≡ 0) (λ u. Related n v w globals u u) (λ u e. at_start n v w globals all u e) (jump_step globals v.result s b.jump) (jump_starts globals v.result s b.jump))
+    (event_more (StartsWith s) (λ u. Related n v w globals u u) (λ u starts. at_start n v w globals all u starts.first) (jump_step globals v.result s b.jump) (jump_starts globals v.result s b.jump))
 
 line_beside : (n : ℕ) (v w : Code ℕ) (globals : List Value) (i : Given) (s : State ℕ) (b c : Block ℕ) (fs : Facts) (l m : Line ℕ) (left left2 : List (Line ℕ))
     → slice_get v.blocks s.block ≡ Some b → slice_get w.blocks s.block ≡ Some c → drop s.next b.lines ≡ l ∷ left → drop s.next c.lines ≡ m ∷ left2 → m ≡ shortened (with_line fs l)

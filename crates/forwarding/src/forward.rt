@@ -28,7 +28,7 @@ fn changes_memory(line: &Line<u32>) -> bool
     }
 }
 
-// A sum of a register and a number.
+/// A sum of a register and a number.
 fn sum_of(left: Operand<u32>, right: Operand<u32>) -> Option<Fact>
     ensures { result ≡ sum_of left right }
 {
@@ -38,7 +38,7 @@ fn sum_of(left: Operand<u32>, right: Operand<u32>) -> Option<Fact>
     }
 }
 
-// What a line makes known of the register that it writes.
+/// What a line makes known of the register that it writes.
 fn fact_of(line: &Line<u32>) -> Option<Fact>
     ensures { result ≡ fact_of line.now }
 {
@@ -71,7 +71,7 @@ fn fact_of(line: &Line<u32>) -> Option<Fact>
     }
 }
 
-// A line was done.
+/// A line was done.
 fn pass(table: &mut Table, line: &Line<u32>)
     requires table { IsTable table.old }
     requires runs { table.old.clock + 1 < 2 ^ 128 }
@@ -86,7 +86,7 @@ fn pass(table: &mut Table, line: &Line<u32>)
     }
 }
 
-// The lines, put by what is known before each of them.
+/// The lines, put by what is known before each of them.
 fn forwarded_lines(
     alloc: Global,
     table: &mut Table,

@@ -30,7 +30,7 @@ fn is_short(operand: &Operand<u32>) -> bool
     }
 }
 
-// What a register is known to be a copy of, in its place.
+/// What a register is known to be a copy of, in its place.
 fn copied(table: &Table, register: u32) -> Operand<u32>
     ensures { result ≡ forward (facts_of table.now) (At register) }
 {
@@ -57,7 +57,7 @@ impl Replace for Table {
     }
 }
 
-// A sum with a number of what is known to be one is a sum with a number.
+/// A sum with a number of what is known to be one is a sum with a number.
 fn regrouped(known: Option<Fact>, register: u32, number: u64) -> (Operand<u32>, Operand<u32>)
     ensures { result ≡ regrouped known register number }
 {
@@ -118,7 +118,7 @@ fn distance(at: &Address<u32>) -> u64
     i64::from(at.offset.value).cast_unsigned()
 }
 
-// An address from what its base is known to be a sum of, where the offset still fits.
+/// An address from what its base is known to be a sum of, where the offset still fits.
 fn further(at: Address<u32>, known: Option<Fact>) -> Address<u32>
     ensures { result ≡ further at known }
 {
@@ -203,7 +203,7 @@ pub(crate) fn line(alloc: Global, table: &Table, from: &Line<u32>) -> Result<Lin
     })
 }
 
-// The comparison whose result this one compares with 0.
+/// The comparison whose result this one compares with 0.
 fn tested(table: &Table, on: &Comparison<u32>) -> Option<Comparison<u32>>
     ensures { result ≡ tested_by (facts_of table.now) on.now.left on.now.right }
 {
@@ -227,14 +227,14 @@ fn plain(on: Comparison<u32>, met: usize, otherwise: usize) -> Jump<u32>
     Jump::Branch { on, met, otherwise }
 }
 
-// A jump in place of another, if the lines pay for it.
+/// A jump in place of another, if the lines pay for it.
 fn afforded(lines: &[Line<u32>], old: Jump<u32>, new: Jump<u32>) -> Jump<u32>
     ensures { result ≡ afforded lines.now old new }
 {
     if affords(lines, &new) { new } else { old }
 }
 
-// A branch on the comparison whose result is tested, if the lines pay for it.
+/// A branch on the comparison whose result is tested, if the lines pay for it.
 fn with_test(
     lines: &[Line<u32>],
     on: Comparison<u32>,
@@ -268,7 +268,7 @@ fn branch(
     }
 }
 
-// Whether a comparison of two numbers holds.
+/// Whether a comparison of two numbers holds.
 fn numbers_compared(
     condition: Condition,
     class: Class,

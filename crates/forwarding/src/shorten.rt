@@ -11,7 +11,7 @@ use vcode::cost::line_cost;
 use vcode::line::{Line, Operation};
 use vcode::place::Operand;
 
-// What an operation gives of two numbers.
+/// What an operation gives of two numbers.
 fn result_of(operation: Operation, left: u64, right: u64) -> u64
     ensures { result ≡ result_of operation left right }
 {
@@ -22,7 +22,7 @@ fn result_of(operation: Operation, left: u64, right: u64) -> u64
     }
 }
 
-// The number in place of the operation that gives it, where that costs no more.
+/// The number in place of the operation that gives it, where that costs no more.
 fn with_result(to: u32, operation: Operation, left: u64, right: u64, number: u64) -> Line<u32>
     ensures { result ≡ with_result to operation left right number }
 {
@@ -63,7 +63,7 @@ fn computed(line: Line<u32>) -> Line<u32>
     }
 }
 
-// The k of which the number is 2^k.
+/// The k of which the number is 2^k.
 fn exponent(number: u64) -> Option<u32>
     ensures { result ≡ exponent number }
 {
@@ -85,7 +85,7 @@ fn if_below(places: u32, most: u32, operation: Operation, number: u64) -> Option
     }
 }
 
-// The remainder by 2^k, where its mask is an immediate.
+/// The remainder by 2^k, where its mask is an immediate.
 fn masked(places: u32) -> Option<(Operation, u64)>
     requires { places < 64 }
     ensures { result ≡ if_below places 12 (Reg And) (2 ^ places - 1) }
@@ -93,7 +93,7 @@ fn masked(places: u32) -> Option<(Operation, u64)>
     if_below(places, 12, Operation::Reg(RegOp::And), (1u64 << places) - 1)
 }
 
-// What does by a number what this operation does by 2^k.
+/// What does by a number what this operation does by 2^k.
 fn by_power(operation: Operation, places: u32) -> Option<(Operation, u64)>
     requires { places < 64 }
     ensures { result ≡ by_power operation places }
@@ -135,7 +135,7 @@ fn with_operation(
     }
 }
 
-// A shift or a mask in place of a multiplication, an unsigned division or a remainder by a power of two.
+/// A shift or a mask in place of a multiplication, an unsigned division or a remainder by a power of two.
 fn by_shift(line: Line<u32>) -> Line<u32>
     ensures { result ≡ by_shift line }
 {

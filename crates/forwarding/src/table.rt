@@ -61,7 +61,7 @@ fn is_fresh(written: &[u128], since: u128, operand: &Operand<u32>) -> bool
     }
 }
 
-// What is known of the register that is written, if it doesn't name that.
+/// What is known of the register that is written, if it doesn't name that.
 fn kept(register: u32, known: Option<Fact>, since: u128) -> Option<Known>
     ensures { result ≡ option_map (λ f. record { fact = f; since = since }) (kept_if (λ f. not (fact_names f register)) known) }
 {

@@ -2,6 +2,7 @@
 -- (QBE IL, "Call", "Linkage").
 use Rattle.std.specs.Prelude.{ℕ, zero, suc, ◌+◌, ◌-◌, ◌%◌, ◌^◌, Bool, true, false, nat_eq, nat_lt, ◌&&◌, if◌then◌else◌, List, [], ◌∷◌, map, length, slice_get, Option, Some, None}
 use Rattle.std.specs.Option.{option_and_then}
+use Rattle.il_ast.specs.declared.limits.TheConstants.{STACK_ROOM}
 use Rattle.il_ast.specs.declared.operation.Class.{Class}
 use Rattle.il_ast.specs.declared.operation.Class.TheVariants.{W, L}
 use Rattle.il_ast.specs.declared.function.Param.{Param}
@@ -106,7 +107,7 @@ callees p (suc k) call t room m = call_named p (callees p k) call t room m call.
 
 -- the room that `main` starts with, in bytes
 abbrev pub stack_room : ℕ
-stack_room = 8388352
+stack_room = STACK_ROOM
 
 -- `main ()`, or `main (w count, l list)` with the number of words and the argument list
 abbrev pub main_args : ℕ → ℕ → List Param → List Value

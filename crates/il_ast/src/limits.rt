@@ -27,6 +27,9 @@ pub const ALLOC_BYTES: u64 = 1_048_576;
 /// The most bytes of a `blit`.
 pub const BLIT_BYTES: u64 = 4_096;
 
+/// The bytes of stack that `main` is called with.
+pub const STACK_ROOM: u32 = 8_388_352;
+
 /// The most bytes of a program's data, each datum rounded up to a multiple of 16.
 pub const DATA_BYTES: u64 = 16_777_216;
 

@@ -19,6 +19,7 @@ use crate::run::run;
 use crate::start::start_memory;
 use crate::state::{Output, Pile, State};
 use il_ast::function::{Func, Param};
+use il_ast::limits;
 use il_ast::operand::{Arg, Dest, Val};
 use il_ast::operation::Class;
 use il_ast::temp::Temp;
@@ -54,9 +55,6 @@ pub fn interpret(
     }
 }
 
-/// The room that `main` is called with, in bytes.
-const STACK_ROOM: u32 = 8_388_352;
-
 /// Calls `main`: the first state, or the end where the call ends the run.
 #[tactic(auto, unfolding(crate::specs::Machine::started))]
 fn begin(
@@ -75,7 +73,7 @@ fn begin(
     if !main_fits(function) {
         return Ok(Err(End::Undefined));
     }
-    let room = match room_left(prepared, STACK_ROOM, main) {
+    let room = match room_left(prepared, limits::STACK_ROOM, main) {
         Some(room) => room,
         None => return Ok(Err(End::Stack)),
     };

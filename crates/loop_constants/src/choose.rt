@@ -9,17 +9,17 @@ use std::alloc::{AllocError, Global};
 use vcode::code::Block;
 use vcode::function::VFunc;
 
-// More of them would leave too few registers of the machine for what changes.
+/// More of them would leave too few registers of the machine for what changes.
 const MOST: usize = 6;
 
-// A constant that is worth a register. The one that saves most is the last.
+/// A constant that is worth a register. The one that saves most is the last.
 #[derive(Clone, Copy, Debug, PartialEq, Eq, PartialOrd, Ord)]
 struct Choice {
     gain: i64,
     key: Key,
 }
 
-// What it saves to hold a constant in a region, less what it costs to set it in front. Over calls it takes a register that has to be saved: far more is asked.
+/// What it saves to hold a constant in a region, less what it costs to set it in front. Over calls it takes a register that has to be saved: far more is asked.
 fn net(one: &Use, region: &Region) -> i64 {
     let price = cost(one.key.constant()).saturating_mul(i64::from(region.entries));
     if region.has_calls {
@@ -29,7 +29,7 @@ fn net(one: &Use, region: &Region) -> i64 {
     }
 }
 
-// The uses that are worth it, with what they save.
+/// The uses that are worth it, with what they save.
 fn worthy(alloc: Global, uses: &[Use], regions: &Regions) -> Result<Vec<Use>, AllocError> {
     let mut worthy = Vec::new(alloc);
     for one in uses {
@@ -47,7 +47,7 @@ fn worthy(alloc: Global, uses: &[Use], regions: &Regions) -> Result<Vec<Use>, Al
     Ok(worthy)
 }
 
-// Each constant of these, in order of what it saves in all regions.
+/// Each constant of these, in order of what it saves in all regions.
 fn choices(alloc: Global, worthy: &[Use]) -> Result<Vec<Choice>, AllocError> {
     let mut choices: Vec<Choice> = Vec::new(alloc);
     for one in worthy {
@@ -63,7 +63,7 @@ fn choices(alloc: Global, worthy: &[Use]) -> Result<Vec<Choice>, AllocError> {
     Ok(choices)
 }
 
-// By number, the regions in which it is worth it to hold the constant.
+/// By number, the regions in which it is worth it to hold the constant.
 fn held_regions(
     alloc: Global,
     worthy: &[Use],
@@ -104,7 +104,7 @@ fn holding(
     Ok(holds)
 }
 
-// The blocks that lead from elsewhere to one that holds it.
+/// The blocks that lead from elsewhere to one that holds it.
 fn setting(alloc: Global, blocks: &[Block<u32>], holds: &[bool]) -> Result<Vec<bool>, AllocError> {
     let mut sets = Vec::new(alloc);
     for (number, block) in blocks.iter().enumerate() {
@@ -137,7 +137,7 @@ fn plan_for(
     })
 }
 
-// The k-th choice from the last.
+/// The k-th choice from the last.
 fn from_last(choices: &[Choice], k: usize) -> Option<Choice> {
     let place = choices.len().checked_sub(k.saturating_add(1))?;
     choices.get(place).copied()
@@ -152,7 +152,7 @@ fn has_loops(depths: &[u32]) -> bool {
     false
 }
 
-// A plan for each register, as long as there are constants that are worth it.
+/// A plan for each register, as long as there are constants that are worth it.
 fn plans_in(
     alloc: Global,
     function: &VFunc,

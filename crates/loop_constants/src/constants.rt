@@ -10,7 +10,7 @@ use crate::plan::Plan;
 use std::alloc::{AllocError, Global};
 use vcode::function::VFunc;
 
-// The function by the plan, or as it is where that isn't right.
+/// The function by the plan, or as it is where that isn't right.
 fn by_plan(alloc: Global, function: VFunc, plan: &Plan) -> Result<VFunc, AllocError>
     ensures { IfOk result (λ w. Keeps (virtual_code function) (virtual_code w)) }
 {

@@ -14,7 +14,7 @@ use std::alloc::{AllocError, Global};
 use vcode::code::{Block, Code};
 use vcode::function::VFunc;
 
-// The function with these blocks, which are its own by the plan.
+/// The function with these blocks, which are its own by the plan.
 fn with_these(
     alloc: Global,
     function: &VFunc,

@@ -28,7 +28,7 @@ impl Regions {
     }
 }
 
-// A block in a loop that has no region yet joins this one, and is to be left for its neighbours.
+/// A block in a loop that has no region yet joins this one, and is to be left for its neighbours.
 fn join(
     numbers: &mut [usize],
     way: &mut Vec<usize>,
@@ -77,7 +77,7 @@ fn join_all(
     Ok(())
 }
 
-// Where ways between blocks lead, and from where they come.
+/// Where ways between blocks lead, and from where they come.
 #[derive(Drop)]
 struct Ways {
     depths: Vec<u32>,
@@ -106,7 +106,7 @@ fn join_neighbours(
     }
 }
 
-// Each block of the region is left once.
+/// Each block of the region is left once.
 fn spread(
     alloc: Global,
     numbers: &mut [usize],
@@ -130,7 +130,7 @@ fn is_alone(numbers: &[usize], depths: &[u32], block: usize) -> bool {
     numbers.get(block).copied().unwrap_or(1) == 0 && depths.get(block).copied().unwrap_or(0) > 0
 }
 
-// The regions, of which nothing is known yet.
+/// The regions, of which nothing is known yet.
 fn joined(alloc: Global, blocks: &[Block<u32>], ways: &Ways) -> Result<Regions, AllocError> {
     let none = Region {
         entries: 0,

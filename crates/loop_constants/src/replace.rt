@@ -11,7 +11,7 @@ use vcode::line::Line;
 use vcode::place::Operand;
 use vcode::replace::{Replace, jump, line};
 
-// A block that holds the constant, or doesn't.
+/// A block that holds the constant, or doesn't.
 #[derive(Drop)]
 struct Held<'a> {
     plan: &'a Plan,

@@ -15,7 +15,7 @@ use vcode::function::VFunc;
 use vcode::line::{Jump, Line};
 use vcode::place::{Argument, Destination, Operand};
 
-// The lines of code that spare a register name it nowhere.
+/// The lines of code that spare a register name it nowhere.
 fn operand_spares(register: u32, operand: &Operand<u32>) -> bool
     ensures { result ≡ operand_keeps (is_other register) operand.now }
 {

@@ -6,7 +6,7 @@ use vcode::cost::is_immediate;
 use vcode::line::{Comparison, Operation};
 use vcode::place::Operand;
 
-// The number's own low 32 bits, sign-extended.
+/// The number's own low 32 bits, sign-extended.
 fn word(number: u64) -> u64 {
     let bits = number % 0x1_0000_0000;
     if bits < 0x8000_0000 {
@@ -16,7 +16,7 @@ fn word(number: u64) -> u64 {
     }
 }
 
-// The instructions that have a number in a register; x0 has 0.
+/// The instructions that have a number in a register; x0 has 0.
 fn number_cost(number: u64) -> i64 {
     if number == 0 {
         0
@@ -56,7 +56,7 @@ pub(crate) fn where_copied(operand: &Operand<u32>) -> i64 {
     }
 }
 
-// What it saves where an operand is compared: a register is extended before it is read as a word, a number needs no extension.
+/// What it saves where an operand is compared: a register is extended before it is read as a word, a number needs no extension.
 fn where_compared(class: Class, operand: &Operand<u32>) -> i64 {
     match class {
         Class::L => where_read(operand),
@@ -109,7 +109,7 @@ fn comparison_has_form(condition: Condition, number: u64) -> bool {
     }
 }
 
-// Whether an instruction does the operation with the number on its right.
+/// Whether an instruction does the operation with the number on its right.
 fn has_form(operation: Operation, number: u64) -> bool {
     match operation {
         Operation::Reg(op) => reg_has_form(op, number),
@@ -119,7 +119,7 @@ fn has_form(operation: Operation, number: u64) -> bool {
     }
 }
 
-// The same on its left; of a comparison by a guess.
+/// The same on its left; of a comparison by a guess.
 fn has_left_form(operation: Operation, number: u64) -> bool {
     match operation {
         Operation::Reg(RegOp::Add | RegOp::Xor | RegOp::Or | RegOp::And | RegOp::Mul) => {
@@ -132,7 +132,7 @@ fn has_left_form(operation: Operation, number: u64) -> bool {
     }
 }
 
-// What it saves where an instruction has the number in it: a shift in place of a product, and an extension of the other operand alone, are lost.
+/// What it saves where an instruction has the number in it: a shift in place of a product, and an extension of the other operand alone, are lost.
 fn in_form(operation: Operation) -> i64 {
     match operation {
         Operation::Reg(RegOp::Mul)

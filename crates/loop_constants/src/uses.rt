@@ -17,7 +17,7 @@ pub(crate) struct Key {
 }
 
 impl Key {
-    // No number 0, which x0 has.
+    /// No number 0, which x0 has.
     fn of(operand: &Operand<u32>) -> Option<Key> {
         match operand {
             Operand::At(_) | Operand::Number(0) => None,
@@ -134,7 +134,7 @@ impl Uses {
     }
 }
 
-// All operands of one constant in one region as one. They stand in order.
+/// All operands of one constant in one region as one. They stand in order.
 fn merged(alloc: Global, uses: &[Use]) -> Result<Vec<Use>, AllocError> {
     let mut all: Vec<Use> = Vec::new(alloc);
     for one in uses {

@@ -6,14 +6,14 @@ use std::alloc::{AllocError, Global};
 use vcode::code::Block;
 use vcode::line::Jump;
 
-// From a block to another.
+/// From a block to another.
 #[derive(Clone, Copy, Debug, PartialEq, Eq, PartialOrd, Ord)]
 struct Edge {
     to: usize,
     from: usize,
 }
 
-// How far the search for ways back has come with a block.
+/// How far the search for ways back has come with a block.
 #[derive(Clone, Copy, PartialEq, Eq)]
 enum Visit {
     New,
@@ -21,7 +21,7 @@ enum Visit {
     Done,
 }
 
-// A block on the way that is searched, and how many of its ways on have been tried.
+/// A block on the way that is searched, and how many of its ways on have been tried.
 #[derive(Clone, Copy)]
 struct Step {
     block: usize,
@@ -80,7 +80,7 @@ fn follow(search: &mut Search, from: usize, to: usize) -> Result<(), AllocError>
     }
 }
 
-// One more way on is tried, or the last block is left.
+/// One more way on is tried, or the last block is left.
 fn search_on(search: &mut Search, blocks: &[Block<u32>]) -> Result<(), AllocError> {
     let step = match search.way.pop() {
         Some(step) => step,
@@ -101,7 +101,7 @@ fn search_on(search: &mut Search, blocks: &[Block<u32>]) -> Result<(), AllocErro
     }
 }
 
-// Each block is entered and left once, and has at most two ways on.
+/// Each block is entered and left once, and has at most two ways on.
 fn back_edges(alloc: Global, blocks: &[Block<u32>]) -> Result<Vec<Edge>, AllocError> {
     let mut visits = Vec::new(alloc);
     visits.resize(blocks.len(), Visit::New)?;
@@ -153,14 +153,14 @@ pub fn sources(alloc: Global, blocks: &[Block<u32>]) -> Result<Vec<Vec<usize>>, 
     Ok(edges)
 }
 
-// A block: in how many loops it was found to be, and the last one's head.
+/// A block: in how many loops it was found to be, and the last one's head.
 #[derive(Clone, Copy)]
 struct Nest {
     depth: u32,
     head: Option<usize>,
 }
 
-// Counts the loop with this head for the block, unless that was done.
+/// Counts the loop with this head for the block, unless that was done.
 fn count(nests: &mut [Nest], block: usize, head: usize) -> bool {
     match nests.get_mut(block) {
         Some(nest) => {
@@ -191,7 +191,7 @@ fn push_new(
     Ok(())
 }
 
-// The blocks from which the jump back is reached without passing the head. Answers how many steps of those that may be taken are left.
+/// The blocks from which the jump back is reached without passing the head. Answers how many steps of those that may be taken are left.
 fn count_loop(
     alloc: Global,
     nests: &mut [Nest],
@@ -214,7 +214,7 @@ fn count_loop(
     Ok(0)
 }
 
-// Where loops are so many and so large that finding their blocks would take far longer than the text, the rest is left uncounted.
+/// Where loops are so many and so large that finding their blocks would take far longer than the text, the rest is left uncounted.
 const STEPS_A_BLOCK: usize = 64;
 
 /// In how many loops each block lies.

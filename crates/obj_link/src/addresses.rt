@@ -59,7 +59,7 @@ pub fn functions_end(start: u32, codes: &[Code]) -> u32
     at
 }
 
-// The bytes that a datum takes, with the zeros after it.
+/// The bytes that a datum takes, with the zeros after it.
 fn slot_size(object: &DataDef) -> u32
     requires { round_16 (object_size object.now) < 2 ^ 32 }
     ensures { result ≡ round_16 (object_size object.now) }

@@ -26,7 +26,7 @@ fn push_zeros(bytes: &mut Vec<u8>, count: u64) -> Result<(), AllocError>
     Ok(())
 }
 
-// The eight bytes of a number, lowest first.
+/// The eight bytes of a number, lowest first.
 fn push_long(bytes: &mut Vec<u8>, number: u64) -> Result<(), AllocError>
     ensures { OnOk result (bytes.new.items ≡ bytes.old.items ++ to_le_bytes w64 number) }
 {
@@ -34,7 +34,7 @@ fn push_long(bytes: &mut Vec<u8>, number: u64) -> Result<(), AllocError>
     Ok(())
 }
 
-// The low bytes of a number, lowest first.
+/// The low bytes of a number, lowest first.
 #[tactic(auto, using(crate::proofs::DataLemmas::bytes_of_long, crate::proofs::DataLemmas::bytes_of_word, crate::proofs::DataLemmas::bytes_of_half, crate::proofs::DataLemmas::bytes_of_byte))]
 fn push_low(bytes: &mut Vec<u8>, size: Size, number: u64) -> Result<(), AllocError>
     ensures { OnOk result (bytes.new.items ≡ bytes.old.items ++ bytes_of (byte_count size) number) }
@@ -144,7 +144,7 @@ fn push_fields(
     Ok(())
 }
 
-// How many zeros follow so many bytes, up to a multiple of 16.
+/// How many zeros follow so many bytes, up to a multiple of 16.
 fn padding(size: usize) -> u64
     ensures { result ≡ round_16 size - size }
 {

@@ -48,7 +48,7 @@ const EXIT: Immediate = Immediate {
 
 const NOTHING: Immediate = Immediate { value: 0 };
 
-// `ld x10, 0(x2)`
+/// `ld x10, 0(x2)`.
 fn count_of_words() -> u32
     ensures { result ≡ load_double 10 2 0 }
 {

@@ -25,7 +25,7 @@ const START: u32 = CODE_START as u32;
 
 const PAGE_SIZE: u32 = PAGE as u32;
 
-// Where the data begin.
+/// Where the data begin.
 #[tactic(auto, using(crate::proofs::ImageLemmas::ends))]
 fn objects_start(codes: &[Code], linked: &Linked) -> u32
     requires { FitsBelow (program linked.now) codes.now }

@@ -29,7 +29,7 @@ use std::alloc::{AllocError, Global};
 use vcode::function::{LFunc, VFunc};
 use whole_words::copies::copy_whole_words;
 
-// By this certificate where it is right, else with every register in a slot of its own.
+/// By this certificate where it is right, else with every register in a slot of its own.
 fn certified(
     alloc: Global,
     function: &VFunc,

@@ -34,7 +34,7 @@ use Rattle.vcode.specs.Step.{State, begin, value_of, read, read_result, read_all
 use Rattle.vcode.proofs.Lists.{head_at, tail_at, nothing_at, same_some}
 use Rattle.vcode.specs.Replaced.{Replacing, with_argument, with_line, with_jump}
 use Rattle.vcode.proofs.SameReads.{SameValue, SameArguments, address_same, two_same, args_same, calls_same}
-use Rattle.vcode.proofs.Going.{OnNext, OnEvent, Relation, event_self, event_more}
+use Rattle.vcode.proofs.Going.{OnNext, OnEvent, Relation, StartsWith, event_more, one_event, jump_starts}
 use Rattle.vcode.proofs.Stepping.{step_line, step_jump, step_nowhere}
 use Rattle.cfg_live.specs.Registers.{line_writes}
 use Rattle.read_copies.specs.declared.known.KnownCopy.{KnownCopy}
@@ -293,34 +293,10 @@ at_start v w blocks s zero_next =
       };
     }
 
-jump_starts : (globals : List Value) (result : Option Class) (s : State ℕ) (j : Jump ℕ) → OnEvent (λ u. u.next ≡ 0) (jump_step globals result s j)
-unfolding jump_step
-jump_starts globals result s (Goto k) = refl
-jump_starts globals result s (Branch on met otherwise) = by (compared globals s on)
-  where
-    by : (o : Option Value) → OnEvent (λ u. u.next ≡ 0) (branches s met otherwise o)
-    by None = tt
-    by (Some (Integer k)) = refl
-    by (Some (Pointer b k)) = tt
-    by (Some (Function g)) = tt
-jump_starts globals result s (Return None) = tt
-jump_starts globals None s (Return (Some a)) = tt
-jump_starts globals (Some k) s (Return (Some a)) = by (read_result globals s.values k a)
-  where
-    by : (o : Option Value) → OnEvent (λ u. u.next ≡ 0) (returns s o)
-    by None = tt
-    by (Some v) = tt
-jump_starts globals result s Halt = tt
-
 -- ---- a step
 
 abbrev Beside : (v w : Code ℕ) (globals : List Value) (i : Given) (s : State ℕ) → Type 0
 Beside v w globals i s = Together (Related v w) Fine (step virtual globals v i s) (step virtual globals w i s)
-
-one_event : (related : Relation) (x y e : Event (State ℕ) Asked Outcome) → x ≡ e → y ≡ e → OnEvent (λ u. related u u) e → Together related Fine x y
-one_event related x y e a b h =
-    subst (λ (z : Event (State ℕ) Asked Outcome). Together related Fine z y) (sym a)
-    (subst (λ (z : Event (State ℕ) Asked Outcome). Together related Fine e z) (sym b) (event_self related e h))
 
 jump_beside : (v w : Code ℕ) (globals : List Value) (i : Given) (s : State ℕ) (b c : Block ℕ) (copies : List KnownCopy) → w.blocks ≡ map reading_block v.blocks → w.result ≡ v.result
     → slice_get v.blocks s.block ≡ Some b → slice_get w.blocks s.block ≡ Some c → drop s.next b.lines ≡ [] → drop s.next c.lines ≡ [] → c.jump ≡ with_jump (read_by copies) b.jump → AreTrue s.values copies
@@ -330,7 +306,7 @@ jump_beside v w globals i s b c copies blocks result at found ahead ahead2 is kn
     (step_jump virtual globals v i s b at (nothing_at b.lines s.next ahead))
     (step_jump virtual globals w i s c found (nothing_at c.lines s.next ahead2) ∙ ap (λ (r : Option Class). jump_step globals r s c.jump) result ∙ ap (jump_step globals v.result s) is
     ∙ jump_same globals v.result s (read_by copies) (operand_same globals s.values copies known) b.jump)
-    (event_more (λ u. u.next ≡ 0) (λ u. Related v w u u) (λ u e. at_start v w blocks u e) (jump_step globals v.result s b.jump) (jump_starts globals v.result s b.jump))
+    (event_more (StartsWith s) (λ u. Related v w u u) (λ u starts. at_start v w blocks u starts.first) (jump_step globals v.result s b.jump) (jump_starts globals v.result s b.jump))
 
 line_beside : (v w : Code ℕ) (globals : List Value) (i : Given) (s : State ℕ) (b c : Block ℕ) (copies : List KnownCopy) (l m : Line ℕ) (left : List (Line ℕ)) → m ≡ with_line (read_by copies) l
     → slice_get v.blocks s.block ≡ Some b → slice_get w.blocks s.block ≡ Some c → drop s.next b.lines ≡ l ∷ left → drop s.next c.lines ≡ m ∷ reading_lines (after m copies) left

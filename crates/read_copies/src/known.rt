@@ -20,7 +20,7 @@ pub(crate) struct Known {
     copies: Vec<KnownCopy>,
 }
 
-// The first copy of the register, or itself where none is known.
+/// The first copy of the register, or itself where none is known.
 fn copy_of(known: &[KnownCopy], register: u32) -> u32
     ensures { result ≡ copy_of known.now register }
 {
@@ -32,14 +32,14 @@ fn copy_of(known: &[KnownCopy], register: u32) -> u32
     register
 }
 
-// The copies that a write to the register leaves.
+/// The copies that a write to the register leaves.
 fn forget(known: &mut Vec<KnownCopy>, register: u32)
     ensures { known.new.items ≡ filter (survives register) known.old.items }
 {
     known.retain(|pair| pair.source != register && pair.copy != register);
 }
 
-// The copy that a line makes.
+/// The copy that a line makes.
 fn made_by(line: &Line<u32>) -> Option<KnownCopy>
     ensures { result ≡ made_by line.now }
 {
@@ -61,7 +61,7 @@ fn made_by(line: &Line<u32>) -> Option<KnownCopy>
     }
 }
 
-// One copy more, if few are known.
+/// One copy more, if few are known.
 fn note(known: &mut Vec<KnownCopy>, made: Option<KnownCopy>) -> Result<(), AllocError>
     ensures { OnOk result (known.new.items ≡ with_copy made known.old.items) }
 {

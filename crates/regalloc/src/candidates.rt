@@ -40,7 +40,7 @@ pub(crate) struct Candidate {
     pub(crate) hint: Option<u8>,
 }
 
-// What all of these registers are used for.
+/// What all of these registers are used for.
 fn demand_of(demands: &[Demand], members: &[u32]) -> Demand {
     let mut all = Demand::none();
     for register in members {
@@ -161,7 +161,7 @@ pub(crate) fn singles(
     Ok(singles)
 }
 
-// What the registers that have no register of the machine yet are used for; none where all have one.
+/// What the registers that have no register of the machine yet are used for; none where all have one.
 fn left_over(list: &[Location], demands: &[Demand], members: &[u32]) -> Option<Demand> {
     let mut all: Option<Demand> = None;
     for register in members {

@@ -6,10 +6,10 @@ use vcode::cost::is_immediate;
 use vcode::line::{Jump, Line, Operation};
 use vcode::place::Operand;
 
-// What a move costs wherever its places are.
+/// What a move costs wherever its places are.
 const MOVE: u64 = 6;
 
-// What a unit of weight pays for.
+/// What a unit of weight pays for.
 const UNIT: u64 = 32;
 
 /// What is left of the ticks of all blocks: the moves that are paid for from each point on, and not before it.
@@ -40,7 +40,7 @@ fn operation_cost(operation: Operation) -> u64 {
     }
 }
 
-// At most what the line costs with any places.
+/// At most what the line costs with any places.
 fn line_cost(line: &Line<u32>) -> u64 {
     match line {
         Line::Tick { .. } => 0,
@@ -69,7 +69,7 @@ fn jump_cost(jump: &Jump<u32>) -> u64 {
     }
 }
 
-// The credit behind a line, which is noted unless the line is a tick.
+/// The credit behind a line, which is noted unless the line is a tick.
 fn spend(left: &mut Vec<u64>, credit: u64, line: &Line<u32>) -> Result<u64, AllocError> {
     match line {
         Line::Tick { weight, .. } => {
@@ -83,7 +83,7 @@ fn spend(left: &mut Vec<u64>, credit: u64, line: &Line<u32>) -> Result<u64, Allo
     }
 }
 
-// The credit behind each point of the block.
+/// The credit behind each point of the block.
 fn spend_block(left: &mut Vec<u64>, block: &Block<u32>) -> Result<(), AllocError> {
     let mut credit = 0u64;
     for line in block.lines.as_slice() {
@@ -101,7 +101,7 @@ fn spend_blocks(alloc: Global, blocks: &[Block<u32>]) -> Result<Vec<u64>, AllocE
     Ok(left)
 }
 
-// A move before a point must be paid for there and at all points behind it: the least credit of those.
+/// A move before a point must be paid for there and at all points behind it: the least credit of those.
 fn settle(left: &mut [u64], stretch: Stretch) {
     let mut least = u64::MAX;
     for back in 0..stretch.jump.saturating_sub(stretch.first).saturating_add(1) {
@@ -153,7 +153,7 @@ pub(crate) fn credit_of(
 }
 
 impl Credit {
-    // A point before this one that may pay for something; the way there is shortened.
+    /// A point before this one that may pay for something; the way there is shortened.
     fn step(&mut self, point: usize) -> Option<usize> {
         let before = self.before.get(point).copied().flatten()?;
         let over = self.before.get(before).copied().flatten();
@@ -166,7 +166,7 @@ impl Credit {
         Some(before)
     }
 
-    // Whether the point itself paid for a move.
+    /// Whether the point itself paid for a move.
     fn pay_at(&mut self, point: usize) -> bool {
         match self.moves.get_mut(point) {
             Some(moves) => {

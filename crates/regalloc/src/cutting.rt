@@ -54,7 +54,7 @@ impl Cutter {
 
 // ---- regions
 
-// The register that is cut, and what is known.
+/// The register that is cut, and what is known.
 #[derive(Clone, Copy)]
 struct Subject<'a> {
     facts: &'a Facts,
@@ -88,7 +88,7 @@ fn view<'a>(subject: Subject<'a>, leaders: &'a [Option<usize>]) -> View<'a> {
     }
 }
 
-// A register of the machine for the region, if one is free and saves something.
+/// A register of the machine for the region, if one is free and saves something.
 fn give_region(
     alloc: Global,
     view: View,
@@ -115,7 +115,7 @@ fn give_region(
     give(view, nodes, members, k, is_saved)
 }
 
-// The number behind the members of the region that begins at this one.
+/// The number behind the members of the region that begins at this one.
 fn region_end(members: &[Member], first: usize) -> usize {
     let leader = match members.get(first) {
         Some(member) => member.leader,
@@ -167,7 +167,7 @@ fn give_within(
 
 // ---- registers
 
-// In how many loops a part lies, at most, that the register is accessed in and that has no register of the machine.
+/// In how many loops a part lies, at most, that the register is accessed in and that has no register of the machine.
 fn depth_left(subject: Subject, nodes: &Nodes) -> Option<u32> {
     let mut depth: Option<u32> = None;
     for node in nodes.list.iter() {
@@ -185,10 +185,10 @@ fn depth_left(subject: Subject, nodes: &Nodes) -> Option<u32> {
     depth
 }
 
-// How many loops around one another are looked at, at most.
+/// How many loops around one another are looked at, at most.
 const LOOPS: u32 = 8;
 
-// All of the lifetime at once; else what lies in loops, the outer ones first; else what is accessed, and at last each part alone.
+/// All of the lifetime at once; else what lies in loops, the outer ones first; else what is accessed, and at last each part alone.
 fn give_all(
     alloc: Global,
     subject: Subject,
@@ -223,7 +223,7 @@ fn pay_all(credit: &mut Credit, moves: &[Move]) -> bool {
     true
 }
 
-// Parameters come once: where blocks lead back to the first one, they aren't cut.
+/// Parameters come once: where blocks lead back to the first one, they aren't cut.
 fn may_be_cut(subject: Subject) -> bool {
     let is_param = match subject
         .facts
@@ -237,7 +237,7 @@ fn may_be_cut(subject: Subject) -> bool {
     !is_param || subject.facts.text.sources(0).is_empty()
 }
 
-// Cuts the register, if the moves are paid for.
+/// Cuts the register, if the moves are paid for.
 fn cut(
     alloc: Global,
     cutter: &mut Cutter,
@@ -327,7 +327,7 @@ fn best_of(
     Ok(best)
 }
 
-// What accesses cost in the slot, and those of them that would cost nothing in the one register that the value comes in.
+/// What accesses cost in the slot, and those of them that would cost nothing in the one register that the value comes in.
 fn costs(accesses: &[Access]) -> (u64, u64) {
     let mut all = 0u64;
     let mut through = 0u64;
@@ -340,7 +340,7 @@ fn costs(accesses: &[Access]) -> (u64, u64) {
     (all, through)
 }
 
-// How much more the register costs, in half instructions, if it is cut and finds what it wants, than in a register that callees keep.
+/// How much more the register costs, in half instructions, if it is cut and finds what it wants, than in a register that callees keep.
 fn cut_costs_over_kept(
     alloc: Global,
     nodes: &mut Nodes,

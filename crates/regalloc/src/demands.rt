@@ -51,7 +51,7 @@ impl Demand {
 }
 
 impl Hint {
-    // The same register with both weights, or the one that weighs more.
+    /// The same register with both weights, or the one that weighs more.
     fn joined(self, other: Hint) -> Hint {
         if self.argument == other.argument {
             Hint {
@@ -83,7 +83,7 @@ pub(crate) struct Demands {
     pub(crate) accesses: Accesses,
 }
 
-// What is found on the way through the text.
+/// What is found on the way through the text.
 #[derive(Drop)]
 struct Counting {
     registers: Vec<Demand>,
@@ -119,7 +119,7 @@ fn add(counting: &mut Counting, register: u32, kind: Kind, weight: u64) -> Resul
     push_access(counting, register, kind, weight, 0)
 }
 
-// It goes through the register of this argument, so often.
+/// It goes through the register of this argument, so often.
 fn add_hint(counting: &mut Counting, register: u32, argument: u8, weight: u64) {
     match counting.registers.get_mut(register as usize) {
         Some(demand) => demand.hint = demand.hint.joined(Hint { argument, weight }),
@@ -127,7 +127,7 @@ fn add_hint(counting: &mut Counting, register: u32, argument: u8, weight: u64) {
     }
 }
 
-// The number of an argument, where 8 stands for all that are passed on the stack.
+/// The number of an argument, where 8 stands for all that are passed on the stack.
 fn number_of(k: usize) -> u8
     ensures { result ≤ 8 }
 {
@@ -141,7 +141,7 @@ fn read(counting: &mut Counting, operand: &Operand<u32>, weight: u64) -> Result<
     }
 }
 
-// What is read to where any place reaches it as well as another.
+/// What is read to where any place reaches it as well as another.
 fn pass(
     counting: &mut Counting,
     operand: &Operand<u32>,
@@ -192,7 +192,7 @@ fn params(counting: &mut Counting, params: &[Destination<u32>]) -> Result<(), Al
     Ok(())
 }
 
-// Results are where the first argument is.
+/// Results are where the first argument is.
 fn receive(
     counting: &mut Counting,
     to: &Option<Destination<u32>>,
@@ -219,7 +219,7 @@ fn jump(counting: &mut Counting, jump: &Jump<u32>, often: u64) -> Result<(), All
     }
 }
 
-// A copy takes one instruction where either is in a register of the machine, and none where both are in the same.
+/// A copy takes one instruction where either is in a register of the machine, and none where both are in the same.
 fn copy(
     counting: &mut Counting,
     to: u32,
@@ -241,7 +241,7 @@ fn copy(
     }
 }
 
-// What a call takes and gives, and what is copied in memory, takes one instruction to or from a register as well as a slot.
+/// What a call takes and gives, and what is copied in memory, takes one instruction to or from a register as well as a slot.
 fn line(counting: &mut Counting, line: &Line<u32>, often: u64) -> Result<(), AllocError> {
     let weight = often.saturating_mul(2);
     match line {
@@ -278,7 +278,7 @@ fn line(counting: &mut Counting, line: &Line<u32>, often: u64) -> Result<(), All
     }
 }
 
-// Counts the calls before the point behind one.
+/// Counts the calls before the point behind one.
 fn push_point(calls: &mut Vec<usize>, is_call: bool) -> Result<(), AllocError> {
     let before = match calls.last() {
         Some(before) => *before,

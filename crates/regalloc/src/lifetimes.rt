@@ -21,7 +21,7 @@ fn reach(ranges: &mut Vec<Range>, at: usize) {
     }
 }
 
-// Whether a position is in a range, or opens the block right behind it.
+/// Whether a position is in a range, or opens the block right behind it.
 fn joins(range: Option<&Range>, at: usize) -> bool {
     match range {
         Some(range) => at <= range.end || (at % 2 == 0 && at == range.end.saturating_add(1)),
@@ -38,7 +38,7 @@ fn begin(ranges: &mut Vec<Range>, at: usize) -> Result<(), AllocError> {
     Ok(())
 }
 
-// From there on the register is live.
+/// From there on the register is live.
 fn begin_at(lifetimes: &mut [Lifetime], register: u32, at: usize) -> Result<(), AllocError> {
     match lifetimes.get_mut(register as usize) {
         Some(lifetime) => begin(&mut lifetime.ranges, at),
@@ -46,7 +46,7 @@ fn begin_at(lifetimes: &mut [Lifetime], register: u32, at: usize) -> Result<(), 
     }
 }
 
-// Up to there the register is live.
+/// Up to there the register is live.
 fn reach_at(lifetimes: &mut [Lifetime], register: u32, at: usize) {
     match lifetimes.get_mut(register as usize) {
         Some(lifetime) => reach(&mut lifetime.ranges, at),
@@ -61,7 +61,7 @@ fn begin_params(lifetimes: &mut [Lifetime], params: &[Destination<u32>]) -> Resu
     Ok(())
 }
 
-// What is live where a block begins.
+/// What is live where a block begins.
 fn begin_all(
     lifetimes: &mut [Lifetime],
     registers: &[u32],
@@ -86,7 +86,7 @@ fn reach_target(lifetimes: &mut [Lifetime], starts: &Starts, target: Option<usiz
     }
 }
 
-// What is live at a jump is so up to the end of its block: what it reads, and what is live where it leads to.
+/// What is live at a jump is so up to the end of its block: what it reads, and what is live where it leads to.
 fn reach_jump(lifetimes: &mut [Lifetime], points: &[Uses], starts: &Starts, stretch: Stretch) {
     let end = right_after(stretch.jump);
     match points.get(stretch.jump) {
@@ -148,7 +148,7 @@ fn use_blocks(
     Ok(())
 }
 
-// All positions for a register that has a value throughout, none yet for any other.
+/// All positions for a register that has a value throughout, none yet for any other.
 fn first_ranges(alloc: Global, is_throughout: bool, end: usize) -> Result<Vec<Range>, AllocError> {
     let mut ranges = Vec::new(alloc);
     if is_throughout {

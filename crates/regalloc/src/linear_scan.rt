@@ -39,11 +39,11 @@ impl LinearScan {
     }
 }
 
-// The live registers that certificates name where blocks begin, for each line and jump, at most. What is live at more starts of blocks than that allows is taken
-// to have a value throughout, and is named once.
+/// The live registers that certificates name where blocks begin, for each line and jump, at most. What is live at more starts of blocks than that allows is taken
+/// to have a value throughout, and is named once.
 const LIVE_A_LINE: usize = 32;
 
-// How many registers of the machine there are: x5 to x27. Those come first that callees need not keep, and of these x17 to x10.
+/// How many registers of the machine there are: x5 to x27. Those come first that callees need not keep, and of these x17 to x10.
 const MACHINE: usize = 23;
 
 /// The k-th of them.
@@ -82,7 +82,7 @@ fn set_all(list: &mut [Location], registers: u32, members: &[u32], place: Locati
     }
 }
 
-// The k-th room for the registers of the group.
+/// The k-th room for the registers of the group.
 fn take(list: &mut [Location], registers: u32, rooms: &mut [Room], k: usize, group: &Group)
     requires { list_all (is_place registers) list.old ≡ true }
     ensures places { list_all (is_place registers) list.new ≡ true }
@@ -102,7 +102,7 @@ fn take_room(rooms: &mut [Room], k: usize, group: &Group) {
     }
 }
 
-// What registers of the machine are given by.
+/// What registers of the machine are given by.
 #[derive(Clone, Copy)]
 struct Ground<'a> {
     facts: &'a Facts,
@@ -110,14 +110,14 @@ struct Ground<'a> {
     groups: &'a [Group],
 }
 
-// Whether some of the registers has a value throughout. Those aren't cut.
+/// Whether some of the registers has a value throughout. Those aren't cut.
 fn is_throughout(facts: &Facts, members: &[u32]) -> bool {
     members
         .iter()
         .any(|register| facts.starts.is_throughout(*register))
 }
 
-// The register of the machine for a candidate; none where cutting it costs less.
+/// The register of the machine for a candidate; none where cutting it costs less.
 fn choice(
     alloc: Global,
     rooms: &[Room],
@@ -180,7 +180,7 @@ fn place_all(
     Ok(())
 }
 
-// Those that have no register of the machine yet stand in the slot.
+/// Those that have no register of the machine yet stand in the slot.
 fn stand(list: &mut [Location], registers: u32, members: &[u32], slot: u32)
     requires low { slot < registers }
     requires places { list_all (is_place registers) list.old ≡ true }
@@ -236,7 +236,7 @@ fn give_slots(
     }
 }
 
-// Registers of the machine for groups, then for single registers of those that got none, and slots for what is left; that is cut where it can be.
+/// Registers of the machine for groups, then for single registers of those that got none, and slots for what is left; that is cut where it can be.
 fn place_in(
     alloc: Global,
     list: &mut [Location],
@@ -299,7 +299,7 @@ fn place_in(
     cutter.finish()
 }
 
-// What is to be known of the function.
+/// What is to be known of the function.
 fn facts(
     alloc: Global,
     function: &VFunc,
@@ -333,7 +333,7 @@ fn facts(
     })
 }
 
-// Each register in its slot.
+/// Each register in its slot.
 #[tactic(auto, using(crate::proofs::Standing::slots_stand, crate::proofs::Standing::slots_count))]
 fn all_in_slots(alloc: Global, registers: u32) -> Result<Vec<Location>, AllocError>
     ensures places { IfOk result (λ v. list_all (is_place registers) v.items ≡ true) }

@@ -71,7 +71,7 @@ impl Node {
     }
 }
 
-// What is to be known of the register and of the function.
+/// What is to be known of the register and of the function.
 #[derive(Clone, Copy)]
 struct Ground<'a> {
     text: &'a Text,
@@ -79,7 +79,7 @@ struct Ground<'a> {
     accesses: &'a [Access],
 }
 
-// A range of the register, as far as it is in a block.
+/// A range of the register, as far as it is in a block.
 #[derive(Clone, Copy)]
 struct Piece {
     block: usize,
@@ -127,7 +127,7 @@ fn empty_node(piece: Piece, first: usize) -> Node {
     }
 }
 
-// The part that begins with this access, of that number.
+/// The part that begins with this access, of that number.
 fn node_from(piece: Piece, number: usize, access: &Access) -> Node {
     Node {
         from: access.position(),
@@ -137,7 +137,7 @@ fn node_from(piece: Piece, number: usize, access: &Access) -> Node {
     }
 }
 
-// One more access of the piece: it belongs to the last part, or there was a call.
+/// One more access of the piece: it belongs to the last part, or there was a call.
 fn push_access(
     ground: Ground,
     nodes: &mut Nodes,
@@ -177,7 +177,7 @@ fn push_access(
     }
 }
 
-// The last part of the piece, or a block that the register passes through.
+/// The last part of the piece, or a block that the register passes through.
 fn close(
     ground: Ground,
     nodes: &mut Nodes,
@@ -217,7 +217,7 @@ fn close(
     }
 }
 
-// The parts of a piece whose first access has that number, or would have it; answers the number behind its last access.
+/// The parts of a piece whose first access has that number, or would have it; answers the number behind its last access.
 fn push_piece(
     ground: Ground,
     nodes: &mut Nodes,
@@ -238,7 +238,7 @@ fn push_piece(
     Ok(number)
 }
 
-// The range as far as it is in the block.
+/// The range as far as it is in the block.
 fn piece_in(block: usize, stretch: Stretch, range: Range) -> Piece {
     let start = right_before(stretch.first);
     let end = right_after(stretch.jump);
@@ -274,12 +274,12 @@ fn push_range(
     Ok(number)
 }
 
-// Whether the register is read and written at one point, where the first range ends and the second begins.
+/// Whether the register is read and written at one point, where the first range ends and the second begins.
 fn is_one(left: Range, right: Range) -> bool {
     right.start % 2 == 1 && right.start == left.end.saturating_add(1)
 }
 
-// All ranges; those that one point joins are one, so that the register has one place there.
+/// All ranges; those that one point joins are one, so that the register has one place there.
 fn push_ranges(ground: Ground, nodes: &mut Nodes, ranges: &[Range]) -> Result<(), AllocError> {
     let mut number = 0usize;
     let mut open: Option<Range> = None;
@@ -308,7 +308,7 @@ fn push_ranges(ground: Ground, nodes: &mut Nodes, ranges: &[Range]) -> Result<()
     }
 }
 
-// A part at the end of a block that is only passed through, and isn't known to be wanted.
+/// A part at the end of a block that is only passed through, and isn't known to be wanted.
 fn new_passed(nodes: &Nodes, wanted: &[bool], block: usize) -> Option<usize> {
     let number = nodes.leaving.get(block).copied().flatten()?;
     let node = nodes.list.get(number)?;
@@ -319,7 +319,7 @@ fn new_passed(nodes: &Nodes, wanted: &[bool], block: usize) -> Option<usize> {
     }
 }
 
-// The parts that lead to this block are wanted.
+/// The parts that lead to this block are wanted.
 fn want_sources(
     text: &Text,
     nodes: &Nodes,
@@ -342,7 +342,7 @@ fn want_sources(
     Ok(())
 }
 
-// Those that an access may come behind, without one between. Each is found once.
+/// Those that an access may come behind, without one between. Each is found once.
 fn wanted_nodes(alloc: Global, text: &Text, nodes: &Nodes) -> Result<Vec<bool>, AllocError> {
     let mut wanted = Vec::new(alloc);
     let mut open = Vec::new(alloc);
@@ -368,7 +368,7 @@ fn forget(list: &mut [Option<usize>], block: usize) {
     }
 }
 
-// A part that no access comes behind isn't worth a register of the machine.
+/// A part that no access comes behind isn't worth a register of the machine.
 fn drop_unwanted(nodes: &mut Nodes, wanted: &[bool]) {
     for (number, node) in nodes.list.iter_mut().enumerate() {
         if wanted.get(number) != Some(&true) {

@@ -78,7 +78,7 @@ impl Balance {
         !self.has_new || self.eager < self.lazy
     }
 
-    // What saving costs.
+    /// What saving costs.
     fn stores(&self) -> u64 {
         if !self.has_new {
             0
@@ -118,7 +118,7 @@ fn is_eligible(text: &Text, node: &Node, reach: Reach) -> bool {
     }
 }
 
-// The part that names the region of this one, and the way there is shortened.
+/// The part that names the region of this one, and the way there is shortened.
 fn leader_of(leaders: &mut [Option<usize>], number: usize) -> Option<usize> {
     let mut at = number;
     for _ in 0..leaders.len() {
@@ -260,7 +260,7 @@ impl<'a> View<'a> {
     }
 }
 
-// How often the blocks run together that lead to this one and don't end with a part of the region; none where they all don't.
+/// How often the blocks run together that lead to this one and don't end with a part of the region; none where they all don't.
 fn outside(view: View, nodes: &Nodes, leader: usize, block: usize) -> Option<u64> {
     let mut often = 0u64;
     let mut is_met = false;
@@ -299,7 +299,7 @@ pub(crate) fn enter_all(view: View, nodes: &mut Nodes, members: &[Member]) {
     }
 }
 
-// Whether the block begins in the region.
+/// Whether the block begins in the region.
 fn is_met(view: View, nodes: &Nodes, leader: usize, block: usize) -> bool {
     let number = nodes.entering(block);
     view.is_inside(number, leader)
@@ -325,7 +325,7 @@ pub(crate) enum Exit {
     Slot,
 }
 
-// Whether the block ends with the value in the register of the machine.
+/// Whether the block ends with the value in the register of the machine.
 fn is_brought(view: View, nodes: &Nodes, leader: usize, block: usize) -> bool {
     let number = nodes.leaving(block);
     view.is_inside(number, leader)
@@ -365,14 +365,14 @@ fn exit_of(view: View, nodes: &Nodes, leader: usize, from: usize, to: Option<usi
     }
 }
 
-// Whether some way on needs no slot.
+/// Whether some way on needs no slot.
 fn spares_one(exits: [Exit; 2], stretch: Stretch) -> bool {
     let next = exits[0] == Exit::Gone || exits[0] == Exit::Met;
     let other = exits[1] == Exit::Gone || exits[1] == Exit::Met;
     next || (other && stretch.other.is_some())
 }
 
-// A block that runs as often is no place to save the value.
+/// A block that runs as often is no place to save the value.
 fn before(view: View, exit: Exit, from: usize, to: Option<usize>) -> Exit {
     match (exit, to) {
         (Exit::Landing, Some(block)) => {
@@ -507,7 +507,7 @@ fn push_jump(ranges: &mut Vec<Range>, text: &Text, block: usize) -> Result<(), A
     }
 }
 
-// The ends of the blocks that the value is to be loaded in.
+/// The ends of the blocks that the value is to be loaded in.
 fn push_outside(
     ranges: &mut Vec<Range>,
     view: View,
@@ -542,7 +542,7 @@ fn push_landing(
     }
 }
 
-// The positions of the part itself.
+/// The positions of the part itself.
 fn own_range(view: View, node: &Node, is_held: bool) -> Range {
     let (first, jump) = match view.text.stretch(node.block) {
         Some(stretch) => (stretch.first, stretch.jump),

@@ -13,7 +13,7 @@ pub(crate) struct Room {
     pub(crate) is_used: bool,
 }
 
-// The bits of the k-th word that belong to positions of the range.
+/// The bits of the k-th word that belong to positions of the range.
 fn mask(range: Range, k: usize) -> u64 {
     let low = if range.start / 64 == k {
         u64::MAX << (range.start % 64)
@@ -96,17 +96,17 @@ pub(crate) fn rooms(alloc: Global, count: usize, points: usize) -> Result<Vec<Ro
     Ok(rooms)
 }
 
-// The first eight are those of arguments, the last argument's first; and the first eleven are not kept by callees.
+/// The first eight are those of arguments, the last argument's first; and the first eleven are not kept by callees.
 fn may_hold(k: usize, candidate: &Candidate) -> bool {
     11 <= k || !candidate.over_call
 }
 
-// The register that saves moves, by the number of its argument.
+/// The register that saves moves, by the number of its argument.
 fn hinted(hint: u8) -> usize {
     7usize.saturating_sub(usize::from(hint))
 }
 
-// The register that the candidate would save moves in, if it may stand there.
+/// The register that the candidate would save moves in, if it may stand there.
 fn room_by_hint(rooms: &[Room], candidate: &Candidate, ranges: &[Range]) -> Option<usize> {
     let k = hinted(candidate.hint?);
     let room = rooms.get(k)?;
@@ -147,7 +147,7 @@ pub(crate) fn room_for(rooms: &[Room], candidate: &Candidate, ranges: &[Range]) 
     unused
 }
 
-// The register that the value comes in, if it is free.
+/// The register that the value comes in, if it is free.
 fn part_by_hint(rooms: &[Room], hint: Option<u8>, ranges: &[Range]) -> Option<usize> {
     let k = hinted(hint?);
     if rooms.get(k)?.is_free(ranges) {

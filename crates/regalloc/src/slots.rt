@@ -12,7 +12,7 @@ pub(crate) struct Wish {
     pub(crate) is_param: bool,
 }
 
-// A group's slot is taken where its first range starts, and free again behind its last one. What is free at a position comes before what is taken there.
+/// A group's slot is taken where its first range starts, and free again behind its last one. What is free at a position comes before what is taken there.
 #[derive(Clone, Copy, PartialEq, Eq, PartialOrd, Ord)]
 struct Event {
     at: usize,
@@ -20,7 +20,7 @@ struct Event {
     wish: usize,
 }
 
-// A slot with all that stands in it. The one with the largest key gets the lowest number.
+/// A slot with all that stands in it. The one with the largest key gets the lowest number.
 #[derive(Clone, Copy, PartialEq, Eq, PartialOrd, Ord)]
 struct Shared {
     has_param: bool,
@@ -73,7 +73,7 @@ struct Sharing {
     slots: Vec<usize>,
 }
 
-// A slot that is free, or one more.
+/// A slot that is free, or one more.
 fn free_slot(sharing: &mut Sharing) -> Result<usize, AllocError> {
     match sharing.free.pop() {
         Some(slot) => Ok(slot),
@@ -128,7 +128,7 @@ fn follow_all(sharing: &mut Sharing, wishes: &[Wish], events: &[Event]) -> Resul
     Ok(())
 }
 
-// For each slot its number: those of parameters first, the busiest first.
+/// For each slot its number: those of parameters first, the busiest first.
 fn numbers(alloc: Global, sharing: &mut Sharing) -> Result<Vec<usize>, AllocError> {
     let mut numbers = Vec::new(alloc);
     numbers.resize(sharing.shared.len(), 0usize)?;

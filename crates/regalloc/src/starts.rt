@@ -47,14 +47,14 @@ pub(crate) struct Ground<'a> {
     pub(crate) live_a_line: usize,
 }
 
-// A register is live where a block begins.
+/// A register is live where a block begins.
 #[derive(Clone, Copy)]
 struct Start {
     block: usize,
     register: u32,
 }
 
-// What is found, register by register.
+/// What is found, register by register.
 #[derive(Drop)]
 struct Search {
     starts: Vec<Start>,
@@ -82,7 +82,7 @@ fn is_live(ground: Ground, block: usize, register: u32) -> bool {
     }
 }
 
-// Notes the block, if the register is live where it begins and that wasn't found yet.
+/// Notes the block, if the register is live where it begins and that wasn't found yet.
 fn find(
     search: &mut Search,
     ground: Ground,
@@ -102,7 +102,7 @@ fn find(
     Ok(())
 }
 
-// The blocks that the register is read in.
+/// The blocks that the register is read in.
 fn find_reads(search: &mut Search, ground: Ground, register: u32) -> Result<(), AllocError> {
     for access in ground.accesses.of(register) {
         if access.kind == Kind::Read {
@@ -112,7 +112,7 @@ fn find_reads(search: &mut Search, ground: Ground, register: u32) -> Result<(), 
     Ok(())
 }
 
-// The blocks that lead to this one, as long as no more are found than that.
+/// The blocks that lead to this one, as long as no more are found than that.
 fn find_sources(
     search: &mut Search,
     ground: Ground,
@@ -128,7 +128,7 @@ fn find_sources(
     Ok(())
 }
 
-// Finds the register where blocks begin, back from where it is read; says whether that is at so many blocks at most.
+/// Finds the register where blocks begin, back from where it is read; says whether that is at so many blocks at most.
 fn find_all(
     search: &mut Search,
     ground: Ground,
@@ -147,7 +147,7 @@ fn find_all(
     Ok(search.starts.len() <= end)
 }
 
-// Finds all registers; says whether that is no more than so many altogether.
+/// Finds all registers; says whether that is no more than so many altogether.
 fn find_within(search: &mut Search, ground: Ground, most: usize) -> Result<bool, AllocError> {
     for register in 0..ground.registers {
         let left = most.saturating_sub(search.starts.len());
@@ -159,7 +159,7 @@ fn find_within(search: &mut Search, ground: Ground, most: usize) -> Result<bool,
     Ok(true)
 }
 
-// Finds the registers that are live at so many blocks at most; the others are taken to have values throughout.
+/// Finds the registers that are live at so many blocks at most; the others are taken to have values throughout.
 fn find_few(search: &mut Search, ground: Ground, each: usize) -> Result<(), AllocError> {
     for register in 0..ground.registers {
         let first = search.starts.len();
@@ -172,7 +172,7 @@ fn find_few(search: &mut Search, ground: Ground, each: usize) -> Result<(), Allo
     Ok(())
 }
 
-// How many lines and jumps there are, ticks included.
+/// How many lines and jumps there are, ticks included.
 fn line_count(blocks: &[Block<u32>]) -> usize {
     let mut count = 0usize;
     for block in blocks {
@@ -201,7 +201,7 @@ fn add_one(counts: &mut [usize], at: usize) {
     }
 }
 
-// For each block how many registers are live where it or a block before it begins.
+/// For each block how many registers are live where it or a block before it begins.
 fn ends(alloc: Global, starts: &[Start], blocks: usize) -> Result<Vec<usize>, AllocError> {
     let mut ends = Vec::new(alloc);
     ends.resize(blocks, 0usize)?;
@@ -216,7 +216,7 @@ fn ends(alloc: Global, starts: &[Start], blocks: usize) -> Result<Vec<usize>, Al
     Ok(ends)
 }
 
-// Puts the register before those that the block has already.
+/// Puts the register before those that the block has already.
 fn place(list: &mut [u32], firsts: &mut [usize], start: Start) {
     match firsts.get_mut(start.block) {
         Some(first) => {

@@ -51,7 +51,7 @@ fn push_at(
 
 // ---- points
 
-// Where the register is at a point with these stays.
+/// Where the register is at a point with these stays.
 fn place_at(list: &[Location], registers: u32, stays: &[Stay], register: u32) -> Option<Location>
     requires { list_all (is_place registers) list.now ≡ true }
     ensures { IfSome result (λ q. is_place registers q ≡ true) }
@@ -70,7 +70,7 @@ fn has(equalities: &[Equality], register: u32) -> bool {
         .any(|equality| equality.register == register)
 }
 
-// Adds it once.
+/// Adds it once.
 fn push_once(
     equalities: &mut Seq<Equality>,
     list: &[Location],
@@ -106,7 +106,7 @@ fn push_reads(
     Ok(())
 }
 
-// The places of the registers that a point names, each once.
+/// The places of the registers that a point names, each once.
 fn places_of(
     alloc: Global,
     list: &[Location],
@@ -132,7 +132,7 @@ fn places_of(
     Ok(equalities)
 }
 
-// The number behind the stays at a point, the first of which has this number.
+/// The number behind the stays at a point, the first of which has this number.
 fn stays_end(stays: &[Stay], first: usize, point: usize) -> usize {
     let mut end = first;
     for stay in rest(stays, first) {
@@ -210,7 +210,7 @@ fn push_move(
     }
 }
 
-// The moves before a point, each once.
+/// The moves before a point, each once.
 fn moves_of(
     alloc: Global,
     list: &[Location],
@@ -266,7 +266,7 @@ fn push_moves(
 
 // ---- starts of blocks
 
-// The first of these registers, if it is that one and the block is this one.
+/// The first of these registers, if it is that one and the block is this one.
 fn begin_at(begins: &[Begin], first: usize, block: usize, register: u32) -> Option<Begin> {
     let begin = begins.get(first).copied()?;
     if begin.block == block && begin.register == register {
@@ -276,7 +276,7 @@ fn begin_at(begins: &[Begin], first: usize, block: usize, register: u32) -> Opti
     }
 }
 
-// The number of the first one that comes neither before the block nor before the register in it.
+/// The number of the first one that comes neither before the block nor before the register in it.
 fn begins_from(begins: &[Begin], first: usize, block: usize, register: u32) -> usize {
     let mut from = first;
     for begin in rest(begins, first) {
@@ -288,7 +288,7 @@ fn begins_from(begins: &[Begin], first: usize, block: usize, register: u32) -> u
     from
 }
 
-// A register that is live, where it is.
+/// A register that is live, where it is.
 fn push_live(
     equalities: &mut Seq<Equality>,
     list: &[Location],
@@ -322,7 +322,7 @@ fn push_live(
     )
 }
 
-// What is live where the block begins; answers the number behind the begins that belong to it.
+/// What is live where the block begins; answers the number behind the begins that belong to it.
 fn push_start(
     equalities: &mut Seq<Equality>,
     list: &[Location],
@@ -370,7 +370,7 @@ fn push_starts(
 
 // ---- starts of all blocks
 
-// The registers that have values throughout, where they are.
+/// The registers that have values throughout, where they are.
 fn push_everywhere(
     equalities: &mut Seq<Equality>,
     list: &[Location],

@@ -92,3 +92,6 @@ pub const STACK_SIZE: u64 = 0x0080_0000;
 
 /// The lowest address of the stack.
 pub const STACK_BOTTOM: u64 = STACK_TOP - STACK_SIZE;
+
+/// The most bytes that the argument words and their list take, from the stack's top upward: what stands around 1,024 words of 65,536 bytes.
+pub const ARGUMENT_BYTES: u64 = 73_768;

@@ -1,4 +1,5 @@
 -- The argument range: how long it is, and that it is mapped.
+use Rattle.rv_isa.specs.declared.abi.TheConstants.{ARGUMENT_BYTES}
 use Rattle.std.proofs.Common.{◌≡◌, ℕ, ◌+◌, ◌*◌, ◌<◌, ◌≤◌, true, refl, sym, ◌∙◌, ap, subst, arith, List, [], ◌∷◌, ◌++◌, length, length-append}
 use Rattle.std.specs.Prelude.{◌&&◌, nat_le, nat_lt, Option, Some, None, replicate}
 use Rattle.std.specs.Int.{w64, to_le_bytes}
@@ -42,7 +43,7 @@ arguments_count ws h = leb-true (length ws) 1024 (and_parts _ _ (and_parts _ _ h
 pub arguments_size : (ws : List (List ℕ)) → are_arguments ws ≡ true → length (word_bytes ws) ≤ 65536
 arguments_size ws h = leb-true (length (word_bytes ws)) 65536 (and_parts _ _ (and_parts _ _ h).0).1
 
-pub arguments_fit : (ws : List (List ℕ)) → are_arguments ws ≡ true → length (argument_bytes ws) ≤ 73768
+pub arguments_fit : (ws : List (List ℕ)) → are_arguments ws ≡ true → length (argument_bytes ws) ≤ ARGUMENT_BYTES
 arguments_fit ws h = omega (arith, arguments_length ws, arguments_count ws h, arguments_size ws h)
 
 -- ---- permissions

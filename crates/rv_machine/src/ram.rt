@@ -1,5 +1,6 @@
 //! Memory as a machine needs it.
 
+ghost use Rattle.rv_isa.specs.declared.abi.TheConstants.{ARGUMENT_BYTES};
 ghost use Rattle.std.specs.Prelude.{◌≡◌, ℕ, ◌+◌, ◌≤◌, ◌^◌, Bool, true, IfOk, IfSome, OnOk, OnErr};
 ghost use Rattle.std.specs.Bool.{OnTrue, OnFalse};
 ghost use Rattle.rv_isa.specs.declared.permission.Permission.{Permission};
@@ -36,9 +37,9 @@ pub trait Ram: Drop {
     /// The memory at the start of a program: the segments of its file with their bytes and permissions, and the stack and `arguments` bytes from its
     /// top upward, which can be read and written and are 0. Nothing else is mapped.
     ///
-    /// `arguments` is at most 73,768. Fails only for want of memory.
+    /// `arguments` is at most [`ARGUMENT_BYTES`](rv_isa::abi::ARGUMENT_BYTES). Fails only for want of memory.
     fn of(alloc: Global, file: &Loaded, arguments: u64) -> Result<Self, AllocError>
-        requires { arguments ≤ 73768 }
+        requires { arguments ≤ ARGUMENT_BYTES }
         ensures permissions { IfOk result (λ r. permission_at r ≡ permission_in file.now arguments) }
         ensures bytes { IfOk result (λ r. byte_at r ≡ start_byte file.now) };
 

@@ -1,5 +1,6 @@
 //! The regions of a program's memory.
 
+ghost use Rattle.rv_isa.specs.declared.abi.TheConstants.{ARGUMENT_BYTES};
 ghost use Rattle.std.specs.Prelude.{◌≡◌, ℕ, ◌+◌, ◌≤◌, true, IfOk, length};
 ghost use Rattle.rv_machine.specs.Mapped.{permission_in, start_byte};
 ghost use Rattle.rv_machine.specs.Regions.{AllFull, IsStack, Shows, ShowsAll, region_byte, region_permission};
@@ -31,7 +32,7 @@ fn region_of(alloc: Global, segment: &Segment, whole: bool) -> Result<Region, Al
 
 /// The region of the stack and the argument bytes above it, with all its bytes where they are wanted `whole`.
 fn stack_region(alloc: Global, arguments: u64, whole: bool) -> Result<Region, AllocError>
-    requires { arguments ≤ 73768 }
+    requires { arguments ≤ ARGUMENT_BYTES }
     ensures shows { IfOk result (λ r. IsStack arguments r) }
     ensures full { whole ≡ true → IfOk result (λ r. length r.bytes.items ≡ r.size) }
 {
@@ -73,7 +74,7 @@ pub fn start_regions(
     arguments: u64,
     whole: bool,
 ) -> Result<Vec<Region>, AllocError>
-    requires { arguments ≤ 73768 }
+    requires { arguments ≤ ARGUMENT_BYTES }
     ensures permissions { IfOk result (λ v. (at : ℕ) → region_permission v.items at ≡ permission_in file.now arguments at) }
     ensures bytes { IfOk result (λ v. (at : ℕ) → region_byte v.items at ≡ start_byte file.now at) }
     ensures full { whole ≡ true → IfOk result (λ v. AllFull v.items) }

@@ -1,10 +1,15 @@
 -- Where an event goes on: what is to hold of each state in which it may.
-use Rattle.std.proofs.Common.{ℕ, refl}
+use Rattle.std.proofs.Common.{◌≡◌, ℕ, Option, Some, None, List, refl, sym, subst}
+use Rattle.il_ast.specs.declared.operation.Class.{Class}
+use Rattle.il_ast.specs.declared.value.Value.{Value}
+use Rattle.il_ast.specs.declared.value.Value.TheVariants.{Integer, Pointer, Function}
 use Rattle.il_ast.specs.Run.{Outcome}
 use Rattle.il_ast.specs.Logged.{Next, On, Over, Event, Does, Calls}
 use Rattle.il_ast.specs.Keeps.{Asked, Fine}
 use Rattle.il_ast.specs.Simulation.{TogetherNext, Together}
-use Rattle.vcode.specs.Step.{State}
+use Rattle.vcode.specs.declared.line.Jump.{Jump}
+use Rattle.vcode.specs.declared.line.Jump.TheVariants.{Goto, Branch, Return, Halt}
+use Rattle.vcode.specs.Step.{State, compared, branches, read_result, returns, jump_step}
 
 abbrev pub OnNext : (State ℕ → Type 0) → Next (State ℕ) Outcome → Type 0
 OnNext holds (On u) = holds u
@@ -34,3 +39,34 @@ next_more p q more (Over o) h = tt
 pub event_more : (p q : State ℕ → Type 0) → ((u : State ℕ) → p u → q u) → (e : Event (State ℕ) Asked Outcome) → OnEvent p e → OnEvent q e
 event_more p q more (Does n) h = next_more p q more n h
 event_more p q more (Calls i k) h = λ o. next_more p q more (k o) (h o)
+
+-- a code's event goes together with another's where both are one event, and each next state is related to itself
+pub one_event : (related : Relation) (x y e : Event (State ℕ) Asked Outcome) → x ≡ e → y ≡ e → OnEvent (λ u. related u u) e → Together related Fine x y
+one_event related x y e a b h =
+    subst (λ (z : Event (State ℕ) Asked Outcome). Together related Fine z y) (sym a)
+    (subst (λ (z : Event (State ℕ) Asked Outcome). Together related Fine e z) (sym b) (event_self related e h))
+
+-- ---- a jump goes on at the start of a block, with the values that there were
+
+pub record StartsWith (s u : State ℕ) : Type 0 where
+  pub first : u.next ≡ 0
+  pub values : u.values ≡ s.values
+
+pub jump_starts : (globals : List Value) (result : Option Class) (s : State ℕ) (j : Jump ℕ) → OnEvent (StartsWith s) (jump_step globals result s j)
+unfolding jump_step
+jump_starts globals result s (Goto k) = record { first = refl; values = refl }
+jump_starts globals result s (Branch on met otherwise) = by (compared globals s on)
+  where
+    by : (o : Option Value) → OnEvent (StartsWith s) (branches s met otherwise o)
+    by None = tt
+    by (Some (Integer k)) = record { first = refl; values = refl }
+    by (Some (Pointer b k)) = tt
+    by (Some (Function g)) = tt
+jump_starts globals result s (Return None) = tt
+jump_starts globals None s (Return (Some a)) = tt
+jump_starts globals (Some k) s (Return (Some a)) = by (read_result globals s.values k a)
+  where
+    by : (o : Option Value) → OnEvent (StartsWith s) (returns s o)
+    by None = tt
+    by (Some v) = tt
+jump_starts globals result s Halt = tt

@@ -84,7 +84,7 @@ fn jump_cost<P>(jump: &Jump<P>) -> u128
     }
 }
 
-// What is left of a credit after a line, if it affords that. A unit of weight pays for 32 instructions.
+/// What is left of a credit after a line, if it affords that. A unit of weight pays for 32 instructions.
 fn spend<P: Drop>(credit: u128, line: &Line<P>) -> Option<u128>
     requires { credit + 2 ^ 37 < 2 ^ 128 }
     ensures spent { result ≡ spent credit line.now }

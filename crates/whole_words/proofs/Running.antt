@@ -38,18 +38,11 @@ use Rattle.vcode.specs.Operations.{held, passed, operate, loaded}
 use Rattle.vcode.specs.Places.{Values, unknown, put, assign, kept, virtual}
 use Rattle.vcode.specs.Coded.{classes_in}
 use Rattle.vcode.specs.Step.{State, bound, begin, value_of, read, read_argument, read_result, read_all, fails, goes_on, sets, takes, changes, ticks, receives, resumes, calls, line_step, compared, branches, returns, jump_step, block_step, step_in, step, address_of}
+use Rattle.vcode.proofs.Going.{OnNext, OnEvent, StartsWith, event_self, event_more, jump_starts}
 use Rattle.whole_words.specs.Whole.{is_marked, is_whole, gives_whole, loads_whole, is_word, takes_whole, wants_whole, keeps_marks, are_closed, is_extension, claim, with_claim, jump_claim, with_copy, with_copies}
 use Rattle.whole_words.proofs.Values.{Whole, IfWhole, AreWhole, whole_number, assign_whole, operand_whole, then_whole, operate_whole, load_whole, held_whole, extension_is}
 
 -- ---- events that go on so
-
-abbrev OnNext : (State ℕ → Type 0) → Next (State ℕ) Outcome → Type 0
-OnNext holds (On u) = holds u
-OnNext holds (Over o) = Unit {0}
-
-abbrev OnEvent : (State ℕ → Type 0) → Event (State ℕ) Asked Outcome → Type 0
-OnEvent holds (Does n) = OnNext holds n
-OnEvent holds (Calls i k) = (o : Outcome) → OnNext holds (k o)
 
 -- the states are the same, and marked registers hold whole words
 record Related (marks : List Bool) (s t : State ℕ) : Type 0 where
@@ -59,14 +52,8 @@ record Related (marks : List Bool) (s t : State ℕ) : Type 0 where
 abbrev WholeIn : List Bool → State ℕ → Type 0
 WholeIn marks u = AreWhole marks u.values
 
-next_self : (marks : List Bool) (n : Next (State ℕ) Outcome) → OnNext (WholeIn marks) n → TogetherNext (Related marks) Fine n n
-next_self marks (On u) h = (u, refl, record { is = refl; whole = h })
-next_self marks (Over o) h = λ f. refl
-
-event_self : (marks : List Bool) (e : Event (State ℕ) Asked Outcome) → OnEvent (WholeIn marks) e → Together (Related marks) Fine e e
-event_self marks (Does (On u)) h = (u, refl, record { is = refl; whole = h })
-event_self marks (Does (Over o)) h = λ f. refl
-event_self marks (Calls i k) h = (k, refl, λ o. next_self marks (k o) (h o))
+event_whole : (marks : List Bool) (e : Event (State ℕ) Asked Outcome) → OnEvent (WholeIn marks) e → Together (Related marks) Fine e e
+event_whole marks e h = event_self (Related marks) e (event_more (WholeIn marks) (λ u. Related marks u u) (λ u whole. record { is = refl; whole = whole }) e h)
 
 -- ---- what lines leave whole
 
@@ -137,23 +124,8 @@ line_whole marks globals i s (Blit from to count) h all =
 line_whole marks globals i s (Call to callee args) h all = calls_whole marks i s to args (value_of globals s.values callee) (read_all globals s.values args) h all
 
 jump_whole : (marks : List Bool) (globals : List Value) (result : Option Class) (s : State ℕ) (j : Jump ℕ) → AreWhole marks s.values → OnEvent (WholeIn marks) (jump_step globals result s j)
-unfolding jump_step
-jump_whole marks globals result s (Goto k) all = all
-jump_whole marks globals result s (Branch on met otherwise) all = by (compared globals s on)
-  where
-    by : (o : Option Value) → OnEvent (WholeIn marks) (branches s met otherwise o)
-    by None = tt
-    by (Some (Integer k)) = all
-    by (Some (Pointer b k)) = tt
-    by (Some (Function g)) = tt
-jump_whole marks globals result s (Return None) all = tt
-jump_whole marks globals None s (Return (Some a)) all = tt
-jump_whole marks globals (Some k) s (Return (Some a)) all = by (read_result globals s.values k a)
-  where
-    by : (o : Option Value) → OnEvent (WholeIn marks) (returns s o)
-    by None = tt
-    by (Some v) = tt
-jump_whole marks globals result s Halt all = tt
+jump_whole marks globals result s j all =
+    event_more (StartsWith s) (WholeIn marks) (λ u starts. subst (λ (values : Values ℕ). AreWhole marks values) (sym starts.values) all) (jump_step globals result s j) (jump_starts globals result s j)
 
 -- ---- an extension beside its copy
 
@@ -211,7 +183,7 @@ extension_beside marks s to n (Some (Function g)) nought all h = λ f. absurd f
 operate_beside : (marks : List Bool) (globals : List Value) (i : Given) (s : State ℕ) (to : ℕ) (op : Operation) (a b : Operand ℕ) (t : Bool) → is_extension marks op a b ≡ t → keeps_marks marks (Operate to op a b) ≡ true → AreWhole marks s.values
     → Together (Related marks) Fine (line_step virtual globals i s (Operate to op a b)) (line_step virtual globals i s (if t then Set to a else Operate to op a b))
 unfolding line_step
-operate_beside marks globals i s to op a b false e h all = event_self marks (line_step virtual globals i s (Operate to op a b)) (line_whole marks globals i s (Operate to op a b) h all)
+operate_beside marks globals i s to op a b false e h all = event_whole marks (line_step virtual globals i s (Operate to op a b)) (line_whole marks globals i s (Operate to op a b) h all)
 operate_beside marks globals i s to op a b true e h all =
     let x = extends marks op a b e in
     subst (λ (y : Operation). Together (Related marks) Fine (line_step virtual globals i s (Operate to y a b)) (line_step virtual globals i s (Set to a))) (sym x.operation)
@@ -296,16 +268,16 @@ jump_same marks globals result s Halt all = refl
 
 line_beside : (marks : List Bool) (globals : List Value) (i : Given) (s : State ℕ) (l : Line ℕ) → keeps_marks marks l ≡ true → AreWhole marks s.values
     → Together (Related marks) Fine (line_step virtual globals i s l) (line_step virtual globals i s (with_copy marks l))
-line_beside marks globals i s (Tick turn w) h all = event_self marks (line_step virtual globals i s (Tick turn w)) (line_whole marks globals i s (Tick turn w) h all)
-line_beside marks globals i s (Set to a) h all = event_self marks (line_step virtual globals i s (Set to a)) (line_whole marks globals i s (Set to a) h all)
+line_beside marks globals i s (Tick turn w) h all = event_whole marks (line_step virtual globals i s (Tick turn w)) (line_whole marks globals i s (Tick turn w) h all)
+line_beside marks globals i s (Set to a) h all = event_whole marks (line_step virtual globals i s (Set to a)) (line_whole marks globals i s (Set to a) h all)
 line_beside marks globals i s (Operate to op a b) h all = operate_beside marks globals i s to op a b (is_extension marks op a b) refl h all
-line_beside marks globals i s (Load to op at) h all = event_self marks (line_step virtual globals i s (Load to op at)) (line_whole marks globals i s (Load to op at) h all)
-line_beside marks globals i s (Store size a at) h all = event_self marks (line_step virtual globals i s (Store size a at)) (line_whole marks globals i s (Store size a at) h all)
-line_beside marks globals i s (Alloc to size) h all = event_self marks (line_step virtual globals i s (Alloc to size)) (line_whole marks globals i s (Alloc to size) h all)
-line_beside marks globals i s (Blit from to count) h all = event_self marks (line_step virtual globals i s (Blit from to count)) (line_whole marks globals i s (Blit from to count) h all)
+line_beside marks globals i s (Load to op at) h all = event_whole marks (line_step virtual globals i s (Load to op at)) (line_whole marks globals i s (Load to op at) h all)
+line_beside marks globals i s (Store size a at) h all = event_whole marks (line_step virtual globals i s (Store size a at)) (line_whole marks globals i s (Store size a at) h all)
+line_beside marks globals i s (Alloc to size) h all = event_whole marks (line_step virtual globals i s (Alloc to size)) (line_whole marks globals i s (Alloc to size) h all)
+line_beside marks globals i s (Blit from to count) h all = event_whole marks (line_step virtual globals i s (Blit from to count)) (line_whole marks globals i s (Blit from to count) h all)
 line_beside marks globals i s (Call to callee args) h all =
     subst (Together (Related marks) Fine (line_step virtual globals i s (Call to callee args))) (sym (call_same marks globals i s to callee args all))
-    (event_self marks (line_step virtual globals i s (Call to callee args)) (line_whole marks globals i s (Call to callee args) h all))
+    (event_whole marks (line_step virtual globals i s (Call to callee args)) (line_whole marks globals i s (Call to callee args) h all))
 
 -- ---- a step
 
@@ -349,7 +321,7 @@ block_beside marks v w globals i s c all b at None here =
     (step_jump globals v i s b at here)
     (step_jump globals w i s (with_copies marks b) there end ∙ ap (λ (r : Option Class). jump_step globals r s (jump_claim marks b.jump)) c.result
     ∙ jump_same marks globals v.result s b.jump all)
-    (event_self marks (jump_step globals v.result s b.jump) (jump_whole marks globals v.result s b.jump all))
+    (event_whole marks (jump_step globals v.result s b.jump) (jump_whole marks globals v.result s b.jump all))
 block_beside marks v w globals i s c all b at (Some l) here =
     let there : slice_get w.blocks s.block ≡ Some (with_copies marks b) = ap (λ (xs : List (Block ℕ)). slice_get xs s.block) c.blocks ∙ slice_get-map (with_copies marks) v.blocks s.block ∙ ap (option_map (with_copies marks)) at in
     let line : slice_get (map (with_copy marks) b.lines) s.next ≡ Some (with_copy marks l) = slice_get-map (with_copy marks) b.lines s.next ∙ ap (option_map (with_copy marks)) here in

@@ -10,7 +10,7 @@ use vcode::code::Block;
 use vcode::line::{Jump, Line, Operation};
 use vcode::place::{Argument, Extension, Operand, ReturnValue};
 
-// Whether the operation extends a word that stands whole.
+/// Whether the operation extends a word that stands whole.
 fn is_extension(
     marks: &[bool],
     operation: Operation,
@@ -31,7 +31,7 @@ fn is_extension(
     }
 }
 
-// Whether what is passed still has to be extended, of which something may be claimed already.
+/// Whether what is passed still has to be extended, of which something may be claimed already.
 fn claim(marks: &[bool], value: Operand<u32>, claimed: Extension) -> Extension
     ensures { result ≡ claim marks.now value claimed }
 {

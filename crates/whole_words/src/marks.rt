@@ -98,7 +98,7 @@ fn wants_whole(marks: &[bool], to: Option<Destination<u32>>) -> bool
     }
 }
 
-// Whether what the line writes to a marked register is whole.
+/// Whether what the line writes to a marked register is whole.
 fn keeps_marks(marks: &[bool], line: &Line<u32>) -> bool
     ensures { result ≡ keeps_marks marks.now line.now }
 {
@@ -161,7 +161,7 @@ fn unmark(marks: &mut [bool], register: u32) {
     }
 }
 
-// Takes away the mark of what the line writes, where that needn't be whole.
+/// Takes away the mark of what the line writes, where that needn't be whole.
 fn spread_line(marks: &mut [bool], line: &Line<u32>) {
     if keeps_marks(marks, line) {
         return;

@@ -1,3 +1,4 @@
+use Rattle.il_ast.specs.declared.limits.TheConstants.{ALLOC_BYTES}
 use Rattle.std.proofs.Common.{◌≡◌, ◌≤◌, ◌++◌, drop, true}
 use Rattle.std.specs.List.{list_all, sum_by}
 use Rattle.vcode.specs.Regular.{alloc_bytes, passes_few}
@@ -7,5 +8,5 @@ use Rattle.abi_frames.proofs.frame.push_blocks.Given as goal
 abbrev pub invariant-loop-label : goal.invariant-loop-label
 invariant-loop-label l =
     (l.items.items ++ blocks_items l.layout l.label (drop l.label l.blocks) ≡ l.fn.items.items ++ blocks_items l.fn.layout 0 l.fn.blocks)
-    × (sum_by (λ b. sum_by alloc_bytes b.lines) (drop l.label l.blocks) ≤ 1048576)
+    × (sum_by (λ b. sum_by alloc_bytes b.lines) (drop l.label l.blocks) ≤ ALLOC_BYTES)
     × (list_all (λ b. list_all passes_few b.lines) (drop l.label l.blocks) ≡ true)

@@ -1,3 +1,4 @@
+use Rattle.rv_isa.specs.declared.abi.TheConstants.{ARGUMENT_BYTES}
 use Rattle.std.proofs.Common.{◌≡◌, ◌≤◌, ◌∙◌, true, refl, sym, ap, arith, length}
 use Rattle.rv_isa.specs.Start.{argument_bytes}
 use Rattle.obj_link.specs.Words.{are_arguments}
@@ -8,7 +9,7 @@ use Rattle.rv_machine.proofs.machine.Machine.start.Goals as goal
 pub of-requires : goal.of-requires
 of-requires g c =
     let may : are_arguments (texts c.args.words.now) ≡ true = sym c.are_arguments.ensures ∙ c.if-not-are_arguments.false in
-    let fit : length (argument_bytes (texts c.args.words.now)) ≤ 73768 = arguments_fit (texts c.args.words.now) may in
+    let fit : length (argument_bytes (texts c.args.words.now)) ≤ ARGUMENT_BYTES = arguments_fit (texts c.args.words.now) may in
     let e : length c.as_slice-bytes.result.now ≡ length (argument_bytes (texts c.args.words.now)) =
     ap length (c.as_slice-bytes.ensures.value ∙ c.in-Ok.ensures) in
     omega (arith, fit, e)

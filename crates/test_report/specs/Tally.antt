@@ -2,7 +2,7 @@
 use Rattle.std.specs.Prelude.{ℕ, ◌+◌, ◌-◌, ◌^◌, ◌&&◌, min, Bool, if◌then◌else◌}
 use Rattle.std.specs.Str.{bytes_eq}
 use Rattle.std.specs.String.{string_bytes}
-use Rattle.program_tests.specs.declared.told.Told.{Told}
+use Rattle.test_report.specs.declared.told.Told.{Told}
 
 abbrev pub capped_sum : ℕ → ℕ → ℕ
 capped_sum m n = min (m + n) (2 ^ 64 - 1)

@@ -2,8 +2,8 @@
 ghost use Rattle.std.specs.Prelude.{◌≡◌, ◌&&◌, ◌++◌, false, [], codes, IsTrue, OnOk};
 ghost use Rattle.std.specs.Str.{bytes_eq};
 ghost use Rattle.std.specs.String.{string_bytes};
-ghost use Rattle.program_tests.specs.Tally.{capped_sum, one_more, with_failure, after_check, is_same};
-ghost use Rattle.program_tests.specs.Printed.{counts, group_line, failure_line, line_unless};
+ghost use Rattle.test_report.specs.Tally.{capped_sum, one_more, with_failure, after_check, is_same};
+ghost use Rattle.test_report.specs.Printed.{counts, group_line, failure_line, line_unless};
 
 use crate::told::Told;
 use std::alloc::{AllocError, Global};
