@@ -23,8 +23,6 @@
 #![tactic(auto)]
 
 pub mod accept;
-#[cfg(test)]
-mod accept_tests;
 mod certified;
 mod check;
 mod first;
@@ -37,6 +35,4 @@ mod says;
 pub mod spill_all;
 mod stays;
 mod table;
-#[cfg(test)]
-mod tests;
 mod whole;

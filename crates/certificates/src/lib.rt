@@ -15,5 +15,3 @@ pub mod certificate;
 pub mod list;
 pub mod spill_all;
 pub mod strategy;
-#[cfg(test)]
-mod tests;

@@ -28,8 +28,6 @@ mod regions;
 mod rooms;
 mod slots;
 mod starts;
-#[cfg(test)]
-mod tests;
 mod text;
 mod written;
 

@@ -1,51 +1,40 @@
-//! A function of one line, and its certificates.
-use crate::certificate::Equality;
-use crate::list::certificate_of;
-use crate::spill_all::SpillAll;
-use crate::strategy::Strategy;
+//! Certificates with one place for each register, for a function that copies its argument.
+ghost use Rattle.std.specs.Prelude.{◌<◌};
+
+use crate::build::{at, block, of_class, returned, set, tick};
+use certificates::list::certificate_of;
+use certificates::spill_all::SpillAll;
+use certificates::strategy::Strategy;
 use cfg_live::live::live;
 use il_ast::list::Seq;
 use il_ast::operation::Class;
 use std::alloc::{AllocError, Global};
 use std::test::Fail;
-use vcode::code::{Block, Code};
+use vcode::code::Code;
 use vcode::function::VFunc;
-use vcode::line::{Jump, Line};
-use vcode::place::{Destination, Location, Operand, ReturnValue};
+use vcode::place::{Location, Operand};
 
 /// Copies its argument from register 0 to register 1, and returns that.
-fn copying(alloc: Global) -> Result<VFunc, AllocError> {
-    let mut params = Seq::new(alloc);
-    params.push(Destination {
-        place: 0,
-        class: Class::L,
-    })?;
-    let mut lines = Seq::new(alloc);
-    lines.push(Line::Tick {
-        turn: true,
-        weight: 1,
-    })?;
-    lines.push(Line::Set {
-        to: 1,
-        value: Operand::At(0),
-    })?;
-    let mut blocks = Seq::new(alloc);
-    blocks.push(Block {
-        lines,
-        jump: Jump::Return(Some(ReturnValue::of(Operand::At(1)))),
-    })?;
+pub fn copying(alloc: Global) -> Result<VFunc, AllocError> {
+    copying_among(alloc, 2)
+}
+
+/// The same, of a function with so many registers.
+pub fn copying_among(alloc: Global, registers: u32) -> Result<VFunc, AllocError>
+    requires some { 1 < registers }
+    requires few { registers < 65536 }
+{
+    let lines = vec![in alloc; tick(1), set(1, Operand::At(0))]?;
+    let params = vec![in alloc; of_class(Class::L, 0)]?;
+    let blocks = vec![in alloc; block(lines, returned(1))]?;
     Ok(VFunc {
         code: Code {
             result: Some(Class::L),
-            params,
-            blocks,
+            params: Seq::from_vec(params),
+            blocks: Seq::from_vec(blocks),
         },
-        registers: 2,
+        registers,
     })
-}
-
-fn at(register: u32, place: Location) -> Equality {
-    Equality { register, place }
 }
 
 #[test]
