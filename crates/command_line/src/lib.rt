@@ -7,6 +7,7 @@
 
 pub mod asked;
 mod grammar;
+pub mod laws;
 pub mod refusal;
 #[cfg(test)]
 mod tests;
