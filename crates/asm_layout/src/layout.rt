@@ -1,8 +1,9 @@
 //! Words for labelled code.
 
-ghost use Rattle.std.specs.Prelude.{◌<◌, ◌≤◌, length, IfOk};
+ghost use Rattle.std.specs.Prelude.{◌≡◌, ◌<◌, ◌≤◌, length, IfOk};
 ghost use Rattle.rv_isa.specs.Labels.{longest_size};
 ghost use Rattle.rv_isa.specs.Laid.{LaysOut};
+ghost use Rattle.asm_layout.specs.Forms.{holes_of, words_of};
 
 use crate::emit::{push_holes, push_words};
 use crate::places::{chosen_places, longest_places};
@@ -12,11 +13,14 @@ use std::alloc::{AllocError, Global};
 
 /// The words of a function's labelled code, with holes for the addresses of globals.
 ///
-/// Wherever the words stand, with addresses filled in, the labelled code stands. There is one word at least, and no more
+/// Wherever the words stand, with addresses filled in, the labelled code stands. They are the words of `specs/Forms.antt`: each jump and branch has the
+/// shortest form that would reach its label if all items took their longest one. There is one word at least, and no more
 /// than the items' longest forms take. Memory is all that can be wanting.
 #[tactic(auto, using(crate::proofs::Whole::lays_out, crate::proofs::Whole::is_code, crate::proofs::Whole::not_longer, crate::proofs::Whole::forms_fit))]
 pub fn layout(alloc: Global, code: LabelledCode) -> Result<Code, AllocError>
     ensures laid { IfOk result (λ out. LaysOut code.items out.words out.holes) }
+    ensures words { IfOk result (λ out. out.words ≡ words_of code) }
+    ensures holes { IfOk result (λ out. out.holes ≡ holes_of code) }
     ensures some { IfOk result (λ out. 0 < length out.words) }
     ensures not_longer { IfOk result (λ out. length out.words ≤ longest_size code.items) }
 {

@@ -14,7 +14,7 @@
 //! A form is chosen by the places that items would have if all of them took their longest form. Real places are never farther apart, so the form
 //! fits, and nothing is tried again: three passes over the items, one for those places, one for the real ones, one for the words.
 //!
-//! `specs/Forms.antt` has the forms, the places and the words as functions of the code; the public contract says nothing of them.
+//! `specs/Forms.antt` has the forms, the places and the words as functions of the code, and `layout` answers exactly these words.
 //!
 //! The crate stands on `rv_isa` for code and the machine, and on `bits` for the two halves of a distance.
 #![tactic(auto)]

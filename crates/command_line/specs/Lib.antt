@@ -1,1 +1,5 @@
+pub mod Grammar
 pub mod Asked
+pub mod Refused
+pub mod Words
+pub mod Examples

@@ -1,5 +1,7 @@
 //! What parsed words ask for.
 ghost use Rattle.std.specs.Prelude.{◌≡◌, IfOk, codes, map};
+ghost use Rattle.clap.specs.Matches.{found_of};
+ghost use Rattle.clap.specs.Walk.{rows_of};
 ghost use Rattle.command_line.specs.Asked.{Asks, AsksFor, IsLimit, word_in, words_in};
 
 use crate::grammar::{EXECUTABLE, FILES, LIMIT, OUT, TEXT, WORDS};
@@ -9,7 +11,7 @@ use std::alloc::{AllocError, Global};
 
 /// The one word of an argument.
 fn word_of<'a>(found: &ArgMatches<'a>, name: &str) -> &'a str
-    ensures { result.now ≡ word_in found.now name.now }
+    ensures { result.now ≡ word_in (rows_of (found_of found.now)) name.now }
 {
     found.get_str(name).unwrap_or("")
 }
@@ -20,20 +22,20 @@ fn words_of<'a>(
     found: &ArgMatches<'a>,
     name: &str,
 ) -> Result<Vec<&'a str>, AllocError>
-    ensures { IfOk result (λ v. map (λ s. s.now) v.items ≡ words_in found.now name.now) }
+    ensures { IfOk result (λ v. map (λ s. s.now) v.items ≡ words_in (rows_of (found_of found.now)) name.now) }
 {
     let words = found.get_strs(name).unwrap_or(&[]);
     words.to_vec(alloc)
 }
 
 fn limit_of(found: &ArgMatches<'_>) -> u64
-    ensures { IsLimit found.now result }
+    ensures { IsLimit (rows_of (found_of found.now)) result }
 {
     found.get_one::<u64>(LIMIT).unwrap_or(DEFAULT_LIMIT)
 }
 
 fn build_of<'a>(alloc: Global, found: &ArgMatches<'a>) -> Result<Command<'a>, AllocError>
-    ensures { IfOk result (Asks (codes "build") found.now) }
+    ensures { IfOk result (Asks (codes "build") (rows_of (found_of found.now))) }
 {
     let files = words_of(alloc, found, FILES)?;
     Ok(Command::Build {
@@ -43,7 +45,7 @@ fn build_of<'a>(alloc: Global, found: &ArgMatches<'a>) -> Result<Command<'a>, Al
 }
 
 fn run_of<'a>(alloc: Global, found: &ArgMatches<'a>) -> Result<Command<'a>, AllocError>
-    ensures { IfOk result (Asks (codes "run") found.now) }
+    ensures { IfOk result (Asks (codes "run") (rows_of (found_of found.now))) }
 {
     let words = words_of(alloc, found, WORDS)?;
     Ok(Command::Run {
@@ -54,7 +56,7 @@ fn run_of<'a>(alloc: Global, found: &ArgMatches<'a>) -> Result<Command<'a>, Allo
 }
 
 fn interpret_of<'a>(alloc: Global, found: &ArgMatches<'a>) -> Result<Command<'a>, AllocError>
-    ensures { IfOk result (Asks (codes "interp") found.now) }
+    ensures { IfOk result (Asks (codes "interp") (rows_of (found_of found.now))) }
 {
     let words = words_of(alloc, found, WORDS)?;
     Ok(Command::Interpret {
@@ -74,7 +76,7 @@ pub fn asked<'a>(
     name: &str,
     found: &ArgMatches<'a>,
 ) -> Result<Option<Command<'a>>, AllocError>
-    ensures { IfOk result (AsksFor name.now found.now) }
+    ensures { IfOk result (AsksFor name.now (rows_of (found_of found.now))) }
 {
     match name {
         "build" => Ok(Some(build_of(alloc, found)?)),

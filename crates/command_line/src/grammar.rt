@@ -1,4 +1,7 @@
 //! The grammar of the command line.
+ghost use Rattle.std.specs.Prelude.{IfOk};
+ghost use Rattle.command_line.specs.Grammar.{IsRead, IsRuled, build_app, dis_app, files_rule, interp_app, limit_rule, out_rule, path_rule, program_app, qbec_app, run_app, words_rule};
+
 use clap::{Arg, Command, value_parser};
 use std::alloc::{AllocError, Global};
 
@@ -41,11 +44,25 @@ const DISASSEMBLE: &str = "Exit status: 0, or 126 where EXE is refused.
 Example: qbec dis hello";
 
 /// What the program takes.
-pub(crate) fn grammar<'a>(alloc: Global) -> Result<Command<'a>, AllocError> {
+pub(crate) fn grammar<'a>(alloc: Global) -> Result<Command<'a>, AllocError>
+    ensures { IfOk result (λ c. IsRead c qbec_app) }
+{
     let build = build(alloc)?;
     let run = run(alloc)?;
     let interp = interp(alloc)?;
     let dis = dis(alloc)?;
+    let program = program(alloc)?;
+    program
+        .subcommand(build)?
+        .subcommand(run)?
+        .subcommand(interp)?
+        .subcommand(dis)
+}
+
+/// The program, without its commands.
+fn program<'a>(alloc: Global) -> Result<Command<'a>, AllocError>
+    ensures { IfOk result (λ c. IsRead c program_app) }
+{
     Command::new(alloc, "qbec")
         .about(
             "Compiles programs in the QBE intermediate language (its integer part) to static RV64IM executables",
@@ -55,65 +72,78 @@ pub(crate) fn grammar<'a>(alloc: Global) -> Result<Command<'a>, AllocError> {
         .no_binary_name(true)
         .subcommand_required(true)
         .disable_help_subcommand(true)
-        .bin_name("qbec")?
-        .subcommand(build)?
-        .subcommand(run)?
-        .subcommand(interp)?
-        .subcommand(dis)
+        .bin_name("qbec")
 }
 
-fn build<'a>(alloc: Global) -> Result<Command<'a>, AllocError> {
-    let out = Arg::new(alloc, OUT)
-        .short('o')
-        .required(true)
-        .help("The executable file to write");
-    let files = Arg::new(alloc, FILES)
-        .value_name("FILE")
-        .required(true)
-        .num_args(1..)
-        .help("The texts of the program, in order");
+fn build<'a>(alloc: Global) -> Result<Command<'a>, AllocError>
+    ensures { IfOk result (λ c. IsRead c build_app) }
+{
     Command::new(alloc, "build")
         .about("Compiles texts to an executable file")
         .after_help(BUILD)
-        .arg(out)?
-        .arg(files)
+        .arg(out(alloc))?
+        .arg(files(alloc))
 }
 
-fn run<'a>(alloc: Global) -> Result<Command<'a>, AllocError> {
-    let file = Arg::new(alloc, EXECUTABLE)
-        .required(true)
-        .help("The executable file");
+fn run<'a>(alloc: Global) -> Result<Command<'a>, AllocError>
+    ensures { IfOk result (λ c. IsRead c run_app) }
+{
     Command::new(alloc, "run")
         .about("Runs an executable file")
         .after_help(RUN)
         .arg(limit(alloc, "How many instructions to run at most"))?
-        .arg(file)?
+        .arg(path(alloc, EXECUTABLE, "The executable file"))?
         .arg(words(alloc))
 }
 
-fn interp<'a>(alloc: Global) -> Result<Command<'a>, AllocError> {
-    let file = Arg::new(alloc, TEXT)
-        .required(true)
-        .help("The text of the program");
+fn interp<'a>(alloc: Global) -> Result<Command<'a>, AllocError>
+    ensures { IfOk result (λ c. IsRead c interp_app) }
+{
     Command::new(alloc, "interp")
         .about("Interprets one text")
         .after_help(INTERPRET)
         .arg(limit(alloc, "How many turns to take at most"))?
-        .arg(file)?
+        .arg(path(alloc, TEXT, "The text of the program"))?
         .arg(words(alloc))
 }
 
-fn dis<'a>(alloc: Global) -> Result<Command<'a>, AllocError> {
-    let file = Arg::new(alloc, EXECUTABLE)
-        .required(true)
-        .help("The executable file");
+fn dis<'a>(alloc: Global) -> Result<Command<'a>, AllocError>
+    ensures { IfOk result (λ c. IsRead c dis_app) }
+{
     Command::new(alloc, "dis")
         .about("Shows the instructions of an executable file")
         .after_help(DISASSEMBLE)
-        .arg(file)
+        .arg(path(alloc, EXECUTABLE, "The executable file"))
 }
 
-fn limit<'a>(alloc: Global, help: &'a str) -> Arg<'a> {
+fn out<'a>(alloc: Global) -> Arg<'a>
+    ensures { IsRuled result out_rule }
+{
+    Arg::new(alloc, OUT)
+        .short('o')
+        .required(true)
+        .help("The executable file to write")
+}
+
+fn files<'a>(alloc: Global) -> Arg<'a>
+    ensures { IsRuled result files_rule }
+{
+    Arg::new(alloc, FILES)
+        .value_name("FILE")
+        .required(true)
+        .num_args(1..)
+        .help("The texts of the program, in order")
+}
+
+fn path<'a>(alloc: Global, name: &'a str, help: &'a str) -> Arg<'a>
+    ensures { IsRuled result (path_rule name.now) }
+{
+    Arg::new(alloc, name).required(true).help(help)
+}
+
+fn limit<'a>(alloc: Global, help: &'a str) -> Arg<'a>
+    ensures { IsRuled result limit_rule }
+{
     Arg::new(alloc, LIMIT)
         .long("limit")
         .value_name("N")
@@ -122,7 +152,9 @@ fn limit<'a>(alloc: Global, help: &'a str) -> Arg<'a> {
         .help(help)
 }
 
-fn words<'a>(alloc: Global) -> Arg<'a> {
+fn words<'a>(alloc: Global) -> Arg<'a>
+    ensures { IsRuled result words_rule }
+{
     Arg::new(alloc, WORDS).value_name("WORD").num_args(0..).help(
         "The argument words of the program; those that begin with '-' stand after '--'",
     )

@@ -1,19 +1,28 @@
 //! # The command line of qbec
 //!
 //! [`command_of`] takes the words after the program's name and answers what they ask for, [`Command`], or the text to show instead, [`Refusal`].
-//! The grammar of the words and all texts are `clap`'s: what is said here of either is shown by tests alone, and no contract says it. Which argument each part of a
-//! command is taken from is the contract of [`asked::asked`].
+//! Which words ask for what is its contract (`specs/Words.antt`), by the grammar in `specs/Grammar.antt`: what words mean by a grammar is `clap`'s definition. What
+//! the texts say is `clap`'s too, and shown by tests alone.
 #![tactic(auto)]
 
 pub mod asked;
 mod grammar;
+pub mod laws;
 pub mod refusal;
 #[cfg(test)]
 mod tests;
 
+ghost use Rattle.std.specs.Prelude.{◌≡◌, [], IfOk, IfErr, OnOk, map};
+ghost use Rattle.clap.specs.Faults.{fault_of};
+ghost use Rattle.clap.specs.Simple.{subcommand_of, subcommand_rows_of};
+ghost use Rattle.command_line.specs.Asked.{AsksIn};
+ghost use Rattle.command_line.specs.Grammar.{qbec_app};
+ghost use Rattle.command_line.specs.Words.{AskFor, SaysWhy};
+
 use crate::asked::asked;
 use crate::grammar::grammar;
 pub use crate::refusal::Refusal;
+use clap::ArgMatches;
 use clap::error::ErrorKind;
 use std::alloc::{AllocError, Global};
 
@@ -55,18 +64,39 @@ pub const DEFAULT_LIMIT: u64 = 1_000_000_000;
 ///
 /// `Refusal::Help` has the text that was asked for; `Refusal::Mistake` says why the words ask for nothing; `Refusal::Memory` is answered only where
 /// memory was refused.
-pub fn command_of<'a>(alloc: Global, words: &'a [&'a str]) -> Result<Command<'a>, Refusal> {
-    let matches = grammar(alloc)?.try_get_matches_from(words)?;
-    let command = match matches.subcommand() {
-        Some((name, found)) => asked(alloc, name, found)?,
-        None => None,
-    };
-    match command {
+pub fn command_of<'a>(alloc: Global, words: &'a [&'a str]) -> Result<Command<'a>, Refusal>
+    ensures asks { IfOk result (AskFor (map (λ w. w.now) words.now)) }
+    ensures says { IfErr result (SaysWhy (map (λ w. w.now) words.now)) }
+{
+    let matches = matches_of(alloc, words)?;
+    match asked_in(alloc, &matches)? {
         Some(command) => Ok(command),
         None => Err(no_command(alloc)?),
     }
 }
 
+fn matches_of<'a>(alloc: Global, words: &'a [&'a str]) -> Result<ArgMatches<'a>, Refusal>
+    ensures clean { OnOk result (fault_of qbec_app (map (λ w. w.now) words.now) ≡ []) }
+    ensures found { IfOk result (λ m. subcommand_rows_of m ≡ subcommand_of qbec_app (map (λ w. w.now) words.now)) }
+    ensures says { IfErr result (SaysWhy (map (λ w. w.now) words.now)) }
+{
+    match grammar(alloc)?.try_get_matches_from(words) {
+        Ok(matches) => Ok(matches),
+        Err(error) => Err(Refusal::from(error)),
+    }
+}
+
+/// What the subcommand asks for, where there is one.
+fn asked_in<'a>(alloc: Global, matches: &ArgMatches<'a>) -> Result<Option<Command<'a>>, AllocError>
+    ensures { IfOk result (AsksIn (subcommand_rows_of matches.now)) }
+{
+    match matches.subcommand() {
+        Some((name, found)) => asked(alloc, name, found),
+        None => Ok(None),
+    }
+}
+
+// The words have a fault where they name no command, so this isn't come to.
 fn no_command(alloc: Global) -> Result<Refusal, AllocError> {
     let error = grammar(alloc)?.error(ErrorKind::MissingSubcommand, "no command was given")?;
     Ok(Refusal::from(error))

@@ -32,6 +32,11 @@ impl fmt::Display for Text {
 }
 
 impl From<Error> for Refusal {
+    ghost use Rattle.std.specs.Prelude.{◌≡◌};
+    ghost use Rattle.command_line.specs.Refused.{refusal_of};
+
+    ghost from_gives = { λ e r. r ≡ refusal_of e };
+
     fn from(error: Error) -> Refusal {
         match error.kind() {
             ErrorKind::OutOfMemory => Refusal::Memory,
@@ -42,6 +47,11 @@ impl From<Error> for Refusal {
 }
 
 impl From<AllocError> for Refusal {
+    ghost use Rattle.std.specs.Prelude.{◌≡◌};
+    ghost use Rattle.command_line.specs.declared.refusal.Refusal.TheVariants.{Memory};
+
+    ghost from_gives = { λ _ r. r ≡ Memory };
+
     fn from(_refused: AllocError) -> Refusal {
         Refusal::Memory
     }

@@ -1,11 +1,11 @@
 -- Calls of a sink, one after another.
-use Rattle.std.proofs.Common.{◌≡◌, ℕ, zero, suc, ◌+◌, ◌-◌, ◌≤◌, ◌<◌, ◌==◌, ◌&&◌, nat_lt, Bool, true, false, if◌then◌else◌, Ok, List, [], ◌∷◌, ◌++◌, length, take, drop, map, get_or, Option, Some, None, ◌∙◌, sym, ap, subst, refl, append_assoc, append-nil, arith, length-drop}
+use Rattle.std.proofs.Common.{◌≡◌, ℕ, ◌+◌, ◌-◌, ◌≤◌, ◌<◌, ◌==◌, ◌&&◌, nat_lt, Bool, false, if◌then◌else◌, Ok, List, [], ◌∷◌, ◌++◌, length, take, drop, map, get_or, Option, Some, None, ◌∙◌, sym, ap, subst, append_assoc, append-nil, arith, length-drop}
 use Rattle.std.proofs.Math.Seq.{take-add}
 use Rattle.std.specs.List.{concat}
 use Rattle.std.proofs.lemmas.List.{take_rest, take_more, drop_more, map-append, take-append-drop}
 use Rattle.std.proofs.lemmas.List.Folds.{concat-append}
 use Rattle.std.proofs.lemmas.Bool.Decides.{nat_tests}
-use Rattle.shell.specs.Sink.{SinkState, Went, Sends, Stops, Breaks, one_more, counted}
+use Rattle.shell.specs.Sink.{SinkState, Went, Sends, Stops, StopsIn, Breaks, one_more, counted}
 
 -- what went out in two calls went out
 pub went_more : (old mid new : Option (List ℕ)) (first second : List ℕ) → Went old mid first → Went mid new second → Went old new (first ++ second)
@@ -78,3 +78,20 @@ pub breaks_next : {X : Type 0} (bytes : X → List ℕ) (first old new : SinkSta
 breaks_next bytes first old new xs i d low p q =
     subst (λ all. Breaks first new all) (sym (around bytes xs i d low))
     (breaks_after first old new (concat (map bytes (take i xs))) (bytes (get_or xs i d)) (concat (map bytes (drop (i + 1) xs))) p q)
+
+parts_around : {X : Type 0} (bytes : X → List ℕ) (xs : List X) (i : ℕ) (d : X) → i < length xs → map bytes xs ≡ map bytes (take i xs) ++ bytes (get_or xs i d) ∷ map bytes (drop (i + 1) xs)
+parts_around bytes xs i d low =
+    ap (map bytes) (sym (take-append-drop i xs)) ∙ map-append bytes (take i xs) (drop i xs) ∙ ap (λ ys. map bytes (take i xs) ++ map bytes ys) (drop_more xs i d low)
+
+-- in which part it broke off
+pub stops_in : {X : Type 0} (bytes : X → List ℕ) (first old new : SinkState) (xs : List X) (i : ℕ) (d : X) (count : ℕ) → i < length xs
+    → Sends first old (concat (map bytes (take i xs))) → Stops old new (bytes (get_or xs i d)) count → StopsIn first new (map bytes xs) count
+stops_in bytes first old new xs i d count low p q = record {
+  before = map bytes (take i xs);
+  part = bytes (get_or xs i d);
+  after = map bytes (drop (i + 1) xs);
+  are = parts_around bytes xs i d low;
+  fits = q.fits;
+  went = went_more first.held old.held new.held (concat (map bytes (take i xs))) (take count (bytes (get_or xs i d))) p.went q.went;
+  fault = q.fault ∙ ap one_more p.clean;
+}

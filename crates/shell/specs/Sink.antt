@@ -1,5 +1,6 @@
 -- What goes into a sink, and how often it failed.
-use Rattle.std.specs.Prelude.{◌≡◌, ◌≤◌, ℕ, ◌+◌, ◌-◌, ◌^◌, ◌++◌, ◌&&◌, ◌==◌, nat_lt, Bool, true, if◌then◌else◌, List, [], length, take, Option, Result, Ok, Err}
+use Rattle.std.specs.Prelude.{◌≡◌, ◌≤◌, ℕ, ◌+◌, ◌-◌, ◌^◌, ◌++◌, ◌&&◌, ◌==◌, nat_lt, Bool, true, if◌then◌else◌, List, [], ◌∷◌, length, take, Option, Result, Ok, Err}
+use Rattle.std.specs.List.{concat}
 use Rattle.std.specs.Io.KnownBytes.{Appends}
 use Rattle.shell.specs.declared.sink.SinkFault.{SinkFault}
 
@@ -48,6 +49,17 @@ pub record Sends (old new : SinkState) (bytes : List ℕ) : Type 0 where
 pub record Stops (old new : SinkState) (bytes : List ℕ) (count : ℕ) : Type 0 where
   pub fits : count ≤ length bytes
   pub went : Went old.held new.held (take count bytes)
+  pub fault : new.faults ≡ one_more old.faults
+
+-- the parts before one of these went out, and a call failed after the first bytes of that one, so
+-- many
+pub record StopsIn (old new : SinkState) (parts : List (List ℕ)) (count : ℕ) : Type 0 where
+  pub before : List (List ℕ)
+  pub part : List ℕ
+  pub after : List (List ℕ)
+  pub are : parts ≡ before ++ part ∷ after
+  pub fits : count ≤ length part
+  pub went : Went old.held new.held (concat before ++ take count part)
   pub fault : new.faults ≡ one_more old.faults
 
 -- a beginning of these bytes went out, and then a call failed

@@ -1,4 +1,6 @@
 //! Files.
+ghost use Rattle.std.specs.Prelude.{◌≡◌};
+ghost use Rattle.shell.specs.Disk.{counted};
 
 /// Why a file could not be read or written.
 #[derive(Clone, Copy, Debug, PartialEq, Eq, thiserror::Error)]
@@ -38,4 +40,14 @@ pub trait Disk {
         ensures holds { OnOk result (Holds (told self.new).files path.now bytes.now) }
         ensures spares { Spares (told self.old).files (told self.new).files path.now }
         ensures counts { (told self.new).faults ≡ counted (told self.old).faults result };
+}
+
+/// How many calls of a disk failed after one that answered so; at most 2^64 - 1.
+pub fn counted<T>(faults: u64, answer: &Result<T, FileFault>) -> u64
+    ensures { result ≡ counted faults answer.now }
+{
+    match answer {
+        Ok(_) => faults,
+        Err(_) => faults.saturating_add(1),
+    }
 }

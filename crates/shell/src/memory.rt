@@ -1,8 +1,8 @@
 //! A sink in memory.
-ghost use Rattle.std.specs.Prelude.{◌≡◌, ◌+◌, ◌-◌, ◌^◌, [], Some, IfOk, IsErr, length, min};
+ghost use Rattle.std.specs.Prelude.{◌≡◌, ◌+◌, ◌-◌, ◌^◌, ◌++◌, [], Some, IfOk, OnErr, IsErr, length, min, take};
 ghost use Rattle.shell.specs.Sink.{Puts, counted};
 
-use crate::sink::{Sink, SinkFault};
+use crate::sink::{Sink, SinkFault, counted};
 use std::alloc::Global;
 
 /// Memory that takes at most `most` bytes a call, and none at call `fails_at`, counted from 1.
@@ -34,6 +34,25 @@ impl MemorySink {
             fails_at,
         }
     }
+
+    /// Takes the first `most` of the bytes, or all where they are fewer; none at call `fails_at`.
+    fn take_some(&mut self, bytes: &[u8]) -> Result<usize, SinkFault>
+        ensures takes { IfOk result (λ n. (n ≡ min (length bytes.now) self.old.most) × (self.new.bytes.items ≡ self.old.bytes.items ++ take n bytes.now)) }
+        ensures nothing { OnErr result (self.new.bytes.items ≡ self.old.bytes.items) }
+        ensures fails { self.old.calls ≡ self.old.fails_at → IsErr result }
+        ensures calls { self.new.calls ≡ self.old.calls }
+        ensures faults { self.new.faults ≡ self.old.faults }
+        ensures set { (self.new.most ≡ self.old.most) × (self.new.fails_at ≡ self.old.fails_at) }
+    {
+        if self.calls == self.fails_at {
+            return Err(SinkFault);
+        }
+        let count = bytes.len().min(self.most);
+        match self.bytes.extend_from_slice(&bytes[..count]) {
+            Ok(()) => Ok(count),
+            Err(_) => Err(SinkFault),
+        }
+    }
 }
 
 impl Sink for MemorySink {
@@ -55,22 +74,8 @@ impl Sink for MemorySink {
         ensures set { (self.new.most ≡ self.old.most) × (self.new.fails_at ≡ self.old.fails_at) }
     {
         self.calls = self.calls.saturating_add(1);
-        if self.calls == self.fails_at {
-            self.faults = self.faults.saturating_add(1);
-            return Err(SinkFault);
-        }
-        let count = bytes.len().min(self.most);
-        match self.bytes.extend_from_slice(&bytes[..count]) {
-            Ok(()) => {
-                if count == 0 && bytes.len() > 0 {
-                    self.faults = self.faults.saturating_add(1);
-                }
-                Ok(count)
-            }
-            Err(_) => {
-                self.faults = self.faults.saturating_add(1);
-                Err(SinkFault)
-            }
-        }
+        let answer = self.take_some(bytes);
+        self.faults = counted(self.faults, bytes, answer);
+        answer
     }
 }

@@ -1,10 +1,11 @@
 //! Files in memory.
-ghost use Rattle.std.specs.Prelude.{◌≡◌, Some, OnOk};
+ghost use Rattle.std.specs.Prelude.{◌≡◌, ◌↔◌, [], Some, None, Err, IfOk, OnOk, OnErr};
 ghost use Rattle.std.specs.Option.{option_map};
+ghost use Rattle.shell.specs.declared.disk.FileFault.TheVariants.{Device};
 ghost use Rattle.shell.specs.Disk.{Holds, Spares};
 ghost use Rattle.shell.specs.MemoryDisk.{first_at};
 
-use crate::disk::{Disk, FileFault};
+use crate::disk::{Disk, FileFault, counted};
 use std::alloc::{AllocError, Global};
 
 /// A file in memory.
@@ -24,7 +25,10 @@ pub struct MemoryDisk {
 
 impl MemoryDisk {
     /// A disk without files.
-    pub fn new(alloc: Global) -> MemoryDisk {
+    pub fn new(alloc: Global) -> MemoryDisk
+        ensures empty { result.files.items ≡ [] }
+        ensures faults { result.faults ≡ 0 }
+    {
         MemoryDisk {
             files: Vec::new(alloc),
             faults: 0,
@@ -40,6 +44,7 @@ impl MemoryDisk {
     pub fn store(&mut self, path: &str, bytes: &[u8]) -> Result<(), AllocError>
         ensures holds { OnOk result (first_at self.new.files.items path.now ≡ Some bytes.now) }
         ensures spares { Spares (Some (first_at self.old.files.items)) (Some (first_at self.new.files.items)) path.now }
+        ensures same { OnErr result (self.new.files.items ≡ self.old.files.items) }
         ensures faults { self.new.faults ≡ self.old.faults }
     {
         let path = String::from_str(self.alloc, path)?;
@@ -59,32 +64,36 @@ impl MemoryDisk {
         }
         None
     }
+
+    fn copy_of(&self, path: &str) -> Result<Vec<u8>, FileFault>
+        ensures found { IfOk result (λ v. first_at self.now.files.items path.now ≡ Some v.items) }
+        ensures missing { (first_at self.now.files.items path.now ≡ None) ↔ (result ≡ Err Device) }
+    {
+        match self.find(path) {
+            Some(bytes) => match bytes.to_vec(self.alloc) {
+                Ok(bytes) => Ok(bytes),
+                Err(_) => Err(FileFault::Memory),
+            },
+            None => Err(FileFault::Device),
+        }
+    }
 }
 
 impl Disk for MemoryDisk {
     ghost told = { λ s. record { files = Some (first_at s.files.items); faults = s.faults } };
 
     fn read(&mut self, path: &str) -> Result<Vec<u8>, FileFault> {
-        let answer = match self.find(path) {
-            Some(bytes) => match bytes.to_vec(self.alloc) {
-                Ok(bytes) => Ok(bytes),
-                Err(_) => Err(FileFault::Memory),
-            },
-            None => Err(FileFault::Device),
-        };
-        if answer.is_err() {
-            self.faults = self.faults.saturating_add(1);
-        }
+        let answer = self.copy_of(path);
+        self.faults = counted(self.faults, &answer);
         answer
     }
 
     fn write(&mut self, path: &str, bytes: &[u8]) -> Result<(), FileFault> {
-        match self.store(path, bytes) {
+        let answer = match self.store(path, bytes) {
             Ok(()) => Ok(()),
-            Err(_) => {
-                self.faults = self.faults.saturating_add(1);
-                Err(FileFault::Memory)
-            }
-        }
+            Err(_) => Err(FileFault::Memory),
+        };
+        self.faults = counted(self.faults, &answer);
+        answer
     }
 }

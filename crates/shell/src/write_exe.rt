@@ -1,7 +1,7 @@
 //! All bytes, written.
 ghost use Rattle.std.specs.Prelude.{OnOk, IfErr, OnErr, map};
 ghost use Rattle.std.specs.List.{concat};
-ghost use Rattle.shell.specs.Sink.{Sends, Stops, Breaks};
+ghost use Rattle.shell.specs.Sink.{Sends, Stops, StopsIn, Breaks};
 
 use crate::sink::Sink;
 
@@ -43,6 +43,7 @@ pub fn write_exe<S: Sink>(bytes: &[u8], out: &mut S) -> Result<(), WriteFault>
 pub fn write_parts<S: Sink>(parts: &[&[u8]], out: &mut S) -> Result<(), WriteFault>
     ensures all { OnOk result (Sends (S.told out.old) (S.told out.new) (concat (map (λ p. p.now) parts.now))) }
     ensures some { OnErr result (Breaks (S.told out.old) (S.told out.new) (concat (map (λ p. p.now) parts.now))) }
+    ensures within { IfErr result (λ fault. StopsIn (S.told out.old) (S.told out.new) (map (λ p. p.now) parts.now) fault.written) }
 {
     for part in parts {
         write_exe(*part, out)?;

@@ -1,6 +1,6 @@
 use Rattle.std.proofs.Common.{ℕ, List, Bor}
 use Rattle.std.proofs.lemmas.Result.{err_from_is_err_and}
-use Rattle.shell.proofs.SinkLemmas.{sends_next, breaks_next, stop_breaks}
+use Rattle.shell.proofs.SinkLemmas.{sends_next, breaks_next, stop_breaks, stops_in}
 use Rattle.shell.proofs.write_exe.write_parts.Goals as goal
 
 pub returns-in_err-write_exe-clause-some : goal.returns-in_err-write_exe-clause-some
@@ -10,6 +10,13 @@ returns-in_err-write_exe-clause-some g c =
     rw p.1
     (breaks_next (λ (p : Bor (List ℕ)). p.now) (g.S.Sink.told c.args.out.now) (g.S.Sink.told c.loop-part.out) (g.S.Sink.told c.write_exe.new.out) c.args.parts.now c.loop-part.part-index _ c.loop-part-test.true
     c.loop-part.invariant broke)
+
+pub returns-in_err-write_exe-clause-within : goal.returns-in_err-write_exe-clause-within
+returns-in_err-write_exe-clause-within g c =
+    let p = err_from_is_err_and c.from_residual.result c.from_residual.ensures.1 in
+    rw (p.1, p.2)
+    (stops_in (λ (p : Bor (List ℕ)). p.now) (g.S.Sink.told c.args.out.now) (g.S.Sink.told c.loop-part.out) (g.S.Sink.told c.write_exe.new.out) c.args.parts.now c.loop-part.part-index _ _ c.loop-part-test.true
+    c.loop-part.invariant c.in_err-write_exe.ensures.some)
 
 pub loop-part-preserved : goal.loop-part-preserved
 loop-part-preserved g c =

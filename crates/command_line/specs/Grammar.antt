@@ -1,0 +1,83 @@
+-- The grammar of the command line, as `clap` reads one.
+use Rattle.std.specs.Prelude.{◌≡◌, ℕ, true, false, List, [], ◌∷◌, codes, Some}
+use Rattle.clap.specs.Lexer.{usize_max}
+use Rattle.clap.specs.Walk.{Rule, rule_of}
+use Rattle.clap.specs.Simple.{App, app_of, new_app, new_rule, new_shape, with_rule, with_subcommand}
+use Rattle.clap.specs.declared.builder.arg.Arg.{Arg}
+use Rattle.clap.specs.declared.builder.command.Command.{Command}
+use Rattle.clap.specs.declared.builder.command.Command.TheViews.{out-Command as fields_of}
+use Rattle.clap.specs.declared.builder.value_parser.ValueParser.TheVariants as vp
+
+-- ---- the arguments
+
+-- -o OUT
+abbrev pub out_rule : Rule
+out_rule = record (new_rule (codes "OUT")) { short = Some 111; required = true }
+
+-- FILE...
+abbrev pub files_rule : Rule
+files_rule = record (new_rule (codes "FILES")) {
+  value_names = 1;
+  required = true;
+  range = Some (record { start_inclusive = 1; end_inclusive = usize_max });
+}
+
+-- --limit N, from 0 to 10^12, or else 10^9
+abbrev pub limit_rule : Rule
+limit_rule = record (new_rule (codes "limit")) {
+  long = Some (codes "limit");
+  value_names = 1;
+  parser = Some (vp.Unsigned 0 1000000000000);
+  defaults = codes "1000000000" ∷ [];
+}
+
+-- EXE, or FILE
+abbrev pub path_rule : List ℕ → Rule
+path_rule name = record (new_rule name) { required = true }
+
+-- WORD...
+abbrev pub words_rule : Rule
+words_rule = record (new_rule (codes "WORDS")) {
+  value_names = 1;
+  range = Some (record { start_inclusive = 0; end_inclusive = usize_max });
+}
+
+-- ---- the commands
+
+abbrev pub build_app : App
+build_app = with_rule (with_rule (new_app (codes "build")) out_rule) files_rule
+
+abbrev pub run_app : App
+run_app = with_rule (with_rule (with_rule (new_app (codes "run")) limit_rule)
+    (path_rule (codes "EXE"))) words_rule
+
+abbrev pub interp_app : App
+interp_app = with_rule (with_rule (with_rule (new_app (codes "interp")) limit_rule)
+    (path_rule (codes "FILE"))) words_rule
+
+abbrev pub dis_app : App
+dis_app = with_rule (new_app (codes "dis")) (path_rule (codes "EXE"))
+
+-- there is no word for the program before the first one, a command has to be named, and there is a
+-- version, but no command `help`
+abbrev pub program_app : App
+program_app = record {
+  top = record (new_shape (codes "qbec")) {
+    no_binary_name = true;
+    subcommand_required = true;
+    disable_help_subcommand = true;
+    has_version = true;
+  };
+  subs = [];
+}
+
+abbrev pub qbec_app : App
+qbec_app = with_subcommand (with_subcommand (with_subcommand (with_subcommand program_app
+    build_app.top) run_app.top) interp_app.top) dis_app.top
+
+-- the command is read so, and so are its arguments
+abbrev pub IsRead : Command → App → Type 0
+IsRead c app = (app_of c ≡ app) × ((fields_of c).has_globals ≡ false)
+
+abbrev pub IsRuled : Arg → Rule → Type 0
+IsRuled a rule = (rule_of a ≡ rule) × (a.global ≡ false)
