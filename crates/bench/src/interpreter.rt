@@ -1,5 +1,5 @@
 //! How fast programs are interpreted.
-use crate::phis::phis;
+use crate::texts::{Shape, text_of};
 use il_ast::value::End;
 use il_interp::interpret::interpret;
 use il_reader::read::read;
@@ -82,7 +82,7 @@ fn measured(alloc: Global, measure: Turns, turns: u64) -> Option<(Vec<u8>, End)>
         Turns::Memory => answer(alloc, MEMORY.as_bytes(), &[], turns),
         Turns::Calls => answer(alloc, CALLS.as_bytes(), &[], turns),
         Turns::Phis => {
-            let text = phis(alloc).ok()?;
+            let text = text_of(alloc, Shape::Phis, 195).ok()?;
             answer(alloc, text.as_bytes(), &[], turns)
         }
     }

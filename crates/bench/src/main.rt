@@ -9,7 +9,7 @@
 //! |---|---|---|
 //! | `machine` | `alu` (operations and a branch), `memory` (with a load and a store), `alu-paged`, `memory-paged` (over pages) | instructions |
 //! | `interpreter` | `alu`, `memory`, `calls` (a recursion 50,000 deep), `phis` (a block of 195 phis) | turns |
-//! | `front`, `compile`, `certificates` | `functions` (of six lines with a loop), `lines` (one function over 4,000 temporaries), `locals` (one function over 3,990 locals in memory), `phi`, `bytes` (a datum) | functions, lines, changes, blocks, bytes |
+//! | `front`, `compile`, `certificates` | `functions` (of six lines with a loop), `lines` (one function over 4,000 temporaries), `locals` (one function over 3,990 locals in memory), `wide` (one function with 3,990 temporaries live throughout), `phi` (with many predecessors), `phis` (as many as predecessors), `bytes` (a datum) | functions, lines, changes, blocks, predecessors, predecessors, bytes |
 //! | `text` | the same | the text itself is printed |
 //! | `liveness` | `live` (blocks in reverse), `ladder`, `nest` (loops in one another) | blocks of 40 points, over 4,000 registers |
 //! | `sets` | | a thousand joins of sets of numbers below it |
@@ -39,7 +39,7 @@ use std::time::Instant;
 use std::{env, fs, io};
 
 /// A measure, a kind and a size, for each part.
-const LITTLE: [(&str, &str, u64); 9] = [
+const LITTLE: [(&str, &str, u64); 11] = [
     ("machine", "alu", 1000),
     ("machine", "memory-paged", 1000),
     ("interpreter", "alu", 1000),
@@ -47,17 +47,20 @@ const LITTLE: [(&str, &str, u64); 9] = [
     ("front", "functions", 10),
     ("compile", "bytes", 10),
     ("certificates", "functions", 10),
+    ("certificates", "phis", 10),
+    ("certificates", "wide", 10),
     ("liveness", "live", 10),
     ("moves", "", 10),
 ];
 
 /// The rows of the table.
-const TABLE: [(&str, &str, u64); 9] = [
+const TABLE: [(&str, &str, u64); 10] = [
     ("front", "lines", 36_000),
     ("front", "bytes", 4_000_000),
     ("compile", "functions", 10_000),
     ("compile", "lines", 36_000),
     ("compile", "locals", 11_900),
+    ("compile", "wide", 4_500),
     ("interpreter", "alu", 20_000_000),
     ("machine", "alu", 1_000_000_000),
     ("machine", "memory-paged", 1_000_000_000),
@@ -69,6 +72,8 @@ fn shape_of(kind: &str) -> Shape {
         "lines" => Shape::Lines,
         "locals" => Shape::Locals,
         "phi" => Shape::Phi,
+        "phis" => Shape::Phis,
+        "wide" => Shape::Wide,
         "bytes" => Shape::Bytes,
         _ => Shape::Functions,
     }

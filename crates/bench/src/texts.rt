@@ -1,5 +1,9 @@
 //! Texts of any size.
+use crate::phis::push_phis;
 use std::alloc::{AllocError, Global};
+
+/// How many numbers live through all blocks of a wide function.
+const KEPT: u32 = 3_990;
 
 /// What a text is made of.
 #[derive(Clone, Copy)]
@@ -12,6 +16,10 @@ pub enum Shape {
     Locals,
     /// so many blocks before a phi that names them all
     Phi,
+    /// a block of so many phis and as many predecessors
+    Phis,
+    /// one function of so many blocks, through all of which 3,990 temporaries live
+    Wide,
     /// a datum of so many bytes, of four characters each
     Bytes,
 }
@@ -24,6 +32,8 @@ pub fn text_of(alloc: Global, shape: Shape, size: u32) -> Result<String, AllocEr
         Shape::Lines => lines(&mut text, size)?,
         Shape::Locals => locals(&mut text, size)?,
         Shape::Phi => phi(&mut text, size)?,
+        Shape::Phis => push_phis(&mut text, size)?,
+        Shape::Wide => wide(&mut text, size)?,
         Shape::Bytes => bytes(&mut text, size)?,
     }
     Ok(text)
@@ -83,4 +93,42 @@ fn bytes(text: &mut String, count: u32) -> Result<(), AllocError> {
         write!(text, "{byte} ")?;
     }
     text.push_str("}\n")
+}
+
+// A temporary of those that live throughout, another one for each number.
+fn kept(number: u32) -> u32 {
+    number % KEPT
+}
+
+fn wide(text: &mut String, count: u32) -> Result<(), AllocError> {
+    text.push_str("export function w $main() {\n@start\n\t%x =w copy 0\n")?;
+    for number in 0..KEPT {
+        writeln!(text, "\t%t{number} =w copy {number}")?;
+    }
+    push_wide_blocks(text, count)?;
+    push_sum(text)
+}
+
+// Each block reads three of them, writes a fourth one, and goes on at the next block or at the one behind it.
+fn push_wide_blocks(text: &mut String, count: u32) -> Result<(), AllocError> {
+    for number in 0..count {
+        let to = kept(number);
+        let one = kept(number.wrapping_mul(7));
+        let other = kept(number.wrapping_mul(31));
+        let next = number.saturating_add(1);
+        let second = next.saturating_add(1).min(count);
+        writeln!(text, "@b{number}\n\t%y =w add %x, %t{one}")?;
+        writeln!(text, "\t%z =w xor %y, %t{other}")?;
+        writeln!(text, "\t%t{to} =w sub %t{to}, %z")?;
+        writeln!(text, "\t%x =w add %z, {number}")?;
+        writeln!(text, "\tjnz %y, @b{next}, @b{second}")?;
+    }
+    writeln!(text, "@b{count}")
+}
+
+fn push_sum(text: &mut String) -> Result<(), AllocError> {
+    for number in 0..KEPT {
+        writeln!(text, "\t%x =w add %x, %t{number}")?;
+    }
+    text.push_str("\tret %x\n}\n")
 }

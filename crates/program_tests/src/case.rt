@@ -20,6 +20,8 @@ pub struct Case {
     pub weights: String,
     /// at least so many instructions of its file add
     pub additions: usize,
+    /// at least so often linear scan names a register of the machine for a line or a jump
+    pub registers: u64,
     /// strategies of every kind are tried on it
     pub is_tried: bool,
     /// its bytes by the two strategies of the compiler differ
@@ -44,6 +46,7 @@ impl Case {
             needs: String::new(alloc),
             weights: String::new(alloc),
             additions: 0,
+            registers: 0,
             is_tried: false,
             differs: false,
             is_cut: false,

@@ -5,7 +5,8 @@ use crate::report::Report;
 use commands::failure::Failure;
 use commands::refusal::Refusal;
 use commands::tell::tell;
-use elf_file::LoadError;
+use elf_file::{LoadError, write_image};
+use obj_link::Image;
 use shell::disk::FileFault;
 use shell::memory::MemorySink;
 use std::alloc::{AllocError, Global};
@@ -37,12 +38,31 @@ const ON_MEMORY: [(&str, &str); 5] = [
     ("dis broken", "126 qbec: memory"),
 ];
 
-/// The files `halts` and `seven`, and `made`, an executable of the first.
+/// A word that is no instruction.
+const FAULTS: [u32; 1] = [0];
+
+/// `addi x10, x0, 9`, `addi x17, x0, 93` and `ecall`: a program that exits with 9.
+const EXITS: [u32; 3] = [0x0090_0513, 0x05d0_0893, 0x0000_0073];
+
+// An executable of a few words.
+fn executable(alloc: Global, code: &[u32]) -> Result<Vec<u8>, AllocError> {
+    let code = code.to_vec(alloc)?;
+    if code.is_empty() || code.len() > 3 {
+        return Ok(Vec::new(alloc));
+    }
+    write_image(alloc, &Image::new(code, Vec::new(alloc)))
+}
+
+/// The files `halts` and `seven`, `made`, an executable of the first, and executables of a few words: `faults` and `exits`.
 pub fn disk_of(alloc: Global) -> Result<BrokenDisk, AllocError> {
     let mut disk = BrokenDisk::new(alloc);
     disk.store("halts", HALTS.as_bytes())?;
     disk.store("seven", SEVEN.as_bytes())?;
     let _ = perform_words(alloc, &mut disk, "build -o made halts")?;
+    let faults = executable(alloc, &FAULTS)?;
+    disk.store("faults", faults.as_slice())?;
+    let exits = executable(alloc, &EXITS)?;
+    disk.store("exits", exits.as_slice())?;
     Ok(disk)
 }
 

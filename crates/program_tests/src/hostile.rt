@@ -8,7 +8,7 @@ use std::alloc::AllocError;
 use vcode::place::Location;
 
 /// What the strategies answer.
-const ANSWERS: [Answer; 36] = [
+const ANSWERS: [Answer; 39] = [
     Answer::Nothing,
     Answer::Blank,
     Answer::Everywhere(Location::Register(0)),
@@ -40,6 +40,9 @@ const ANSWERS: [Answer; 36] = [
     Answer::OneInX5(1),
     Answer::OneInX5(2),
     Answer::InTurn,
+    Answer::Turned { by: 1 },
+    Answer::Turned { by: 4 },
+    Answer::Backward,
     Answer::Moves {
         from: Location::Register(5),
         to: Location::Slot(0),

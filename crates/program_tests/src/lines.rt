@@ -1,7 +1,7 @@
 //! Words of the command line, and what is shown for them.
 //!
 //! In `lines.cases` a line `$ WORDS` begins a case, the next one is the status, and the lines up to one that is a dot are what goes to standard output and then to
-//! standard error. Three files are there: the texts `seven` and `halts`, and `made`, which the second is built to.
+//! standard error. Five files are there: the texts `seven` and `halts`, `made`, which the second is built to, `faults`, an executable whose one word is no instruction, and `exits`, one of three instructions.
 use crate::commanded::{Done, perform};
 use crate::devices::disk_of;
 use crate::report::Report;

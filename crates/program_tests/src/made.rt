@@ -4,6 +4,9 @@ use std::alloc::{AllocError, Global};
 
 const MAIN: &str = "export function w $main() {\n@s\n";
 
+/// How many numbers live through all of a wide function.
+const KEPT: u64 = 500;
+
 /// Adds the texts of a rule of this size.
 pub fn push_made(
     alloc: Global,
@@ -27,6 +30,9 @@ pub fn push_made(
         "phis" => phis(&mut text, size)?,
         "bytes" => bytes(&mut text, size)?,
         "branches" => push_branches(&mut text, size)?,
+        "chain" => chain(&mut text, size)?,
+        "far" => far(&mut text, size)?,
+        "wide" => wide(&mut text, size)?,
         _ => {}
     }
     texts.push(text.as_bytes().to_vec(alloc)?)?;
@@ -164,4 +170,61 @@ fn bytes(text: &mut String, size: u64) -> Result<(), AllocError> {
         text.push('c')?;
     }
     Ok(())
+}
+
+// So many copies, of a number and then each of the one before, over 3,000 temporaries.
+fn chain(text: &mut String, count: u64) -> Result<(), AllocError> {
+    text.push_str(MAIN)?;
+    text.push_str("%t0 =w copy 77\n")?;
+    for number in 1..count {
+        let to = number % 3_000;
+        let from = number.wrapping_sub(1) % 3_000;
+        write!(text, "%t{to} =w copy %t{from}\n")?;
+    }
+    let last = count.saturating_sub(1) % 3_000;
+    write!(text, "ret %t{last}\n}}\n")
+}
+
+// A loop over so many additions of long numbers, each one more than the one before, gone round once.
+fn far(text: &mut String, count: u64) -> Result<(), AllocError> {
+    text.push_str(MAIN)?;
+    text.push_str("%x =l copy 0\n%k =w copy 0\n@t\njnz %k, @e, @b\n@b\n")?;
+    for number in 0..count {
+        let value = 0x1234_5678_9abc_def1u64.wrapping_add(number);
+        write!(text, "%x =l add %x, {value}\n")?;
+    }
+    text.push_str("%k =w copy 1\njmp @t\n@e\nret %x\n}\n")
+}
+
+// So many blocks, gone round twice, each of which adds 1 to one number and its own number to one of many. All are added in the end.
+fn wide(text: &mut String, count: u64) -> Result<(), AllocError> {
+    text.push_str(MAIN)?;
+    text.push_str("%sum =l copy 0\n%one =w copy 1\n%again =w copy 1\n")?;
+    for number in 0..KEPT {
+        write!(text, "%t{number} =l copy {number}\n")?;
+    }
+    push_wide_blocks(text, count)?;
+    push_wide_sum(text)
+}
+
+// Each block goes on at the next one; it would leave the loop early if `%one` were 0.
+fn push_wide_blocks(text: &mut String, count: u64) -> Result<(), AllocError> {
+    for number in 0..count {
+        let to = number % KEPT;
+        let next = number.saturating_add(1);
+        write!(text, "@b{number}\n%sum =l add %sum, 1\n")?;
+        write!(
+            text,
+            "%t{to} =l add %t{to}, {number}\njnz %one, @b{next}, @end\n"
+        )?;
+    }
+    write!(text, "@b{count}\n%more =w copy %again\n%again =w copy 0\n")?;
+    text.push_str("jnz %more, @b0, @end\n@end\n")
+}
+
+fn push_wide_sum(text: &mut String) -> Result<(), AllocError> {
+    for number in 0..KEPT {
+        write!(text, "%sum =l add %sum, %t{number}\n")?;
+    }
+    text.push_str("ret %sum\n}\n")
 }

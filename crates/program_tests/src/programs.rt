@@ -131,7 +131,7 @@ fn functions_of(alloc: Global, texts: &[&[u8]]) -> Result<u64, AllocError> {
     Ok(weights.as_str().split_whitespace().count() as u64)
 }
 
-// By linear scan: it is asked once for each function, and each of its answers is accepted.
+// By linear scan: it is asked once for each function, and each time its answer is accepted.
 fn check_compiled(
     case: &Case,
     texts: &[&[u8]],
@@ -150,8 +150,9 @@ fn check_compiled(
         }
         Compiled::Refused(why) => report.fail("compile", "a file", why.as_str())?,
     }
-    report.holds("each certificate is accepted", how.refused == 0)?;
+    report.holds("each certificate is accepted", how.accepted == how.asked)?;
     report.holds("a value is moved", 0 < how.moves || !case.is_cut)?;
+    report.holds("registers are named", how.named >= case.registers)?;
     let functions = functions_of(alloc, texts)?;
     report.holds("once for each function", how.asked == functions)
 }

@@ -48,6 +48,12 @@ pub enum Answer {
     OneInX5(u32),
     /// x5 to x27, in turn by the register's number
     InTurn,
+    /// x10 to x17 for the first eight registers, each so many further round than where a parameter of that number comes in, and slots for the others
+    Turned {
+        by: u32,
+    },
+    /// x17 to x10 for them
+    Backward,
     /// the right slots, with so many moves from place to place before each point
     Moves {
         from: Location,
@@ -86,6 +92,20 @@ fn place(answer: Answer, register: u32) -> Location {
             }
         }
         Answer::InTurn => Location::Register((register % 23) as u8 + 5),
+        Answer::Turned { by } => {
+            if register < 8 {
+                Location::Register((register.wrapping_add(by) % 8) as u8 + 10)
+            } else {
+                Location::Slot(register)
+            }
+        }
+        Answer::Backward => {
+            if register < 8 {
+                Location::Register(17 - register as u8)
+            } else {
+                Location::Slot(register)
+            }
+        }
         _ => Location::Slot(register),
     }
 }

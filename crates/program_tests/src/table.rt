@@ -14,6 +14,7 @@
 //! | `output HEX`, `prints`, `zeros N` | the output: in hexadecimal; the lines up to one that is a dot; N bytes 0 |
 //! | `limit N`, `turns N`, `price N`, `needs N N ..`, `weighs N N ..` | turns and instructions given; turns and price of the run; measures of the functions |
 //! | `additions N` | at least so many instructions of its file add |
+//! | `registers N` | at least so often linear scan names a register of the machine for a line or a jump |
 //! | `tried`, `differs`, `cut`, `large` | strategies of every kind are tried; the bytes by both strategies differ; linear scan moves a value; it is compiled once |
 use crate::case::Case;
 use crate::made::push_made;
@@ -147,6 +148,7 @@ fn take_of(alloc: Global, case: &mut Case, key: &str, rest: &str) -> Result<(), 
         "needs" => case.needs = String::from_str(alloc, rest)?,
         "weighs" => case.weights = String::from_str(alloc, rest)?,
         "additions" => case.additions = number(rest) as usize,
+        "registers" => case.registers = number(rest),
         "tried" => case.is_tried = true,
         "differs" => case.differs = true,
         "cut" => case.is_cut = true,

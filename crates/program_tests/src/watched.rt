@@ -1,20 +1,22 @@
 //! Linear scan, watched.
 use alloc_check::accept::accept;
 use cfg_live::sets::Live;
-use regalloc::certificate::Certificate;
+use regalloc::certificate::{Certificate, Equality};
 use regalloc::linear_scan::LinearScan;
 use regalloc::strategy::Strategy;
 use std::alloc::Global;
 use vcode::function::VFunc;
+use vcode::place::Location;
 
-/// Linear scan, which counts how often it is asked, how many of its answers aren't accepted, and the moves of all of them.
+/// Linear scan, which counts how often it is asked, how many of its answers are accepted, their moves, and how often their points name a register of the machine.
 #[derive(Drop)]
 pub struct Watched {
     alloc: Global,
     scan: LinearScan,
     pub asked: u64,
-    pub refused: u64,
+    pub accepted: u64,
     pub moves: u64,
+    pub named: u64,
 }
 
 impl Watched {
@@ -23,8 +25,9 @@ impl Watched {
             alloc,
             scan: LinearScan::new(alloc),
             asked: 0,
-            refused: 0,
+            accepted: 0,
             moves: 0,
+            named: 0,
         }
     }
 }
@@ -37,13 +40,32 @@ fn move_count(certificate: &Certificate) -> u64 {
     count
 }
 
+fn named_in(places: &[Equality]) -> u64 {
+    let mut count = 0u64;
+    for equality in places {
+        if let Location::Register(_) = equality.place {
+            count = count.saturating_add(1);
+        }
+    }
+    count
+}
+
+fn named_count(certificate: &Certificate) -> u64 {
+    let mut count = 0u64;
+    for places in certificate.places.as_slice() {
+        count = count.saturating_add(named_in(places.as_slice()));
+    }
+    count
+}
+
 impl Strategy for Watched {
     fn choose(&mut self, function: &VFunc, live: &Live) -> Option<Certificate> {
         self.asked = self.asked.saturating_add(1);
         let certificate = self.scan.choose(function, live)?;
         self.moves = self.moves.saturating_add(move_count(&certificate));
-        if accept(self.alloc, function, &certificate).is_err() {
-            self.refused = self.refused.saturating_add(1);
+        self.named = self.named.saturating_add(named_count(&certificate));
+        if accept(self.alloc, function, &certificate).is_ok() {
+            self.accepted = self.accepted.saturating_add(1);
         }
         Some(certificate)
     }
