@@ -1,6 +1,7 @@
 -- What each command did, over a disk, standard output and standard error: what they told before and
 -- after.
 use Rattle.std.specs.Prelude.{◌≡◌, ◌⊎◌, ℕ, List, map}
+use Rattle.command_line.specs.Words.{AskFor, SaysWhy}
 use Rattle.command_line.specs.declared.Command.{Command}
 use Rattle.command_line.specs.declared.Command.TheVariants.{Build, Run, Interpret, Disassemble}
 use Rattle.command_line.specs.declared.refusal.Refusal.{Refusal as CommandRefusal}
@@ -66,13 +67,14 @@ pub record World : Type 0 where
   pub out : SinkState
   pub err : SinkState
 
--- some command was done, with its status, and nothing went to standard error; or it failed, and
--- that is reported; or a text of the command line was shown, and no call of the disk failed and no
--- file changed. Which words ask for what isn't said
-unfoldable pub Ends : (old new : World) → (status : ℕ) → Type 0
-Ends old new status =
-    ((c : Command) × Done c old.disk new.disk old.out new.out status × (new.err ≡ old.err))
-    ⊎ ((c : Command) × (f : Failure) × Fails c old.disk new.disk old.out new.out f
+-- the command that the words ask for was done, with its status, and nothing went to standard error;
+-- or it failed, and that is reported; or the words ask for none, a text that says so was shown, and
+-- no call of the disk failed and no file changed
+unfoldable pub Ends : (words : List (List ℕ)) (old new : World) → (status : ℕ) → Type 0
+Ends words old new status =
+    ((c : Command) × AskFor words c × Done c old.disk new.disk old.out new.out status
+    × (new.err ≡ old.err))
+    ⊎ ((c : Command) × (f : Failure) × AskFor words c × Fails c old.disk new.disk old.out new.out f
     × Reported f old.err new.err status)
-    ⊎ ((r : CommandRefusal) × IsShown r old.out new.out old.err new.err status
+    ⊎ ((r : CommandRefusal) × SaysWhy words r × IsShown r old.out new.out old.err new.err status
     × (new.disk ≡ old.disk))

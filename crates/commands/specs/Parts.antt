@@ -1,6 +1,6 @@
 -- What the commands do, over any disk and any standard output: what files hold is compiled, run,
 -- interpreted or shown so, and the end gives the status or the failure.
-use Rattle.std.specs.Prelude.{◌≡◌, ◌⊎◌, ℕ, List, [], ◌∷◌, ◌++◌, Option, Ok, Err}
+use Rattle.std.specs.Prelude.{◌≡◌, ◌⊎◌, ℕ, List, [], ◌∷◌, ◌++◌, Option, Result, Ok, Err}
 use Rattle.std.specs.List.{concat}
 use Rattle.std.specs.Borrow.{Bor}
 use Rattle.il_ast.specs.declared.value.End.{End}
@@ -52,90 +52,83 @@ pub record MissesFile (old new : DiskState) (paths : List (List ℕ)) (f : Failu
 
 -- ---- build
 
--- the file `out` has an executable of what the texts of the files mean, no other file changed, and
--- no call failed
-pub record IsBuilt (old new : DiskState) (paths : List (List ℕ)) (out : List ℕ) : Type 0 where
-  pub texts : List (List ℕ)
+-- the file `out` has an executable of what these texts mean, no other file changed, and no call
+-- failed
+pub record IsMade (old new : DiskState) (texts : List (List ℕ)) (out : List ℕ) : Type 0 where
   pub bytes : List ℕ
-  pub held : AllHold old.files paths texts
   pub compiled : IsCompiled texts bytes
   pub written : Holds new.files out bytes
   pub spared : Spares old.files new.files out
   pub clean : new.faults ≡ old.faults
 
--- or it fails so: a file is unread, there was no memory, or the texts are refused, and no file
--- changed; or they were compiled, and `out` couldn't be written
+-- or it fails so: the texts are refused, and no file changed; or they were compiled, and `out`
+-- couldn't be written
+unfoldable pub MakingFails : (old new : DiskState) → (texts : List (List ℕ)) → Bor (List ℕ) →
+    Failure → Type 0
+MakingFails old new texts out f =
+    ((e : CompileError) × RefusesTexts e texts × (f ≡ Refused (compile_refusal e)) × (new ≡ old))
+    ⊎ ((bytes : List ℕ) × IsCompiled texts bytes × IsUnwritten old new out f)
+
+-- the same of the texts in files
+pub record IsBuilt (old new : DiskState) (paths : List (List ℕ)) (out : List ℕ) : Type 0 where
+  pub texts : List (List ℕ)
+  pub held : AllHold old.files paths texts
+  pub made : IsMade old new texts out
+
+-- or a file is unread, or there was no memory, and no file changed
 unfoldable pub BuildFails : (old new : DiskState) → (paths : List (List ℕ)) → Bor (List ℕ) →
     Failure → Type 0
 BuildFails old new paths out f =
     MissesFile old new paths f ⊎ ((f ≡ Memory) × (new ≡ old))
-    ⊎ ((texts : List (List ℕ)) × (e : CompileError)
-    × AllHold old.files paths texts × RefusesTexts e texts × (f ≡ Refused (compile_refusal e))
-    × (new ≡ old))
-    ⊎ ((texts : List (List ℕ)) × (bytes : List ℕ)
-    × AllHold old.files paths texts × IsCompiled texts bytes × IsUnwritten old new out f)
+    ⊎ ((texts : List (List ℕ)) × AllHold old.files paths texts × MakingFails old new texts out f)
 
 -- ---- run and interp
 
--- the bytes of the file ran so, and what they put out went out
+-- what was put out went out, and it ended in this failure; or a beginning of it went out, and then
+-- standard output failed
+abbrev pub EndsBadly : (output : List ℕ) (end : Result ℕ Failure) (old new : SinkState) →
+    Failure → Type 0
+EndsBadly output end old new f =
+    (Sends old new output × (end ≡ Err f)) ⊎ (Breaks old new output × (f ≡ Output))
+
+-- the bytes of the file run so
 pub record RanFile (disk : DiskState) (path : List ℕ) (words : List (List ℕ)) (limit : ℕ)
-    (old new : SinkState) (stop : Stop) : Type 0 where
+    (output : List ℕ) (stop : Stop) : Type 0 where
   pub bytes : List ℕ
-  pub output : List ℕ
   pub held : Holds disk.files path bytes
   pub runs : RunsFile bytes words limit output stop
-  pub sent : Sends old new output
 
--- they ran so, but a beginning of what they put out went out, and then standard output failed
-pub record RanUnheard (disk : DiskState) (path : List ℕ) (words : List (List ℕ)) (limit : ℕ)
-    (old new : SinkState) (stop : Stop) : Type 0 where
-  pub bytes : List ℕ
-  pub output : List ℕ
-  pub held : Holds disk.files path bytes
-  pub runs : RunsFile bytes words limit output stop
-  pub broke : Breaks old new output
-
--- the same of the text in a file
+-- the text in the file means so much
 pub record RanText (disk : DiskState) (path : List ℕ) (words : List (List ℕ)) (turns : ℕ)
-    (old new : SinkState) (ending : End) : Type 0 where
+    (output : List ℕ) (ending : End) : Type 0 where
   pub text : List ℕ
-  pub output : List ℕ
   pub held : Holds disk.files path text
   pub means : MeansText text words turns output ending
-  pub sent : Sends old new output
 
-pub record RanTextUnheard (disk : DiskState) (path : List ℕ) (words : List (List ℕ)) (turns : ℕ)
-    (old new : SinkState) (ending : End) : Type 0 where
-  pub text : List ℕ
-  pub output : List ℕ
-  pub held : Holds disk.files path text
-  pub means : MeansText text words turns output ending
-  pub broke : Breaks old new output
-
--- with this status
+-- what they put out went out, and they ended with this status
 unfoldable pub RunsTo : DiskState → (path : List ℕ) →
     (words : List (List ℕ)) (limit : ℕ) (old new : SinkState) (status : ℕ) → Type 0
 RunsTo disk path words limit old new status =
-    (stop : Stop) × RanFile disk path words limit old new stop × (stop_status stop ≡ Ok status)
+    (output : List ℕ) × (stop : Stop) × RanFile disk path words limit output stop
+    × Sends old new output × (stop_status stop ≡ Ok status)
 
 unfoldable pub MeansTo : DiskState → (path : List ℕ) →
     (words : List (List ℕ)) (turns : ℕ) (old new : SinkState) (status : ℕ) → Type 0
 MeansTo disk path words turns old new status =
-    (ending : End) × RanText disk path words turns old new ending × (end_status ending ≡ Ok status)
+    (output : List ℕ) × (ending : End) × RanText disk path words turns output ending
+    × Sends old new output × (end_status ending ≡ Ok status)
 
 -- or with this failure: the file is unread, there was no memory, or the file is refused, and
--- nothing was put out; it ended so; or standard output failed. No file changed, and no call of the
--- disk failed but the one for the file
+-- nothing was put out; or it ended badly. No file changed, and no call of the disk failed but the
+-- one for the file
 unfoldable pub RunFails : (disk after : DiskState) → Bor (List ℕ) →
     (words : List (List ℕ)) (limit : ℕ) (old new : SinkState) → Failure → Type 0
 RunFails disk after path words limit old new f =
     (IsUnread disk after path f × (new ≡ old)) ⊎ ((f ≡ Memory) × (after ≡ disk) × (new ≡ old))
     ⊎ ((bytes : List ℕ) × Holds disk.files path.now bytes × FileIsRefused bytes words f
     × (after ≡ disk) × (new ≡ old))
-    ⊎ ((stop : Stop) × RanFile disk path.now words limit old new stop × (stop_status stop ≡ Err f)
-    × (after ≡ disk))
-    ⊎ ((stop : Stop) × RanUnheard disk path.now words limit old new stop × (f ≡ Output)
-    × (after ≡ disk))
+    ⊎ ((output : List ℕ) × (stop : Stop) × RanFile disk path.now words limit output stop
+    × EndsBadly output (stop_status stop) old new f × (after ≡ disk))
 
 unfoldable pub InterpretFails : (disk after : DiskState) → Bor (List ℕ) →
     (words : List (List ℕ)) (turns : ℕ) (old new : SinkState) → Failure → Type 0
@@ -143,10 +136,8 @@ InterpretFails disk after path words turns old new f =
     (IsUnread disk after path f × (new ≡ old)) ⊎ ((f ≡ Memory) × (after ≡ disk) × (new ≡ old))
     ⊎ ((text : List ℕ) × Holds disk.files path.now text × TextIsRefused text words f
     × (after ≡ disk) × (new ≡ old))
-    ⊎ ((ending : End) × RanText disk path.now words turns old new ending
-    × (end_status ending ≡ Err f) × (after ≡ disk))
-    ⊎ ((ending : End) × RanTextUnheard disk path.now words turns old new ending × (f ≡ Output)
-    × (after ≡ disk))
+    ⊎ ((output : List ℕ) × (ending : End) × RanText disk path.now words turns output ending
+    × EndsBadly output (end_status ending) old new f × (after ≡ disk))
 
 -- ---- dis
 

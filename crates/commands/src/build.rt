@@ -1,7 +1,7 @@
 //! `qbec build`.
 ghost use Rattle.std.specs.Prelude.{◌≡◌, ◌⊎◌, map, IfOk, OnOk, IfErr};
 ghost use Rattle.commands.specs.declared.failure.Failure.TheVariants.{Memory};
-ghost use Rattle.commands.specs.Parts.{AllHold, MissesFile, IsBuilt, BuildFails};
+ghost use Rattle.commands.specs.Parts.{AllHold, MissesFile, IsMade, MakingFails, IsBuilt, BuildFails};
 
 use crate::failure::Failure;
 use crate::files::{read, write};
@@ -38,6 +38,22 @@ fn slices(alloc: Global, texts: &[Vec<u8>]) -> Result<Vec<&[u8]>, AllocError>
     Ok(slices)
 }
 
+/// Compiles texts to the file `out`, which is written only after success.
+#[tactic(auto, unfolding(crate::specs::Parts::MakingFails))]
+fn make<'a, D: Disk>(
+    alloc: Global,
+    how: &mut dyn Strategy,
+    disk: &mut D,
+    out: &'a str,
+    texts: &[&[u8]],
+) -> Result<(), Failure<'a>>
+    ensures made { OnOk result (IsMade (D.told disk.old) (D.told disk.new) (map (λ t. t.now) texts.now) out.now) }
+    ensures fails { IfErr result (MakingFails (D.told disk.old) (D.told disk.new) (map (λ t. t.now) texts.now) out.entry) }
+{
+    let bytes = compile(alloc, texts, how)?;
+    write(disk, out, bytes.as_slice())
+}
+
 /// Compiles the files to the file `out`, which is written only after success.
 #[tactic(auto, unfolding(crate::specs::Parts::BuildFails))]
 pub(crate) fn build<'a, D: Disk>(
@@ -53,7 +69,6 @@ pub(crate) fn build<'a, D: Disk>(
 {
     let texts = read_all(alloc, disk, paths)?;
     let slices = slices(alloc, texts.as_slice())?;
-    let bytes = compile(alloc, slices.as_slice(), how)?;
-    write(disk, out, bytes.as_slice())?;
+    make(alloc, how, disk, out, slices.as_slice())?;
     Ok(0)
 }

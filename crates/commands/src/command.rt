@@ -1,5 +1,5 @@
 //! What the user asks for, done.
-ghost use Rattle.std.specs.Prelude.{◌≡◌, IfOk, IfErr};
+ghost use Rattle.std.specs.Prelude.{◌≡◌, map, IfOk, IfErr};
 ghost use Rattle.shell.specs.Sink.{Tells};
 ghost use Rattle.commands.specs.Commands.{Done, Fails, Ends, IsHelp, IsMistake, IsShown};
 ghost use Rattle.commands.specs.Messages.{line_of};
@@ -101,7 +101,7 @@ fn perform<'a, D: Disk, O: Sink>(
 ///
 /// A program's output goes to `out`. The status is the program's own, or 0 of `build` and `dis`. Where something ends otherwise, the line of the [`Failure`] goes
 /// to `err`, and its status is answered; that `err` fails changes nothing. Where `out` fails, that is the failure. Help goes to `out`, with status 0; other texts of
-/// the command line go to `err`, with status 126. Which words ask for what, and these texts, are shown by tests.
+/// the command line go to `err`, with status 126. What these texts say is shown by tests.
 ///
 /// Failures are found in this order: the command line; the files in order, at the first that can't be read; refusals of the texts or of the executable file; the
 /// argument words; the run; writing.
@@ -114,7 +114,8 @@ pub fn command<D: Disk, O: Sink, E: Sink>(
     out: &mut O,
     err: &mut E,
 ) -> u8
-    ensures { Ends (record { disk = D.told disk.old; out = O.told out.old; err = E.told err.old })
+    ensures { Ends (map (λ w. w.now) words.now)
+        (record { disk = D.told disk.old; out = O.told out.old; err = E.told err.old })
         (record { disk = D.told disk.new; out = O.told out.new; err = E.told err.new })
         result }
 {

@@ -10,7 +10,7 @@
 //! - [`tell::tell`] writes the line of a failure, byte by byte that of `specs/Messages.antt`.
 //!
 //! `specs/Parts.antt` says what each command does with what files hold, down to the bytes that go to standard output, and with which statuses and failures it ends;
-//! `specs/Commands.antt` says the same of the whole, with what goes to standard error. Which words ask for what, and the texts of the command line, are shown by the
+//! `specs/Commands.antt` says the same of the whole, by what the words ask for, and with what goes to standard error. The texts of the command line are shown by the
 //! tests alone.
 #![tactic(auto)]
 

@@ -1,6 +1,7 @@
 //! `qbec run` and `qbec interp`.
-ghost use Rattle.std.specs.Prelude.{◌≡◌, map, IfOk, OnOk, IfErr};
-ghost use Rattle.commands.specs.Parts.{RunsTo, MeansTo, RunFails, InterpretFails};
+ghost use Rattle.std.specs.Prelude.{◌≡◌, map, Ok, IfOk, OnOk, IfErr};
+ghost use Rattle.shell.specs.Sink.{Sends};
+ghost use Rattle.commands.specs.Parts.{EndsBadly, RunsTo, MeansTo, RunFails, InterpretFails};
 
 use crate::failure::{Failure, end_status, stop_status};
 use crate::files::{put_out, read};
@@ -17,6 +18,20 @@ fn as_bytes<'a>(alloc: Global, words: &[&'a str]) -> Result<Vec<&'a [u8]>, Alloc
         list.push(word.as_bytes())?;
     }
     Ok(list)
+}
+
+/// Puts out what a program put out, and answers how it ended.
+fn finish<'a, O: Sink>(
+    out: &mut O,
+    output: &[u8],
+    end: Result<u8, Failure<'a>>,
+) -> Result<u8, Failure<'a>>
+    ensures heard { OnOk result (Sends (O.told out.old) (O.told out.new) output.now) }
+    ensures status { IfOk result (λ status. end.entry ≡ Ok status) }
+    ensures fails { IfErr result (EndsBadly output.now end.entry (O.told out.old) (O.told out.new)) }
+{
+    put_out(out, output)?;
+    end
 }
 
 /// Runs an executable file, puts out what it puts out, and answers its exit status.
@@ -36,9 +51,7 @@ pub(crate) fn run<'a, D: Disk, O: Sink>(
     let bytes = read(disk, path)?;
     let words = as_bytes(alloc, words)?;
     let (output, stop) = run_file(alloc, bytes.as_slice(), words.as_slice(), limit)?;
-    put_out(out, output.as_slice())?;
-    let status = stop_status(stop)?;
-    Ok(status)
+    finish(out, output.as_slice(), stop_status(stop))
 }
 
 /// Interprets a text, puts out what it puts out, and answers its exit status.
@@ -58,7 +71,5 @@ pub(crate) fn interpret<'a, D: Disk, O: Sink>(
     let text = read(disk, path)?;
     let words = as_bytes(alloc, words)?;
     let (output, end) = interpret_text(alloc, text.as_slice(), words.as_slice(), turns)?;
-    put_out(out, output.as_slice())?;
-    let status = end_status(end)?;
-    Ok(status)
+    finish(out, output.as_slice(), end_status(end))
 }

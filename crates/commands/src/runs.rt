@@ -1,11 +1,15 @@
 //! Runs of files and of texts.
-ghost use Rattle.std.specs.Prelude.{◌≡◌, ◌∷◌, [], map, IfOk, IfErr, true};
+ghost use Rattle.std.specs.Prelude.{◌≡◌, ◌↔◌, ◌∷◌, [], map, Err, IfOk, IfErr, true, false};
 ghost use Rattle.il_ast.specs.Meaning.{meaning};
+ghost use Rattle.obj_link.specs.Words.{are_arguments};
+ghost use Rattle.rv_machine.specs.declared.start.StartError.TheVariants.{Arguments};
+ghost use Rattle.rv_machine.specs.Runs.{RunEnds};
+ghost use Rattle.rv_machine.specs.Start.{start_state};
 ghost use Rattle.commands.specs.Runs.{RunsFile, MeansText};
 ghost use Rattle.commands.specs.Refusals.{FileIsRefused, TextIsRefused};
 
 use crate::failure::Failure;
-use elf_file::read_image;
+use elf_file::{Loaded, read_image};
 use il_ast::value::End;
 use il_interp::interpret::interpret;
 use obj_link::resolve::resolve;
@@ -13,8 +17,25 @@ use qbec::error::link_refusal;
 use qbec::texts::checked_texts;
 use rv_machine::machine::Machine;
 use rv_machine::page_ram::PageRam;
+use rv_machine::start::StartError;
 use rv_machine::stop::Stop;
 use std::alloc::Global;
+
+/// Runs a loaded file from its start with these argument words, for at most `limit` instructions.
+fn run_loaded(
+    alloc: Global,
+    file: &Loaded,
+    words: &[&[u8]],
+    limit: u64,
+) -> Result<(Vec<u8>, Stop), StartError>
+    ensures ends { IfOk result (λ r. RunEnds true limit (start_state file.now (map (λ w. w.now) words.now)) r.0.items r.1) }
+    ensures refused { (result ≡ Err Arguments) ↔ (are_arguments (map (λ w. w.now) words.now) ≡ false) }
+{
+    match Machine::<PageRam>::start(alloc, file, words) {
+        Ok(machine) => Ok(machine.run(alloc, limit)),
+        Err(error) => Err(error),
+    }
+}
 
 /// Runs an executable file with these argument words for at most `limit` instructions. Answers all that the program put out, and why it stopped.
 ///
@@ -35,8 +56,8 @@ pub fn run_file<'a>(
         Ok(file) => file,
         Err(error) => return Err(Failure::from(error)),
     };
-    match Machine::<PageRam>::start(alloc, &file, words) {
-        Ok(machine) => Ok(machine.run(alloc, limit)),
+    match run_loaded(alloc, &file, words, limit) {
+        Ok(answer) => Ok(answer),
         Err(error) => Err(Failure::from(error)),
     }
 }

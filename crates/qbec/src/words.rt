@@ -1,5 +1,8 @@
 //! The words of one function.
-ghost use Rattle.std.specs.Prelude.{◌+◌, ◌*◌, ◌≤◌, IfOk, length};
+ghost use Rattle.std.specs.Prelude.{◌≡◌, true, false, ◌+◌, ◌*◌, ◌≤◌, IfOk, length};
+ghost use Rattle.alloc_check.specs.Accepted.{is_accepted};
+ghost use Rattle.alloc_check.specs.Certified.{placed_by};
+ghost use Rattle.alloc_check.specs.Placed.{in_slots};
 ghost use Rattle.il_ast.specs.Cost.{weight};
 ghost use Rattle.il_ast.specs.Passes.{Keeps, IsCodeOf};
 ghost use Rattle.phi_copies.specs.Good.{IsGoodFunction};
@@ -35,7 +38,9 @@ fn certified(
     function: &VFunc,
     certificate: &Certificate,
 ) -> Result<LFunc, AllocError>
-    ensures { IfOk result (λ l. Keeps (virtual_code function.now) (location_code l)) }
+    ensures kept { IfOk result (λ l. Keeps (virtual_code function.now) (location_code l)) }
+    ensures taken { IfOk result (λ l. is_accepted function.now certificate.now ≡ true → l.code ≡ placed_by function.now.code certificate.now) }
+    ensures spilled { IfOk result (λ l. is_accepted function.now certificate.now ≡ false → l.code ≡ in_slots function.now.code) }
 {
     match accept(alloc, function, certificate) {
         Ok(located) => Ok(located),
