@@ -1,4 +1,4 @@
-//! Each command over files and streams in memory. Its lines and statuses are tested with the programs, in `program_tests`.
+//! Each command over files and streams in memory. Its lines and statuses are tested with the programs, in `end_to_end`.
 use crate::command::command;
 use regalloc::linear_scan::LinearScan;
 use shell::memory::MemorySink;

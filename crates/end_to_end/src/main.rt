@@ -22,17 +22,16 @@ mod programs;
 mod random;
 mod random_body;
 mod random_text;
-mod report;
 mod strategies;
 mod table;
 mod told;
 mod watched;
 
-use crate::report::Report;
 use crate::table::Table;
 use std::alloc::AllocError;
 use std::rt::Files;
 use std::{env, fs, io, str};
+use test_report::report::Report;
 
 /// How many random programs there are, and from which seed, where no words say.
 const RANDOM: (u64, u64) = (300, 1);

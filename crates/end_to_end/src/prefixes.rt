@@ -1,8 +1,8 @@
 //! Beginnings of texts, and bytes that no text may have.
 use crate::case::Case;
 use crate::interpreted::interpreted;
-use crate::report::Report;
 use std::alloc::AllocError;
+use test_report::report::Report;
 
 // How the text begins that is cut after so many bytes, by the first row.
 fn wanted_of_zero(length: usize, whole: usize) -> &'static str {

@@ -1,10 +1,10 @@
 //! Programs compiled with strategies of every kind: each executable does the same.
 use crate::case::{Case, slices, words_as_bytes};
 use crate::compiled::{Compiled, compile_with, ran};
-use crate::report::Report;
 use crate::strategies::{Answer, Cut, Fixed, List};
 use rv_machine::page_ram::PageRam;
 use std::alloc::AllocError;
+use test_report::report::Report;
 use vcode::place::Location;
 
 /// What the strategies answer.

@@ -1,12 +1,13 @@
 //! Programs compiled, and the machine's runs of their files.
 use crate::interpreted::refusal_told;
-use crate::told::{Told, stop_told};
+use crate::told::stop_told;
 use elf_file::read_image;
 use qbec::compile::compile;
 use regalloc::strategy::Strategy;
 use rv_machine::machine::Machine;
 use rv_machine::ram::Ram;
 use std::alloc::{AllocError, Global};
+use test_report::told::Told;
 
 /// The executable of texts, or why there is none.
 #[derive(Drop)]

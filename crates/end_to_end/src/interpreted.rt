@@ -1,6 +1,6 @@
 //! Programs, interpreted.
 use crate::measures::{needs_of, weights_of};
-use crate::told::{Told, end_told};
+use crate::told::end_told;
 use il_interp::interpret::interpret;
 use il_types::checked::Checked;
 use obj_link::resolve::resolve;
@@ -8,6 +8,7 @@ use qbec::error::{CompileError, link_refusal};
 use qbec::texts::checked_texts;
 use std::alloc::{AllocError, Global};
 use std::str;
+use test_report::told::Told;
 
 /// A refusal that names a name.
 fn name_told(alloc: Global, number: &str, name: &[u8]) -> Result<String, AllocError> {

@@ -1,7 +1,6 @@
 //! Disks and streams that fail, and lines for want of memory.
 use crate::broken_disk::BrokenDisk;
 use crate::commanded::{perform_with, perform_words};
-use crate::report::Report;
 use commands::failure::Failure;
 use commands::refusal::Refusal;
 use commands::tell::tell;
@@ -11,6 +10,7 @@ use shell::disk::FileFault;
 use shell::memory::MemorySink;
 use std::alloc::{AllocError, Global};
 use std::str;
+use test_report::report::Report;
 
 /// Puts out `Hi` and a line end, and halts.
 const HALTS: &str =

@@ -1,6 +1,6 @@
 //! One program of the table, with what is known of it.
-use crate::told::Told;
 use std::alloc::{AllocError, Global};
+use test_report::told::Told;
 
 /// A program, and what is known of it.
 #[derive(Drop)]

@@ -2,15 +2,15 @@
 use crate::compiled::{Compiled, compile_with, ran};
 use crate::interpreted::interpreted;
 use crate::random_text::random_text;
-use crate::report::Report;
 use crate::strategies::{Answer, Fixed};
-use crate::told::Told;
 use crate::watched::Watched;
 use regalloc::spill_all::SpillAll;
 use regalloc::strategy::Strategy;
 use rv_machine::flat_ram::FlatRam;
 use rv_machine::page_ram::PageRam;
 use std::alloc::{AllocError, Global};
+use test_report::report::Report;
+use test_report::told::Told;
 
 /// More turns than any of the programs takes.
 const PLENTY: u64 = 1 << 20;

@@ -4,10 +4,10 @@
 //! standard error. Five files are there: the texts `seven` and `halts`, `made`, which the second is built to, `faults`, an executable whose one word is no instruction, and `exits`, one of three instructions.
 use crate::commanded::{Done, perform};
 use crate::devices::disk_of;
-use crate::report::Report;
 use std::alloc::{AllocError, Global};
 use std::rt::Files;
 use std::{fs, io, str};
+use test_report::report::Report;
 
 /// A case that is read: its words, and then its lines.
 #[derive(Drop)]

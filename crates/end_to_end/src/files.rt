@@ -5,12 +5,12 @@ use crate::broken_disk::BrokenDisk;
 use crate::case::{Case, slices};
 use crate::commanded::perform_words;
 use crate::compiled::{Compiled, compile_with};
-use crate::report::Report;
 use crate::table::bytes_of;
 use regalloc::spill_all::SpillAll;
 use std::alloc::{AllocError, Global};
 use std::rt::Files;
 use std::{fs, io, str};
+use test_report::report::Report;
 
 // The line of `verb` for a file of these bytes.
 fn line_for(alloc: Global, verb: &str, bytes: &[u8]) -> Result<String, AllocError> {

@@ -4,14 +4,14 @@ use crate::case::{Case, slices, words_as_bytes};
 use crate::commanded::{Done, perform, perform_words};
 use crate::compiled::{Compiled, compile_with, ran};
 use crate::interpreted::{interpreted, measured};
-use crate::report::Report;
-use crate::told::Told;
 use crate::watched::Watched;
 use regalloc::spill_all::SpillAll;
 use rv_machine::flat_ram::FlatRam;
 use rv_machine::page_ram::PageRam;
 use std::alloc::{AllocError, Global};
 use std::str;
+use test_report::report::Report;
+use test_report::told::Told;
 
 /// Checks a case in every way that it can be.
 pub fn check(case: &Case, report: &mut Report) -> Result<(), AllocError> {
