@@ -3,7 +3,7 @@ ghost use Rattle.std.specs.Prelude.{◌≡◌, IfOk};
 ghost use Rattle.std.specs.Io.KnownBytes.{Appends};
 
 use crate::stream::Stream;
-use shell::disk::{Disk, FileFault};
+use shell::disk::{Disk, FileFault, counted};
 use shell::write_exe::write_exe;
 use std::io::{Error, ErrorKind, Write};
 use std::os::unix::fs::PermissionsExt;
@@ -81,17 +81,13 @@ impl<R: Files + AllocGlobal> Disk for HostFiles<'_, R> {
 
     fn read(&mut self, path: &str) -> Result<Vec<u8>, FileFault> {
         let answer = read_file(self.rt, path);
-        if answer.is_err() {
-            self.faults = self.faults.saturating_add(1);
-        }
+        self.faults = counted(self.faults, &answer);
         answer
     }
 
     fn write(&mut self, path: &str, bytes: &[u8]) -> Result<(), FileFault> {
         let answer = write_file(self.rt, path, bytes);
-        if answer.is_err() {
-            self.faults = self.faults.saturating_add(1);
-        }
+        self.faults = counted(self.faults, &answer);
         answer
     }
 }

@@ -48,7 +48,18 @@ fn perform<R: Env + Files + AllocGlobal, O: Sink, E: Sink>(
     Ok(command(alloc, words.as_slice(), &mut how, &mut files, out, err))
 }
 
-/// The same, with the status that the process ends with.
+/// The same, with the status where the words can't be had.
+#[tactic(auto, unfolding(crate::specs::Program::Exits))]
+fn status<R: Env + Files + AllocGlobal, O: Sink, E: Sink>(rt: &R, out: &mut O, err: &mut E) -> u8
+    ensures { Exits (O.told out.old) (O.told out.new) (E.told err.old) (E.told err.new) result }
+{
+    match perform(rt, out, err) {
+        Ok(status) => status,
+        Err(_) => report(Failure::Memory, err),
+    }
+}
+
+/// The same, with the status as the process's.
 fn exit_code<R: Env + Files + AllocGlobal, O: Sink, E: Sink>(
     rt: &R,
     out: &mut O,
@@ -56,10 +67,7 @@ fn exit_code<R: Env + Files + AllocGlobal, O: Sink, E: Sink>(
 ) -> ExitCode
     ensures { Exits (O.told out.old) (O.told out.new) (E.told err.old) (E.told err.new) (exit_status result) }
 {
-    match perform(rt, out, err) {
-        Ok(status) => ExitCode::from(status),
-        Err(_) => ExitCode::from(report(Failure::Memory, err)),
-    }
+    ExitCode::from(status(rt, out, err))
 }
 
 fn main(rt: HostRuntime) -> ExitCode {

@@ -2,7 +2,7 @@
 ghost use Rattle.std.specs.Prelude.{◌≡◌, ◌≤◌, length, IfOk};
 ghost use Rattle.std.specs.Io.KnownBytes.{WriteAppends};
 
-use shell::sink::{Sink, SinkFault};
+use shell::sink::{Sink, SinkFault, counted};
 use std::io::{ErrorKind, Write};
 
 /// A file or a standard stream, with the count of its calls that failed. It tells what its writer holds, where that is known: of those of the system it isn't.
@@ -43,17 +43,8 @@ impl<W: Write> Sink for Stream<W> {
     ghost told = { λ s. record { held = W.contents s.writer; faults = s.faults } };
 
     fn put(&mut self, bytes: &[u8]) -> Result<usize, SinkFault> {
-        match write_some(&mut self.writer, bytes) {
-            Ok(count) => {
-                if count == 0 && bytes.len() > 0 {
-                    self.faults = self.faults.saturating_add(1);
-                }
-                Ok(count)
-            }
-            Err(fault) => {
-                self.faults = self.faults.saturating_add(1);
-                Err(fault)
-            }
-        }
+        let answer = write_some(&mut self.writer, bytes);
+        self.faults = counted(self.faults, bytes, answer);
+        answer
     }
 }
