@@ -27,8 +27,6 @@
 #![tactic(auto)]
 
 mod call;
-#[cfg(test)]
-mod call_tests;
 mod compare;
 mod copy;
 mod ends;
@@ -36,23 +34,13 @@ mod entry;
 mod fields;
 pub mod frame;
 pub mod immediate;
-#[cfg(test)]
-mod immediate_tests;
 mod jump;
-#[cfg(test)]
-mod jump_tests;
 pub mod laws;
 pub mod layout;
 mod line;
-#[cfg(test)]
-mod memory_tests;
 mod moves;
 mod operand;
 pub mod pace;
 mod room;
 mod saved;
-#[cfg(test)]
-mod saved_tests;
-#[cfg(test)]
-mod tests;
 mod turns;

@@ -13,5 +13,3 @@
 
 pub mod function;
 pub mod laws;
-#[cfg(test)]
-mod tests;

@@ -1,61 +1,49 @@
 //! Numbers in instructions, at the edges of what fits.
-ghost use Rattle.std.specs.Prelude.{IsTrue};
-ghost use Rattle.vcode.specs.Regular.{passes_few};
+ghost use Rattle.std.specs.Prelude.{◌≡◌, IsTrue};
+ghost use Rattle.vcode.specs.Named.{operand_keeps, is_place};
 
-use crate::layout::Layout;
-use crate::line::push_line;
+use crate::build::{in_register, line_code, registers_of, store_of};
 use il_ast::operation::{Class, Condition, Size};
-use rv_isa::instruction::{ImmOp, Instr, RegOp, RegWOp, ShiftOp, ShiftWOp};
+use rv_isa::instruction::{ImmOp, Instr, RegOp, RegWOp, ShiftOp, ShiftWOp, StoreOp};
 use rv_isa::labelled::Item;
 use std::alloc::{AllocError, Global};
 use std::test::Fail;
 use vcode::line::{Line, Operation};
 use vcode::place::{Address, Location, Operand};
 
-const FRAME: Layout = Layout {
-    saves: 0,
-    slots: 104,
-    area: 128,
-    size: 128,
-    result: None,
-    leave: 1,
-    falls: true,
-};
-
-// the code of one line
-fn code_of(alloc: Global, line: &Line<Location>) -> Result<Vec<Item>, AllocError>
-    requires { IsTrue (passes_few line.now) }
-{
-    let mut items = Vec::new(alloc);
-    push_line(&mut items, &FRAME, 0, line)?;
-    Ok(items)
-}
-
-// the code of an operation into x7
+/// The code of an operation into x7.
 fn operate(
     alloc: Global,
     operation: Operation,
     left: Operand<Location>,
     right: Operand<Location>,
-) -> Result<Vec<Item>, AllocError> {
+) -> Result<Vec<Item>, AllocError>
+    requires left { IsTrue (operand_keeps (is_place 3) left) }
+    requires right { IsTrue (operand_keeps (is_place 3) right) }
+{
     let line = Line::Operate {
         to: Location::Register(7),
         operation,
         left,
         right,
     };
-    code_of(alloc, &line)
+    line_code(alloc, 3, line)
 }
 
-fn x5() -> Operand<Location> {
-    Operand::At(Location::Register(5))
+fn x5() -> Operand<Location>
+    ensures { result ≡ Operand.At (Location.Register 5) }
+{
+    in_register(5)
 }
 
-fn minus(number: u64) -> Operand<Location> {
+/// The number of 64 bits that takes this one away.
+fn minus(number: u64) -> Operand<Location>
+    ensures { IsTrue (operand_keeps (is_place 3) result) }
+{
     Operand::Number(0_u64.wrapping_sub(number))
 }
 
-// a sole instruction with an immediate
+/// A sole instruction with an immediate: its operation, what it writes and reads, and the immediate.
 fn sole_immediate(items: &[Item]) -> Option<(ImmOp, u8, u8, i16)> {
     match items.get(0) {
         Some(
@@ -108,12 +96,7 @@ fn differences_are_sums_with_the_opposite(rt: HostRuntime) -> Result<(), Fail> {
     );
     let negation = operate(rt.alloc(), sub, Operand::Number(0), x5())?;
     assert_eq!(rt; negation.len(), 1);
-    match negation.get(0) {
-        Some(Item::Plain(Instr::Reg { rd, rs1, rs2, .. })) => {
-            assert!(rt; rd.number == 7 && rs1.number == 0 && rs2.number == 5);
-        }
-        _ => assert!(rt; false),
-    }
+    assert_eq!(rt; registers_of(negation.get(0)), Some((7, 0, 5)));
     Ok(())
 }
 
@@ -197,7 +180,7 @@ fn products_with_powers_of_two_are_shifts(rt: HostRuntime) -> Result<(), Fail> {
     Ok(())
 }
 
-// how many instructions a comparison of longs takes, x5 on the left
+/// How many instructions a comparison of longs takes, x5 on the left.
 fn comparing(alloc: Global, condition: Condition, number: u64) -> Result<usize, AllocError> {
     let operation = Operation::Compare(condition, Class::L);
     Ok(operate(alloc, operation, x5(), Operand::Number(number))?.len())
@@ -205,30 +188,23 @@ fn comparing(alloc: Global, condition: Condition, number: u64) -> Result<usize, 
 
 #[test]
 fn comparisons_take_their_number(rt: HostRuntime) -> Result<(), Fail> {
-    assert_eq!(rt; comparing(rt.alloc(), Condition::Equal, 0)?, 1);
-    assert_eq!(rt; comparing(rt.alloc(), Condition::NotEqual, 0)?, 1);
-    assert_eq!(rt; comparing(rt.alloc(), Condition::Equal, 2048)?, 2);
-    assert_eq!(rt; comparing(rt.alloc(), Condition::Equal, 2049)?, 2 + 2);
-    assert_eq!(rt; comparing(rt.alloc(), Condition::SignedLess, 2047)?, 1);
-    assert_eq!(rt;
-        comparing(rt.alloc(), Condition::SignedGreaterEqual, 2047)?,
-        2
-    );
-    assert_eq!(rt; comparing(rt.alloc(), Condition::SignedLessEqual, 2046)?, 1);
-    assert_eq!(rt;
-        comparing(rt.alloc(), Condition::SignedLessEqual, 2047)?,
-        1 + 2
-    );
-    assert_eq!(rt;
-        comparing(rt.alloc(), Condition::SignedGreater, u64::MAX)?,
-        2
-    );
-    // no number without a sign is greater than this one, and its successor is 0
-    assert_eq!(rt;
-        comparing(rt.alloc(), Condition::UnsignedLessEqual, u64::MAX)?,
-        1 + 2
-    );
-    assert_eq!(rt; comparing(rt.alloc(), Condition::UnsignedGreater, 0)?, 2);
+    for (condition, number, wanted) in [
+        (Condition::Equal, 0, 1),
+        (Condition::NotEqual, 0, 1),
+        (Condition::Equal, 2048, 2),
+        (Condition::Equal, 2049, 2 + 2),
+        (Condition::SignedLess, 2047, 1),
+        (Condition::SignedGreaterEqual, 2047, 2),
+        (Condition::SignedLessEqual, 2046, 1),
+        (Condition::SignedLessEqual, 2047, 1 + 2),
+        (Condition::SignedGreater, u64::MAX, 2),
+        // no number without a sign is greater than this one, and its successor is 0
+        (Condition::UnsignedLessEqual, u64::MAX, 1 + 2),
+        (Condition::UnsignedGreater, 0, 2),
+    ] {
+        let count = comparing(rt.alloc(), condition, number)?;
+        assert_eq!(rt; count, wanted, "{condition:?} {number}");
+    }
     Ok(())
 }
 
@@ -238,49 +214,38 @@ fn a_comparison_is_turned_where_its_number_is_on_the_left(rt: HostRuntime) -> Re
     let operation = Operation::Compare(Condition::SignedGreater, Class::W);
     let items = operate(rt.alloc(), operation, Operand::Number(5), x5())?;
     assert_eq!(rt; items.len(), 2);
-    match items.get(1) {
-        Some(
-            Item::Plain(
-                Instr::Imm {
-                    op,
-                    rd,
-                    rs1,
-                    immediate,
-                },
-            ),
-        ) => {
-            assert!(rt; *op == ImmOp::Slti && rd.number == 7 && rs1.number == 28);
-            assert_eq!(rt; immediate.value, 5);
-        }
-        _ => assert!(rt; false),
-    }
+    assert!(rt; sole_immediate(&items[1..]) == Some((ImmOp::Slti, 7, 28, 5)));
     Ok(())
 }
 
-// how many instructions a number takes
-fn setting(alloc: Global, value: Operand<Location>) -> Result<usize, AllocError> {
+/// How many instructions an operand takes on its way to x7.
+fn setting(alloc: Global, value: Operand<Location>) -> Result<usize, AllocError>
+    requires { IsTrue (operand_keeps (is_place 3) value) }
+{
     let line = Line::Set {
         to: Location::Register(7),
         value,
     };
-    Ok(code_of(alloc, &line)?.len())
+    Ok(line_code(alloc, 3, line)?.len())
 }
 
 #[test]
 fn numbers_take_as_few_as_their_bits_ask(rt: HostRuntime) -> Result<(), Fail> {
-    assert_eq!(rt; setting(rt.alloc(), Operand::Number(2047))?, 1);
-    assert_eq!(rt; setting(rt.alloc(), minus(2048))?, 1);
-    assert_eq!(rt; setting(rt.alloc(), Operand::Number(2048))?, 2);
-    assert_eq!(rt; setting(rt.alloc(), minus(2049))?, 2);
-    assert_eq!(rt; setting(rt.alloc(), Operand::Number(0x1000))?, 1);
-    assert_eq!(rt; setting(rt.alloc(), Operand::Number(0x7fff_ffff))?, 2);
-    assert_eq!(rt; setting(rt.alloc(), minus(0x8000_0000))?, 1);
-    assert_eq!(rt; setting(rt.alloc(), Operand::Number(0x8000_0000))?, 9);
-    assert_eq!(rt; setting(rt.alloc(), minus(0x8000_0001))?, 9);
-    assert_eq!(rt;
-        setting(rt.alloc(), Operand::Number(0x8000_0000_0000_0000))?,
-        9
-    );
+    for (number, wanted) in [
+        (2047, 1),
+        (0_u64.wrapping_sub(2048), 1),
+        (2048, 2),
+        (0_u64.wrapping_sub(2049), 2),
+        (0x1000, 1),
+        (0x7fff_ffff, 2),
+        (0_u64.wrapping_sub(0x8000_0000), 1),
+        (0x8000_0000, 9),
+        (0_u64.wrapping_sub(0x8000_0001), 9),
+        (0x8000_0000_0000_0000, 9),
+    ] {
+        let count = setting(rt.alloc(), Operand::Number(number))?;
+        assert_eq!(rt; count, wanted, "{number:x}");
+    }
     Ok(())
 }
 
@@ -291,7 +256,7 @@ fn the_parts_of_a_number_of_32_bits(rt: HostRuntime) -> Result<(), Fail> {
         to: Location::Register(7),
         value: Operand::Number(0x7fff_ffff),
     };
-    let items = code_of(rt.alloc(), &line)?;
+    let items = line_code(rt.alloc(), 3, line)?;
     match items.get(0) {
         Some(Item::Plain(Instr::Lui { rd, field })) => {
             assert!(rt; rd.number == 7 && field.value == 0x8_0000);
@@ -321,13 +286,8 @@ fn zero_is_stored_from_x0(rt: HostRuntime) -> Result<(), Fail> {
         value: Operand::Number(0),
         at: Address::at_once(x5()),
     };
-    let items = code_of(rt.alloc(), &line)?;
+    let items = line_code(rt.alloc(), 3, line)?;
     assert_eq!(rt; items.len(), 1);
-    match items.get(0) {
-        Some(Item::Plain(Instr::Store { rs1, rs2, .. })) => {
-            assert!(rt; rs1.number == 5 && rs2.number == 0);
-        }
-        _ => assert!(rt; false),
-    }
+    assert_eq!(rt; store_of(items.get(0)), Some((StoreOp::Sw, 0, 5, 0)));
     Ok(())
 }
