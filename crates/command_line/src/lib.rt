@@ -8,8 +8,6 @@
 pub mod asked;
 mod grammar;
 pub mod refusal;
-#[cfg(test)]
-mod tests;
 
 use crate::asked::asked;
 use crate::grammar::grammar;
