@@ -9,8 +9,6 @@ pub mod asked;
 mod grammar;
 pub mod laws;
 pub mod refusal;
-#[cfg(test)]
-mod tests;
 
 ghost use Rattle.std.specs.Prelude.{◌≡◌, [], IfOk, IfErr, OnOk, map};
 ghost use Rattle.clap.specs.Faults.{fault_of};

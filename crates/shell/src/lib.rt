@@ -18,6 +18,4 @@ pub mod disk;
 pub mod memory;
 pub mod memory_disk;
 pub mod sink;
-#[cfg(test)]
-mod tests;
 pub mod write_exe;

@@ -1,5 +1,5 @@
-//! Words, and what they ask for. The texts of help and of mistakes are tested with the commands.
-use crate::{Command, DEFAULT_LIMIT, Refusal, command_of};
+//! Words, and what they ask for. The texts of help and of mistakes are tested with the programs, in `program_tests`.
+use command_line::{Command, DEFAULT_LIMIT, Refusal, command_of};
 use std::alloc::{AllocError, Global};
 use std::test::Fail;
 

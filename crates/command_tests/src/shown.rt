@@ -1,0 +1,58 @@
+//! The lines of a disassembly, for small files.
+use elf_file::read_image;
+use shell::dis_lines::dis_lines;
+use std::alloc::{AllocError, Global};
+use std::fmt::Write;
+use std::test::Fail;
+
+/// A file of one segment of these bytes, with these flags, with its entry at the segment's start.
+fn file_of(alloc: Global, flags: u8, bytes: &[u8], size: u8) -> Result<Vec<u8>, AllocError> {
+    let mut file = Vec::new(alloc);
+    file.extend_from_slice(b"\x7fELF\x02\x01\x01\0\0\0\0\0\0\0\0\0")?;
+    file.extend_from_slice(b"\x02\0\xf3\0\x01\0\0\0\0\0\x01\0\0\0\0\0")?;
+    file.extend_from_slice(b"\x40\0\0\0\0\0\0\0\0\0\0\0\0\0\0\0")?;
+    file.extend_from_slice(b"\0\0\0\0\x40\0\x38\0\x01\0\0\0\0\0\0\0")?;
+    let length = (bytes.len() % 0x100) as u8;
+    file.extend_from_slice(&[1, 0, 0, 0, flags, 0, 0, 0])?;
+    file.extend_from_slice(b"\0\x10\0\0\0\0\0\0")?;
+    file.extend_from_slice(b"\0\0\x01\0\0\0\0\0\0\0\x01\0\0\0\0\0")?;
+    file.extend_from_slice(&[length, 0, 0, 0, 0, 0, 0, 0])?;
+    file.extend_from_slice(&[size, 0, 0, 0, 0, 0, 0, 0])?;
+    file.extend_from_slice(b"\0\x10\0\0\0\0\0\0")?;
+    file.resize(4096, 0)?;
+    file.extend_from_slice(bytes)?;
+    Ok(file)
+}
+
+/// The lines of such a file, one after another.
+fn shown(alloc: Global, flags: u8, bytes: &[u8], size: u8) -> Result<String, AllocError> {
+    let file = file_of(alloc, flags, bytes, size)?;
+    let mut all = String::new(alloc);
+    match read_image(alloc, file.as_slice()) {
+        Ok(loaded) => {
+            for line in &dis_lines(alloc, &loaded)? {
+                all.push_str(line.as_str())?;
+            }
+        }
+        Err(error) => write!(all, "{error}")?,
+    }
+    Ok(all)
+}
+
+#[test]
+fn lines_of_code(rt: HostRuntime) -> Result<(), Fail> {
+    let code = b"\x13\x05\0\0\xef\xf0\xdf\xff\x1b\x15\x05\x02\x13\x01";
+    let expected = "00010000  00000513  addi x10, x0, 0
+00010004  ffdff0ef  jal x1, -4
+00010008  0205151b  ?
+";
+    assert_eq!(rt; shown(rt.alloc(), 1, code, 14)?.as_str(), expected);
+    assert_eq!(rt; shown(rt.alloc(), 5, code, 100)?.as_str(), expected);
+    assert_eq!(rt;
+        shown(rt.alloc(), 1, b"\0\0\0\0", 4)?.as_str(),
+        "00010000  00000000  ?\n"
+    );
+    assert_eq!(rt; shown(rt.alloc(), 1, b"\x13", 4)?.as_str(), "");
+    assert_eq!(rt; shown(rt.alloc(), 1, b"\x13", 3)?.as_str(), "L5");
+    Ok(())
+}
