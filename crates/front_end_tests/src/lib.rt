@@ -1,7 +1,7 @@
 //! # Tests of the front end
 //!
-//! What the contracts of `il_ast`, `il_lex`, `il_reader`, `il_types`, `il_mem` and `il_interp` can't say: that calls which may want memory succeed with ample
-//! memory, and that texts, rules, loads and operations are those that a reader of the language's reference expects.
+//! What the contracts of `il_ast`, `il_lex`, `il_reader`, `il_types`, `il_mem`, `il_interp`, `promote` and `phi_copies` can't say: that calls which may want memory
+//! succeed with ample memory, and that texts, rules, loads, operations, locals and phis are, or become, what a reader of the language's reference expects.
 //!
 //! They stand here and not in those crates, since a crate with tests is proved once more with them. So all of them call public functions alone.
 #![tactic(auto)]
@@ -13,9 +13,15 @@ mod few;
 #[cfg(test)]
 mod list;
 #[cfg(test)]
+mod locals;
+#[cfg(test)]
 mod memory;
 #[cfg(test)]
+mod moves;
+#[cfg(test)]
 mod operations;
+#[cfg(test)]
+mod phis;
 #[cfg(test)]
 mod reading;
 #[cfg(test)]

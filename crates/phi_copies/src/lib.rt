@@ -37,8 +37,4 @@ mod map;
 pub mod moves;
 pub mod no_phi;
 pub mod sequence;
-#[cfg(test)]
-mod tests;
 mod together;
-#[cfg(test)]
-mod together_tests;

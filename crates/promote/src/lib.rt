@@ -22,5 +22,3 @@ mod mentions;
 pub mod promote;
 mod rewriting;
 pub mod standing;
-#[cfg(test)]
-mod tests;

@@ -1,17 +1,19 @@
-//! Copies that are done at once, by what they leave in the temporaries.
+//! Phis that are done at once, by what the copies that they become leave in the temporaries.
+ghost use Rattle.std.specs.Prelude.{◌≡◌, Some, IfSome, slice_get};
+ghost use Rattle.phi_copies.specs.Good.{IsGoodFunction};
 
-ghost use Rattle.std.specs.Prelude.{◌≤◌, ◌+◌, IsTrue, IfOk, length};
-ghost use Rattle.il_ast.specs.declared.limits.TheConstants.{FUNCTION_WEIGHT, TEMPORARIES};
-ghost use Rattle.phi_copies.specs.Together.{first_in, CanMove};
-
-use crate::ending::Assignment;
-use crate::tests::{is_distinct, is_unnamed};
-use crate::together::{first_in, in_order, moves_in};
+use il_ast::function::Func;
 use il_ast::operand::{Dest, Val};
 use il_ast::operation::Class;
 use il_ast::symbol::Symbol;
 use il_ast::temp::Temp;
+use il_ast::text::{Definition, Text};
+use il_reader::read::read;
+use il_types::check::check;
+use phi_copies::ending::Assignment;
+use phi_copies::lower::lower;
 use std::alloc::{AllocError, Global};
+use std::fmt::Write;
 use std::process::Abort;
 use std::test::Fail;
 
@@ -49,7 +51,7 @@ fn first_values() -> [u64; 24] {
 }
 
 /// What is copied.
-fn read(values: &[u64; 24], copy: &Assignment) -> u64 {
+fn read_of(values: &[u64; 24], copy: &Assignment) -> u64 {
     let value = match copy.value {
         Val::Int(number) => number,
         Val::Temp(temp) => match values.get(temp.number()) {
@@ -71,35 +73,109 @@ fn write(values: &mut [u64; 24], copy: &Assignment, value: u64) {
     }
 }
 
-/// The moves of a class can be put in an order.
-fn can_move(
-    alloc: Global,
-    class: Class,
-    number: usize,
-    copies: &[Assignment],
-) -> Result<bool, AllocError>
-    requires { number + length copies.now ≤ FUNCTION_WEIGHT + TEMPORARIES }
-    ensures { IfOk result (λ can. IsTrue can → CanMove class (first_in class number copies.now) copies.now) }
-{
-    let moves = moves_in(alloc, class, copies)?;
-    let scratch = first_in(class, number, copies);
-    Ok(is_distinct(&moves) && is_unnamed(scratch, &moves))
+/// The class of the temporary with this number: that of the copy that goes there.
+fn class_of(copies: &[Assignment], number: usize) -> Class {
+    for copy in copies {
+        if copy.to.temp.number() == number {
+            return copy.to.class;
+        }
+    }
+    Class::L
 }
 
-/// The copies, in an order, leave what they leave at once, and are so many.
+fn letter(class: Class) -> &'static str {
+    match class {
+        Class::W => "w",
+        Class::L => "l",
+    }
+}
+
+fn shown(alloc: Global, value: &Val) -> Result<String, AllocError> {
+    match value {
+        Val::Int(number) => format!(in alloc; "{number}"),
+        Val::Temp(temp) => {
+            let number = temp.number();
+            format!(in alloc; "%t{number}")
+        }
+        Val::Global(_) => String::from_str(alloc, "$g"),
+    }
+}
+
+/// A function whose second block has a phi for each of the copies.
+fn text_of(alloc: Global, copies: &[Assignment]) -> Result<String, AllocError> {
+    let mut text = String::from_str(alloc, "function $f(")?;
+    for number in 0..OWN {
+        let class = letter(class_of(copies, number));
+        let comma = if number == 0 { "" } else { ", " };
+        write!(text, "{comma}{class} %t{number}")?;
+    }
+    text.push_str(") {\n@s\njmp @b\n@b\n")?;
+    for copy in copies {
+        let to = copy.to.temp.number();
+        let class = letter(copy.to.class);
+        let value = shown(alloc, &copy.value)?;
+        write!(text, "%t{to} ={class} phi @s {value}\n")?;
+    }
+    text.push_str("ret\n}\n")?;
+    Ok(text)
+}
+
+/// The copies at the end of the first block.
+fn first_copies(alloc: Global, function: &Func) -> Result<Vec<Assignment>, AllocError>
+    requires { IsGoodFunction function.now }
+{
+    let lowered = lower(alloc, function)?;
+    let mut copies = Vec::new(alloc);
+    if let Some(ending) = lowered.endings.as_slice().first() {
+        copies.extend_from_slice(ending.copies.as_slice())?;
+    }
+    Ok(copies)
+}
+
+/// The function that a definition is.
+fn function_of(definition: &Definition) -> Option<&Func>
+    ensures { IfSome result (λ function. definition.now ≡ Definition.Function function.now) }
+{
+    match definition {
+        Definition::Function(function) => Some(function),
+        Definition::Object(_) => None,
+    }
+}
+
+/// The function that a text begins with.
+fn first_function(text: &Text) -> Option<&Func>
+    ensures { IfSome result (λ function. slice_get text.now.definitions 0 ≡ Some (Definition.Function function.now)) }
+{
+    match text.definitions.as_slice().first() {
+        Some(definition) => function_of(definition),
+        None => None,
+    }
+}
+
+/// What the phis of a text's first function become.
+fn lowered(alloc: Global, text: &[u8]) -> Result<Vec<Assignment>, Fail> {
+    let checked = match read(alloc, text) {
+        Ok(text) => check(alloc, text)?,
+        Err(_) => return Err(Fail::from("not read")),
+    };
+    match first_function(&checked.text) {
+        Some(function) => Ok(first_copies(alloc, function)?),
+        None => Err(Fail::from("no function")),
+    }
+}
+
+/// The copies, as phis of a block, leave what they leave at once, and become so many.
 fn does(copies: &[Assignment], count: usize, rt: &(impl Abort + AllocGlobal)) -> Result<(), Fail> {
-    assert!(rt; copies.len() <= OWN);
-    assert!(rt; can_move(rt.alloc(), Class::W, OWN, copies)?);
-    assert!(rt; can_move(rt.alloc(), Class::L, OWN, copies)?);
-    let out = in_order(rt.alloc(), OWN, copies)?;
+    let text = text_of(rt.alloc(), copies)?;
+    let out = lowered(rt.alloc(), text.as_bytes())?;
     let mut now = first_values();
     for copy in &out {
-        let value = read(&now, copy);
+        let value = read_of(&now, copy);
         write(&mut now, copy, value);
     }
     let mut want = first_values();
     for copy in copies {
-        write(&mut want, copy, read(&first_values(), copy));
+        write(&mut want, copy, read_of(&first_values(), copy));
     }
     assert_eq!(rt; &now[..12], &want[..12], "{copies:?} as {out:?}");
     assert_eq!(rt; out.len(), count, "{copies:?} as {out:?}");

@@ -3,8 +3,8 @@
 ghost use Rattle.std.specs.Prelude.{IsTrue, All, ◌≢◌};
 ghost use Rattle.phi_copies.specs.Moves.{HasDistinctDestinations, IsUnnamed};
 
-use crate::moves::Move;
-use crate::sequence::sequence;
+use phi_copies::moves::Move;
+use phi_copies::sequence::sequence;
 use std::process::Abort;
 use std::test::Fail;
 
@@ -14,7 +14,7 @@ fn goes_elsewhere(place: usize, moves: &[Move]) -> bool
     moves.iter().all(|n| place != n.to)
 }
 
-pub(crate) fn is_distinct(moves: &[Move]) -> bool
+fn is_distinct(moves: &[Move]) -> bool
     ensures { IsTrue result → HasDistinctDestinations moves.now }
 {
     for i in 0..moves.len() {
@@ -26,7 +26,7 @@ pub(crate) fn is_distinct(moves: &[Move]) -> bool
     true
 }
 
-pub(crate) fn is_unnamed(place: usize, moves: &[Move]) -> bool
+fn is_unnamed(place: usize, moves: &[Move]) -> bool
     ensures { IsTrue result → IsUnnamed place moves.now }
 {
     moves.iter().all(|m| m.to != place && m.from != place)
