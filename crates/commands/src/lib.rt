@@ -24,5 +24,3 @@ pub mod refusal;
 mod run;
 pub mod runs;
 pub mod tell;
-#[cfg(test)]
-mod tests;

@@ -1,5 +1,5 @@
 //! Each command over files and streams in memory. Its lines and statuses are tested with the programs, in `end_to_end`.
-use crate::command::command;
+use commands::command::command;
 use regalloc::linear_scan::LinearScan;
 use shell::memory::MemorySink;
 use shell::memory_disk::MemoryDisk;
