@@ -71,9 +71,11 @@ program_app = record {
   subs = [];
 }
 
+abbrev pub executables_app : App
+executables_app = with_subcommand (with_subcommand program_app build_app.top) run_app.top
+
 abbrev pub qbec_app : App
-qbec_app = with_subcommand (with_subcommand (with_subcommand (with_subcommand program_app
-    build_app.top) run_app.top) interp_app.top) dis_app.top
+qbec_app = with_subcommand (with_subcommand executables_app interp_app.top) dis_app.top
 
 -- the command is read so, and so are its arguments
 abbrev pub IsRead : Command → App → Type 0

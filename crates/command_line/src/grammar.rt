@@ -1,6 +1,6 @@
 //! The grammar of the command line.
 ghost use Rattle.std.specs.Prelude.{IfOk};
-ghost use Rattle.command_line.specs.Grammar.{IsRead, IsRuled, build_app, dis_app, files_rule, interp_app, limit_rule, out_rule, path_rule, program_app, qbec_app, run_app, words_rule};
+ghost use Rattle.command_line.specs.Grammar.{IsRead, IsRuled, build_app, dis_app, executables_app, files_rule, interp_app, limit_rule, out_rule, path_rule, program_app, qbec_app, run_app, words_rule};
 
 use clap::{Arg, Command, value_parser};
 use std::alloc::{AllocError, Global};
@@ -47,16 +47,18 @@ Example: qbec dis hello";
 pub(crate) fn grammar<'a>(alloc: Global) -> Result<Command<'a>, AllocError>
     ensures { IfOk result (λ c. IsRead c qbec_app) }
 {
-    let build = build(alloc)?;
-    let run = run(alloc)?;
-    let interp = interp(alloc)?;
-    let dis = dis(alloc)?;
-    let program = program(alloc)?;
-    program
-        .subcommand(build)?
-        .subcommand(run)?
-        .subcommand(interp)?
-        .subcommand(dis)
+    executables(alloc)?
+        .subcommand(interp(alloc)?)?
+        .subcommand(dis(alloc)?)
+}
+
+/// The program, with the commands that make and run executables.
+fn executables<'a>(alloc: Global) -> Result<Command<'a>, AllocError>
+    ensures { IfOk result (λ c. IsRead c executables_app) }
+{
+    program(alloc)?
+        .subcommand(build(alloc)?)?
+        .subcommand(run(alloc)?)
 }
 
 /// The program, without its commands.

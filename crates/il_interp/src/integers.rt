@@ -2,7 +2,7 @@
 ghost use Rattle.std.specs.Prelude.{◌≡◌, false};
 ghost use Rattle.il_ast.specs.declared.operation.Class.TheVariants.{W, L};
 ghost use Rattle.il_ast.specs.declared.operation.BinaryOp.TheVariants.{Div, Rem, Sar, Shr, Shl};
-ghost use Rattle.il_ast.specs.Operations.{on_integers, extended};
+ghost use Rattle.il_ast.specs.Operations.{can_divide, on_integers, extended};
 ghost use Rattle.il_interp.specs.Comparison.{is_comparison};
 
 use il_ast::operation::{BinaryOp, Extension};
@@ -51,44 +51,54 @@ pub fn on_longs(op: BinaryOp, a: u64, b: u64) -> Option<u64>
     }
 }
 
+/// Whether the signed division of words has a result: not by 0, nor of the least number by -1.
+fn can_divide_words(a: u32, b: u32) -> bool
+    ensures { result ≡ can_divide W a b }
+{
+    b != 0 && !(a == 0x8000_0000 && b == 0xffff_ffff)
+}
+
+/// The same of longs.
+fn can_divide_longs(a: u64, b: u64) -> bool
+    ensures { result ≡ can_divide L a b }
+{
+    b != 0 && !(a == 0x8000_0000_0000_0000 && b == u64::MAX)
+}
+
 fn word_div(a: u32, b: u32) -> Option<u32>
     ensures { result ≡ on_integers Div W a b }
 {
-    if b == 0 || (a == 0x8000_0000 && b == 0xffff_ffff) {
-        None
-    } else {
-        Some((a.cast_signed() / b.cast_signed()).cast_unsigned())
+    if !can_divide_words(a, b) {
+        return None;
     }
+    Some((a.cast_signed() / b.cast_signed()).cast_unsigned())
 }
 
 fn word_rem(a: u32, b: u32) -> Option<u32>
     ensures { result ≡ on_integers Rem W a b }
 {
-    if b == 0 || (a == 0x8000_0000 && b == 0xffff_ffff) {
-        None
-    } else {
-        Some((a.cast_signed() % b.cast_signed()).cast_unsigned())
+    if !can_divide_words(a, b) {
+        return None;
     }
+    Some((a.cast_signed() % b.cast_signed()).cast_unsigned())
 }
 
 fn long_div(a: u64, b: u64) -> Option<u64>
     ensures { result ≡ on_integers Div L a b }
 {
-    if b == 0 || (a == 0x8000_0000_0000_0000 && b == u64::MAX) {
-        None
-    } else {
-        Some((a.cast_signed() / b.cast_signed()).cast_unsigned())
+    if !can_divide_longs(a, b) {
+        return None;
     }
+    Some((a.cast_signed() / b.cast_signed()).cast_unsigned())
 }
 
 fn long_rem(a: u64, b: u64) -> Option<u64>
     ensures { result ≡ on_integers Rem L a b }
 {
-    if b == 0 || (a == 0x8000_0000_0000_0000 && b == u64::MAX) {
-        None
-    } else {
-        Some((a.cast_signed() % b.cast_signed()).cast_unsigned())
+    if !can_divide_longs(a, b) {
+        return None;
     }
+    Some((a.cast_signed() % b.cast_signed()).cast_unsigned())
 }
 
 /// The low bits of a number, widened to a word.

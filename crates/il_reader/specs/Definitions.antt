@@ -1,5 +1,6 @@
 -- The rules of functions, data definitions and whole texts as functions of the state.
-use Rattle.std.specs.Prelude.{ℕ, ◌+◌, Bool, true, false, if◌then◌else◌, List, [], ◌∷◌, length, map, codes, unwrap_or, Option, Some, None, option_and_then}
+use Rattle.std.specs.Prelude.{◌≡◌, ℕ, ◌+◌, Bool, true, false, if◌then◌else◌, List, [], ◌∷◌, length, map, codes, unwrap_or, Option, Some, None, option_and_then, Result}
+use Rattle.std.specs.Result.{MatchResult}
 use Rattle.il_lex.specs.declared.kind.Symbol.TheVariants.{Equals, LeftBrace, RightBrace, LeftParen, RightParen, Plus}
 use Rattle.il_lex.specs.declared.kind.Kind.{Kind}
 use Rattle.il_lex.specs.declared.kind.Kind.TheVariants.{Symbol, Natural, Negative, Global as GlobalKind, Quoted}
@@ -19,6 +20,8 @@ use Rattle.il_ast.specs.declared.datum.DataDef.{DataDef}
 use Rattle.il_ast.specs.declared.text.Definition.{Definition}
 use Rattle.il_ast.specs.declared.text.Definition.TheVariants.{Function, Object}
 use Rattle.il_ast.specs.declared.text.Text.{Text}
+use Rattle.il_reader.specs.declared.fault.Fault.{Fault}
+use Rattle.il_reader.specs.declared.fault.Fault.TheVariants.{Syntax}
 use Rattle.il_reader.specs.State.{State, start}
 use Rattle.il_reader.specs.Reads.{falling}
 use Rattle.il_reader.specs.Steps.{Step, ◌>>=◌, ◌>>◌, give, piece, keyword, word, natural, integer, string, temp, symbol, newline, many, commas, maybe, either, sees}
@@ -275,3 +278,9 @@ whole bytes x =
 
 abbrev pub text_step : List ℕ → Option TextParts
 text_step bytes = option_and_then (whole bytes) (definitions (start bytes))
+
+-- the tree of which these definitions give the parts, and a fault of syntax only where they give none
+abbrev pub IsFound : List ℕ → Result Text Fault → Type 0
+IsFound bytes result = MatchResult result
+    (λ tree. text_step bytes ≡ Some (text_parts tree))
+    (λ fault. fault ≡ Syntax → text_step bytes ≡ None)

@@ -1,13 +1,11 @@
 //! Reading the tree of a text.
-ghost use Rattle.std.specs.Prelude.{◌≡◌, ◌≤◌, length, None, Some, IfOk, IfErr};
-ghost use Rattle.std.specs.Result.{MatchResult};
+ghost use Rattle.std.specs.Prelude.{◌≡◌, ◌≤◌, length, IfOk, IfErr};
 ghost use Rattle.il_lex.specs.Line.{lines_in, line_at};
 ghost use Rattle.il_ast.specs.declared.text.Text.{Text};
-ghost use Rattle.il_reader.specs.declared.fault.Fault.TheVariants.{Syntax};
 ghost use Rattle.il_reader.specs.State.{start};
 ghost use Rattle.il_reader.specs.Reads.{Reads};
 ghost use Rattle.il_reader.specs.Answers.{IsTree, NamesLine};
-ghost use Rattle.il_reader.specs.Definitions.{text_step, text_parts};
+ghost use Rattle.il_reader.specs.Definitions.{IsFound};
 
 use crate::error::ReadError;
 use crate::fault::Fault;
@@ -25,24 +23,32 @@ pub fn read(alloc: Global, text: &[u8]) -> Result<Text, ReadError>
     ensures only { (tree : Text) → Reads text.now tree → IsTree tree result }
     ensures line { IfErr result (NamesLine text.now) }
 {
-    let mut reader = Reader::new(alloc, text);
-    match tree(&mut reader, text) {
+    let mut left = 0;
+    match found_in(alloc, text, &mut left) {
         Ok(tree) => Ok(tree),
         Err(Fault::Memory) => Err(ReadError::Memory),
         Err(Fault::Syntax) => {
-            let at = text.len().saturating_sub(reader.left_before());
+            let at = text.len().saturating_sub(left);
             let line = line_at(text, at);
             Err(ReadError::Syntax { line })
         }
     }
 }
 
+/// Reads a text, and sets `left` to how many bytes were left before the token at which the reading stopped.
+fn found_in(alloc: Global, text: &[u8], left: &mut usize) -> Result<Text, Fault>
+    ensures { IsFound text.now result }
+{
+    let mut reader = Reader::new(alloc, text);
+    let found = tree(&mut reader, text);
+    *left = reader.left_before();
+    found
+}
+
 /// Reads a text from its start.
 fn tree(reader: &mut Reader<'_>, text: &[u8]) -> Result<Text, Fault>
     requires { reader.old ≡ start text.now }
-    ensures { MatchResult result
-        (λ tree. text_step text.now ≡ Some (text_parts tree))
-        (λ e. e ≡ Syntax → text_step text.now ≡ None) }
+    ensures { IsFound text.now result }
 {
     let definitions = whole_text(reader)?;
     let symbols = reader.symbols()?;

@@ -68,8 +68,37 @@ pub fn allocated(
     }
 }
 
-/// The function in virtual code: selected, with extensions of whole words as copies, with what is known of registers carried forward, without dead lines, with copies
-/// read in place of what they are copies of, with constants of loops in registers, and with its blocks in an order that saves jumps. A pass on virtual code has its place here.
+/// The function in virtual code as it is selected, with extensions of whole words as copies.
+fn selected(alloc: Global, func: &Func) -> Result<VFunc, AllocError>
+    requires { IsGoodFunction func.now }
+    ensures { IfOk result (λ v. IsCodeOf func.now (virtual_code v)) }
+{
+    let lowered = lower(alloc, func)?;
+    let selected = select(alloc, &lowered)?;
+    let copied = copy_whole_words(alloc, &selected)?;
+    Ok(copied)
+}
+
+/// The passes along blocks: what is known of registers is carried forward, dead lines go, and copies are read in place of what they are copies of.
+fn simplified(alloc: Global, function: &VFunc) -> Result<VFunc, AllocError>
+    ensures { IfOk result (λ w. Keeps (virtual_code function.now) (virtual_code w)) }
+{
+    let forwarded = forward(alloc, function)?;
+    let kept = remove_dead_lines(alloc, &forwarded)?;
+    let copies = read_copies(alloc, &kept)?;
+    Ok(copies)
+}
+
+/// The passes over loops: their constants come into registers, and the blocks into an order that saves jumps.
+fn arranged(alloc: Global, function: &VFunc) -> Result<VFunc, AllocError>
+    ensures { IfOk result (λ w. Keeps (virtual_code function.now) (virtual_code w)) }
+{
+    let held = hold_constants(alloc, function)?;
+    let ordered = order_blocks(alloc, &held)?;
+    Ok(ordered)
+}
+
+/// The function in virtual code: selected, simplified along its blocks, and arranged by its loops. A pass on virtual code has its place in one of these three.
 ///
 /// # Errors
 ///
@@ -78,15 +107,10 @@ pub fn virtual_code_of(alloc: Global, func: &Func) -> Result<VFunc, AllocError>
     requires { IsGoodFunction func.now }
     ensures { IfOk result (λ v. IsCodeOf func.now (virtual_code v)) }
 {
-    let lowered = lower(alloc, func)?;
-    let selected = select(alloc, &lowered)?;
-    let copied = copy_whole_words(alloc, &selected)?;
-    let forwarded = forward(alloc, &copied)?;
-    let kept = remove_dead_lines(alloc, &forwarded)?;
-    let copies = read_copies(alloc, &kept)?;
-    let held = hold_constants(alloc, &copies)?;
-    let ordered = order_blocks(alloc, &held)?;
-    Ok(ordered)
+    let selected = selected(alloc, func)?;
+    let simplified = simplified(alloc, &selected)?;
+    let arranged = arranged(alloc, &simplified)?;
+    Ok(arranged)
 }
 
 /// The function in location code, to be read on bytes, as the strategy has it.

@@ -9,5 +9,5 @@ pub returns-in-Ok-clause-only : goal.returns-in-Ok-clause-only
 returns-in-Ok-clause-only c =
     λ t h. one_tree c.args.text.now c.in-Ok.tree t (text_sound c.args.text.now c.in-Ok.tree c.in-Ok.ensures) h
 
-pub returns-clause-only : goal.returns-clause-only
-returns-clause-only c = λ t h. absurd (none_read c.args.text.now (c.in-Err-Syntax.ensures c.in-Err-Syntax.field-0-is) t h)
+pub returns-in-Err-Syntax-clause-only : goal.returns-in-Err-Syntax-clause-only
+returns-in-Err-Syntax-clause-only c = λ t h. absurd (none_read c.args.text.now (c.in-Err-Syntax.ensures c.in-Err-Syntax.field-0-is) t h)
