@@ -34,3 +34,4 @@ pub mod Eights
 pub mod CopyCode
 pub mod Copying
 pub mod MovingUp
+pub mod Walking

@@ -3,7 +3,7 @@ ghost use Rattle.std.specs.Prelude.{◌≡◌, ◌-◌, ◌*◌, ◌^◌, ◌<�
 ghost use Rattle.rv_isa.specs.declared.abi.TheConstants.{STACK_POINTER, FIRST_ARGUMENT, LAST_ARGUMENT, FIRST_SCRATCH};
 ghost use Rattle.vcode.specs.declared.place.Operand.TheVariants.{Name};
 ghost use Rattle.abi_frames.specs.Fields.{store_8};
-ghost use Rattle.abi_frames.specs.Emission.{fetch, source, passed_class, pass_into, stack_all, register_all, passed_items, callee_items, callee_source, call_through, receive_items, call_items};
+ghost use Rattle.abi_frames.specs.Emission.{fetch, source, passed_class, pass_into, stack_all, register_items, register_all, passed_items, callee_items, callee_source, call_through, receive_items, call_items};
 
 use crate::fields::{add_immediate, register, store};
 use crate::layout::Layout;
@@ -92,6 +92,21 @@ fn push_stack_arguments(
     Ok(())
 }
 
+/// The argument of that number in its register, if it has one.
+fn push_in_register(
+    items: &mut Vec<Item>,
+    layout: &Layout,
+    number: usize,
+    argument: &Argument<Location>,
+) -> Result<(), AllocError>
+    ensures { OnOk result (items.new.items ≡ items.old.items ++ register_items layout.now number argument.now) }
+{
+    if number < usize::from(abi::ARGUMENT_REGISTERS) {
+        push_argument(items, layout, abi::FIRST_ARGUMENT + number as u8, argument)?;
+    }
+    Ok(())
+}
+
 fn push_register_arguments(
     items: &mut Vec<Item>,
     layout: &Layout,
@@ -100,9 +115,7 @@ fn push_register_arguments(
     ensures { OnOk result (items.new.items ≡ items.old.items ++ register_all layout.now 0 arguments.now) }
 {
     for (number, argument) in arguments.iter().enumerate() {
-        if number < usize::from(abi::ARGUMENT_REGISTERS) {
-            push_argument(items, layout, abi::FIRST_ARGUMENT + number as u8, argument)?;
-        }
+        push_in_register(items, layout, number, argument)?;
     }
     Ok(())
 }

@@ -85,6 +85,19 @@ fn push_not_equal(items: &mut Vec<Item>, to: u8, left: u8, right: u8) -> Result<
     Ok(())
 }
 
+fn push_less(
+    items: &mut Vec<Item>,
+    op: RegOp,
+    to: u8,
+    left: u8,
+    right: u8,
+) -> Result<(), AllocError>
+    ensures { OnOk result (items.new.items ≡ items.old.items ++ (Plain (Reg op (reg to) (reg left) (reg right)) ∷ [])) }
+{
+    items.push(on_registers(op, to, left, right))?;
+    Ok(())
+}
+
 /// Puts the code of a comparison of two registers at the end: 1 in `to` where it holds, else 0.
 pub(crate) fn push_compare(
     items: &mut Vec<Item>,
@@ -96,16 +109,15 @@ pub(crate) fn push_compare(
     ensures { OnOk result (items.new.items ≡ items.old.items ++ compare_items condition to left right) }
 {
     match condition {
-        Condition::Equal => push_equal(items, to, left, right)?,
-        Condition::NotEqual => push_not_equal(items, to, left, right)?,
-        Condition::SignedLess => items.push(on_registers(RegOp::Slt, to, left, right))?,
-        Condition::SignedGreater => items.push(on_registers(RegOp::Slt, to, right, left))?,
-        Condition::SignedLessEqual => push_negated(items, RegOp::Slt, to, right, left)?,
-        Condition::SignedGreaterEqual => push_negated(items, RegOp::Slt, to, left, right)?,
-        Condition::UnsignedLess => items.push(on_registers(RegOp::Sltu, to, left, right))?,
-        Condition::UnsignedGreater => items.push(on_registers(RegOp::Sltu, to, right, left))?,
-        Condition::UnsignedLessEqual => push_negated(items, RegOp::Sltu, to, right, left)?,
-        Condition::UnsignedGreaterEqual => push_negated(items, RegOp::Sltu, to, left, right)?,
+        Condition::Equal => push_equal(items, to, left, right),
+        Condition::NotEqual => push_not_equal(items, to, left, right),
+        Condition::SignedLess => push_less(items, RegOp::Slt, to, left, right),
+        Condition::SignedGreater => push_less(items, RegOp::Slt, to, right, left),
+        Condition::SignedLessEqual => push_negated(items, RegOp::Slt, to, right, left),
+        Condition::SignedGreaterEqual => push_negated(items, RegOp::Slt, to, left, right),
+        Condition::UnsignedLess => push_less(items, RegOp::Sltu, to, left, right),
+        Condition::UnsignedGreater => push_less(items, RegOp::Sltu, to, right, left),
+        Condition::UnsignedLessEqual => push_negated(items, RegOp::Sltu, to, right, left),
+        Condition::UnsignedGreaterEqual => push_negated(items, RegOp::Sltu, to, left, right),
     }
-    Ok(())
 }

@@ -307,6 +307,19 @@ fn push_not_less(
     Ok(())
 }
 
+fn push_less(
+    items: &mut Vec<Item>,
+    op: ImmOp,
+    to: u8,
+    from: u8,
+    number: u64,
+) -> Result<(), AllocError>
+    ensures { OnOk result (items.new.items ≡ items.old.items ++ (Plain (Imm op (reg to) (reg from) (low number)) ∷ [])) }
+{
+    items.push(immediate(op, to, from, number))?;
+    Ok(())
+}
+
 fn push_comparison(
     items: &mut Vec<Item>,
     condition: Condition,
@@ -317,20 +330,17 @@ fn push_comparison(
     ensures { OnOk result (items.new.items ≡ items.old.items ++ compare_number condition to from number) }
 {
     match condition {
-        Condition::Equal => push_equal(items, to, from, number)?,
-        Condition::NotEqual => push_not_equal(items, to, from, number)?,
-        Condition::SignedLess => items.push(immediate(ImmOp::Slti, to, from, number))?,
-        Condition::SignedGreaterEqual => push_not_less(items, ImmOp::Slti, to, from, number)?,
-        Condition::SignedLessEqual => items.push(immediate(ImmOp::Slti, to, from, next(number)))?,
-        Condition::SignedGreater => push_not_less(items, ImmOp::Slti, to, from, next(number))?,
-        Condition::UnsignedLess => items.push(immediate(ImmOp::Sltiu, to, from, number))?,
-        Condition::UnsignedGreaterEqual => push_not_less(items, ImmOp::Sltiu, to, from, number)?,
-        Condition::UnsignedLessEqual => {
-            items.push(immediate(ImmOp::Sltiu, to, from, next(number)))?;
-        }
-        Condition::UnsignedGreater => push_not_less(items, ImmOp::Sltiu, to, from, next(number))?,
+        Condition::Equal => push_equal(items, to, from, number),
+        Condition::NotEqual => push_not_equal(items, to, from, number),
+        Condition::SignedLess => push_less(items, ImmOp::Slti, to, from, number),
+        Condition::SignedGreaterEqual => push_not_less(items, ImmOp::Slti, to, from, number),
+        Condition::SignedLessEqual => push_less(items, ImmOp::Slti, to, from, next(number)),
+        Condition::SignedGreater => push_not_less(items, ImmOp::Slti, to, from, next(number)),
+        Condition::UnsignedLess => push_less(items, ImmOp::Sltiu, to, from, number),
+        Condition::UnsignedGreaterEqual => push_not_less(items, ImmOp::Sltiu, to, from, number),
+        Condition::UnsignedLessEqual => push_less(items, ImmOp::Sltiu, to, from, next(number)),
+        Condition::UnsignedGreater => push_not_less(items, ImmOp::Sltiu, to, from, next(number)),
     }
-    Ok(())
 }
 
 /// Puts the code of a form at the end, from a register to another.

@@ -3,18 +3,13 @@
 //! A pass on virtual code. A jump to the block that stands next takes no instruction, and a branch takes no jump beside it where one of its targets stands next.
 //! [`order::order_blocks`] puts the blocks of a function so that fewer jumps are taken, and leaves out those to which nothing leads.
 //!
-//! The order is a guess at what runs often (`chains`): blocks are joined to chains, each before the one that it leads to, and those first that lie in the most
-//! loops. So a loop that tests at its head comes to stand with the head behind its last block, and takes one branch for each time round. Nothing that is proved
-//! rests on the guess: [`order::in_order`] puts blocks in any order that is one (`is_order` in `specs/Ordered`), and leads jumps to where their targets stand then.
+//! The order is a guess at what runs often, which the crate `block_chains` makes. Nothing that is proved rests on it: [`order::in_order`] puts blocks in any order that is one (`is_order` in `specs/Ordered`), and leads jumps to where their targets stand then.
 //!
 //! The contract says that the code is kept, in the words of every pass, and that it is the code in some order.
 //!
-//! The crate stands on `vcode` for code and on `loops` for the depths of blocks.
+//! The crate stands on `vcode` for code, on `loops` for where jumps lead and on `block_chains` for the guess.
 #![tactic(auto)]
 
 mod blocks;
-mod chains;
 pub mod order;
 mod places;
-#[cfg(test)]
-mod tests;

@@ -7,8 +7,8 @@ ghost use Rattle.block_order.specs.Ordered.{in_order, is_order, IsOrdered};
 ghost use Rattle.block_order.specs.Placed.{ArePlaces};
 
 use crate::blocks::blocks_in_order;
-use crate::chains::chained;
 use crate::places::{begins, is_closed, places};
+use block_chains::chains::chained;
 use std::alloc::{AllocError, Global};
 use vcode::code::Code;
 use vcode::function::VFunc;

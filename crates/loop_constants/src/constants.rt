@@ -3,7 +3,7 @@ ghost use Rattle.std.specs.Prelude.{IfOk};
 ghost use Rattle.il_ast.specs.Passes.{Keeps};
 ghost use Rattle.vcode.specs.Coded.{virtual_code};
 
-use crate::choose::plans;
+use crate::chosen::plans;
 use crate::copy::copy;
 use crate::hold::with_constant;
 use crate::plan::Plan;

@@ -9,19 +9,15 @@
 //! way of one that sets it, and the ticks of each block have to pay for it as before. Its contract says that the code is kept, in the words of every pass, and which
 //! code it makes. Only these tests carry the proof.
 //!
-//! Which plans are made (`choose`) is a guess at what saves most: the instructions that a register saves at each operand (`saving`), by how often its block is run.
+//! Which plans are made is a guess at what saves most, which the crate `constant_choice` makes (`chosen`).
 //!
-//! The crate stands on `vcode` for code and on `loops` for the depths of blocks.
+//! The crate stands on `vcode` for code, on `loops` for where jumps lead and on `constant_choice` for the guess.
 #![tactic(auto)]
 
-mod choose;
+mod chosen;
 pub mod constants;
 mod copy;
-mod free;
 pub mod hold;
 pub mod plan;
-mod regions;
 mod replace;
 mod right;
-mod saving;
-mod uses;

@@ -19,6 +19,8 @@ mod live;
 #[cfg(test)]
 mod nests;
 #[cfg(test)]
+mod ordered;
+#[cfg(test)]
 mod points;
 #[cfg(test)]
 mod whole;

@@ -5,30 +5,13 @@
 //! says that a certificate names places that there are (`specs/Scanned`); that no two registers meet in a place, and that moves are right, is for the checker to
 //! see, which stands on `certificates` and knows nothing of this crate.
 //!
-//! `text` has the blocks, `starts` what is live where they begin; `lifetimes` says where registers have values, `accesses` where they are read and written, `demands` what registers are used for, by
-//! how deep in loops (the crate `loops`) that is. `groups` joins registers that are copied to one another; `candidates` puts groups in order, `rooms` has the registers of
-//! the machine, and `slots` shares slots. `nodes` has the parts of a lifetime, `regions` what parts go together and save, `credit` which moves are paid for;
-//! `cutting` decides, `cuts` says what that comes to at each point, and `written` writes the certificate.
+//! What is known of a function is in the crate `live_intervals`, and which register gets which place, and what is cut, is decided in `interval_splitting`; neither has
+//! contracts. Here the places are put into a list (`linear_scan`), and `written` writes the certificate.
 //!
 //! What the crate `certificates` has is here by the same names.
 #![tactic(auto)]
 
-mod accesses;
-mod candidates;
-mod credit;
-mod cuts;
-mod cutting;
-mod demands;
-mod groups;
-mod lifetimes;
 pub mod linear_scan;
-mod nodes;
-mod positions;
-mod regions;
-mod rooms;
-mod slots;
-mod starts;
-mod text;
 mod written;
 
 pub use certificates::{certificate, list, spill_all, strategy};

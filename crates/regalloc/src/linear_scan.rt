@@ -5,23 +5,19 @@ ghost use Rattle.std.specs.List.{list_all};
 ghost use Rattle.vcode.specs.Named.{is_place};
 ghost use Rattle.regalloc.specs.Scanned.{IsScanned};
 
-use crate::candidates::{Candidate, Facts, candidates, singles, wishes};
-use crate::cuts::Cuts;
-use crate::cutting::{Cutter, cut_all, should_keep};
-use crate::demands::demands_of;
-use crate::groups::{Group, groups_of};
-use crate::lifetimes::lifetimes;
-use crate::rooms::{Choice, Room, room_for, rooms};
-use crate::slots::{Wish, shared_slots};
-use crate::starts::{self, starts_of};
-use crate::text::text_of;
 use crate::written::written;
 use certificates::certificate::Certificate;
 use certificates::spill_all::slots;
 use certificates::strategy::Strategy;
-use cfg_live::points::graph;
 use cfg_live::sets::Live;
-use loops::depths::depths;
+use interval_splitting::candidates::{Candidate, Ground, candidates, is_unplaced, singles, wishes};
+use interval_splitting::choice::choice;
+use interval_splitting::cuts::Cuts;
+use interval_splitting::cutting::{Cutter, cut_all};
+use interval_splitting::rooms::{Room, rooms, take_room};
+use interval_splitting::slots::{Wish, shared_slots};
+use live_intervals::facts::facts_of;
+use live_intervals::groups::{Group, groups_of};
 use std::alloc::{AllocError, Global};
 use vcode::function::VFunc;
 use vcode::place::Location;
@@ -89,52 +85,9 @@ fn take(list: &mut [Location], registers: u32, rooms: &mut [Room], k: usize, gro
     ensures long { length list.new ≡ length list.old }
 {
     if k < MACHINE {
-        take_room(rooms, k, group);
+        take_room(rooms, k, group.ranges.as_slice());
         let place = machine_register(registers, k as u8);
         set_all(list, registers, group.members.as_slice(), place);
-    }
-}
-
-fn take_room(rooms: &mut [Room], k: usize, group: &Group) {
-    match rooms.get_mut(k) {
-        Some(room) => room.take(group.ranges.as_slice()),
-        None => {}
-    }
-}
-
-/// What registers of the machine are given by.
-#[derive(Clone, Copy)]
-struct Ground<'a> {
-    facts: &'a Facts,
-    live: &'a Live,
-    groups: &'a [Group],
-}
-
-/// Whether some of the registers has a value throughout. Those aren't cut.
-fn is_throughout(facts: &Facts, members: &[u32]) -> bool {
-    members
-        .iter()
-        .any(|register| facts.starts.is_throughout(*register))
-}
-
-/// The register of the machine for a candidate; none where cutting it costs less.
-fn choice(
-    alloc: Global,
-    rooms: &[Room],
-    cutter: &mut Cutter,
-    ground: Ground,
-    candidate: &Candidate,
-    group: &Group,
-) -> Result<Option<usize>, AllocError> {
-    match room_for(rooms, candidate, group.ranges.as_slice()) {
-        Some(Choice::Free(k)) => Ok(Some(k)),
-        Some(Choice::Unused(k)) if 4 < candidate.weight => {
-            let members = group.members.as_slice();
-            let keeps = is_throughout(ground.facts, members)
-                || should_keep(alloc, cutter, ground.facts, ground.live, members)?;
-            Ok(if keeps { Some(k) } else { None })
-        }
-        _ => Ok(None),
     }
 }
 
@@ -194,14 +147,6 @@ fn stand(list: &mut [Location], registers: u32, members: &[u32], slot: u32)
     }
 }
 
-/// Whether the list has a slot for the register.
-pub(crate) fn is_unplaced(list: &[Location], register: u32) -> bool {
-    match list.get(register as usize) {
-        Some(Location::Slot(_)) => true,
-        _ => false,
-    }
-}
-
 fn give_slot(list: &mut [Location], registers: u32, groups: &[Group], wish: &Wish, slot: usize)
     requires { list_all (is_place registers) list.old ≡ true }
     ensures places { list_all (is_place registers) list.new ≡ true }
@@ -236,101 +181,90 @@ fn give_slots(
     }
 }
 
+/// Registers of the machine for the groups, the most urgent first.
+fn place_groups(
+    alloc: Global,
+    list: &mut [Location],
+    registers: u32,
+    rooms: &mut [Room],
+    cutter: &mut Cutter,
+    ground: Ground,
+) -> Result<(), AllocError>
+    requires { list_all (is_place registers) list.old ≡ true }
+    ensures places { list_all (is_place registers) list.new ≡ true }
+    ensures long { length list.new ≡ length list.old }
+{
+    let order = candidates(alloc, ground.groups, ground.facts)?;
+    let candidates = order.as_slice();
+    place_all(alloc, list, registers, rooms, cutter, ground, candidates)
+}
+
+/// Slots for what has no register of the machine.
+fn place_in_slots(
+    alloc: Global,
+    list: &mut [Location],
+    registers: u32,
+    ground: Ground,
+) -> Result<(), AllocError>
+    requires { list_all (is_place registers) list.old ≡ true }
+    ensures places { list_all (is_place registers) list.new ≡ true }
+    ensures long { length list.new ≡ length list.old }
+{
+    let wishes = wishes(alloc, ground.groups, list, ground.facts)?;
+    let slots = shared_slots(alloc, ground.groups, wishes.as_slice())?;
+    give_slots(
+        list,
+        registers,
+        ground.groups,
+        wishes.as_slice(),
+        slots.as_slice(),
+    );
+    Ok(())
+}
+
+/// Registers of the machine for single registers of the groups that got none, and slots for what is left; that is cut where it can be.
+fn place_singles(
+    alloc: Global,
+    list: &mut [Location],
+    registers: u32,
+    rooms: &mut [Room],
+    cutter: &mut Cutter,
+    ground: Ground,
+) -> Result<(), AllocError>
+    requires { list_all (is_place registers) list.old ≡ true }
+    ensures places { list_all (is_place registers) list.new ≡ true }
+    ensures long { length list.new ≡ length list.old }
+{
+    let singles = singles(alloc, ground.groups, list, ground.facts)?;
+    let single = Ground {
+        groups: singles.as_slice(),
+        ..ground
+    };
+    let order = candidates(alloc, single.groups, single.facts)?;
+    let candidates = order.as_slice();
+    place_all(alloc, list, registers, rooms, cutter, single, candidates)?;
+    place_in_slots(alloc, list, registers, ground)?;
+    cut_all(alloc, cutter, rooms, list, single, candidates)
+}
+
 /// Registers of the machine for groups, then for single registers of those that got none, and slots for what is left; that is cut where it can be.
 fn place_in(
     alloc: Global,
     list: &mut [Location],
     function: &VFunc,
-    live: &Live,
-    groups: &[Group],
-    facts: &Facts,
+    ground: Ground,
 ) -> Result<Cuts, AllocError>
     requires { list_all (is_place function.now.registers) list.old ≡ true }
     ensures places { list_all (is_place function.now.registers) list.new ≡ true }
     ensures long { length list.new ≡ length list.old }
 {
     let registers = function.registers;
-    let mut all = rooms(alloc, MACHINE, facts.points)?;
+    let mut all = rooms(alloc, MACHINE, ground.facts.text.points())?;
     let rooms = all.as_mut_slice();
-    let mut cutter = Cutter::new(alloc, function, facts)?;
-    let first = candidates(alloc, groups, facts)?;
-    let ground = Ground {
-        facts,
-        live,
-        groups,
-    };
-    place_all(
-        alloc,
-        list,
-        registers,
-        rooms,
-        &mut cutter,
-        ground,
-        first.as_slice(),
-    )?;
-    let singles = singles(alloc, groups, list, facts)?;
-    let second = candidates(alloc, singles.as_slice(), facts)?;
-    let single = Ground {
-        groups: singles.as_slice(),
-        ..ground
-    };
-    place_all(
-        alloc,
-        list,
-        registers,
-        rooms,
-        &mut cutter,
-        single,
-        second.as_slice(),
-    )?;
-    let wishes = wishes(alloc, groups, list, facts)?;
-    let slots = shared_slots(alloc, groups, wishes.as_slice())?;
-    give_slots(list, registers, groups, wishes.as_slice(), slots.as_slice());
-    cut_all(
-        alloc,
-        &mut cutter,
-        rooms,
-        list,
-        facts,
-        live,
-        singles.as_slice(),
-        second.as_slice(),
-    )?;
+    let mut cutter = Cutter::new(alloc, function, ground.facts)?;
+    place_groups(alloc, list, registers, rooms, &mut cutter, ground)?;
+    place_singles(alloc, list, registers, rooms, &mut cutter, ground)?;
     cutter.finish()
-}
-
-/// What is to be known of the function.
-fn facts(
-    alloc: Global,
-    function: &VFunc,
-    live: &Live,
-    live_a_line: usize,
-) -> Result<Facts, AllocError> {
-    let graph = graph(alloc, function)?;
-    let points = graph.uses.as_slice();
-    let registers = function.registers;
-    let blocks = function.code.blocks.as_slice();
-    let depths = depths(alloc, blocks)?;
-    let demands = demands_of(alloc, &function.code, registers, depths.as_slice())?;
-    let text = text_of(alloc, blocks, depths.as_slice())?;
-    let ground = starts::Ground {
-        text: &text,
-        live,
-        accesses: &demands.accesses,
-        registers,
-        blocks,
-        live_a_line,
-    };
-    let starts = starts_of(alloc, ground)?;
-    let params = function.code.params.as_slice();
-    let lifetimes = lifetimes(alloc, registers, params, points, &starts, &text)?;
-    Ok(Facts {
-        points: points.len(),
-        text,
-        starts,
-        lifetimes,
-        demands,
-    })
 }
 
 /// Each register in its slot.
@@ -368,7 +302,7 @@ pub(crate) fn scanned_within(
 ) -> Result<Certificate, AllocError>
     ensures { IfOk result (λ c. IsScanned function.now.registers c) }
 {
-    let mut facts = facts(alloc, function, live, live_a_line)?;
+    let mut facts = facts_of(alloc, function, live, live_a_line)?;
     let groups = groups_of(
         alloc,
         function.registers,
@@ -377,7 +311,12 @@ pub(crate) fn scanned_within(
     )?;
     let mut list = all_in_slots(alloc, function.registers)?;
     let groups = groups.groups.as_slice();
-    let cuts = place_in(alloc, list.as_mut_slice(), function, live, groups, &facts)?;
+    let ground = Ground {
+        facts: &facts,
+        live,
+        groups,
+    };
+    let cuts = place_in(alloc, list.as_mut_slice(), function, ground)?;
     written(alloc, function, &facts.starts, list.as_slice(), &cuts)
 }
 

@@ -4,14 +4,16 @@ ghost use Rattle.std.specs.List.{list_all};
 ghost use Rattle.vcode.specs.Named.{is_place};
 ghost use Rattle.regalloc.specs.Scanned.{are_placed, are_between, IsScanned};
 
-use crate::accesses::{part, rest};
-use crate::cuts::{Begin, Cuts, Entry, Move, Stay, Way};
 use crate::linear_scan::machine_register;
-use crate::starts::Starts;
 use certificates::certificate::{Certificate, Equality, Transfer};
 use cfg_live::points::graph;
 use cfg_live::uses::Uses;
 use il_ast::list::Seq;
+use interval_splitting::cuts::{
+    Begin, Cuts, Entry, Move, Stay, Way, begin_at, begins_from, moves_end, stays_end,
+};
+use live_intervals::accesses::part;
+use live_intervals::starts::Starts;
 use std::alloc::{AllocError, Global};
 use vcode::function::VFunc;
 use vcode::place::{Destination, Location};
@@ -132,18 +134,6 @@ fn places_of(
     Ok(equalities)
 }
 
-/// The number behind the stays at a point, the first of which has this number.
-fn stays_end(stays: &[Stay], first: usize, point: usize) -> usize {
-    let mut end = first;
-    for stay in rest(stays, first) {
-        if stay.point != point {
-            break;
-        }
-        end = end.saturating_add(1);
-    }
-    end
-}
-
 fn push_places(
     alloc: Global,
     places: &mut Seq<Seq<Equality>>,
@@ -231,17 +221,6 @@ fn moves_of(
     Ok(transfers)
 }
 
-fn moves_end(moves: &[Move], first: usize, point: usize) -> usize {
-    let mut end = first;
-    for one in rest(moves, first) {
-        if one.point != point {
-            break;
-        }
-        end = end.saturating_add(1);
-    }
-    end
-}
-
 fn push_moves(
     alloc: Global,
     lists: &mut Seq<Seq<Transfer>>,
@@ -265,28 +244,6 @@ fn push_moves(
 }
 
 // ---- starts of blocks
-
-/// The first of these registers, if it is that one and the block is this one.
-fn begin_at(begins: &[Begin], first: usize, block: usize, register: u32) -> Option<Begin> {
-    let begin = begins.get(first).copied()?;
-    if begin.block == block && begin.register == register {
-        Some(begin)
-    } else {
-        None
-    }
-}
-
-/// The number of the first one that comes neither before the block nor before the register in it.
-fn begins_from(begins: &[Begin], first: usize, block: usize, register: u32) -> usize {
-    let mut from = first;
-    for begin in rest(begins, first) {
-        if block < begin.block || (begin.block == block && register <= begin.register) {
-            break;
-        }
-        from = from.saturating_add(1);
-    }
-    from
-}
 
 /// A register that is live, where it is.
 fn push_live(
@@ -429,6 +386,65 @@ fn push_params(
     Ok(())
 }
 
+// ---- the certificate
+
+/// What it names where blocks begin.
+#[derive(Drop)]
+struct AtStarts {
+    everywhere: Seq<Equality>,
+    starts: Seq<Seq<Equality>>,
+}
+
+fn starts_of(
+    alloc: Global,
+    function: &VFunc,
+    live: &Starts,
+    list: &[Location],
+    cuts: &Cuts,
+) -> Result<AtStarts, AllocError>
+    requires { list_all (is_place function.now.registers) list.now ≡ true }
+    ensures everywhere { IfOk result (λ s. are_placed function.now.registers s.everywhere ≡ true) }
+    ensures starts { IfOk result (λ s. list_all (are_placed function.now.registers) s.starts ≡ true) }
+{
+    let registers = function.registers;
+    let blocks = function.code.blocks.len();
+    let begins = cuts.begins.as_slice();
+    let mut everywhere = Seq::new(alloc);
+    push_everywhere(&mut everywhere, list, registers, live)?;
+    let mut starts = Seq::new(alloc);
+    push_starts(alloc, &mut starts, list, registers, begins, live, blocks)?;
+    Ok(AtStarts { everywhere, starts })
+}
+
+/// What it has for each point.
+#[derive(Drop)]
+struct AtPoints {
+    moves: Seq<Seq<Transfer>>,
+    places: Seq<Seq<Equality>>,
+}
+
+fn points_of(
+    alloc: Global,
+    function: &VFunc,
+    list: &[Location],
+    cuts: &Cuts,
+) -> Result<AtPoints, AllocError>
+    requires { list_all (is_place function.now.registers) list.now ≡ true }
+    ensures moves { IfOk result (λ p. list_all (are_between function.now.registers) p.moves ≡ true) }
+    ensures places { IfOk result (λ p. list_all (are_placed function.now.registers) p.places ≡ true) }
+{
+    let registers = function.registers;
+    let graph = graph(alloc, function)?;
+    let points = graph.uses.as_slice();
+    let all = cuts.moves.as_slice();
+    let mut moves = Seq::new(alloc);
+    push_moves(alloc, &mut moves, list, registers, all, points)?;
+    let stays = cuts.stays.as_slice();
+    let mut places = Seq::new(alloc);
+    push_places(alloc, &mut places, list, registers, stays, points)?;
+    Ok(AtPoints { moves, places })
+}
+
 /// The certificate that has each register at its place, but where it is cut, with the moves for that; where a block begins it names the live registers alone, and
 /// everywhere those that have values throughout.
 ///
@@ -445,41 +461,17 @@ pub(crate) fn written(
     requires { list_all (is_place function.now.registers) list.now ≡ true }
     ensures { IfOk result (λ c. IsScanned function.now.registers c) }
 {
-    let registers = function.registers;
-    let mut params = Seq::new(alloc);
+    let at_starts = starts_of(alloc, function, live, list, cuts)?;
+    let at_points = points_of(alloc, function, list, cuts)?;
+    let entries = cuts.entries.as_slice();
     let from = function.code.params.as_slice();
-    push_params(&mut params, list, registers, cuts.entries.as_slice(), from)?;
-    let mut starts = Seq::new(alloc);
-    let begins = cuts.begins.as_slice();
-    let blocks = function.code.blocks.len();
-    push_starts(alloc, &mut starts, list, registers, begins, live, blocks)?;
-    let mut everywhere = Seq::new(alloc);
-    push_everywhere(&mut everywhere, list, registers, live)?;
-    let graph = graph(alloc, function)?;
-    let points = graph.uses.as_slice();
-    let mut moves = Seq::new(alloc);
-    push_moves(
-        alloc,
-        &mut moves,
-        list,
-        registers,
-        cuts.moves.as_slice(),
-        points,
-    )?;
-    let mut places = Seq::new(alloc);
-    push_places(
-        alloc,
-        &mut places,
-        list,
-        registers,
-        cuts.stays.as_slice(),
-        points,
-    )?;
+    let mut params = Seq::new(alloc);
+    push_params(&mut params, list, function.registers, entries, from)?;
     Ok(Certificate {
         params,
-        everywhere,
-        starts,
-        moves,
-        places,
+        everywhere: at_starts.everywhere,
+        starts: at_starts.starts,
+        moves: at_points.moves,
+        places: at_points.places,
     })
 }

@@ -1,16 +1,32 @@
 //! Which constants are worth a register.
 use crate::free::free_registers;
-use crate::plan::Plan;
 use crate::regions::{Region, Regions, regions_of};
-use crate::saving::cost;
+use crate::saving::where_read;
 use crate::uses::{Key, Use, uses_of};
 use loops::depths::{depths, target};
 use std::alloc::{AllocError, Global};
 use vcode::code::Block;
 use vcode::function::VFunc;
+use vcode::place::Operand;
 
 /// More of them would leave too few registers of the machine for what changes.
 const MOST: usize = 6;
+
+/// A constant for a register that the function names nowhere.
+#[derive(Drop)]
+pub struct Chosen {
+    /// the register that is to hold it
+    pub register: u32,
+
+    /// the number or the global name
+    pub constant: Operand<u32>,
+
+    /// by number, the blocks that are to set the register before their jump
+    pub sets: Vec<bool>,
+
+    /// by number, the blocks in which it is to hold the constant
+    pub holds: Vec<bool>,
+}
 
 /// A constant that is worth a register. The one that saves most is the last.
 #[derive(Clone, Copy, Debug, PartialEq, Eq, PartialOrd, Ord)]
@@ -21,7 +37,7 @@ struct Choice {
 
 /// What it saves to hold a constant in a region, less what it costs to set it in front. Over calls it takes a register that has to be saved: far more is asked.
 fn net(one: &Use, region: &Region) -> i64 {
-    let price = cost(one.key.constant()).saturating_mul(i64::from(region.entries));
+    let price = where_read(&one.key.operand()).saturating_mul(i64::from(region.entries));
     if region.has_calls {
         (one.gain / 4).saturating_sub(price).saturating_sub(1)
     } else {
@@ -30,9 +46,15 @@ fn net(one: &Use, region: &Region) -> i64 {
 }
 
 /// The uses that are worth it, with what they save.
-fn worthy(alloc: Global, uses: &[Use], regions: &Regions) -> Result<Vec<Use>, AllocError> {
+fn worthy_uses(
+    alloc: Global,
+    blocks: &[Block<u32>],
+    depths: &[u32],
+    regions: &Regions,
+) -> Result<Vec<Use>, AllocError> {
+    let uses = uses_of(alloc, blocks, depths, regions)?;
     let mut worthy = Vec::new(alloc);
-    for one in uses {
+    for one in uses.iter() {
         if let Some(region) = regions.list.get(one.region) {
             let gain = net(one, region);
             if 0 < gain {
@@ -118,20 +140,20 @@ fn setting(alloc: Global, blocks: &[Block<u32>], holds: &[bool]) -> Result<Vec<b
     Ok(sets)
 }
 
-fn plan_for(
+fn chosen_for(
     alloc: Global,
     blocks: &[Block<u32>],
     regions: &Regions,
     worthy: &[Use],
     key: Key,
     register: u32,
-) -> Result<Plan, AllocError> {
+) -> Result<Chosen, AllocError> {
     let held = held_regions(alloc, worthy, key, regions.list.len())?;
     let holds = holding(alloc, blocks, regions, held.as_slice())?;
     let sets = setting(alloc, blocks, holds.as_slice())?;
-    Ok(Plan {
+    Ok(Chosen {
         register,
-        constant: key.constant(),
+        constant: key.operand(),
         sets,
         holds,
     })
@@ -152,45 +174,53 @@ fn has_loops(depths: &[u32]) -> bool {
     false
 }
 
-/// A plan for each register, as long as there are constants that are worth it.
-fn plans_in(
+/// A constant for each register, as long as there are some that are worth it.
+fn chosen_in(
     alloc: Global,
     function: &VFunc,
     regions: &Regions,
     worthy: &[Use],
     choices: &[Choice],
-) -> Result<Vec<Plan>, AllocError> {
+) -> Result<Vec<Chosen>, AllocError> {
     let blocks = function.code.blocks.as_slice();
     let free = free_registers(alloc, function, MOST)?;
-    let mut plans = Vec::new(alloc);
+    let mut chosen = Vec::new(alloc);
     for (k, register) in free.iter().enumerate() {
         if let Some(choice) = from_last(choices, k) {
-            plans.push(plan_for(alloc, blocks, regions, worthy, choice.key, *register)?)?;
+            chosen.push(chosen_for(alloc, blocks, regions, worthy, choice.key, *register)?)?;
         }
     }
-    Ok(plans)
+    Ok(chosen)
 }
 
-/// Plans for the constants of the function's loops that save most, each with a register of its own, the best first. They are few, and most often right.
-///
-/// # Errors
-///
-/// Only where memory was refused.
-pub(crate) fn plans(alloc: Global, function: &VFunc) -> Result<Vec<Plan>, AllocError> {
+fn chosen_in_loops(
+    alloc: Global,
+    function: &VFunc,
+    depths: &[u32],
+) -> Result<Vec<Chosen>, AllocError> {
     let blocks = function.code.blocks.as_slice();
-    let depths = depths(alloc, blocks)?;
-    if !has_loops(depths.as_slice()) {
-        return Ok(Vec::new(alloc));
-    }
-    let regions = regions_of(alloc, blocks, Vec::from_slice(alloc, depths.as_slice())?)?;
-    let uses = uses_of(alloc, blocks, depths.as_slice(), &regions)?;
-    let worthy = worthy(alloc, uses.as_slice(), &regions)?;
+    let regions = regions_of(alloc, blocks, Vec::from_slice(alloc, depths)?)?;
+    let worthy = worthy_uses(alloc, blocks, depths, &regions)?;
     let choices = choices(alloc, worthy.as_slice())?;
-    plans_in(
+    chosen_in(
         alloc,
         function,
         &regions,
         worthy.as_slice(),
         choices.as_slice(),
     )
+}
+
+/// The constants of the function's loops that save most, each with a register of its own, the best first. They are few, and most often rightly set and held.
+///
+/// # Errors
+///
+/// Only where memory was refused.
+pub fn choose_constants(alloc: Global, function: &VFunc) -> Result<Vec<Chosen>, AllocError> {
+    let depths = depths(alloc, function.code.blocks.as_slice())?;
+    if has_loops(depths.as_slice()) {
+        chosen_in_loops(alloc, function, depths.as_slice())
+    } else {
+        Ok(Vec::new(alloc))
+    }
 }

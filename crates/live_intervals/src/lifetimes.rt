@@ -10,8 +10,8 @@ use vcode::place::Destination;
 /// The ranges in which a register is live, or was just written, in the order of the text, and apart; one range of all positions where it is taken to have a value
 /// throughout.
 #[derive(Drop)]
-pub(crate) struct Lifetime {
-    pub(crate) ranges: Vec<Range>,
+pub struct Lifetime {
+    pub ranges: Vec<Range>,
 }
 
 fn reach(ranges: &mut Vec<Range>, at: usize) {

@@ -1,5 +1,5 @@
 //! How many moves the ticks of a block pay for, and where.
-use crate::text::{Stretch, Text};
+use live_intervals::text::{Stretch, Text};
 use std::alloc::{AllocError, Global};
 use vcode::code::Block;
 use vcode::cost::is_immediate;

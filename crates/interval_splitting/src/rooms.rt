@@ -1,16 +1,16 @@
 //! Which positions each register of the machine is free at.
 use crate::candidates::Candidate;
-use crate::positions::Range;
-use crate::regions::Balance;
+use interval_parts::regions::Balance;
+use live_intervals::positions::Range;
 use std::alloc::{AllocError, Global};
 
 /// The positions at which a register of the machine is taken, one bit each.
 #[derive(Drop)]
-pub(crate) struct Room {
+pub struct Room {
     words: Vec<u64>,
 
     /// whether some value stands in it
-    pub(crate) is_used: bool,
+    pub is_used: bool,
 }
 
 /// The bits of the k-th word that belong to positions of the range.
@@ -57,7 +57,7 @@ impl Room {
     /// # Errors
     ///
     /// Only where memory was refused.
-    pub(crate) fn new(alloc: Global, positions: usize) -> Result<Room, AllocError> {
+    pub fn new(alloc: Global, positions: usize) -> Result<Room, AllocError> {
         let mut words = Vec::new(alloc);
         words.resize((positions / 64).saturating_add(1), 0u64)?;
         Ok(Room {
@@ -67,14 +67,14 @@ impl Room {
     }
 
     /// Whether it is free at all positions of the ranges.
-    pub(crate) fn is_free(&self, ranges: &[Range]) -> bool {
+    pub fn is_free(&self, ranges: &[Range]) -> bool {
         ranges
             .iter()
             .all(|range| is_free(self.words.as_slice(), *range))
     }
 
     /// Takes it at all positions of the ranges.
-    pub(crate) fn take(&mut self, ranges: &[Range]) {
+    pub fn take(&mut self, ranges: &[Range]) {
         self.is_used = true;
         for range in ranges {
             take(self.words.as_mut_slice(), *range);
@@ -87,13 +87,21 @@ impl Room {
 /// # Errors
 ///
 /// Only where memory was refused.
-pub(crate) fn rooms(alloc: Global, count: usize, points: usize) -> Result<Vec<Room>, AllocError> {
+pub fn rooms(alloc: Global, count: usize, points: usize) -> Result<Vec<Room>, AllocError> {
     let mut rooms = Vec::new(alloc);
     for _ in 0..count {
         let room = Room::new(alloc, points.saturating_mul(2))?;
         rooms.push(room)?;
     }
     Ok(rooms)
+}
+
+/// Takes the k-th register at all positions of the ranges.
+pub fn take_room(rooms: &mut [Room], k: usize, ranges: &[Range]) {
+    match rooms.get_mut(k) {
+        Some(room) => room.take(ranges),
+        None => {}
+    }
 }
 
 /// The first eight are those of arguments, the last argument's first; and the first eleven are not kept by callees.
@@ -119,7 +127,7 @@ fn room_by_hint(rooms: &[Room], candidate: &Candidate, ranges: &[Range]) -> Opti
 
 /// A register that is free.
 #[derive(Clone, Copy, Debug, PartialEq, Eq)]
-pub(crate) enum Choice {
+pub enum Choice {
     /// it costs nothing
     Free(usize),
 
@@ -128,7 +136,7 @@ pub(crate) enum Choice {
 }
 
 /// The register that the candidate would save moves in, or else the first one that is free for the ranges of the candidate, one that needs no saving if there is one.
-pub(crate) fn room_for(rooms: &[Room], candidate: &Candidate, ranges: &[Range]) -> Option<Choice> {
+pub fn room_for(rooms: &[Room], candidate: &Candidate, ranges: &[Range]) -> Option<Choice> {
     match room_by_hint(rooms, candidate, ranges) {
         Some(k) => return Some(Choice::Free(k)),
         None => {}

@@ -1,15 +1,15 @@
 //! Slots that are shared by groups that never have values at the same time.
-use crate::groups::Group;
+use live_intervals::groups::Group;
 use std::alloc::{AllocError, Global};
 
 /// A group that wants a slot.
 #[derive(Clone, Copy)]
-pub(crate) struct Wish {
-    pub(crate) group: usize,
-    pub(crate) weight: u64,
+pub struct Wish {
+    pub group: usize,
+    pub weight: u64,
 
     /// whether a parameter is among its registers: its slot must have a low number
-    pub(crate) is_param: bool,
+    pub is_param: bool,
 }
 
 /// A group's slot is taken where its first range starts, and free again behind its last one. What is free at a position comes before what is taken there.
@@ -147,7 +147,7 @@ fn numbers(alloc: Global, sharing: &mut Sharing) -> Result<Vec<usize>, AllocErro
 /// # Errors
 ///
 /// Only where memory was refused.
-pub(crate) fn shared_slots(
+pub fn shared_slots(
     alloc: Global,
     groups: &[Group],
     wishes: &[Wish],

@@ -8,7 +8,7 @@ use vcode::code::Block;
 /// The registers that are live where blocks begin. A register that is live at the starts of too many blocks is named for none of them: it is taken to have a
 /// value throughout.
 #[derive(Drop)]
-pub(crate) struct Starts {
+pub struct Starts {
     /// those of a block together, and in their order
     list: Vec<u32>,
 
@@ -21,7 +21,7 @@ pub(crate) struct Starts {
 
 impl Starts {
     /// The registers that are live where the block begins, but for those that have a value throughout.
-    pub(crate) fn of(&self, block: usize) -> &[u32] {
+    pub fn of(&self, block: usize) -> &[u32] {
         let from = self.firsts.get(block).copied().unwrap_or(0);
         let next = block.saturating_add(1);
         let to = self.firsts.get(next).copied().unwrap_or(0);
@@ -29,7 +29,7 @@ impl Starts {
     }
 
     /// Whether the register is taken to have a value throughout.
-    pub(crate) fn is_throughout(&self, register: u32) -> bool {
+    pub fn is_throughout(&self, register: u32) -> bool {
         self.throughout.get(register as usize) == Some(&true)
     }
 }

@@ -6,25 +6,25 @@ use vcode::code::Block;
 
 /// A block in the text.
 #[derive(Clone, Copy, Debug, PartialEq, Eq)]
-pub(crate) struct Stretch {
+pub struct Stretch {
     /// its first point
-    pub(crate) first: usize,
+    pub first: usize,
 
     /// the point of its jump, the last one
-    pub(crate) jump: usize,
+    pub jump: usize,
 
     /// in how many loops it lies
-    pub(crate) depth: u32,
+    pub depth: u32,
 
     /// the blocks that it may lead to
-    pub(crate) next: Option<usize>,
-    pub(crate) other: Option<usize>,
+    pub next: Option<usize>,
+    pub other: Option<usize>,
 }
 
 /// All blocks of a function.
 #[derive(Drop)]
-pub(crate) struct Text {
-    pub(crate) stretches: Vec<Stretch>,
+pub struct Text {
+    pub stretches: Vec<Stretch>,
 
     /// the blocks that lead to each block
     sources: Vec<Vec<usize>>,
@@ -35,12 +35,12 @@ pub(crate) struct Text {
 
 impl Text {
     /// The block with that number, if there is one.
-    pub(crate) fn stretch(&self, block: usize) -> Option<Stretch> {
+    pub fn stretch(&self, block: usize) -> Option<Stretch> {
         self.stretches.get(block).copied()
     }
 
     /// The blocks that lead to this one.
-    pub(crate) fn sources(&self, block: usize) -> &[usize] {
+    pub fn sources(&self, block: usize) -> &[usize] {
         match self.sources.get(block) {
             Some(sources) => sources.as_slice(),
             None => &[],
@@ -48,12 +48,17 @@ impl Text {
     }
 
     /// The number of the block with this point; 0 where there is no such point.
-    pub(crate) fn block_of(&self, point: usize) -> usize {
+    pub fn block_of(&self, point: usize) -> usize {
         self.block_of.get(point).copied().unwrap_or(0)
     }
 
+    /// How many points the function has.
+    pub fn points(&self) -> usize {
+        self.block_of.len()
+    }
+
     /// How often the block runs, where one that lies in no loop runs once.
-    pub(crate) fn often(&self, block: usize) -> u64 {
+    pub fn often(&self, block: usize) -> u64 {
         match self.stretch(block) {
             Some(stretch) => frequency(stretch.depth),
             None => 1,

@@ -2,6 +2,7 @@
 ghost use Rattle.std.specs.Prelude.{◌≤◌};
 
 use crate::accesses::{Access, Accesses, Kind, sorted};
+use crate::positions::Range;
 use loops::depths::frequency;
 use std::alloc::{AllocError, Global};
 use vcode::code::{Block, Code};
@@ -10,26 +11,26 @@ use vcode::place::{Argument, Destination, Operand};
 
 /// What a register is used for.
 #[derive(Clone, Copy, Debug, PartialEq, Eq)]
-pub(crate) struct Demand {
+pub struct Demand {
     /// twice the number of instructions that a register of the machine saves over a slot, where a block in a loop counts ten times as often
-    pub(crate) weight: u64,
+    pub weight: u64,
 
-    pub(crate) is_param: bool,
+    pub is_param: bool,
 
     /// the one of the eight registers that arguments are passed in that saves moves, as many as its weight
-    pub(crate) hint: Hint,
+    pub hint: Hint,
 }
 
 /// One of the registers that arguments are passed in, by the number of its argument.
 #[derive(Clone, Copy, Debug, PartialEq, Eq)]
-pub(crate) struct Hint {
-    pub(crate) argument: u8,
-    pub(crate) weight: u64,
+pub struct Hint {
+    pub argument: u8,
+    pub weight: u64,
 }
 
 impl Demand {
     /// Nothing at all.
-    pub(crate) fn none() -> Demand {
+    pub fn none() -> Demand {
         Demand {
             weight: 0,
             is_param: false,
@@ -41,7 +42,7 @@ impl Demand {
     }
 
     /// What both are used for.
-    pub(crate) fn joined(self, other: Demand) -> Demand {
+    pub fn joined(self, other: Demand) -> Demand {
         Demand {
             weight: self.weight.saturating_add(other.weight),
             is_param: self.is_param || other.is_param,
@@ -68,19 +69,30 @@ impl Hint {
 
 /// A copy of a register to another. In the order of copies the one that is done most often is the last.
 #[derive(Clone, Copy, Debug, PartialEq, Eq, PartialOrd, Ord)]
-pub(crate) struct Copying {
-    pub(crate) weight: u64,
-    pub(crate) to: u32,
-    pub(crate) from: u32,
+pub struct Copying {
+    pub weight: u64,
+    pub to: u32,
+    pub from: u32,
 }
 
 /// The demands of all registers, the copies between them, for each point how many calls stand before it, and all accesses.
 #[derive(Drop)]
-pub(crate) struct Demands {
-    pub(crate) registers: Vec<Demand>,
-    pub(crate) copies: Vec<Copying>,
-    pub(crate) calls: Vec<usize>,
-    pub(crate) accesses: Accesses,
+pub struct Demands {
+    pub registers: Vec<Demand>,
+    pub copies: Vec<Copying>,
+    pub calls: Vec<usize>,
+    pub accesses: Accesses,
+}
+
+fn calls_before(calls: &[usize], point: usize) -> usize {
+    calls.get(point).copied().unwrap_or(0)
+}
+
+/// Whether the positions right before and right after some call are both in the range. `calls` has for each point how many calls stand before it.
+pub fn is_over_call(calls: &[usize], range: Range) -> bool {
+    let first = range.start.saturating_add(1) / 2;
+    let end = range.end.saturating_add(1) / 2;
+    calls_before(calls, first) < calls_before(calls, end)
 }
 
 /// What is found on the way through the text.

@@ -1,43 +1,39 @@
 //! What stands for registers of the machine, and in which order.
-use crate::demands::{Demand, Demands};
-use crate::groups::Group;
-use crate::lifetimes::Lifetime;
-use crate::linear_scan::is_unplaced;
-use crate::positions::Range;
 use crate::slots::Wish;
-use crate::starts::Starts;
-use crate::text::Text;
+use cfg_live::sets::Live;
+use live_intervals::demands::{Demand, Demands, is_over_call};
+use live_intervals::facts::Facts;
+use live_intervals::groups::Group;
+use live_intervals::lifetimes::Lifetime;
+use live_intervals::positions::Range;
 use std::alloc::{AllocError, Global};
 use vcode::place::Location;
 
-/// What is known of a function.
-#[derive(Drop)]
-pub(crate) struct Facts {
-    /// how many points it has
-    pub(crate) points: usize,
+/// What registers of the machine are given by.
+#[derive(Clone, Copy)]
+pub struct Ground<'a> {
+    /// what is known of the function
+    pub facts: &'a Facts,
 
-    pub(crate) text: Text,
+    /// what is live at each of its points
+    pub live: &'a Live,
 
-    /// what is live where blocks begin
-    pub(crate) starts: Starts,
-
-    /// the lifetime of each register
-    pub(crate) lifetimes: Vec<Lifetime>,
-    pub(crate) demands: Demands,
+    /// the groups that candidates stand for
+    pub groups: &'a [Group],
 }
 
 /// A group that may stand in a register of the machine. In the order of candidates the one that is used most often for its length is the last.
 #[derive(Clone, Copy, Debug, PartialEq, Eq, PartialOrd, Ord)]
-pub(crate) struct Candidate {
+pub struct Candidate {
     priority: u64,
-    pub(crate) weight: u64,
-    pub(crate) group: usize,
+    pub weight: u64,
+    pub group: usize,
 
     /// whether it has a value over a call
-    pub(crate) over_call: bool,
+    pub over_call: bool,
 
     /// the register of arguments that saves moves, by the number of its argument
-    pub(crate) hint: Option<u8>,
+    pub hint: Option<u8>,
 }
 
 /// What all of these registers are used for.
@@ -60,17 +56,6 @@ fn length(ranges: &[Range]) -> usize {
     length
 }
 
-fn calls_before(calls: &[usize], point: usize) -> usize {
-    calls.get(point).copied().unwrap_or(0)
-}
-
-/// Whether the positions right before and right after some call are both in the range. `calls` has for each point how many calls stand before it.
-pub(crate) fn is_over_call(calls: &[usize], range: Range) -> bool {
-    let first = range.start.saturating_add(1) / 2;
-    let end = range.end.saturating_add(1) / 2;
-    calls_before(calls, first) < calls_before(calls, end)
-}
-
 fn candidate_of(group: &Group, number: usize, demands: &Demands) -> Candidate {
     let demand = demand_of(demands.registers.as_slice(), group.members.as_slice());
     let ranges = group.ranges.as_slice();
@@ -89,12 +74,20 @@ fn candidate_of(group: &Group, number: usize, demands: &Demands) -> Candidate {
     }
 }
 
+/// Whether the list has a slot for the register.
+pub fn is_unplaced(list: &[Location], register: u32) -> bool {
+    match list.get(register as usize) {
+        Some(Location::Slot(_)) => true,
+        _ => false,
+    }
+}
+
 /// The groups that have values somewhere, the most urgent first.
 ///
 /// # Errors
 ///
 /// Only where memory was refused.
-pub(crate) fn candidates(
+pub fn candidates(
     alloc: Global,
     groups: &[Group],
     facts: &Facts,
@@ -147,7 +140,7 @@ fn push_singles(
 /// # Errors
 ///
 /// Only where memory was refused.
-pub(crate) fn singles(
+pub fn singles(
     alloc: Global,
     groups: &[Group],
     list: &[Location],
@@ -190,7 +183,7 @@ fn push_wish(wishes: &mut Vec<Wish>, group: usize, demand: Demand) -> Result<(),
 /// # Errors
 ///
 /// Only where memory was refused.
-pub(crate) fn wishes(
+pub fn wishes(
     alloc: Global,
     groups: &[Group],
     list: &[Location],

@@ -346,7 +346,7 @@ fn place_chains(
 /// # Errors
 ///
 /// Only where memory was refused.
-pub(crate) fn chained(alloc: Global, blocks: &[Block<u32>]) -> Result<Vec<usize>, AllocError> {
+pub fn chained(alloc: Global, blocks: &[Block<u32>]) -> Result<Vec<usize>, AllocError> {
     let reached = reached(alloc, blocks)?;
     let links = chains(alloc, blocks, reached.as_slice())?;
     let last = last_chain(links.as_slice(), blocks, reached.as_slice());

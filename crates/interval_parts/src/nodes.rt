@@ -1,57 +1,58 @@
 //! A register's lifetime, cut at the ends of blocks and at calls.
-use crate::accesses::{Access, Kind, rest};
-use crate::candidates::{Facts, is_over_call};
-use crate::positions::{Range, right_after, right_before};
-use crate::text::{Stretch, Text};
+use live_intervals::accesses::{Access, Kind, rest};
+use live_intervals::demands::is_over_call;
+use live_intervals::facts::Facts;
+use live_intervals::positions::{Range, right_after, right_before};
+use live_intervals::text::{Stretch, Text};
 use std::alloc::{AllocError, Global};
 
 /// A part of a block in which a register may stand in a register of the machine: no call is in it at which it must have its value before and behind.
 /// It is accessed in each part, but in blocks that it only passes through.
 #[derive(Clone, Copy, Debug, PartialEq, Eq)]
-pub(crate) struct Node {
-    pub(crate) block: usize,
+pub struct Node {
+    pub block: usize,
 
     /// its accesses, by their numbers among those of the register: from `first` up to `end`, without that
-    pub(crate) first: usize,
-    pub(crate) end: usize,
+    pub first: usize,
+    pub end: usize,
 
     /// the positions of the first and the last of them
-    pub(crate) from: usize,
-    pub(crate) to: usize,
+    pub from: usize,
+    pub to: usize,
 
     /// whether the register has its value where the block begins, and no call is between that and the first access
-    pub(crate) enters: bool,
+    pub enters: bool,
 
     /// whether it must have its value where the block ends, and no call is between the last access and that
-    pub(crate) leaves: bool,
+    pub leaves: bool,
 
     /// whether its value is wanted behind the part, in the same block or another, but may not stay in the register of the machine
-    pub(crate) goes_on: bool,
+    pub goes_on: bool,
 
     /// where it has a register of the machine, which one
-    pub(crate) room: Option<usize>,
+    pub room: Option<usize>,
 
     /// where it has one: whether its value comes there from the blocks that lead to this one
-    pub(crate) is_entered: bool,
+    pub is_entered: bool,
 
     /// whether its slot has the value too, where the part is entered and behind each write
-    pub(crate) is_saved: bool,
+    pub is_saved: bool,
 
     /// and whether the value stays there up to the end of the block
-    pub(crate) holds: bool,
+    pub holds: bool,
 }
 
 /// The parts of one register, in the order of the text.
 #[derive(Drop)]
-pub(crate) struct Nodes {
-    pub(crate) list: Vec<Node>,
+pub struct Nodes {
+    pub list: Vec<Node>,
 
     /// for each block the part that it begins with, and the one that it ends with
     entering: Vec<Option<usize>>,
     leaving: Vec<Option<usize>>,
 
     /// blocks that the value comes to in a register of the machine, to be saved there
-    pub(crate) landings: Vec<Landing>,
+    pub landings: Vec<Landing>,
 
     /// which one that is, for each block
     landing: Vec<Option<usize>>,
@@ -59,14 +60,14 @@ pub(crate) struct Nodes {
 
 /// A block that the value comes to in a register of the machine, to be saved there.
 #[derive(Clone, Copy, Debug, PartialEq, Eq)]
-pub(crate) struct Landing {
-    pub(crate) block: usize,
-    pub(crate) room: usize,
+pub struct Landing {
+    pub block: usize,
+    pub room: usize,
 }
 
 impl Node {
     /// Whether the register isn't accessed.
-    pub(crate) fn is_passed(&self) -> bool {
+    pub fn is_passed(&self) -> bool {
         self.first == self.end
     }
 }
@@ -386,7 +387,7 @@ impl Nodes {
     /// # Errors
     ///
     /// Only where memory was refused.
-    pub(crate) fn new(alloc: Global, blocks: usize) -> Result<Nodes, AllocError> {
+    pub fn new(alloc: Global, blocks: usize) -> Result<Nodes, AllocError> {
         let mut entering = Vec::new(alloc);
         entering.resize(blocks, None)?;
         let mut leaving = Vec::new(alloc);
@@ -423,12 +424,7 @@ impl Nodes {
     /// # Errors
     ///
     /// Only where memory was refused.
-    pub(crate) fn fill(
-        &mut self,
-        alloc: Global,
-        facts: &Facts,
-        register: u32,
-    ) -> Result<(), AllocError> {
+    pub fn fill(&mut self, alloc: Global, facts: &Facts, register: u32) -> Result<(), AllocError> {
         self.clear();
         let ground = Ground {
             text: &facts.text,
@@ -446,12 +442,12 @@ impl Nodes {
     }
 
     /// The part with that number.
-    pub(crate) fn node(&self, number: usize) -> Option<Node> {
+    pub fn node(&self, number: usize) -> Option<Node> {
         self.list.get(number).copied()
     }
 
     /// The register of the machine in which the value comes to the block, to be saved there.
-    pub(crate) fn landing(&self, block: usize) -> Option<usize> {
+    pub fn landing(&self, block: usize) -> Option<usize> {
         self.landing.get(block).copied().flatten()
     }
 
@@ -460,7 +456,7 @@ impl Nodes {
     /// # Errors
     ///
     /// Only where memory was refused.
-    pub(crate) fn land(&mut self, block: usize, room: usize) -> Result<(), AllocError> {
+    pub fn land(&mut self, block: usize, room: usize) -> Result<(), AllocError> {
         if self.landing(block).is_none() {
             self.landings.push(Landing { block, room })?;
         }
@@ -472,12 +468,12 @@ impl Nodes {
     }
 
     /// The number of the part that the block begins with.
-    pub(crate) fn entering(&self, block: usize) -> Option<usize> {
+    pub fn entering(&self, block: usize) -> Option<usize> {
         self.entering.get(block).copied().flatten()
     }
 
     /// The number of the part that the block ends with.
-    pub(crate) fn leaving(&self, block: usize) -> Option<usize> {
+    pub fn leaving(&self, block: usize) -> Option<usize> {
         self.leaving.get(block).copied().flatten()
     }
 }

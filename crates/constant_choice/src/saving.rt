@@ -1,5 +1,4 @@
 //! How many instructions it saves to read a constant from a register.
-use crate::plan::Constant;
 use il_ast::operation::{Class, Condition};
 use rv_isa::instruction::{RegOp, RegWOp};
 use vcode::cost::is_immediate;
@@ -31,15 +30,7 @@ fn number_cost(number: u64) -> i64 {
     }
 }
 
-/// The instructions that have the constant in a register.
-pub(crate) fn cost(constant: Constant) -> i64 {
-    match constant {
-        Constant::Number(number) => number_cost(number),
-        Constant::Name(_) => 2,
-    }
-}
-
-/// What it saves where an operand is read from a register.
+/// What it saves where an operand is read from a register: the instructions that have it in one.
 pub(crate) fn where_read(operand: &Operand<u32>) -> i64 {
     match operand {
         Operand::At(_) => 0,

@@ -1,21 +1,22 @@
 //! Cutting the registers that no register of the machine is free for: in parts of their lifetimes one may be.
-use crate::accesses::{Access, part, rest};
-use crate::candidates::{Candidate, Facts};
+use crate::candidates::{Candidate, Ground, is_unplaced};
 use crate::credit::{Credit, credit_of};
 use crate::cuts::{Cuts, Move, cuts_of};
-use crate::groups::Group;
-use crate::linear_scan::is_unplaced;
-use crate::nodes::Nodes;
-use crate::regions::{Member, Reach, View, balance_of, enter_all, give, leaders, members, ranges};
-use crate::rooms::{Room, room_for_part};
+use crate::rooms::{Room, room_for_part, take_room};
 use cfg_live::sets::Live;
+use interval_parts::nodes::Nodes;
+use interval_parts::regions::{
+    Member, Reach, View, balance_of, enter_all, give, leaders, members, ranges,
+};
+use live_intervals::accesses::{Access, part, rest};
+use live_intervals::facts::Facts;
 use std::alloc::{AllocError, Global};
 use vcode::function::VFunc;
 use vcode::place::Location;
 
 /// What cutting has come to.
 #[derive(Drop)]
-pub(crate) struct Cutter {
+pub struct Cutter {
     nodes: Nodes,
     credit: Credit,
     cuts: Cuts,
@@ -27,11 +28,7 @@ impl Cutter {
     /// # Errors
     ///
     /// Only where memory was refused.
-    pub(crate) fn new(
-        alloc: Global,
-        function: &VFunc,
-        facts: &Facts,
-    ) -> Result<Cutter, AllocError> {
+    pub fn new(alloc: Global, function: &VFunc, facts: &Facts) -> Result<Cutter, AllocError> {
         let blocks = function.code.blocks.as_slice();
         Ok(Cutter {
             nodes: Nodes::new(alloc, blocks.len())?,
@@ -45,7 +42,7 @@ impl Cutter {
     /// # Errors
     ///
     /// Only where memory was refused.
-    pub(crate) fn finish(self) -> Result<Cuts, AllocError> {
+    pub fn finish(self) -> Result<Cuts, AllocError> {
         let mut cuts = self.cuts;
         cuts.sort()?;
         Ok(cuts)
@@ -64,14 +61,15 @@ struct Subject<'a> {
     hint: Option<u8>,
 }
 
-fn subject_of<'a>(facts: &'a Facts, live: &'a Live, register: u32) -> Subject<'a> {
+fn subject_of<'a>(ground: Ground<'a>, register: u32) -> Subject<'a> {
+    let facts = ground.facts;
     let hint = match facts.demands.registers.get(register as usize) {
         Some(demand) if 0 < demand.hint.weight => Some(demand.hint.argument),
         _ => None,
     };
     Subject {
         facts,
-        live,
+        live: ground.live,
         register,
         accesses: facts.demands.accesses.of(register),
         hint,
@@ -108,10 +106,7 @@ fn give_region(
         Some(k) => k,
         None => return Ok(()),
     };
-    match rooms.get_mut(k) {
-        Some(room) => room.take(ranges.as_slice()),
-        None => {}
-    }
+    take_room(rooms, k, ranges.as_slice());
     give(view, nodes, members, k, is_saved)
 }
 
@@ -262,13 +257,12 @@ fn cut_members(
     cutter: &mut Cutter,
     rooms: &mut [Room],
     list: &[Location],
-    facts: &Facts,
-    live: &Live,
+    ground: Ground,
     members: &[u32],
 ) -> Result<(), AllocError> {
     for register in members {
         if is_unplaced(list, *register) {
-            cut(alloc, cutter, rooms, subject_of(facts, live, *register))?;
+            cut(alloc, cutter, rooms, subject_of(ground, *register))?;
         }
     }
     Ok(())
@@ -279,21 +273,19 @@ fn cut_members(
 /// # Errors
 ///
 /// Only where memory was refused.
-pub(crate) fn cut_all(
+pub fn cut_all(
     alloc: Global,
     cutter: &mut Cutter,
     rooms: &mut [Room],
     list: &[Location],
-    facts: &Facts,
-    live: &Live,
-    groups: &[Group],
+    ground: Ground,
     candidates: &[Candidate],
 ) -> Result<(), AllocError> {
     for candidate in candidates {
-        match groups.get(candidate.group) {
+        match ground.groups.get(candidate.group) {
             Some(group) => {
                 let members = group.members.as_slice();
-                cut_members(alloc, cutter, rooms, list, facts, live, members)?;
+                cut_members(alloc, cutter, rooms, list, ground, members)?;
             }
             None => {}
         }
@@ -361,13 +353,12 @@ fn cut_costs_over_kept(
 pub(crate) fn should_keep(
     alloc: Global,
     cutter: &mut Cutter,
-    facts: &Facts,
-    live: &Live,
+    ground: Ground,
     members: &[u32],
 ) -> Result<bool, AllocError> {
     let mut cost = 0u64;
     for register in members {
-        let subject = subject_of(facts, live, *register);
+        let subject = subject_of(ground, *register);
         let more = cut_costs_over_kept(alloc, &mut cutter.nodes, subject)?;
         cost = cost.saturating_add(more);
     }

@@ -1,8 +1,8 @@
 //! Small functions, and the order of their blocks.
 ghost use Rattle.std.specs.Prelude.{◌≡◌, true, [], ◌∷◌, IfOk};
 
-use crate::chains::chained;
-use crate::order::{in_order, order_blocks};
+use block_chains::chains::chained;
+use block_order::order::{in_order, order_blocks};
 use il_ast::list::Seq;
 use il_ast::operation::{Class, Condition};
 use std::alloc::{AllocError, Global};

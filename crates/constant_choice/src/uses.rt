@@ -1,5 +1,4 @@
 //! What it would save to hold constants in registers.
-use crate::plan::Constant;
 use crate::regions::Regions;
 use crate::saving::{where_branching, where_copied, where_operating, where_read};
 use il_ast::symbol::Symbol;
@@ -32,12 +31,12 @@ impl Key {
         }
     }
 
-    /// The constant.
-    pub(crate) fn constant(self) -> Constant {
+    /// The constant as an operand.
+    pub(crate) fn operand(self) -> Operand<u32> {
         if self.is_name {
-            Constant::Name(Symbol::at(self.number as usize))
+            Operand::Name(Symbol::at(self.number as usize))
         } else {
-            Constant::Number(self.number)
+            Operand::Number(self.number)
         }
     }
 }

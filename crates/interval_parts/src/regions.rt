@@ -1,14 +1,14 @@
 //! Parts of a register's lifetime that one register of the machine may serve together, and what that saves.
-use crate::accesses::{Access, Kind, part};
 use crate::nodes::{Node, Nodes};
-use crate::positions::{Range, right_after, right_before};
-use crate::text::{Stretch, Text};
 use cfg_live::sets::Live;
+use live_intervals::accesses::{Access, Kind, part};
+use live_intervals::positions::{Range, right_after, right_before};
+use live_intervals::text::{Stretch, Text};
 use std::alloc::{AllocError, Global};
 
 /// Which parts go together.
 #[derive(Clone, Copy, Debug, PartialEq, Eq)]
-pub(crate) enum Reach {
+pub enum Reach {
     /// those that lie in so many loops, and lead to one another
     Loops(u32),
 
@@ -21,19 +21,19 @@ pub(crate) enum Reach {
 
 /// What a region is seen with.
 #[derive(Clone, Copy)]
-pub(crate) struct View<'a> {
-    pub(crate) text: &'a Text,
-    pub(crate) live: &'a Live,
-    pub(crate) register: u32,
-    pub(crate) accesses: &'a [Access],
+pub struct View<'a> {
+    pub text: &'a Text,
+    pub live: &'a Live,
+    pub register: u32,
+    pub accesses: &'a [Access],
 
     /// for each part the number of the part that its region is named by; none where it goes with no region
-    pub(crate) leaders: &'a [Option<usize>],
+    pub leaders: &'a [Option<usize>],
 }
 
 /// What a region saves over the slot, in half instructions, and what its moves cost.
 #[derive(Clone, Copy, Debug, PartialEq, Eq)]
-pub(crate) struct Balance {
+pub struct Balance {
     gain: u64,
 
     /// what of the gain comes only in the one register that the value comes in
@@ -51,7 +51,7 @@ pub(crate) struct Balance {
 }
 
 impl Balance {
-    pub(crate) fn none() -> Balance {
+    fn none() -> Balance {
         Balance {
             gain: 0,
             through: 0,
@@ -74,7 +74,7 @@ impl Balance {
     }
 
     /// Whether each new value is saved at once, or there is none.
-    pub(crate) fn is_saved(&self) -> bool {
+    pub fn is_saved(&self) -> bool {
         !self.has_new || self.eager < self.lazy
     }
 
@@ -88,7 +88,7 @@ impl Balance {
     }
 
     /// What is left of the gain, in the register of the machine that the value comes in.
-    pub(crate) fn best(&self) -> u64 {
+    pub fn best(&self) -> u64 {
         self.gain
             .saturating_add(self.through)
             .saturating_sub(self.loads)
@@ -96,7 +96,7 @@ impl Balance {
     }
 
     /// What is left of the gain in any other.
-    pub(crate) fn net(&self) -> u64 {
+    pub fn net(&self) -> u64 {
         self.gain
             .saturating_sub(self.loads)
             .saturating_sub(self.stores())
@@ -188,7 +188,7 @@ fn settle(leaders: &mut [Option<usize>]) {
 /// # Errors
 ///
 /// Only where memory was refused.
-pub(crate) fn leaders(
+pub fn leaders(
     alloc: Global,
     text: &Text,
     nodes: &Nodes,
@@ -211,9 +211,9 @@ pub(crate) fn leaders(
 
 /// A part and the one that names its region. In their order the parts of a region stand together.
 #[derive(Clone, Copy, Debug, PartialEq, Eq, PartialOrd, Ord)]
-pub(crate) struct Member {
-    pub(crate) leader: usize,
-    pub(crate) node: usize,
+pub struct Member {
+    pub leader: usize,
+    pub node: usize,
 }
 
 /// The members of all regions, those of a region together.
@@ -221,7 +221,7 @@ pub(crate) struct Member {
 /// # Errors
 ///
 /// Only where memory was refused.
-pub(crate) fn members(alloc: Global, leaders: &[Option<usize>]) -> Result<Vec<Member>, AllocError> {
+pub fn members(alloc: Global, leaders: &[Option<usize>]) -> Result<Vec<Member>, AllocError> {
     let mut members = Vec::new(alloc);
     for (node, leader) in leaders.iter().enumerate() {
         match leader {
@@ -247,7 +247,7 @@ impl<'a> View<'a> {
     }
 
     /// Whether the register has its value where the block begins.
-    pub(crate) fn is_wanted(&self, block: usize) -> bool {
+    pub fn is_wanted(&self, block: usize) -> bool {
         match self.text.stretch(block) {
             Some(stretch) => self.live.holds(stretch.first, self.register),
             None => false,
@@ -255,7 +255,7 @@ impl<'a> View<'a> {
     }
 
     /// The accesses of a part.
-    pub(crate) fn accesses_of(&self, node: &Node) -> &'a [Access] {
+    pub fn accesses_of(&self, node: &Node) -> &'a [Access] {
         part(self.accesses, node.first, node.end)
     }
 }
@@ -293,7 +293,7 @@ fn enter(view: View, nodes: &mut Nodes, member: Member) {
 }
 
 /// Sees to which parts of the region the value comes from blocks before.
-pub(crate) fn enter_all(view: View, nodes: &mut Nodes, members: &[Member]) {
+pub fn enter_all(view: View, nodes: &mut Nodes, members: &[Member]) {
     for member in members {
         enter(view, nodes, *member);
     }
@@ -314,7 +314,7 @@ fn is_met(view: View, nodes: &Nodes, leader: usize, block: usize) -> bool {
 
 /// How the value leaves a block for another.
 #[derive(Clone, Copy, Debug, PartialEq, Eq)]
-pub(crate) enum Exit {
+enum Exit {
     /// it isn't wanted there
     Gone,
     /// it stays in its register of the machine
@@ -388,7 +388,7 @@ fn before(view: View, exit: Exit, from: usize, to: Option<usize>) -> Exit {
 
 /// How the value leaves the part's block, where that leads to. Where it would be saved on every way on, it is saved once before them, but for ways that are
 /// taken less often.
-pub(crate) fn exits(view: View, nodes: &Nodes, leader: usize, node: &Node) -> [Exit; 2] {
+fn exits(view: View, nodes: &Nodes, leader: usize, node: &Node) -> [Exit; 2] {
     match view.text.stretch(node.block) {
         Some(stretch) if node.leaves => {
             let from = node.block;
@@ -423,7 +423,7 @@ fn gains(accesses: &[Access], save: u64) -> Balance {
 }
 
 /// Whether the part begins with a read of the value.
-pub(crate) fn reads_first(accesses: &[Access]) -> bool {
+pub fn reads_first(accesses: &[Access]) -> bool {
     match accesses.first() {
         Some(access) => access.kind == Kind::Read,
         None => false,
@@ -479,7 +479,7 @@ fn member_balance(view: View, nodes: &Nodes, member: Member) -> Balance {
 }
 
 /// What the region saves and costs, after `enter_all`.
-pub(crate) fn balance_of(view: View, nodes: &Nodes, members: &[Member]) -> Balance {
+pub fn balance_of(view: View, nodes: &Nodes, members: &[Member]) -> Balance {
     let mut all = Balance::none();
     for member in members {
         all = all.joined(member_balance(view, nodes, *member));
@@ -490,7 +490,7 @@ pub(crate) fn balance_of(view: View, nodes: &Nodes, members: &[Member]) -> Balan
 // ---- where its register of the machine must be free
 
 /// Whether the value stays in the register of the machine up to the end of the block, for one of these exits.
-pub(crate) fn is_held(exits: [Exit; 2], is_saved: bool) -> bool {
+fn is_held(exits: [Exit; 2], is_saved: bool) -> bool {
     exits.iter().any(|exit| *exit == Exit::Met || (*exit == Exit::Landing && !is_saved))
 }
 
@@ -593,7 +593,7 @@ fn push_ranges(
 /// # Errors
 ///
 /// Only where memory was refused.
-pub(crate) fn ranges(
+pub fn ranges(
     alloc: Global,
     view: View,
     nodes: &Nodes,
@@ -657,7 +657,7 @@ fn give_one(
 /// # Errors
 ///
 /// Only where memory was refused.
-pub(crate) fn give(
+pub fn give(
     view: View,
     nodes: &mut Nodes,
     members: &[Member],
