@@ -1,8 +1,8 @@
 -- The lines of some failures.
-use Rattle.std.specs.Prelude.{◌≡◌, ℕ, List, codes, Vec}
+use Rattle.std.specs.Prelude.{◌≡◌, ℕ, List, codes}
 use Rattle.std.specs.Borrow.{Bor}
 use Rattle.elf_file.specs.declared.error.LoadError.TheVariants.{CutOff, Memory as NotLoaded}
-use Rattle.commands.specs.declared.refusal.Refusal.TheVariants.{Syntax, Rule, UnknownName, ExportedTwice, NoMain, Limit as TooMuch, Memory as NotCompiled, Words, File}
+use Rattle.commands.specs.declared.refusal.Refusal.TheVariants.{Syntax, Rule, NoMain, Limit as TooMuch, Memory as NotCompiled, Words, File}
 use Rattle.commands.specs.declared.failure.Failure.TheVariants.{Halt, Limit, Fault, Undefined, Stack, Memory, Refused, Unread, Unwritten, Output}
 use Rattle.commands.specs.Messages.{line_of}
 

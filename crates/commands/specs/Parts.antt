@@ -52,6 +52,11 @@ pub record MissesFile (old new : DiskState) (paths : List (List ℕ)) (f : Failu
 
 -- ---- build
 
+-- the file `out` has these bytes, no other file changed, and no call failed
+abbrev pub IsWritten : (old new : DiskState) → (out bytes : List ℕ) → Type 0
+IsWritten old new out bytes =
+    Holds new.files out bytes × Spares old.files new.files out × (new.faults ≡ old.faults)
+
 -- the file `out` has an executable of what these texts mean, no other file changed, and no call
 -- failed
 pub record IsMade (old new : DiskState) (texts : List (List ℕ)) (out : List ℕ) : Type 0 where
@@ -140,6 +145,12 @@ InterpretFails disk after path words turns old new f =
     × EndsBadly output (end_status ending) old new f × (after ≡ disk))
 
 -- ---- dis
+
+-- there was no memory for these lines, and nothing was put out; or a beginning of them went out,
+-- and then standard output failed
+abbrev pub ShowingFails : (lines : List ℕ) (old new : SinkState) → Failure → Type 0
+ShowingFails lines old new f =
+    ((f ≡ Memory) × (new ≡ old)) ⊎ (Breaks old new lines × (f ≡ Output))
 
 -- the file loads, and the lines of its instructions went out
 pub record IsDisassembled (disk : DiskState) (path : List ℕ) (old new : SinkState) : Type 0 where

@@ -1,11 +1,13 @@
 //! `qbec build`.
-ghost use Rattle.std.specs.Prelude.{◌≡◌, ◌⊎◌, map, IfOk, OnOk, IfErr};
-ghost use Rattle.commands.specs.declared.failure.Failure.TheVariants.{Memory};
-ghost use Rattle.commands.specs.Parts.{AllHold, MissesFile, IsMade, MakingFails, IsBuilt, BuildFails};
+ghost use Rattle.std.specs.Prelude.{◌≡◌, ◌⊎◌, map, Err, IfOk, OnOk, IfErr};
+ghost use Rattle.commands.specs.declared.failure.Failure.TheVariants.{Memory, Refused};
+ghost use Rattle.commands.specs.Parts.{AllHold, MissesFile, IsUnwritten, IsWritten, IsMade, MakingFails, IsBuilt, BuildFails};
+ghost use Rattle.commands.specs.Refusals.{compile_refusal};
 
 use crate::failure::Failure;
 use crate::files::{read, write};
 use qbec::compile::compile;
+use qbec::error::CompileError;
 use regalloc::strategy::Strategy;
 use shell::disk::Disk;
 use std::alloc::{AllocError, Global};
@@ -38,8 +40,23 @@ fn slices(alloc: Global, texts: &[Vec<u8>]) -> Result<Vec<&[u8]>, AllocError>
     Ok(slices)
 }
 
+/// Writes what was compiled to the file `out`. Where nothing was compiled, nothing is written.
+fn put_compiled<'a, D: Disk>(
+    disk: &mut D,
+    out: &'a str,
+    compiled: Result<Vec<u8>, CompileError>,
+) -> Result<(), Failure<'a>>
+    ensures refused { IfErr compiled (λ e. (result ≡ Err (Refused (compile_refusal e))) × (D.told disk.new ≡ D.told disk.old)) }
+    ensures written { IfOk compiled (λ v. OnOk result (IsWritten (D.told disk.old) (D.told disk.new) out.now v.items)) }
+    ensures fault { OnOk compiled (IfErr result (IsUnwritten (D.told disk.old) (D.told disk.new) out.entry)) }
+{
+    match compiled {
+        Ok(bytes) => write(disk, out, bytes.as_slice()),
+        Err(error) => Err(Failure::from(error)),
+    }
+}
+
 /// Compiles texts to the file `out`, which is written only after success.
-#[tactic(auto, unfolding(crate::specs::Parts::MakingFails))]
 fn make<'a, D: Disk>(
     alloc: Global,
     how: &mut dyn Strategy,
@@ -50,8 +67,8 @@ fn make<'a, D: Disk>(
     ensures made { OnOk result (IsMade (D.told disk.old) (D.told disk.new) (map (λ t. t.now) texts.now) out.now) }
     ensures fails { IfErr result (MakingFails (D.told disk.old) (D.told disk.new) (map (λ t. t.now) texts.now) out.entry) }
 {
-    let bytes = compile(alloc, texts, how)?;
-    write(disk, out, bytes.as_slice())
+    let compiled = compile(alloc, texts, how);
+    put_compiled(disk, out, compiled)
 }
 
 /// Compiles the files to the file `out`, which is written only after success.

@@ -2,13 +2,14 @@
 ghost use Rattle.std.specs.Prelude.{◌≡◌, map, IfOk, OnOk, OnErr, IfErr};
 ghost use Rattle.std.specs.List.{concat};
 ghost use Rattle.std.specs.String.{string_bytes};
+ghost use Rattle.shell.specs.Lines.{dis_lines};
 ghost use Rattle.shell.specs.Sink.{Sends, Breaks};
 ghost use Rattle.commands.specs.declared.failure.Failure.TheVariants.{Output};
-ghost use Rattle.commands.specs.Parts.{IsDisassembled, DisassemblyFails};
+ghost use Rattle.commands.specs.Parts.{ShowingFails, IsDisassembled, DisassemblyFails};
 
 use crate::failure::Failure;
 use crate::files::{put_out, read};
-use elf_file::read_image;
+use elf_file::{Loaded, read_image};
 use shell::dis_lines::dis_lines;
 use shell::disk::Disk;
 use shell::sink::Sink;
@@ -23,6 +24,15 @@ fn put_lines<'a, O: Sink>(out: &mut O, lines: &[String]) -> Result<(), Failure<'
         put_out(out, line.as_bytes())?;
     }
     Ok(())
+}
+
+/// Puts out the lines of a loaded file.
+fn show_lines<'a, O: Sink>(alloc: Global, file: &Loaded, out: &mut O) -> Result<(), Failure<'a>>
+    ensures all { OnOk result (Sends (O.told out.old) (O.told out.new) (concat (dis_lines file.now.mappings))) }
+    ensures fails { IfErr result (ShowingFails (concat (dis_lines file.now.mappings)) (O.told out.old) (O.told out.new)) }
+{
+    let lines = dis_lines(alloc, file)?;
+    put_lines(out, lines.as_slice())
 }
 
 /// Puts out the lines of an executable file.
@@ -40,7 +50,6 @@ pub(crate) fn disassemble<'a, D: Disk, O: Sink>(
 {
     let bytes = read(disk, path)?;
     let file = read_image(alloc, bytes.as_slice())?;
-    let lines = dis_lines(alloc, &file)?;
-    put_lines(out, lines.as_slice())?;
+    show_lines(alloc, &file, out)?;
     Ok(0)
 }

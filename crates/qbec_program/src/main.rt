@@ -3,32 +3,21 @@
 //! What the system gives and takes is promised by no contract; every byte goes out by [`shell::write_exe::write_exe`].
 #![tactic(auto)]
 
-mod host_files;
-mod stream;
-
 ghost use Rattle.std.specs.Prelude.{◌≡◌, IfOk, OnErr};
 ghost use Rattle.std.specs.Process.{exit_status};
 ghost use Rattle.qbec_program.specs.Program.{Performs, Exits};
 
-use crate::host_files::HostFiles;
-use crate::stream::Stream;
 use commands::command::{command, report};
 use commands::failure::Failure;
+use host::host_files::HostFiles;
+use host::process;
+use host::stream::Stream;
+use host::words::words_of;
 use regalloc::linear_scan::LinearScan;
 use shell::sink::Sink;
-use std::alloc::Global;
 use std::process::ExitCode;
 use std::rt::{Env, Files};
 use std::{env, io};
-
-/// The words after the program's name.
-fn words_of(alloc: Global, args: &[String]) -> io::Result<Vec<&str>> {
-    let mut words = Vec::new(alloc);
-    for arg in args.iter().skip(1) {
-        words.push(arg.as_str())?;
-    }
-    Ok(words)
-}
 
 /// Does what the words ask for. Fails where the words can't be had.
 fn perform<R: Env + Files + AllocGlobal, O: Sink, E: Sink>(
@@ -67,7 +56,7 @@ fn exit_code<R: Env + Files + AllocGlobal, O: Sink, E: Sink>(
 ) -> ExitCode
     ensures { Exits (O.told out.old) (O.told out.new) (E.told err.old) (E.told err.new) (exit_status result) }
 {
-    ExitCode::from(status(rt, out, err))
+    process::exit_code(status(rt, out, err))
 }
 
 fn main(rt: HostRuntime) -> ExitCode {

@@ -1,7 +1,6 @@
-use Rattle.std.proofs.Common.{◌≡◌, ◌∙◌, ap, subst, get_or}
+use Rattle.std.proofs.Common.{◌∙◌, ap}
 use Rattle.std.proofs.lemmas.Result.{err_from_is_err_and}
 use Rattle.std.specs.String.{string_bytes}
-use Rattle.shell.specs.Sink.{Sends, Breaks}
 use Rattle.shell.proofs.SinkLemmas.{sends_next, breaks_next}
 use Rattle.commands.proofs.disassemble.put_lines.Goals as goal
 

@@ -1,5 +1,4 @@
-use Rattle.std.proofs.Common.{refl, ap, ◌∷◌, [], codes}
-use Rattle.std.specs.List.{concat}
+use Rattle.std.proofs.Common.{refl}
 use Rattle.std.specs.Fmt.{digits}
 use Rattle.commands.specs.Messages.{sixteen_digits}
 use Rattle.commands.specs.Examples.{Examples}

@@ -12,13 +12,14 @@ use std::{fs, io};
 
 /// The files of the system, and how many calls failed.
 #[derive(Drop)]
-pub(crate) struct HostFiles<'r, R> {
+pub struct HostFiles<'r, R> {
     rt: &'r R,
     faults: u64,
 }
 
 impl<'r, R> HostFiles<'r, R> {
-    pub(crate) fn new(rt: &'r R) -> HostFiles<'r, R>
+    /// Those of this process, of which no call has failed so far.
+    pub fn new(rt: &'r R) -> HostFiles<'r, R>
         ensures { result.faults ≡ 0 }
     {
         HostFiles { rt, faults: 0 }

@@ -7,13 +7,14 @@ use std::io::{ErrorKind, Write};
 
 /// A file or a standard stream, with the count of its calls that failed. It tells what its writer holds, where that is known: of those of the system it isn't.
 #[derive(Drop)]
-pub(crate) struct Stream<W: Write> {
-    pub(crate) writer: W,
+pub struct Stream<W: Write> {
+    pub writer: W,
     faults: u64,
 }
 
 impl<W: Write> Stream<W> {
-    pub(crate) fn new(writer: W) -> Stream<W>
+    /// The writer as a sink, of which no call has failed so far.
+    pub fn new(writer: W) -> Stream<W>
         ensures writer { result.writer ≡ writer }
         ensures faults { result.faults ≡ 0 }
     {
