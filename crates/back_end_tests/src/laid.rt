@@ -1,0 +1,294 @@
+//! Words at the ends of each form's range, as the GNU assembler gives them, and whole functions.
+
+ghost use Rattle.std.specs.Prelude.{◌≡◌, ◌<◌, ◌≤◌, true, false};
+ghost use Rattle.rv_isa.specs.Labels.{longest, is_label, has_label_below, has_good_registers};
+
+use asm_layout::layout::layout;
+use rv_isa::code::Hole;
+use rv_isa::instruction::{BranchOp, ImmOp, Instr};
+use rv_isa::labelled::{Item, LabelledCode};
+use rv_isa::ranges::{Immediate, Register};
+use rv_isa::relocation::{Partial, Relocation};
+use std::alloc::{AllocError, Global};
+use std::process::Abort;
+
+const X0: Register = Register { number: 0 };
+
+const X10: Register = Register { number: 10 };
+
+const NOP: Item = Item::Plain(Instr::Imm {
+    op: ImmOp::Addi,
+    rd: X0,
+    rs1: X0,
+    immediate: Immediate { value: 0 },
+});
+
+const NOP_WORD: u32 = 0x0000_0013;
+
+const BRANCH: Item = Item::Branch {
+    op: BranchOp::Beq,
+    rs1: X10,
+    rs2: X0,
+    label: 0,
+};
+
+const BRANCH_BELOW: Item = Item::Branch {
+    op: BranchOp::Bltu,
+    rs1: X10,
+    rs2: X0,
+    label: 0,
+};
+
+const JUMP: Item = Item::Goto(0);
+
+// The address of a global in x10.
+const UPPER: Relocation = Relocation {
+    instruction: Partial::Upper(X10),
+    global: 7,
+    offset: Immediate { value: 0 },
+};
+
+const LOWER: Relocation = Relocation {
+    instruction: Partial::Add { rd: X10, rs1: X10 },
+    global: 7,
+    offset: Immediate { value: 0 },
+};
+
+// An item that goes to a label behind so many words, of which it may take three.
+#[tactic(auto, using(crate::proofs::Going::goes_ahead))]
+fn ahead(alloc: Global, going: Item, words: usize) -> Result<LabelledCode, AllocError>
+    requires some { 0 < words }
+    requires few { words < 2_000_000 }
+    requires below { has_label_below 1 going ≡ true }
+    requires good { has_good_registers going ≡ true }
+    requires other { is_label 0 going ≡ false }
+    requires takes { 0 < longest going }
+    requires short { longest going ≤ 3 }
+{
+    let mut items = vec![in alloc; NOP; words]?;
+    items[0] = going;
+    items.push(Item::Label(0))?;
+    Ok(LabelledCode::new(items, 1))
+}
+
+// The other way round.
+#[tactic(auto, using(crate::proofs::Going::goes_back))]
+fn back(alloc: Global, going: Item, words: usize) -> Result<LabelledCode, AllocError>
+    requires some { 0 < words }
+    requires few { words < 2_000_000 }
+    requires below { has_label_below 1 going ≡ true }
+    requires good { has_good_registers going ≡ true }
+    requires other { is_label 0 going ≡ false }
+    requires takes { 0 < longest going }
+    requires short { longest going ≤ 3 }
+{
+    let mut items = vec![in alloc; NOP; words]?;
+    items[0] = Item::Label(0);
+    items.push(going)?;
+    Ok(LabelledCode::new(items, 1))
+}
+
+// A function of so many words, which begins with the words `first` and ends with the words `last`.
+fn is_laid(
+    rt: &impl Abort,
+    alloc: Global,
+    code: LabelledCode,
+    words: usize,
+    first: &[u32],
+    last: &[u32],
+) -> Result<(), AllocError> {
+    let laid = layout(alloc, code)?;
+    assert_eq!(rt; laid.words().len(), words);
+    assert!(rt; laid.words().starts_with(first));
+    assert!(rt; laid.words().ends_with(last));
+    assert!(rt; laid.holes().is_empty());
+    Ok(())
+}
+
+// Each ahead and back, by their words at the front and at the end: a jump takes two words where `jal` might not reach.
+#[test]
+fn jumps_grow_at_the_ends_of_their_range(rt: HostRuntime) -> Result<(), AllocError> {
+    let alloc = rt.alloc();
+    let nop = &[NOP_WORD];
+    is_laid(
+        &rt,
+        alloc,
+        ahead(alloc, JUMP, 262_142)?,
+        262_142,
+        &[0x7f9f_f06f, NOP_WORD],
+        nop,
+    )?;
+    is_laid(
+        &rt,
+        alloc,
+        ahead(alloc, JUMP, 262_143)?,
+        262_144,
+        &[0x0010_0f97, 0x000f_8067],
+        nop,
+    )?;
+    is_laid(
+        &rt,
+        alloc,
+        back(alloc, JUMP, 262_144)?,
+        262_144,
+        nop,
+        &[NOP_WORD, 0x8040_006f],
+    )?;
+    is_laid(
+        &rt,
+        alloc,
+        back(alloc, JUMP, 262_145)?,
+        262_146,
+        nop,
+        &[0xfff0_0f97, 0x000f_8067],
+    )
+}
+
+#[test]
+fn jumps(rt: HostRuntime) -> Result<(), AllocError> {
+    let alloc = rt.alloc();
+    let nop = &[NOP_WORD];
+    is_laid(&rt, alloc, back(alloc, JUMP, 2)?, 2, nop, &[0xffdf_f06f])?;
+    is_laid(
+        &rt,
+        alloc,
+        ahead(alloc, JUMP, 299_999)?,
+        300_000,
+        &[0x0012_5f97, 0xf80f_8067],
+        nop,
+    )?;
+    is_laid(
+        &rt,
+        alloc,
+        back(alloc, JUMP, 300_001)?,
+        300_002,
+        nop,
+        &[0xffed_bf97, 0x080f_8067],
+    )
+}
+
+#[test]
+fn branches(rt: HostRuntime) -> Result<(), AllocError> {
+    let alloc = rt.alloc();
+    let nop = &[NOP_WORD];
+    is_laid(
+        &rt,
+        alloc,
+        ahead(alloc, BRANCH, 1023)?,
+        1024,
+        &[0x0005_1463, 0x7fd0_006f],
+        nop,
+    )?;
+    is_laid(
+        &rt,
+        alloc,
+        ahead(alloc, BRANCH_BELOW, 299_998)?,
+        300_000,
+        &[0x0005_7663, 0x0012_5f97, 0xf7cf_8067],
+        nop,
+    )
+}
+
+#[test]
+fn branches_ahead_grow_at_the_ends_of_their_ranges(rt: HostRuntime) -> Result<(), AllocError> {
+    let alloc = rt.alloc();
+    let nop = &[NOP_WORD];
+    is_laid(
+        &rt,
+        alloc,
+        ahead(alloc, BRANCH, 1021)?,
+        1021,
+        &[0x7e05_0ae3, NOP_WORD],
+        nop,
+    )?;
+    is_laid(
+        &rt,
+        alloc,
+        ahead(alloc, BRANCH, 1022)?,
+        1023,
+        &[0x0005_1463, 0x7f90_006f],
+        nop,
+    )?;
+    is_laid(
+        &rt,
+        alloc,
+        ahead(alloc, BRANCH, 262_141)?,
+        262_142,
+        &[0x0005_1463, 0x7f5f_f06f],
+        nop,
+    )?;
+    is_laid(
+        &rt,
+        alloc,
+        ahead(alloc, BRANCH, 262_142)?,
+        262_144,
+        &[0x0005_1663, 0x0010_0f97, 0xffcf_8067],
+        nop,
+    )
+}
+
+#[test]
+fn branches_back_grow_at_the_ends_of_their_ranges(rt: HostRuntime) -> Result<(), AllocError> {
+    let alloc = rt.alloc();
+    let nop = &[NOP_WORD];
+    is_laid(
+        &rt,
+        alloc,
+        back(alloc, BRANCH, 1025)?,
+        1025,
+        nop,
+        &[NOP_WORD, 0x8005_0063],
+    )?;
+    is_laid(
+        &rt,
+        alloc,
+        back(alloc, BRANCH, 1026)?,
+        1027,
+        nop,
+        &[0x0005_1463, 0xff9f_e06f],
+    )?;
+    is_laid(
+        &rt,
+        alloc,
+        back(alloc, BRANCH, 262_144)?,
+        262_145,
+        nop,
+        &[0x0005_1463, 0x8000_006f],
+    )?;
+    is_laid(
+        &rt,
+        alloc,
+        back(alloc, BRANCH, 262_145)?,
+        262_147,
+        nop,
+        &[0x0005_1663, 0xfff0_0f97, 0xffcf_8067],
+    )
+}
+
+// A loop that is left by a branch, with the address of a global.
+#[test]
+fn a_function_of_all_items(rt: HostRuntime) -> Result<(), AllocError> {
+    let items = vec![in rt.alloc();
+        Item::Label(0),
+        BRANCH,
+        Item::Relocated(UPPER),
+        Item::Relocated(LOWER),
+        NOP,
+        JUMP,
+    ]?;
+    let laid = layout(rt.alloc(), LabelledCode::new(items, 1))?;
+    let words: &[u32] = &[0x0005_0063, 0x0000_0537, 0x0005_0513, NOP_WORD, 0xff1f_f06f];
+    assert!(rt; laid.words() == words);
+    let holes = [
+        Hole {
+            word: 1,
+            relocation: UPPER,
+        },
+        Hole {
+            word: 2,
+            relocation: LOWER,
+        },
+    ];
+    assert!(rt; laid.holes() == holes.as_slice());
+    Ok(())
+}
