@@ -3,5 +3,4 @@ pub mod Running
 pub mod Standing
 pub mod Filling
 pub mod WordRanges
-pub mod TestLemmas
 pub mod Whole

@@ -25,5 +25,3 @@ pub mod layout;
 mod places;
 mod reach;
 mod sizes;
-#[cfg(test)]
-mod tests;

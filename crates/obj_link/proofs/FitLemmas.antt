@@ -1,5 +1,5 @@
 -- A program within the limits fits below the stack.
-use Rattle.std.proofs.Common.{◌≡◌, ℕ, ◌+◌, ◌*◌, ◌^◌, ◌≤◌, true, List, [], ◌∷◌, length, get_or, ap, ◌∙◌, arith}
+use Rattle.std.proofs.Common.{◌≡◌, ℕ, ◌+◌, ◌*◌, ◌^◌, ◌≤◌, true, List, [], ◌∷◌, length, ap, ◌∙◌, arith}
 use Rattle.std.specs.Prelude.{nat_le, ◌&&◌}
 use Rattle.std.proofs.lemmas.Bool.{and_parts}
 use Rattle.std.proofs.lemmas.Bool.Decides.{nat_tests}
@@ -51,14 +51,3 @@ program_fits texts p codes is are =
   where
     le_of : (a b : ℕ) → nat_le a b ≡ true → a ≤ b
     le_of a b h = grind (arith, nat_tests)
-
--- of a program of one function
-pub one_code : (codes : List Words) (fs : List (Placed Func)) (c : Words) → length codes ≡ 1 → length fs ≡ 1 → c ≡ get_or codes 0 c → length c.words ≤ 256
-    → AreCodes codes fs
-one_code [] fs c one only is few = absurd (omega arith)
-one_code (x ∷ y ∷ codes) fs c one only is few = absurd (omega arith)
-one_code (x ∷ []) [] c one only is few = absurd (omega arith)
-one_code (x ∷ []) (f ∷ g ∷ fs) c one only is few = absurd (omega arith)
-one_code (x ∷ []) (f ∷ []) c one only is few =
-    let same : length c.words ≡ length x.words = ap (λ (w : Words). length w.words) is in
-    (omega arith, tt)

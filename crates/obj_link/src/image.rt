@@ -76,24 +76,3 @@ impl Image {
         CODE_START + self.code_size().next_multiple_of(PAGE)
     }
 }
-
-#[cfg(test)]
-mod tests {
-    use super::*;
-    use std::test::Fail;
-
-    #[test]
-    fn data_stands_on_the_page_after_the_code(rt: HostRuntime) -> Result<(), Fail> {
-        for (words, start) in [(1, 0x11000), (1024, 0x11000), (1025, 0x12000)] {
-            let code = vec![in rt.alloc(); 19; words]?;
-            let slot = vec![in rt.alloc(); 7; SLOT]?;
-            assert!(rt; code.len() < 2000 && !code.is_empty() && slot.len() == SLOT);
-            let image = Image::new(code, slot);
-            assert_eq!(rt; image.code().len(), words);
-            assert_eq!(rt; image.code_size(), 4 * words as u64);
-            assert_eq!(rt; image.data(), [7u8; 16].as_slice());
-            assert_eq!(rt; image.data_start(), start);
-        }
-        Ok(())
-    }
-}

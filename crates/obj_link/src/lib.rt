@@ -51,13 +51,9 @@ mod main_function;
 mod names;
 mod natives;
 pub mod place;
-#[cfg(test)]
-mod place_tests;
 pub mod resolve;
 mod tables;
 mod targets;
-#[cfg(test)]
-mod tests;
 pub mod words;
 
 pub use image::{CODE_START, IMAGE_END, Image, PAGE, SLOT};

@@ -46,7 +46,5 @@ pub mod start;
 mod step;
 pub mod stop;
 mod table;
-#[cfg(test)]
-mod tests;
 pub mod width;
 mod words;
