@@ -112,14 +112,6 @@ pub fn lists<T: Copy + Drop>(alloc: Global, items: &[&[T]]) -> Result<Seq<Seq<T>
     Ok(seq)
 }
 
-/// What is named at this place of a certificate's list.
-pub fn named<T: Drop>(lists: &Seq<Seq<T>>, at: usize) -> &[T] {
-    match lists.as_slice().get(at) {
-        Some(list) => list.as_slice(),
-        None => &[],
-    }
-}
-
 /// The place holds the register's value.
 pub fn at(register: u32, place: Location) -> Equality {
     Equality { register, place }
@@ -135,14 +127,6 @@ pub fn lines_of(code: &Code<Location>) -> &[Line<Location>] {
     match code.blocks.as_slice().first() {
         Some(block) => block.lines.as_slice(),
         None => &[],
-    }
-}
-
-/// Whether the line moves what is in a place to another.
-pub fn moves_to(line: Option<&Line<Location>>, from: Location, to: Location) -> bool {
-    match line {
-        Some(Line::Set { to: place, value }) => *place == to && *value == Operand::At(from),
-        _ => false,
     }
 }
 

@@ -1,11 +1,11 @@
 //! Certificates, right ones and hostile ones, for a function that passes its argument to a call and adds the result to it.
 use crate::build::{
-    add, argument, at, block, call, jump_of, lines_of, list, lists, moves_to, moving, of_class,
-    param_of, returned, tick,
+    add, argument, at, block, call, jump_of, lines_of, list, lists, moving, of_class, param_of,
+    returned, tick,
 };
 use alloc_check::accept::{Refused, accept};
 use alloc_check::spill_all::spill_all;
-use certificates::certificate::{Certificate, Equality, Transfer};
+use certificates::certificate::{Certificate, Transfer};
 use certificates::spill_all::SpillAll;
 use certificates::strategy::Strategy;
 use cfg_live::live::live;
@@ -55,21 +55,16 @@ pub fn of_layout(
     before_call: &[Transfer],
     before_sum: &[Transfer],
 ) -> Result<Certificate, AllocError> {
+    let passed = at(0, layout.passed);
+    let result = at(1, layout.result);
+    let sum = at(2, layout.sum);
     Ok(Certificate {
         params: list(alloc, &[layout.param])?,
         everywhere: Seq::new(alloc),
         starts: lists(alloc, &[&[at(0, layout.param)]])?,
         moves: lists(alloc, &[before_call, before_sum, &[]])?,
-        places: places_of(alloc, layout)?,
+        places: lists(alloc, &[&[passed, result], &[passed, result, sum], &[sum]])?,
     })
-}
-
-/// The places of a layout, point by point.
-fn places_of(alloc: Global, layout: Layout) -> Result<Seq<Seq<Equality>>, AllocError> {
-    let passed = at(0, layout.passed);
-    let result = at(1, layout.result);
-    let sum = at(2, layout.sum);
-    lists(alloc, &[&[passed, result], &[passed, result, sum], &[sum]])
 }
 
 /// Everything in registers, the argument in one that calls keep.
@@ -80,19 +75,6 @@ pub fn kept() -> Layout {
         result: Location::Register(10),
         sum: Location::Register(11),
     }
-}
-
-/// Whether the line adds x9 and x10 to x11.
-fn adds_the_kept(line: Option<&Line<Location>>) -> bool {
-    matches!(
-        line,
-        Some(Line::Operate {
-            to: Location::Register(11),
-            left: Operand::At(Location::Register(9)),
-            right: Operand::At(Location::Register(10)),
-            ..
-        })
-    )
 }
 
 /// Each register in its slot.
@@ -121,15 +103,6 @@ fn is_refused(alloc: Global, layout: Layout) -> Result<bool, AllocError> {
     Ok(matches!(answer, Err(Refused::No)))
 }
 
-/// Whether everything in registers is answered no with these moves before the call; where it isn't, the certificate is accepted.
-fn is_refused_moving(alloc: Global, before_call: &[Transfer]) -> Result<bool, AllocError> {
-    match answer(alloc, kept(), before_call, &[])? {
-        Ok(_) => Ok(false),
-        Err(Refused::No) => Ok(true),
-        Err(Refused::Memory) => Err(AllocError),
-    }
-}
-
 #[test]
 fn registers_that_calls_keep_are_accepted(rt: HostRuntime) -> Result<(), Fail> {
     match answer(rt.alloc(), kept(), &[], &[])? {
@@ -137,7 +110,17 @@ fn registers_that_calls_keep_are_accepted(rt: HostRuntime) -> Result<(), Fail> {
             assert_eq!(rt; made.slots, 0);
             assert_eq!(rt; param_of(&made.code), Some(Location::Register(9)));
             assert_eq!(rt; lines_of(&made.code).len(), 3);
-            assert!(rt; adds_the_kept(lines_of(&made.code).get(2)));
+            assert!(rt;
+                matches!(
+                    lines_of(&made.code).get(2),
+                    Some(Line::Operate {
+                        to: Location::Register(11),
+                        left: Operand::At(Location::Register(9)),
+                        right: Operand::At(Location::Register(10)),
+                        ..
+                    })
+                )
+            );
             assert_eq!(rt;
                 jump_of(&made.code),
                 Some(Jump::Return(Some(ReturnValue::of(Operand::At(Location::Register(11))))))
@@ -189,8 +172,15 @@ fn a_value_may_be_moved_out_of_the_way_of_a_call(rt: HostRuntime) -> Result<(), 
     match answer(rt.alloc(), layout, aside.as_slice(), &[])? {
         Ok(made) => {
             assert_eq!(rt; lines_of(&made.code).len(), 4);
-            let [x9, x10] = [Location::Register(9), Location::Register(10)];
-            assert!(rt; moves_to(lines_of(&made.code).get(1), x10, x9));
+            assert!(rt;
+                matches!(
+                    lines_of(&made.code).get(1),
+                    Some(Line::Set {
+                        to: Location::Register(9),
+                        value: Operand::At(Location::Register(10)),
+                    })
+                )
+            );
         }
         Err(_) => assert!(rt; false, "refused"),
     }
@@ -244,10 +234,12 @@ fn places_that_there_are_not_are_refused(rt: HostRuntime) -> Result<(), Fail> {
             ..kept()
         };
         assert!(rt; is_refused(rt.alloc(), layout)?);
-        let to = moving(Location::Register(9), place);
-        assert!(rt; is_refused_moving(rt.alloc(), &[to])?);
-        let from = moving(place, Location::Register(18));
-        assert!(rt; is_refused_moving(rt.alloc(), &[from])?);
+        let to = [moving(Location::Register(9), place)];
+        let moved_to = answer(rt.alloc(), kept(), to.as_slice(), &[])?;
+        assert!(rt; matches!(moved_to, Err(Refused::No)));
+        let from = [moving(place, Location::Register(18))];
+        let moved_from = answer(rt.alloc(), kept(), from.as_slice(), &[])?;
+        assert!(rt; matches!(moved_from, Err(Refused::No)));
     }
     Ok(())
 }
@@ -260,8 +252,10 @@ fn moves_stay_within_the_price(rt: HostRuntime) -> Result<(), Fail> {
     for _ in 0..43usize {
         moves.push(moving(Location::Register(9), Location::Register(18)))?;
     }
-    assert!(rt; !is_refused_moving(alloc, &moves)?);
+    let enough = answer(alloc, kept(), &moves, &[])?;
+    assert!(rt; enough.is_ok());
     moves.push(moving(Location::Register(9), Location::Register(18)))?;
-    assert!(rt; is_refused_moving(alloc, &moves)?);
+    let more = answer(alloc, kept(), &moves, &[])?;
+    assert!(rt; matches!(more, Err(Refused::No)));
     Ok(())
 }

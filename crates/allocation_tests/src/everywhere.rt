@@ -55,28 +55,26 @@ fn stays(
     before_copy: &[Transfer],
     before_jump: &[Transfer],
 ) -> Result<bool, AllocError> {
+    let written = at(0, layout.written);
+    let copied = at(1, layout.copied);
     let certificate = Certificate {
         params: list(alloc, &[layout.kept])?,
         everywhere: list(alloc, everywhere)?,
         starts: lists(alloc, &[&[], &[]])?,
         moves: lists(alloc, &[&[], before_copy, &[], before_jump, &[]])?,
-        places: places_of(alloc, layout)?,
+        places: lists(
+            alloc,
+            &[
+                &[written],
+                &[written, copied],
+                &[],
+                &[],
+                &[at(0, layout.kept)],
+            ],
+        )?,
     };
-    is_accepted(alloc, &certificate)
-}
-
-/// The places of a layout, point by point.
-fn places_of(alloc: Global, layout: Behind) -> Result<Seq<Seq<Equality>>, AllocError> {
-    let written = at(0, layout.written);
-    let copied = at(1, layout.copied);
-    let last = at(0, layout.kept);
-    lists(alloc, &[&[written], &[written, copied], &[], &[], &[last]])
-}
-
-/// Whether `returning_behind` with this certificate is accepted.
-fn is_accepted(alloc: Global, certificate: &Certificate) -> Result<bool, AllocError> {
     let function = returning_behind(alloc)?;
-    Ok(accept(alloc, &function, certificate).is_ok())
+    Ok(accept(alloc, &function, &certificate).is_ok())
 }
 
 /// Register 0 in slot 0, and the copy in a register.

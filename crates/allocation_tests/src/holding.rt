@@ -1,16 +1,16 @@
 //! A value that stands in a register but over a call.
 use crate::build::{
-    add_words, argument, at, block, call, lines_of, lists, moves_to, moving, of_class, returned,
-    set, tick,
+    add_words, argument, at, block, call, lines_of, lists, moving, of_class, returned, set, tick,
 };
 use alloc_check::accept::{Refused, accept};
-use certificates::certificate::{Certificate, Equality, Transfer};
+use certificates::certificate::{Certificate, Transfer};
 use il_ast::list::Seq;
 use il_ast::operation::Class;
 use std::alloc::{AllocError, Global};
 use std::test::Fail;
 use vcode::code::Code;
 use vcode::function::VFunc;
+use vcode::line::Line;
 use vcode::place::{Location, Operand};
 
 /// Puts 5 into register 0, passes the sum of that and 1, register 1, to a call, and returns the sum of the result, register 2, and register 0.
@@ -41,25 +41,25 @@ fn held(
     before_call: &[Transfer],
     behind: Location,
 ) -> Result<Certificate, AllocError> {
+    let x10 = Location::Register(10);
+    let five = at(0, Location::Register(5));
+    let [passed, result, sum] = [at(1, x10), at(2, x10), at(3, x10)];
     Ok(Certificate {
         params: Seq::new(alloc),
         everywhere: Seq::new(alloc),
         starts: lists(alloc, &[&[]])?,
         moves: lists(alloc, &[&[], &[], before_call, &[], &[]])?,
-        places: places_of(alloc, behind)?,
+        places: lists(
+            alloc,
+            &[
+                &[five],
+                &[five, passed],
+                &[passed, result],
+                &[result, at(0, behind), sum],
+                &[sum],
+            ],
+        )?,
     })
-}
-
-/// The places of `holding`'s registers, point by point: register 0 in x5 before the call, and in this place behind it.
-fn places_of(alloc: Global, behind: Location) -> Result<Seq<Seq<Equality>>, AllocError> {
-    let x10 = Location::Register(10);
-    let five = at(0, Location::Register(5));
-    let [passed, result, sum] = [at(1, x10), at(2, x10), at(3, x10)];
-    let at_sum = [result, at(0, behind), sum];
-    lists(
-        alloc,
-        &[&[five], &[five, passed], &[passed, result], &at_sum, &[sum]],
-    )
 }
 
 #[test]
@@ -72,7 +72,15 @@ fn a_value_may_stand_in_a_slot_over_a_call_alone(rt: HostRuntime) -> Result<(), 
     match accept(alloc, &function, &moved) {
         Ok(made) => {
             assert_eq!(rt; lines_of(&made.code).len(), 6);
-            assert!(rt; moves_to(lines_of(&made.code).get(3), x5, slot));
+            assert!(rt;
+                matches!(
+                    lines_of(&made.code).get(3),
+                    Some(Line::Set {
+                        to: Location::Slot(0),
+                        value: Operand::At(Location::Register(5)),
+                    })
+                )
+            );
         }
         Err(_) => assert!(rt; false, "refused"),
     }

@@ -1,8 +1,7 @@
 //! Certificates with one place for each register, for a function that copies its argument.
 ghost use Rattle.std.specs.Prelude.{◌<◌};
 
-use crate::build::{at, block, named, of_class, returned, set, tick};
-use certificates::certificate::Certificate;
+use crate::build::{at, block, of_class, returned, set, tick};
 use certificates::list::certificate_of;
 use certificates::spill_all::SpillAll;
 use certificates::strategy::Strategy;
@@ -38,29 +37,30 @@ pub fn copying_among(alloc: Global, registers: u32) -> Result<VFunc, AllocError>
     })
 }
 
-/// What a strategy answers for `copying`.
-pub fn chosen<S: Strategy>(alloc: Global, how: &mut S) -> Result<Option<Certificate>, AllocError> {
-    let function = copying(alloc)?;
-    let live = live(alloc, &function)?;
-    Ok(how.choose(&function, &live))
-}
-
 #[test]
 fn each_register_in_its_slot(rt: HostRuntime) -> Result<(), Fail> {
     let alloc = rt.alloc();
-    match chosen(alloc, &mut SpillAll::new(alloc))? {
+    let function = copying(alloc)?;
+    let live = live(alloc, &function)?;
+    match SpillAll::new(alloc).choose(&function, &live) {
         Some(certificate) => {
             let [zero, one] = [Location::Slot(0), Location::Slot(1)];
             assert_eq!(rt; certificate.params.as_slice(), [zero].as_slice());
             // register 1 isn't live at the start
             assert_eq!(rt; certificate.starts.len(), 1);
-            assert_eq!(rt; named(&certificate.starts, 0), [at(0, zero)].as_slice());
+            assert_eq!(rt;
+                certificate.starts.as_slice()[0].as_slice(),
+                [at(0, zero)].as_slice()
+            );
             assert_eq!(rt; certificate.places.len(), 2);
             assert_eq!(rt;
-                named(&certificate.places, 0),
+                certificate.places.as_slice()[0].as_slice(),
                 [at(0, zero), at(1, one)].as_slice()
             );
-            assert_eq!(rt; named(&certificate.places, 1), [at(1, one)].as_slice());
+            assert_eq!(rt;
+                certificate.places.as_slice()[1].as_slice(),
+                [at(1, one)].as_slice()
+            );
             assert_eq!(rt; certificate.moves.len(), 2);
         }
         None => assert!(rt; false, "no certificate"),
@@ -68,20 +68,19 @@ fn each_register_in_its_slot(rt: HostRuntime) -> Result<(), Fail> {
     Ok(())
 }
 
-/// The certificate for `copying` of this list.
-fn listed(alloc: Global, list: &[Location]) -> Result<Certificate, AllocError> {
-    let function = copying(alloc)?;
-    let live = live(alloc, &function)?;
-    certificate_of(alloc, &function, &live, list)
-}
-
 #[test]
 fn registers_beyond_the_list_have_no_place(rt: HostRuntime) -> Result<(), Fail> {
-    let x10 = Location::Register(10);
-    let certificate = listed(rt.alloc(), &[x10])?;
-    assert_eq!(rt; certificate.params.as_slice(), [x10].as_slice());
+    let alloc = rt.alloc();
+    let function = copying(alloc)?;
+    let live = live(alloc, &function)?;
+    let list = [Location::Register(10)];
+    let certificate = certificate_of(alloc, &function, &live, list.as_slice())?;
+    assert_eq!(rt; certificate.params.as_slice(), list.as_slice());
     assert_eq!(rt; certificate.places.len(), 2);
-    assert_eq!(rt; named(&certificate.places, 0), [at(0, x10)].as_slice());
-    assert_eq!(rt; named(&certificate.places, 1).len(), 0);
+    assert_eq!(rt;
+        certificate.places.as_slice()[0].as_slice(),
+        [at(0, Location::Register(10))].as_slice()
+    );
+    assert_eq!(rt; certificate.places.as_slice()[1].len(), 0);
     Ok(())
 }

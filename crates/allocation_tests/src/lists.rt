@@ -54,25 +54,15 @@ fn long_lists_are_refused(rt: HostRuntime) -> Result<(), Fail> {
     Ok(())
 }
 
-/// The places of the first two points, and these for the last one.
-fn with_last(
-    alloc: Global,
-    right: &Seq<Seq<Equality>>,
-    named: &[Equality],
-) -> Result<Seq<Seq<Equality>>, AllocError> {
+/// The certificate with everything in registers, but that the return names these places.
+fn returning(alloc: Global, named: &[Equality]) -> Result<Certificate, AllocError> {
+    let right = of_layout(alloc, kept(), &[], &[])?;
     let mut places = Seq::new(alloc);
-    for equalities in right.as_slice().iter().take(2) {
+    for equalities in right.places.as_slice().iter().take(2) {
         places.push(list(alloc, equalities.as_slice())?)?;
     }
     places.push(list(alloc, named)?)?;
-    Ok(places)
-}
-
-/// The certificate with everything in registers, but that the return names these places.
-fn returning(alloc: Global, named: &[Equality]) -> Result<Certificate, AllocError> {
-    let mut certificate = of_layout(alloc, kept(), &[], &[])?;
-    certificate.places = with_last(alloc, &certificate.places, named)?;
-    Ok(certificate)
+    Ok(Certificate { places, ..right })
 }
 
 #[test]
@@ -126,21 +116,14 @@ fn in_two(alloc: Global, params: [Location; 2]) -> Result<Certificate, AllocErro
     })
 }
 
-/// Whether `taking_two` with its arguments in these places is accepted.
-fn takes_two(alloc: Global, params: [Location; 2]) -> Result<bool, AllocError> {
-    let function = taking_two(alloc)?;
-    let certificate = in_two(alloc, params)?;
-    match accept(alloc, &function, &certificate) {
-        Ok(_) => Ok(true),
-        Err(Refused::No) => Ok(false),
-        Err(Refused::Memory) => Err(AllocError),
-    }
-}
-
 #[test]
 fn two_parameters_have_two_places(rt: HostRuntime) -> Result<(), Fail> {
+    let alloc = rt.alloc();
+    let function = taking_two(alloc)?;
     let [x10, x11] = [Location::Register(10), Location::Register(11)];
-    assert!(rt; !takes_two(rt.alloc(), [x10, x10])?);
-    assert!(rt; takes_two(rt.alloc(), [x10, x11])?);
+    let one = in_two(alloc, [x10, x10])?;
+    assert!(rt; matches!(accept(alloc, &function, &one), Err(Refused::No)));
+    let two = in_two(alloc, [x10, x11])?;
+    assert!(rt; accept(alloc, &function, &two).is_ok());
     Ok(())
 }

@@ -1,9 +1,9 @@
 //! Linear scan over small functions.
 ghost use Rattle.std.specs.Prelude.{◌≡◌};
 
-use crate::build::{argument, at, block, call, moving, named, of_class, returned, tick};
-use crate::listed::{chosen, copying_among};
-use certificates::certificate::Certificate;
+use crate::build::{argument, at, block, call, of_class, returned, tick};
+use crate::listed::{copying, copying_among};
+use certificates::certificate::Transfer;
 use certificates::strategy::Strategy;
 use cfg_live::live::live;
 use il_ast::list::Seq;
@@ -19,14 +19,16 @@ use vcode::place::{Location, Operand};
 #[test]
 fn one_register_after_another(rt: HostRuntime) -> Result<(), Fail> {
     let alloc = rt.alloc();
-    match chosen(alloc, &mut LinearScan::new(alloc))? {
+    let function = copying(alloc)?;
+    let live = live(alloc, &function)?;
+    match LinearScan::new(alloc).choose(&function, &live) {
         Some(certificate) => {
             // the copy is made where the argument ends, and all of it where it is passed and returned
             let x10 = Location::Register(10);
             assert_eq!(rt; certificate.params.as_slice(), [x10].as_slice());
             assert_eq!(rt; certificate.places.len(), 2);
             assert_eq!(rt;
-                named(&certificate.places, 0),
+                certificate.places.as_slice()[0].as_slice(),
                 [at(0, x10), at(1, x10)].as_slice()
             );
         }
@@ -68,27 +70,28 @@ fn calling(alloc: Global) -> Result<VFunc, AllocError> {
     })
 }
 
-fn scanned_calling(alloc: Global) -> Result<Certificate, AllocError> {
-    let function = calling(alloc)?;
-    let live = live(alloc, &function)?;
-    scanned(alloc, &function, &live)
-}
-
 /// Where callees' registers would have to be saved and restored, a parameter is put into its slot once and loaded for all that comes behind the call.
 #[test]
 fn values_over_a_call_are_loaded_behind_it(rt: HostRuntime) -> Result<(), Fail> {
-    let certificate = scanned_calling(rt.alloc())?;
+    let alloc = rt.alloc();
+    let function = calling(alloc)?;
+    let live = live(alloc, &function)?;
+    let certificate = scanned(alloc, &function, &live)?;
     let [zero, one] = [Location::Slot(0), Location::Slot(1)];
     let [x10, x17] = [Location::Register(10), Location::Register(17)];
     assert_eq!(rt; certificate.params.as_slice(), [zero, one].as_slice());
     assert_eq!(rt; certificate.places.len(), 4);
     assert_eq!(rt; certificate.moves.len(), 4);
     assert_eq!(rt;
-        named(&certificate.moves, 1),
-        [moving(zero, x17)].as_slice()
+        certificate.moves.as_slice()[1].as_slice(),
+        [Transfer {
+            from: zero,
+            to: x17,
+        }]
+        .as_slice()
     );
     assert_eq!(rt;
-        named(&certificate.places, 2),
+        certificate.places.as_slice()[2].as_slice(),
         [at(0, x17), at(2, x10)].as_slice()
     );
     Ok(())
