@@ -47,13 +47,16 @@ words_rule = record (new_rule (codes "WORDS")) {
 abbrev pub build_app : App
 build_app = with_rule (with_rule (new_app (codes "build")) out_rule) files_rule
 
+-- a command that runs a program within a limit
+abbrev pub running_app : (command file : List ℕ) → App
+running_app command file =
+    with_rule (with_rule (with_rule (new_app command) limit_rule) (path_rule file)) words_rule
+
 abbrev pub run_app : App
-run_app = with_rule (with_rule (with_rule (new_app (codes "run")) limit_rule)
-    (path_rule (codes "EXE"))) words_rule
+run_app = running_app (codes "run") (codes "EXE")
 
 abbrev pub interp_app : App
-interp_app = with_rule (with_rule (with_rule (new_app (codes "interp")) limit_rule)
-    (path_rule (codes "FILE"))) words_rule
+interp_app = running_app (codes "interp") (codes "FILE")
 
 abbrev pub dis_app : App
 dis_app = with_rule (new_app (codes "dis")) (path_rule (codes "EXE"))

@@ -1,6 +1,6 @@
 //! The grammar of the command line.
 ghost use Rattle.std.specs.Prelude.{IfOk};
-ghost use Rattle.command_line.specs.Grammar.{IsRead, IsRuled, build_app, dis_app, executables_app, files_rule, interp_app, limit_rule, out_rule, path_rule, program_app, qbec_app, run_app, words_rule};
+ghost use Rattle.command_line.specs.Grammar.{IsRead, IsRuled, build_app, dis_app, executables_app, files_rule, interp_app, limit_rule, out_rule, path_rule, program_app, qbec_app, run_app, running_app, words_rule};
 
 use clap::{Arg, Command, value_parser};
 use std::alloc::{AllocError, Global};
@@ -87,26 +87,36 @@ fn build<'a>(alloc: Global) -> Result<Command<'a>, AllocError>
         .arg(files(alloc))
 }
 
+/// A command that runs a program within a limit, without its help.
+fn running<'a>(
+    alloc: Global,
+    command: &'a str,
+    limit_help: &'a str,
+    file: &'a str,
+    file_help: &'a str,
+) -> Result<Command<'a>, AllocError>
+    ensures { IfOk result (λ c. IsRead c (running_app command.now file.now)) }
+{
+    Command::new(alloc, command)
+        .arg(limit(alloc, limit_help))?
+        .arg(path(alloc, file, file_help))?
+        .arg(words(alloc))
+}
+
 fn run<'a>(alloc: Global) -> Result<Command<'a>, AllocError>
     ensures { IfOk result (λ c. IsRead c run_app) }
 {
-    Command::new(alloc, "run")
-        .about("Runs an executable file")
-        .after_help(RUN)
-        .arg(limit(alloc, "How many instructions to run at most"))?
-        .arg(path(alloc, EXECUTABLE, "The executable file"))?
-        .arg(words(alloc))
+    let steps = "How many instructions to run at most";
+    let command = running(alloc, "run", steps, EXECUTABLE, "The executable file")?;
+    Ok(command.about("Runs an executable file").after_help(RUN))
 }
 
 fn interp<'a>(alloc: Global) -> Result<Command<'a>, AllocError>
     ensures { IfOk result (λ c. IsRead c interp_app) }
 {
-    Command::new(alloc, "interp")
-        .about("Interprets one text")
-        .after_help(INTERPRET)
-        .arg(limit(alloc, "How many turns to take at most"))?
-        .arg(path(alloc, TEXT, "The text of the program"))?
-        .arg(words(alloc))
+    let steps = "How many turns to take at most";
+    let command = running(alloc, "interp", steps, TEXT, "The text of the program")?;
+    Ok(command.about("Interprets one text").after_help(INTERPRET))
 }
 
 fn dis<'a>(alloc: Global) -> Result<Command<'a>, AllocError>

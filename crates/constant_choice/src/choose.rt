@@ -29,7 +29,7 @@ pub struct Chosen {
 }
 
 /// A constant that is worth a register. The one that saves most is the last.
-#[derive(Clone, Copy, Debug, PartialEq, Eq, PartialOrd, Ord)]
+#[derive(Clone, Copy, PartialEq, Eq, PartialOrd, Ord)]
 struct Choice {
     gain: i64,
     key: Key,

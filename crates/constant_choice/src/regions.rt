@@ -5,7 +5,7 @@ use vcode::code::Block;
 use vcode::line::Line;
 
 /// What is known of a region: all blocks of loops that lead to one another, in whatever order.
-#[derive(Clone, Copy, Debug, PartialEq, Eq)]
+#[derive(Clone, Copy)]
 pub(crate) struct Region {
     /// how many blocks outside lead into it
     pub(crate) entries: u32,

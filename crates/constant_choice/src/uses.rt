@@ -9,7 +9,7 @@ use vcode::line::{Jump, Line};
 use vcode::place::{Argument, Operand};
 
 /// A constant, by what orders it.
-#[derive(Clone, Copy, Debug, PartialEq, Eq, PartialOrd, Ord)]
+#[derive(Clone, Copy, PartialEq, Eq, PartialOrd, Ord)]
 pub(crate) struct Key {
     is_name: bool,
     number: u64,
@@ -42,7 +42,7 @@ impl Key {
 }
 
 /// What it would save to hold a constant in a region, at one operand or at all of them.
-#[derive(Clone, Copy, Debug, PartialEq, Eq, PartialOrd, Ord)]
+#[derive(Clone, Copy, PartialEq, Eq, PartialOrd, Ord)]
 pub(crate) struct Use {
     pub(crate) key: Key,
     pub(crate) region: usize,

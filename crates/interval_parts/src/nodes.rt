@@ -8,7 +8,7 @@ use std::alloc::{AllocError, Global};
 
 /// A part of a block in which a register may stand in a register of the machine: no call is in it at which it must have its value before and behind.
 /// It is accessed in each part, but in blocks that it only passes through.
-#[derive(Clone, Copy, Debug, PartialEq, Eq)]
+#[derive(Clone, Copy)]
 pub struct Node {
     pub block: usize,
 
@@ -59,7 +59,7 @@ pub struct Nodes {
 }
 
 /// A block that the value comes to in a register of the machine, to be saved there.
-#[derive(Clone, Copy, Debug, PartialEq, Eq)]
+#[derive(Clone, Copy)]
 pub struct Landing {
     pub block: usize,
     pub room: usize,

@@ -7,7 +7,7 @@ use live_intervals::text::{Stretch, Text};
 use std::alloc::{AllocError, Global};
 
 /// Which parts go together.
-#[derive(Clone, Copy, Debug, PartialEq, Eq)]
+#[derive(Clone, Copy, PartialEq, Eq)]
 pub enum Reach {
     /// those that lie in so many loops, and lead to one another
     Loops(u32),
@@ -32,7 +32,7 @@ pub struct View<'a> {
 }
 
 /// What a region saves over the slot, in half instructions, and what its moves cost.
-#[derive(Clone, Copy, Debug, PartialEq, Eq)]
+#[derive(Clone, Copy)]
 pub struct Balance {
     gain: u64,
 
@@ -210,7 +210,7 @@ pub fn leaders(
 }
 
 /// A part and the one that names its region. In their order the parts of a region stand together.
-#[derive(Clone, Copy, Debug, PartialEq, Eq, PartialOrd, Ord)]
+#[derive(Clone, Copy, PartialEq, Eq, PartialOrd, Ord)]
 pub struct Member {
     pub leader: usize,
     pub node: usize,
@@ -313,7 +313,7 @@ fn is_met(view: View, nodes: &Nodes, leader: usize, block: usize) -> bool {
 }
 
 /// How the value leaves a block for another.
-#[derive(Clone, Copy, Debug, PartialEq, Eq)]
+#[derive(Clone, Copy)]
 enum Exit {
     /// it isn't wanted there
     Gone,

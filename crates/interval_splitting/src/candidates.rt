@@ -23,7 +23,7 @@ pub struct Ground<'a> {
 }
 
 /// A group that may stand in a register of the machine. In the order of candidates the one that is used most often for its length is the last.
-#[derive(Clone, Copy, Debug, PartialEq, Eq, PartialOrd, Ord)]
+#[derive(Clone, Copy, PartialEq, Eq, PartialOrd, Ord)]
 pub struct Candidate {
     priority: u64,
     pub weight: u64,

@@ -126,7 +126,7 @@ fn room_by_hint(rooms: &[Room], candidate: &Candidate, ranges: &[Range]) -> Opti
 }
 
 /// A register that is free.
-#[derive(Clone, Copy, Debug, PartialEq, Eq)]
+#[derive(Clone, Copy, PartialEq, Eq)]
 pub enum Choice {
     /// it costs nothing
     Free(usize),

@@ -10,7 +10,7 @@ use vcode::line::{Jump, Line};
 use vcode::place::{Argument, Destination, Operand};
 
 /// What a register is used for.
-#[derive(Clone, Copy, Debug, PartialEq, Eq)]
+#[derive(Clone, Copy)]
 pub struct Demand {
     /// twice the number of instructions that a register of the machine saves over a slot, where a block in a loop counts ten times as often
     pub weight: u64,
@@ -22,7 +22,7 @@ pub struct Demand {
 }
 
 /// One of the registers that arguments are passed in, by the number of its argument.
-#[derive(Clone, Copy, Debug, PartialEq, Eq)]
+#[derive(Clone, Copy)]
 pub struct Hint {
     pub argument: u8,
     pub weight: u64,
@@ -68,7 +68,7 @@ impl Hint {
 }
 
 /// A copy of a register to another. In the order of copies the one that is done most often is the last.
-#[derive(Clone, Copy, Debug, PartialEq, Eq, PartialOrd, Ord)]
+#[derive(Clone, Copy, PartialEq, Eq, PartialOrd, Ord)]
 pub struct Copying {
     pub weight: u64,
     pub to: u32,

@@ -5,7 +5,7 @@ use std::alloc::{AllocError, Global};
 use vcode::code::Block;
 
 /// A block in the text.
-#[derive(Clone, Copy, Debug, PartialEq, Eq)]
+#[derive(Clone, Copy)]
 pub struct Stretch {
     /// its first point
     pub first: usize,
