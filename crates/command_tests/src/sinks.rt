@@ -1,5 +1,5 @@
 //! Sinks that take little, and files in memory.
-use shell::disk::Disk;
+use shell::disk::{Disk, Faults};
 use shell::memory::MemorySink;
 use shell::memory_disk::MemoryDisk;
 use shell::write_exe::{WriteFault, write_exe, write_parts};
@@ -60,6 +60,12 @@ fn files_in_memory_hold_what_was_written_last(rt: HostRuntime) -> Result<(), Fai
     assert!(rt; disk.write("text", b"third").is_ok());
     assert!(rt; has(&disk, "text", b"third"));
     assert!(rt; has(&disk, "other", b"second"));
-    assert_eq!(rt; disk.faults, 1);
+    assert_eq!(rt;
+        disk.faults,
+        Faults {
+            device: 1,
+            memory: 0
+        }
+    );
     Ok(())
 }

@@ -8,8 +8,9 @@ use Rattle.rv_machine.specs.declared.stop.Stop.{Stop}
 use Rattle.elf_file.specs.declared.error.LoadError.{LoadError}
 use Rattle.elf_file.specs.Loaded.{Executable}
 use Rattle.elf_file.specs.Conditions.{Loads, Refuses as RefusesFile}
-use Rattle.shell.specs.Disk.{DiskState, Files, Holds, Spares, failed}
-use Rattle.shell.specs.Sink.{SinkState, Sends, Breaks, one_more}
+use Rattle.shell.specs.declared.disk.FileFault.TheVariants.{Device, Memory as NoRoom}
+use Rattle.shell.specs.Disk.{DiskState, Files, Holds, Spares, failed, with_fault}
+use Rattle.shell.specs.Sink.{SinkState, Sends, Breaks}
 use Rattle.shell.specs.Lines.{dis_lines}
 use Rattle.qbec.specs.declared.error.CompileError.{CompileError}
 use Rattle.qbec.specs.Compile.{IsCompiled}
@@ -23,15 +24,17 @@ use Rattle.commands.specs.Statuses.{stop_status, end_status}
 
 -- ---- files
 
--- this file couldn't be read, and no file changed: its path is given, or there was no memory for it
+-- this file couldn't be read, and no file changed: the device refused, and its path is given; or
+-- memory was refused
 abbrev pub IsUnread : (old new : DiskState) → Bor (List ℕ) → Failure → Type 0
-IsUnread old new path f = (new ≡ failed old) × ((f ≡ Unread path) ⊎ (f ≡ Memory))
+IsUnread old new path f =
+    ((new ≡ failed Device old) × (f ≡ Unread path)) ⊎ ((new ≡ failed NoRoom old) × (f ≡ Memory))
 
--- this file couldn't be written, and no other changed
+-- this file couldn't be written, and no other changed: likewise
 pub record IsUnwritten (old new : DiskState) (path : Bor (List ℕ)) (f : Failure) : Type 0 where
   pub spared : Spares old.files new.files path.now
-  pub fault : new.faults ≡ one_more old.faults
-  pub said : (f ≡ Unwritten path) ⊎ (f ≡ Memory)
+  pub said : ((new.faults ≡ with_fault Device old.faults) × (f ≡ Unwritten path))
+      ⊎ ((new.faults ≡ with_fault NoRoom old.faults) × (f ≡ Memory))
 
 -- each file has the bytes of the text in its place
 abbrev pub AllHold : (told : Option Files) → (paths texts : List (List ℕ)) → Type 0

@@ -1,5 +1,5 @@
 //! Runs of files and of texts.
-ghost use Rattle.std.specs.Prelude.{◌≡◌, ◌↔◌, ◌∷◌, [], map, Err, IfOk, IfErr, true, false};
+ghost use Rattle.std.specs.Prelude.{◌≡◌, ◌↔◌, ◌∷◌, [], map, Err, IfOk, OnOk, IfErr, true, false};
 ghost use Rattle.il_ast.specs.Meaning.{meaning};
 ghost use Rattle.obj_link.specs.Words.{are_arguments};
 ghost use Rattle.rv_machine.specs.declared.start.StartError.TheVariants.{Arguments};
@@ -29,6 +29,7 @@ fn run_loaded(
     limit: u64,
 ) -> Result<(Vec<u8>, Stop), StartError>
     ensures ends { IfOk result (λ r. RunEnds true limit (start_state file.now (map (λ w. w.now) words.now)) r.0.items r.1) }
+    ensures fit { OnOk result (are_arguments (map (λ w. w.now) words.now) ≡ true) }
     ensures refused { (result ≡ Err Arguments) ↔ (are_arguments (map (λ w. w.now) words.now) ≡ false) }
 {
     match Machine::<PageRam>::start(alloc, file, words) {

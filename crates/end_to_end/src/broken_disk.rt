@@ -1,5 +1,5 @@
 //! Files in memory, of which one is broken.
-use shell::disk::{Disk, FileFault};
+use shell::disk::{Disk, Faults, FileFault, counted};
 use shell::memory_disk::MemoryDisk;
 use std::alloc::{AllocError, Global};
 
@@ -8,7 +8,7 @@ use std::alloc::{AllocError, Global};
 pub struct BrokenDisk {
     files: MemoryDisk,
     pub fault: FileFault,
-    faults: u64,
+    faults: Faults,
 }
 
 impl BrokenDisk {
@@ -16,7 +16,10 @@ impl BrokenDisk {
         BrokenDisk {
             files: MemoryDisk::new(alloc),
             fault: FileFault::Device,
-            faults: 0,
+            faults: Faults {
+                device: 0,
+                memory: 0,
+            },
         }
     }
 
@@ -42,9 +45,7 @@ impl Disk for BrokenDisk {
         } else {
             self.files.read(path)
         };
-        if answer.is_err() {
-            self.faults = self.faults.saturating_add(1);
-        }
+        self.faults = counted(self.faults, &answer);
         answer
     }
 
@@ -54,9 +55,7 @@ impl Disk for BrokenDisk {
         } else {
             self.files.write(path, bytes)
         };
-        if answer.is_err() {
-            self.faults = self.faults.saturating_add(1);
-        }
+        self.faults = counted(self.faults, &answer);
         answer
     }
 }

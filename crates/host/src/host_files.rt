@@ -1,9 +1,11 @@
 //! The files of the system.
 ghost use Rattle.std.specs.Prelude.{◌≡◌, IfOk};
 ghost use Rattle.std.specs.Io.KnownBytes.{Appends};
+ghost use Rattle.std.specs.IoError.{error_kind};
+ghost use Rattle.host.specs.Faults.{fault_of};
 
 use crate::stream::Stream;
-use shell::disk::{Disk, FileFault, counted};
+use shell::disk::{Disk, Faults, FileFault, counted};
 use shell::write_exe::write_exe;
 use std::io::{Error, ErrorKind, Write};
 use std::os::unix::fs::PermissionsExt;
@@ -14,19 +16,28 @@ use std::{fs, io};
 #[derive(Drop)]
 pub struct HostFiles<'r, R> {
     rt: &'r R,
-    faults: u64,
+    faults: Faults,
 }
 
 impl<'r, R> HostFiles<'r, R> {
     /// Those of this process, of which no call has failed so far.
     pub fn new(rt: &'r R) -> HostFiles<'r, R>
-        ensures { result.faults ≡ 0 }
+        ensures { result.faults ≡ record { device = 0; memory = 0 } }
     {
-        HostFiles { rt, faults: 0 }
+        HostFiles {
+            rt,
+            faults: Faults {
+                device: 0,
+                memory: 0,
+            },
+        }
     }
 }
 
-fn fault_of(error: &Error) -> FileFault {
+/// Memory or the device, by the kind of an error.
+fn fault_of(error: &Error) -> FileFault
+    ensures { result ≡ fault_of (error_kind error.now) }
+{
     match error.kind() {
         ErrorKind::OutOfMemory => FileFault::Memory,
         _ => FileFault::Device,

@@ -13,12 +13,21 @@ pub enum FileFault {
     Memory,
 }
 
+/// How many calls of a disk failed so far, by why; each number at most 2^64 - 1.
+#[derive(Clone, Copy, Debug, PartialEq, Eq)]
+pub struct Faults {
+    /// where the device or the file system refused
+    pub device: u64,
+    /// where memory was refused
+    pub memory: u64,
+}
+
 /// Files by their paths.
 pub trait Disk {
     ghost use Rattle.std.specs.Prelude.{◌≡◌, IfOk, OnOk};
     ghost use Rattle.shell.specs.Disk.{DiskState, Holds, Spares, counted};
 
-    /// What its files hold, where it tells that: files in memory can, those of a system don't. And how many of its calls failed so far; at most 2^64 - 1.
+    /// What its files hold, where it tells that: files in memory can, those of a system don't. And how many of its calls failed so far, by why.
     ghost told: { Self → DiskState };
 
     /// All bytes of a file.
@@ -42,12 +51,19 @@ pub trait Disk {
         ensures counts { (told self.new).faults ≡ counted (told self.old).faults result };
 }
 
-/// How many calls of a disk failed after one that answered so; at most 2^64 - 1.
-pub fn counted<T>(faults: u64, answer: &Result<T, FileFault>) -> u64
+/// How many calls of a disk failed after one that answered so.
+pub fn counted<T>(faults: Faults, answer: &Result<T, FileFault>) -> Faults
     ensures { result ≡ counted faults answer.now }
 {
     match answer {
         Ok(_) => faults,
-        Err(_) => faults.saturating_add(1),
+        Err(FileFault::Device) => Faults {
+            device: faults.device.saturating_add(1),
+            ..faults
+        },
+        Err(FileFault::Memory) => Faults {
+            memory: faults.memory.saturating_add(1),
+            ..faults
+        },
     }
 }

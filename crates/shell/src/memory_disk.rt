@@ -5,7 +5,7 @@ ghost use Rattle.shell.specs.declared.disk.FileFault.TheVariants.{Device};
 ghost use Rattle.shell.specs.Disk.{Holds, Spares};
 ghost use Rattle.shell.specs.MemoryDisk.{first_at};
 
-use crate::disk::{Disk, FileFault, counted};
+use crate::disk::{Disk, Faults, FileFault, counted};
 use std::alloc::{AllocError, Global};
 
 /// A file in memory.
@@ -19,7 +19,7 @@ pub struct MemoryFile {
 #[derive(Drop)]
 pub struct MemoryDisk {
     pub files: Vec<MemoryFile>,
-    pub faults: u64,
+    pub faults: Faults,
     alloc: Global,
 }
 
@@ -27,11 +27,14 @@ impl MemoryDisk {
     /// A disk without files.
     pub fn new(alloc: Global) -> MemoryDisk
         ensures empty { result.files.items ≡ [] }
-        ensures faults { result.faults ≡ 0 }
+        ensures faults { result.faults ≡ record { device = 0; memory = 0 } }
     {
         MemoryDisk {
             files: Vec::new(alloc),
-            faults: 0,
+            faults: Faults {
+                device: 0,
+                memory: 0,
+            },
             alloc,
         }
     }
