@@ -1,261 +1,254 @@
 //! Certificates, right ones and hostile ones, for a function that passes its argument to a call and adds the result to it.
-use crate::build::{
-    add, argument, at, block, call, jump_of, lines_of, list, lists, moving, of_class, param_of,
-    returned, tick,
-};
-use alloc_check::accept::{Refused, accept};
+use crate::texts::{assert_accepted, assert_refused, assert_text, function, is_accepted};
+use alloc_check::accept::accept;
 use alloc_check::spill_all::spill_all;
-use certificates::certificate::{Certificate, Transfer};
+use certificates::certificate::Certificate;
 use certificates::spill_all::SpillAll;
 use certificates::strategy::Strategy;
 use cfg_live::live::live;
-use il_ast::list::Seq;
-use il_ast::operation::Class;
 use std::alloc::{AllocError, Global};
+use std::process::Abort;
 use std::test::Fail;
-use vcode::code::Code;
-use vcode::function::{LFunc, VFunc};
-use vcode::line::{Jump, Line};
-use vcode::place::{Location, Operand, ReturnValue};
+use vcode::function::VFunc;
 
-/// Passes its argument, register 0, to a call, adds the result, register 1, to it, and returns the sum, register 2.
-pub fn calling(alloc: Global) -> Result<VFunc, AllocError> {
-    let result = of_class(Class::L, 1);
-    let args = vec![in alloc; argument(Class::L, 0)]?;
-    let lines = vec![in alloc;
-        tick(10),
-        call(Some(result), args),
-        add(2, Operand::At(0), Operand::At(1)),
-    ]?;
-    let params = vec![in alloc; of_class(Class::L, 0)]?;
-    let blocks = vec![in alloc; block(lines, returned(2))]?;
-    Ok(VFunc {
-        code: Code {
-            result: Some(Class::L),
-            params: Seq::from_vec(params),
-            blocks: Seq::from_vec(blocks),
-        },
-        registers: 3,
-    })
-}
+/// Passes its argument to a call, adds the result to it, and returns the sum.
+pub const CALLING: &str = "function l (l %0) registers 3
+                           @0
+                           tick 10 turn
+                           %1 =l call 1(l %0)
+                           %2 = add %0, %1
+                           ret %2";
 
-/// Where registers 0 to 2 of `calling` are at its points: before and in the call, at the sum, at the return.
+/// Where registers 0 to 2 of `CALLING` are at its points: before and in the call, at the sum, at the return. And the moves before the call and before the sum.
 #[derive(Clone, Copy)]
-pub struct Layout {
-    pub param: Location,
-    pub passed: Location,
-    pub result: Location,
-    pub sum: Location,
-}
-
-/// The certificate of a layout, with these moves before the call and before the sum.
-pub fn of_layout(
-    alloc: Global,
-    layout: Layout,
-    before_call: &[Transfer],
-    before_sum: &[Transfer],
-) -> Result<Certificate, AllocError> {
-    let passed = at(0, layout.passed);
-    let result = at(1, layout.result);
-    let sum = at(2, layout.sum);
-    Ok(Certificate {
-        params: list(alloc, &[layout.param])?,
-        everywhere: Seq::new(alloc),
-        starts: lists(alloc, &[&[at(0, layout.param)]])?,
-        moves: lists(alloc, &[before_call, before_sum, &[]])?,
-        places: lists(alloc, &[&[passed, result], &[passed, result, sum], &[sum]])?,
-    })
+struct Layout<'a> {
+    param: &'a str,
+    passed: &'a str,
+    result_in: &'a str,
+    sum: &'a str,
+    before_call: &'a str,
+    before_sum: &'a str,
 }
 
 /// Everything in registers, the argument in one that calls keep.
-pub fn kept() -> Layout {
-    Layout {
-        param: Location::Register(9),
-        passed: Location::Register(9),
-        result: Location::Register(10),
-        sum: Location::Register(11),
-    }
+const KEPT: Layout<'static> = Layout {
+    param: "x9",
+    passed: "x9",
+    result_in: "x10",
+    sum: "x11",
+    before_call: "",
+    before_sum: "",
+};
+
+/// The certificate of a layout.
+fn of_layout(alloc: Global, layout: Layout<'_>) -> Result<String, AllocError> {
+    let Layout {
+        param,
+        passed,
+        result_in,
+        sum,
+        before_call,
+        before_sum,
+    } = layout;
+    format!(in alloc;
+        "params {param}
+         everywhere
+         start %0 {param}
+         moves {before_call}
+         places %0 {passed}, %1 {result_in}
+         moves {before_sum}
+         places %0 {passed}, %1 {result_in}, %2 {sum}
+         moves
+         places %2 {sum}"
+    )
 }
 
-/// Each register in its slot.
-fn spilled() -> Layout {
-    Layout {
-        param: Location::Slot(0),
-        passed: Location::Slot(0),
-        result: Location::Slot(1),
-        sum: Location::Slot(2),
-    }
+fn assert_layout_refused(rt: &(impl Abort + AllocGlobal), layout: Layout<'_>) -> Result<(), Fail> {
+    let certificate = of_layout(rt.alloc(), layout)?;
+    assert_refused(rt, CALLING, certificate.as_str())
 }
 
-fn answer(
-    alloc: Global,
-    layout: Layout,
-    before_call: &[Transfer],
-    before_sum: &[Transfer],
-) -> Result<Result<LFunc, Refused>, AllocError> {
-    let function = calling(alloc)?;
-    let certificate = of_layout(alloc, layout, before_call, before_sum)?;
-    Ok(accept(alloc, &function, &certificate))
-}
-
-fn is_refused(alloc: Global, layout: Layout) -> Result<bool, AllocError> {
-    let answer = answer(alloc, layout, &[], &[])?;
-    Ok(matches!(answer, Err(Refused::No)))
+fn assert_layout_accepted(
+    rt: &(impl Abort + AllocGlobal),
+    layout: Layout<'_>,
+    wanted: &str,
+) -> Result<(), Fail> {
+    let certificate = of_layout(rt.alloc(), layout)?;
+    assert_accepted(rt, CALLING, certificate.as_str(), wanted)
 }
 
 #[test]
 fn registers_that_calls_keep_are_accepted(rt: HostRuntime) -> Result<(), Fail> {
-    match answer(rt.alloc(), kept(), &[], &[])? {
-        Ok(made) => {
-            assert_eq!(rt; made.slots, 0);
-            assert_eq!(rt; param_of(&made.code), Some(Location::Register(9)));
-            assert_eq!(rt; lines_of(&made.code).len(), 3);
-            assert!(rt;
-                matches!(
-                    lines_of(&made.code).get(2),
-                    Some(Line::Operate {
-                        to: Location::Register(11),
-                        left: Operand::At(Location::Register(9)),
-                        right: Operand::At(Location::Register(10)),
-                        ..
-                    })
-                )
-            );
-            assert_eq!(rt;
-                jump_of(&made.code),
-                Some(Jump::Return(Some(ReturnValue::of(Operand::At(Location::Register(11))))))
-            );
-        }
-        Err(_) => assert!(rt; false, "refused"),
-    }
-    Ok(())
+    assert_layout_accepted(
+        &rt,
+        KEPT,
+        "function l (l x9) slots 0
+         @0
+         tick 10 turn
+         x10 =l call 1(l x9)
+         x11 = add x9, x10
+         ret x11",
+    )
 }
+
+/// `CALLING` with each register in its slot.
+const SPILLED: &str = "function l (l [0]) slots 3
+                       @0
+                       tick 10 turn
+                       [1] =l call 1(l [0])
+                       [2] = add [0], [1]
+                       ret [2]";
 
 #[test]
 fn slots_are_accepted(rt: HostRuntime) -> Result<(), Fail> {
-    match answer(rt.alloc(), spilled(), &[], &[])? {
-        Ok(made) => assert_eq!(rt; param_of(&made.code), Some(Location::Slot(0))),
-        Err(_) => assert!(rt; false, "refused"),
-    }
-    Ok(())
+    let slots = Layout {
+        param: "[0]",
+        passed: "[0]",
+        result_in: "[1]",
+        sum: "[2]",
+        ..KEPT
+    };
+    assert_layout_accepted(&rt, slots, SPILLED)
+}
+
+/// The certificate that has each register in its slot.
+fn spilling(alloc: Global, function: &VFunc) -> Result<Certificate, Fail> {
+    let live = live(alloc, function)?;
+    Ok(
+        SpillAll::new(alloc)
+            .choose(function, &live)
+            .ok_or("no certificate")?,
+    )
 }
 
 #[test]
 fn the_answer_of_spill_all_is_accepted(rt: HostRuntime) -> Result<(), Fail> {
-    let alloc = rt.alloc();
-    let function = calling(alloc)?;
-    let live = live(alloc, &function)?;
-    match SpillAll::new(alloc).choose(&function, &live) {
-        Some(certificate) => match accept(alloc, &function, &certificate) {
-            Ok(made) => {
-                let slots = spill_all(alloc, &function)?;
-                assert_eq!(rt; lines_of(&made.code).len(), lines_of(&slots.code).len());
-                assert_eq!(rt; jump_of(&made.code), jump_of(&slots.code));
-                assert_eq!(rt; made.slots, slots.slots);
-            }
-            Err(_) => assert!(rt; false, "refused"),
-        },
-        None => assert!(rt; false, "no certificate"),
-    }
-    Ok(())
+    let function = function(rt.alloc(), CALLING)?;
+    assert_text(&rt, &spill_all(rt.alloc(), &function)?, SPILLED)?;
+    let certificate = spilling(rt.alloc(), &function)?;
+    let made = accept(rt.alloc(), &function, &certificate)?;
+    assert_text(&rt, &made, SPILLED)
 }
 
 #[test]
 fn a_value_may_be_moved_out_of_the_way_of_a_call(rt: HostRuntime) -> Result<(), Fail> {
     let layout = Layout {
-        param: Location::Register(10),
-        ..kept()
+        param: "x10",
+        ..KEPT
     };
     // it is lost in the call, unless it is moved before
-    assert!(rt; is_refused(rt.alloc(), layout)?);
-    let aside = [moving(Location::Register(10), Location::Register(9))];
-    match answer(rt.alloc(), layout, aside.as_slice(), &[])? {
-        Ok(made) => {
-            assert_eq!(rt; lines_of(&made.code).len(), 4);
-            assert!(rt;
-                matches!(
-                    lines_of(&made.code).get(1),
-                    Some(Line::Set {
-                        to: Location::Register(9),
-                        value: Operand::At(Location::Register(10)),
-                    })
-                )
-            );
-        }
-        Err(_) => assert!(rt; false, "refused"),
-    }
-    Ok(())
+    assert_layout_refused(&rt, layout)?;
+    let moved = Layout {
+        before_call: "x10 to x9",
+        ..layout
+    };
+    assert_layout_accepted(
+        &rt,
+        moved,
+        "function l (l x10) slots 0
+         @0
+         tick 10 turn
+         x9 = x10
+         x10 =l call 1(l x9)
+         x11 = add x9, x10
+         ret x11",
+    )
 }
 
 #[test]
 fn lost_values_are_refused(rt: HostRuntime) -> Result<(), Fail> {
-    let alloc = rt.alloc();
-    // all in one register
-    let one = Location::Register(10);
-    let layout = Layout {
-        param: one,
-        passed: one,
-        result: one,
-        sum: one,
+    let all_in_one = Layout {
+        param: "x10",
+        passed: "x10",
+        result_in: "x10",
+        sum: "x10",
+        ..KEPT
     };
-    assert!(rt; is_refused(alloc, layout)?);
+    assert_layout_refused(&rt, all_in_one)?;
     // over a call, in a register that the caller keeps itself
-    let layout = Layout {
-        param: Location::Register(5),
-        passed: Location::Register(5),
-        ..kept()
+    let callers = Layout {
+        param: "x5",
+        passed: "x5",
+        ..KEPT
     };
-    assert!(rt; is_refused(alloc, layout)?);
-    // in a place that nothing was written to
-    let layout = Layout {
-        passed: Location::Slot(2),
-        ..kept()
+    assert_layout_refused(&rt, callers)?;
+    let in_a_place_that_nothing_was_written_to = Layout {
+        passed: "[2]",
+        ..KEPT
     };
-    assert!(rt; is_refused(alloc, layout)?);
-    // overwritten by a move
-    let over = [moving(Location::Register(10), Location::Register(9))];
-    let answer = answer(alloc, kept(), &[], over.as_slice())?;
-    assert!(rt; matches!(answer, Err(Refused::No)));
+    assert_layout_refused(&rt, in_a_place_that_nothing_was_written_to)?;
+    let overwritten_by_a_move = Layout {
+        before_sum: "x10 to x9",
+        ..KEPT
+    };
+    assert_layout_refused(&rt, overwritten_by_a_move)
+}
+
+#[test]
+fn sums_in_places_that_there_are_not_are_refused(rt: HostRuntime) -> Result<(), Fail> {
+    for place in ["x2", "x4", "x28", "x255", "[3]", "[4294967295]"] {
+        let layout = Layout { sum: place, ..KEPT };
+        assert_layout_refused(&rt, layout)?;
+    }
     Ok(())
 }
 
 #[test]
-fn places_that_there_are_not_are_refused(rt: HostRuntime) -> Result<(), Fail> {
-    for place in [
-        Location::Register(2),
-        Location::Register(4),
-        Location::Register(28),
-        Location::Register(255),
-        Location::Slot(3),
-        Location::Slot(4_294_967_295),
+fn moves_to_places_that_there_are_not_are_refused(rt: HostRuntime) -> Result<(), Fail> {
+    for before_call in [
+        "x9 to x2",
+        "x9 to x4",
+        "x9 to x28",
+        "x9 to x255",
+        "x9 to [3]",
+        "x9 to [4294967295]",
     ] {
         let layout = Layout {
-            sum: place,
-            ..kept()
+            before_call,
+            ..KEPT
         };
-        assert!(rt; is_refused(rt.alloc(), layout)?);
-        let to = [moving(Location::Register(9), place)];
-        let moved_to = answer(rt.alloc(), kept(), to.as_slice(), &[])?;
-        assert!(rt; matches!(moved_to, Err(Refused::No)));
-        let from = [moving(place, Location::Register(18))];
-        let moved_from = answer(rt.alloc(), kept(), from.as_slice(), &[])?;
-        assert!(rt; matches!(moved_from, Err(Refused::No)));
+        assert_layout_refused(&rt, layout)?;
     }
     Ok(())
+}
+
+#[test]
+fn moves_from_places_that_there_are_not_are_refused(rt: HostRuntime) -> Result<(), Fail> {
+    for before_call in [
+        "x2 to x18",
+        "x4 to x18",
+        "x28 to x18",
+        "x255 to x18",
+        "[3] to x18",
+        "[4294967295] to x18",
+    ] {
+        let layout = Layout {
+            before_call,
+            ..KEPT
+        };
+        assert_layout_refused(&rt, layout)?;
+    }
+    Ok(())
+}
+
+/// Whether so many moves before the call are accepted.
+fn stays_within(rt: &(impl Abort + AllocGlobal), moves: usize) -> Result<bool, Fail> {
+    let mut before_call = String::from_str(rt.alloc(), "x9 to x18")?;
+    for _ in 1..moves {
+        before_call.push_str(", x9 to x18")?;
+    }
+    let layout = Layout {
+        before_call: before_call.as_str(),
+        ..KEPT
+    };
+    let certificate = of_layout(rt.alloc(), layout)?;
+    is_accepted(rt, CALLING, certificate.as_str())
 }
 
 #[test]
 fn moves_stay_within_the_price(rt: HostRuntime) -> Result<(), Fail> {
-    let alloc = rt.alloc();
-    let mut moves = Vec::new(alloc);
     // 320 instructions are paid for, the lines and the jump cost 60, each move 6
-    for _ in 0..43usize {
-        moves.push(moving(Location::Register(9), Location::Register(18)))?;
-    }
-    let enough = answer(alloc, kept(), &moves, &[])?;
-    assert!(rt; enough.is_ok());
-    moves.push(moving(Location::Register(9), Location::Register(18)))?;
-    let more = answer(alloc, kept(), &moves, &[])?;
-    assert!(rt; matches!(more, Err(Refused::No)));
+    assert!(rt; stays_within(&rt, 43)?);
+    assert!(rt; !stays_within(&rt, 44)?);
     Ok(())
 }

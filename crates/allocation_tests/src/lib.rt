@@ -7,9 +7,9 @@
 #![tactic(auto)]
 
 #[cfg(test)]
-mod build;
-#[cfg(test)]
 mod calling;
+#[cfg(test)]
+mod certified;
 #[cfg(test)]
 mod everywhere;
 #[cfg(test)]
@@ -22,3 +22,5 @@ mod lists;
 mod placed;
 #[cfg(test)]
 mod scanned;
+#[cfg(test)]
+mod texts;

@@ -1,109 +1,77 @@
 //! Linear scan over small functions.
-ghost use Rattle.std.specs.Prelude.{◌≡◌};
-
-use crate::build::{argument, at, block, call, of_class, returned, tick};
-use crate::listed::{copying, copying_among};
-use certificates::certificate::Transfer;
+use crate::listed::COPYING;
+use crate::texts::{assert_certificate, function};
 use certificates::strategy::Strategy;
 use cfg_live::live::live;
-use il_ast::list::Seq;
-use il_ast::operation::{Class, Condition};
 use regalloc::linear_scan::{LinearScan, scanned};
-use std::alloc::{AllocError, Global};
 use std::test::Fail;
-use vcode::code::Code;
-use vcode::function::VFunc;
-use vcode::line::{Line, Operation};
-use vcode::place::{Location, Operand};
 
+/// The copy is made where the argument ends, and all of it where it is passed and returned.
 #[test]
 fn one_register_after_another(rt: HostRuntime) -> Result<(), Fail> {
-    let alloc = rt.alloc();
-    let function = copying(alloc)?;
-    let live = live(alloc, &function)?;
-    match LinearScan::new(alloc).choose(&function, &live) {
-        Some(certificate) => {
-            // the copy is made where the argument ends, and all of it where it is passed and returned
-            let x10 = Location::Register(10);
-            assert_eq!(rt; certificate.params.as_slice(), [x10].as_slice());
-            assert_eq!(rt; certificate.places.len(), 2);
-            assert_eq!(rt;
-                certificate.places.as_slice()[0].as_slice(),
-                [at(0, x10), at(1, x10)].as_slice()
-            );
-        }
-        None => assert!(rt; false, "no certificate"),
-    }
-    Ok(())
+    let function = function(rt.alloc(), COPYING)?;
+    let live = live(rt.alloc(), &function)?;
+    let chosen = LinearScan::new(rt.alloc())
+        .choose(&function, &live)
+        .ok_or("no certificate")?;
+    assert_certificate(
+        &rt,
+        &chosen,
+        "params x10
+         everywhere
+         start %0 x10
+         moves
+         places %0 x10, %1 x10
+         moves
+         places %1 x10",
+    )
 }
 
-/// Whether two registers hold the same long, in register 2.
-fn equal(left: u32, right: u32) -> Line<u32>
-    ensures { result ≡ Line.Operate 2 (Operation.Compare Condition.Equal Class.L) (Operand.At left) (Operand.At right) }
-{
-    Line::Operate {
-        to: 2,
-        operation: Operation::Compare(Condition::Equal, Class::L),
-        left: Operand::At(left),
-        right: Operand::At(right),
-    }
-}
-
-/// Passes its first argument, register 0, to a call, compares it with itself and with the truth, register 2, and returns its second argument, register 1.
-fn calling(alloc: Global) -> Result<VFunc, AllocError> {
-    let args = vec![in alloc; argument(Class::L, 0)]?;
-    let lines = vec![in alloc;
-        tick(10),
-        call(Some(of_class(Class::L, 2)), args),
-        equal(0, 0),
-        equal(0, 2),
-    ]?;
-    let params = vec![in alloc; of_class(Class::L, 0), of_class(Class::L, 1)]?;
-    let blocks = vec![in alloc; block(lines, returned(1))]?;
-    Ok(VFunc {
-        code: Code {
-            result: Some(Class::L),
-            params: Seq::from_vec(params),
-            blocks: Seq::from_vec(blocks),
-        },
-        registers: 3,
-    })
-}
+/// Passes its first argument to a call, compares it with itself and with the truth, and returns its second argument.
+const CALLING: &str = "function l (l %0, l %1) registers 3
+                       @0
+                       tick 10 turn
+                       %2 =l call 1(l %0)
+                       %2 = ceql %0, %0
+                       %2 = ceql %0, %2
+                       ret %1";
 
 /// Where callees' registers would have to be saved and restored, a parameter is put into its slot once and loaded for all that comes behind the call.
 #[test]
 fn values_over_a_call_are_loaded_behind_it(rt: HostRuntime) -> Result<(), Fail> {
-    let alloc = rt.alloc();
-    let function = calling(alloc)?;
-    let live = live(alloc, &function)?;
-    let certificate = scanned(alloc, &function, &live)?;
-    let [zero, one] = [Location::Slot(0), Location::Slot(1)];
-    let [x10, x17] = [Location::Register(10), Location::Register(17)];
-    assert_eq!(rt; certificate.params.as_slice(), [zero, one].as_slice());
-    assert_eq!(rt; certificate.places.len(), 4);
-    assert_eq!(rt; certificate.moves.len(), 4);
-    assert_eq!(rt;
-        certificate.moves.as_slice()[1].as_slice(),
-        [Transfer {
-            from: zero,
-            to: x17,
-        }]
-        .as_slice()
-    );
-    assert_eq!(rt;
-        certificate.places.as_slice()[2].as_slice(),
-        [at(0, x17), at(2, x10)].as_slice()
-    );
-    Ok(())
+    let function = function(rt.alloc(), CALLING)?;
+    let live = live(rt.alloc(), &function)?;
+    let certificate = scanned(rt.alloc(), &function, &live)?;
+    assert_certificate(
+        &rt,
+        &certificate,
+        "params [0], [1]
+         everywhere
+         start %0 [0], %1 [1]
+         moves
+         places %0 [0], %2 x10
+         moves [0] to x17
+         places %0 x17, %2 x10
+         moves
+         places %0 x17, %2 x10
+         moves
+         places %1 [1]",
+    )
 }
 
 /// A function of many registers, of which few have values.
 #[test]
 fn registers_without_values_are_let_pass(rt: HostRuntime) -> Result<(), Fail> {
-    let alloc = rt.alloc();
-    let function = copying_among(alloc, 65_000)?;
-    let live = live(alloc, &function)?;
-    let choice = LinearScan::new(alloc).choose(&function, &live);
+    let function = function(
+        rt.alloc(),
+        "function l (l %0) registers 65000
+         @0
+         tick 1 turn
+         %1 = %0
+         ret %1",
+    )?;
+    let live = live(rt.alloc(), &function)?;
+    let choice = LinearScan::new(rt.alloc()).choose(&function, &live);
     assert!(rt; choice.is_some());
     Ok(())
 }

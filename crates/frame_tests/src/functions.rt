@@ -1,134 +1,91 @@
 //! A function without blocks, and how arguments come to the places of parameters.
-use crate::build::{entry_code, load_of, long, registers_of, store_of};
-use abi_frames::frame::frame;
+use crate::texts::{assert_code, assert_entry};
+use code_text::function::located_function;
 use flat_code::function::flat;
-use il_ast::list::Seq;
-use rv_isa::instruction::{Instr, LoadOp, StoreOp};
-use rv_isa::labelled::Item;
-use std::alloc::{AllocError, Global};
 use std::test::Fail;
-use vcode::code::Code;
-use vcode::function::LFunc;
-use vcode::place::Location;
-
-fn without_blocks(alloc: Global) -> LFunc {
-    LFunc {
-        code: Code {
-            result: None,
-            params: Seq::new(alloc),
-            blocks: Seq::new(alloc),
-        },
-        slots: 6,
-    }
-}
 
 #[test]
 fn empty_function_is_taken_over(rt: HostRuntime) -> Result<(), Fail> {
-    let taken = flat(without_blocks(rt.alloc()));
+    let function = located_function(rt.alloc(), "function () slots 6").ok_or("no function")?;
+    let taken = flat(function);
     assert!(rt; taken.located.slots == 6 && taken.located.code.blocks.len() == 0);
     Ok(())
 }
 
+// No call is made, and x1 stays where it is.
 #[test]
 fn an_empty_function_has_a_frame(rt: HostRuntime) -> Result<(), Fail> {
-    let code = frame(rt.alloc(), &flat(without_blocks(rt.alloc())))?;
-    assert_eq!(rt; code.labels(), 1);
-    // the stack pointer moves, the label, the stack pointer and the way back: no call is made, and x1 stays where it is
-    assert_eq!(rt; code.items().len(), 1 + 1 + 1 + 1);
-    Ok(())
+    assert_code(
+        &rt,
+        "function () slots 6",
+        "addi x2, x2, -48
+         @0:
+         addi x2, x2, 48
+         jalr x0, 0(x1)",
+    )
 }
 
+// The caller's stack pointer, eight from registers, one through x28, one into a register.
 #[test]
 fn ten_arguments_come_to_their_places(rt: HostRuntime) -> Result<(), Fail> {
-    let params = vec![in rt.alloc();
-        long(Location::Slot(0)),
-        long(Location::Slot(1)),
-        long(Location::Register(9)),
-        long(Location::Slot(3)),
-        long(Location::Slot(4)),
-        long(Location::Slot(5)),
-        long(Location::Slot(6)),
-        long(Location::Slot(7)),
-        long(Location::Slot(8)),
-        long(Location::Register(18)),
-    ]?;
-    let items = entry_code(rt.alloc(), 9, params)?;
-    // the caller's stack pointer, eight from registers, one through x28, one into a register
-    assert_eq!(rt; items.len(), 2 + 8 + 2 + 1);
-    assert_eq!(rt; registers_of(items.get(1)), Some((30, 30, 2)));
-    assert_eq!(rt; move_of(items.get(4)), Some((9, 12)));
-    assert_eq!(rt;
-        store_of(items.get(9)),
-        Some((StoreOp::Sd, 17, 2, 104 + 56))
-    );
-    assert_eq!(rt; load_of(items.get(10)), Some((LoadOp::Ld, 28, 30, 0)));
-    assert_eq!(rt; load_of(items.get(12)), Some((LoadOp::Ld, 18, 30, 8)));
-    Ok(())
+    assert_entry(
+        &rt,
+        9,
+        "l [0], l [1], l x9, l [3], l [4], l [5], l [6], l [7], l [8], l x18",
+        "addi x30, x0, 176
+         add x30, x30, x2
+         sd x10, 104(x2)
+         sd x11, 112(x2)
+         addi x9, x12, 0
+         sd x13, 128(x2)
+         sd x14, 136(x2)
+         sd x15, 144(x2)
+         sd x16, 152(x2)
+         sd x17, 160(x2)
+         ld x28, 0(x30)
+         sd x28, 168(x2)
+         ld x18, 8(x30)",
+    )
 }
 
 #[test]
 fn eight_arguments_need_no_pointer(rt: HostRuntime) -> Result<(), Fail> {
-    let items = entry_code(rt.alloc(), 2, Vec::new(rt.alloc()))?;
-    assert_eq!(rt; items.len(), 0);
-    let eight = vec![in rt.alloc();
-        long(Location::Slot(0)),
-        long(Location::Slot(1)),
-        long(Location::Slot(2)),
-        long(Location::Slot(3)),
-        long(Location::Slot(4)),
-        long(Location::Slot(5)),
-        long(Location::Slot(6)),
-        long(Location::Slot(7)),
-    ]?;
-    let items = entry_code(rt.alloc(), 8, eight)?;
-    assert_eq!(rt; items.len(), 8);
-    Ok(())
-}
-
-/// The registers that a move writes and reads.
-fn move_of(item: Option<&Item>) -> Option<(u8, u8)> {
-    match item {
-        Some(Item::Plain(Instr::Imm { rd, rs1, .. })) => Some((rd.number, rs1.number)),
-        _ => None,
-    }
-}
-
-/// The registers that each move writes and reads.
-fn moves(alloc: Global, items: &[Item]) -> Result<Vec<(u8, u8)>, AllocError> {
-    let mut moves = Vec::new(alloc);
-    for item in items {
-        if let Some(registers) = move_of(Some(item)) {
-            moves.push(registers)?;
-        }
-    }
-    Ok(moves)
+    assert_entry(&rt, 2, "", "")?;
+    assert_entry(
+        &rt,
+        8,
+        "l [0], l [1], l [2], l [3], l [4], l [5], l [6], l [7]",
+        "sd x10, 104(x2)
+         sd x11, 112(x2)
+         sd x12, 120(x2)
+         sd x13, 128(x2)
+         sd x14, 136(x2)
+         sd x15, 144(x2)
+         sd x16, 152(x2)
+         sd x17, 160(x2)",
+    )
 }
 
 #[test]
 fn two_parameters_change_places(rt: HostRuntime) -> Result<(), Fail> {
-    let params = vec![in rt.alloc();
-        long(Location::Register(11)),
-        long(Location::Register(10)),
-        long(Location::Register(18)),
-    ]?;
-    let items = entry_code(rt.alloc(), 3, params)?;
-    let moves = moves(rt.alloc(), items.as_slice())?;
-    assert_eq!(rt;
-        moves.as_slice(),
-        [(18, 12), (29, 11), (11, 10), (10, 29)].as_slice()
-    );
-    Ok(())
+    assert_entry(
+        &rt,
+        3,
+        "l x11, l x10, l x18",
+        "addi x18, x12, 0
+         addi x29, x11, 0
+         addi x11, x10, 0
+         addi x10, x29, 0",
+    )
 }
 
 #[test]
 fn a_parameter_stays_in_its_register(rt: HostRuntime) -> Result<(), Fail> {
-    let params = vec![in rt.alloc();
-        long(Location::Register(12)),
-        long(Location::Register(11)),
-        long(Location::Register(13)),
-    ]?;
-    let items = entry_code(rt.alloc(), 3, params)?;
-    let moves = moves(rt.alloc(), items.as_slice())?;
-    assert_eq!(rt; moves.as_slice(), [(13, 12), (12, 10)].as_slice());
-    Ok(())
+    assert_entry(
+        &rt,
+        3,
+        "l x12, l x11, l x13",
+        "addi x13, x12, 0
+         addi x12, x10, 0",
+    )
 }

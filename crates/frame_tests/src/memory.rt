@@ -1,169 +1,118 @@
 //! The code of lines that make and change memory.
-use crate::build::{immediate_of, in_register, line_code, lines_code, load_of, store_of, tick};
-use il_ast::operation::Size;
-use il_ast::symbol::Symbol;
-use rv_isa::instruction::{LoadOp, StoreOp};
-use rv_isa::labelled::Item;
-use rv_isa::ranges::Register;
-use rv_isa::relocation::Partial;
-use std::alloc::{AllocError, Global};
+use crate::texts::assert_lines;
 use std::test::Fail;
-use vcode::line::Line;
-use vcode::place::{Address, Location, Operand};
 
 #[test]
 fn a_half_is_stored(rt: HostRuntime) -> Result<(), Fail> {
-    let line = Line::Store {
-        size: Size::Half,
-        value: Operand::At(Location::Slot(0)),
-        at: Address::at_once(in_register(6)),
-    };
-    let items = line_code(rt.alloc(), 3, line)?;
-    assert_eq!(rt; items.len(), 2);
-    assert_eq!(rt; store_of(items.get(1)), Some((StoreOp::Sh, 28, 6, 0)));
-    Ok(())
+    assert_lines(
+        &rt,
+        3,
+        "storeh [0], 0(x6)",
+        "ld x28, 104(x2)
+         sh x28, 0(x6)",
+    )
 }
 
+// One instruction each, and one that stores the second address.
 #[test]
 fn blocks_of_memory_stand_one_after_another(rt: HostRuntime) -> Result<(), Fail> {
-    let lines = vec![in rt.alloc();
-        tick(),
-        Line::Alloc {
-            to: Some(Location::Register(5)),
-            size: 20,
-        },
-        Line::Alloc {
-            to: Some(Location::Slot(2)),
-            size: 8,
-        },
-        Line::Alloc {
-            to: Some(Location::Register(6)),
-            size: 8,
-        },
-    ]?;
-    let items = lines_code(rt.alloc(), 3, lines)?;
-    // one instruction each, and one that stores the second address
-    assert_eq!(rt; items.len(), 4);
-    assert_eq!(rt; immediate_of(items.get(0)), Some((5, 2, 128)));
-    assert_eq!(rt; immediate_of(items.get(3)), Some((6, 2, 128 + 32 + 16)));
-    Ok(())
+    assert_lines(
+        &rt,
+        3,
+        "x5 = alloc 20
+         [2] = alloc 8
+         x6 = alloc 8",
+        "addi x5, x2, 128
+         addi x28, x2, 160
+         sd x28, 120(x2)
+         addi x6, x2, 176",
+    )
 }
 
 #[test]
 fn a_far_block_of_memory_takes_more(rt: HostRuntime) -> Result<(), Fail> {
-    let lines = vec![in rt.alloc();
-        tick(),
-        Line::Alloc {
-            to: None,
-            size: 4096,
-        },
-        Line::Alloc {
-            to: Some(Location::Slot(0)),
-            size: 16,
-        },
-    ]?;
-    let items = lines_code(rt.alloc(), 3, lines)?;
-    assert_eq!(rt; items.len(), 3 + 1);
-    Ok(())
+    assert_lines(
+        &rt,
+        3,
+        "alloc 4096
+         [0] = alloc 16",
+        "lui x28, 1
+         add x28, x28, x2
+         addi x28, x28, 128
+         sd x28, 104(x2)",
+    )
 }
 
+// Two addresses, eight bytes and on, and then four, two and one.
 #[test]
 fn fifteen_bytes_are_copied(rt: HostRuntime) -> Result<(), Fail> {
-    let line = Line::Blit {
-        from: in_register(5),
-        to: Operand::At(Location::Slot(1)),
-        count: 15,
-    };
-    let items = line_code(rt.alloc(), 3, line)?;
-    // two addresses, eight bytes and on, and then four, two and one
-    assert_eq!(rt; items.len(), 2 + 4 + 2 + 2 + 2);
-    assert_eq!(rt; load_of(items.get(8)), Some((LoadOp::Lhu, 30, 28, 4)));
-    assert_eq!(rt; store_of(items.get(11)), Some((StoreOp::Sb, 30, 29, 6)));
-    Ok(())
+    assert_lines(
+        &rt,
+        3,
+        "blit x5, [1], 15",
+        "addi x28, x5, 0
+         ld x29, 112(x2)
+         ld x30, 0(x28)
+         sd x30, 0(x29)
+         addi x28, x28, 8
+         addi x29, x29, 8
+         lwu x30, 0(x28)
+         sw x30, 0(x29)
+         lhu x30, 4(x28)
+         sh x30, 4(x29)
+         lbu x30, 6(x28)
+         sb x30, 6(x29)",
+    )
 }
 
 #[test]
 fn no_bytes_are_copied_without_an_access(rt: HostRuntime) -> Result<(), Fail> {
-    let line = Line::Blit {
-        from: Operand::Number(0),
-        to: Operand::Number(0),
-        count: 0,
-    };
-    let items = line_code(rt.alloc(), 3, line)?;
-    assert_eq!(rt; items.len(), 2);
-    Ok(())
-}
-
-/// The offset of a load from a number beyond what a register holds, if that is one instruction.
-fn loaded_beyond(alloc: Global, number: u64) -> Result<Option<i16>, AllocError> {
-    let line = Line::Load {
-        to: Location::Register(7),
-        op: LoadOp::Lw,
-        at: Address::beyond(in_register(6), number),
-    };
-    let items = line_code(alloc, 3, line)?;
-    match load_of(items.get(0)) {
-        Some((LoadOp::Lw, 7, 6, offset)) if items.len() == 1 => Ok(Some(offset)),
-        _ => Ok(None),
-    }
+    assert_lines(
+        &rt,
+        3,
+        "blit 0, 0, 0",
+        "addi x28, x0, 0
+         addi x29, x0, 0",
+    )
 }
 
 #[test]
 fn the_offset_of_an_address_stands_in_the_instruction(rt: HostRuntime) -> Result<(), Fail> {
-    assert_eq!(rt; loaded_beyond(rt.alloc(), 0)?, Some(0));
-    assert_eq!(rt; loaded_beyond(rt.alloc(), 8)?, Some(8));
-    assert_eq!(rt; loaded_beyond(rt.alloc(), 2047)?, Some(2047));
-    assert_eq!(rt;
-        loaded_beyond(rt.alloc(), 0u64.wrapping_sub(2048))?,
-        Some(-2048)
-    );
-    let line = Line::Store {
-        size: Size::Byte,
-        value: Operand::Number(0),
-        at: Address::beyond(Operand::At(Location::Slot(0)), 0u64.wrapping_sub(1)),
-    };
-    let items = line_code(rt.alloc(), 3, line)?;
-    assert_eq!(rt; items.len(), 2);
-    assert_eq!(rt; store_of(items.get(1)), Some((StoreOp::Sb, 0, 29, -1)));
-    Ok(())
+    assert_lines(
+        &rt,
+        3,
+        "x7 = lw 0(x6)
+         x7 = lw 8(x6)
+         x7 = lw 2047(x6)
+         x7 = lw -2048(x6)
+         storeb 0, -1([0])",
+        "lw x7, 0(x6)
+         lw x7, 8(x6)
+         lw x7, 2047(x6)
+         lw x7, -2048(x6)
+         ld x29, 104(x2)
+         sb x0, -1(x29)",
+    )
 }
 
 #[test]
 fn the_lower_part_of_a_name_stands_in_the_instruction(rt: HostRuntime) -> Result<(), Fail> {
-    let line = Line::Load {
-        to: Location::Register(7),
-        op: LoadOp::Lw,
-        at: Address::beyond(Operand::Name(Symbol::at(3)), 8),
-    };
-    let items = line_code(rt.alloc(), 3, line)?;
-    assert_eq!(rt; items.len(), 2);
-    let load = Partial::Load {
-        op: LoadOp::Lw,
-        rd: Register { number: 7 },
-        rs1: Register { number: 28 },
-    };
-    match items.get(1) {
-        Some(Item::Relocated(lower)) => {
-            assert!(rt; lower.instruction == load && lower.global == 3);
-            assert_eq!(rt; lower.offset.value, 8);
-        }
-        _ => assert!(rt; false),
-    }
-    Ok(())
+    assert_lines(
+        &rt,
+        3,
+        "x7 = lw 8($3)",
+        "lui x28, 0 + $3 + 8
+         lw x7, 0(x28) + $3 + 8",
+    )
 }
 
 #[test]
 fn a_block_without_a_name_takes_no_instruction(rt: HostRuntime) -> Result<(), Fail> {
-    let lines = vec![in rt.alloc();
-        tick(),
-        Line::Alloc { to: None, size: 20 },
-        Line::Alloc {
-            to: Some(Location::Register(5)),
-            size: 8,
-        },
-    ]?;
-    let items = lines_code(rt.alloc(), 3, lines)?;
-    assert_eq!(rt; items.len(), 1);
-    assert_eq!(rt; immediate_of(items.get(0)), Some((5, 2, 128 + 32)));
-    Ok(())
+    assert_lines(
+        &rt,
+        3,
+        "alloc 20
+         x5 = alloc 8",
+        "addi x5, x2, 160",
+    )
 }

@@ -1,147 +1,107 @@
 //! Which registers are saved, and how a frame begins and ends.
-use crate::build::{
-    before_labels, between, block, cleared, in_register, load_of, long, store_of, tick,
-};
-use abi_frames::frame::frame;
-use flat_code::function::flat;
-use il_ast::list::Seq;
-use il_ast::operation::Class;
-use rv_isa::instruction::{LoadOp, RegOp, StoreOp};
-use rv_isa::labelled::Item;
-use std::alloc::{AllocError, Global};
+use crate::texts::assert_code;
 use std::test::Fail;
-use vcode::code::Code;
-use vcode::function::LFunc;
-use vcode::line::{Jump, Line, Operation};
-use vcode::place::{Address, Argument, Extension, Location, Operand};
 
-/// A function with a parameter in x9 that writes x5, slot 0, x18, x20, x22 and x27, and reads x24.
-fn writer(alloc: Global) -> Result<LFunc, AllocError> {
-    let to_slot = Line::Set {
-        to: Location::Slot(0),
-        value: Operand::Number(0),
-    };
-    let sum = Line::Operate {
-        to: Location::Register(18),
-        operation: Operation::Reg(RegOp::Add),
-        left: in_register(9),
-        right: in_register(24),
-    };
-    let load = Line::Load {
-        to: Location::Register(20),
-        op: LoadOp::Ld,
-        at: Address::at_once(in_register(9)),
-    };
-    let call = Line::Call {
-        to: Some(long(Location::Register(22))),
-        callee: in_register(9),
-        args: Seq::new(alloc),
-    };
-    let lines = vec![in alloc; tick(), cleared(5), to_slot, cleared(27), sum, load, call]?;
-    let params = vec![in alloc; long(Location::Register(9))]?;
-    let blocks = vec![in alloc; block(lines, Jump::Return(None))]?;
-    Ok(LFunc {
-        code: Code {
-            result: None,
-            params: Seq::from_vec(params),
-            blocks: Seq::from_vec(blocks),
-        },
-        slots: 1,
-    })
-}
-
-/// The registers that the stores right behind the first instruction put into the frame, upward from its begin.
-fn saved(alloc: Global, items: &[Item]) -> Result<Vec<u8>, AllocError> {
-    let mut saved = Vec::new(alloc);
-    let mut wanted = 0;
-    for item in items.iter().skip(1) {
-        match store_of(Some(item)) {
-            Some((StoreOp::Sd, register, 2, offset)) if offset == wanted => {
-                saved.push(register)?;
-                wanted = wanted.wrapping_add(8);
-            }
-            _ => break,
-        }
-    }
-    Ok(saved)
-}
-
+// It writes x5, slot 0, x18, x20, x22 and x27, has its parameter in x9, and reads x24.
 #[test]
 fn only_written_registers_of_the_caller_are_saved(rt: HostRuntime) -> Result<(), Fail> {
-    let code = frame(rt.alloc(), &flat(writer(rt.alloc())?))?;
-    let saved = saved(rt.alloc(), code.items())?;
-    assert_eq!(rt; saved.as_slice(), [1, 9, 18, 20, 22, 27].as_slice());
-    Ok(())
+    assert_code(
+        &rt,
+        "function (l x9) slots 1
+         @0
+         tick 1000 turn
+         x5 = 0
+         [0] = 0
+         x27 = 0
+         x18 = add x9, x24
+         x20 = ld 0(x9)
+         x22 =l call x9()
+         ret",
+        "addi x2, x2, -64
+         sd x1, 0(x2)
+         sd x9, 8(x2)
+         sd x18, 16(x2)
+         sd x20, 24(x2)
+         sd x22, 32(x2)
+         sd x27, 40(x2)
+         addi x9, x10, 0
+         @0:
+         addi x5, x0, 0
+         sd x0, 48(x2)
+         addi x27, x0, 0
+         add x18, x9, x24
+         ld x20, 0(x9)
+         jalr x1, 0(x9)
+         addi x22, x10, 0
+         @1:
+         ld x1, 0(x2)
+         ld x9, 8(x2)
+         ld x18, 16(x2)
+         ld x20, 24(x2)
+         ld x22, 32(x2)
+         ld x27, 40(x2)
+         addi x2, x2, 64
+         jalr x0, 0(x1)",
+    )
 }
 
 #[test]
 fn the_return_address_is_saved_for_calls_alone(rt: HostRuntime) -> Result<(), Fail> {
-    let params = vec![in rt.alloc(); long(Location::Register(9))]?;
-    let function = LFunc {
-        code: Code {
-            result: None,
-            params: Seq::from_vec(params),
-            blocks: Seq::new(rt.alloc()),
-        },
-        slots: 1,
-    };
-    let code = frame(rt.alloc(), &flat(function))?;
-    let saved = saved(rt.alloc(), code.items())?;
-    assert_eq!(rt; saved.as_slice(), [9].as_slice());
-    Ok(())
+    assert_code(
+        &rt,
+        "function (l x9) slots 1",
+        "addi x2, x2, -16
+         sd x9, 0(x2)
+         addi x9, x10, 0
+         @0:
+         ld x9, 0(x2)
+         addi x2, x2, 16
+         jalr x0, 0(x1)",
+    )
 }
 
 #[test]
 fn an_empty_frame_moves_no_pointer(rt: HostRuntime) -> Result<(), Fail> {
-    let function = LFunc {
-        code: Code {
-            result: None,
-            params: Seq::new(rt.alloc()),
-            blocks: Seq::new(rt.alloc()),
-        },
-        slots: 0,
-    };
-    let code = frame(rt.alloc(), &flat(function))?;
-    assert_eq!(rt; before_labels(rt.alloc(), code.items(), 0)?.len(), 0);
-    // the label of the end, and the way back
-    assert_eq!(rt; code.items().len(), 1 + 1);
-    Ok(())
+    assert_code(
+        &rt,
+        "function () slots 0",
+        "@0:
+         jalr x0, 0(x1)",
+    )
 }
 
-/// A function of one slot that writes x18 and passes nine arguments to a call.
-fn passing_nine(alloc: Global) -> Result<LFunc, AllocError> {
-    let zero = Argument {
-        class: Class::L,
-        value: Operand::Number(0),
-        extension: Extension::Made,
-    };
-    let call = Line::Call {
-        to: None,
-        callee: Operand::Number(0),
-        args: Seq::from_vec(vec![in alloc; zero, zero, zero, zero, zero, zero, zero, zero, zero]?),
-    };
-    let lines = vec![in alloc; tick(), cleared(18), call]?;
-    let blocks = vec![in alloc; block(lines, Jump::Halt)]?;
-    Ok(LFunc {
-        code: Code {
-            result: None,
-            params: Seq::new(alloc),
-            blocks: Seq::from_vec(blocks),
-        },
-        slots: 1,
-    })
-}
-
+// The ninth argument of the call stands below what is saved.
 #[test]
 fn a_frame_begins_with_what_is_saved(rt: HostRuntime) -> Result<(), Fail> {
-    let code = frame(rt.alloc(), &flat(passing_nine(rt.alloc())?))?;
-    let first = before_labels(rt.alloc(), code.items(), 0)?;
-    // the stack pointer moves, two stores
-    assert_eq!(rt; first.len(), 1 + 2);
-    assert_eq!(rt; store_of(first.get(2)), Some((StoreOp::Sd, 18, 2, 16)));
-    // two loads, the stack pointer, the way back
-    let last = between(rt.alloc(), code.items(), 1, 2)?;
-    assert_eq!(rt; last.len(), 2 + 1 + 1);
-    assert_eq!(rt; load_of(last.get(1)), Some((LoadOp::Ld, 18, 2, 16)));
-    Ok(())
+    assert_code(
+        &rt,
+        "function () slots 1
+         @0
+         tick 1000 turn
+         x18 = 0
+         call 0(l 0, l 0, l 0, l 0, l 0, l 0, l 0, l 0, l 0)
+         halt",
+        "addi x2, x2, -32
+         sd x1, 8(x2)
+         sd x18, 16(x2)
+         @0:
+         addi x18, x0, 0
+         addi x28, x0, 0
+         sd x28, 0(x2)
+         addi x10, x0, 0
+         addi x11, x0, 0
+         addi x12, x0, 0
+         addi x13, x0, 0
+         addi x14, x0, 0
+         addi x15, x0, 0
+         addi x16, x0, 0
+         addi x17, x0, 0
+         jalr x1, 0(x0)
+         ebreak
+         @1:
+         ld x1, 8(x2)
+         ld x18, 16(x2)
+         addi x2, x2, 32
+         jalr x0, 0(x1)",
+    )
 }

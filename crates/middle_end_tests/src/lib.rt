@@ -25,4 +25,6 @@ mod points;
 #[cfg(test)]
 mod sets;
 #[cfg(test)]
+mod texts;
+#[cfg(test)]
 mod whole;

@@ -1,0 +1,215 @@
+//! Operations by name.
+use crate::text::Text;
+use il_ast::operation::{Class, Condition, Size};
+use rv_isa::instruction::{LoadOp, RegOp, RegWOp};
+use vcode::line::Operation;
+
+fn register_name(op: RegOp) -> &'static str {
+    match op {
+        RegOp::Add => "add",
+        RegOp::Sub => "sub",
+        RegOp::Sll => "sll",
+        RegOp::Slt => "slt",
+        RegOp::Sltu => "sltu",
+        RegOp::Xor => "xor",
+        RegOp::Srl => "srl",
+        RegOp::Sra => "sra",
+        RegOp::Or => "or",
+        RegOp::And => "and",
+        RegOp::Mul => "mul",
+        RegOp::Mulh => "mulh",
+        RegOp::Mulhsu => "mulhsu",
+        RegOp::Mulhu => "mulhu",
+        RegOp::Div => "div",
+        RegOp::Divu => "divu",
+        RegOp::Rem => "rem",
+        RegOp::Remu => "remu",
+    }
+}
+
+fn register_op(word: &str) -> Option<RegOp> {
+    for op in [
+        RegOp::Add,
+        RegOp::Sub,
+        RegOp::Sll,
+        RegOp::Slt,
+        RegOp::Sltu,
+        RegOp::Xor,
+        RegOp::Srl,
+        RegOp::Sra,
+        RegOp::Or,
+        RegOp::And,
+        RegOp::Mul,
+        RegOp::Mulh,
+        RegOp::Mulhsu,
+        RegOp::Mulhu,
+        RegOp::Div,
+        RegOp::Divu,
+        RegOp::Rem,
+        RegOp::Remu,
+    ] {
+        if register_name(op) == word {
+            return Some(op);
+        }
+    }
+    None
+}
+
+fn word_name(op: RegWOp) -> &'static str {
+    match op {
+        RegWOp::Addw => "addw",
+        RegWOp::Subw => "subw",
+        RegWOp::Sllw => "sllw",
+        RegWOp::Srlw => "srlw",
+        RegWOp::Sraw => "sraw",
+        RegWOp::Mulw => "mulw",
+        RegWOp::Divw => "divw",
+        RegWOp::Divuw => "divuw",
+        RegWOp::Remw => "remw",
+        RegWOp::Remuw => "remuw",
+    }
+}
+
+fn word_op(word: &str) -> Option<RegWOp> {
+    for op in [
+        RegWOp::Addw,
+        RegWOp::Subw,
+        RegWOp::Sllw,
+        RegWOp::Srlw,
+        RegWOp::Sraw,
+        RegWOp::Mulw,
+        RegWOp::Divw,
+        RegWOp::Divuw,
+        RegWOp::Remw,
+        RegWOp::Remuw,
+    ] {
+        if word_name(op) == word {
+            return Some(op);
+        }
+    }
+    None
+}
+
+pub(crate) fn load_name(op: LoadOp) -> &'static str {
+    match op {
+        LoadOp::Lb => "lb",
+        LoadOp::Lh => "lh",
+        LoadOp::Lw => "lw",
+        LoadOp::Ld => "ld",
+        LoadOp::Lbu => "lbu",
+        LoadOp::Lhu => "lhu",
+        LoadOp::Lwu => "lwu",
+    }
+}
+
+pub(crate) fn load_op(word: &str) -> Option<LoadOp> {
+    for op in [
+        LoadOp::Lb,
+        LoadOp::Lh,
+        LoadOp::Lw,
+        LoadOp::Ld,
+        LoadOp::Lbu,
+        LoadOp::Lhu,
+        LoadOp::Lwu,
+    ] {
+        if load_name(op) == word {
+            return Some(op);
+        }
+    }
+    None
+}
+
+pub(crate) fn store_name(size: Size) -> &'static str {
+    match size {
+        Size::Byte => "storeb",
+        Size::Half => "storeh",
+        Size::Word => "storew",
+        Size::Long => "storel",
+    }
+}
+
+pub(crate) fn store_size(word: &str) -> Option<Size> {
+    for size in [Size::Byte, Size::Half, Size::Word, Size::Long] {
+        if store_name(size) == word {
+            return Some(size);
+        }
+    }
+    None
+}
+
+pub(crate) fn class_name(class: Class) -> &'static str {
+    match class {
+        Class::W => "w",
+        Class::L => "l",
+    }
+}
+
+/// The class that a word names.
+pub(crate) fn class_of(word: &str) -> Option<Class> {
+    match word {
+        "w" => Some(Class::W),
+        "l" => Some(Class::L),
+        _ => None,
+    }
+}
+
+fn condition_name(condition: Condition) -> &'static str {
+    match condition {
+        Condition::Equal => "ceq",
+        Condition::NotEqual => "cne",
+        Condition::SignedLessEqual => "csle",
+        Condition::SignedLess => "cslt",
+        Condition::SignedGreaterEqual => "csge",
+        Condition::SignedGreater => "csgt",
+        Condition::UnsignedLessEqual => "cule",
+        Condition::UnsignedLess => "cult",
+        Condition::UnsignedGreaterEqual => "cuge",
+        Condition::UnsignedGreater => "cugt",
+    }
+}
+
+/// The comparison that a word names.
+pub(crate) fn comparison_of(word: &str) -> Option<(Condition, Class)> {
+    for condition in [
+        Condition::Equal,
+        Condition::NotEqual,
+        Condition::SignedLessEqual,
+        Condition::SignedLess,
+        Condition::SignedGreaterEqual,
+        Condition::SignedGreater,
+        Condition::UnsignedLessEqual,
+        Condition::UnsignedLess,
+        Condition::UnsignedGreaterEqual,
+        Condition::UnsignedGreater,
+    ] {
+        if let Some(class) = word.strip_prefix(condition_name(condition)) {
+            return Some((condition, class_of(class)?));
+        }
+    }
+    None
+}
+
+/// The operation that a word names.
+pub(crate) fn operation_of(word: &str) -> Option<Operation> {
+    if let Some(op) = register_op(word) {
+        return Some(Operation::Reg(op));
+    }
+    if let Some(op) = word_op(word) {
+        return Some(Operation::RegW(op));
+    }
+    let (condition, class) = comparison_of(word)?;
+    Some(Operation::Compare(condition, class))
+}
+
+pub(crate) fn put_comparison(to: &mut Text, condition: Condition, class: Class) {
+    to.put(condition_name(condition));
+    to.put(class_name(class));
+}
+
+pub(crate) fn put_operation(to: &mut Text, operation: Operation) {
+    match operation {
+        Operation::Reg(op) => to.put(register_name(op)),
+        Operation::RegW(op) => to.put(word_name(op)),
+        Operation::Compare(condition, class) => put_comparison(to, condition, class),
+    }
+}
