@@ -1,7 +1,8 @@
 //! How many instructions the executables of the examples take, and how many turns their programs.
-use elf_file::read_image;
+use elf_file::{Loaded, read_image};
 use il_ast::value::End;
 use il_interp::interpret::interpret;
+use il_types::checked::Checked;
 use obj_link::resolve::resolve;
 use qbec::compile::compile;
 use qbec::texts::checked_texts;
@@ -42,20 +43,28 @@ enum Run<'x> {
 /// No run is followed for longer: 2^24 instructions or turns.
 const STEPS: u32 = 24;
 
-// Whether the file has ended within so many instructions; none where it can't be run.
-fn file_ends(alloc: Global, file: &[u8], words: &[&[u8]], limit: u64) -> Option<bool> {
-    let loaded = read_image(alloc, file).ok()?;
-    let machine: Machine<FlatRam> = Machine::start(alloc, &loaded, words).ok()?;
+// Whether the executable has ended within so many instructions; none where it can't be run.
+fn executable_ends(alloc: Global, loaded: &Loaded, words: &[&[u8]], limit: u64) -> Option<bool> {
+    let machine: Machine<FlatRam> = Machine::start(alloc, loaded, words).ok()?;
     let (_, stop) = machine.run(alloc, limit);
     Some(stop != Stop::Limit)
 }
 
+fn file_ends(alloc: Global, file: &[u8], words: &[&[u8]], limit: u64) -> Option<bool> {
+    let loaded = read_image(alloc, file).ok()?;
+    executable_ends(alloc, &loaded, words, limit)
+}
+
 // Whether the program of the texts has ended within so many turns; none where it can't be run.
-fn texts_end(alloc: Global, texts: &[&[u8]], words: &[&[u8]], limit: u64) -> Option<bool> {
-    let checked = checked_texts(alloc, texts).ok()?;
-    let linked = resolve(alloc, checked.as_slice()).ok()?;
+fn program_ends(alloc: Global, texts: &[Checked], words: &[&[u8]], limit: u64) -> Option<bool> {
+    let linked = resolve(alloc, texts).ok()?;
     let (_, end) = interpret(alloc, &linked, words, limit).ok()?;
     Some(end != End::Turns)
+}
+
+fn texts_end(alloc: Global, texts: &[&[u8]], words: &[&[u8]], limit: u64) -> Option<bool> {
+    let checked = checked_texts(alloc, texts).ok()?;
+    program_ends(alloc, checked.as_slice(), words, limit)
 }
 
 impl Run<'_> {
@@ -85,30 +94,49 @@ impl Run<'_> {
     }
 }
 
+fn instructions(alloc: Global, texts: &[&[u8]], words: &[&[u8]]) -> Option<u64> {
+    let file = compile(alloc, texts, &mut LinearScan::new(alloc)).ok()?;
+    Run::File(file.as_slice()).length(alloc, words)
+}
+
 // The instructions and the turns of the program of the texts, or none where it isn't one, or is too long.
 fn lengths(alloc: Global, texts: &[&[u8]], words: &[&[u8]]) -> Option<(u64, u64)> {
-    let file = compile(alloc, texts, &mut LinearScan::new(alloc)).ok()?;
-    let instructions = Run::File(file.as_slice()).length(alloc, words)?;
+    let instructions = instructions(alloc, texts, words)?;
     let turns = Run::Texts(texts).length(alloc, words)?;
     Some((instructions, turns))
 }
 
-// What is said of the program of the texts with words between spaces.
-fn said(alloc: Global, texts: &[Vec<u8>], words: &str) -> Result<String, AllocError> {
+fn slices(alloc: Global, texts: &[Vec<u8>]) -> Result<Vec<&[u8]>, AllocError> {
     let mut slices = Vec::new(alloc);
     for text in texts {
         slices.push(text.as_slice())?;
     }
+    Ok(slices)
+}
+
+fn bytes_of_words(alloc: Global, words: &str) -> Result<Vec<&[u8]>, AllocError> {
     let mut bytes = Vec::new(alloc);
     for word in words.split_whitespace() {
         bytes.push(word.as_bytes())?;
     }
+    Ok(bytes)
+}
+
+// What is said of the program of the texts with words between spaces.
+fn said(alloc: Global, texts: &[Vec<u8>], words: &str) -> Result<String, AllocError> {
+    let slices = slices(alloc, texts)?;
+    let bytes = bytes_of_words(alloc, words)?;
     match lengths(alloc, slices.as_slice(), bytes.as_slice()) {
         Some((instructions, turns)) => {
             format!(in alloc; "{instructions} instructions, {turns} turns")
         }
         None => String::from_str(alloc, "no program that ends, or no memory"),
     }
+}
+
+fn text_of<R: Files + AllocGlobal>(rt: &R, folder: &str, name: &str) -> io::Result<Vec<u8>> {
+    let path = format!(in rt.alloc(); "{folder}/{name}.ssa")?;
+    fs::read(rt, path.as_str())
 }
 
 /// What is said of an example whose texts stand in the folder: how many instructions its executable takes, and how many turns it takes.
@@ -124,8 +152,7 @@ pub fn example<R: Files + AllocGlobal>(
 ) -> io::Result<String> {
     let mut texts = Vec::new(rt.alloc());
     for name in names.split_whitespace() {
-        let path = format!(in rt.alloc(); "{folder}/{name}.ssa")?;
-        texts.push(fs::read(rt, path.as_str())?)?;
+        texts.push(text_of(rt, folder, name)?)?;
     }
     Ok(said(rt.alloc(), texts.as_slice(), words)?)
 }

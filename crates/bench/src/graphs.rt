@@ -82,28 +82,39 @@ fn next_of_last(
     Ok(next)
 }
 
-/// What a point of a block reads and writes.
-fn uses(alloc: Global, shape: Shape, block: u32, point: u32) -> Result<Uses, AllocError> {
+/// The register that a point of a block reads, if any, and the one that it writes.
+fn registers(shape: Shape, block: u32, point: u32) -> (Option<u32>, Option<u32>) {
     let number = block.wrapping_mul(POINTS).wrapping_add(point);
-    let mut reads = Seq::new(alloc);
     match shape {
-        Shape::Reversed => {
-            reads.push(number.wrapping_mul(7) % REGISTERS)?;
-            Ok(Uses {
-                reads,
-                writes: Some(number.wrapping_mul(3) % REGISTERS),
-            })
-        }
+        Shape::Reversed => (
+            Some(number.wrapping_mul(7) % REGISTERS),
+            Some(number.wrapping_mul(3) % REGISTERS),
+        ),
         Shape::Ladder | Shape::Nest => {
             if point == 0 {
-                reads.push(block % REGISTERS)?;
+                (Some(block % REGISTERS), None)
+            } else {
+                (None, None)
             }
-            Ok(Uses {
-                reads,
-                writes: None,
-            })
         }
     }
+}
+
+/// What a point of a block reads and writes.
+fn uses(alloc: Global, shape: Shape, block: u32, point: u32) -> Result<Uses, AllocError> {
+    let (read, writes) = registers(shape, block, point);
+    let mut reads = Seq::new(alloc);
+    match read {
+        Some(register) => reads.push(register)?,
+        None => {}
+    }
+    Ok(Uses { reads, writes })
+}
+
+fn one(alloc: Global, point: usize) -> Result<Seq<usize>, AllocError> {
+    let mut next = Seq::new(alloc);
+    next.push(point)?;
+    Ok(next)
 }
 
 fn push_point(
@@ -115,13 +126,27 @@ fn push_point(
     point: u32,
 ) -> Result<(), AllocError> {
     graph.uses.push(uses(alloc, shape, block, point)?)?;
-    if point < POINTS - 1 {
-        let mut next = Seq::new(alloc);
-        next.push(graph.nexts.len().saturating_add(1))?;
-        graph.nexts.push(next)
+    let next = if point < POINTS - 1 {
+        one(alloc, graph.nexts.len().saturating_add(1))?
     } else {
-        graph.nexts.push(next_of_last(alloc, shape, blocks, block)?)
+        next_of_last(alloc, shape, blocks, block)?
+    };
+    graph.nexts.push(next)
+}
+
+fn push_blocks(
+    alloc: Global,
+    graph: &mut Graph,
+    shape: Shape,
+    blocks: u32,
+) -> Result<(), AllocError> {
+    for standing in 0..blocks {
+        let block = place(shape, blocks, standing);
+        for point in 0..POINTS {
+            push_point(alloc, graph, shape, blocks, block, point)?;
+        }
     }
+    Ok(())
 }
 
 /// The graph of so many blocks.
@@ -134,11 +159,6 @@ pub fn graph_of(alloc: Global, shape: Shape, blocks: u32) -> Result<Graph, Alloc
         uses: Seq::new(alloc),
         nexts: Seq::new(alloc),
     };
-    for standing in 0..blocks {
-        let block = place(shape, blocks, standing);
-        for point in 0..POINTS {
-            push_point(alloc, &mut graph, shape, blocks, block, point)?;
-        }
-    }
+    push_blocks(alloc, &mut graph, shape, blocks)?;
     Ok(graph)
 }

@@ -4,6 +4,7 @@ use il_ast::value::End;
 use il_interp::interpret::interpret;
 use il_reader::read::read;
 use il_types::check::check;
+use il_types::checked::Checked;
 use obj_link::resolve::resolve;
 use std::alloc::{AllocError, Global};
 
@@ -57,13 +58,22 @@ ret %x
 }
 ";
 
-// The output and the end of the program that one text is, or none where it is none or memory is refused.
-fn answer(alloc: Global, text: &[u8], words: &[&[u8]], turns: u64) -> Option<(Vec<u8>, End)> {
+fn checked(alloc: Global, text: &[u8]) -> Option<Vec<Checked>> {
     let tree = read(alloc, text).ok()?;
     let checked = check(alloc, tree).ok()?;
-    let texts = vec![in alloc; checked].ok()?;
-    let linked = resolve(alloc, texts.as_slice()).ok()?;
-    interpret(alloc, &linked, words, turns).ok()
+    vec![in alloc; checked].ok()
+}
+
+// The end of the program that one text is, or none where it is none or memory is refused.
+fn end_of(alloc: Global, text: &[u8], turns: u64) -> Option<End> {
+    let texts = checked(alloc, text)?;
+    end_of_checked(alloc, texts.as_slice(), turns)
+}
+
+fn end_of_checked(alloc: Global, texts: &[Checked], turns: u64) -> Option<End> {
+    let linked = resolve(alloc, texts).ok()?;
+    let (_, end) = interpret(alloc, &linked, &[], turns).ok()?;
+    Some(end)
 }
 
 /// What is interpreted.
@@ -75,15 +85,15 @@ pub enum Turns {
     Phis,
 }
 
-// The output and the end of what is measured.
-fn measured(alloc: Global, measure: Turns, turns: u64) -> Option<(Vec<u8>, End)> {
+// The end of what is measured.
+fn measured(alloc: Global, measure: Turns, turns: u64) -> Option<End> {
     match measure {
-        Turns::Alu => answer(alloc, ALU.as_bytes(), &[], turns),
-        Turns::Memory => answer(alloc, MEMORY.as_bytes(), &[], turns),
-        Turns::Calls => answer(alloc, CALLS.as_bytes(), &[], turns),
+        Turns::Alu => end_of(alloc, ALU.as_bytes(), turns),
+        Turns::Memory => end_of(alloc, MEMORY.as_bytes(), turns),
+        Turns::Calls => end_of(alloc, CALLS.as_bytes(), turns),
         Turns::Phis => {
             let text = text_of(alloc, Shape::Phis, 195).ok()?;
-            answer(alloc, text.as_bytes(), &[], turns)
+            end_of(alloc, text.as_bytes(), turns)
         }
     }
 }
@@ -91,7 +101,7 @@ fn measured(alloc: Global, measure: Turns, turns: u64) -> Option<(Vec<u8>, End)>
 /// How a program ends after so many turns.
 pub fn interpret_turns(alloc: Global, measure: Turns, turns: u64) -> Result<String, AllocError> {
     match measured(alloc, measure, turns) {
-        Some((_, end)) => format!(in alloc; "{end:?} after at most {turns} turns"),
+        Some(end) => format!(in alloc; "{end:?} after at most {turns} turns"),
         None => String::from_str(alloc, "no program, or no memory"),
     }
 }

@@ -1,5 +1,5 @@
 //! How fast the machine runs.
-use elf_file::{read_image, write_image};
+use elf_file::{Loaded, read_image, write_image};
 use obj_link::Image;
 use rv_machine::flat_ram::FlatRam;
 use rv_machine::machine::Machine;
@@ -29,16 +29,29 @@ const MEMORY: [u32; 7] = [
     0xfe02_96e3,
 ];
 
-/// Runs the code for so many instructions; `None` where there is no memory for it.
-fn stop_of<R: Ram>(alloc: Global, code: &[u32], limit: u64) -> Option<Stop> {
+// An executable of this code with a slot of data.
+fn executable(alloc: Global, code: &[u32]) -> Option<Vec<u8>> {
     let code = code.to_vec(alloc).ok()?;
     let data = vec![in alloc; 0u8; 16].ok()?;
     if code.is_empty() || code.len() > 100 || data.len() != 16 {
         return None;
     }
-    let file = write_image(alloc, &Image::new(code, data)).ok()?;
-    let loaded = read_image(alloc, file.as_slice()).ok()?;
-    let machine: Machine<R> = Machine::start(alloc, &loaded, &[]).ok()?;
+    write_image(alloc, &Image::new(code, data)).ok()
+}
+
+fn loaded(alloc: Global, code: &[u32]) -> Option<Loaded> {
+    let file = executable(alloc, code)?;
+    read_image(alloc, file.as_slice()).ok()
+}
+
+fn started<R: Ram>(alloc: Global, code: &[u32]) -> Option<Machine<R>> {
+    let loaded = loaded(alloc, code)?;
+    Machine::start(alloc, &loaded, &[]).ok()
+}
+
+/// Runs the code for so many instructions; `None` where there is no memory for it.
+fn stop_of<R: Ram>(alloc: Global, code: &[u32], limit: u64) -> Option<Stop> {
+    let machine: Machine<R> = started(alloc, code)?;
     let (_, stop) = machine.run(alloc, limit);
     Some(stop)
 }

@@ -96,6 +96,21 @@ fn turns_of(kind: &str) -> Turns {
     }
 }
 
+fn live_told(alloc: Global, kind: &str, size: u32) -> Result<String, AllocError> {
+    let live = live_at_first(alloc, graph_shape_of(kind), size)?;
+    format!(in alloc; "{live} registers are live")
+}
+
+fn joins_told(alloc: Global, size: usize) -> Result<String, AllocError> {
+    let grew = joins(alloc, size)?;
+    format!(in alloc; "{grew} joins let a set grow")
+}
+
+fn moves_told(alloc: Global, size: usize) -> Result<String, AllocError> {
+    let moves = moves::moves_in_sequence(alloc, size)?;
+    format!(in alloc; "{moves} moves in order")
+}
+
 /// What comes of a measure.
 fn done(
     alloc: Global,
@@ -114,18 +129,9 @@ fn done(
         "front" => link_text(alloc, text),
         "compile" => compile_text(alloc, text),
         "certificates" => accepted(alloc, text),
-        "liveness" => {
-            let live = live_at_first(alloc, graph_shape_of(kind), small)?;
-            format!(in alloc; "{live} registers are live")
-        }
-        "sets" => {
-            let grew = joins(alloc, small as usize)?;
-            format!(in alloc; "{grew} joins let a set grow")
-        }
-        "moves" => {
-            let moves = moves::moves_in_sequence(alloc, small as usize)?;
-            format!(in alloc; "{moves} moves in order")
-        }
+        "liveness" => live_told(alloc, kind, small),
+        "sets" => joins_told(alloc, small as usize),
+        "moves" => moves_told(alloc, small as usize),
         _ => String::from_str(alloc, "no measure"),
     }
 }
@@ -140,74 +146,99 @@ fn text_for(alloc: Global, measure: &str, kind: &str, size: u64) -> Result<Strin
     }
 }
 
+/// What comes of a measure, and its milliseconds.
+fn timed(
+    rt: &HostRuntime,
+    measure: &str,
+    kind: &str,
+    size: u64,
+    text: &[u8],
+) -> io::Result<(String, u128)> {
+    let start = Instant::now(rt)?;
+    let said = done(rt.alloc(), measure, kind, size, text)?;
+    let time = start.elapsed(rt)?.as_millis();
+    Ok((said, time))
+}
+
 /// Prints what comes of a measure, with its time where that is asked for.
 fn print_row(
     rt: &HostRuntime,
     measure: &str,
     kind: &str,
     size: u64,
-    timed: bool,
+    is_timed: bool,
 ) -> io::Result<()> {
     let text = text_for(rt.alloc(), measure, kind, size)?;
-    let start = Instant::now(rt)?;
-    let said = done(rt.alloc(), measure, kind, size, text.as_bytes())?;
-    let time = start.elapsed(rt)?.as_millis();
-    if timed {
+    let (said, time) = timed(rt, measure, kind, size, text.as_bytes())?;
+    if is_timed {
         println!(rt; "{measure} {kind} {size}: {time} ms, {said}")
     } else {
         println!(rt; "{measure} {kind} {size}: {said}")
     }
 }
 
-fn print_rows(rt: &HostRuntime, rows: &[(&str, &str, u64)], timed: bool) -> io::Result<()> {
+fn print_rows(rt: &HostRuntime, rows: &[(&str, &str, u64)], is_timed: bool) -> io::Result<()> {
     for (measure, kind, size) in rows {
-        print_row(rt, *measure, *kind, *size, timed)?;
+        print_row(rt, *measure, *kind, *size, is_timed)?;
     }
     Ok(())
+}
+
+fn print_example(rt: &HostRuntime, folder: &str, names: &str, words: &str) -> io::Result<()> {
+    let said = example(rt, folder, names, words)?;
+    println!(rt; "{names}: {said}")
 }
 
 fn print_examples(rt: &HostRuntime, folder: &str) -> io::Result<()> {
     for (names, words) in EXAMPLES {
-        let said = example(rt, folder, names, words)?;
-        println!(rt; "{names}: {said}")?;
+        print_example(rt, folder, names, words)?;
     }
     Ok(())
 }
 
+fn accepted_of(rt: &HostRuntime, path: &str) -> io::Result<String> {
+    let text = fs::read(rt, path)?;
+    Ok(accepted(rt.alloc(), text.as_slice())?)
+}
+
 fn print_accepted(rt: &HostRuntime, paths: &[String]) -> io::Result<()> {
     for path in paths {
-        let text = fs::read(rt, path.as_str())?;
-        let said = accepted(rt.alloc(), text.as_slice())?;
+        let said = accepted_of(rt, path.as_str())?;
         println!(rt; "{path}: {said}")?;
     }
     Ok(())
 }
 
-fn main(rt: HostRuntime) -> io::Result<()> {
-    let words: Vec<String> = env::args(&rt)?.skip(1).collect(rt.alloc())?;
-    let word = |k: usize| match words.as_slice().get(k) {
+fn print_text(rt: &HostRuntime, kind: &str, size: u64) -> io::Result<()> {
+    let text = text_for(rt.alloc(), "text", kind, size)?;
+    print!(rt; "{text}")
+}
+
+/// A word, empty where there is none.
+fn word(words: &[String], k: usize) -> &str {
+    match words.get(k) {
         Some(word) => word.as_str(),
         None => "",
-    };
-    let size = words.as_slice().last().map_or("", |w| w.as_str());
-    let size = size.parse::<u64>().unwrap_or(10);
-    match word(0) {
-        "" => print_rows(&rt, &LITTLE, false),
-        "table" => print_rows(&rt, &TABLE, true),
-        "examples" => {
-            let folder = word(1);
-            let folder = if folder.is_empty() {
-                "../../examples"
-            } else {
-                folder
-            };
-            print_examples(&rt, folder)
-        }
-        "accepted" => print_accepted(&rt, words.as_slice().get(1..).unwrap_or(&[])),
-        "text" => {
-            let text = text_for(rt.alloc(), "text", word(1), size)?;
-            print!(rt; "{text}")
-        }
-        measure => print_row(&rt, measure, word(1), size, true),
     }
+}
+
+/// Does what the words ask for.
+fn perform(rt: &HostRuntime, words: &[String]) -> io::Result<()> {
+    let last = words.len().saturating_sub(1);
+    let size = word(words, last).parse::<u64>().unwrap_or(10);
+    let kind = word(words, 1);
+    match word(words, 0) {
+        "" => print_rows(rt, &LITTLE, false),
+        "table" => print_rows(rt, &TABLE, true),
+        "examples" if kind.is_empty() => print_examples(rt, "../../examples"),
+        "examples" => print_examples(rt, kind),
+        "accepted" => print_accepted(rt, words.get(1..).unwrap_or(&[])),
+        "text" => print_text(rt, kind, size),
+        measure => print_row(rt, measure, kind, size, true),
+    }
+}
+
+fn main(rt: HostRuntime) -> io::Result<()> {
+    let words: Vec<String> = env::args(&rt)?.skip(1).collect(rt.alloc())?;
+    perform(&rt, words.as_slice())
 }

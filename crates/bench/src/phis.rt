@@ -1,40 +1,35 @@
 //! A text with a block of many phis and many predecessors.
-use std::alloc::AllocError;
+use text_maker::maker::TextMaker;
 
 /// The blocks that lead to the phis: one after another from the start, and a last one from the phis.
-fn push_blocks(text: &mut String, count: u32) -> Result<(), AllocError> {
-    text.push_str("export function w $main() {\n@start\n\t%one =w copy 1\n")?;
+fn push_blocks(text: &mut TextMaker, count: u64) {
+    text.add("export function w $main() {\n@start\n\t%one =w copy 1\n");
     for number in 2..count {
         let next = number.saturating_add(1);
-        writeln!(text, "@before{number}\n\tjnz %one, @phis, @before{next}")?;
+        text.add_with_numbers("@before#\n\tjnz %one, @phis, @before#\n", &[number, next]);
     }
-    writeln!(
-        text,
-        "@before{count}\n\tjmp @phis\n@again\n\tjmp @phis\n@phis"
-    )
+    text.add_with_numbers(
+        "@before#\n\tjmp @phis\n@again\n\tjmp @phis\n@phis\n",
+        &[count],
+    );
 }
 
 /// A phi that takes one value from each block before the loop, and another one from the loop.
-fn push_phi(text: &mut String, number: u32, count: u32) -> Result<(), AllocError> {
-    write!(text, "\t%i{number} =w phi")?;
+fn push_phi(text: &mut TextMaker, number: u64, count: u64) {
+    text.add_with_numbers("\t%i# =w phi", &[number]);
     for before in 2..count.saturating_add(1) {
-        write!(text, " @before{before} {number},")?;
+        text.add_with_numbers(" @before# #,", &[before, number]);
     }
-    writeln!(text, " @again %next")
+    text.add(" @again %next\n");
 }
 
 /// A loop that enters a block of so many phis from the last of as many predecessors. With more than 195 the function passes the limit of weight.
-///
-/// # Errors
-///
-/// Only where memory was refused.
-pub fn push_phis(text: &mut String, count: u32) -> Result<(), AllocError> {
-    push_blocks(text, count)?;
+pub fn push_phis(text: &mut TextMaker, count: u64) {
+    push_blocks(text, count);
     for number in 0..count {
-        push_phi(text, number, count)?;
+        push_phi(text, number, count);
     }
-    let last = count.saturating_sub(1);
-    writeln!(text, "\t%next =w add %i{last}, 1")?;
-    writeln!(text, "\t%less =w cultw %next, 4294967295")?;
-    writeln!(text, "\tjnz %less, @again, @end\n@end\n\tret %next\n}}")
+    text.add_with_numbers("\t%next =w add %i#, 1\n", &[count.saturating_sub(1)]);
+    text.add("\t%less =w cultw %next, 4294967295\n");
+    text.add("\tjnz %less, @again, @end\n@end\n\tret %next\n}\n");
 }

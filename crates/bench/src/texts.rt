@@ -1,9 +1,10 @@
 //! Texts of any size.
 use crate::phis::push_phis;
 use std::alloc::{AllocError, Global};
+use text_maker::maker::TextMaker;
 
 /// How many numbers live through all blocks of a wide function.
-const KEPT: u32 = 3_990;
+const KEPT: u64 = 3_990;
 
 /// What a text is made of.
 #[derive(Clone, Copy)]
@@ -26,109 +27,125 @@ pub enum Shape {
 
 /// The text of this shape and size.
 pub fn text_of(alloc: Global, shape: Shape, size: u32) -> Result<String, AllocError> {
-    let mut text = String::new(alloc);
+    let mut text = TextMaker::new(alloc);
+    push_text(&mut text, shape, size.into());
+    text.finish()
+}
+
+fn push_text(text: &mut TextMaker, shape: Shape, size: u64) {
     match shape {
-        Shape::Functions => functions(&mut text, size)?,
-        Shape::Lines => lines(&mut text, size)?,
-        Shape::Locals => locals(&mut text, size)?,
-        Shape::Phi => phi(&mut text, size)?,
-        Shape::Phis => push_phis(&mut text, size)?,
-        Shape::Wide => wide(&mut text, size)?,
-        Shape::Bytes => bytes(&mut text, size)?,
+        Shape::Functions => functions(text, size),
+        Shape::Lines => lines(text, size),
+        Shape::Locals => locals(text, size),
+        Shape::Phi => phi(text, size),
+        Shape::Phis => push_phis(text, size),
+        Shape::Wide => wide(text, size),
+        Shape::Bytes => bytes(text, size),
     }
-    Ok(text)
 }
 
-fn functions(text: &mut String, count: u32) -> Result<(), AllocError> {
+/// The lines of a function with a loop, behind its first one.
+const LOOP: &str = "@start
+@loop
+\t%i =w phi @start 0, @loop %next
+\t%sum =w phi @start 0, @loop %more
+\t%more =w add %sum, %i
+\t%next =w add %i, 1
+\t%less =w csltw %next, %limit
+\tjnz %less, @loop, @end
+@end
+\tret %more
+}
+
+";
+
+fn functions(text: &mut TextMaker, count: u64) {
     for number in 1..count {
-        writeln!(text, "function w $function{number}(w %limit) {{")?;
-        text.push_str("@start\n@loop\n\t%i =w phi @start 0, @loop %next\n")?;
-        text.push_str("\t%sum =w phi @start 0, @loop %more\n\t%more =w add %sum, %i\n")?;
-        text.push_str("\t%next =w add %i, 1\n\t%less =w csltw %next, %limit\n")?;
-        text.push_str("\tjnz %less, @loop, @end\n@end\n\tret %more\n}\n\n")?;
+        text.add_with_numbers("function w $function#(w %limit) {\n", &[number]);
+        text.add(LOOP);
     }
-    text.push_str("export function w $main() {\n@start\n\tret 0\n}\n")
+    text.add("export function w $main() {\n@start\n\tret 0\n}\n");
 }
 
-fn lines(text: &mut String, count: u32) -> Result<(), AllocError> {
-    text.push_str("export function w $main() {\n@start\n\t%t0 =w copy 0\n")?;
+fn lines(text: &mut TextMaker, count: u64) {
+    text.add("export function w $main() {\n@start\n\t%t0 =w copy 0\n");
     for number in 0..count {
         let to = number % 3_999 + 1;
         let from = number % 4_000;
-        writeln!(text, "\t%t{to} =w add %t{from}, {number}")?;
+        text.add_with_numbers("\t%t# =w add %t#, #\n", &[to, from, number]);
     }
-    text.push_str("\tret %t0\n}\n")
+    text.add("\tret %t0\n}\n");
 }
 
-fn locals(text: &mut String, count: u32) -> Result<(), AllocError> {
-    text.push_str("export function w $main() {\n@start\n")?;
+fn locals(text: &mut TextMaker, count: u64) {
+    text.add("export function w $main() {\n@start\n");
     for number in 0..3_990 {
-        writeln!(text, "\t%l{number} =l alloc4 4")?;
+        text.add_with_numbers("\t%l# =l alloc4 4\n", &[number]);
     }
     for number in 0..count {
         let from = number % 3_990;
         let to = (from + 1) % 3_990;
-        writeln!(text, "\t%t =w loadw %l{from}")?;
-        writeln!(text, "\t%t =w add %t, {number}\n\tstorew %t, %l{to}")?;
+        text.add_with_numbers("\t%t =w loadw %l#\n", &[from]);
+        text.add_with_numbers("\t%t =w add %t, #\n\tstorew %t, %l#\n", &[number, to]);
     }
-    text.push_str("\tret 0\n}\n")
+    text.add("\tret 0\n}\n");
 }
 
-fn phi(text: &mut String, count: u32) -> Result<(), AllocError> {
-    text.push_str("export function w $main() {\n@start\n")?;
+fn phi(text: &mut TextMaker, count: u64) {
+    text.add("export function w $main() {\n@start\n");
     for number in 0..count {
-        writeln!(text, "@from{number}\n\tjmp @to")?;
+        text.add_with_numbers("@from#\n\tjmp @to\n", &[number]);
     }
-    text.push_str("@to\n\t%x =w phi ")?;
+    text.add("@to\n\t%x =w phi ");
     for number in 0..count {
-        write!(text, "@from{number} {number}, ")?;
+        text.add_with_numbers("@from# #, ", &[number, number]);
     }
-    text.push_str("\n\tret %x\n}\n")
+    text.add("\n\tret %x\n}\n");
 }
 
-fn bytes(text: &mut String, count: u32) -> Result<(), AllocError> {
-    text.push_str("export function w $main() {\n@start\n\tret 0\n}\ndata $d = { b ")?;
+fn bytes(text: &mut TextMaker, count: u64) {
+    text.add("export function w $main() {\n@start\n\tret 0\n}\ndata $d = { b ");
     for number in 0..count {
-        let byte = number % 100 + 100;
-        write!(text, "{byte} ")?;
+        text.add_number(number % 100 + 100);
+        text.add(" ");
     }
-    text.push_str("}\n")
+    text.add("}\n");
 }
 
 // A temporary of those that live throughout, another one for each number.
-fn kept(number: u32) -> u32 {
+fn kept(number: u64) -> u64 {
     number % KEPT
 }
 
-fn wide(text: &mut String, count: u32) -> Result<(), AllocError> {
-    text.push_str("export function w $main() {\n@start\n\t%x =w copy 0\n")?;
+fn wide(text: &mut TextMaker, count: u64) {
+    text.add("export function w $main() {\n@start\n\t%x =w copy 0\n");
     for number in 0..KEPT {
-        writeln!(text, "\t%t{number} =w copy {number}")?;
+        text.add_with_numbers("\t%t# =w copy #\n", &[number, number]);
     }
-    push_wide_blocks(text, count)?;
-    push_sum(text)
+    for number in 0..count {
+        push_wide_block(text, number, count);
+    }
+    text.add_with_numbers("@b#\n", &[count]);
+    push_sum(text);
 }
 
 // Each block reads three of them, writes a fourth one, and goes on at the next block or at the one behind it.
-fn push_wide_blocks(text: &mut String, count: u32) -> Result<(), AllocError> {
-    for number in 0..count {
-        let to = kept(number);
-        let one = kept(number.wrapping_mul(7));
-        let other = kept(number.wrapping_mul(31));
-        let next = number.saturating_add(1);
-        let second = next.saturating_add(1).min(count);
-        writeln!(text, "@b{number}\n\t%y =w add %x, %t{one}")?;
-        writeln!(text, "\t%z =w xor %y, %t{other}")?;
-        writeln!(text, "\t%t{to} =w sub %t{to}, %z")?;
-        writeln!(text, "\t%x =w add %z, {number}")?;
-        writeln!(text, "\tjnz %y, @b{next}, @b{second}")?;
-    }
-    writeln!(text, "@b{count}")
+fn push_wide_block(text: &mut TextMaker, number: u64, count: u64) {
+    let to = kept(number);
+    let one = kept(number.wrapping_mul(7));
+    let other = kept(number.wrapping_mul(31));
+    let next = number.saturating_add(1);
+    let second = next.saturating_add(1).min(count);
+    text.add_with_numbers("@b#\n\t%y =w add %x, %t#\n", &[number, one]);
+    text.add_with_numbers("\t%z =w xor %y, %t#\n", &[other]);
+    text.add_with_numbers("\t%t# =w sub %t#, %z\n", &[to, to]);
+    text.add_with_numbers("\t%x =w add %z, #\n", &[number]);
+    text.add_with_numbers("\tjnz %y, @b#, @b#\n", &[next, second]);
 }
 
-fn push_sum(text: &mut String) -> Result<(), AllocError> {
+fn push_sum(text: &mut TextMaker) {
     for number in 0..KEPT {
-        writeln!(text, "\t%x =w add %x, %t{number}")?;
+        text.add_with_numbers("\t%x =w add %x, %t#\n", &[number]);
     }
-    text.push_str("\tret %x\n}\n")
+    text.add("\tret %x\n}\n");
 }

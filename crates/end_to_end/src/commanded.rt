@@ -23,6 +23,20 @@ impl Done {
     }
 }
 
+fn written(
+    alloc: Global,
+    status: u8,
+    out: MemorySink,
+    err: MemorySink,
+) -> Result<Done, AllocError> {
+    let message = str::from_utf8(err.bytes.as_slice()).unwrap_or("no text");
+    Ok(Done {
+        status,
+        message: String::from_str(alloc, message)?,
+        output: out.bytes,
+    })
+}
+
 /// Does what the words ask for, with these streams.
 pub fn perform_with(
     alloc: Global,
@@ -33,15 +47,7 @@ pub fn perform_with(
 ) -> Result<Done, AllocError> {
     let mut how = LinearScan::new(alloc);
     let status = command(alloc, words, &mut how, disk, &mut out, &mut err);
-    let message = String::from_str(
-        alloc,
-        str::from_utf8(err.bytes.as_slice()).unwrap_or("no text"),
-    )?;
-    Ok(Done {
-        status,
-        output: out.bytes,
-        message,
-    })
+    written(alloc, status, out, err)
 }
 
 /// Does what the words ask for, with streams that take everything.
@@ -59,4 +65,25 @@ pub fn perform_words(
 ) -> Result<Done, AllocError> {
     let words: Vec<&str> = words.split(' ').collect(alloc)?;
     perform(alloc, disk, words.as_slice())
+}
+
+/// The status and the line that the words give.
+pub fn line_of_words(
+    alloc: Global,
+    disk: &mut BrokenDisk,
+    words: &str,
+) -> Result<String, AllocError> {
+    perform_words(alloc, disk, words)?.line(alloc)
+}
+
+/// Does what words between spaces ask for, with these streams.
+pub fn perform_words_with(
+    alloc: Global,
+    disk: &mut BrokenDisk,
+    words: &str,
+    out: MemorySink,
+    err: MemorySink,
+) -> Result<Done, AllocError> {
+    let words: Vec<&str> = words.split(' ').collect(alloc)?;
+    perform_with(alloc, disk, words.as_slice(), out, err)
 }

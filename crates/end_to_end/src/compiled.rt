@@ -1,11 +1,12 @@
 //! Programs compiled, and the machine's runs of their files.
 use crate::interpreted::refusal_told;
 use crate::told::stop_told;
-use elf_file::read_image;
+use elf_file::{Loaded, read_image};
 use qbec::compile::compile;
 use regalloc::strategy::Strategy;
 use rv_machine::machine::Machine;
 use rv_machine::ram::Ram;
+use rv_machine::start::StartError;
 use std::alloc::{AllocError, Global};
 use test_report::told::Told;
 
@@ -28,6 +29,27 @@ pub fn compile_with(
     }
 }
 
+fn finished<R: Ram>(alloc: Global, machine: Machine<R>, limit: u64) -> Result<Told, AllocError> {
+    let (output, stop) = machine.run(alloc, limit);
+    Ok(Told {
+        end: stop_told(alloc, stop)?,
+        output,
+    })
+}
+
+fn ran_loaded<R: Ram>(
+    alloc: Global,
+    loaded: &Loaded,
+    words: &[&[u8]],
+    limit: u64,
+) -> Result<Told, AllocError> {
+    let started: Result<Machine<R>, StartError> = Machine::start(alloc, loaded, words);
+    match started {
+        Ok(machine) => finished(alloc, machine, limit),
+        Err(_) => Told::unrun(alloc, "E8"),
+    }
+}
+
 /// How the machine ends with the file and these words, in so many instructions at most.
 pub fn ran<R: Ram>(
     alloc: Global,
@@ -35,20 +57,11 @@ pub fn ran<R: Ram>(
     words: &[&[u8]],
     limit: u64,
 ) -> Result<Told, AllocError> {
-    let loaded = match read_image(alloc, file) {
-        Ok(loaded) => loaded,
-        Err(error) => {
-            let why = format!(in alloc; "{error}")?;
-            return Told::unrun(alloc, why.as_str());
-        }
-    };
-    let machine: Machine<R> = match Machine::start(alloc, &loaded, words) {
-        Ok(machine) => machine,
-        Err(_) => return Told::unrun(alloc, "E8"),
-    };
-    let (output, stop) = machine.run(alloc, limit);
-    Ok(Told {
-        end: stop_told(alloc, stop)?,
-        output,
-    })
+    match read_image(alloc, file) {
+        Ok(loaded) => ran_loaded::<R>(alloc, &loaded, words, limit),
+        Err(error) => Ok(Told {
+            end: format!(in alloc; "{error}")?,
+            output: Vec::new(alloc),
+        }),
+    }
 }

@@ -1,6 +1,6 @@
 //! Disks and streams that fail, and lines for want of memory.
 use crate::broken_disk::BrokenDisk;
-use crate::commanded::{perform_with, perform_words};
+use crate::commanded::{Done, line_of_words, perform_words, perform_words_with};
 use commands::failure::Failure;
 use commands::refusal::Refusal;
 use commands::tell::tell;
@@ -53,17 +53,58 @@ fn executable(alloc: Global, code: &[u32]) -> Result<Vec<u8>, AllocError> {
     write_image(alloc, &Image::new(code, Vec::new(alloc)))
 }
 
+// Keeps an executable of a few words.
+fn store_code(
+    alloc: Global,
+    disk: &mut BrokenDisk,
+    path: &str,
+    code: &[u32],
+) -> Result<(), AllocError> {
+    let file = executable(alloc, code)?;
+    disk.store(path, file.as_slice())
+}
+
+fn store_all(alloc: Global, disk: &mut BrokenDisk) -> Result<(), AllocError> {
+    disk.store("halts", HALTS.as_bytes())?;
+    disk.store("seven", SEVEN.as_bytes())?;
+    let _ = perform_words(alloc, disk, "build -o made halts")?;
+    store_code(alloc, disk, "faults", &FAULTS)?;
+    store_code(alloc, disk, "exits", &EXITS)
+}
+
 /// The files `halts` and `seven`, `made`, an executable of the first, and executables of a few words: `faults` and `exits`.
 pub fn disk_of(alloc: Global) -> Result<BrokenDisk, AllocError> {
     let mut disk = BrokenDisk::new(alloc);
-    disk.store("halts", HALTS.as_bytes())?;
-    disk.store("seven", SEVEN.as_bytes())?;
-    let _ = perform_words(alloc, &mut disk, "build -o made halts")?;
-    let faults = executable(alloc, &FAULTS)?;
-    disk.store("faults", faults.as_slice())?;
-    let exits = executable(alloc, &EXITS)?;
-    disk.store("exits", exits.as_slice())?;
+    store_all(alloc, &mut disk)?;
     Ok(disk)
+}
+
+fn begin_fault(words: &str, fault: FileFault, report: &mut Report) -> Result<(), AllocError> {
+    let title = format!(in report.alloc; "{words} where the fault is {fault}")?;
+    report.begin(title.as_str())
+}
+
+fn check_line(
+    disk: &mut BrokenDisk,
+    words: &str,
+    wanted: &str,
+    report: &mut Report,
+) -> Result<(), AllocError> {
+    let line = line_of_words(report.alloc, disk, words)?;
+    report.compare("line", wanted, line.as_str())?;
+    report.holds("no file is written", disk.find("out").is_none())
+}
+
+fn check_disk(
+    words: &str,
+    wanted: &str,
+    fault: FileFault,
+    report: &mut Report,
+) -> Result<(), AllocError> {
+    begin_fault(words, fault, report)?;
+    let mut disk = disk_of(report.alloc)?;
+    disk.fault = fault;
+    check_line(&mut disk, words, wanted, report)
 }
 
 fn check_disks(
@@ -71,99 +112,142 @@ fn check_disks(
     fault: FileFault,
     report: &mut Report,
 ) -> Result<(), AllocError> {
-    let alloc = report.alloc;
     for (words, wanted) in rows {
-        let title = format!(in alloc; "{words} where the fault is {fault}")?;
-        report.begin(title.as_str())?;
-        let mut disk = disk_of(alloc)?;
-        disk.fault = fault;
-        let said = perform_words(alloc, &mut disk, *words)?;
-        let line = said.line(alloc)?;
-        report.compare("line", *wanted, line.as_str())?;
-        report.holds("no file is written", disk.find("out").is_none())?;
+        check_disk(*words, *wanted, fault, report)?;
     }
     Ok(())
+}
+
+// What the words do on a disk of their own, with these streams.
+fn done_with(
+    alloc: Global,
+    words: &str,
+    out: MemorySink,
+    err: MemorySink,
+) -> Result<Done, AllocError> {
+    let mut disk = disk_of(alloc)?;
+    perform_words_with(alloc, &mut disk, words, out, err)
+}
+
+// What they do where nothing fails.
+fn done_whole(alloc: Global, words: &str) -> Result<Done, AllocError> {
+    let out = MemorySink::new(alloc, 1 << 30, 0);
+    let err = MemorySink::new(alloc, 1, 0);
+    done_with(alloc, words, out, err)
+}
+
+fn compare_lines(wanted: &Done, said: &Done, report: &mut Report) -> Result<(), AllocError> {
+    let wanted = wanted.line(report.alloc)?;
+    let said = said.line(report.alloc)?;
+    report.compare("line", wanted.as_str(), said.as_str())
+}
+
+fn check_cannot_write(said: &Done, report: &mut Report) -> Result<(), AllocError> {
+    let line = said.line(report.alloc)?;
+    report.compare(
+        "line",
+        "126 qbec: cannot write standard output",
+        line.as_str(),
+    )
+}
+
+// A beginning of the whole output, of a byte for each call where a call takes one byte.
+fn check_beginning(
+    whole: &Done,
+    said: &Done,
+    most: usize,
+    fails_at: u64,
+    report: &mut Report,
+) -> Result<(), AllocError> {
+    let all = whole.output.as_slice();
+    let length = said.output.len();
+    report.holds("a beginning", all.starts_with(said.output.as_slice()))?;
+    if length == all.len() {
+        return compare_lines(whole, said, report);
+    }
+    check_cannot_write(said, report)?;
+    let before = fails_at.saturating_sub(1);
+    report.holds(
+        "as many bytes as calls",
+        most > 1 || length as u64 == before,
+    )
 }
 
 // The output and the line with an output that takes so many bytes a call, and fails at that call.
 fn check_output(
     words: &str,
+    whole: &Done,
     most: usize,
     fails_at: u64,
     report: &mut Report,
 ) -> Result<(), AllocError> {
-    let alloc = report.alloc;
-    let mut disk = disk_of(alloc)?;
-    let whole = perform_words(alloc, &mut disk, words)?;
-    let list: Vec<&str> = words.split(' ').collect(alloc)?;
-    let out = MemorySink::new(alloc, most, fails_at);
-    let err = MemorySink::new(alloc, 1, 0);
-    let said = perform_with(alloc, &mut disk, list.as_slice(), out, err)?;
-    let line = said.line(alloc)?;
-    let all = whole.output.as_slice();
-    report.holds("a beginning", all.starts_with(said.output.as_slice()))?;
-    if said.output.len() == all.len() {
-        let wanted = whole.line(alloc)?;
-        return report.compare("line", wanted.as_str(), line.as_str());
-    }
-    report.compare(
-        "line",
-        "126 qbec: cannot write standard output",
-        line.as_str(),
-    )?;
-    let before = fails_at.saturating_sub(1);
-    report.holds(
-        "as many bytes as calls",
-        most > 1 || said.output.len() as u64 == before,
-    )
+    let out = MemorySink::new(report.alloc, most, fails_at);
+    let err = MemorySink::new(report.alloc, 1, 0);
+    let said = done_with(report.alloc, words, out, err)?;
+    check_beginning(whole, &said, most, fails_at, report)
+}
+
+fn begin_output(words: &str, most: usize, report: &mut Report) -> Result<(), AllocError> {
+    let title = format!(in report.alloc; "{words} to an output of {most} bytes a call")?;
+    report.begin(title.as_str())
 }
 
 fn check_outputs(words: &str, report: &mut Report) -> Result<(), AllocError> {
+    let whole = done_whole(report.alloc, words)?;
     for (most, last) in [(1, 40), (3, 12), (100_000, 5)] {
-        let title = format!(in report.alloc; "{words} to an output of {most} bytes a call")?;
-        report.begin(title.as_str())?;
+        begin_output(words, most, report)?;
         for fails_at in 0..last + 1 {
-            check_output(words, most, fails_at, report)?;
+            check_output(words, &whole, most, fails_at, report)?;
         }
     }
     Ok(())
 }
 
+fn begin_closed(words: &str, report: &mut Report) -> Result<(), AllocError> {
+    let title = format!(in report.alloc; "{words} to an output that takes nothing")?;
+    report.begin(title.as_str())
+}
+
 // An output that takes no byte.
 fn check_closed(words: &str, report: &mut Report) -> Result<(), AllocError> {
-    let alloc = report.alloc;
-    let title = format!(in alloc; "{words} to an output that takes nothing")?;
-    report.begin(title.as_str())?;
-    let mut disk = disk_of(alloc)?;
-    let list: Vec<&str> = words.split(' ').collect(alloc)?;
-    let out = MemorySink::new(alloc, 0, 0);
-    let err = MemorySink::new(alloc, 1, 0);
-    let said = perform_with(alloc, &mut disk, list.as_slice(), out, err)?;
-    let line = said.line(alloc)?;
-    report.compare(
-        "line",
-        "126 qbec: cannot write standard output",
-        line.as_str(),
-    )?;
+    begin_closed(words, report)?;
+    let out = MemorySink::new(report.alloc, 0, 0);
+    let err = MemorySink::new(report.alloc, 1, 0);
+    let said = done_with(report.alloc, words, out, err)?;
+    check_cannot_write(&said, report)?;
     report.holds("nothing goes out", said.output.is_empty())
+}
+
+fn begin_message(words: &str, report: &mut Report) -> Result<(), AllocError> {
+    let title = format!(in report.alloc; "{words} where standard error fails")?;
+    report.begin(title.as_str())
+}
+
+fn check_begun(whole: &Done, said: &Done, report: &mut Report) -> Result<(), AllocError> {
+    report.holds("status", said.status == whole.status)?;
+    report.holds("output", said.output.as_slice() == whole.output.as_slice())?;
+    let message = said.message.as_str();
+    report.holds("message", whole.message.as_str().starts_with(message))
+}
+
+fn check_message_at(
+    words: &str,
+    whole: &Done,
+    fails_at: u64,
+    report: &mut Report,
+) -> Result<(), AllocError> {
+    let out = MemorySink::new(report.alloc, 1, 0);
+    let err = MemorySink::new(report.alloc, 2, fails_at);
+    let said = done_with(report.alloc, words, out, err)?;
+    check_begun(whole, &said, report)
 }
 
 // A standard error that fails changes neither status nor output.
 fn check_message(words: &str, report: &mut Report) -> Result<(), AllocError> {
-    let alloc = report.alloc;
-    let title = format!(in alloc; "{words} where standard error fails")?;
-    report.begin(title.as_str())?;
-    let mut disk = disk_of(alloc)?;
-    let whole = perform_words(alloc, &mut disk, words)?;
-    let list: Vec<&str> = words.split(' ').collect(alloc)?;
+    begin_message(words, report)?;
+    let whole = done_whole(report.alloc, words)?;
     for fails_at in 1..9 {
-        let out = MemorySink::new(alloc, 1, 0);
-        let err = MemorySink::new(alloc, 2, fails_at);
-        let said = perform_with(alloc, &mut disk, list.as_slice(), out, err)?;
-        report.holds("status", said.status == whole.status)?;
-        report.holds("output", said.output.as_slice() == whole.output.as_slice())?;
-        let message = said.message.as_str();
-        report.holds("message", whole.message.as_str().starts_with(message))?;
+        check_message_at(words, &whole, fails_at, report)?;
     }
     Ok(())
 }

@@ -3,7 +3,7 @@
 //! A line of `files.cases` is an offset, the bytes that are put there in hexadecimal, and the refusals that are true of the file then, with `|` between.
 use crate::broken_disk::BrokenDisk;
 use crate::case::{Case, slices};
-use crate::commanded::perform_words;
+use crate::commanded::line_of_words;
 use crate::compiled::{Compiled, compile_with};
 use crate::table::bytes_of;
 use regalloc::spill_all::SpillAll;
@@ -12,13 +12,21 @@ use std::rt::Files;
 use std::{fs, io, str};
 use test_report::report::Report;
 
+fn line_on(
+    alloc: Global,
+    disk: &mut BrokenDisk,
+    verb: &str,
+    bytes: &[u8],
+) -> Result<String, AllocError> {
+    disk.store("file", bytes)?;
+    let words = format!(in alloc; "{verb} file")?;
+    line_of_words(alloc, disk, words.as_str())
+}
+
 // The line of `verb` for a file of these bytes.
 fn line_for(alloc: Global, verb: &str, bytes: &[u8]) -> Result<String, AllocError> {
     let mut disk = BrokenDisk::new(alloc);
-    disk.store("file", bytes)?;
-    let words = format!(in alloc; "{verb} file")?;
-    let said = perform_words(alloc, &mut disk, words.as_str())?;
-    said.line(alloc)
+    line_on(alloc, &mut disk, verb, bytes)
 }
 
 fn check_cuts(file: &[u8], report: &mut Report) -> Result<(), AllocError> {
@@ -44,23 +52,39 @@ fn changed(alloc: Global, file: &[u8], offset: usize, bytes: &[u8]) -> Result<Ve
     Ok(changed)
 }
 
-fn check_change(file: &[u8], line: &str, report: &mut Report) -> Result<(), AllocError> {
-    let alloc = report.alloc;
-    let (offset, rest) = line.split_once(' ').unwrap_or((line, ""));
-    let (bytes, wanted) = rest.split_once(' ').unwrap_or((rest, ""));
-    report.begin(line)?;
-    let bytes = bytes_of(alloc, bytes)?;
+// The file is refused by one of the numbers between `|`.
+fn check_refused(
+    verb: &str,
+    file: &[u8],
+    numbers: &str,
+    report: &mut Report,
+) -> Result<(), AllocError> {
+    let line = line_for(report.alloc, verb, file)?;
+    let number = line
+        .as_str()
+        .strip_prefix("126 qbec: refused ")
+        .unwrap_or("none");
+    report.holds(verb, numbers.split('|').any(|w| w == number))
+}
+
+fn changed_by(
+    alloc: Global,
+    file: &[u8],
+    offset: &str,
+    digits: &str,
+) -> Result<Vec<u8>, AllocError> {
+    let bytes = bytes_of(alloc, digits)?;
     let offset = offset.parse::<usize>().unwrap_or(0);
-    let other = changed(alloc, file, offset, bytes.as_slice())?;
-    for verb in ["run", "dis"] {
-        let line = line_for(alloc, verb, other.as_slice())?;
-        let number = line
-            .as_str()
-            .strip_prefix("126 qbec: refused ")
-            .unwrap_or("none");
-        report.holds(verb, wanted.split('|').any(|w| w == number))?;
-    }
-    Ok(())
+    changed(alloc, file, offset, bytes.as_slice())
+}
+
+fn check_change(file: &[u8], line: &str, report: &mut Report) -> Result<(), AllocError> {
+    let (offset, rest) = line.split_once(' ').unwrap_or((line, ""));
+    let (digits, numbers) = rest.split_once(' ').unwrap_or((rest, ""));
+    report.begin(line)?;
+    let other = changed_by(report.alloc, file, offset, digits)?;
+    check_refused("run", other.as_slice(), numbers, report)?;
+    check_refused("dis", other.as_slice(), numbers, report)
 }
 
 fn check_file(file: &[u8], changes: &str, report: &mut Report) -> Result<(), AllocError> {
@@ -73,13 +97,21 @@ fn check_file(file: &[u8], changes: &str, report: &mut Report) -> Result<(), All
     Ok(())
 }
 
-fn check_case(case: &Case, changes: &str, report: &mut Report) -> Result<(), AllocError> {
-    let alloc = report.alloc;
+fn check_head(file: &[u8], report: &mut Report) -> Result<(), AllocError> {
+    report.begin("the head of a file")?;
+    report.holds("head", file.starts_with(HEAD))
+}
+
+fn compiled_case(alloc: Global, case: &Case) -> Result<Compiled, AllocError> {
     let texts = slices(alloc, &case.texts)?;
-    match compile_with(alloc, texts.as_slice(), &mut SpillAll::new(alloc))? {
+    compile_with(alloc, texts.as_slice(), &mut SpillAll::new(alloc))
+}
+
+fn check_case(case: &Case, changes: &str, report: &mut Report) -> Result<(), AllocError> {
+    let compiled = compiled_case(report.alloc, case)?;
+    match &compiled {
         Compiled::File(file) => {
-            report.begin("the head of a file")?;
-            report.holds("head", file.as_slice().starts_with(HEAD))?;
+            check_head(file.as_slice(), report)?;
             check_file(file.as_slice(), changes, report)
         }
         Compiled::Refused(why) => report.fail("compile", "a file", why.as_str()),

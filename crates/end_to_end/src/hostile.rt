@@ -70,39 +70,77 @@ const ANSWERS: [Answer; 39] = [
     },
 ];
 
+/// A program of the table, as slices.
+#[derive(Drop)]
+struct Program<'p> {
+    case: &'p Case,
+    texts: &'p [&'p [u8]],
+    words: &'p [&'p [u8]],
+}
+
+fn check_file(
+    program: &Program<'_>,
+    what: &str,
+    file: &[u8],
+    report: &mut Report,
+) -> Result<(), AllocError> {
+    let limit = program.case.instructions_given();
+    let said = ran::<PageRam>(report.alloc, file, program.words, limit)?;
+    report.compare_runs(what, &program.case.wanted, &said)
+}
+
+fn check_once(
+    program: &Program<'_>,
+    what: &str,
+    how: &mut Fixed,
+    report: &mut Report,
+) -> Result<(), AllocError> {
+    let compiled = compile_with(report.alloc, program.texts, how)?;
+    match &compiled {
+        Compiled::File(file) => check_file(program, what, file.as_slice(), report),
+        Compiled::Refused(why) => report.fail(what, "a file", why.as_str()),
+    }
+}
+
+fn begin(name: &str, answer: Answer, report: &mut Report) -> Result<(), AllocError> {
+    let title = format!(in report.alloc; "{name} by {answer:?}")?;
+    report.begin(title.as_str())
+}
+
 // The program's executable by this strategy ends as is wanted, twice, since a strategy may change its answer.
-fn check_answer(case: &Case, answer: Answer, report: &mut Report) -> Result<(), AllocError> {
-    let alloc = report.alloc;
-    let texts = slices(alloc, &case.texts)?;
-    let words = words_as_bytes(alloc, &case.words)?;
-    let mut how = Fixed::new(alloc, answer);
-    for what in ["first time", "second time"] {
-        match compile_with(alloc, texts.as_slice(), &mut how)? {
-            Compiled::File(file) => {
-                let limit = case.instructions_given();
-                let said = ran::<PageRam>(alloc, file.as_slice(), words.as_slice(), limit)?;
-                report.compare_runs(what, &case.wanted, &said)?;
-            }
-            Compiled::Refused(why) => report.fail(what, "a file", why.as_str())?,
-        }
+fn check_answer(
+    program: &Program<'_>,
+    answer: Answer,
+    report: &mut Report,
+) -> Result<(), AllocError> {
+    begin(program.case.name.as_str(), answer, report)?;
+    let mut how = Fixed::new(report.alloc, answer);
+    check_once(program, "first time", &mut how, report)?;
+    check_once(program, "second time", &mut how, report)
+}
+
+fn check_answers(program: &Program<'_>, report: &mut Report) -> Result<(), AllocError> {
+    for answer in ANSWERS {
+        check_answer(program, answer, report)?;
     }
     Ok(())
 }
 
 fn check_case(case: &Case, report: &mut Report) -> Result<(), AllocError> {
-    for answer in ANSWERS {
-        let name = case.name.as_str();
-        let title = format!(in report.alloc; "{name} by {answer:?}")?;
-        report.begin(title.as_str())?;
-        check_answer(case, answer, report)?;
-    }
-    Ok(())
+    let texts = slices(report.alloc, &case.texts)?;
+    let words = words_as_bytes(report.alloc, &case.words)?;
+    let program = Program {
+        case,
+        texts: texts.as_slice(),
+        words: words.as_slice(),
+    };
+    check_answers(&program, report)
 }
 
 /// Checks the programs that the strategies are tried on.
 pub fn check(cases: &[Case], report: &mut Report) -> Result<(), AllocError> {
     for case in cases {
-        if case.is_tried {
+        if case.marks.is_tried {
             check_case(case, report)?;
         }
     }

@@ -3,6 +3,7 @@ use crate::measures::{needs_of, weights_of};
 use crate::told::end_told;
 use il_interp::interpret::interpret;
 use il_types::checked::Checked;
+use obj_link::linked::Linked;
 use obj_link::resolve::resolve;
 use qbec::error::{CompileError, link_refusal};
 use qbec::texts::checked_texts;
@@ -33,28 +34,40 @@ pub fn refusal_told(alloc: Global, error: CompileError) -> Result<String, AllocE
     }
 }
 
+fn refused(alloc: Global, error: CompileError) -> Result<Told, AllocError> {
+    Ok(Told {
+        end: refusal_told(alloc, error)?,
+        output: Vec::new(alloc),
+    })
+}
+
+fn run_told(
+    alloc: Global,
+    linked: &Linked,
+    words: &[&[u8]],
+    turns: u64,
+) -> Result<Told, AllocError> {
+    match interpret(alloc, linked, words, turns) {
+        Ok((output, end)) => Ok(Told {
+            end: end_told(alloc, end)?,
+            output,
+        }),
+        Err(error) => Ok(Told {
+            end: format!(in alloc; "{error}")?,
+            output: Vec::new(alloc),
+        }),
+    }
+}
+
 fn linked_told(
     alloc: Global,
     texts: &[Checked],
     words: &[&[u8]],
     turns: u64,
 ) -> Result<Told, AllocError> {
-    let linked = match resolve(alloc, texts) {
-        Ok(linked) => linked,
-        Err(error) => {
-            let why = refusal_told(alloc, link_refusal(alloc, error))?;
-            return Told::unrun(alloc, why.as_str());
-        }
-    };
-    match interpret(alloc, &linked, words, turns) {
-        Ok((output, end)) => Ok(Told {
-            end: end_told(alloc, end)?,
-            output,
-        }),
-        Err(error) => {
-            let why = format!(in alloc; "{error}")?;
-            Told::unrun(alloc, why.as_str())
-        }
+    match resolve(alloc, texts) {
+        Ok(linked) => run_told(alloc, &linked, words, turns),
+        Err(error) => refused(alloc, link_refusal(alloc, error)),
     }
 }
 
@@ -67,20 +80,20 @@ pub fn interpreted(
 ) -> Result<Told, AllocError> {
     match checked_texts(alloc, texts) {
         Ok(checked) => linked_told(alloc, checked.as_slice(), words, turns),
-        Err(error) => {
-            let why = refusal_told(alloc, error)?;
-            Told::unrun(alloc, why.as_str())
-        }
+        Err(error) => refused(alloc, error),
     }
+}
+
+fn measures_of(alloc: Global, texts: &[Checked]) -> Result<(String, String), AllocError> {
+    let needs = needs_of(alloc, texts)?;
+    let weights = weights_of(alloc, texts)?;
+    Ok((needs, weights))
 }
 
 /// What the functions of the texts need and weigh.
 pub fn measured(alloc: Global, texts: &[&[u8]]) -> Result<(String, String), AllocError> {
     match checked_texts(alloc, texts) {
-        Ok(checked) => Ok((
-            needs_of(alloc, checked.as_slice())?,
-            weights_of(alloc, checked.as_slice())?,
-        )),
+        Ok(checked) => measures_of(alloc, checked.as_slice()),
         Err(_) => Ok((String::new(alloc), String::new(alloc))),
     }
 }

@@ -24,27 +24,39 @@ fn number(end: &str) -> &str {
     }
 }
 
+fn check_prefix_of_zero(text: &[u8], wanted: &str, report: &mut Report) -> Result<(), AllocError> {
+    let said = interpreted(report.alloc, &[text], &[], 9)?;
+    report.compare("beginning", wanted, number(said.end.as_str()))
+}
+
 fn check_prefixes_of_zero(text: &[u8], report: &mut Report) -> Result<(), AllocError> {
     report.begin("each beginning of a text of one line")?;
     for length in 0..text.len() {
-        let said = interpreted(report.alloc, &[&text[..length]], &[], 9)?;
         let wanted = wanted_of_zero(length, text.len());
-        report.compare("beginning", wanted, number(said.end.as_str()))?;
+        check_prefix_of_zero(&text[..length], wanted, report)?;
     }
     Ok(())
 }
 
+fn is_possible(number: &str) -> bool {
+    number == "E1" || number == "E5" || !number.starts_with("E")
+}
+
+fn check_prefix(text: &[u8], report: &mut Report) -> Result<(), AllocError> {
+    let said = interpreted(report.alloc, &[text], &[], 100_000)?;
+    report.holds("beginning", is_possible(number(said.end.as_str())))
+}
+
+fn begin_prefixes(name: &str, report: &mut Report) -> Result<(), AllocError> {
+    let title = format!(in report.alloc; "each beginning of {name}")?;
+    report.begin(title.as_str())
+}
+
 // Each is refused as no text of the grammar or for want of a `main`, or accepted.
 fn check_prefixes(name: &str, text: &[u8], report: &mut Report) -> Result<(), AllocError> {
-    let title = format!(in report.alloc; "each beginning of {name}")?;
-    report.begin(title.as_str())?;
+    begin_prefixes(name, report)?;
     for length in 0..text.len() {
-        let said = interpreted(report.alloc, &[&text[..length]], &[], 100_000)?;
-        let said = number(said.end.as_str());
-        report.holds(
-            "beginning",
-            said == "E1" || said == "E5" || !said.starts_with("E"),
-        )?;
+        check_prefix(&text[..length], report)?;
     }
     Ok(())
 }
@@ -60,30 +72,47 @@ fn with_byte(text: &[u8], place: usize, byte: u8, report: &Report) -> Result<Vec
     Ok(changed)
 }
 
-fn check_byte(text: &[u8], byte: u8, report: &mut Report) -> Result<(), AllocError> {
+fn begin_byte(byte: u8, report: &mut Report) -> Result<(), AllocError> {
     let title = format!(in report.alloc; "byte {byte} at each place")?;
-    report.begin(title.as_str())?;
+    report.begin(title.as_str())
+}
+
+fn check_byte_at(
+    text: &[u8],
+    place: usize,
+    byte: u8,
+    report: &mut Report,
+) -> Result<(), AllocError> {
+    let changed = with_byte(text, place, byte, report)?;
+    let said = interpreted(report.alloc, &[changed.as_slice()], &[], 9)?;
+    report.compare("byte", "E1", number(said.end.as_str()))
+}
+
+fn check_byte(text: &[u8], byte: u8, report: &mut Report) -> Result<(), AllocError> {
+    begin_byte(byte, report)?;
     for place in 0..text.len() {
-        let changed = with_byte(text, place, byte, report)?;
-        let said = interpreted(report.alloc, &[changed.as_slice()], &[], 9)?;
-        report.compare("byte", "E1", number(said.end.as_str()))?;
+        check_byte_at(text, place, byte, report)?;
     }
     Ok(())
+}
+
+fn check_case(name: &str, text: &[u8], report: &mut Report) -> Result<(), AllocError> {
+    match name {
+        "zero" => {
+            check_prefixes_of_zero(text, report)?;
+            check_byte(text, 13, report)?;
+            check_byte(text, 0, report)
+        }
+        "sum_loop" | "data_layout" => check_prefixes(name, text, report),
+        _ => Ok(()),
+    }
 }
 
 /// Checks beginnings of texts of the table.
 pub fn check(cases: &[Case], report: &mut Report) -> Result<(), AllocError> {
     for case in cases {
-        let name = case.name.as_str();
         if let Some(text) = case.texts.first() {
-            if name == "zero" {
-                check_prefixes_of_zero(text.as_slice(), report)?;
-                check_byte(text.as_slice(), 13, report)?;
-                check_byte(text.as_slice(), 0, report)?;
-            }
-            if name == "sum_loop" || name == "data_layout" {
-                check_prefixes(name, text.as_slice(), report)?;
-            }
+            check_case(case.name.as_str(), text.as_slice(), report)?;
         }
     }
     Ok(())

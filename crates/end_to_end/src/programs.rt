@@ -8,32 +8,49 @@ use crate::watched::Watched;
 use regalloc::spill_all::SpillAll;
 use rv_machine::flat_ram::FlatRam;
 use rv_machine::page_ram::PageRam;
+use rv_machine::ram::Ram;
 use std::alloc::{AllocError, Global};
 use std::str;
 use test_report::report::Report;
 use test_report::told::Told;
+use text_maker::maker::TextMaker;
 
 /// Checks a case in every way that it can be.
 pub fn check(case: &Case, report: &mut Report) -> Result<(), AllocError> {
-    let alloc = report.alloc;
     report.begin(case.name.as_str())?;
-    let texts = slices(alloc, &case.texts)?;
-    let words = words_as_bytes(alloc, &case.words)?;
-    let said = interpreted(
-        alloc,
-        texts.as_slice(),
-        words.as_slice(),
-        case.turns_given(),
-    )?;
-    report.compare_runs("interpreter", &case.wanted, &said)?;
-    check_turns(case, texts.as_slice(), words.as_slice(), report)?;
-    check_measures(case, texts.as_slice(), report)?;
-    if case.is_refused() {
-        check_refused(case, texts.as_slice(), report)?;
-    } else {
-        check_compiled(case, texts.as_slice(), words.as_slice(), report)?;
-    }
+    check_program(case, report)?;
     check_commands(case, report)
+}
+
+fn check_program(case: &Case, report: &mut Report) -> Result<(), AllocError> {
+    let texts = slices(report.alloc, &case.texts)?;
+    let words = words_as_bytes(report.alloc, &case.words)?;
+    check_ways(case, texts.as_slice(), words.as_slice(), report)
+}
+
+fn check_ways(
+    case: &Case,
+    texts: &[&[u8]],
+    words: &[&[u8]],
+    report: &mut Report,
+) -> Result<(), AllocError> {
+    check_interpreted(case, texts, words, report)?;
+    check_turns(case, texts, words, report)?;
+    check_measures(case, texts, report)?;
+    if case.is_refused() {
+        return check_refused(case, texts, report);
+    }
+    check_compiled(case, texts, words, report)
+}
+
+fn check_interpreted(
+    case: &Case,
+    texts: &[&[u8]],
+    words: &[&[u8]],
+    report: &mut Report,
+) -> Result<(), AllocError> {
+    let said = interpreted(report.alloc, texts, words, case.turns_given())?;
+    report.compare_runs("interpreter", &case.wanted, &said)
 }
 
 // With a turn less it isn't over.
@@ -43,7 +60,7 @@ fn check_turns(
     words: &[&[u8]],
     report: &mut Report,
 ) -> Result<(), AllocError> {
-    match case.turns {
+    match case.bounds.turns {
         Some(turns) => {
             let said = interpreted(report.alloc, texts, words, turns.saturating_sub(1))?;
             report.compare("a turn less", "limit", said.end.as_str())
@@ -57,22 +74,29 @@ fn check_measures(case: &Case, texts: &[&[u8]], report: &mut Report) -> Result<(
         return Ok(());
     }
     let (needs, weights) = measured(report.alloc, texts)?;
-    if !case.needs.is_empty() {
-        report.compare("needs", case.needs.as_str(), needs.as_str())?;
+    compare_told("needs", case.needs.as_str(), needs.as_str(), report)?;
+    compare_told("weights", case.weights.as_str(), weights.as_str(), report)
+}
+
+// What isn't told may be anything.
+fn compare_told(
+    what: &str,
+    wanted: &str,
+    said: &str,
+    report: &mut Report,
+) -> Result<(), AllocError> {
+    if wanted.is_empty() {
+        return Ok(());
     }
-    if !case.weights.is_empty() {
-        report.compare("weights", case.weights.as_str(), weights.as_str())?;
-    }
-    Ok(())
+    report.compare(what, wanted, said)
 }
 
 fn check_refused(case: &Case, texts: &[&[u8]], report: &mut Report) -> Result<(), AllocError> {
-    let alloc = report.alloc;
-    match compile_with(alloc, texts, &mut SpillAll::new(alloc))? {
-        Compiled::File(_) => report.fail("compile", case.wanted.end.as_str(), "a file"),
-        Compiled::Refused(why) => {
-            report.compare("compile", case.wanted.end.as_str(), why.as_str())
-        }
+    let compiled = compile_with(report.alloc, texts, &mut SpillAll::new(report.alloc))?;
+    let wanted = case.wanted.end.as_str();
+    match &compiled {
+        Compiled::File(_) => report.fail("compile", wanted, "a file"),
+        Compiled::Refused(why) => report.compare("compile", wanted, why.as_str()),
     }
 }
 
@@ -86,39 +110,38 @@ fn check_run(case: &Case, what: &str, said: &Told, report: &mut Report) -> Resul
     }
 }
 
+fn check_run_over<R: Ram>(
+    case: &Case,
+    what: &str,
+    file: &[u8],
+    words: &[&[u8]],
+    report: &mut Report,
+) -> Result<(), AllocError> {
+    let said = ran::<R>(report.alloc, file, words, case.instructions_given())?;
+    check_run(case, what, &said, report)
+}
+
 fn check_file(
     case: &Case,
     file: &[u8],
     words: &[&[u8]],
     report: &mut Report,
 ) -> Result<(), AllocError> {
-    let alloc = report.alloc;
-    let limit = case.instructions_given();
-    let said = ran::<PageRam>(alloc, file, words, limit)?;
-    check_run(case, "run over pages", &said, report)?;
-    if case.is_large {
+    check_run_over::<PageRam>(case, "run over pages", file, words, report)?;
+    if case.marks.is_large {
         return Ok(());
     }
-    let said = ran::<FlatRam>(alloc, file, words, limit)?;
-    check_run(case, "run over flat memory", &said, report)
+    check_run_over::<FlatRam>(case, "run over flat memory", file, words, report)
 }
 
-// Every register in a slot.
-fn check_spilled(
-    case: &Case,
-    texts: &[&[u8]],
-    words: &[&[u8]],
-    report: &mut Report,
-) -> Result<Vec<u8>, AllocError> {
+// The file with every register in a slot; it is empty where there is none.
+fn spilled(case: &Case, texts: &[&[u8]], report: &mut Report) -> Result<Vec<u8>, AllocError> {
     let alloc = report.alloc;
-    if case.is_large {
+    if case.marks.is_large {
         return Ok(Vec::new(alloc));
     }
     match compile_with(alloc, texts, &mut SpillAll::new(alloc))? {
-        Compiled::File(file) => {
-            check_file(case, file.as_slice(), words, report)?;
-            Ok(file)
-        }
+        Compiled::File(file) => Ok(file),
         Compiled::Refused(why) => {
             report.fail("compile in slots", "a file", why.as_str())?;
             Ok(Vec::new(alloc))
@@ -131,29 +154,61 @@ fn functions_of(alloc: Global, texts: &[&[u8]]) -> Result<u64, AllocError> {
     Ok(weights.as_str().split_whitespace().count() as u64)
 }
 
-// By linear scan: it is asked once for each function, and each time its answer is accepted.
 fn check_compiled(
     case: &Case,
     texts: &[&[u8]],
     words: &[&[u8]],
     report: &mut Report,
 ) -> Result<(), AllocError> {
-    let alloc = report.alloc;
-    let spilled = check_spilled(case, texts, words, report)?;
-    let mut how = Watched::new(alloc);
-    match compile_with(alloc, texts, &mut how)? {
-        Compiled::File(file) => {
-            check_file(case, file.as_slice(), words, report)?;
-            if case.differs {
-                report.holds("bytes differ", spilled.as_slice() != file.as_slice())?;
-            }
-        }
-        Compiled::Refused(why) => report.fail("compile", "a file", why.as_str())?,
+    let spilled = spilled(case, texts, report)?;
+    if !case.marks.is_large {
+        check_file(case, spilled.as_slice(), words, report)?;
     }
+    check_scanned(case, texts, words, spilled.as_slice(), report)
+}
+
+// By linear scan.
+fn check_scanned(
+    case: &Case,
+    texts: &[&[u8]],
+    words: &[&[u8]],
+    spilled: &[u8],
+    report: &mut Report,
+) -> Result<(), AllocError> {
+    let mut how = Watched::new(report.alloc);
+    let compiled = compile_with(report.alloc, texts, &mut how)?;
+    check_scanned_file(case, &compiled, words, spilled, report)?;
+    let functions = functions_of(report.alloc, texts)?;
+    check_watched(case, &how, functions, report)
+}
+
+fn check_scanned_file(
+    case: &Case,
+    compiled: &Compiled,
+    words: &[&[u8]],
+    spilled: &[u8],
+    report: &mut Report,
+) -> Result<(), AllocError> {
+    match compiled {
+        Compiled::File(file) => {
+            let differs = spilled != file.as_slice();
+            report.holds("bytes differ", differs || !case.marks.differs)?;
+            check_file(case, file.as_slice(), words, report)
+        }
+        Compiled::Refused(why) => report.fail("compile", "a file", why.as_str()),
+    }
+}
+
+// Linear scan is asked once for each function, and each time its answer is accepted.
+fn check_watched(
+    case: &Case,
+    how: &Watched,
+    functions: u64,
+    report: &mut Report,
+) -> Result<(), AllocError> {
     report.holds("each certificate is accepted", how.accepted == how.asked)?;
-    report.holds("a value is moved", 0 < how.moves || !case.is_cut)?;
-    report.holds("registers are named", how.named >= case.registers)?;
-    let functions = functions_of(alloc, texts)?;
+    report.holds("a value is moved", 0 < how.moves || !case.marks.is_cut)?;
+    report.holds("registers are named", how.named >= case.bounds.registers)?;
     report.holds("once for each function", how.asked == functions)
 }
 
@@ -172,9 +227,8 @@ fn line_of(alloc: Global, end: &str) -> Result<String, AllocError> {
 }
 
 fn check_done(case: &Case, what: &str, done: &Done, report: &mut Report) -> Result<(), AllocError> {
-    let alloc = report.alloc;
-    let wanted = line_of(alloc, case.wanted.end.as_str())?;
-    let line = done.line(alloc)?;
+    let wanted = line_of(report.alloc, case.wanted.end.as_str())?;
+    let line = done.line(report.alloc)?;
     report.compare(what, wanted.as_str(), line.as_str())?;
     report.holds(
         what,
@@ -183,47 +237,84 @@ fn check_done(case: &Case, what: &str, done: &Done, report: &mut Report) -> Resu
 }
 
 fn check_commands(case: &Case, report: &mut Report) -> Result<(), AllocError> {
+    let mut disk = BrokenDisk::new(report.alloc);
+    check_on(case, &mut disk, report)
+}
+
+fn check_on(case: &Case, disk: &mut BrokenDisk, report: &mut Report) -> Result<(), AllocError> {
     let alloc = report.alloc;
-    let mut disk = BrokenDisk::new(alloc);
-    let mut build = String::from_str(alloc, "build -o out")?;
-    for (k, text) in case.texts.iter().enumerate() {
-        let path = format!(in alloc; "text{k}")?;
-        disk.store(path.as_str(), text.as_slice())?;
-        write!(&mut build, " {path}")?;
+    for (number, text) in case.texts.iter().enumerate() {
+        store_text(alloc, disk, number, text.as_slice())?;
     }
     if case.texts.len() > 0 {
-        check_build(case, &mut disk, build.as_str(), report)?;
+        check_build(case, disk, report)?;
     }
     if case.texts.len() == 1 {
-        let said = run_words(
-            case,
-            &mut disk,
-            "interp",
-            case.turns_given(),
-            "text0",
-            alloc,
-        )?;
-        check_done(case, "interp", &said, report)?;
+        let turns = case.turns_given();
+        check_words(case, disk, "interp", turns, "text0", report)?;
     }
     Ok(())
 }
 
+fn store_text(
+    alloc: Global,
+    disk: &mut BrokenDisk,
+    number: usize,
+    text: &[u8],
+) -> Result<(), AllocError> {
+    let path = format!(in alloc; "text{number}")?;
+    disk.store(path.as_str(), text)
+}
+
 // `interp` or `run` of a file, with the case's words.
+fn check_words(
+    case: &Case,
+    disk: &mut BrokenDisk,
+    verb: &str,
+    limit: u64,
+    path: &str,
+    report: &mut Report,
+) -> Result<(), AllocError> {
+    let said = said_of(case, disk, verb, limit, path, report.alloc)?;
+    check_done(case, verb, &said, report)
+}
+
+fn said_of(
+    case: &Case,
+    disk: &mut BrokenDisk,
+    verb: &str,
+    limit: u64,
+    path: &str,
+    alloc: Global,
+) -> Result<Done, AllocError> {
+    let limit = format!(in alloc; "{limit}")?;
+    run_words(case, disk, verb, limit.as_str(), path, alloc)
+}
+
 fn run_words<'x>(
     case: &'x Case,
     disk: &mut BrokenDisk,
     verb: &'x str,
-    limit: u64,
+    limit: &'x str,
     path: &'x str,
     alloc: Global,
 ) -> Result<Done, AllocError> {
-    let limit = format!(in alloc; "{limit}")?;
     let mut words = Vec::new(alloc);
-    words.extend_from_slice(&[verb, "--limit", limit.as_str(), path, "--"])?;
+    words.extend_from_slice(&[verb, "--limit", limit, path, "--"])?;
     for word in &case.words {
         words.push(word.as_str())?;
     }
     perform(alloc, disk, words.as_slice())
+}
+
+fn additions_in(code: &str) -> usize {
+    let mut count = 0usize;
+    for line in code.lines() {
+        if line.contains("  add") {
+            count = count.saturating_add(1);
+        }
+    }
+    count
 }
 
 // The additions of a long loop stand in the code, and in no table that it builds on the stack.
@@ -232,38 +323,46 @@ fn check_additions(
     disk: &mut BrokenDisk,
     report: &mut Report,
 ) -> Result<(), AllocError> {
-    if case.additions == 0 {
+    if case.bounds.additions == 0 {
         return Ok(());
     }
     let shown = perform_words(report.alloc, disk, "dis out")?;
-    let text = str::from_utf8(shown.output.as_slice()).unwrap_or("");
-    let mut count = 0usize;
-    for line in text.lines() {
-        if line.contains("  add") {
-            count = count.saturating_add(1);
-        }
-    }
-    report.holds("instructions that add", count >= case.additions)
+    let count = additions_in(str::from_utf8(shown.output.as_slice()).unwrap_or(""));
+    report.holds("instructions that add", count >= case.bounds.additions)
 }
 
-fn check_build(
-    case: &Case,
-    disk: &mut BrokenDisk,
-    build: &str,
-    report: &mut Report,
-) -> Result<(), AllocError> {
-    let alloc = report.alloc;
-    let built = perform_words(alloc, disk, build)?;
+// The words that build a program of so many texts.
+fn build_words(alloc: Global, texts: usize) -> Result<String, AllocError> {
+    let mut words = TextMaker::new(alloc);
+    words.add("build -o out");
+    for number in 0..texts {
+        words.add_with_numbers(" text#", &[number as u64]);
+    }
+    words.finish()
+}
+
+fn build(case: &Case, disk: &mut BrokenDisk, alloc: Global) -> Result<Done, AllocError> {
+    let words = build_words(alloc, case.texts.len())?;
+    perform_words(alloc, disk, words.as_str())
+}
+
+fn check_built(case: &Case, built: &Done, report: &mut Report) -> Result<(), AllocError> {
     if case.is_refused() {
-        check_done(case, "build", &built, report)?;
+        return check_done(case, "build", built, report);
+    }
+    let line = built.line(report.alloc)?;
+    report.compare("build", "0 ", line.as_str())
+}
+
+fn check_build(case: &Case, disk: &mut BrokenDisk, report: &mut Report) -> Result<(), AllocError> {
+    let built = build(case, disk, report.alloc)?;
+    check_built(case, &built, report)?;
+    if case.is_refused() {
         return report.holds("no file is written", disk.find("out").is_none());
     }
-    let line = built.line(alloc)?;
-    report.compare("build", "0 ", line.as_str())?;
     check_additions(case, disk, report)?;
     if case.wanted.is_lost() {
         return Ok(());
     }
-    let said = run_words(case, disk, "run", case.instructions_given(), "out", alloc)?;
-    check_done(case, "run", &said, report)
+    check_words(case, disk, "run", case.instructions_given(), "out", report)
 }

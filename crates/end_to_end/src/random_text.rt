@@ -1,6 +1,7 @@
 //! The text of a random program: functions, a datum, and `main`.
 use crate::random_body::push_body;
 use std::alloc::{AllocError, Global};
+use text_maker::maker::TextMaker;
 
 /// A sequence of numbers that looks random (xorshift).
 #[derive(Drop)]
@@ -66,37 +67,46 @@ fn random_signature(
     })
 }
 
-fn push_function(
-    text: &mut String,
-    random: &mut Random,
-    known: &[Signature],
-    own: &Signature,
-) -> Result<(), AllocError> {
+fn push_function(text: &mut TextMaker, random: &mut Random, known: &[Signature], own: &Signature) {
     let result = own.result;
-    let number = own.number;
-    write!(text, "function {result} $f{number}(")?;
+    text.add_with_word("function # ", result);
+    text.add_with_numbers("$f#(", &[own.number]);
     for (k, class) in own.params.iter().enumerate() {
-        write!(text, "{class} %p{k}, ")?;
+        text.add_with_word("# ", *class);
+        text.add_with_numbers("%p#, ", &[k as u64]);
     }
-    text.push_str(") {\n@start\n")?;
-    push_body(text, random, known, own.params.as_slice())?;
-    let place = if result == "w" { "%w0" } else { "%l0" };
-    write!(text, "\tret {place}\n}}\n")
+    text.add(") {\n@start\n");
+    push_body(text, random, known, own.params.as_slice());
+    text.add_with_word("\tret %#0\n}\n", result);
+}
+
+fn push_main(text: &mut TextMaker, random: &mut Random, known: &[Signature]) {
+    text.add("export function w $main() {\n@start\n");
+    push_body(text, random, known, &[]);
+    text.add("\tstorel %l0, $d\n\t%l1 =l call $write(w 1, l $d, l 64)\n");
+    text.add("\t%w0 =w xor %w0, %w1\n\tret %w0\n}\n");
+}
+
+fn push_functions(
+    text: &mut TextMaker,
+    random: &mut Random,
+    alloc: Global,
+) -> Result<(), AllocError> {
+    let mut known = Vec::new(alloc);
+    for number in 0..random.below(4) {
+        let own = random_signature(alloc, random, number)?;
+        push_function(text, random, known.as_slice(), &own);
+        known.push(own)?;
+    }
+    push_main(text, random, known.as_slice());
+    Ok(())
 }
 
 /// A program that ends, whatever the numbers are.
 pub fn random_text(alloc: Global, seed: u64) -> Result<String, AllocError> {
     let mut random = Random::new(seed);
-    let mut text = String::from_str(alloc, "data $d = align 16 { l 1 2 3 4 5 6 7 -8 }\n")?;
-    let mut known = Vec::new(alloc);
-    for number in 0..random.below(4) {
-        let own = random_signature(alloc, &mut random, number)?;
-        push_function(&mut text, &mut random, known.as_slice(), &own)?;
-        known.push(own)?;
-    }
-    text.push_str("export function w $main() {\n@start\n")?;
-    push_body(&mut text, &mut random, known.as_slice(), &[])?;
-    text.push_str("\tstorel %l0, $d\n\t%l1 =l call $write(w 1, l $d, l 64)\n")?;
-    text.push_str("\t%w0 =w xor %w0, %w1\n\tret %w0\n}\n")?;
-    Ok(text)
+    let mut text = TextMaker::new(alloc);
+    text.add("data $d = align 16 { l 1 2 3 4 5 6 7 -8 }\n");
+    push_functions(&mut text, &mut random, alloc)?;
+    text.finish()
 }

@@ -9,7 +9,7 @@ use vcode::function::VFunc;
 use vcode::place::Location;
 
 /// One of the lists of a certificate.
-#[derive(Clone, Copy, Debug, PartialEq, Eq)]
+#[derive(Clone, Copy, Debug)]
 pub enum List {
     Params,
     Starts,
@@ -18,7 +18,7 @@ pub enum List {
 }
 
 /// What is done to a list.
-#[derive(Clone, Copy, Debug, PartialEq, Eq)]
+#[derive(Clone, Copy, Debug)]
 pub enum Cut {
     Shorter,
     Longer,
@@ -26,7 +26,7 @@ pub enum Cut {
 }
 
 /// What a strategy answers for each function.
-#[derive(Clone, Copy, Debug, PartialEq, Eq)]
+#[derive(Clone, Copy, Debug)]
 pub enum Answer {
     /// nothing
     Nothing,
@@ -146,6 +146,25 @@ fn left(cut: Cut, length: usize) -> usize {
     }
 }
 
+fn is_longer(cut: Cut) -> bool {
+    match cut {
+        Cut::Longer => true,
+        Cut::Shorter | Cut::Empty => false,
+    }
+}
+
+fn push_lists<T: Copy + Drop>(
+    alloc: Global,
+    all: &mut Seq<Seq<T>>,
+    lists: &[Seq<T>],
+    count: usize,
+) -> Result<(), AllocError> {
+    for list in lists.iter().take(count) {
+        all.push(list.try_clone(alloc)?)?;
+    }
+    Ok(())
+}
+
 // The first of these lists, and one more without an item where that is asked for.
 fn cut_lists<T: Copy + Drop>(
     alloc: Global,
@@ -153,10 +172,8 @@ fn cut_lists<T: Copy + Drop>(
     cut: Cut,
 ) -> Result<Seq<Seq<T>>, AllocError> {
     let mut all = Seq::new(alloc);
-    for list in lists.iter().take(left(cut, lists.len())) {
-        all.push(Seq::from_vec(list.as_slice().to_vec(alloc)?))?;
-    }
-    if cut == Cut::Longer {
+    push_lists(alloc, &mut all, lists, left(cut, lists.len()))?;
+    if is_longer(cut) {
         all.push(Seq::new(alloc))?;
     }
     Ok(all)
@@ -167,19 +184,18 @@ fn cut_places(alloc: Global, places: &[Location], cut: Cut) -> Result<Seq<Locati
     for place in places.iter().take(left(cut, places.len())) {
         all.push(*place)?;
     }
-    if cut == Cut::Longer {
+    if is_longer(cut) {
         all.push(Location::Slot(0))?;
     }
     Ok(all)
 }
 
-fn cut_of(
+fn cut_list(
     alloc: Global,
-    right: Certificate,
+    certificate: &mut Certificate,
     list: List,
     cut: Cut,
-) -> Result<Certificate, AllocError> {
-    let mut certificate = right;
+) -> Result<(), AllocError> {
     match list {
         List::Params => {
             certificate.params = cut_places(alloc, certificate.params.as_slice(), cut)?
@@ -192,51 +208,29 @@ fn cut_of(
             certificate.places = cut_lists(alloc, certificate.places.as_slice(), cut)?
         }
     }
-    Ok(certificate)
+    Ok(())
 }
 
-fn one_move(
-    alloc: Global,
-    from: Location,
-    to: Location,
-    count: u32,
-) -> Result<Seq<Transfer>, AllocError> {
+fn moves_of(alloc: Global, transfer: Transfer, count: u32) -> Result<Seq<Transfer>, AllocError> {
     let mut moves = Seq::new(alloc);
     for _ in 0..count {
-        moves.push(Transfer { from, to })?;
+        moves.push(transfer)?;
     }
     Ok(moves)
 }
 
-fn with_moves(
+// So many moves before each of so many points.
+fn all_moves(
     alloc: Global,
-    right: Certificate,
-    from: Location,
-    to: Location,
+    transfer: Transfer,
     count: u32,
-) -> Result<Certificate, AllocError> {
-    let mut certificate = right;
-    let mut moves = Seq::new(alloc);
-    for _ in 0..certificate.moves.len() {
-        moves.push(one_move(alloc, from, to, count)?)?;
+    points: usize,
+) -> Result<Seq<Seq<Transfer>>, AllocError> {
+    let mut all = Seq::new(alloc);
+    for _ in 0..points {
+        all.push(moves_of(alloc, transfer, count)?)?;
     }
-    certificate.moves = moves;
-    Ok(certificate)
-}
-
-// What one certificate says of points, and the other of the rest.
-fn mixed(alloc: Global, function: &VFunc, live: &Live) -> Result<Certificate, AllocError> {
-    let at_points = other_slots(alloc, function.registers)?;
-    let elsewhere = list_of(alloc, Answer::Nothing, function.registers)?;
-    let points = certificate_of(alloc, function, live, &at_points)?;
-    let rest = certificate_of(alloc, function, live, &elsewhere)?;
-    Ok(Certificate {
-        params: rest.params,
-        everywhere: rest.everywhere,
-        starts: rest.starts,
-        moves: points.moves,
-        places: points.places,
-    })
+    Ok(all)
 }
 
 // How long the list of places is.
@@ -248,21 +242,58 @@ fn length(answer: Answer, registers: u32) -> u32 {
     }
 }
 
-fn certificate(
+// The certificate of the answer's list.
+fn listed(
     alloc: Global,
     answer: Answer,
     function: &VFunc,
     live: &Live,
 ) -> Result<Certificate, AllocError> {
     let list = list_of(alloc, answer, length(answer, function.registers))?;
-    let listed = certificate_of(alloc, function, live, &list)?;
+    certificate_of(alloc, function, live, &list)
+}
+
+fn of_other_slots(alloc: Global, function: &VFunc, live: &Live) -> Result<Certificate, AllocError> {
+    let list = other_slots(alloc, function.registers)?;
+    certificate_of(alloc, function, live, &list)
+}
+
+// Has what the other certificate says of points.
+fn take_points(certificate: &mut Certificate, other: Certificate) {
+    certificate.moves = other.moves;
+    certificate.places = other.places;
+}
+
+// Does to the certificate of the answer's list what the answer asks for.
+fn change(
+    alloc: Global,
+    certificate: &mut Certificate,
+    answer: Answer,
+    function: &VFunc,
+    live: &Live,
+) -> Result<(), AllocError> {
     match answer {
-        Answer::Blank => Ok(blank(alloc)),
-        Answer::OneList(list, cut) => cut_of(alloc, listed, list, cut),
-        Answer::OtherSlots => mixed(alloc, function, live),
-        Answer::Moves { from, to, count } => with_moves(alloc, listed, from, to, count),
-        _ => Ok(listed),
+        Answer::Blank => *certificate = blank(alloc),
+        Answer::OneList(list, cut) => cut_list(alloc, certificate, list, cut)?,
+        Answer::OtherSlots => take_points(certificate, of_other_slots(alloc, function, live)?),
+        Answer::Moves { from, to, count } => {
+            let points = certificate.moves.len();
+            certificate.moves = all_moves(alloc, Transfer { from, to }, count, points)?
+        }
+        _ => {}
     }
+    Ok(())
+}
+
+fn certificate(
+    alloc: Global,
+    answer: Answer,
+    function: &VFunc,
+    live: &Live,
+) -> Result<Certificate, AllocError> {
+    let mut certificate = listed(alloc, answer, function, live)?;
+    change(alloc, &mut certificate, answer, function, live)?;
+    Ok(certificate)
 }
 
 impl Strategy for Fixed {

@@ -16,7 +16,7 @@
 //! | `additions N` | at least so many instructions of its file add |
 //! | `registers N` | at least so often linear scan names a register of the machine for a line or a jump |
 //! | `tried`, `differs`, `cut`, `large` | strategies of every kind are tried; the bytes by both strategies differ; linear scan moves a value; it is compiled once |
-use crate::case::Case;
+use crate::case::{Bounds, Case, Marks};
 use crate::made::push_made;
 use std::alloc::{AllocError, Global};
 use std::rt::Files;
@@ -134,47 +134,71 @@ fn number(text: &str) -> u64 {
 }
 
 fn take_of(alloc: Global, case: &mut Case, key: &str, rest: &str) -> Result<(), AllocError> {
+    if takes_mark(&mut case.marks, key) || takes_bound(&mut case.bounds, key, number(rest)) {
+        return Ok(());
+    }
     match key {
         "made" => {
             let (word, count) = rest.split_once(' ').unwrap_or((rest, "0"));
-            push_made(alloc, &mut case.texts, word, number(count))?;
+            push_made(alloc, &mut case.texts, word, number(count))
         }
+        "words" | "many" | "long" | "zero" => take_words(alloc, &mut case.words, key, rest),
+        _ => take_wanted(alloc, case, key, rest),
+    }
+}
+
+// Whether it is the key of a mark, which is set then.
+fn takes_mark(marks: &mut Marks, key: &str) -> bool {
+    match key {
+        "tried" => marks.is_tried = true,
+        "differs" => marks.differs = true,
+        "cut" => marks.is_cut = true,
+        "large" => marks.is_large = true,
+        _ => return false,
+    }
+    true
+}
+
+// Whether it is the key of a bound, which has this number then.
+fn takes_bound(bounds: &mut Bounds, key: &str, number: u64) -> bool {
+    match key {
+        "limit" => bounds.limit = Some(number),
+        "turns" => bounds.turns = Some(number),
+        "price" => bounds.price = Some(number),
+        "additions" => bounds.additions = number as usize,
+        "registers" => bounds.registers = number,
+        _ => return false,
+    }
+    true
+}
+
+fn take_wanted(alloc: Global, case: &mut Case, key: &str, rest: &str) -> Result<(), AllocError> {
+    match key {
         "end" => case.wanted.end = String::from_str(alloc, rest)?,
         "output" => case.wanted.output = bytes_of(alloc, rest)?,
         "zeros" => case.wanted.output.resize(number(rest) as usize, 0)?,
-        "limit" => case.limit = Some(number(rest)),
-        "turns" => case.turns = Some(number(rest)),
-        "price" => case.price = Some(number(rest)),
         "needs" => case.needs = String::from_str(alloc, rest)?,
         "weighs" => case.weights = String::from_str(alloc, rest)?,
-        "additions" => case.additions = number(rest) as usize,
-        "registers" => case.registers = number(rest),
-        "tried" => case.is_tried = true,
-        "differs" => case.differs = true,
-        "cut" => case.is_cut = true,
-        "large" => case.is_large = true,
-        _ => take_words(alloc, case, key, rest)?,
+        // A key that there isn't must not go unseen.
+        _ => case.wanted.end = format!(in alloc; "no key {key}")?,
     }
     Ok(())
 }
 
-fn take_words(alloc: Global, case: &mut Case, key: &str, rest: &str) -> Result<(), AllocError> {
+fn take_words(
+    alloc: Global,
+    words: &mut Vec<String>,
+    key: &str,
+    rest: &str,
+) -> Result<(), AllocError> {
     match key {
-        "words" => push_words(alloc, &mut case.words, rest),
+        "words" => push_words(alloc, words, rest),
         "many" => {
             let (count, word) = rest.split_once(' ').unwrap_or(("0", rest));
-            push_many(alloc, &mut case.words, number(count), word)
+            push_many(alloc, words, number(count), word)
         }
-        "long" => push_long(alloc, &mut case.words, number(rest)),
-        "zero" => {
-            case.words.push(String::from_str(alloc, "a\0b")?)?;
-            Ok(())
-        }
-        _ => {
-            // A key that there isn't must not go unseen.
-            case.wanted.end = format!(in alloc; "no key {key}")?;
-            Ok(())
-        }
+        "long" => push_long(alloc, words, number(rest)),
+        _ => push_many(alloc, words, 1, "a\0b"),
     }
 }
 
