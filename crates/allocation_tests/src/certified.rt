@@ -5,17 +5,17 @@
 use certificates::certificate::{Certificate, Equality, Transfer};
 use code_text::function::is_same;
 use code_text::place::Place;
-use code_text::text::Text;
 use code_text::words::Words;
 use il_ast::list::Seq;
 use std::alloc::{AllocError, Global};
+use text_maker::maker::TextMaker;
 use vcode::place::Location;
 
 /// What stands in a list, as text.
 trait Part: Copy + Drop {
     fn read(text: &str) -> Option<Self>;
 
-    fn write(self, to: &mut Text);
+    fn write(self, to: &mut TextMaker);
 }
 
 impl Part for Location {
@@ -23,7 +23,7 @@ impl Part for Location {
         Place::read(text.trim())
     }
 
-    fn write(self, to: &mut Text) {
+    fn write(self, to: &mut TextMaker) {
         Place::write(self, to);
     }
 }
@@ -37,9 +37,9 @@ impl Part for Equality {
         })
     }
 
-    fn write(self, to: &mut Text) {
+    fn write(self, to: &mut TextMaker) {
         Place::write(self.register, to);
-        to.put(" ");
+        to.add(" ");
         Place::write(self.place, to);
     }
 }
@@ -53,9 +53,9 @@ impl Part for Transfer {
         })
     }
 
-    fn write(self, to: &mut Text) {
+    fn write(self, to: &mut TextMaker) {
         Place::write(self.from, to);
-        to.put(" to ");
+        to.add(" to ");
         Place::write(self.to, to);
     }
 }
@@ -70,15 +70,15 @@ fn parts<T: Part>(alloc: Global, list: &str) -> Option<Seq<T>> {
     Some(parts)
 }
 
-fn put_parts<T: Part>(to: &mut Text, name: &str, parts: &[T]) {
-    to.put(name);
+fn put_parts<T: Part>(to: &mut TextMaker, name: &str, parts: &[T]) {
+    to.add(name);
     let mut separator = " ";
     for part in parts {
-        to.put(separator);
+        to.add(separator);
         part.write(to);
         separator = ", ";
     }
-    to.put("\n");
+    to.add("\n");
 }
 
 fn take(alloc: Global, certificate: &mut Certificate, line: &str) -> Option<()> {
@@ -108,7 +108,7 @@ fn read(alloc: Global, text: &str) -> Option<Certificate> {
     Some(certificate)
 }
 
-fn put_points(to: &mut Text, moves: &[Seq<Transfer>], places: &[Seq<Equality>]) {
+fn put_points(to: &mut TextMaker, moves: &[Seq<Transfer>], places: &[Seq<Equality>]) {
     for point in 0..moves.len().max(places.len()) {
         if let Some(moves) = moves.get(point) {
             put_parts(to, "moves", moves.as_slice());
@@ -121,7 +121,7 @@ fn put_points(to: &mut Text, moves: &[Seq<Transfer>], places: &[Seq<Equality>]) 
 
 /// The text of a certificate.
 pub fn certificate_text(alloc: Global, certificate: &Certificate) -> Result<String, AllocError> {
-    let mut to = Text::new(alloc);
+    let mut to = TextMaker::new(alloc);
     put_parts(&mut to, "params", certificate.params.as_slice());
     put_parts(&mut to, "everywhere", certificate.everywhere.as_slice());
     for start in certificate.starts.as_slice() {
@@ -132,7 +132,7 @@ pub fn certificate_text(alloc: Global, certificate: &Certificate) -> Result<Stri
         certificate.moves.as_slice(),
         certificate.places.as_slice(),
     );
-    to.done()
+    to.finish()
 }
 
 /// The certificate that a text describes. None where the text isn't what is written of one, or memory is refused.

@@ -40,6 +40,5 @@ pub mod function;
 mod names;
 pub mod place;
 mod read;
-pub mod text;
 pub mod words;
 mod write;

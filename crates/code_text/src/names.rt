@@ -1,7 +1,7 @@
 //! Operations by name.
-use crate::text::Text;
 use il_ast::operation::{Class, Condition, Size};
 use rv_isa::instruction::{LoadOp, RegOp, RegWOp};
+use text_maker::maker::TextMaker;
 use vcode::line::Operation;
 
 fn register_name(op: RegOp) -> &'static str {
@@ -201,15 +201,15 @@ pub(crate) fn operation_of(word: &str) -> Option<Operation> {
     Some(Operation::Compare(condition, class))
 }
 
-pub(crate) fn put_comparison(to: &mut Text, condition: Condition, class: Class) {
-    to.put(condition_name(condition));
-    to.put(class_name(class));
+pub(crate) fn put_comparison(to: &mut TextMaker, condition: Condition, class: Class) {
+    to.add(condition_name(condition));
+    to.add(class_name(class));
 }
 
-pub(crate) fn put_operation(to: &mut Text, operation: Operation) {
+pub(crate) fn put_operation(to: &mut TextMaker, operation: Operation) {
     match operation {
-        Operation::Reg(op) => to.put(register_name(op)),
-        Operation::RegW(op) => to.put(word_name(op)),
+        Operation::Reg(op) => to.add(register_name(op)),
+        Operation::RegW(op) => to.add(word_name(op)),
         Operation::Compare(condition, class) => put_comparison(to, condition, class),
     }
 }

@@ -1,9 +1,9 @@
 //! Places as words.
 ghost use Rattle.std.specs.Prelude.{◌≡◌, ◌<◌};
 
-use crate::text::Text;
 use crate::words::number_behind;
 use rv_isa::abi;
+use text_maker::maker::TextMaker;
 use vcode::place::Location;
 
 /// The places of a code, as words.
@@ -39,7 +39,7 @@ pub trait Place: Copy + Drop {
     fn read(word: &str) -> Option<Self>;
 
     /// Writes its word.
-    fn write(self, to: &mut Text);
+    fn write(self, to: &mut TextMaker);
 }
 
 impl Place for u32 {
@@ -71,9 +71,9 @@ impl Place for u32 {
         number_behind("%", word)
     }
 
-    fn write(self, to: &mut Text) {
-        to.put("%");
-        to.put_number(u64::from(self));
+    fn write(self, to: &mut TextMaker) {
+        to.add("%");
+        to.add_number(u64::from(self));
     }
 }
 
@@ -123,16 +123,16 @@ impl Place for Location {
         }
     }
 
-    fn write(self, to: &mut Text) {
+    fn write(self, to: &mut TextMaker) {
         match self {
             Location::Register(number) => {
-                to.put("x");
-                to.put_number(u64::from(number));
+                to.add("x");
+                to.add_number(u64::from(number));
             }
             Location::Slot(slot) => {
-                to.put("[");
-                to.put_number(u64::from(slot));
-                to.put("]");
+                to.add("[");
+                to.add_number(u64::from(slot));
+                to.add("]");
             }
         }
     }

@@ -1,35 +1,35 @@
 //! Code as text.
 use crate::names::{class_name, load_name, put_comparison, put_operation, store_name};
 use crate::place::Place;
-use crate::text::Text;
 use il_ast::operation::Class;
 use std::alloc::{AllocError, Global};
+use text_maker::maker::TextMaker;
 use vcode::code::{Block, Code};
 use vcode::line::{Jump, Line};
 use vcode::place::{Address, Argument, Destination, Extension, Operand};
 
-fn operand<P: Place>(to: &mut Text, value: &Operand<P>) {
+fn operand<P: Place>(to: &mut TextMaker, value: &Operand<P>) {
     match value {
         Operand::At(place) => place.write(to),
-        Operand::Number(number) => to.put_signed(*number),
+        Operand::Number(number) => to.add_signed(*number),
         Operand::Name(global) => {
-            to.put("$");
-            to.put_number(global.number() as u64);
+            to.add("$");
+            to.add_number(global.number() as u64);
         }
     }
 }
 
-fn operands<P: Place>(to: &mut Text, left: &Operand<P>, right: &Operand<P>) {
+fn operands<P: Place>(to: &mut TextMaker, left: &Operand<P>, right: &Operand<P>) {
     operand(to, left);
-    to.put(", ");
+    to.add(", ");
     operand(to, right);
 }
 
-fn address<P: Place>(to: &mut Text, at: &Address<P>) {
-    to.put_signed(widened(at.offset.value));
-    to.put("(");
+fn address<P: Place>(to: &mut TextMaker, at: &Address<P>) {
+    to.add_signed(widened(at.offset.value));
+    to.add("(");
     operand(to, &at.base);
-    to.put(")");
+    to.add(")");
 }
 
 /// The integer modulo 2^64.
@@ -41,43 +41,43 @@ fn widened(offset: i16) -> u64 {
     }
 }
 
-fn assigned<P: Place>(to: &mut Text, place: P) {
+fn assigned<P: Place>(to: &mut TextMaker, place: P) {
     place.write(to);
-    to.put(" = ");
+    to.add(" = ");
 }
 
-fn extension(to: &mut Text, extension: Extension) {
+fn extension(to: &mut TextMaker, extension: Extension) {
     match extension {
         Extension::Made => {}
-        Extension::Claimed => to.put("claimed "),
+        Extension::Claimed => to.add("claimed "),
     }
 }
 
-fn call<P: Place>(to: &mut Text, callee: &Operand<P>, args: &[Argument<P>]) {
-    to.put("call ");
+fn call<P: Place>(to: &mut TextMaker, callee: &Operand<P>, args: &[Argument<P>]) {
+    to.add("call ");
     operand(to, callee);
     let mut separator = "(";
     for arg in args {
-        to.put(separator);
-        to.put(class_name(arg.class));
-        to.put(" ");
+        to.add(separator);
+        to.add(class_name(arg.class));
+        to.add(" ");
         extension(to, arg.extension);
         operand(to, &arg.value);
         separator = ", ";
     }
     if args.is_empty() {
-        to.put("(");
+        to.add("(");
     }
-    to.put(")");
+    to.add(")");
 }
 
-fn line<P: Place>(to: &mut Text, line: &Line<P>) {
+fn line<P: Place>(to: &mut TextMaker, line: &Line<P>) {
     match line {
         Line::Tick { turn, weight } => {
-            to.put("tick ");
-            to.put_number(u64::from(*weight));
+            to.add("tick ");
+            to.add_number(u64::from(*weight));
             if *turn {
-                to.put(" turn");
+                to.add(" turn");
             }
         }
         Line::Set { to: place, value } => {
@@ -92,38 +92,38 @@ fn line<P: Place>(to: &mut Text, line: &Line<P>) {
         } => {
             assigned(to, *place);
             put_operation(to, *operation);
-            to.put(" ");
+            to.add(" ");
             operands(to, left, right);
         }
         Line::Load { to: place, op, at } => {
             assigned(to, *place);
-            to.put(load_name(*op));
-            to.put(" ");
+            to.add(load_name(*op));
+            to.add(" ");
             address(to, at);
         }
         Line::Store { size, value, at } => {
-            to.put(store_name(*size));
-            to.put(" ");
+            to.add(store_name(*size));
+            to.add(" ");
             operand(to, value);
-            to.put(", ");
+            to.add(", ");
             address(to, at);
         }
         Line::Alloc { to: place, size } => {
             if let Some(place) = place {
                 assigned(to, *place);
             }
-            to.put("alloc ");
-            to.put_number(*size);
+            to.add("alloc ");
+            to.add_number(*size);
         }
         Line::Blit {
             from,
             to: target,
             count,
         } => {
-            to.put("blit ");
+            to.add("blit ");
             operands(to, from, target);
-            to.put(", ");
-            to.put_number(*count);
+            to.add(", ");
+            to.add_number(*count);
         }
         Line::Call {
             to: wanted,
@@ -132,79 +132,84 @@ fn line<P: Place>(to: &mut Text, line: &Line<P>) {
         } => {
             if let Some(wanted) = wanted {
                 wanted.place.write(to);
-                to.put(" =");
-                to.put(class_name(wanted.class));
-                to.put(" ");
+                to.add(" =");
+                to.add(class_name(wanted.class));
+                to.add(" ");
             }
             call(to, callee, args.as_slice());
         }
     }
-    to.put("\n");
+    to.add("\n");
 }
 
-fn label(to: &mut Text, block: usize) {
-    to.put("@");
-    to.put_number(block as u64);
+fn label(to: &mut TextMaker, block: usize) {
+    to.add("@");
+    to.add_number(block as u64);
 }
 
-fn jump<P: Place>(to: &mut Text, jump: &Jump<P>) {
+fn jump<P: Place>(to: &mut TextMaker, jump: &Jump<P>) {
     match jump {
         Jump::Goto(block) => {
-            to.put("goto ");
+            to.add("goto ");
             label(to, *block);
         }
         Jump::Branch { on, met, otherwise } => {
-            to.put("branch ");
+            to.add("branch ");
             put_comparison(to, on.condition, on.class);
-            to.put(" ");
+            to.add(" ");
             operands(to, &on.left, &on.right);
-            to.put(", ");
+            to.add(", ");
             label(to, *met);
-            to.put(", ");
+            to.add(", ");
             label(to, *otherwise);
         }
-        Jump::Return(None) => to.put("ret"),
+        Jump::Return(None) => to.add("ret"),
         Jump::Return(Some(returned)) => {
-            to.put("ret ");
+            to.add("ret ");
             extension(to, returned.extension);
             operand(to, &returned.value);
         }
-        Jump::Halt => to.put("halt"),
+        Jump::Halt => to.add("halt"),
     }
-    to.put("\n");
+    to.add("\n");
 }
 
-fn block<P: Place>(to: &mut Text, number: usize, block: &Block<P>) {
+fn block<P: Place>(to: &mut TextMaker, number: usize, block: &Block<P>) {
     label(to, number);
-    to.put("\n");
+    to.add("\n");
     for from in block.lines.as_slice() {
         line(to, from);
     }
     jump(to, &block.jump);
 }
 
-fn header<P: Place>(to: &mut Text, count: u32, class: Option<Class>, params: &[Destination<P>]) {
-    to.put("function ");
+fn header<P: Place>(
+    to: &mut TextMaker,
+    count: u32,
+    class: Option<Class>,
+    params: &[Destination<P>],
+) {
+    to.add("function ");
     if let Some(class) = class {
-        to.put(class_name(class));
-        to.put(" ");
+        to.add(class_name(class));
+        to.add(" ");
     }
     let mut separator = "(";
     for param in params {
-        to.put(separator);
-        to.put(class_name(param.class));
-        to.put(" ");
+        to.add(separator);
+        to.add(class_name(param.class));
+        to.add(" ");
         param.place.write(to);
         separator = ", ";
     }
     if params.is_empty() {
-        to.put("(");
+        to.add("(");
     }
-    to.put(") ");
-    to.put(P::COUNTED);
-    to.put(" ");
-    to.put_number(u64::from(count));
-    to.put("\n");
+    to.add(") ");
+    to.add(P::COUNTED);
+    to.add(" ");
+    to.add_number(u64::from(count));
+    to.add("\n");
 }
 
 /// The text of a code with so many registers or slots.
@@ -213,10 +218,10 @@ pub(crate) fn written<P: Place>(
     count: u32,
     code: &Code<P>,
 ) -> Result<String, AllocError> {
-    let mut to = Text::new(alloc);
+    let mut to = TextMaker::new(alloc);
     header(&mut to, count, code.result, code.params.as_slice());
     for (number, from) in code.blocks.as_slice().iter().enumerate() {
         block(&mut to, number, from);
     }
-    to.done()
+    to.finish()
 }

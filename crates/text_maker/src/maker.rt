@@ -44,6 +44,16 @@ impl TextMaker {
         }
     }
 
+    /// Adds an integer modulo 2^64 as the one from -2^63 up to 2^63.
+    pub fn add_signed(&mut self, number: u64) {
+        if number >= 1 << 63 {
+            self.add("-");
+            self.add_number(0u64.wrapping_sub(number));
+        } else {
+            self.add_number(number);
+        }
+    }
+
     /// Adds a value as it is shown to its programmers.
     pub fn add_debug<T: Debug>(&mut self, value: &T) {
         if !self.is_refused {
