@@ -24,4 +24,6 @@ mod placed;
 #[cfg(test)]
 mod refusing;
 #[cfg(test)]
+mod shown;
+#[cfg(test)]
 mod texts;

@@ -31,23 +31,65 @@ const DATA: [u8; 16] = [
     0x48, 0x69, 0x0a, 0x81, 0xf2, 0xf3, 0xf4, 0xf5, 0xf6, 0xf7, 0xf8, 0xf9, 0xfa, 0xfb, 0xfc, 0xfd,
 ];
 
-// A program of these words, with numbers behind the data.
-fn loaded(rt: &impl Abort, alloc: Global, code: &[u32], numbers: &[u64]) -> Result<Loaded, Fail> {
+// The data, with numbers behind it.
+fn data_with(alloc: Global, numbers: &[u64]) -> Result<Vec<u8>, AllocError> {
     let mut data = DATA.to_vec(alloc)?;
     for number in numbers {
         data.extend_from_slice(&number.to_le_bytes())?;
     }
-    let code = code.to_vec(alloc)?;
+    Ok(data)
+}
+
+fn file_of(
+    rt: &impl Abort,
+    alloc: Global,
+    code: Vec<u32>,
+    data: Vec<u8>,
+) -> Result<Vec<u8>, AllocError> {
     assert!(rt;
         !code.is_empty() && code.len() <= 1024 && data.len() <= 1024 && data.len() % 16 == 0
     );
-    let file = write_image(alloc, &Image::new(code, data))?;
+    write_image(alloc, &Image::new(code, data))
+}
+
+fn written(
+    rt: &impl Abort,
+    alloc: Global,
+    code: &[u32],
+    numbers: &[u64],
+) -> Result<Vec<u8>, AllocError> {
+    let data = data_with(alloc, numbers)?;
+    let code = code.to_vec(alloc)?;
+    file_of(rt, alloc, code, data)
+}
+
+// A program of these words, with numbers behind the data.
+fn loaded(rt: &impl Abort, alloc: Global, code: &[u32], numbers: &[u64]) -> Result<Loaded, Fail> {
+    let file = written(rt, alloc, code, numbers)?;
     Ok(read_image(alloc, &file)?)
 }
 
-fn started<R: Ram>(rt: &impl Abort, alloc: Global, code: &[u32]) -> Result<Machine<R>, Fail> {
-    let file = loaded(rt, alloc, code, &[])?;
+// A machine that starts at a program of these words, with numbers behind the data.
+fn started_with<R: Ram>(
+    rt: &impl Abort,
+    alloc: Global,
+    code: &[u32],
+    numbers: &[u64],
+) -> Result<Machine<R>, Fail> {
+    let file = loaded(rt, alloc, code, numbers)?;
     Ok(Machine::start(alloc, &file, &[])?)
+}
+
+fn started<R: Ram>(rt: &impl Abort, alloc: Global, code: &[u32]) -> Result<Machine<R>, Fail> {
+    started_with(rt, alloc, code, &[])
+}
+
+// Takes so many steps, each of which succeeds.
+fn steps<R: Ram>(rt: &impl Abort, machine: &mut Machine<R>, count: usize) {
+    for _ in 0..count {
+        let stop = machine.step();
+        assert!(rt; stop == Ok(()), "{stop:?}");
+    }
 }
 
 // Leaves the two numbers behind the data, or those so many pairs further, in x5 and x6, and 0 in x7.
@@ -63,6 +105,26 @@ fn push_loads(code: &mut Vec<u32>, pairs: u32) -> Result<(), AllocError> {
     Ok(())
 }
 
+// The four words that load, and these.
+fn behind_loads(alloc: Global, words: &[u32]) -> Result<Vec<u32>, AllocError> {
+    let mut code = Vec::new(alloc);
+    push_loads(&mut code, 0)?;
+    code.extend_from_slice(words)?;
+    Ok(code)
+}
+
+// A machine that starts in front of these words, at 0x10010, and of the words that load these values.
+fn before(
+    rt: &impl Abort,
+    alloc: Global,
+    words: &[u32],
+    x5: u64,
+    x6: u64,
+) -> Result<Machine<FlatRam>, Fail> {
+    let code = behind_loads(alloc, words)?;
+    started_with(rt, alloc, code.as_slice(), &[x5, x6])
+}
+
 // A machine that comes to these words, at 0x10010, with these values in x5 and x6 and 0 in x7.
 fn prepared(
     rt: &impl Abort,
@@ -71,53 +133,57 @@ fn prepared(
     x5: u64,
     x6: u64,
 ) -> Result<Machine<FlatRam>, Fail> {
-    let mut code = Vec::new(alloc);
-    push_loads(&mut code, 0)?;
-    code.extend_from_slice(words)?;
-    let file = loaded(rt, alloc, code.as_slice(), &[x5, x6])?;
-    let mut machine: Machine<FlatRam> = Machine::start(alloc, &file, &[])?;
-    for _ in 0..4 {
-        assert!(rt; machine.step() == Ok(()));
-    }
+    let mut machine = before(rt, alloc, words, x5, x6)?;
+    steps(rt, &mut machine, 4);
     Ok(machine)
 }
 
-// A machine that does each word with its values in x5 and x6, one after another, each behind the four words that load these.
-fn in_turn(
-    rt: &impl Abort,
-    alloc: Global,
-    cases: &[(u32, u64, u64, u64)],
-) -> Result<Machine<FlatRam>, Fail> {
+// A word, the values in x5 and x6, and what the word leaves in x7.
+type Row = (u32, u64, u64, u64);
+
+fn code_of(alloc: Global, cases: &[Row]) -> Result<Vec<u32>, AllocError> {
     let mut code = Vec::new(alloc);
-    let mut numbers = Vec::new(alloc);
     let mut pairs = 0u32;
-    for (word, x5, x6, _) in cases {
+    for (word, _, _, _) in cases {
         push_loads(&mut code, pairs)?;
         code.push(*word)?;
-        numbers.push(*x5)?;
-        numbers.push(*x6)?;
         pairs = pairs.wrapping_add(1);
     }
-    let file = loaded(rt, alloc, code.as_slice(), numbers.as_slice())?;
-    Ok(Machine::start(alloc, &file, &[])?)
+    Ok(code)
+}
+
+fn numbers_of(alloc: Global, cases: &[Row]) -> Result<Vec<u64>, AllocError> {
+    let mut numbers = Vec::new(alloc);
+    for (_, x5, x6, _) in cases {
+        numbers.push(*x5)?;
+        numbers.push(*x6)?;
+    }
+    Ok(numbers)
+}
+
+// A machine that does each word with its values in x5 and x6, one after another, each behind the four words that load these.
+fn in_turn(rt: &impl Abort, alloc: Global, cases: &[Row]) -> Result<Machine<FlatRam>, Fail> {
+    let code = code_of(alloc, cases)?;
+    let numbers = numbers_of(alloc, cases)?;
+    started_with(rt, alloc, code.as_slice(), numbers.as_slice())
+}
+
+fn gives(rt: &impl Abort, machine: &mut Machine<FlatRam>, case: Row) {
+    let (word, x5, x6, wanted) = case;
+    steps(rt, machine, 4);
+    let at = machine.pc();
+    let stop = machine.step();
+    assert!(rt; stop == Ok(()), "{word:08x}: {stop:?}");
+    assert!(rt; machine.pc() == at.wrapping_add(4), "{word:08x}");
+    let given = machine.register(X7);
+    assert_eq!(rt; given, wanted, "{word:08x} of {x5:x} and {x6:x}");
 }
 
 // Each word by itself, with these values in x5 and x6, leaves the last value in x7.
-fn give(rt: &impl Abort, alloc: Global, cases: &[(u32, u64, u64, u64)]) -> Result<(), Fail> {
+fn give(rt: &impl Abort, alloc: Global, cases: &[Row]) -> Result<(), Fail> {
     let mut machine = in_turn(rt, alloc, cases)?;
-    for (word, x5, x6, wanted) in cases {
-        for _ in 0..4 {
-            assert!(rt; machine.step() == Ok(()));
-        }
-        let at = machine.pc();
-        let stop = machine.step();
-        assert!(rt; stop == Ok(()), "{word:08x}: {stop:?}");
-        assert_eq!(rt; machine.pc(), at.wrapping_add(4));
-        assert_eq!(rt;
-            machine.register(X7),
-            *wanted,
-            "{word:08x} of {x5:x} and {x6:x}"
-        );
+    for case in cases {
+        gives(rt, &mut machine, *case);
     }
     Ok(())
 }
@@ -271,6 +337,16 @@ fn loads(rt: HostRuntime) -> Result<(), Fail> {
     )
 }
 
+// The store of x6, then ld x7, 0(x5).
+fn stores_and_loads(rt: &impl Abort, alloc: Global, word: u32, wanted: u64) -> Result<(), Fail> {
+    let words = [word, 0x0002_b383];
+    let mut machine = prepared(rt, alloc, &words, 0x11003, 0x1122_3344_5566_7788)?;
+    steps(rt, &mut machine, 2);
+    let given = machine.register(X7);
+    assert_eq!(rt; given, wanted, "{word:08x}");
+    Ok(())
+}
+
 #[test]
 fn stores(rt: HostRuntime) -> Result<(), Fail> {
     for (word, wanted) in [
@@ -279,11 +355,7 @@ fn stores(rt: HostRuntime) -> Result<(), Fail> {
         (0x0062_a023, 0xf8f7_f6f5_5566_7788), // sw
         (0x0062_b023, 0x1122_3344_5566_7788), // sd
     ] {
-        // The store, then ld x7, 0(x5).
-        let words = [word, 0x0002_b383];
-        let mut machine = prepared(&rt, rt.alloc(), &words, 0x11003, 0x1122_3344_5566_7788)?;
-        assert!(rt; machine.step() == Ok(()) && machine.step() == Ok(()));
-        assert_eq!(rt; machine.register(X7), wanted, "{word:08x}");
+        stores_and_loads(&rt, rt.alloc(), word, wanted)?;
     }
     Ok(())
 }
@@ -382,25 +454,50 @@ fn programs_over_pages(rt: HostRuntime) -> Result<(), Fail> {
     programs::<PageRam>(&rt, rt.alloc())
 }
 
-// What can be read of a machine: after the store over two pages, and after output.
+fn has_byte<R: Ram>(rt: &impl Abort, machine: &Machine<R>, at: u64, wanted: Option<u8>) {
+    let byte = machine.byte(at);
+    assert!(rt; byte == wanted, "{byte:?} at {at:x}");
+}
+
+fn stands_at<R: Ram>(rt: &impl Abort, machine: &Machine<R>, wanted: u64) {
+    let pc = machine.pc();
+    assert_eq!(rt; pc, wanted);
+}
+
+fn register_has<R: Ram>(rt: &impl Abort, machine: &Machine<R>, register: Register, wanted: u64) {
+    let value = machine.register(register);
+    assert_eq!(rt; value, wanted);
+}
+
+fn permissions<R: Ram>(rt: &impl Abort, machine: &Machine<R>) {
+    let code = machine.permission(0x10000);
+    assert!(rt; code.executable && !code.readable);
+    let data = machine.permission(0x11000);
+    let behind = machine.permission(0x11010);
+    assert!(rt; data.writable && !behind.readable);
+}
+
+// After the store over two pages.
+fn stored<R: Ram>(rt: &impl Abort, machine: &Machine<R>) {
+    stands_at(rt, machine, 0x1002c);
+    register_has(rt, machine, X5, 0x0fff_effc);
+    has_byte(rt, machine, 0x0fff_efff, Some(0x55));
+    has_byte(rt, machine, 0x0fff_f000, Some(0x44));
+    // the lowest byte of the first word, of the data, and nothing between
+    has_byte(rt, machine, 0x10000, Some((ACROSS_PAGES[0] % 256) as u8));
+    has_byte(rt, machine, 0x11000, Some(0x48));
+    has_byte(rt, machine, 0x10ff0, None);
+    permissions(rt, machine);
+    assert!(rt; machine.output().is_empty());
+}
+
+// What can be read of a machine.
 fn readers<R: Ram>(rt: &impl Abort, alloc: Global) -> Result<(), Fail> {
     let mut machine: Machine<R> = started(rt, alloc, &ACROSS_PAGES)?;
-    assert_eq!(rt; machine.pc(), 0x10000);
-    assert_eq!(rt; machine.byte(0x0fff_efff), Some(0));
-    for _ in 0..11 {
-        assert_eq!(rt; machine.step(), Ok(()));
-    }
-    assert_eq!(rt; machine.pc(), 0x1002c);
-    assert_eq!(rt; machine.register(X5), 0x0fff_effc);
-    assert_eq!(rt; machine.byte(0x0fff_efff), Some(0x55));
-    assert_eq!(rt; machine.byte(0x0fff_f000), Some(0x44));
-    // the lowest byte of the first word, of the data, and nothing between
-    assert_eq!(rt; machine.byte(0x10000), Some((ACROSS_PAGES[0] % 256) as u8));
-    assert_eq!(rt; machine.byte(0x11000), Some(0x48));
-    assert_eq!(rt; machine.byte(0x10ff0), None);
-    assert!(rt; machine.permission(0x10000).executable && !machine.permission(0x10000).readable);
-    assert!(rt; machine.permission(0x11000).writable && !machine.permission(0x11010).readable);
-    assert!(rt; machine.output().is_empty());
+    stands_at(rt, &machine, 0x10000);
+    has_byte(rt, &machine, 0x0fff_efff, Some(0));
+    steps(rt, &mut machine, 11);
+    stored(rt, &machine);
     Ok(())
 }
 
@@ -411,6 +508,18 @@ fn readers_over_both_memories(rt: HostRuntime) -> Result<(), Fail> {
 }
 
 // A machine that stops is as it was.
+fn faults(rt: &impl Abort, alloc: Global, word: u32, x5: u64, fault: Fault) -> Result<(), Fail> {
+    let mut machine = prepared(rt, alloc, &[word], x5, 0)?;
+    let stop = machine.step();
+    assert!(rt;
+        stop == Err(Stop::Fault(fault, 0x10010)),
+        "{word:08x}: {stop:?}"
+    );
+    stands_at(rt, &machine, 0x10010);
+    register_has(rt, &machine, X5, x5);
+    Ok(())
+}
+
 #[test]
 fn stops(rt: HostRuntime) -> Result<(), Fail> {
     for (word, x5, fault) in [
@@ -423,13 +532,7 @@ fn stops(rt: HostRuntime) -> Result<(), Fail> {
         (0x0062_b023, 0x10000, Fault::Store), // sd x6, 0(x5), to code
         (0x0000_0073, 0, Fault::SystemCall),
     ] {
-        let mut machine = prepared(&rt, rt.alloc(), &[word], x5, 0)?;
-        let stop = machine.step();
-        assert!(rt;
-            stop == Err(Stop::Fault(fault, 0x10010)),
-            "{word:08x}: {stop:?}"
-        );
-        assert_eq!(rt; (machine.pc(), machine.register(X5)), (0x10010, x5));
+        faults(&rt, rt.alloc(), word, x5, fault)?;
     }
     Ok(())
 }
@@ -461,25 +564,34 @@ const WRITE_TWO: [u32; 8] = [
 // A machine that comes to the last of these words.
 fn at_last(rt: &impl Abort, alloc: Global, code: &[u32]) -> Result<Machine<FlatRam>, Fail> {
     let mut machine: Machine<FlatRam> = started(rt, alloc, code)?;
-    for _ in 1..code.len() {
-        assert!(rt; machine.step() == Ok(()));
-    }
+    steps(rt, &mut machine, code.len().saturating_sub(1));
     Ok(machine)
 }
 
-// A count that is partly unreadable puts out nothing, also when it is tried again; a jump out of the code is refused where it leads.
+fn stops_with(rt: &impl Abort, machine: &mut Machine<FlatRam>, fault: Fault, pc: u64) {
+    let stop = machine.step();
+    assert!(rt; stop == Err(Stop::Fault(fault, pc)), "{stop:?}");
+}
+
+// A count that is partly unreadable puts out nothing, also when it is tried again.
 #[test]
 fn write_of_too_much(rt: HostRuntime) -> Result<(), Fail> {
     let mut machine = at_last(&rt, rt.alloc(), &WRITE_THREE)?;
     for _ in 0..2 {
-        assert!(rt; machine.step() == Err(Stop::Fault(Fault::Load, 0x1001c)));
+        stops_with(&rt, &mut machine, Fault::Load, 0x1001c);
         assert!(rt; machine.output().is_empty());
     }
+    Ok(())
+}
+
+// A jump out of the code is refused where it leads.
+#[test]
+fn write_of_all(rt: HostRuntime) -> Result<(), Fail> {
     let mut machine = at_last(&rt, rt.alloc(), &WRITE_TWO)?;
-    assert!(rt; machine.step() == Ok(()));
+    steps(&rt, &mut machine, 1);
     assert!(rt; machine.output() == [0xfc, 0xfd].as_slice());
-    assert_eq!(rt; machine.register(X10), 2);
-    assert!(rt; machine.step() == Err(Stop::Fault(Fault::Fetch, 0x10020)));
+    register_has(&rt, &machine, X10, 2);
+    stops_with(&rt, &mut machine, Fault::Fetch, 0x10020);
     Ok(())
 }
 
@@ -492,16 +604,23 @@ fn double<R: Ram>(machine: &Machine<R>, at: u64) -> Option<u64> {
     Some(u64::from_le_bytes(bytes))
 }
 
+fn has_double<R: Ram>(rt: &impl Abort, machine: &Machine<R>, at: u64, wanted: u64) {
+    let found = double(machine, at);
+    assert!(rt; found == Some(wanted), "{found:?} at {at:x}");
+}
+
+fn with_words(rt: &impl Abort, alloc: Global, words: &[&[u8]]) -> Result<Machine<FlatRam>, Fail> {
+    let file = loaded(rt, alloc, &HELLO, &[])?;
+    Ok(Machine::start(alloc, &file, words)?)
+}
+
 // The stack pointer, and from there the count, two pointers, zeros and the words.
 #[test]
 fn arguments(rt: HostRuntime) -> Result<(), Fail> {
-    let file = loaded(&rt, rt.alloc(), &HELLO, &[])?;
-    let words: [&[u8]; 2] = [b"p", b"abc"];
-    let machine: Machine<FlatRam> = Machine::start(rt.alloc(), &file, &words)?;
-    assert_eq!(rt;
-        (machine.pc(), machine.register(X2), machine.register(X1)),
-        (0x10000, 0x1000_0000, 0)
-    );
+    let machine = with_words(&rt, rt.alloc(), &[b"p", b"abc"])?;
+    stands_at(&rt, &machine, 0x10000);
+    register_has(&rt, &machine, X2, 0x1000_0000);
+    register_has(&rt, &machine, X1, 0);
     for (at, wanted) in [
         (0x1000_0000u64, 2u64),
         (0x1000_0008, 0x1000_0038),
@@ -510,54 +629,71 @@ fn arguments(rt: HostRuntime) -> Result<(), Fail> {
         (0x1000_0030, 0),
         (0x1000_0036, 0x0063_6261_0070_0000),
     ] {
-        assert_eq!(rt; double(&machine, at), Some(wanted), "{at:x}");
+        has_double(&rt, &machine, at, wanted);
     }
+    Ok(())
+}
+
+// Why a machine does not start with these words.
+fn refusal(alloc: Global, file: &Loaded, words: &[&[u8]]) -> Option<StartError> {
+    let started: Result<Machine<FlatRam>, StartError> = Machine::start(alloc, file, words);
+    started.err()
+}
+
+fn are_refused(rt: &impl Abort, alloc: Global, file: &Loaded, words: &[&[u8]]) {
+    let refusal = refusal(alloc, file, words);
+    assert!(rt; refusal == Some(StartError::Arguments));
+}
+
+fn many_words(alloc: Global, count: usize) -> Result<Vec<&'static [u8]>, AllocError> {
+    let word: &[u8] = b"p";
+    vec![in alloc; word; count]
+}
+
+#[test]
+fn as_many_words_as_there_may_be(rt: HostRuntime) -> Result<(), Fail> {
+    let file = loaded(&rt, rt.alloc(), &HELLO, &[])?;
+    let words = many_words(rt.alloc(), 1024)?;
+    assert!(rt; refusal(rt.alloc(), &file, words.as_slice()).is_none());
     Ok(())
 }
 
 #[test]
 fn words_past_their_limits(rt: HostRuntime) -> Result<(), Fail> {
     let file = loaded(&rt, rt.alloc(), &HELLO, &[])?;
-    let word: &[u8] = b"p";
-    let mut words = vec![in rt.alloc(); word; 1024]?;
-    let most: Result<Machine<FlatRam>, StartError> = Machine::start(
-        rt.alloc(),
-        &file,
-        words.as_slice(),
-    );
-    assert!(rt; most.is_ok());
-    words.push(word).map_err(AllocError::from)?;
-    for words in [words.as_slice(), &[b"a\0b"], &[[1u8; 65_536].as_slice()]] {
-        let refused: Result<Machine<FlatRam>, StartError> = Machine::start(
-            rt.alloc(),
-            &file,
-            words,
-        );
-        match refused {
-            Ok(_) => return Err(Fail::from("started")),
-            Err(error) => assert!(rt; error == StartError::Arguments),
+    let words = many_words(rt.alloc(), 1025)?;
+    are_refused(&rt, rt.alloc(), &file, words.as_slice());
+    are_refused(&rt, rt.alloc(), &file, &[b"a\0b"]);
+    are_refused(&rt, rt.alloc(), &file, &[[1u8; 65_536].as_slice()]);
+    Ok(())
+}
+
+// The first stop within so many steps.
+fn first_stop<R: Ram>(machine: &mut Machine<R>, count: usize) -> Option<Stop> {
+    for _ in 0..count {
+        if let Err(stop) = machine.step() {
+            return Some(stop);
         }
     }
-    Ok(())
+    None
+}
+
+// At the store, the eleventh word, with the address and the number in their registers, and zeros where they stood.
+fn before_the_store<R: Ram>(rt: &impl Abort, machine: &Machine<R>) {
+    stands_at(rt, machine, 0x10028);
+    register_has(rt, machine, X5, 0x0fff_effc);
+    register_has(rt, machine, X6, 0x1122_3344_5566_7788);
+    has_double(rt, machine, 0x0fff_effc, 0);
 }
 
 // A store of 8 bytes of which the second page is refused stops for memory, and nothing has changed.
 #[test]
 fn second_page_refused(rt: HostRuntime) -> Result<(), Fail> {
     let mut machine: Machine<Refusing<PageRam>> = started(&rt, rt.alloc(), &ACROSS_PAGES)?;
-    let mut stop = Ok(());
-    for _ in 0..15 {
-        if stop == Ok(()) {
-            stop = machine.step();
-        }
+    for count in [15, 1] {
+        let stop = first_stop(&mut machine, count);
+        assert!(rt; stop == Some(Stop::Memory), "{stop:?}");
+        before_the_store(&rt, &machine);
     }
-    assert_eq!(rt; stop, Err(Stop::Memory));
-    // At the store, the eleventh word, with the address and the number in their registers.
-    assert_eq!(rt; machine.pc(), 0x10028);
-    assert_eq!(rt; machine.register(X5), 0x0fff_effc);
-    assert_eq!(rt; machine.register(X6), 0x1122_3344_5566_7788);
-    assert_eq!(rt; machine.step(), Err(Stop::Memory));
-    // There stands what stood there: zeros.
-    assert_eq!(rt; double(&machine, 0x0fff_effc), Some(0));
     Ok(())
 }

@@ -15,6 +15,7 @@ use rv_isa::instruction::LoadOp;
 use rv_isa::ranges::{Immediate, Register};
 use rv_isa::relocation::{Partial, Relocation};
 use std::alloc::{AllocError, Global};
+use std::process::Abort;
 use std::test::Fail;
 
 const X10: Register = Register { number: 10 };
@@ -68,14 +69,27 @@ fn words(alloc: Global, count: usize) -> Result<Code, AllocError>
     Ok(Code::new(words, Vec::new(alloc)))
 }
 
+fn first_codes(alloc: Global) -> Result<Vec<Code>, AllocError> {
+    let mut codes = Vec::new(alloc);
+    for count in [256, 256, 1] {
+        codes.push(words(alloc, count)?)?;
+    }
+    Ok(codes)
+}
+
+// Two functions in front of `main`.
+const OTHERS: &str = "function $one() {\n@s\nret\n}\nfunction $two() {\n@s\nret\n}\n";
+
+fn first_image(alloc: Global) -> Result<Image, Fail> {
+    let texts = checked(alloc, &[OTHERS, MAIN])?;
+    let codes = first_codes(alloc)?;
+    image_of(alloc, texts.as_slice(), codes.as_slice())
+}
+
 // The start code goes to `main`, which stands 0x7d0 bytes below 0x11000, behind two functions of 256 words.
 #[test]
 fn first_words(rt: HostRuntime) -> Result<(), Fail> {
-    let alloc = rt.alloc();
-    let others = "function $one() {\n@s\nret\n}\nfunction $two() {\n@s\nret\n}\n";
-    let texts = checked(alloc, &[others, MAIN])?;
-    let codes = vec![in alloc; words(alloc, 256)?, words(alloc, 256)?, words(alloc, 1)?]?;
-    let image = image_of(alloc, texts.as_slice(), codes.as_slice())?;
+    let image = first_image(rt.alloc())?;
     let expected: &[u32] = &[
         0x0001_3503,
         0x0081_0593,
@@ -99,12 +113,17 @@ fn first_words(rt: HostRuntime) -> Result<(), Fail> {
 const DATA: &str =
     "data $d = { b 511 \"Hi\", l $e + 4 $main $exit $main + 1, z 2 }\ndata $e = { z 16 }\n";
 
+// The image of these texts whose one function has this code.
+fn image_of_one(alloc: Global, texts: &[&str], code: Code) -> Result<Image, Fail> {
+    let texts = checked(alloc, texts)?;
+    let codes = vec![in alloc; code]?;
+    image_of(alloc, texts.as_slice(), codes.as_slice())
+}
+
 #[test]
 fn data_with_names(rt: HostRuntime) -> Result<(), Fail> {
-    let alloc = rt.alloc();
-    let texts = checked(alloc, &[MAIN, DATA])?;
-    let codes = vec![in alloc; words(alloc, 1)?]?;
-    let image = image_of(alloc, texts.as_slice(), codes.as_slice())?;
+    let code = words(rt.alloc(), 1)?;
+    let image = image_of_one(rt.alloc(), &[MAIN, DATA], code)?;
     let expected: &[u8] = &[
         0xff, b'H', b'i', 0x34, 0x10, 1, 0, 0, 0, 0, 0, 0x30, 0, 1, 0, 0, 0, 0, 0, 0x28, 0, 1, 0,
         0, 0, 0, 0, 0, 0, 0, 0, 0, 0, 0, 0, 0, 0, 0, 0, 0, 0, 0, 0, 0, 0, 0, 0, 0,
@@ -141,29 +160,37 @@ fn code(alloc: Global) -> Result<Code, AllocError> {
 
 #[test]
 fn a_program_of_one_function(rt: HostRuntime) -> Result<(), Fail> {
-    let alloc = rt.alloc();
-    let texts = checked(alloc, &[MAIN, "data $d = { z 5 }\n"])?;
-    let codes = vec![in alloc; code(alloc)?]?;
+    let code = code(rt.alloc())?;
+    let image = image_of_one(rt.alloc(), &[MAIN, "data $d = { z 5 }\n"], code)?;
     let last: &[u32] = &[0x0001_0537, 0xc005_3503, NOP_WORD];
-    let image = image_of(alloc, texts.as_slice(), codes.as_slice())?;
     assert_eq!(rt; image.code().len(), 15);
     assert!(rt; image.code().ends_with(last));
-    assert_eq!(rt; image.data(), [0u8; 16].as_slice());
+    assert!(rt; image.data() == [0u8; 16].as_slice());
     assert_eq!(rt; image.data_start(), 0x11000);
+    Ok(())
+}
+
+fn data_stands_at(
+    rt: &impl Abort,
+    alloc: Global,
+    words: usize,
+    start: u64,
+) -> Result<(), AllocError> {
+    let code = vec![in alloc; 19; words]?;
+    let slot = vec![in alloc; 7; SLOT]?;
+    assert!(rt; code.len() < 2000 && !code.is_empty() && slot.len() == SLOT);
+    let image = Image::new(code, slot);
+    assert_eq!(rt; image.code().len(), words);
+    assert_eq!(rt; image.code_size(), 4 * words as u64);
+    assert!(rt; image.data() == [7u8; 16].as_slice());
+    assert_eq!(rt; image.data_start(), start);
     Ok(())
 }
 
 #[test]
 fn data_stands_on_the_page_after_the_code(rt: HostRuntime) -> Result<(), Fail> {
     for (words, start) in [(1, 0x11000), (1024, 0x11000), (1025, 0x12000)] {
-        let code = vec![in rt.alloc(); 19; words]?;
-        let slot = vec![in rt.alloc(); 7; SLOT]?;
-        assert!(rt; code.len() < 2000 && !code.is_empty() && slot.len() == SLOT);
-        let image = Image::new(code, slot);
-        assert_eq!(rt; image.code().len(), words);
-        assert_eq!(rt; image.code_size(), 4 * words as u64);
-        assert_eq!(rt; image.data(), [7u8; 16].as_slice());
-        assert_eq!(rt; image.data_start(), start);
+        data_stands_at(&rt, rt.alloc(), words, start)?;
     }
     Ok(())
 }

@@ -11,6 +11,8 @@ mod asked;
 #[cfg(test)]
 mod commanded;
 #[cfg(test)]
+mod faults;
+#[cfg(test)]
 mod shown;
 #[cfg(test)]
 mod sinks;

@@ -28,3 +28,5 @@ mod reading;
 mod show;
 #[cfg(test)]
 mod tokens;
+#[cfg(test)]
+mod told;

@@ -1,4 +1,5 @@
 //! The rows of the change that takes locals out of memory, and what is left as it is.
+use il_ast::function::Func;
 use il_ast::instruction::Inst;
 use il_ast::operation::{Extension, UnaryOp};
 use il_ast::text::Definition;
@@ -7,6 +8,7 @@ use promote::promote::promote;
 use std::alloc::{AllocError, Global};
 use std::process::Abort;
 use std::test::Fail;
+use text_maker::maker::TextMaker;
 
 /// The operation of an instruction with one operand.
 fn operation_of(inst: &Inst) -> Option<UnaryOp> {
@@ -16,36 +18,43 @@ fn operation_of(inst: &Inst) -> Option<UnaryOp> {
     }
 }
 
-/// The operations of a function's only block once its temporaries are promoted, none where an instruction has more operands than one, and the number of its
-/// temporaries.
-fn promoted(alloc: Global, text: &[u8]) -> Result<(Vec<Option<UnaryOp>>, usize), Fail> {
-    let text = match read(alloc, text) {
-        Ok(text) => text,
-        Err(_) => return Err(Fail::from("not read")),
-    };
-    let [Definition::Function(function)] = text.definitions.as_slice() else {
-        return Err(Fail::from("no function"));
-    };
-    let now = promote(alloc, function)?;
+/// The operations of a function's only block, none where an instruction has more operands than one.
+fn operations_in(alloc: Global, function: &Func) -> Result<Vec<Option<UnaryOp>>, AllocError> {
     let mut operations = Vec::new(alloc);
-    if let [block] = now.blocks.as_slice() {
+    if let [block] = function.blocks.as_slice() {
         for inst in block.insts.as_slice() {
             operations.push(operation_of(&inst.item))?;
         }
     }
-    Ok((operations, now.temps.len()))
+    Ok(operations)
+}
+
+/// The only function of a text once its temporaries are promoted.
+fn promoted(alloc: Global, text: &[u8]) -> Result<Func, Fail> {
+    let text = read(alloc, text)?;
+    match text.definitions.as_slice() {
+        [Definition::Function(function)] => Ok(promote(alloc, function)?),
+        _ => Err(Fail::from("no function")),
+    }
+}
+
+/// A function of these lines.
+fn function_of(alloc: Global, lines: &[&str]) -> Result<String, AllocError> {
+    let mut text = TextMaker::new(alloc);
+    text.add("function $f() {\n@s\n");
+    for line in lines {
+        text.add(*line);
+        text.add("\n");
+    }
+    text.add("ret\n}\n");
+    text.finish()
 }
 
 /// The operations of these lines once temporaries are promoted.
 fn operations(alloc: Global, lines: &[&str]) -> Result<Vec<Option<UnaryOp>>, Fail> {
-    let mut text = Vec::from_slice(alloc, b"function $f() {\n@s\n")?;
-    for line in lines {
-        text.extend_from_slice(line.as_bytes())?;
-        text.push(b'\n')?;
-    }
-    text.extend_from_slice(b"ret\n}\n")?;
-    let (operations, _) = promoted(alloc, text.as_slice())?;
-    Ok(operations)
+    let text = function_of(alloc, lines)?;
+    let function = promoted(alloc, text.as_bytes())?;
+    Ok(operations_in(alloc, &function)?)
 }
 
 /// What makes the block of memory that may be promoted.
@@ -120,9 +129,10 @@ fn what_is_used_otherwise_stays(rt: HostRuntime) -> Result<(), Fail> {
 #[test]
 fn whole_functions_are_promoted(rt: HostRuntime) -> Result<(), Fail> {
     let text = b"function $f() {\n@s\n%p =l alloc4 4\nstorew 7, %p\nhlt\n}\n";
-    let (operations, temps) = promoted(rt.alloc(), text)?;
+    let function = promoted(rt.alloc(), text)?;
+    let operations = operations_in(rt.alloc(), &function)?;
     let word = UnaryOp::Extend(Extension::SignedWord);
     assert_eq!(rt; operations.as_slice(), [None, Some(word)].as_slice());
-    assert_eq!(rt; temps, 1);
+    assert_eq!(rt; function.temps.len(), 1);
     Ok(())
 }

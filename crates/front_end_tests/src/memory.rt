@@ -3,77 +3,80 @@
 use il_ast::operation::Size;
 use il_ast::value::{Callee, Value};
 use il_mem::memory::{BlockId, BlockMemory};
-use std::test::Fail;
+use std::alloc::AllocError;
+use std::process::Abort;
 
 fn pointer(block: BlockId, offset: u64) -> Value {
     Value::Pointer { block, offset }
 }
 
-#[test]
-fn numbers_go_by_their_bytes(rt: HostRuntime) -> Result<(), Fail> {
-    let mut memory = BlockMemory::new(rt.alloc());
-    let block = memory.fresh(9)?;
-    let _ = memory.store(
-        pointer(block, 1),
-        Value::Integer(0x8877665544332211),
-        Size::Long,
-    );
-    let long = memory.load(pointer(block, 1), Size::Long);
-    assert_eq!(rt; long, Some(Value::Integer(0x8877665544332211)));
-    let half = memory.load(pointer(block, 2), Size::Half);
-    assert_eq!(rt; half, Some(Value::Integer(0x3322)));
-    assert_eq!(rt; memory.load(pointer(block, 0), Size::Byte), None, "blank");
-    assert_eq!(rt;
-        memory.load(pointer(block, 2), Size::Long),
-        None,
-        "past the end"
-    );
-    Ok(())
+fn loads(rt: &impl Abort, memory: &BlockMemory, from: Value, size: Size, wanted: Option<Value>) {
+    let loaded = memory.load(from, size);
+    assert!(rt; loaded == wanted, "{size:?} from {from:?}: {loaded:?}");
+}
+
+/// What stands in a block of 9 bytes in which a long of the bytes from 0x11 to 0x88 stands from the second one on.
+fn has_number(rt: &impl Abort, memory: &BlockMemory, block: BlockId) {
+    let long = Some(Value::Integer(0x8877665544332211));
+    loads(rt, memory, pointer(block, 1), Size::Long, long);
+    let half = Some(Value::Integer(0x3322));
+    loads(rt, memory, pointer(block, 2), Size::Half, half);
+    // blank, and past the end
+    loads(rt, memory, pointer(block, 0), Size::Byte, None);
+    loads(rt, memory, pointer(block, 2), Size::Long, None);
 }
 
 #[test]
-fn values_keep_their_parts(rt: HostRuntime) -> Result<(), Fail> {
+fn numbers_go_by_their_bytes(rt: HostRuntime) -> Result<(), AllocError> {
+    let mut memory = BlockMemory::new(rt.alloc());
+    let block = memory.fresh(9)?;
+    let number = Value::Integer(0x8877665544332211);
+    let _ = memory.store(pointer(block, 1), number, Size::Long);
+    has_number(&rt, &memory, block);
+    Ok(())
+}
+
+/// A value of eight parts, kept from the fifth byte of a block on, goes with all of them or not at all.
+fn keeps_parts(rt: &impl Abort, memory: &mut BlockMemory, block: BlockId, other: BlockId) {
+    let kept = Value::Function(Callee::Defined(3));
+    let _ = memory.store(pointer(block, 4), kept, Size::Long);
+    loads(rt, memory, pointer(block, 4), Size::Long, Some(kept));
+    // one part
+    loads(rt, memory, pointer(block, 4), Size::Byte, None);
+    let copied = memory.copy(pointer(block, 0), pointer(other, 8), 16);
+    assert!(rt; copied.is_some());
+    loads(rt, memory, pointer(other, 12), Size::Long, Some(kept));
+    let overlapping = memory.copy(pointer(block, 4), pointer(block, 8), 8);
+    assert!(rt; overlapping.is_none());
+    memory.free(block);
+    loads(rt, memory, pointer(block, 4), Size::Long, None);
+}
+
+#[test]
+fn values_keep_their_parts(rt: HostRuntime) -> Result<(), AllocError> {
     let mut memory = BlockMemory::new(rt.alloc());
     let block = memory.fresh(16)?;
     let other = memory.fresh(24)?;
-    assert_eq!(rt; (block, other, memory.fresh(1)?), (0, 1, 2));
-    let kept = Value::Function(Callee::Defined(3));
-    let _ = memory.store(pointer(block, 4), kept, Size::Long);
-    assert_eq!(rt; memory.load(pointer(block, 4), Size::Long), Some(kept));
-    assert_eq!(rt;
-        memory.load(pointer(block, 4), Size::Byte),
-        None,
-        "one part"
-    );
-    assert_eq!(rt;
-        memory.copy(pointer(block, 0), pointer(other, 8), 16),
-        Some(())
-    );
-    assert_eq!(rt; memory.load(pointer(other, 12), Size::Long), Some(kept));
-    assert_eq!(rt;
-        memory.copy(pointer(block, 4), pointer(block, 8), 8),
-        None,
-        "overlap"
-    );
-    memory.free(block);
-    assert_eq!(rt; memory.load(pointer(block, 4), Size::Long), None, "dead");
+    let third = memory.fresh(1)?;
+    assert!(rt; block == 0 && other == 1 && third == 2);
+    keeps_parts(&rt, &mut memory, block, other);
     Ok(())
 }
 
 // Run with an allocation refused (`rt try --test --fail-alloc N`), this shows that what was there stays.
 #[test]
-fn refused_growth_changes_nothing(rt: HostRuntime) -> Result<(), Fail> {
+fn refused_growth_changes_nothing(rt: HostRuntime) -> Result<(), AllocError> {
     let mut memory = BlockMemory::new(rt.alloc());
     let Ok(block) = memory.fresh(8) else {
         assert_eq!(rt; memory.made(), 0);
         return Ok(());
     };
-    let _ = memory.store(pointer(block, 0), Value::Integer(7), Size::Long);
+    let seven = Value::Integer(7);
+    let _ = memory.store(pointer(block, 0), seven, Size::Long);
     match memory.fresh(16) {
-        Ok(id) => assert_eq!(rt; (id, memory.size(1)), (1, Some(16))),
-        Err(_) => assert_eq!(rt; (memory.made(), memory.size(1)), (1, None)),
+        Ok(id) => assert!(rt; id == 1 && memory.size(1) == Some(16)),
+        Err(_) => assert!(rt; memory.made() == 1 && memory.size(1).is_none()),
     }
-    let kept = memory.load(pointer(block, 0), Size::Long);
-    assert_eq!(rt; kept, Some(Value::Integer(7)));
+    loads(&rt, &memory, pointer(block, 0), Size::Long, Some(seven));
     Ok(())
 }

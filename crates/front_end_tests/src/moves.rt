@@ -5,8 +5,8 @@ ghost use Rattle.phi_copies.specs.Moves.{HasDistinctDestinations, IsUnnamed};
 
 use phi_copies::moves::Move;
 use phi_copies::sequence::sequence;
+use std::alloc::{AllocError, Global};
 use std::process::Abort;
-use std::test::Fail;
 
 fn goes_elsewhere(place: usize, moves: &[Move]) -> bool
     ensures { IsTrue result → All (λ n. place ≢ n.to) moves.now }
@@ -46,37 +46,55 @@ fn left_by(moves: &[Move]) -> [usize; 10] {
     places
 }
 
+fn moves_of(alloc: Global, pairs: &[(usize, usize)]) -> Result<Vec<Move>, AllocError> {
+    let mut moves = Vec::new(alloc);
+    for (to, from) in pairs {
+        moves.push(Move {
+            to: *to,
+            from: *from,
+        })?;
+    }
+    Ok(moves)
+}
+
+fn in_order(
+    rt: &impl Abort,
+    alloc: Global,
+    moves: &[Move],
+    scratch: usize,
+) -> Result<Vec<Move>, AllocError> {
+    assert!(rt; is_distinct(moves));
+    assert!(rt; is_unnamed(scratch, moves));
+    sequence(alloc, moves, scratch)
+}
+
+fn leaves(rt: &impl Abort, out: &[Move], want: [usize; 9], count: usize) {
+    let left = left_by(out);
+    assert_eq!(rt; &left[..9], want.as_slice(), "{out:?}");
+    assert_eq!(rt; out.len(), count, "{out:?}");
+}
+
 fn makes(
     pairs: &[(usize, usize)],
     want: [usize; 9],
     count: usize,
     rt: &(impl Abort + AllocGlobal),
-) -> Result<(), Fail> {
-    let moves: Vec<Move> = pairs
-        .iter()
-        .map(|p| Move { to: p.0, from: p.1 })
-        .collect(rt.alloc())?;
-    assert!(rt; is_distinct(&moves));
-    assert!(rt; is_unnamed(SCRATCH, &moves));
-    let out = sequence(rt.alloc(), &moves, SCRATCH)?;
-    assert_eq!(rt;
-        &left_by(&out)[..9],
-        want.as_slice(),
-        "{pairs:?} as {out:?}"
-    );
-    assert_eq!(rt; out.len(), count, "{pairs:?} as {out:?}");
+) -> Result<(), AllocError> {
+    let moves = moves_of(rt.alloc(), pairs)?;
+    let out = in_order(rt, rt.alloc(), moves.as_slice(), SCRATCH)?;
+    leaves(rt, out.as_slice(), want, count);
     Ok(())
 }
 
 #[test]
-fn small(rt: HostRuntime) -> Result<(), Fail> {
+fn small(rt: HostRuntime) -> Result<(), AllocError> {
     makes(&[], [0, 1, 2, 3, 4, 5, 6, 7, 8], 0, &rt)?;
     makes(&[(3, 3)], [0, 1, 2, 3, 4, 5, 6, 7, 8], 0, &rt)?;
     makes(&[(1, 2)], [0, 2, 2, 3, 4, 5, 6, 7, 8], 1, &rt)
 }
 
 #[test]
-fn chains_and_trees(rt: HostRuntime) -> Result<(), Fail> {
+fn chains_and_trees(rt: HostRuntime) -> Result<(), AllocError> {
     makes(
         &[(1, 0), (2, 1), (3, 2)],
         [0, 0, 1, 2, 4, 5, 6, 7, 8],
@@ -104,7 +122,7 @@ fn chains_and_trees(rt: HostRuntime) -> Result<(), Fail> {
 }
 
 #[test]
-fn cycles(rt: HostRuntime) -> Result<(), Fail> {
+fn cycles(rt: HostRuntime) -> Result<(), AllocError> {
     makes(&[(0, 1), (1, 0)], [1, 0, 2, 3, 4, 5, 6, 7, 8], 3, &rt)?;
     makes(
         &[(0, 1), (1, 2), (2, 0), (4, 1), (5, 4)],
@@ -142,20 +160,30 @@ fn cycles(rt: HostRuntime) -> Result<(), Fail> {
     )
 }
 
+/// Four thousand moves, each from the place before it, and the first from this place.
+fn long_chain(alloc: Global, first: usize) -> Result<Vec<Move>, AllocError> {
+    let mut moves = Vec::new(alloc);
+    for to in 0..4000usize {
+        let from = if to == 0 { first } else { to - 1 };
+        moves.push(Move { to, from })?;
+    }
+    Ok(moves)
+}
+
+fn makes_long(
+    first: usize,
+    count: usize,
+    rt: &(impl Abort + AllocGlobal),
+) -> Result<(), AllocError> {
+    let moves = long_chain(rt.alloc(), first)?;
+    let out = in_order(rt, rt.alloc(), moves.as_slice(), 5000)?;
+    assert_eq!(rt; out.len(), count);
+    Ok(())
+}
+
 /// Four thousand moves round one cycle, and along one chain.
 #[test]
-fn many(rt: HostRuntime) -> Result<(), Fail> {
-    for first in [3999usize, 4000] {
-        let mut moves = Vec::new(rt.alloc());
-        for i in 0..4000usize {
-            let from = if i == 0 { first } else { i - 1 };
-            moves.push(Move { to: i, from })?;
-        }
-        assert!(rt; is_distinct(&moves));
-        assert!(rt; is_unnamed(5000, &moves));
-        let out = sequence(rt.alloc(), &moves, 5000)?;
-        let count = if first == 3999 { 4001 } else { 4000 };
-        assert_eq!(rt; out.len(), count);
-    }
-    Ok(())
+fn many(rt: HostRuntime) -> Result<(), AllocError> {
+    makes_long(3999, 4001, &rt)?;
+    makes_long(4000, 4000, &rt)
 }

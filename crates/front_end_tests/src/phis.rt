@@ -13,9 +13,9 @@ use il_types::check::check;
 use phi_copies::ending::Assignment;
 use phi_copies::lower::lower;
 use std::alloc::{AllocError, Global};
-use std::fmt::Write;
 use std::process::Abort;
 use std::test::Fail;
+use text_maker::maker::TextMaker;
 
 /// How many temporaries the function of the tests has; those behind them may be used besides.
 const OWN: usize = 12;
@@ -90,34 +90,37 @@ fn letter(class: Class) -> &'static str {
     }
 }
 
-fn shown(alloc: Global, value: &Val) -> Result<String, AllocError> {
-    match value {
-        Val::Int(number) => format!(in alloc; "{number}"),
-        Val::Temp(temp) => {
-            let number = temp.number();
-            format!(in alloc; "%t{number}")
-        }
-        Val::Global(_) => String::from_str(alloc, "$g"),
+fn push_parameter(text: &mut TextMaker, copies: &[Assignment], number: usize) {
+    text.add(if number == 0 { "" } else { ", " });
+    text.add(letter(class_of(copies, number)));
+    text.add_with_numbers(" %t#", &[number as u64]);
+}
+
+fn push_phi(text: &mut TextMaker, copy: &Assignment) {
+    text.add_with_numbers("%t# =", &[copy.to.temp.number() as u64]);
+    text.add(letter(copy.to.class));
+    text.add(" phi @s ");
+    match copy.value {
+        Val::Int(number) => text.add_number(number),
+        Val::Temp(temp) => text.add_with_numbers("%t#", &[temp.number() as u64]),
+        Val::Global(_) => text.add("$g"),
     }
+    text.add("\n");
 }
 
 /// A function whose second block has a phi for each of the copies.
 fn text_of(alloc: Global, copies: &[Assignment]) -> Result<String, AllocError> {
-    let mut text = String::from_str(alloc, "function $f(")?;
+    let mut text = TextMaker::new(alloc);
+    text.add("function $f(");
     for number in 0..OWN {
-        let class = letter(class_of(copies, number));
-        let comma = if number == 0 { "" } else { ", " };
-        write!(text, "{comma}{class} %t{number}")?;
+        push_parameter(&mut text, copies, number);
     }
-    text.push_str(") {\n@s\njmp @b\n@b\n")?;
+    text.add(") {\n@s\njmp @b\n@b\n");
     for copy in copies {
-        let to = copy.to.temp.number();
-        let class = letter(copy.to.class);
-        let value = shown(alloc, &copy.value)?;
-        write!(text, "%t{to} ={class} phi @s {value}\n")?;
+        push_phi(&mut text, copy);
     }
-    text.push_str("ret\n}\n")?;
-    Ok(text)
+    text.add("ret\n}\n");
+    text.finish()
 }
 
 /// The copies at the end of the first block.
@@ -164,19 +167,37 @@ fn lowered(alloc: Global, text: &[u8]) -> Result<Vec<Assignment>, Fail> {
     }
 }
 
+/// What the temporaries hold after copies one after another.
+fn after_each(copies: &[Assignment]) -> [u64; 24] {
+    let mut values = first_values();
+    for copy in copies {
+        let value = read_of(&values, copy);
+        write(&mut values, copy, value);
+    }
+    values
+}
+
+/// What they hold after copies that are done at once.
+fn after_all(copies: &[Assignment]) -> [u64; 24] {
+    let first = first_values();
+    let mut values = first;
+    for copy in copies {
+        write(&mut values, copy, read_of(&first, copy));
+    }
+    values
+}
+
+/// What the copies become as phis of a block.
+fn phis_lowered(alloc: Global, copies: &[Assignment]) -> Result<Vec<Assignment>, Fail> {
+    let text = text_of(alloc, copies)?;
+    lowered(alloc, text.as_bytes())
+}
+
 /// The copies, as phis of a block, leave what they leave at once, and become so many.
 fn does(copies: &[Assignment], count: usize, rt: &(impl Abort + AllocGlobal)) -> Result<(), Fail> {
-    let text = text_of(rt.alloc(), copies)?;
-    let out = lowered(rt.alloc(), text.as_bytes())?;
-    let mut now = first_values();
-    for copy in &out {
-        let value = read_of(&now, copy);
-        write(&mut now, copy, value);
-    }
-    let mut want = first_values();
-    for copy in copies {
-        write(&mut want, copy, read_of(&first_values(), copy));
-    }
+    let out = phis_lowered(rt.alloc(), copies)?;
+    let now = after_each(out.as_slice());
+    let want = after_all(copies);
     assert_eq!(rt; &now[..12], &want[..12], "{copies:?} as {out:?}");
     assert_eq!(rt; out.len(), count, "{copies:?} as {out:?}");
     Ok(())

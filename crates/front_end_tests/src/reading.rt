@@ -1,44 +1,88 @@
 //! Texts and the trees that a reader of the language's reference expects of them.
 
 use crate::show::{show, show_lines};
-use il_ast::text::Definition;
+use il_ast::text::{Definition, Text};
 use il_reader::error::ReadError;
 use il_reader::read::read;
-use std::alloc::Global;
+use std::alloc::{AllocError, Global};
 use std::process::Abort;
-use std::test::Fail;
+use text_maker::maker::TextMaker;
 
-fn shows(alloc: Global, text: &[u8], expected: &str, rt: &impl Abort) -> Result<(), Fail> {
-    match read(alloc, text) {
-        Ok(tree) => {
-            let shown = show(alloc, &tree)?;
-            assert_eq!(rt; shown.as_str(), expected);
-        }
-        Err(ReadError::Syntax { line }) => assert!(rt; false, "{text:?} on line {line}"),
-        Err(ReadError::Memory) => assert!(rt; false, "memory"),
-    }
+fn tree_shows(
+    alloc: Global,
+    tree: &Text,
+    expected: &str,
+    rt: &impl Abort,
+) -> Result<(), AllocError> {
+    let shown = show(alloc, tree)?;
+    assert_eq!(rt; shown.as_str(), expected);
     Ok(())
 }
 
+fn shows(alloc: Global, text: &[u8], expected: &str, rt: &impl Abort) -> Result<(), AllocError> {
+    match read(alloc, text) {
+        Ok(tree) => tree_shows(alloc, &tree, expected, rt),
+        Err(ReadError::Syntax { line }) => {
+            assert!(rt; false, "{text:?} on line {line}");
+            Ok(())
+        }
+        Err(ReadError::Memory) => Err(AllocError),
+    }
+}
+
 /// A function with these lines in a block that returns.
-fn in_a_block(alloc: Global, lines: &[u8]) -> Result<Vec<u8>, Fail> {
+fn in_a_block(alloc: Global, lines: &[u8]) -> Result<Vec<u8>, AllocError> {
     let mut text = Vec::from_slice(alloc, b"function $f() {\n@s\n")?;
     text.extend_from_slice(lines)?;
     text.extend_from_slice(b"\nret\n}")?;
     Ok(text)
 }
 
+fn tree_lines_show(
+    alloc: Global,
+    tree: &Text,
+    expected: &str,
+    rt: &impl Abort,
+) -> Result<(), AllocError> {
+    let shown = show_lines(alloc, tree)?;
+    assert_eq!(rt; shown.as_str(), expected);
+    Ok(())
+}
+
 /// What a function with these lines shows.
-fn lines_show(alloc: Global, lines: &[u8], expected: &str, rt: &impl Abort) -> Result<(), Fail> {
+fn lines_show(
+    alloc: Global,
+    lines: &[u8],
+    expected: &str,
+    rt: &impl Abort,
+) -> Result<(), AllocError> {
     let text = in_a_block(alloc, lines)?;
     match read(alloc, &text) {
-        Ok(tree) => {
-            let shown = show_lines(alloc, &tree)?;
-            assert_eq!(rt; shown.as_str(), expected, "{lines:?}");
+        Ok(tree) => tree_lines_show(alloc, &tree, expected, rt),
+        Err(_) => {
+            assert!(rt; false, "{lines:?}");
+            Ok(())
         }
-        Err(_) => assert!(rt; false, "{lines:?}"),
     }
-    Ok(())
+}
+
+/// A piece in which a word stands for each `#`.
+fn with_word(alloc: Global, piece: &str, word: &str) -> Result<String, AllocError> {
+    let mut text = TextMaker::new(alloc);
+    text.add_with_word(piece, word);
+    text.finish()
+}
+
+/// What a function with a line shows, in which the words stand for each `#`.
+fn word_shows(
+    alloc: Global,
+    (line, word): (&str, &str),
+    (expected, name): (&str, &str),
+    rt: &impl Abort,
+) -> Result<(), AllocError> {
+    let line = with_word(alloc, line, word)?;
+    let expected = with_word(alloc, expected, name)?;
+    lines_show(alloc, line.as_bytes(), &expected, rt)
 }
 
 /// The line of the syntax error, or 0 where there is none.
@@ -58,7 +102,7 @@ const LOOP_SUM: &[u8] = b"export function w $main() {\n@s\n@l\n%i =w phi @s 1, @
     jnz %c, @l, @e\n@e\nret %u\n}\n";
 
 #[test]
-fn a_loop(rt: HostRuntime) -> Result<(), Fail> {
+fn a_loop(rt: HostRuntime) -> Result<(), AllocError> {
     shows(
         rt.alloc(),
         LOOP_SUM,
@@ -69,86 +113,88 @@ fn a_loop(rt: HostRuntime) -> Result<(), Fail> {
     )
 }
 
+/// The words of operations on one value, and their names.
+const UNARY: [(&str, &str); 16] = [
+    ("neg", "Neg"),
+    ("copy", "Copy"),
+    ("extsw", "Extend(SignedWord)"),
+    ("extuw", "Extend(UnsignedWord)"),
+    ("extsh", "Extend(SignedHalf)"),
+    ("extuh", "Extend(UnsignedHalf)"),
+    ("extsb", "Extend(SignedByte)"),
+    ("extub", "Extend(UnsignedByte)"),
+    ("loadl", "LoadLong"),
+    ("loadw", "Load(SignedWord)"),
+    ("loadsw", "Load(SignedWord)"),
+    ("loaduw", "Load(UnsignedWord)"),
+    ("loadsh", "Load(SignedHalf)"),
+    ("loaduh", "Load(UnsignedHalf)"),
+    ("loadsb", "Load(SignedByte)"),
+    ("loadub", "Load(UnsignedByte)"),
+];
+
+/// The words of operations on two values.
+const BINARY: [(&str, &str); 13] = [
+    ("add", "Add"),
+    ("sub", "Sub"),
+    ("mul", "Mul"),
+    ("and", "And"),
+    ("or", "Or"),
+    ("xor", "Xor"),
+    ("div", "Div"),
+    ("rem", "Rem"),
+    ("udiv", "Udiv"),
+    ("urem", "Urem"),
+    ("sar", "Sar"),
+    ("shr", "Shr"),
+    ("shl", "Shl"),
+];
+
+/// The words of conditions.
+const CONDITIONS: [(&str, &str); 10] = [
+    ("eq", "Equal"),
+    ("ne", "NotEqual"),
+    ("sle", "SignedLessEqual"),
+    ("slt", "SignedLess"),
+    ("sge", "SignedGreaterEqual"),
+    ("sgt", "SignedGreater"),
+    ("ule", "UnsignedLessEqual"),
+    ("ult", "UnsignedLess"),
+    ("uge", "UnsignedGreaterEqual"),
+    ("ugt", "UnsignedGreater"),
+];
+
 #[test]
-fn words_of_operations(rt: HostRuntime) -> Result<(), Fail> {
-    let alloc = rt.alloc();
-    let unary = [
-        ("neg", "Neg"),
-        ("copy", "Copy"),
-        ("extsw", "Extend(SignedWord)"),
-        ("extuw", "Extend(UnsignedWord)"),
-        ("extsh", "Extend(SignedHalf)"),
-        ("extuh", "Extend(UnsignedHalf)"),
-        ("extsb", "Extend(SignedByte)"),
-        ("extub", "Extend(UnsignedByte)"),
-        ("loadl", "LoadLong"),
-        ("loadw", "Load(SignedWord)"),
-        ("loadsw", "Load(SignedWord)"),
-        ("loaduw", "Load(UnsignedWord)"),
-        ("loadsh", "Load(SignedHalf)"),
-        ("loaduh", "Load(UnsignedHalf)"),
-        ("loadsb", "Load(SignedByte)"),
-        ("loadub", "Load(UnsignedByte)"),
-    ];
-    for (word, name) in unary {
-        let lines = format!(in alloc; "%x =l {word} %y")?;
-        let expected = format!(in alloc; " %x %y\n2 @0\n3 %0 L {name} %1\n4 ret\n")?;
-        lines_show(alloc, lines.as_bytes(), &expected, &rt)?;
-    }
-    let binary = [
-        ("add", "Add"),
-        ("sub", "Sub"),
-        ("mul", "Mul"),
-        ("and", "And"),
-        ("or", "Or"),
-        ("xor", "Xor"),
-        ("div", "Div"),
-        ("rem", "Rem"),
-        ("udiv", "Udiv"),
-        ("urem", "Urem"),
-        ("sar", "Sar"),
-        ("shr", "Shr"),
-        ("shl", "Shl"),
-    ];
-    for (word, name) in binary {
-        let lines = format!(in alloc; "%x =w {word} $f, -1")?;
-        let expected = format!(in alloc;
-            " %x\n2 @0\n3 %0 W {name} $0 18446744073709551615\n4 ret\n"
-        )?;
-        lines_show(alloc, lines.as_bytes(), &expected, &rt)?;
+fn words_of_unary_operations(rt: HostRuntime) -> Result<(), AllocError> {
+    let expected = " %x %y\n2 @0\n3 %0 L # %1\n4 ret\n";
+    for (word, name) in UNARY {
+        word_shows(rt.alloc(), ("%x =l # %y", word), (expected, name), &rt)?;
     }
     Ok(())
 }
 
 #[test]
-fn words_of_comparisons(rt: HostRuntime) -> Result<(), Fail> {
-    let alloc = rt.alloc();
-    let conditions = [
-        ("eq", "Equal"),
-        ("ne", "NotEqual"),
-        ("sle", "SignedLessEqual"),
-        ("slt", "SignedLess"),
-        ("sge", "SignedGreaterEqual"),
-        ("sgt", "SignedGreater"),
-        ("ule", "UnsignedLessEqual"),
-        ("ult", "UnsignedLess"),
-        ("uge", "UnsignedGreaterEqual"),
-        ("ugt", "UnsignedGreater"),
-    ];
-    for (word, name) in conditions {
-        for (letter, class) in [("w", "W"), ("l", "L")] {
-            let lines = format!(in alloc; "%x =w c{word}{letter} 1, 2")?;
-            let expected = format!(in alloc;
-                " %x\n2 @0\n3 %0 W Compare({name}, {class}) 1 2\n4 ret\n"
-            )?;
-            lines_show(alloc, lines.as_bytes(), &expected, &rt)?;
-        }
+fn words_of_binary_operations(rt: HostRuntime) -> Result<(), AllocError> {
+    let expected = " %x\n2 @0\n3 %0 W # $0 18446744073709551615\n4 ret\n";
+    for (word, name) in BINARY {
+        word_shows(rt.alloc(), ("%x =w # $f, -1", word), (expected, name), &rt)?;
     }
     Ok(())
 }
 
 #[test]
-fn lines_of_a_block(rt: HostRuntime) -> Result<(), Fail> {
+fn words_of_comparisons(rt: HostRuntime) -> Result<(), AllocError> {
+    let words = " %x\n2 @0\n3 %0 W Compare(#, W) 1 2\n4 ret\n";
+    let longs = " %x\n2 @0\n3 %0 W Compare(#, L) 1 2\n4 ret\n";
+    for (word, name) in CONDITIONS {
+        word_shows(rt.alloc(), ("%x =w c#w 1, 2", word), (words, name), &rt)?;
+        word_shows(rt.alloc(), ("%x =w c#l 1, 2", word), (longs, name), &rt)?;
+    }
+    Ok(())
+}
+
+#[test]
+fn lines_of_a_block(rt: HostRuntime) -> Result<(), AllocError> {
     let rows: [(&[u8], &str); 21] = [
         (b"%p =l alloc4 8", " %p\n2 @0\n3 %0 L Four 8\n4 ret\n"),
         (b"%p =w alloc8 0", " %p\n2 @0\n3 %0 W Eight 0\n4 ret\n"),
@@ -200,7 +246,7 @@ fn lines_of_a_block(rt: HostRuntime) -> Result<(), Fail> {
 }
 
 #[test]
-fn definitions(rt: HostRuntime) -> Result<(), Fail> {
+fn definitions(rt: HostRuntime) -> Result<(), AllocError> {
     let rows: [(&[u8], &str); 14] = [
         (b"", "1 lines 0 bytes\n"),
         (b"\n # no definition\n#", "3 lines 19 bytes\n"),
@@ -261,9 +307,21 @@ fn definitions(rt: HostRuntime) -> Result<(), Fail> {
     Ok(())
 }
 
+fn is_refused_at(
+    rt: &impl Abort,
+    alloc: Global,
+    lines: &[u8],
+    line: usize,
+) -> Result<(), AllocError> {
+    let text = in_a_block(alloc, lines)?;
+    let refused = error_line(alloc, &text, rt);
+    assert_eq!(rt; refused, line.saturating_add(2), "{lines:?}");
+    Ok(())
+}
+
 /// Lines of a block that are outside the grammar. The line is counted from the first of these.
 #[test]
-fn refused_lines(rt: HostRuntime) -> Result<(), Fail> {
+fn refused_lines(rt: HostRuntime) -> Result<(), AllocError> {
     let rows: [(&[u8], usize); 60] = [
         (b"%x =w adder 1, 2", 1),
         (b"%x =w ad 1, 2", 1),
@@ -327,12 +385,7 @@ fn refused_lines(rt: HostRuntime) -> Result<(), Fail> {
         (b"hlt 1", 1),
     ];
     for (lines, line) in rows {
-        let text = in_a_block(rt.alloc(), lines)?;
-        assert_eq!(rt;
-            error_line(rt.alloc(), &text, &rt),
-            line.saturating_add(2),
-            "{lines:?}"
-        );
+        is_refused_at(&rt, rt.alloc(), lines, line)?;
     }
     Ok(())
 }
@@ -401,54 +454,73 @@ fn each_front_of_a_text(rt: HostRuntime) {
     }
 }
 
-#[test]
-fn bytes_that_stand_nowhere(rt: HostRuntime) -> Result<(), Fail> {
-    for byte in [0u8, 13, 127] {
-        let mut lines: usize = 1;
-        for at in 0..=LOOP_SUM.len() {
-            let (front, back) = LOOP_SUM.split_at(at);
-            let mut text = Vec::from_slice(rt.alloc(), front)?;
-            text.push(byte)?;
-            text.extend_from_slice(back)?;
-            let line = error_line(rt.alloc(), &text, &rt);
-            assert_eq!(rt; line, lines, "{byte} at {at}");
-            if back.first() == Some(&b'\n') {
-                lines = lines.saturating_add(1);
-            }
+/// The text with a byte put in.
+fn with_byte(alloc: Global, front: &[u8], byte: u8, back: &[u8]) -> Result<Vec<u8>, AllocError> {
+    let mut text = Vec::from_slice(alloc, front)?;
+    text.push(byte)?;
+    text.extend_from_slice(back)?;
+    Ok(text)
+}
+
+fn stands_nowhere(rt: &impl Abort, alloc: Global, byte: u8) -> Result<(), AllocError> {
+    let mut lines: usize = 1;
+    for at in 0..=LOOP_SUM.len() {
+        let (front, back) = LOOP_SUM.split_at(at);
+        let text = with_byte(alloc, front, byte, back)?;
+        let line = error_line(alloc, &text, rt);
+        assert_eq!(rt; line, lines, "{byte} at {at}");
+        if back.first() == Some(&b'\n') {
+            lines = lines.saturating_add(1);
         }
     }
     Ok(())
 }
 
+#[test]
+fn bytes_that_stand_nowhere(rt: HostRuntime) -> Result<(), AllocError> {
+    for byte in [0u8, 13, 127] {
+        stands_nowhere(&rt, rt.alloc(), byte)?;
+    }
+    Ok(())
+}
+
+fn push_long_function(text: &mut TextMaker, number: u64) {
+    text.add_with_numbers("function $f#(w %p) {\n", &[number]);
+    for b in 0..20 {
+        text.add_with_numbers("@b#\n%t# =w add %p, #\n", &[b, b, b]);
+        text.add_with_numbers("%u# =w call $f#(w %t#)\n", &[b, b, b]);
+    }
+    text.add("ret %p\n}\n");
+}
+
+fn long_text(alloc: Global) -> Result<String, AllocError> {
+    let mut text = TextMaker::new(alloc);
+    for number in 0..40 {
+        push_long_function(&mut text, number);
+    }
+    text.finish()
+}
+
+fn is_long_text(rt: &impl Abort, tree: &Text) {
+    assert_eq!(rt; tree.definitions.len(), 40);
+    assert_eq!(rt; tree.symbols.len(), 40);
+    assert_eq!(rt; tree.lines, 40 * 63 + 1);
+    match tree.definitions.as_slice().last() {
+        Some(Definition::Function(function)) => {
+            assert_eq!(rt; function.temps.len(), 41);
+            assert_eq!(rt; function.labels.len(), 20);
+            assert_eq!(rt; function.name.number(), 39);
+        }
+        _ => assert!(rt; false, "a function"),
+    }
+}
+
 /// Hundreds of names, blocks and functions, with memory to spare.
 #[test]
-fn a_long_text(rt: HostRuntime) -> Result<(), Fail> {
-    let alloc = rt.alloc();
-    let mut text = String::new(alloc);
-    for f in 0..40 {
-        writeln!(&mut text, "function $f{f}(w %p) {{")?;
-        for b in 0..20 {
-            writeln!(
-                &mut text,
-                "@b{b}\n%t{b} =w add %p, {b}\n%u{b} =w call $f{b}(w %t{b})"
-            )?;
-        }
-        text.push_str("ret %p\n}\n")?;
-    }
-    match read(alloc, text.as_bytes()) {
-        Ok(tree) => {
-            assert_eq!(rt; tree.definitions.len(), 40);
-            assert_eq!(rt; tree.symbols.len(), 40);
-            assert_eq!(rt; tree.lines, 40 * 63 + 1);
-            match tree.definitions.as_slice().last() {
-                Some(Definition::Function(function)) => {
-                    assert_eq!(rt; function.temps.len(), 41);
-                    assert_eq!(rt; function.labels.len(), 20);
-                    assert_eq!(rt; function.name.number(), 39);
-                }
-                _ => assert!(rt; false, "a function"),
-            }
-        }
+fn a_long_text(rt: HostRuntime) -> Result<(), AllocError> {
+    let text = long_text(rt.alloc())?;
+    match read(rt.alloc(), text.as_bytes()) {
+        Ok(tree) => is_long_text(&rt, &tree),
         Err(_) => assert!(rt; false, "a text"),
     }
     Ok(())

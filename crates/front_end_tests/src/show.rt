@@ -8,143 +8,164 @@ use il_ast::name::Name;
 use il_ast::operand::{Arg, Dest, Val};
 use il_ast::text::{Definition, Text};
 use std::alloc::{AllocError, Global};
+use text_maker::maker::TextMaker;
 
 /// A text, with its numbers of lines and bytes and the names of its globals.
 pub(crate) fn show(alloc: Global, text: &Text) -> Result<String, AllocError> {
-    let mut out = String::new(alloc);
-    let lines = text.lines;
-    let bytes = text.bytes;
-    write!(&mut out, "{lines} lines {bytes} bytes")?;
-    show_names(&mut out, '$', text.symbols.as_slice())?;
-    for definition in text.definitions.as_slice() {
-        match definition {
-            Definition::Function(function) => show_function(&mut out, function)?,
-            Definition::Object(object) => show_object(&mut out, object)?,
-        }
-    }
-    Ok(out)
+    let mut out = TextMaker::new(alloc);
+    show_text(&mut out, text);
+    out.finish()
 }
 
 /// The temporaries and the blocks of a text that has one function.
 pub(crate) fn show_lines(alloc: Global, text: &Text) -> Result<String, AllocError> {
-    let mut out = String::new(alloc);
+    let mut out = TextMaker::new(alloc);
     match text.definitions.as_slice() {
         [Definition::Function(function)] => {
-            show_names(&mut out, '%', function.temps.as_slice())?;
-            for block in function.blocks.as_slice() {
-                show_block(&mut out, block)?;
-            }
+            show_names(&mut out, "%", function.temps.as_slice());
+            show_blocks(&mut out, function.blocks.as_slice());
         }
         _ => {}
     }
-    Ok(out)
+    out.finish()
 }
 
-fn show_names(out: &mut String, sigil: char, names: &[Name]) -> Result<(), AllocError> {
+fn show_text(out: &mut TextMaker, text: &Text) {
+    add_numbers(out, "# lines # bytes", text.lines, text.bytes);
+    show_names(out, "$", text.symbols.as_slice());
+    for definition in text.definitions.as_slice() {
+        match definition {
+            Definition::Function(function) => show_function(out, function),
+            Definition::Object(object) => show_object(out, object),
+        }
+    }
+}
+
+// A piece with a number.
+fn add_number(out: &mut TextMaker, piece: &str, number: usize) {
+    out.add_with_numbers(piece, &[number as u64]);
+}
+
+// A piece with two numbers.
+fn add_numbers(out: &mut TextMaker, piece: &str, first: usize, second: usize) {
+    out.add_with_numbers(piece, &[first as u64, second as u64]);
+}
+
+fn show_names(out: &mut TextMaker, sigil: &str, names: &[Name]) {
     for name in names {
-        out.push(' ')?;
-        out.push(sigil)?;
-        show_bytes(out, name.as_slice())?;
+        out.add(" ");
+        out.add(sigil);
+        show_bytes(out, name.as_slice());
     }
-    out.push('\n')?;
-    Ok(())
+    out.add("\n");
 }
 
-fn show_bytes(out: &mut String, bytes: &[u8]) -> Result<(), AllocError> {
+fn show_bytes(out: &mut TextMaker, bytes: &[u8]) {
     for byte in bytes {
-        out.push(char::from(*byte))?;
+        out.add_char(char::from(*byte));
     }
-    Ok(())
 }
 
-fn show_value(out: &mut String, value: Val) -> Result<(), AllocError> {
+fn show_value(out: &mut TextMaker, value: Val) {
     match value {
-        Val::Int(number) => write!(out, " {number}")?,
-        Val::Temp(temp) => {
-            let number = temp.number();
-            write!(out, " %{number}")?
-        }
-        Val::Global(symbol) => {
-            let number = symbol.number();
-            write!(out, " ${number}")?
-        }
+        Val::Int(number) => out.add_with_numbers(" #", &[number]),
+        Val::Temp(temp) => add_number(out, " %#", temp.number()),
+        Val::Global(symbol) => add_number(out, " $#", symbol.number()),
     }
-    Ok(())
 }
 
-fn show_dest(out: &mut String, to: Dest) -> Result<(), AllocError> {
-    let number = to.temp.number();
-    let class = to.class;
-    write!(out, " %{number} {class:?}")?;
-    Ok(())
+fn show_dest(out: &mut TextMaker, to: Dest) {
+    add_number(out, " %# ", to.temp.number());
+    out.add_debug(&to.class);
 }
 
-fn show_function(out: &mut String, function: &Func) -> Result<(), AllocError> {
-    let line = function.line;
-    let exported = function.exported;
-    let name = function.name.number();
-    write!(out, "{line} function ${name} {exported}")?;
+fn show_function(out: &mut TextMaker, function: &Func) {
+    add_numbers(out, "# function $# ", function.line, function.name.number());
+    out.add_debug(&function.exported);
     match function.result {
-        Some(class) => write!(out, " {class:?}")?,
+        Some(class) => {
+            out.add(" ");
+            out.add_debug(&class);
+        }
         None => {}
     }
     for param in function.params.as_slice() {
-        show_param(out, *param)?;
+        show_param(out, *param);
     }
-    show_names(out, '%', function.temps.as_slice())?;
-    show_names(out, '@', function.labels.as_slice())?;
-    for block in function.blocks.as_slice() {
-        show_block(out, block)?;
-    }
-    Ok(())
+    show_names(out, "%", function.temps.as_slice());
+    show_names(out, "@", function.labels.as_slice());
+    show_blocks(out, function.blocks.as_slice());
 }
 
-fn show_param(out: &mut String, param: Param) -> Result<(), AllocError> {
-    let line = param.line;
-    let number = param.temp.number();
-    let class = param.class;
-    write!(out, " ({line} {class:?} %{number})")?;
-    Ok(())
+fn show_param(out: &mut TextMaker, param: Param) {
+    add_number(out, " (# ", param.line);
+    out.add_debug(&param.class);
+    add_number(out, " %#)", param.temp.number());
 }
 
-fn show_block(out: &mut String, block: &Block) -> Result<(), AllocError> {
-    let line = block.line;
-    let number = block.label.number();
-    writeln!(out, "{line} @{number}")?;
+fn show_blocks(out: &mut TextMaker, blocks: &[Block]) {
+    for block in blocks {
+        show_block(out, block);
+    }
+}
+
+fn show_block(out: &mut TextMaker, block: &Block) {
+    add_numbers(out, "# @#\n", block.line, block.label.number());
     for phi in block.phis.as_slice() {
-        show_phi(out, phi)?;
+        show_phi(out, phi);
     }
     for inst in block.insts.as_slice() {
-        show_inst(out, inst)?;
+        show_inst(out, inst);
     }
     match &block.jump {
         Some(jump) => show_jump(out, jump),
-        None => Ok(()),
+        None => {}
     }
 }
 
-fn show_phi(out: &mut String, phi: &Phi) -> Result<(), AllocError> {
-    let line = phi.line;
-    write!(out, "{line}")?;
-    show_dest(out, phi.to)?;
-    out.push_str(" phi")?;
+fn show_phi(out: &mut TextMaker, phi: &Phi) {
+    add_number(out, "#", phi.line);
+    show_dest(out, phi.to);
+    out.add(" phi");
     for arg in phi.args.as_slice() {
-        let from = arg.from.number();
-        write!(out, " @{from}")?;
-        show_value(out, arg.value)?;
+        add_number(out, " @#", arg.from.number());
+        show_value(out, arg.value);
     }
-    out.push('\n')?;
-    Ok(())
+    out.add("\n");
 }
 
-fn show_inst(out: &mut String, inst: &Lined<Inst>) -> Result<(), AllocError> {
-    let line = inst.line;
-    write!(out, "{line}")?;
+fn show_inst(out: &mut TextMaker, inst: &Lined<Inst>) {
+    add_number(out, "#", inst.line);
     match &inst.item {
+        Inst::Call { to, callee, args } => show_call(out, *to, *callee, args.as_slice()),
+        Inst::Store { size, value, at } => {
+            out.add(" store ");
+            out.add_debug(size);
+            show_values(out, *value, *at);
+        }
+        Inst::Blit { from, to, count } => {
+            out.add(" blit");
+            show_values(out, *from, *to);
+            out.add_with_numbers(" #", &[*count]);
+        }
+        other => show_operation(out, other),
+    }
+    out.add("\n");
+}
+
+fn show_values(out: &mut TextMaker, first: Val, second: Val) {
+    show_value(out, first);
+    show_value(out, second);
+}
+
+// An instruction that always has a result.
+fn show_operation(out: &mut TextMaker, inst: &Inst) {
+    match inst {
         Inst::Unary { to, op, value } => {
-            show_dest(out, *to)?;
-            write!(out, " {op:?}")?;
-            show_value(out, *value)?;
+            show_dest(out, *to);
+            out.add(" ");
+            out.add_debug(op);
+            show_value(out, *value);
         }
         Inst::Binary {
             to,
@@ -152,119 +173,96 @@ fn show_inst(out: &mut String, inst: &Lined<Inst>) -> Result<(), AllocError> {
             left,
             right,
         } => {
-            show_dest(out, *to)?;
-            write!(out, " {op:?}")?;
-            show_value(out, *left)?;
-            show_value(out, *right)?;
+            show_dest(out, *to);
+            out.add(" ");
+            out.add_debug(op);
+            show_values(out, *left, *right);
         }
         Inst::Alloc {
             to,
             alignment,
             size,
         } => {
-            show_dest(out, *to)?;
-            write!(out, " {alignment:?} {size}")?;
+            show_dest(out, *to);
+            out.add(" ");
+            out.add_debug(alignment);
+            out.add_with_numbers(" #", &[*size]);
         }
-        Inst::Store { size, value, at } => {
-            write!(out, " store {size:?}")?;
-            show_value(out, *value)?;
-            show_value(out, *at)?;
-        }
-        Inst::Blit { from, to, count } => {
-            out.push_str(" blit")?;
-            show_value(out, *from)?;
-            show_value(out, *to)?;
-            write!(out, " {count}")?;
-        }
-        Inst::Call { to, callee, args } => show_call(out, *to, *callee, args.as_slice())?,
+        Inst::Call { .. } | Inst::Store { .. } | Inst::Blit { .. } => {}
     }
-    out.push('\n')?;
-    Ok(())
 }
 
-fn show_call(
-    out: &mut String,
-    to: Option<Dest>,
-    callee: Val,
-    args: &[Arg],
-) -> Result<(), AllocError> {
+fn show_call(out: &mut TextMaker, to: Option<Dest>, callee: Val, args: &[Arg]) {
     match to {
-        Some(to) => show_dest(out, to)?,
+        Some(to) => show_dest(out, to),
         None => {}
     }
-    out.push_str(" call")?;
-    show_value(out, callee)?;
+    out.add(" call");
+    show_value(out, callee);
     for arg in args {
-        let class = arg.class;
-        write!(out, " {class:?}")?;
-        show_value(out, arg.value)?;
+        out.add(" ");
+        out.add_debug(&arg.class);
+        show_value(out, arg.value);
     }
-    Ok(())
 }
 
-fn show_jump(out: &mut String, jump: &Lined<Jump>) -> Result<(), AllocError> {
-    let line = jump.line;
-    write!(out, "{line}")?;
+fn show_jump(out: &mut TextMaker, jump: &Lined<Jump>) {
+    add_number(out, "#", jump.line);
     match jump.item {
-        Jump::Goto(label) => {
-            let number = label.number();
-            write!(out, " jmp @{number}")?;
-        }
+        Jump::Goto(label) => add_number(out, " jmp @#", label.number()),
         Jump::Branch {
             on,
             nonzero,
             otherwise,
         } => {
-            out.push_str(" jnz")?;
-            show_value(out, on)?;
-            let nonzero = nonzero.number();
-            let otherwise = otherwise.number();
-            write!(out, " @{nonzero} @{otherwise}")?;
+            out.add(" jnz");
+            show_value(out, on);
+            add_numbers(out, " @# @#", nonzero.number(), otherwise.number());
         }
         Jump::Return(Some(value)) => {
-            out.push_str(" ret")?;
-            show_value(out, value)?;
+            out.add(" ret");
+            show_value(out, value);
         }
-        Jump::Return(None) => out.push_str(" ret")?,
-        Jump::Halt => out.push_str(" hlt")?,
+        Jump::Return(None) => out.add(" ret"),
+        Jump::Halt => out.add(" hlt"),
     }
-    out.push('\n')?;
-    Ok(())
+    out.add("\n");
 }
 
-fn show_object(out: &mut String, object: &DataDef) -> Result<(), AllocError> {
-    let line = object.line;
-    let exported = object.exported;
-    let name = object.name.number();
-    let alignment = object.alignment;
-    write!(out, "{line} data ${name} {exported} {alignment}")?;
+fn show_object(out: &mut TextMaker, object: &DataDef) {
+    add_numbers(out, "# data $# ", object.line, object.name.number());
+    out.add_debug(&object.exported);
+    out.add(" ");
+    out.add_debug(&object.alignment);
     for field in object.fields.as_slice() {
         match field {
-            Field::Zeros(count) => write!(out, " z {count}")?,
+            Field::Zeros(count) => out.add_with_numbers(" z #", &[*count]),
             Field::Items { size, items } => {
-                write!(out, " {size:?}")?;
-                show_items(out, items.as_slice())?;
+                out.add(" ");
+                out.add_debug(size);
+                show_items(out, items.as_slice());
             }
         }
     }
-    out.push('\n')?;
-    Ok(())
+    out.add("\n");
 }
 
-fn show_items(out: &mut String, items: &[Item]) -> Result<(), AllocError> {
+fn show_items(out: &mut TextMaker, items: &[Item]) {
     for item in items {
-        match item {
-            Item::Int(number) => write!(out, " {number}")?,
-            Item::Bytes(bytes) => {
-                out.push_str(" \"")?;
-                show_bytes(out, bytes.as_slice())?;
-                out.push('"')?;
-            }
-            Item::Address { symbol, offset } => {
-                let number = symbol.number();
-                write!(out, " ${number}+{offset}")?;
-            }
+        show_item(out, item);
+    }
+}
+
+fn show_item(out: &mut TextMaker, item: &Item) {
+    match item {
+        Item::Int(number) => out.add_with_numbers(" #", &[*number]),
+        Item::Bytes(bytes) => {
+            out.add(" \"");
+            show_bytes(out, bytes.as_slice());
+            out.add("\"");
+        }
+        Item::Address { symbol, offset } => {
+            out.add_with_numbers(" $#+#", &[symbol.number() as u64, *offset]);
         }
     }
-    Ok(())
 }

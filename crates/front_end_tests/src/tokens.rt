@@ -3,9 +3,8 @@
 use il_lex::kind::{Kind, Symbol};
 use il_lex::quoted::string_bytes;
 use il_lex::tokens::Tokens;
-use std::alloc::Global;
+use std::alloc::{AllocError, Global};
 use std::process::Abort;
-use std::test::Fail;
 
 /// What a call of `next` showed.
 #[derive(Clone, Copy, PartialEq, Eq, Debug)]
@@ -242,39 +241,52 @@ fn neighbours(rt: HostRuntime) {
     }
 }
 
-#[test]
-fn long_names(rt: HostRuntime) -> Result<(), Fail> {
-    for sigil in [b'$', b'%', b'@'] {
-        let mut text = Vec::new(rt.alloc());
-        text.push(sigil)?;
-        for _ in 0..255 {
-            text.push(b'n')?;
-        }
-        match seen_at(&text, 0) {
-            Seen::Token(_, start, end, line) => assert!(rt; start == 0 && end == 256 && line == 1),
-            _ => assert!(rt; false, "255 bytes"),
-        }
+/// A sigil and so many letters.
+fn long_name(alloc: Global, sigil: u8, letters: usize) -> Result<Vec<u8>, AllocError> {
+    let mut text = Vec::new(alloc);
+    text.push(sigil)?;
+    for _ in 0..letters {
         text.push(b'n')?;
-        assert_eq!(rt; seen_at(&text, 0), Seen::Error(1));
-        text[0] = b'n';
-        assert_eq!(rt; seen_at(&text, 0), Seen::Token(Kind::Word, 0, 257, 1));
     }
+    Ok(text)
+}
+
+fn is_one_token(rt: &impl Abort, seen: Seen, length: usize) {
+    match seen {
+        Seen::Token(_, start, end, line) => {
+            assert!(rt; start == 0 && end == length && line == 1);
+        }
+        _ => assert!(rt; false, "no token"),
+    }
+}
+
+#[test]
+fn long_names(rt: HostRuntime) -> Result<(), AllocError> {
+    for sigil in [b'$', b'%', b'@'] {
+        let name = long_name(rt.alloc(), sigil, 255)?;
+        is_one_token(&rt, seen_at(&name, 0), 256);
+        let longer = long_name(rt.alloc(), sigil, 256)?;
+        assert_eq!(rt; seen_at(&longer, 0), Seen::Error(1));
+    }
+    let word = long_name(rt.alloc(), b'n', 256)?;
+    assert_eq!(rt; seen_at(&word, 0), Seen::Token(Kind::Word, 0, 257, 1));
     Ok(())
 }
 
-fn stands_for(alloc: Global, text: &[u8], bytes: &[u8], rt: &impl Abort) -> Result<(), Fail> {
-    assert_eq!(rt;
-        seen_at(text, 0),
-        Seen::Token(Kind::Quoted, 0, text.len(), 1),
-        "{text:?}"
-    );
+fn is_string(rt: &impl Abort, text: &[u8]) {
+    let wanted = Seen::Token(Kind::Quoted, 0, text.len(), 1);
+    assert_eq!(rt; seen_at(text, 0), wanted, "{text:?}");
+}
+
+fn stands_for(alloc: Global, text: &[u8], bytes: &[u8], rt: &impl Abort) -> Result<(), AllocError> {
+    is_string(rt, text);
     let read = string_bytes(alloc, text)?;
-    assert_eq!(rt; read.as_slice(), bytes, "{text:?}");
+    assert!(rt; read.as_slice() == bytes, "{text:?}: {read:?}");
     Ok(())
 }
 
 #[test]
-fn strings(rt: HostRuntime) -> Result<(), Fail> {
+fn strings(rt: HostRuntime) -> Result<(), AllocError> {
     let rows: [(&[u8], &[u8]); 13] = [
         (b"\"\"", b""),
         (b"\"Hi\\n\"", b"Hi\n"),
