@@ -1,31 +1,9 @@
 //! Operations by name.
 use il_ast::operation::{Class, Condition, Size};
 use rv_isa::instruction::{LoadOp, RegOp, RegWOp};
+use rv_isa::text::{load_name, reg_name, regw_name};
 use text_maker::maker::TextMaker;
 use vcode::line::Operation;
-
-fn register_name(op: RegOp) -> &'static str {
-    match op {
-        RegOp::Add => "add",
-        RegOp::Sub => "sub",
-        RegOp::Sll => "sll",
-        RegOp::Slt => "slt",
-        RegOp::Sltu => "sltu",
-        RegOp::Xor => "xor",
-        RegOp::Srl => "srl",
-        RegOp::Sra => "sra",
-        RegOp::Or => "or",
-        RegOp::And => "and",
-        RegOp::Mul => "mul",
-        RegOp::Mulh => "mulh",
-        RegOp::Mulhsu => "mulhsu",
-        RegOp::Mulhu => "mulhu",
-        RegOp::Div => "div",
-        RegOp::Divu => "divu",
-        RegOp::Rem => "rem",
-        RegOp::Remu => "remu",
-    }
-}
 
 fn register_op(word: &str) -> Option<RegOp> {
     for op in [
@@ -48,26 +26,11 @@ fn register_op(word: &str) -> Option<RegOp> {
         RegOp::Rem,
         RegOp::Remu,
     ] {
-        if register_name(op) == word {
+        if reg_name(op) == word {
             return Some(op);
         }
     }
     None
-}
-
-fn word_name(op: RegWOp) -> &'static str {
-    match op {
-        RegWOp::Addw => "addw",
-        RegWOp::Subw => "subw",
-        RegWOp::Sllw => "sllw",
-        RegWOp::Srlw => "srlw",
-        RegWOp::Sraw => "sraw",
-        RegWOp::Mulw => "mulw",
-        RegWOp::Divw => "divw",
-        RegWOp::Divuw => "divuw",
-        RegWOp::Remw => "remw",
-        RegWOp::Remuw => "remuw",
-    }
 }
 
 fn word_op(word: &str) -> Option<RegWOp> {
@@ -83,23 +46,11 @@ fn word_op(word: &str) -> Option<RegWOp> {
         RegWOp::Remw,
         RegWOp::Remuw,
     ] {
-        if word_name(op) == word {
+        if regw_name(op) == word {
             return Some(op);
         }
     }
     None
-}
-
-pub(crate) fn load_name(op: LoadOp) -> &'static str {
-    match op {
-        LoadOp::Lb => "lb",
-        LoadOp::Lh => "lh",
-        LoadOp::Lw => "lw",
-        LoadOp::Ld => "ld",
-        LoadOp::Lbu => "lbu",
-        LoadOp::Lhu => "lhu",
-        LoadOp::Lwu => "lwu",
-    }
 }
 
 pub(crate) fn load_op(word: &str) -> Option<LoadOp> {
@@ -208,8 +159,8 @@ pub(crate) fn put_comparison(to: &mut TextMaker, condition: Condition, class: Cl
 
 pub(crate) fn put_operation(to: &mut TextMaker, operation: Operation) {
     match operation {
-        Operation::Reg(op) => to.add(register_name(op)),
-        Operation::RegW(op) => to.add(word_name(op)),
+        Operation::Reg(op) => to.add(reg_name(op)),
+        Operation::RegW(op) => to.add(regw_name(op)),
         Operation::Compare(condition, class) => put_comparison(to, condition, class),
     }
 }

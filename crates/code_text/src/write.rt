@@ -1,7 +1,8 @@
 //! Code as text.
-use crate::names::{class_name, load_name, put_comparison, put_operation, store_name};
+use crate::names::{class_name, put_comparison, put_operation, store_name};
 use crate::place::Place;
 use il_ast::operation::Class;
+use rv_isa::text::load_name;
 use std::alloc::{AllocError, Global};
 use text_maker::maker::TextMaker;
 use vcode::code::{Block, Code};

@@ -173,7 +173,8 @@ fn branch_name(op: BranchOp) -> &'static str
     }
 }
 
-fn load_name(op: LoadOp) -> &'static str
+/// The name of a load.
+pub fn load_name(op: LoadOp) -> &'static str
     ensures { result.now ≡ load_name op }
 {
     match op {
@@ -231,7 +232,8 @@ fn shiftw_name(op: ShiftWOp) -> &'static str
     }
 }
 
-fn reg_name(op: RegOp) -> &'static str
+/// The name of an operation on two registers.
+pub fn reg_name(op: RegOp) -> &'static str
     ensures { result.now ≡ reg_name op }
 {
     match op {
@@ -256,7 +258,8 @@ fn reg_name(op: RegOp) -> &'static str
     }
 }
 
-fn regw_name(op: RegWOp) -> &'static str
+/// The name of an operation on the low words of two registers.
+pub fn regw_name(op: RegWOp) -> &'static str
     ensures { result.now ≡ regw_name op }
 {
     match op {
