@@ -5,6 +5,7 @@
 #![tactic(auto)]
 
 mod case;
+mod machine;
 mod passes;
 mod step;
 

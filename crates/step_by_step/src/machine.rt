@@ -1,0 +1,103 @@
+//! The machine: words of instructions one after another, and what they leave.
+//!
+//! A line that is given has words in hexadecimal, joined by `+`, and what registers 5 and 6 hold before them. Register 7 holds 0, and 16 bytes of data stand at 0x11000. For
+//! each line stands what register 7 holds behind the words, and where the machine is then; or where it stopped, what register 5 holds then, and where the machine is.
+use elf_file::{read_image, write_image};
+use obj_link::Image;
+use rv_isa::ranges::Register;
+use rv_machine::machine::Machine;
+use rv_machine::page_ram::PageRam;
+use rv_machine::stop::Stop;
+use std::alloc::{AllocError, Global};
+use text_maker::maker::TextMaker;
+
+const X5: Register = Register { number: 5 };
+
+const X7: Register = Register { number: 7 };
+
+/// The data, behind which the values of registers 5 and 6 stand.
+const DATA: [u8; 16] = [
+    0x48, 0x69, 0x0a, 0x81, 0xf2, 0xf3, 0xf4, 0xf5, 0xf6, 0xf7, 0xf8, 0xf9, 0xfa, 0xfb, 0xfc, 0xfd,
+];
+
+/// `lui x5, 0x11`, `ld x6, 24(x5)`, `ld x5, 16(x5)` and `addi x7, x0, 0`.
+const BEFORE: [u32; 4] = [0x0001_12b7, 0x0182_b303, 0x0102_b283, 0x0000_0393];
+
+/// The number that hexadecimal digits stand for.
+fn number(digits: Option<&str>) -> Option<u64> {
+    u64::from_str_radix(digits?, 16).ok()
+}
+
+fn code_of(alloc: Global, words: &str) -> Option<Vec<u32>> {
+    let mut code = BEFORE.to_vec(alloc).ok()?;
+    for word in words.split('+') {
+        code.push(u32::from_str_radix(word, 16).ok()?).ok()?;
+    }
+    Some(code)
+}
+
+fn data_of(alloc: Global, x5: u64, x6: u64) -> Result<Vec<u8>, AllocError> {
+    let mut data = DATA.to_vec(alloc)?;
+    data.extend_from_slice(&x5.to_le_bytes())?;
+    data.extend_from_slice(&x6.to_le_bytes())?;
+    Ok(data)
+}
+
+fn image_of(code: Vec<u32>, data: Vec<u8>) -> Option<Image> {
+    if code.is_empty() || code.len() > 1024 || data.len() > 1024 || data.len() % 16 != 0 {
+        return None;
+    }
+    Some(Image::new(code, data))
+}
+
+/// A machine that starts at a program of these words.
+fn started(alloc: Global, code: Vec<u32>, data: Vec<u8>) -> Option<Machine<PageRam>> {
+    let file = write_image(alloc, &image_of(code, data)?).ok()?;
+    let loaded = read_image(alloc, &file).ok()?;
+    Machine::start(alloc, &loaded, &[]).ok()
+}
+
+/// The first stop within so many instructions.
+fn stop_within(machine: &mut Machine<PageRam>, count: usize) -> Option<Stop> {
+    for _ in 0..count {
+        if let Err(stop) = machine.step() {
+            return Some(stop);
+        }
+    }
+    None
+}
+
+fn left_by(
+    alloc: Global,
+    mut machine: Machine<PageRam>,
+    count: usize,
+) -> Result<String, AllocError> {
+    let stop = stop_within(&mut machine, count);
+    let pc = machine.pc();
+    let x5 = machine.register(X5);
+    let x7 = machine.register(X7);
+    match stop {
+        None => format!(in alloc; "{x7:x} at {pc:x}"),
+        Some(stop) => format!(in alloc; "{stop:?}: {x5:x} at {pc:x}"),
+    }
+}
+
+fn row_left(alloc: Global, line: &str) -> Option<String> {
+    let mut fields = line.split_whitespace();
+    let code = code_of(alloc, fields.next()?)?;
+    let x5 = number(fields.next())?;
+    let x6 = number(fields.next())?;
+    let count = code.len();
+    let machine = started(alloc, code, data_of(alloc, x5, x6).ok()?)?;
+    left_by(alloc, machine, count).ok()
+}
+
+/// What the words of each line leave.
+pub fn left(alloc: Global, lines: &str) -> Option<String> {
+    let mut to = TextMaker::new(alloc);
+    for line in lines.lines() {
+        to.add(row_left(alloc, line)?.as_str());
+        to.add("\n");
+    }
+    to.finish().ok()
+}
