@@ -4,9 +4,16 @@
 //! it goes through all steps; with words those that are named.
 #![tactic(auto)]
 
+mod back_end;
+mod bytes;
 mod case;
+mod files;
+mod front_end;
+mod linking;
 mod passes;
+mod show;
 mod step;
+mod tokens;
 
 use crate::case::{Case, case_of};
 use crate::step::{STEPS, Step};
