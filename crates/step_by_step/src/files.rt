@@ -1,4 +1,5 @@
 //! Files of executables: that of a program that exits with 0, as it is written, and what is read of it once bytes are changed.
+use crate::hexadecimal::add_hexadecimal;
 use elf_file::{Loaded, Segment, read_image, write_image};
 use obj_link::{Image, SLOT};
 use std::alloc::Global;
@@ -15,14 +16,6 @@ fn exit_file(alloc: Global, size: usize) -> Option<Vec<u8>> {
         write_image(alloc, &Image::new(code, data_bytes)).ok()
     } else {
         None
-    }
-}
-
-/// Adds a number in hexadecimal digits, at least two.
-fn add_hexadecimal(out: &mut TextMaker, alloc: Global, number: u64) {
-    match format!(in alloc; "{number:02x}") {
-        Ok(digits) => out.add(digits.as_str()),
-        Err(_) => out.add("refused"),
     }
 }
 

@@ -1,5 +1,5 @@
 //! The steps of the front end.
-use crate::bytes::bytes_of;
+use crate::hexadecimal::bytes_of;
 use crate::show::{show, show_alone};
 use il_ast::function::Func;
 use il_ast::text::{Definition, Text};

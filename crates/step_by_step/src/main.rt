@@ -5,12 +5,13 @@
 #![tactic(auto)]
 
 mod back_end;
-mod bytes;
 mod case;
 mod files;
 mod front_end;
+mod hexadecimal;
 mod linking;
 mod passes;
+mod phis;
 mod show;
 mod step;
 mod tokens;

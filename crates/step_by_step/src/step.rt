@@ -1,6 +1,6 @@
 //! The steps that have tables.
 use crate::case::Case;
-use crate::{back_end, files, front_end, linking, passes, tokens};
+use crate::{back_end, files, front_end, linking, passes, phis, tokens};
 use std::alloc::Global;
 
 /// A step of the compiler.
@@ -11,6 +11,7 @@ pub enum Step {
     Checking,
     Linking,
     Promoting,
+    Phis,
     Forwarding,
     Words,
     Writing,
@@ -18,12 +19,13 @@ pub enum Step {
 }
 
 /// All of them, in the order of the compiler.
-pub const STEPS: [Step; 9] = [
+pub const STEPS: [Step; 10] = [
     Step::Tokens,
     Step::Reading,
     Step::Checking,
     Step::Linking,
     Step::Promoting,
+    Step::Phis,
     Step::Forwarding,
     Step::Words,
     Step::Writing,
@@ -39,6 +41,7 @@ impl Step {
             Step::Checking => "checking",
             Step::Linking => "linking",
             Step::Promoting => "promoting",
+            Step::Phis => "phis",
             Step::Forwarding => "forwarding",
             Step::Words => "words",
             Step::Writing => "writing",
@@ -54,6 +57,7 @@ impl Step {
             Step::Checking => front_end::checked(alloc, case.given),
             Step::Linking => linking::linked(alloc, case.given),
             Step::Promoting => front_end::promoted(alloc, case.given),
+            Step::Phis => phis::copies(alloc, case.given),
             Step::Forwarding => passes::forwarded(alloc, case.given),
             Step::Words => back_end::instructions(alloc, case.given),
             Step::Writing => files::written(alloc, case.given),

@@ -1,5 +1,5 @@
 //! The tokens of a text, each on a line: its line, its span and its kind, and the bytes that a string stands for.
-use crate::bytes::bytes_of;
+use crate::hexadecimal::bytes_of;
 use il_lex::kind::Kind;
 use il_lex::quoted::string_bytes;
 use il_lex::tokens::{Span, Tokens};
