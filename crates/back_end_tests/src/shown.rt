@@ -1,8 +1,7 @@
-//! The texts of errors.
+//! The texts of errors that no table has.
 use elf_file::LoadError;
 use il_reader::error::ReadError;
 use il_types::error::CheckError;
-use il_types::rule::{Fault, Rule};
 use obj_link::error::LinkError;
 use rv_machine::start::StartError;
 use std::alloc::{AllocError, Global};
@@ -15,48 +14,17 @@ fn is_shown<T: Display>(alloc: Global, error: &T, text: &str) -> Result<bool, Al
 }
 
 #[test]
-fn texts_that_are_not_read_have_their_number_and_a_line(rt: HostRuntime) -> Result<(), Fail> {
-    let error = ReadError::Syntax { line: 7 };
-    assert!(rt; is_shown(rt.alloc(), &error, "E1 line 7")?);
-    assert!(rt; is_shown(rt.alloc(), &ReadError::Memory, "memory")?);
-    Ok(())
-}
-
-#[test]
-fn refused_texts_have_their_numbers(rt: HostRuntime) -> Result<(), Fail> {
-    let rule = Rule::DistinctLocals;
-    assert!(rt; is_shown(rt.alloc(), &CheckError::Rule(Fault { rule, line: 3 }), "E2")?);
+fn a_limit_of_a_text_has_its_number(rt: HostRuntime) -> Result<(), Fail> {
     assert!(rt; is_shown(rt.alloc(), &CheckError::Limit, "E6")?);
+    Ok(())
+}
+
+#[test]
+fn want_of_memory_is_shown(rt: HostRuntime) -> Result<(), Fail> {
+    assert!(rt; is_shown(rt.alloc(), &ReadError::Memory, "memory")?);
     assert!(rt; is_shown(rt.alloc(), &CheckError::Memory, "E7")?);
-    Ok(())
-}
-
-#[test]
-fn texts_that_are_no_program_have_their_numbers(rt: HostRuntime) -> Result<(), Fail> {
-    for (error, text) in [
-        (LinkError::UnknownName(b"f"), "E3"),
-        (LinkError::ExportedTwice(b"f"), "E4"),
-        (LinkError::NoMain, "E5"),
-        (LinkError::Limit, "E6"),
-        (LinkError::Memory, "E7"),
-    ] {
-        assert!(rt; is_shown(rt.alloc(), &error, text)?, "{text}");
-    }
-    Ok(())
-}
-
-#[test]
-fn refused_files_have_their_numbers(rt: HostRuntime) -> Result<(), Fail> {
-    for (error, text) in [
-        (LoadError::CutOff, "L1"),
-        (LoadError::OtherKind, "L2"),
-        (LoadError::OutOfRange, "L3"),
-        (LoadError::Misplaced, "L4"),
-        (LoadError::BadEntry, "L5"),
-        (LoadError::Memory, "L6"),
-    ] {
-        assert!(rt; is_shown(rt.alloc(), &error, text)?, "{text}");
-    }
+    assert!(rt; is_shown(rt.alloc(), &LinkError::Memory, "E7")?);
+    assert!(rt; is_shown(rt.alloc(), &LoadError::Memory, "L6")?);
     Ok(())
 }
 

@@ -1,19 +1,16 @@
 //! # Tests of the front end
 //!
-//! What the contracts of `il_ast`, `il_lex`, `il_reader`, `il_types`, `il_mem`, `il_interp`, `promote` and `phi_copies` can't say: that calls which may want memory
-//! succeed with ample memory, and that texts, rules, loads, operations, locals and phis are, or become, what a reader of the language's reference expects.
+//! What the contracts of `il_ast`, `il_reader`, `il_types`, `il_mem`, `il_interp` and `phi_copies` can't say: that calls which may want memory succeed with ample
+//! memory, and that lists, loads, operations and phis are, or become, what a reader of the language's reference expects. Texts and what becomes of them stand in the
+//! tables of `step_by_step`.
 //!
 //! They stand here and not in those crates, since a crate with tests is proved once more with them. So all of them call public functions alone.
 #![tactic(auto)]
 
 #[cfg(test)]
-mod checking;
-#[cfg(test)]
 mod few;
 #[cfg(test)]
 mod list;
-#[cfg(test)]
-mod locals;
 #[cfg(test)]
 mod memory;
 #[cfg(test)]
@@ -24,9 +21,5 @@ mod operations;
 mod phis;
 #[cfg(test)]
 mod reading;
-#[cfg(test)]
-mod show;
-#[cfg(test)]
-mod tokens;
 #[cfg(test)]
 mod told;

@@ -4,10 +4,19 @@
 //! it goes through all steps; with words those that are named.
 #![tactic(auto)]
 
+mod back_end;
 mod case;
+mod files;
+mod front_end;
+mod hexadecimal;
+mod linking;
 mod machine;
 mod passes;
+mod phis;
+mod show;
 mod step;
+mod tokens;
+
 
 use crate::case::{Case, case_of};
 use crate::step::{STEPS, Step};

@@ -1,5 +1,4 @@
-//! Trees as text, for tests: each item on a line, with the number of its line, and names by number.
-
+//! Trees as text: each item on a line, with the number of its line, and names by number.
 use il_ast::block::{Block, Phi};
 use il_ast::datum::{DataDef, Field, Item};
 use il_ast::function::{Func, Param};
@@ -11,22 +10,16 @@ use std::alloc::{AllocError, Global};
 use text_maker::maker::TextMaker;
 
 /// A text, with its numbers of lines and bytes and the names of its globals.
-pub(crate) fn show(alloc: Global, text: &Text) -> Result<String, AllocError> {
+pub fn show(alloc: Global, text: &Text) -> Result<String, AllocError> {
     let mut out = TextMaker::new(alloc);
     show_text(&mut out, text);
     out.finish()
 }
 
-/// The temporaries and the blocks of a text that has one function.
-pub(crate) fn show_lines(alloc: Global, text: &Text) -> Result<String, AllocError> {
+/// A function, with its number of line and the names of its temporaries and blocks.
+pub fn show_alone(alloc: Global, function: &Func) -> Result<String, AllocError> {
     let mut out = TextMaker::new(alloc);
-    match text.definitions.as_slice() {
-        [Definition::Function(function)] => {
-            show_names(&mut out, "%", function.temps.as_slice());
-            show_blocks(&mut out, function.blocks.as_slice());
-        }
-        _ => {}
-    }
+    show_function(&mut out, function);
     out.finish()
 }
 
@@ -62,7 +55,10 @@ fn show_names(out: &mut TextMaker, sigil: &str, names: &[Name]) {
 
 fn show_bytes(out: &mut TextMaker, bytes: &[u8]) {
     for byte in bytes {
-        out.add_char(char::from(*byte));
+        match byte {
+            b'\n' => out.add("\\n"),
+            other => out.add_char(char::from(*other)),
+        }
     }
 }
 

@@ -1,0 +1,83 @@
+//! The steps of the front end.
+use crate::hexadecimal::bytes_of;
+use crate::show::{show, show_alone};
+use il_ast::function::Func;
+use il_ast::text::{Definition, Text};
+use il_reader::read::read;
+use il_types::check::check;
+use il_types::cost::{alloc_area, weight};
+use il_types::error::CheckError;
+use promote::promote::promote;
+use std::alloc::{AllocError, Global};
+use text_maker::maker::TextMaker;
+
+/// The tree of a text, or why it isn't read.
+pub fn tree(alloc: Global, text: &str) -> Option<String> {
+    let bytes = bytes_of(alloc, text).ok()?;
+    match read(alloc, bytes.as_slice()) {
+        Ok(tree) => show(alloc, &tree).ok(),
+        Err(error) => format!(in alloc; "{error}").ok(),
+    }
+}
+
+fn add_measures(out: &mut TextMaker, function: &Func) {
+    let measures = [weight(function), alloc_area(function)];
+    out.add_with_numbers("weight #, # bytes of locals\n", &measures);
+}
+
+/// The measures of a good text.
+fn measures(alloc: Global, text: &Text) -> Result<String, AllocError> {
+    let mut out = TextMaker::new(alloc);
+    out.add_with_numbers("# bytes\n", &[text.bytes as u64]);
+    for definition in text.definitions.as_slice() {
+        match definition {
+            Definition::Function(function) => add_measures(&mut out, function),
+            Definition::Object(_) => out.add("data\n"),
+        }
+    }
+    out.finish()
+}
+
+fn refusal(alloc: Global, error: CheckError) -> Result<String, AllocError> {
+    match error {
+        CheckError::Rule(fault) => {
+            format!(in alloc; "{error} {:?} line {}", fault.rule, fault.line)
+        }
+        _ => format!(in alloc; "{error}"),
+    }
+}
+
+fn checked_tree(alloc: Global, tree: Text) -> Result<String, AllocError> {
+    match check(alloc, tree) {
+        Ok(checked) => measures(alloc, &checked.text),
+        Err(error) => refusal(alloc, error),
+    }
+}
+
+/// The measures of a text that keeps the rules, or why it is refused.
+pub fn checked(alloc: Global, text: &str) -> Option<String> {
+    match read(alloc, text.as_bytes()) {
+        Ok(tree) => checked_tree(alloc, tree).ok(),
+        Err(_) => None,
+    }
+}
+
+fn only_function(text: &Text) -> Option<&Func> {
+    match text.definitions.as_slice() {
+        [Definition::Function(function)] => Some(function),
+        _ => None,
+    }
+}
+
+fn promoted_function(alloc: Global, text: &Text) -> Option<String> {
+    let function = promote(alloc, only_function(text)?).ok()?;
+    show_alone(alloc, &function).ok()
+}
+
+/// The tree of a text's only function once its locals are promoted.
+pub fn promoted(alloc: Global, text: &str) -> Option<String> {
+    match read(alloc, text.as_bytes()) {
+        Ok(tree) => promoted_function(alloc, &tree),
+        Err(_) => None,
+    }
+}

@@ -1,0 +1,120 @@
+//! Phis that are done at once, by what the copies that they become leave in the temporaries.
+ghost use Rattle.std.specs.Prelude.{◌≡◌, Some, IfSome, slice_get};
+ghost use Rattle.phi_copies.specs.Good.{IsGoodFunction};
+
+use crate::hexadecimal::add_hexadecimal;
+use il_ast::function::Func;
+use il_ast::operand::Val;
+use il_ast::operation::Class;
+use il_ast::text::{Definition, Text};
+use il_reader::read::read;
+use il_types::check::check;
+use phi_copies::ending::Assignment;
+use phi_copies::lower::lower;
+use std::alloc::{AllocError, Global};
+use text_maker::maker::TextMaker;
+
+/// How many temporaries the functions have; those behind them may be used besides.
+const OWN: usize = 12;
+
+/// The value of the global name.
+const NAMED: u64 = 0x5000_0000_6000;
+
+/// What the temporaries hold at first.
+fn first_values() -> [u64; 24] {
+    let mut values = [0; 24];
+    for i in 0..24usize {
+        values[i] = 0x0a00_0000_0b00 + i as u64;
+    }
+    values
+}
+
+/// What is copied.
+fn read_of(values: &[u64; 24], copy: &Assignment) -> u64 {
+    let value = match copy.value {
+        Val::Int(number) => number,
+        Val::Temp(temp) => match values.get(temp.number()) {
+            Some(value) => *value,
+            None => 0,
+        },
+        Val::Global(_) => NAMED,
+    };
+    match copy.to.class {
+        Class::W => value % (1 << 32),
+        Class::L => value,
+    }
+}
+
+fn write(values: &mut [u64; 24], copy: &Assignment, value: u64) {
+    let to = copy.to.temp.number();
+    if to < 24 {
+        values[to] = value;
+    }
+}
+
+/// What the temporaries hold after copies one after another.
+fn after_each(copies: &[Assignment]) -> [u64; 24] {
+    let mut values = first_values();
+    for copy in copies {
+        let value = read_of(&values, copy);
+        write(&mut values, copy, value);
+    }
+    values
+}
+
+fn shown(alloc: Global, copies: &[Assignment]) -> Option<String> {
+    let mut out = TextMaker::new(alloc);
+    out.add_with_numbers("# copies\n", &[copies.len() as u64]);
+    for value in after_each(copies).iter().take(OWN) {
+        add_hexadecimal(&mut out, alloc, *value);
+        out.add("\n");
+    }
+    out.finish().ok()
+}
+
+/// The copies at the end of the first block.
+fn first_copies(alloc: Global, function: &Func) -> Option<String>
+    requires { IsGoodFunction function.now }
+{
+    let lowered = lower(alloc, function).ok()?;
+    let ending = lowered.endings.as_slice().first()?;
+    shown(alloc, ending.copies.as_slice())
+}
+
+/// The function that a definition is.
+fn function_of(definition: &Definition) -> Option<&Func>
+    ensures { IfSome result (λ function. definition.now ≡ Definition.Function function.now) }
+{
+    match definition {
+        Definition::Function(function) => Some(function),
+        Definition::Object(_) => None,
+    }
+}
+
+/// The function that a text begins with.
+fn first_function(text: &Text) -> Option<&Func>
+    ensures { IfSome result (λ function. slice_get text.now.definitions 0 ≡ Some (Definition.Function function.now)) }
+{
+    match text.definitions.as_slice().first() {
+        Some(definition) => function_of(definition),
+        None => None,
+    }
+}
+
+fn copies_of(alloc: Global, tree: Text) -> Option<String> {
+    match check(alloc, tree) {
+        Ok(checked) => match first_function(&checked.text) {
+            Some(function) => first_copies(alloc, function),
+            None => None,
+        },
+        Err(_) => None,
+    }
+}
+
+/// How many copies the phis of a text's first function become at the end of its first block, and what these leave in its temporaries.
+pub fn copies(alloc: Global, text: &str) -> Option<String> {
+    match read(alloc, text.as_bytes()) {
+        Ok(tree) => copies_of(alloc, tree),
+        Err(_) => None,
+    }
+}
