@@ -5,7 +5,12 @@
 #![tactic(auto)]
 
 mod case;
+mod graphs;
+mod lists;
+mod nests;
+mod orders;
 mod passes;
+mod plans;
 mod step;
 
 use crate::case::{Case, case_of};
