@@ -1,10 +1,60 @@
 //! The passes on virtual code.
+use block_order::order::order_blocks;
 use code_text::function::{virtual_function, virtual_text};
+use dead_lines::remove::remove_dead_lines;
 use forwarding::forward::forward;
-use std::alloc::Global;
+use loop_constants::constants::hold_constants;
+use read_copies::read::read_copies;
+use std::alloc::{AllocError, Global};
+use vcode::function::VFunc;
+use whole_words::copies::copy_whole_words;
 
+/// The text of what a pass made.
+fn shown(alloc: Global, made: Result<VFunc, AllocError>) -> Option<String> {
+    let function = made.ok()?;
+    virtual_text(alloc, &function).ok()
+}
+
+/// The text of what was made of a function, or that it was refused.
+pub fn shown_or_refused(alloc: Global, made: Result<Option<VFunc>, AllocError>) -> Option<String> {
+    match made.ok()? {
+        Some(function) => virtual_text(alloc, &function).ok(),
+        None => String::from_str(alloc, "refused").ok(),
+    }
+}
+
+/// The function with extensions of whole words as copies.
+pub fn with_whole_words(alloc: Global, text: &str) -> Option<String> {
+    let function = virtual_function(alloc, text)?;
+    shown(alloc, copy_whole_words(alloc, &function))
+}
+
+/// The function with what is known of registers carried forward.
 pub fn forwarded(alloc: Global, text: &str) -> Option<String> {
     let function = virtual_function(alloc, text)?;
-    let made = forward(alloc, &function).ok()?;
-    virtual_text(alloc, &made).ok()
+    shown(alloc, forward(alloc, &function))
+}
+
+/// The function without its dead lines.
+pub fn without_dead_lines(alloc: Global, text: &str) -> Option<String> {
+    let function = virtual_function(alloc, text)?;
+    shown(alloc, remove_dead_lines(alloc, &function))
+}
+
+/// The function with copies read in place of what they are copies of.
+pub fn with_copies_read(alloc: Global, text: &str) -> Option<String> {
+    let function = virtual_function(alloc, text)?;
+    shown(alloc, read_copies(alloc, &function))
+}
+
+/// The function with constants of its loops in registers.
+pub fn with_constants_held(alloc: Global, text: &str) -> Option<String> {
+    let function = virtual_function(alloc, text)?;
+    shown(alloc, hold_constants(alloc, &function))
+}
+
+/// The function with its blocks in the order that is chosen.
+pub fn with_blocks_ordered(alloc: Global, text: &str) -> Option<String> {
+    let function = virtual_function(alloc, text)?;
+    shown(alloc, order_blocks(alloc, &function))
 }

@@ -1,0 +1,29 @@
+//! Lists of numbers in texts.
+use il_ast::list::Seq;
+use std::alloc::Global;
+use text_maker::maker::TextMaker;
+
+/// The numbers in a list.
+pub fn numbers(alloc: Global, list: &str) -> Option<Seq<usize>> {
+    let mut numbers = Seq::new(alloc);
+    for word in list.split_whitespace() {
+        numbers.push(word.parse::<usize>().ok()?).ok()?;
+    }
+    Some(numbers)
+}
+
+/// The registers in a list.
+pub fn registers(alloc: Global, list: &str) -> Option<Seq<u32>> {
+    let mut registers = Seq::new(alloc);
+    for word in list.split_whitespace() {
+        registers.push(word.parse::<u32>().ok()?).ok()?;
+    }
+    Some(registers)
+}
+
+/// Adds each of these numbers, with a blank before it.
+pub fn add_numbers(text: &mut TextMaker, numbers: &[usize]) {
+    for number in numbers {
+        text.add_with_numbers(" #", &[*number as u64]);
+    }
+}

@@ -1,0 +1,36 @@
+//! Loops of functions.
+use crate::lists::add_numbers;
+use code_text::function::virtual_function;
+use loops::depths::{depths, frequency, sources};
+use std::alloc::{AllocError, Global};
+use text_maker::maker::TextMaker;
+
+fn add_block(text: &mut TextMaker, block: usize, depths: &[u32], sources: &[Vec<usize>]) {
+    text.add_with_numbers("#:", &[block as u64]);
+    if let Some(depth) = depths.get(block) {
+        let depth = *depth;
+        text.add_with_numbers(" depth #, # times", &[u64::from(depth), frequency(depth)]);
+    }
+    if let Some(sources) = sources.get(block) {
+        text.add(", from");
+        add_numbers(text, sources.as_slice());
+    }
+    text.add("\n");
+}
+
+fn lines(alloc: Global, depths: &[u32], sources: &[Vec<usize>]) -> Result<String, AllocError> {
+    let mut text = TextMaker::new(alloc);
+    for block in 0..depths.len().max(sources.len()) {
+        add_block(&mut text, block, depths, sources);
+    }
+    text.finish()
+}
+
+/// In how many loops each block of a function lies, how often it is run, and from where.
+pub fn nests(alloc: Global, text: &str) -> Option<String> {
+    let function = virtual_function(alloc, text)?;
+    let blocks = function.code.blocks.as_slice();
+    let depths = depths(alloc, blocks).ok()?;
+    let sources = sources(alloc, blocks).ok()?;
+    lines(alloc, depths.as_slice(), sources.as_slice()).ok()
+}
