@@ -4,7 +4,10 @@
 //! it goes through all steps; with words those that are named.
 #![tactic(auto)]
 
+mod allocation;
 mod case;
+mod certified;
+mod frames;
 mod passes;
 mod step;
 
