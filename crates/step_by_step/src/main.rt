@@ -4,15 +4,23 @@
 //! it goes through all steps; with words those that are named.
 #![tactic(auto)]
 
+mod allocation;
 mod back_end;
 mod case;
+mod certified;
 mod files;
+mod frames;
 mod front_end;
+mod graphs;
 mod hexadecimal;
 mod linking;
+mod lists;
 mod machine;
+mod nests;
+mod orders;
 mod passes;
 mod phis;
+mod plans;
 mod show;
 mod step;
 mod tokens;

@@ -1,0 +1,170 @@
+//! The machine code of functions in location code.
+//!
+//! Instructions are written as a disassembly has them. A label is `@N:`, a branch or a jump to it has `@N` in the place of an offset, and an instruction with a part of an
+//! address has ` + $N + OFFSET` behind it.
+use abi_frames::frame::frame;
+use code_text::function::{located_function, located_text};
+use flat_code::function::flat;
+use rv_isa::instruction::{BranchOp, Instr};
+use rv_isa::labelled::Item;
+use rv_isa::ranges::{BranchOffset, Register};
+use rv_isa::relocation::Relocation;
+use rv_isa::text::text;
+use std::alloc::{AllocError, Global};
+use text_maker::maker::TextMaker;
+
+/// A branch to a label, in the place of an offset.
+fn branch_text(
+    alloc: Global,
+    op: BranchOp,
+    rs1: Register,
+    rs2: Register,
+    label: usize,
+) -> Result<String, AllocError> {
+    let branch = Instr::Branch {
+        op,
+        rs1,
+        rs2,
+        offset: BranchOffset { value: 0 },
+    };
+    let by_offset = text(alloc, branch)?;
+    let compared = by_offset.as_str().trim_end_matches('0');
+    format!(in alloc; "{compared}@{label}")
+}
+
+/// An instruction with an immediate of 0, to which a part of an address is added.
+fn relocated_text(alloc: Global, relocated: Relocation) -> Result<String, AllocError> {
+    let instruction = text(alloc, relocated.instruction.completed(0))?;
+    let global = relocated.global;
+    let offset = relocated.offset.value;
+    format!(in alloc; "{instruction} + ${global} + {offset}")
+}
+
+fn item_text(alloc: Global, item: Item) -> Result<String, AllocError> {
+    match item {
+        Item::Plain(instruction) => text(alloc, instruction),
+        Item::Label(label) => format!(in alloc; "@{label}:"),
+        Item::Branch {
+            op,
+            rs1,
+            rs2,
+            label,
+        } => branch_text(alloc, op, rs1, rs2, label),
+        Item::Goto(label) => format!(in alloc; "goto @{label}"),
+        Item::Relocated(relocated) => relocated_text(alloc, relocated),
+    }
+}
+
+fn push_item(to: &mut String, alloc: Global, item: Item) -> Result<(), AllocError> {
+    to.push_str(item_text(alloc, item)?.as_str())?;
+    to.push_str("\n")
+}
+
+fn items_text(alloc: Global, items: &[Item]) -> Result<String, AllocError> {
+    let mut text = String::new(alloc);
+    for item in items {
+        push_item(&mut text, alloc, *item)?;
+    }
+    Ok(text)
+}
+
+fn code_of(alloc: Global, text: &str) -> Option<String> {
+    let function = located_function(alloc, text)?;
+    let code = frame(alloc, &flat(function)).ok()?;
+    items_text(alloc, code.items()).ok()
+}
+
+/// How often a line stands there, and the line: `times N LINE` is a line that stands there N times.
+fn counted(line: &str) -> (u64, &str) {
+    let behind = line.strip_prefix("times ").unwrap_or("");
+    let (count, repeated) = behind.split_once(' ').unwrap_or(("", ""));
+    match count.parse::<u64>() {
+        Ok(count) => (count, repeated),
+        Err(_) => (1, line),
+    }
+}
+
+fn add_line(to: &mut TextMaker, line: &str) {
+    let (count, line) = counted(line);
+    for _ in 0..count {
+        to.add(line);
+        to.add("\n");
+    }
+}
+
+/// The text with each line as often as it stands there.
+fn expanded(alloc: Global, text: &str) -> Option<String> {
+    let mut to = TextMaker::new(alloc);
+    for line in text.lines() {
+        add_line(&mut to, line);
+    }
+    to.finish().ok()
+}
+
+/// A function that was taken over to be read on bytes.
+pub fn flattened(alloc: Global, text: &str) -> Option<String> {
+    let function = flat(located_function(alloc, text)?);
+    located_text(alloc, &function.located).ok()
+}
+
+/// The code of a function. A line `times N LINE` stands for N such lines.
+pub fn code(alloc: Global, text: &str) -> Option<String> {
+    let function = expanded(alloc, text)?;
+    code_of(alloc, function.as_str())
+}
+
+/// What comes behind the lines of the function that keeps registers.
+const KEEPING: &str = "
+goto @1
+@1
+tick 1000 turn
+call 0()
+x8 = 0
+x9 = 0
+x18 = 0
+x19 = 0
+x20 = 0
+x21 = 0
+x22 = 0
+x23 = 0
+x24 = 0
+x25 = 0
+x26 = 0
+x27 = 0
+halt";
+
+/// A function of two blocks. The second makes a call and writes all registers that callees keep, so that the frame begins with thirteen saved registers, and its slots
+/// stand behind them at 104. There are 3 of these where nothing else is said.
+fn keeping(alloc: Global, params: &str, slots: &str, lines: &str) -> Option<String> {
+    let mut to = TextMaker::new(alloc);
+    to.add("function w (");
+    to.add(params);
+    to.add(") ");
+    to.add(if slots.is_empty() { "slots 3" } else { slots });
+    to.add("\n@0\ntick 1000 turn\n");
+    to.add(lines);
+    to.add(KEEPING);
+    to.finish().ok()
+}
+
+/// What stands behind one text and before another.
+fn between<'a>(code: &'a str, from: &str, to: &str) -> Option<&'a str> {
+    let (_, behind) = code.split_once(from)?;
+    let (part, _) = behind.split_once(to)?;
+    Some(part)
+}
+
+/// The code of lines, in a function that keeps all registers that callees keep.
+pub fn code_of_lines(alloc: Global, lines: &str, slots: &str) -> Option<String> {
+    let function = keeping(alloc, "", slots, lines)?;
+    let code = code_of(alloc, function.as_str())?;
+    String::from_str(alloc, between(code.as_str(), "@0:\n", "@1:\n")?).ok()
+}
+
+/// The code that brings arguments to the places of parameters, in such a function.
+pub fn code_of_entry(alloc: Global, params: &str, slots: &str) -> Option<String> {
+    let function = keeping(alloc, params, slots, "tick 0")?;
+    let code = code_of(alloc, function.as_str())?;
+    let entry = between(code.as_str(), "sd x27, 96(x2)\n", "@0:\n")?;
+    String::from_str(alloc, entry).ok()
+}
