@@ -25,7 +25,6 @@ mod show;
 mod step;
 mod tokens;
 
-
 use crate::case::{Case, case_of};
 use crate::step::{STEPS, Step};
 use code_text::function::is_same;
