@@ -1,8 +1,8 @@
 //! # Tests of the front end
 //!
-//! What the contracts of `il_ast`, `il_reader`, `il_types`, `il_mem`, `il_interp` and `phi_copies` can't say: that calls which may want memory succeed with ample
-//! memory, and that lists, loads, operations and phis are, or become, what a reader of the language's reference expects. Texts and what becomes of them stand in the
-//! tables of `step_by_step`.
+//! What the contracts of `il_ast`, `il_reader`, `il_mem`, `il_interp` and `phi_copies` can't say: that calls which may want memory succeed with ample memory, and that
+//! lists, loads, operations and moves are, or become, what a reader of the language's reference expects. Texts and what becomes of them stand in the tables of
+//! `step_by_step`.
 //!
 //! They stand here and not in those crates, since a crate with tests is proved once more with them. So all of them call public functions alone.
 #![tactic(auto)]
@@ -17,8 +17,6 @@ mod memory;
 mod moves;
 #[cfg(test)]
 mod operations;
-#[cfg(test)]
-mod phis;
 #[cfg(test)]
 mod reading;
 #[cfg(test)]

@@ -1,7 +1,0 @@
-use Rattle.phi_copies.proofs.GoodTexts.{good_function}
-use Rattle.front_end_tests.proofs.phis.lowered.Goals as goal
-
-pub first_copies-requires : goal.first_copies-requires
-first_copies-requires c =
-    let text = c.in_ok-checked-in-Ok.checked.text in
-    good_function text c.in_ok-checked-in-Ok.checked.good 0 c.in-Some.function.now c.in-Some.ensures
