@@ -3,7 +3,7 @@ use Rattle.std.proofs.lemmas.Bool.{cases_eq}
 use Rattle.std.proofs.lemmas.List.{take_rest, get_or_default}
 use Rattle.phi_copies.specs.Order.{no_move}
 use Rattle.phi_copies.specs.declared.moves.Move.{Move}
-use Rattle.front_end_tests.proofs.moves.is_distinct.Goals as goal
+use Rattle.library_tests.proofs.moves.is_distinct.Goals as goal
 
 -- each move behind place i goes elsewhere
 later : (ms : List Move) (i b to : ℕ) (d : Move) → All (λ n. to ≢ n.to) (drop (i + 1) ms) → i < b → b < length ms → to ≢ (get_or ms b d).to

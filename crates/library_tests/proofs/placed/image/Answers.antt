@@ -2,8 +2,8 @@ use Rattle.std.proofs.Common.{◌≡◌, length, sym, ◌∙◌}
 use Rattle.std.proofs.lemmas.List.{length-map}
 use Rattle.obj_link.specs.ProgramOf.{program}
 use Rattle.obj_link.specs.Shown.{shown}
-use Rattle.back_end_tests.proofs.Codes.{small_codes}
-use Rattle.back_end_tests.proofs.placed.image.Goals as goal
+use Rattle.library_tests.proofs.Codes.{small_codes}
+use Rattle.library_tests.proofs.placed.image.Goals as goal
 
 pub place-requires-clause-fits : goal.place-requires-clause-fits
 place-requires-clause-fits c =
