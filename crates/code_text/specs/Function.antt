@@ -1,16 +1,20 @@
 -- What a code has to keep to be a function's, whatever its places.
 use Rattle.std.specs.Prelude.{ℕ, Bool, ◌<◌, ◌≤◌, IsTrue}
 use Rattle.std.specs.List.{list_all}
+use Rattle.il_ast.specs.declared.limits.TheConstants.{FUNCTION_WEIGHT}
+use Rattle.vcode.specs.declared.limits.TheConstants.{PLACES}
 use Rattle.vcode.specs.declared.place.Destination.{Destination}
 use Rattle.vcode.specs.declared.code.Code.{Code}
 use Rattle.vcode.specs.Named.{keeps_places, are_distinct}
 use Rattle.vcode.specs.Places.{Places}
 use Rattle.vcode.specs.Regular.{IsRegular, code_weight}
 
-pub record IsFunction {P : Type 0} (exists : ℕ → P → Bool) (near : P → Bool) (apart : Places P) (count : ℕ) (code : Code P) : Type 0 where
-  pub few : count < 65536
+-- Of so many places (`count`) it names those that exist; its parameters come to near places, no two of which `apart` says to be one.
+pub record IsFunction {P : Type 0} (exists : ℕ → P → Bool) (near : P → Bool)
+    (apart : Places P) (count : ℕ) (code : Code P) : Type 0 where
+  pub few : count < PLACES
   pub regular : IsRegular code
-  pub light : code_weight code ≤ 40000
+  pub light : code_weight code ≤ FUNCTION_WEIGHT
   pub known : IsTrue (keeps_places (exists count) code)
   pub close : IsTrue (list_all (λ (d : Destination P). near d.place) code.params)
   pub distinct : IsTrue (are_distinct apart code.params)

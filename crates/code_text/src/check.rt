@@ -1,6 +1,7 @@
 //! Whether a code may be a function's.
 ghost use Rattle.std.specs.Prelude.{◌≡◌, ◌+◌, ◌≤◌, true, not, nat_le, length, IfSome};
 ghost use Rattle.std.specs.List.{list_all, list_any, sum_by};
+ghost use Rattle.il_ast.specs.declared.limits.TheConstants.{ALLOC_BYTES, FUNCTION_WEIGHT};
 ghost use Rattle.vcode.specs.Cost.{is_paid};
 ghost use Rattle.vcode.specs.Named.{operand_keeps, wanted_keeps, made_keeps, line_keeps, jump_keeps, block_keeps, keeps_places, are_distinct};
 ghost use Rattle.vcode.specs.Regular.{IsRegular, is_target, leads_inside, is_alloc, allocs_first, alloc_bytes, passes_few, weight_of};
@@ -236,7 +237,7 @@ fn room_behind<P: Place>(room: u64, lines: &[Line<P>]) -> Option<u64>
 }
 
 fn is_small<P: Place>(blocks: &[Block<P>]) -> bool
-    ensures { result ≡ true → sum_by (λ b. sum_by alloc_bytes b.lines) blocks.now ≤ 1048576 }
+    ensures { result ≡ true → sum_by (λ b. sum_by alloc_bytes b.lines) blocks.now ≤ ALLOC_BYTES }
 {
     let mut left = ALLOC_BYTES;
     for block in blocks {
@@ -274,7 +275,7 @@ fn weight_behind<P: Place>(whole: u64, lines: &[Line<P>]) -> Option<u64>
 }
 
 fn is_light<P: Place>(blocks: &[Block<P>]) -> bool
-    ensures { result ≡ true → sum_by (λ b. sum_by weight_of b.lines) blocks.now ≤ 40000 }
+    ensures { result ≡ true → sum_by (λ b. sum_by weight_of b.lines) blocks.now ≤ FUNCTION_WEIGHT }
 {
     let mut left = FUNCTION_WEIGHT;
     for block in blocks {
@@ -288,9 +289,11 @@ fn is_light<P: Place>(blocks: &[Block<P>]) -> bool
 
 /// Whether so few lines stand in each block that few turns begin there.
 fn are_short<P: Place>(blocks: &[Block<P>]) -> bool
-    ensures { result ≡ list_all (λ b. nat_le (length b.lines) 40000) blocks.now }
+    ensures { result ≡ list_all (λ b. nat_le (length b.lines) FUNCTION_WEIGHT) blocks.now }
 {
-    blocks.iter().all(|block| block.lines.len() <= 40_000)
+    blocks
+        .iter()
+        .all(|block| block.lines.len() as u64 <= FUNCTION_WEIGHT)
 }
 
 fn passes_few<P: Place>(line: &Line<P>) -> bool
