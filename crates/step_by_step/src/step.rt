@@ -1,6 +1,9 @@
 //! The steps that have tables.
 use crate::case::Case;
-use crate::{allocation, back_end, files, frames, front_end, graphs, linking, machine, nests, orders, passes, phis, plans, tokens};
+use crate::{
+    allocation, back_end, files, frames, front_end, graphs, linking, machine, nests, orders,
+    passes, phis, plans, tokens,
+};
 use std::alloc::Global;
 
 /// A step of the compiler, or a part of one.
