@@ -1,8 +1,9 @@
-//! Phis that are done at once, by what the copies that they become leave in the temporaries.
+//! Functions without phis: what the copies that stand for phis leave in the temporaries, and virtual code.
 ghost use Rattle.std.specs.Prelude.{◌≡◌, Some, IfSome, slice_get};
 ghost use Rattle.phi_copies.specs.Good.{IsGoodFunction};
 
 use crate::hexadecimal::add_hexadecimal;
+use code_text::function::virtual_text;
 use il_ast::function::Func;
 use il_ast::operand::Val;
 use il_ast::operation::Class;
@@ -11,6 +12,7 @@ use il_reader::read::read;
 use il_types::check::check;
 use phi_copies::ending::Assignment;
 use phi_copies::lower::lower;
+use select::select::select;
 use std::alloc::{AllocError, Global};
 use text_maker::maker::TextMaker;
 
@@ -81,6 +83,31 @@ fn first_copies(alloc: Global, function: &Func) -> Option<String>
     shown(alloc, ending.copies.as_slice())
 }
 
+/// The virtual code that is selected for a function.
+fn code_of(alloc: Global, function: &Func) -> Option<String>
+    requires { IsGoodFunction function.now }
+{
+    let lowered = lower(alloc, function).ok()?;
+    let code = select(alloc, &lowered).ok()?;
+    virtual_text(alloc, &code).ok()
+}
+
+/// What is to be shown of a function.
+#[derive(Clone, Copy)]
+enum Part {
+    Copies,
+    Code,
+}
+
+fn part_of(alloc: Global, function: &Func, part: Part) -> Option<String>
+    requires { IsGoodFunction function.now }
+{
+    match part {
+        Part::Copies => first_copies(alloc, function),
+        Part::Code => code_of(alloc, function),
+    }
+}
+
 /// The function that a definition is.
 fn function_of(definition: &Definition) -> Option<&Func>
     ensures { IfSome result (λ function. definition.now ≡ Definition.Function function.now) }
@@ -101,20 +128,29 @@ fn first_function(text: &Text) -> Option<&Func>
     }
 }
 
-fn copies_of(alloc: Global, tree: Text) -> Option<String> {
+fn checked_part(alloc: Global, tree: Text, part: Part) -> Option<String> {
     match check(alloc, tree) {
         Ok(checked) => match first_function(&checked.text) {
-            Some(function) => first_copies(alloc, function),
+            Some(function) => part_of(alloc, function, part),
             None => None,
         },
         Err(_) => None,
     }
 }
 
-/// How many copies the phis of a text's first function become at the end of its first block, and what these leave in its temporaries.
-pub fn copies(alloc: Global, text: &str) -> Option<String> {
+fn text_part(alloc: Global, text: &str, part: Part) -> Option<String> {
     match read(alloc, text.as_bytes()) {
-        Ok(tree) => copies_of(alloc, tree),
+        Ok(tree) => checked_part(alloc, tree, part),
         Err(_) => None,
     }
+}
+
+/// How many copies the phis of a text's first function become at the end of its first block, and what these leave in its temporaries.
+pub fn copies(alloc: Global, text: &str) -> Option<String> {
+    text_part(alloc, text, Part::Copies)
+}
+
+/// The virtual code that is selected for a text's first function.
+pub fn selected(alloc: Global, text: &str) -> Option<String> {
+    text_part(alloc, text, Part::Code)
 }

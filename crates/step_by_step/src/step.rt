@@ -15,6 +15,7 @@ pub enum Step {
     Linking,
     Promoting,
     Phis,
+    Selection,
     WholeWords,
     Forwarding,
     DeadLines,
@@ -43,13 +44,14 @@ pub enum Step {
 }
 
 /// All of them, in the order of the compiler.
-pub const STEPS: [Step; 31] = [
+pub const STEPS: [Step; 32] = [
     Step::Tokens,
     Step::Reading,
     Step::Checking,
     Step::Linking,
     Step::Promoting,
     Step::Phis,
+    Step::Selection,
     Step::WholeWords,
     Step::Forwarding,
     Step::DeadLines,
@@ -87,6 +89,7 @@ impl Step {
             Step::Linking => "linking",
             Step::Promoting => "promoting",
             Step::Phis => "phis",
+            Step::Selection => "selection",
             Step::WholeWords => "whole_words",
             Step::Forwarding => "forwarding",
             Step::DeadLines => "dead_lines",
@@ -124,6 +127,7 @@ impl Step {
             Step::Linking => linking::linked(alloc, case.given),
             Step::Promoting => front_end::promoted(alloc, case.given),
             Step::Phis => phis::copies(alloc, case.given),
+            Step::Selection => phis::selected(alloc, case.given),
             Step::WholeWords => passes::with_whole_words(alloc, case.given),
             Step::Forwarding => passes::forwarded(alloc, case.given),
             Step::DeadLines => passes::without_dead_lines(alloc, case.given),
