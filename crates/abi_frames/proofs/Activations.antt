@@ -14,7 +14,7 @@ use Rattle.vcode.specs.declared.place.Location.TheVariants.{Register as InRegist
 use Rattle.vcode.specs.declared.place.Operand.{Operand}
 use Rattle.vcode.specs.declared.place.Operand.TheVariants.{At, Number, Name}
 use Rattle.vcode.specs.Named.{is_place, operand_keeps}
-use Rattle.flat_code.specs.Spots.{Spot, Away, Known, Spots}
+use Rattle.flat_code.specs.Spots.{Spot, NoAccess, ThisByte, Spots}
 use Rattle.flat_code.specs.Step.{Numbers, put, number_of}
 use Rattle.abi_frames.specs.Calls.{World, IsWorld, HoldsSpots, is_kept}
 use Rattle.abi_frames.specs.declared.layout.Layout.{Layout}
@@ -132,11 +132,11 @@ pub record Framed (c : Setting) (numbers : Numbers) (memory : Spots) (u : State)
   pub pointer : u.registers 2 ≡ bottom c
   pub places : (p : Location) (v : ℕ) → is_place c.slots p ≡ true → numbers p ≡ Some v → value_at c u p ≡ v
   pub spots : HoldsSpots c.world.memory_map memory u
-  pub clear : (x : ℕ) → bottom c ≤ x → x < c.sp - c.area → memory x ≡ Away
-  pub reach : (x : ℕ) → c.sp ≤ x → c.before x ≡ Away → memory x ≡ Away
+  pub clear : (x : ℕ) → bottom c ≤ x → x < c.sp - c.area → memory x ≡ NoAccess
+  pub reach : (x : ℕ) → c.sp ≤ x → c.before x ≡ NoAccess → memory x ≡ NoAccess
   pub saved : (k r : ℕ) → slice_get c.saved k ≡ Some r → number_at u.bytes (save_at c k) 8 ≡ c.start.registers r
   pub thread : (n : ℕ) → is_held n ≡ true → n ≢ 2 → is_among n c.saved ≡ false → u.registers n ≡ c.start.registers n
-  pub others : (x : ℕ) → c.sp ≤ x → c.before x ≡ Away → u.bytes x ≡ c.start.bytes x
+  pub others : (x : ℕ) → c.sp ≤ x → c.before x ≡ NoAccess → u.bytes x ≡ c.start.bytes x
 
 some_is : (a b : ℕ) → Some a ≡ Some b → a ≡ b
 some_is a b e = cc
@@ -232,11 +232,11 @@ register_assigned c numbers memory s u r v o framed is may h value =
 
 -- a slot is written
 
-known_not_away : (m n : Spot) (k : ℕ) → m ≡ Known k → m ≡ Away → ⊥
-known_not_away m n k e f = let no : ⊥ = cc in no
+byte_has_access : (m n : Spot) (k : ℕ) → m ≡ ThisByte k → m ≡ NoAccess → ⊥
+byte_has_access m n k e f = let no : ⊥ = cc in no
 
 slot_spots : (c : Setting) → IsSetting c → (numbers : Numbers) (memory : Spots) (s u : State) (i v : ℕ) → i < c.slots → Framed c numbers memory s
-    → OnStack s (slot_at c i) v u → (x n : ℕ) → memory x ≡ Known n → u.bytes x ≡ n
+    → OnStack s (slot_at c i) v u → (x n : ℕ) → memory x ≡ ThisByte n → u.bytes x ≡ n
 slot_spots c is numbers memory s u i v few framed h x n known = by_test (nat_lt x (slot_at c i)) refl (nat_le (slot_at c i + 8) x) refl
   where
     at_x : u.bytes x ≡ stored s.bytes (slot_at c i) 8 v x
@@ -250,7 +250,7 @@ slot_spots c is numbers memory s u i v few framed h x n known = by_test (nat_lt 
         let to : x < slot_at c i + 8 = grind (arith, nat_tests) in
         let fits = is.fits in
         let above = is.above in
-        absurd (known_not_away (memory x) Away n known (framed.clear x (omega (arith, from)) (omega (arith, to, fits, above, few))))
+        absurd (byte_has_access (memory x) NoAccess n known (framed.clear x (omega (arith, from)) (omega (arith, to, fits, above, few))))
 
 slot_place : (c : Setting) (numbers : Numbers) (memory : Spots) (s u : State) (i v : ℕ) (o : Option ℕ) → v < 2 ^ 64 → Framed c numbers memory s
     → OnStack s (slot_at c i) v u → ((x : ℕ) → o ≡ Some x → v ≡ x)

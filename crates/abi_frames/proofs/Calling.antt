@@ -33,7 +33,7 @@ use Rattle.vcode.specs.declared.place.Extension.TheVariants.{Made, Claimed}
 use Rattle.vcode.specs.Operations.{is_extended}
 use Rattle.vcode.specs.Places.{is_callers}
 use Rattle.vcode.specs.Named.{is_place, operand_keeps}
-use Rattle.flat_code.specs.Spots.{Spot, Away, Known, Spots, SameReach}
+use Rattle.flat_code.specs.Spots.{Spot, NoAccess, ThisByte, Spots, SameReach}
 use Rattle.flat_code.specs.Step.{Numbers, kept, number_of, read_all, taken, passed as read_passed}
 use Rattle.abi_frames.specs.Calls.{Ready, Back, is_kept, passed}
 use Rattle.vcode.specs.Addresses.{low}
@@ -397,11 +397,11 @@ sends c is numbers memory s framed (a ∷ args) good xs known (suc i) k n e d =
 
 -- ---- the machine is ready for the callee
 
-known_not_away : (m : Spot) (n : ℕ) → m ≡ Known n → m ≡ Away → ⊥
-known_not_away m n e f = let no : ⊥ = cc in no
+byte_has_access : (m : Spot) (n : ℕ) → m ≡ ThisByte n → m ≡ NoAccess → ⊥
+byte_has_access m n e f = let no : ⊥ = cc in no
 
 spots_then : (c : Setting) → IsSetting c → (numbers : Numbers) (memory : Spots) (s u v : State) (args : List (Argument Location)) → Framed c numbers memory s
-    → Passed c s args u → 8 * (length args - 8) ≤ c.layout.saves → v.bytes ≡ u.bytes → (x n : ℕ) → memory x ≡ Known n → v.bytes x ≡ n
+    → Passed c s args u → 8 * (length args - 8) ≤ c.layout.saves → v.bytes ≡ u.bytes → (x n : ℕ) → memory x ≡ ThisByte n → v.bytes x ≡ n
 spots_then c is numbers memory s u v args framed h fits same x n known =
     ap (λ (m : ℕ → ℕ). m x) same ∙ (by_test (nat_le (bottom c) x) refl (nat_le (bottom c + c.layout.saves) x) refl ∙ framed.spots.known x n known)
   where
@@ -416,7 +416,7 @@ spots_then c is numbers memory s u v args framed h fits same x n known =
         let saves = is.saves_fit in
         let frame = is.fits in
         let above = is.above in
-        absurd (known_not_away (memory x) n known (framed.clear x lo (omega (arith, hi, saves, frame, above))))
+        absurd (byte_has_access (memory x) n known (framed.clear x lo (omega (arith, hi, saves, frame, above))))
 
 pub ready : (c : Setting) → IsSetting c → (numbers : Numbers) (memory : Spots) (s u v : State) (rest : List Item) (at turns room : ℕ)
     (args : List (Argument Location)) (xs : List ℕ) → Framed c numbers memory s → Passed c s args u → Gone (site c) rest at u v
@@ -470,7 +470,7 @@ same_frame c s u v rest at args fits h gone =
 
 -- a byte of the frame, or above it, that the program may not access
 byte_back : (c : Setting) (memory now : Spots) (s v w : State) → SameFrame c s v → Back c.world (bottom c) memory v now w
-    → (x : ℕ) → bottom c + c.layout.saves ≤ x → memory x ≡ Away → w.bytes x ≡ s.bytes x
+    → (x : ℕ) → bottom c + c.layout.saves ≤ x → memory x ≡ NoAccess → w.bytes x ≡ s.bytes x
 byte_back c memory now s v w same back x hi away = back.others x (omega (arith, hi)) away ∙ same.bytes x hi
 
 -- a register that a call leaves as it was

@@ -13,7 +13,7 @@ use Rattle.vcode.specs.declared.line.Line.TheVariants.{Blit}
 use Rattle.vcode.specs.declared.code.Block.{Block}
 use Rattle.vcode.specs.declared.code.Code.{Code}
 use Rattle.vcode.specs.Named.{is_place, operand_keeps, line_keeps}
-use Rattle.flat_code.specs.Spots.{Away, Known, Spots}
+use Rattle.flat_code.specs.Spots.{NoAccess, ThisByte, Spots}
 use Rattle.flat_code.specs.Flat.{FlatGiven, FlatOutcome}
 use Rattle.flat_code.specs.Step.{all_there, apart_or_same, is_in, with_copy, copied, FlatState, number_of, changes, goes_on}
 use Rattle.abi_frames.specs.Calls.{HoldsSpots}
@@ -52,15 +52,15 @@ copied_changes c memory s u n from to holds there h = record {
   stays = λ x away. stays x away (is_in to n x) refl;
 }
   where
-    spared : (x : ℕ) → memory x ≡ Away → (b : Bool) → is_in to n x ≡ b → is_in to n x ≡ false
+    spared : (x : ℕ) → memory x ≡ NoAccess → (b : Bool) → is_in to n x ≡ b → is_in to n x ≡ false
     spared x away false e = e
     spared x away true e = let at = inside_is to n x e in absurd (there_at memory to n x there at.0 at.1 away)
 
-    stays : (x : ℕ) → memory x ≡ Away → (b : Bool) → is_in to n x ≡ b → (if b then memory (from + (x - to)) else memory x) ≡ Away
+    stays : (x : ℕ) → memory x ≡ NoAccess → (b : Bool) → is_in to n x ≡ b → (if b then memory (from + (x - to)) else memory x) ≡ NoAccess
     stays x away false e = away
     stays x away true e = let at = inside_is to n x e in absurd (there_at memory to n x there at.0 at.1 away)
 
-    known : (x m : ℕ) → (b : Bool) → is_in to n x ≡ b → (if b then memory (from + (x - to)) else memory x) ≡ Known m → u.bytes x ≡ m
+    known : (x m : ℕ) → (b : Bool) → is_in to n x ≡ b → (if b then memory (from + (x - to)) else memory x) ≡ ThisByte m → u.bytes x ≡ m
     known x m false e is = h.bytes.outside x (outside_is to n x e) ∙ holds.known x m is
     known x m true e is =
         let at = inside_is to n x e in

@@ -17,7 +17,7 @@ use Rattle.vcode.specs.declared.code.Block.{Block}
 use Rattle.vcode.specs.declared.code.Code.{Code}
 use Rattle.vcode.specs.Named.{is_place, line_keeps}
 use Rattle.vcode.specs.Regular.{alloc_bytes}
-use Rattle.flat_code.specs.Spots.{Away, Open, Known, Spots}
+use Rattle.flat_code.specs.Spots.{NoAccess, AnyByte, ThisByte, Spots}
 use Rattle.flat_code.specs.Flat.{FlatGiven, FlatOutcome}
 use Rattle.flat_code.specs.Step.{FlatState, Numbers, put, made_in, is_in, opened, goes_on}
 use Rattle.abi_frames.specs.Calls.{IsUsable}
@@ -64,7 +64,7 @@ leads_alloc_line c is s used to pointer good inside =
 
 -- ---- the frame after it
 
-not_known : (k : ℕ) → Open ≡ Known k → ⊥
+not_known : (k : ℕ) → AnyByte ≡ ThisByte k → ⊥
 not_known k e = let no : ⊥ = cc in no
 
 -- a block within the area
@@ -85,11 +85,11 @@ opened_framed c is numbers memory u used size room framed =
     a : ℕ
     a = c.sp - c.area + used
 
-    known : (x n : ℕ) (b : Bool) → is_in a size x ≡ b → (if b then Open else memory x) ≡ Known n → u.bytes x ≡ n
+    known : (x n : ℕ) (b : Bool) → is_in a size x ≡ b → (if b then AnyByte else memory x) ≡ ThisByte n → u.bytes x ≡ n
     known x n true e h = absurd (not_known n h)
     known x n false e h = framed.spots.known x n h
 
-    usable : (x : ℕ) (b : Bool) → is_in a size x ≡ b → (if b then Open else memory x) ≢ Away → IsUsable c.world.memory_map x
+    usable : (x : ℕ) (b : Bool) → is_in a size x ≡ b → (if b then AnyByte else memory x) ≢ NoAccess → IsUsable c.world.memory_map x
     usable x false e h = framed.spots.usable x h
     usable x true e h =
         let at = inside_is a size x e in
@@ -100,11 +100,11 @@ opened_framed c is numbers memory u used size room framed =
         let top = is.below in
         is.world.usable x (omega (arith, lo, bounds, blocks)) (omega (arith, hi, room, top, bounds, blocks))
 
-    below : (x : ℕ) → x < c.sp - c.area → (b : Bool) → is_in a size x ≡ b → (if b then Open else memory x) ≡ memory x
+    below : (x : ℕ) → x < c.sp - c.area → (b : Bool) → is_in a size x ≡ b → (if b then AnyByte else memory x) ≡ memory x
     below x hi false e = refl
     below x hi true e = let at = (inside_is a size x e).0 in absurd (omega (arith, at, hi))
 
-    above : (x : ℕ) → c.sp ≤ x → (b : Bool) → is_in a size x ≡ b → (if b then Open else memory x) ≡ memory x
+    above : (x : ℕ) → c.sp ≤ x → (b : Bool) → is_in a size x ≡ b → (if b then AnyByte else memory x) ≡ memory x
     above x hi false e = refl
     above x hi true e =
         let at = (inside_is a size x e).1 in

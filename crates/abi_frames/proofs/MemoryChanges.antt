@@ -11,7 +11,7 @@ use Rattle.rv_isa.proofs.MemoryLemmas.{number_same}
 use Rattle.vcode.specs.declared.place.Location.{Location}
 use Rattle.vcode.specs.declared.place.Location.TheVariants.{Register as InRegister, Slot}
 use Rattle.vcode.specs.Named.{is_place}
-use Rattle.flat_code.specs.Spots.{Spot, Away, Known, Spots}
+use Rattle.flat_code.specs.Spots.{Spot, NoAccess, ThisByte, Spots}
 use Rattle.flat_code.specs.Step.{Numbers, is_there, all_there, is_in}
 use Rattle.abi_frames.specs.Calls.{HoldsSpots}
 use Rattle.abi_frames.proofs.Activations.{Setting, IsSetting, bottom, value_at, place_is, slot_is, Framed, held_below}
@@ -21,9 +21,9 @@ use Rattle.abi_frames.proofs.Instructions.{UsableFrom}
 pub record Changed (memory now : Spots) (s u : State) : Type 0 where
   pub registers : (n : ℕ) → n < 28 → u.registers n ≡ s.registers n
   pub output : u.output ≡ s.output
-  pub spared : (x : ℕ) → memory x ≡ Away → u.bytes x ≡ s.bytes x
-  pub known : (x n : ℕ) → now x ≡ Known n → u.bytes x ≡ n
-  pub stays : (x : ℕ) → memory x ≡ Away → now x ≡ Away
+  pub spared : (x : ℕ) → memory x ≡ NoAccess → u.bytes x ≡ s.bytes x
+  pub known : (x n : ℕ) → now x ≡ ThisByte n → u.bytes x ≡ n
+  pub stays : (x : ℕ) → memory x ≡ NoAccess → now x ≡ NoAccess
 
 -- eight bytes of the frame below the area
 frame_bytes : (c : Setting) → IsSetting c → (numbers : Numbers) (memory now : Spots) (s u : State) → Framed c numbers memory s → Changed memory now s u
@@ -62,10 +62,10 @@ changed c is numbers memory now s u framed h =
 
 -- ---- bytes that may be accessed
 
-not_there : (m : Spot) → is_there m ≡ true → m ≢ Away
+not_there : (m : Spot) → is_there m ≡ true → m ≢ NoAccess
 not_there m h e = absurd (let no : ⊥ = cc in no)
 
-pub there_at : (f : Spots) (a n x : ℕ) → all_there f a n ≡ true → a ≤ x → x < a + n → f x ≢ Away
+pub there_at : (f : Spots) (a n x : ℕ) → all_there f a n ≡ true → a ≤ x → x < a + n → f x ≢ NoAccess
 unfolding all_there
 there_at f a zero x h lo hi = absurd (omega (arith, lo, hi))
 there_at f a (suc n) x h lo hi =

@@ -5,7 +5,7 @@ use Rattle.std.specs.Option.{option_map}
 use Rattle.rv_isa.specs.State.{State}
 use Rattle.rv_isa.specs.Memory.{number_at}
 use Rattle.rv_isa.specs.Labelled.{Ground}
-use Rattle.flat_code.specs.Spots.{Spot, Away, Open, Known, Spots}
+use Rattle.flat_code.specs.Spots.{Spot, NoAccess, AnyByte, ThisByte, Spots}
 use Rattle.flat_code.specs.Step.{read_spot, known_number}
 use Rattle.abi_frames.specs.Calls.{IsUsable, HoldsSpots}
 use Rattle.abi_frames.proofs.Instructions.{UsableFrom}
@@ -20,7 +20,7 @@ none_is_not v o e f = let no : ⊥ = cc in no
 some_is : (a b : ℕ) → Some a ≡ Some b → a ≡ b
 some_is a b e = cc
 
-known_is_there : (m : Spot) (b : ℕ) → m ≡ Known b → m ≢ Away
+known_is_there : (m : Spot) (b : ℕ) → m ≡ ThisByte b → m ≢ NoAccess
 known_is_there m b e f = let no : ⊥ = cc in no
 
 pub read_is : (g : Ground) (f : Spots) (u : State) (at n v : ℕ) → HoldsSpots g f u → known_number f at n ≡ Some v → IsRead g u at n v
@@ -31,7 +31,7 @@ read_is g f u at zero v holds known = record {
 }
 read_is g f u at (suc n) v holds known = by_spot (f at) refl known (λ w e. read_is g f u (at + 1) n w holds e)
   where
-    by_rest : (b : ℕ) → f at ≡ Known b → (o : Option ℕ) → known_number f (at + 1) n ≡ o → option_map (λ k. b + 256 * k) o ≡ Some v
+    by_rest : (b : ℕ) → f at ≡ ThisByte b → (o : Option ℕ) → known_number f (at + 1) n ≡ o → option_map (λ k. b + 256 * k) o ≡ Some v
         → ((w : ℕ) → known_number f (at + 1) n ≡ Some w → IsRead g u (at + 1) n w) → IsRead g u at (suc n) v
     by_rest b e None q h rest = absurd (none_is_not v None refl h)
     by_rest b e (Some w) q h rest =
@@ -49,6 +49,6 @@ read_is g f u at (suc n) v holds known = by_spot (f at) refl known (λ w e. read
 
     by_spot : (m : Spot) → f at ≡ m → read_spot m (known_number f (at + 1) n) ≡ Some v
         → ((w : ℕ) → known_number f (at + 1) n ≡ Some w → IsRead g u (at + 1) n w) → IsRead g u at (suc n) v
-    by_spot Away e h rest = absurd (none_is_not v None refl h)
-    by_spot Open e h rest = absurd (none_is_not v None refl h)
-    by_spot (Known b) e h rest = by_rest b e (known_number f (at + 1) n) refl h rest
+    by_spot NoAccess e h rest = absurd (none_is_not v None refl h)
+    by_spot AnyByte e h rest = absurd (none_is_not v None refl h)
+    by_spot (ThisByte b) e h rest = by_rest b e (known_number f (at + 1) n) refl h rest

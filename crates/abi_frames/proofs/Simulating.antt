@@ -38,7 +38,7 @@ use Rattle.vcode.specs.Named.{is_place, operand_keeps, line_keeps}
 use Rattle.vcode.specs.Regular.{area, turns_of, alloc_bytes, is_alloc, is_target}
 use Rattle.vcode.specs.Cost.{jump_cost}
 use Rattle.vcode.specs.Step.{weighs}
-use Rattle.flat_code.specs.Spots.{Away, Known, Spots}
+use Rattle.flat_code.specs.Spots.{NoAccess, ThisByte, Spots}
 use Rattle.flat_code.specs.Flat.{FlatGiven, FlatOutcome, FlatReturned, FlatEnded}
 use Rattle.rv_isa.specs.Step.{load_size, load_value}
 use Rattle.rv_isa.specs.declared.instruction.LoadOp.{LoadOp}
@@ -377,17 +377,17 @@ enter c f is j r n go i fs k u a new log goes all = by_block (slice_get f.blocks
 
 -- ---- the return
 
-closed_known : (f : Spots) (at n x k : ℕ) → closed f at n x ≡ Known k → f x ≡ Known k
+closed_known : (f : Spots) (at n x k : ℕ) → closed f at n x ≡ ThisByte k → f x ≡ ThisByte k
 closed_known f at n x k h = by_test (is_in at n x) h
   where
-    by_test : (b : Bool) → (if b then Away else f x) ≡ Known k → f x ≡ Known k
+    by_test : (b : Bool) → (if b then NoAccess else f x) ≡ ThisByte k → f x ≡ ThisByte k
     by_test true e = absurd (let no : ⊥ = cc in no)
     by_test false e = e
 
-closed_there : (f : Spots) (at n x : ℕ) → closed f at n x ≢ Away → f x ≢ Away
+closed_there : (f : Spots) (at n x : ℕ) → closed f at n x ≢ NoAccess → f x ≢ NoAccess
 closed_there f at n x h e = h (by_test (is_in at n x))
   where
-    by_test : (b : Bool) → (if b then Away else f x) ≡ Away
+    by_test : (b : Bool) → (if b then NoAccess else f x) ≡ NoAccess
     by_test true = refl
     by_test false = e
 

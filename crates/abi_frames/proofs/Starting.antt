@@ -21,7 +21,7 @@ use Rattle.vcode.specs.declared.code.Code.{Code}
 use Rattle.vcode.specs.Named.{is_place, block_keeps, line_keeps, jump_keeps}
 use Rattle.vcode.specs.Cost.{is_paid}
 use Rattle.vcode.specs.Regular.{area, turns_of, is_alloc, allocs_first, alloc_bytes, leads_inside}
-use Rattle.flat_code.specs.Spots.{Spot, Away, Known, Spots, Clear}
+use Rattle.flat_code.specs.Spots.{Spot, NoAccess, ThisByte, Spots, Clear}
 use Rattle.flat_code.specs.Flat.{FlatGiven}
 use Rattle.flat_code.specs.Step.{Numbers, bound, held, flat_begin, flat_step}
 use Rattle.abi_frames.specs.Calls.{World, IsWorld, GoodStack, Ready, HoldsSpots, passed}
@@ -131,11 +131,11 @@ each test (y ∷ xs) (suc i) x h e = each test xs i x (and_parts (test y) (list_
 
 -- ---- the begin of the frame
 
-known_not_away : (m : Spot) (k : ℕ) → m ≡ Known k → m ≡ Away → ⊥
-known_not_away m k e f = let no : ⊥ = cc in no
+byte_has_access : (m : Spot) (k : ℕ) → m ≡ ThisByte k → m ≡ NoAccess → ⊥
+byte_has_access m k e f = let no : ⊥ = cc in no
 
 begun_spots : (c : Setting) → IsSetting c → (u w : State) → Clear c.world.bottom c.sp c.before → HoldsSpots c.world.memory_map c.before c.start
-    → u.bytes ≡ c.start.bytes → AllSaved c c.layout.saves c.saved u w → (x n : ℕ) → c.before x ≡ Known n → w.bytes x ≡ n
+    → u.bytes ≡ c.start.bytes → AllSaved c c.layout.saves c.saved u w → (x n : ℕ) → c.before x ≡ ThisByte n → w.bytes x ≡ n
 begun_spots c is u w clear holds same saved x n known =
     by_test (nat_lt x (bottom c + c.layout.saves)) refl (nat_le (bottom c + (c.layout.saves + 8 * length c.saved)) x) refl
   where
@@ -151,7 +151,7 @@ begun_spots c is u w clear holds same saved x n known =
         let fits = is.fits in
         let saves = is.saves_fit in
         let above = is.above in
-        absurd (known_not_away (c.before x) n known (clear x (omega (arith, from, above)) (omega (arith, to, fits, saves, above))))
+        absurd (byte_has_access (c.before x) n known (clear x (omega (arith, from, above)) (omega (arith, to, fits, saves, above))))
 
 pub begun : (c : Setting) → IsSetting c → c.start.registers 2 ≡ c.sp → Clear c.world.bottom c.sp c.before
     → HoldsSpots c.world.memory_map c.before c.start → Leads (site c) (prologue c.layout c.saved) c.start (Entering c 0 0 (λ p. None))

@@ -29,7 +29,7 @@ use Rattle.vcode.specs.declared.line.Line.TheVariants.{Store}
 use Rattle.vcode.specs.declared.code.Block.{Block}
 use Rattle.vcode.specs.declared.code.Code.{Code}
 use Rattle.vcode.specs.Named.{is_place, operand_keeps, line_keeps}
-use Rattle.flat_code.specs.Spots.{Away, Known, Spots}
+use Rattle.flat_code.specs.Spots.{NoAccess, ThisByte, Spots}
 use Rattle.flat_code.specs.Flat.{FlatGiven, FlatOutcome}
 use Rattle.flat_code.specs.Step.{all_there, is_in, with_number, stored as stored_spots, FlatState, number_of, address_of, read, taken, changes, goes_on}
 use Rattle.abi_frames.specs.Calls.{HoldsSpots}
@@ -115,7 +115,7 @@ byte_taken Byte v k h = low_byte v k (omega (arith, h))
 byte_taken Half v k h = low_byte v k (omega (arith, h))
 byte_taken Word v k h = low_byte v k h
 
-known_is : (a b : ℕ) → Known a ≡ Known b → a ≡ b
+known_is : (a b : ℕ) → ThisByte a ≡ ThisByte b → a ≡ b
 known_is a b h = cc
 
 pub stored_changes : (c : Setting) (memory : Spots) (s u : State) (a n v z : ℕ) → HoldsSpots c.world.memory_map memory s → all_there memory a n ≡ true
@@ -137,15 +137,15 @@ stored_changes c memory s u a n v z holds there same h = record {
       | inr above ↦ stored_above s.bytes a n v x above
     ]
 
-    spared : (x : ℕ) → memory x ≡ Away → (b : Bool) → is_in a n x ≡ b → is_in a n x ≡ false
+    spared : (x : ℕ) → memory x ≡ NoAccess → (b : Bool) → is_in a n x ≡ b → is_in a n x ≡ false
     spared x away false e = e
     spared x away true e = let at = inside_is a n x e in absurd (there_at memory a n x there at.0 at.1 away)
 
-    stays : (x : ℕ) → memory x ≡ Away → (b : Bool) → is_in a n x ≡ b → (if b then Known (byte_at (x - a) z) else memory x) ≡ Away
+    stays : (x : ℕ) → memory x ≡ NoAccess → (b : Bool) → is_in a n x ≡ b → (if b then ThisByte (byte_at (x - a) z) else memory x) ≡ NoAccess
     stays x away false e = away
     stays x away true e = let at = inside_is a n x e in absurd (there_at memory a n x there at.0 at.1 away)
 
-    known : (x m : ℕ) → (b : Bool) → is_in a n x ≡ b → (if b then Known (byte_at (x - a) z) else memory x) ≡ Known m → u.bytes x ≡ m
+    known : (x m : ℕ) → (b : Bool) → is_in a n x ≡ b → (if b then ThisByte (byte_at (x - a) z) else memory x) ≡ ThisByte m → u.bytes x ≡ m
     known x m false e is = at_x x ∙ (elsewhere x e ∙ holds.known x m is)
     known x m true e is =
         let at = inside_is a n x e in

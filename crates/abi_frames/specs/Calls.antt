@@ -9,7 +9,7 @@ use Rattle.il_ast.specs.declared.operation.Class.TheVariants.{W, L}
 use Rattle.rv_isa.specs.State.{State}
 use Rattle.rv_isa.specs.Memory.{number_at}
 use Rattle.rv_isa.specs.Labelled.{Ground, Fixed}
-use Rattle.flat_code.specs.Spots.{Away, Known, Spots}
+use Rattle.flat_code.specs.Spots.{NoAccess, ThisByte, Spots}
 use Rattle.flat_code.specs.Flat.{FlatGiven}
 
 -- the memory that the machine runs on: permissions and code, and where the stack lies
@@ -32,8 +32,8 @@ pub record IsWorld (w : World) : Type 0 where
 
 -- the machine has the bytes that are known, and may access what can be accessed
 pub record HoldsSpots (g : Ground) (f : Spots) (s : State) : Type 0 where
-  pub known : (x n : ℕ) → f x ≡ Known n → s.bytes x ≡ n
-  pub usable : (x : ℕ) → f x ≢ Away → IsUsable g x
+  pub known : (x n : ℕ) → f x ≡ ThisByte n → s.bytes x ≡ n
+  pub usable : (x : ℕ) → f x ≢ NoAccess → IsUsable g x
 
 -- how a number of this class stands in a register or in eight bytes of the stack: of 32 bits, it is
 -- sign-extended
@@ -90,4 +90,4 @@ pub record Back (w : World) (sp : ℕ) (before : Spots) (s : State) (now : Spots
     pub place : u.pc ≡ s.registers RETURN_ADDRESS
     pub kept : (n : ℕ) → is_kept n ≡ true → u.registers n ≡ s.registers n
     pub memory : HoldsSpots w.memory_map now u
-    pub others : (x : ℕ) → sp ≤ x → before x ≡ Away → u.bytes x ≡ s.bytes x
+    pub others : (x : ℕ) → sp ≤ x → before x ≡ NoAccess → u.bytes x ≡ s.bytes x

@@ -11,9 +11,9 @@ use Rattle.certificates.specs.declared.certificate.Equality.{Equality}
 use Rattle.certificates.specs.declared.certificate.Transfer.{Transfer}
 use Rattle.alloc_check.specs.declared.first.First.{First}
 use Rattle.alloc_check.specs.declared.table.Held.{Held}
-use Rattle.alloc_check.specs.declared.table.Table.{Table}
+use Rattle.alloc_check.specs.declared.table.OwnerTable.{OwnerTable}
 use Rattle.alloc_check.specs.Owners.{Owners, nobody, other_than, own_put, own_also, own_move, own_kept, known}
-use Rattle.alloc_check.specs.Table.{item, cell_at, first_at, latest, counts, counted, own_by, own_of, forgets, Forgotten, IsFirst, IsTable, Rewrites}
+use Rattle.alloc_check.specs.OwnerTable.{item, cell_at, first_at, latest, counts, counted, own_by, own_of, forgets, Forgotten, IsFirst, IsTable, Rewrites}
 
 -- ---- lists
 
@@ -133,13 +133,13 @@ begun_as ws n begun es f x q first long written old =
     ∙ ap (λ (own : Owners). counted ws begun (own q)) first.owners
     ∙ late_counts ws begun (known es nobody q) written (λ r e. subst (λ k. r < k) (sym long) (first.low q r e))
 
-pub begins_known : (t : Table) (n time : ℕ) (es : List Equality) → IsTable n es time t
+pub begins_known : (t : OwnerTable) (n time : ℕ) (es : List Equality) → IsTable n es time t
     → (λ (q : Location). own_by t.written.items (latest (time + 1) (cell_at t q) (first_at t.first q))) ≡ known es nobody
 begins_known t n time es is =
     fun_ext (λ q. begun_as t.written.items n (time + 1) es t.first (cell_at t q) q is.first is.written
     (λ k w e. let low = is.writes k w e in omega arith) (λ h e. let low = is.cells q h e in omega arith))
 
-pub new_known : (t : Table) (n : ℕ) (es : List Equality) → IsFirst n es t.first → length t.written.items ≡ n → Written t.written.items 0 → t.begun ≡ 0 → ((q : Location) → cell_at t q ≡ None)
+pub new_known : (t : OwnerTable) (n : ℕ) (es : List Equality) → IsFirst n es t.first → length t.written.items ≡ n → Written t.written.items 0 → t.begun ≡ 0 → ((q : Location) → cell_at t q ≡ None)
     → own_of t ≡ known es nobody
 new_known t n es first long writes begun none =
     fun_ext (λ q. ap (λ b. own_by t.written.items (latest b (cell_at t q) (first_at t.first q))) begun
@@ -147,7 +147,7 @@ new_known t n es first long writes begun none =
 
 -- ---- a register is written
 
-put_one : (t u : Table) (n time : ℕ) (es : List Equality) (d : Location) (r : ℕ) (q : Location) (b : Bool) → IsTable n es time t → Rewrites d (record { owner = Some r; since = time + 1 }) t u → r < n
+put_one : (t u : OwnerTable) (n time : ℕ) (es : List Equality) (d : Location) (r : ℕ) (q : Location) (b : Bool) → IsTable n es time t → Rewrites d (record { owner = Some r; since = time + 1 }) t u → r < n
     → same_location q d ≡ b
     → own_by (slice_set u.written.items r (time + 1)) (latest u.begun (cell_at u q) (first_at u.first q)) ≡ (if b then Some r else other_than r (own_of t q))
 put_one t u n time es d r q true is new low e =
@@ -169,13 +169,13 @@ put_one t u n time es d r q false is new low e =
     ∙ ap (λ (f : First). own_by (slice_set t.written.items r (time + 1)) (latest t.begun (cell_at t q) (first_at f q))) new.first
     ∙ others_count t.written.items r time l.since l.owner inside (latest_since t.begun time (cell_at t q) (first_at t.first q) is.begun (λ h f. is.cells q h f))
 
-pub put_owns : (t u : Table) (n time : ℕ) (es : List Equality) (d : Location) (r : ℕ) → IsTable n es time t → Rewrites d (record { owner = Some r; since = time + 1 }) t u → r < n
+pub put_owns : (t u : OwnerTable) (n time : ℕ) (es : List Equality) (d : Location) (r : ℕ) → IsTable n es time t → Rewrites d (record { owner = Some r; since = time + 1 }) t u → r < n
     → (λ (q : Location). own_by (slice_set u.written.items r (time + 1)) (latest u.begun (cell_at u q) (first_at u.first q))) ≡ own_put d r (own_of t)
 put_owns t u n time es d r is new low = fun_ext (λ q. put_one t u n time es d r q (same_location q d) is new low refl)
 
 -- ---- a place holds another's value
 
-holds_one : (t u : Table) (n time : ℕ) (es : List Equality) (d : Location) (o : Option ℕ) (q : Location) (b : Bool) → IsTable n es time t → Rewrites d (record { owner = o; since = time }) t u
+holds_one : (t u : OwnerTable) (n time : ℕ) (es : List Equality) (d : Location) (o : Option ℕ) (q : Location) (b : Bool) → IsTable n es time t → Rewrites d (record { owner = o; since = time }) t u
     → ((r : ℕ) → o ≡ Some r → r < n) → same_location q d ≡ b → own_of u q ≡ (if b then o else own_of t q)
 holds_one t u n time es d o q true is new low e =
     let held : Held = record { owner = o; since = time } in
@@ -193,12 +193,12 @@ holds_one t u n time es d o q false is new low e =
     ∙ ap (λ x. own_by t.written.items (latest t.begun x (first_at u.first q))) at
     ∙ ap (λ (f : First). own_by t.written.items (latest t.begun (cell_at t q) (first_at f q))) new.first
 
-pub also_owns : (t u : Table) (n time : ℕ) (es : List Equality) (d : Location) (r : ℕ) → IsTable n es time t → Rewrites d (record { owner = Some r; since = time }) t u → r < n
+pub also_owns : (t u : OwnerTable) (n time : ℕ) (es : List Equality) (d : Location) (r : ℕ) → IsTable n es time t → Rewrites d (record { owner = Some r; since = time }) t u → r < n
     → own_of u ≡ own_also (record { register = r; place = d }) (own_of t)
 also_owns t u n time es d r is new low =
     fun_ext (λ q. holds_one t u n time es d (Some r) q (same_location q d) is new (λ k e. let same : r ≡ k = cc in omega arith) refl)
 
-pub move_owns : (t u : Table) (n time : ℕ) (es : List Equality) (m : Transfer) → IsTable n es time t → Rewrites m.to (record { owner = own_of t m.from; since = time }) t u
+pub move_owns : (t u : OwnerTable) (n time : ℕ) (es : List Equality) (m : Transfer) → IsTable n es time t → Rewrites m.to (record { owner = own_of t m.from; since = time }) t u
     → own_of u ≡ own_move m (own_of t)
 move_owns t u n time es m is new =
     let from : Held = latest t.begun (cell_at t m.from) (first_at t.first m.from) in
@@ -207,7 +207,7 @@ move_owns t u n time es m is new =
 
 -- ---- what stays a table
 
-pub later_cells : (t u : Table) (n time since : ℕ) (es : List Equality) (d : Location) (held : Held) → IsTable n es time t → Rewrites d held t u → held.since ≤ since → time ≤ since
+pub later_cells : (t u : OwnerTable) (n time since : ℕ) (es : List Equality) (d : Location) (held : Held) → IsTable n es time t → Rewrites d held t u → held.since ≤ since → time ≤ since
     → (q : Location) (h : Held) → cell_at u q ≡ Some h → h.since ≤ since
 later_cells t u n time since es d held is new low late q h e = by (same_location q d) refl
   where
@@ -230,7 +230,7 @@ later_writes (x ∷ ws) (suc r) time low zero w e = let old : w ≤ time = low z
 later_writes (x ∷ ws) (suc r) time low (suc k) w e = later_writes ws r time (λ j v f. low (suc j) v f) k w e
 
 -- a cell is written with what is no later
-pub stays_table : (t u : Table) (n time : ℕ) (es : List Equality) (d : Location) (held : Held) → IsTable n es time t → Rewrites d held t u → held.since ≤ time → IsTable n es time u
+pub stays_table : (t u : OwnerTable) (n time : ℕ) (es : List Equality) (d : Location) (held : Held) → IsTable n es time t → Rewrites d held t u → held.since ≤ time → IsTable n es time u
 stays_table t u n time es d held is new low =
     record {
       machine = new.machine ∙ is.machine;
@@ -289,7 +289,7 @@ call_one written begun time k x y first false true low none1 none2 e =
     ap (λ z. own_by written (latest begun z first)) (e ∙ none1 refl) ∙ ap (λ f. own_by written (latest begun None f)) (none2 refl)
 call_one written begun time k x y first false false low none1 none2 e = ap (λ z. own_by written (latest begun z first)) e
 
-pub call_keeps : (t u : Table) (n time : ℕ) (es : List Equality) → IsTable n es time t → u.begun ≡ t.begun → u.written.items ≡ t.written.items → u.slots.items ≡ t.slots.items → u.first ≡ t.first
+pub call_keeps : (t u : OwnerTable) (n time : ℕ) (es : List Equality) → IsTable n es time t → u.begun ≡ t.begun → u.written.items ≡ t.written.items → u.slots.items ≡ t.slots.items → u.first ≡ t.first
     → Forgotten time u.machine.items t.machine.items → own_of u ≡ own_kept (own_of t)
 call_keeps t u n time es is same_begun same_written same_slots same_first cells = fun_ext at
   where

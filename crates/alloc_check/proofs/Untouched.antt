@@ -19,7 +19,7 @@ use Rattle.alloc_check.specs.Placed.{Layout}
 use Rattle.alloc_check.specs.Owners.{Owners, nobody, nowhere, other_than, own_put, own_move, own_also, own_kept, known, stand_also, standing, owns, operand_held, args_held, all_hold, is_at, are_apart, where_held}
 use Rattle.alloc_check.specs.Certified.{moves_at, begins_at, layout_at, next_point, jump_point}
 use Rattle.alloc_check.specs.Accepted.{exists_in}
-use Rattle.alloc_check.specs.Table.{in_table}
+use Rattle.alloc_check.specs.OwnerTable.{in_table}
 use Rattle.alloc_check.specs.Walk.{put_in, moves_before, moved_in, known_in, after_reads, line_in, point_in, lines_in, place_stays, register_stays, moves_stay, starts_stay, write_stays, line_stays, lines_stay, machine_stays, block_stays}
 use Rattle.alloc_check.proofs.Agreeing.{both_true, same_is}
 

@@ -20,7 +20,7 @@ use Rattle.alloc_check.specs.Placed.{Layout, placed_operand, placed_argument, pl
 use Rattle.alloc_check.specs.Owners.{Owners, nobody, own_put, own_move, own_kept, own_also, moved, known, operand_held, args_held, all_hold, are_apart, where_held, received, after_line}
 use Rattle.alloc_check.specs.Certified.{moves_at, begins_at, starts_at, layout_at, transfers, next_point, jump_point, certified_lines, certified_block, certified_blocks, certified_params, placed_by, jump_right, lines_right, blocks_right, own_params, params_placed, entry_right, is_sound}
 use Rattle.alloc_check.specs.Accepted.{exists_in, equalities_exist}
-use Rattle.alloc_check.specs.Table.{in_table}
+use Rattle.alloc_check.specs.OwnerTable.{in_table}
 use Rattle.alloc_check.specs.Walk.{put_in, moved_in, known_in, after_reads, receives_in, line_in, lines_in, block_stays, targets_in, jump_in, block_in, blocks_in, params_in, entry_holds, entry_in, sound_in, certified_line}
 use Rattle.alloc_check.proofs.Agreeing.{both_true}
 use Rattle.alloc_check.proofs.Starting.{both_hold}

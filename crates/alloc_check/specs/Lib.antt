@@ -3,7 +3,7 @@ pub mod Kept
 pub mod Owners
 pub mod Certified
 pub mod Accepted
-pub mod Table
+pub mod OwnerTable
 pub mod Walk
 pub mod Slotted
 pub mod Laws

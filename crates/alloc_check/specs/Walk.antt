@@ -20,7 +20,7 @@ use Rattle.cfg_live.specs.Registers.{line_writes}
 use Rattle.alloc_check.specs.Placed.{Layout, placed_line}
 use Rattle.alloc_check.specs.Owners.{Owners, nobody, known, nowhere, standing, own_put, own_move, own_also, own_kept, owns, operand_held, args_held, all_hold, are_apart, where_held}
 use Rattle.alloc_check.specs.Certified.{moves_at, begins_at, starts_at, layout_at, transfers, next_point, jump_point, is_param}
-use Rattle.alloc_check.specs.Table.{in_table}
+use Rattle.alloc_check.specs.OwnerTable.{in_table}
 
 abbrev pub put_in : ℕ → Location → ℕ → Owners → Option Owners
 put_in n d r own = where_held (in_table n d && nat_lt r n) (own_put d r own)

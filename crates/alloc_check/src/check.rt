@@ -4,12 +4,12 @@ ghost use Rattle.std.specs.List.{list_all};
 ghost use Rattle.alloc_check.specs.Owners.{owns, own_kept, operand_held, args_held, all_hold, where_held};
 ghost use Rattle.alloc_check.specs.Certified.{next_point, jump_point, place_by, starts_at, is_param};
 ghost use Rattle.alloc_check.specs.Accepted.{end_point, exists_in};
-ghost use Rattle.alloc_check.specs.Table.{own_of, IsFirst, IsTable};
+ghost use Rattle.alloc_check.specs.OwnerTable.{own_of, IsFirst, IsTable};
 ghost use Rattle.alloc_check.specs.Walk.{put_in, moved_in, known_in, block_stays, targets_in, receives_in, makes_in, line_in, point_in, lines_in, jump_in, block_in, blocks_in, params_in, entry_holds, entry_in, sound_in};
 
 use crate::says::{begins_at, moves_at, place_by, places_at};
 use crate::stays::{are_apart, block_stays, owns};
-use crate::table::{Ground, Table};
+use crate::table::{Ground, OwnerTable};
 use certificates::certificate::{Certificate, Equality, Transfer};
 use cfg_live::numbering::{jump_point, next_point};
 use std::alloc::{AllocError, Global};
@@ -18,7 +18,7 @@ use vcode::function::VFunc;
 use vcode::line::{Jump, Line};
 use vcode::place::{Argument, Destination, Location, Operand};
 
-fn held(table: &Table, places: &[Equality], value: &Operand<u32>) -> bool
+fn held(table: &OwnerTable, places: &[Equality], value: &Operand<u32>) -> bool
     ensures { result ≡ operand_held (own_of table.now) (place_by places.now) value.now }
 {
     match value {
@@ -28,7 +28,7 @@ fn held(table: &Table, places: &[Equality], value: &Operand<u32>) -> bool
     }
 }
 
-fn args_held(table: &Table, places: &[Equality], args: &[Argument<u32>]) -> bool
+fn args_held(table: &OwnerTable, places: &[Equality], args: &[Argument<u32>]) -> bool
     ensures { result ≡ args_held (own_of table.now) (place_by places.now) args.now }
 {
     for arg in args {
@@ -39,7 +39,7 @@ fn args_held(table: &Table, places: &[Equality], args: &[Argument<u32>]) -> bool
     true
 }
 
-fn all_hold(table: &Table, equalities: &[Equality]) -> bool
+fn all_hold(table: &OwnerTable, equalities: &[Equality]) -> bool
     ensures { result ≡ all_hold (own_of table.now) equalities.now }
 {
     for equality in equalities {
@@ -50,7 +50,13 @@ fn all_hold(table: &Table, equalities: &[Equality]) -> bool
     true
 }
 
-fn put(table: &mut Table, ground: &Ground, time: usize, places: &[Equality], register: u32) -> bool
+fn put(
+    table: &mut OwnerTable,
+    ground: &Ground,
+    time: usize,
+    places: &[Equality],
+    register: u32,
+) -> bool
     requires table { IsTable ground.now.registers ground.now.everywhere.now time table.old }
     requires room { time + 1 < 2 ^ 64 }
     ensures own { where_held result (own_of table.new) ≡ put_in ground.now.registers (place_by places.now register) register (own_of table.old) }
@@ -60,7 +66,7 @@ fn put(table: &mut Table, ground: &Ground, time: usize, places: &[Equality], reg
 }
 
 fn call(
-    table: &mut Table,
+    table: &mut OwnerTable,
     ground: &Ground,
     time: usize,
     places: &[Equality],
@@ -79,7 +85,7 @@ fn call(
 }
 
 fn make(
-    table: &mut Table,
+    table: &mut OwnerTable,
     ground: &Ground,
     time: usize,
     places: &[Equality],
@@ -97,7 +103,7 @@ fn make(
 }
 
 fn line(
-    table: &mut Table,
+    table: &mut OwnerTable,
     ground: &Ground,
     time: usize,
     places: &[Equality],
@@ -139,7 +145,7 @@ fn line(
     }
 }
 
-fn transfers(table: &mut Table, ground: &Ground, time: usize, moves: &[Transfer]) -> bool
+fn transfers(table: &mut OwnerTable, ground: &Ground, time: usize, moves: &[Transfer]) -> bool
     requires { IsTable ground.now.registers ground.now.everywhere.now time table.old }
     ensures own { where_held result (own_of table.new) ≡ moved_in ground.now.registers moves.now (own_of table.old) }
     ensures table { IsTable ground.now.registers ground.now.everywhere.now time table.new }
@@ -152,7 +158,7 @@ fn transfers(table: &mut Table, ground: &Ground, time: usize, moves: &[Transfer]
     true
 }
 
-fn known(table: &mut Table, ground: &Ground, time: usize, equalities: &[Equality]) -> bool
+fn known(table: &mut OwnerTable, ground: &Ground, time: usize, equalities: &[Equality]) -> bool
     requires { IsTable ground.now.registers ground.now.everywhere.now time table.old }
     ensures own { where_held result (own_of table.new) ≡ known_in ground.now.registers equalities.now (own_of table.old) }
     ensures table { IsTable ground.now.registers ground.now.everywhere.now time table.new }
@@ -167,7 +173,7 @@ fn known(table: &mut Table, ground: &Ground, time: usize, equalities: &[Equality
 
 /// A line with the moves before it. A point's time is one more than its number.
 fn point(
-    table: &mut Table,
+    table: &mut OwnerTable,
     certificate: &Certificate,
     ground: &Ground,
     at: usize,
@@ -186,7 +192,7 @@ fn point(
 }
 
 fn lines(
-    table: &mut Table,
+    table: &mut OwnerTable,
     certificate: &Certificate,
     ground: &Ground,
     first: usize,
@@ -215,7 +221,7 @@ struct Standing<'a> {
     block: &'a Block<u32>,
 }
 
-fn stays(table: &Table, certificate: &Certificate, ground: &Ground, at: &Standing) -> bool
+fn stays(table: &OwnerTable, certificate: &Certificate, ground: &Ground, at: &Standing) -> bool
     requires first { IsFirst ground.now.registers ground.now.everywhere.now table.now.first }
     requires room { jump_point at.now.first at.now.block.now.lines + 1 < 2 ^ 64 }
     ensures { result ≡ block_stays ground.now.everywhere.now certificate.now at.now.first at.now.index (own_of table.now) at.now.block.now.lines }
@@ -225,7 +231,7 @@ fn stays(table: &Table, certificate: &Certificate, ground: &Ground, at: &Standin
 }
 
 fn targets(
-    table: &Table,
+    table: &OwnerTable,
     certificate: &Certificate,
     ground: &Ground,
     at: &Standing,
@@ -253,7 +259,7 @@ fn targets(
 }
 
 fn jump(
-    table: &mut Table,
+    table: &mut OwnerTable,
     certificate: &Certificate,
     ground: &Ground,
     at: &Standing,
@@ -275,7 +281,7 @@ fn jump(
         )
 }
 
-fn block(table: &mut Table, certificate: &Certificate, ground: &Ground, at: &Standing) -> bool
+fn block(table: &mut OwnerTable, certificate: &Certificate, ground: &Ground, at: &Standing) -> bool
     requires table { IsTable ground.now.registers ground.now.everywhere.now at.now.first table.old }
     requires room { jump_point at.now.first at.now.block.now.lines + 1 < 2 ^ 64 }
     ensures right { result ≡ block_in ground.now.registers ground.now.everywhere.now certificate.now at.now.first at.now.index at.now.block.now }
@@ -293,7 +299,7 @@ fn block(table: &mut Table, certificate: &Certificate, ground: &Ground, at: &Sta
 }
 
 fn blocks(
-    table: &mut Table,
+    table: &mut OwnerTable,
     certificate: &Certificate,
     ground: &Ground,
     blocks: &[Block<u32>],
@@ -318,7 +324,7 @@ fn blocks(
 }
 
 fn params(
-    table: &mut Table,
+    table: &mut OwnerTable,
     ground: &Ground,
     params: &[Destination<u32>],
     places: &[Location],
@@ -346,7 +352,7 @@ fn is_param(params: &[Destination<u32>], register: u32) -> bool
     params.iter().any(|param| register == param.place)
 }
 
-fn entry_holds(table: &Table, params: &[Destination<u32>], starts: &[Equality]) -> bool
+fn entry_holds(table: &OwnerTable, params: &[Destination<u32>], starts: &[Equality]) -> bool
     ensures { result ≡ entry_holds params.now starts.now (own_of table.now) }
 {
     for equality in starts {
@@ -359,7 +365,7 @@ fn entry_holds(table: &Table, params: &[Destination<u32>], starts: &[Equality]) 
 
 /// Whether the first block finds what it asks for on entry.
 #[tactic(auto, using(crate::proofs::Starting::both_enter))]
-fn first_holds(table: &Table, params: &[Destination<u32>], certificate: &Certificate) -> bool
+fn first_holds(table: &OwnerTable, params: &[Destination<u32>], certificate: &Certificate) -> bool
     ensures { result ≡ entry_holds params.now (starts_at certificate.now 0) (own_of table.now) }
 {
     entry_holds(table, params, certificate.everywhere.as_slice())
@@ -379,7 +385,7 @@ fn entry(
         registers,
         everywhere: &[],
     };
-    let mut table = Table::new(alloc, &ground)?;
+    let mut table = OwnerTable::new(alloc, &ground)?;
     let from = code.params.as_slice();
     Ok(
         params(&mut table, &ground, from, certificate.params.as_slice())
@@ -406,7 +412,7 @@ pub(crate) fn is_sound(
         registers: function.registers,
         everywhere: certificate.everywhere.as_slice(),
     };
-    let mut table = Table::new(alloc, &ground)?;
+    let mut table = OwnerTable::new(alloc, &ground)?;
     if !are_apart(&table, &ground)
         || !entry(alloc, function.registers, &function.code, certificate)?
     {

@@ -6,7 +6,7 @@ ghost use Rattle.vcode.specs.declared.place.Location.{Location};
 ghost use Rattle.vcode.specs.Places.{same_location};
 ghost use Rattle.alloc_check.specs.Accepted.{exists_in};
 ghost use Rattle.alloc_check.specs.Owners.{nobody, own_also, known, nowhere, stand_also, standing};
-ghost use Rattle.alloc_check.specs.Table.{item, in_table, first_at, stands_at, HasRoom, IsFirst};
+ghost use Rattle.alloc_check.specs.OwnerTable.{item, in_table, first_at, stands_at, HasRoom, IsFirst};
 
 use certificates::certificate::Equality;
 use rv_isa::abi;

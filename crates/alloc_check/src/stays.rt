@@ -2,12 +2,12 @@
 ghost use Rattle.std.specs.Prelude.{◌≡◌, ◌<◌, ◌+◌, ◌^◌, ◌&&◌};
 ghost use Rattle.alloc_check.specs.Owners.{nobody, known, nowhere, standing, owns, is_at, are_apart};
 ghost use Rattle.alloc_check.specs.Certified.{jump_point, place_by};
-ghost use Rattle.alloc_check.specs.Table.{own_of, IsFirst};
+ghost use Rattle.alloc_check.specs.OwnerTable.{own_of, IsFirst};
 ghost use Rattle.alloc_check.specs.Walk.{place_stays, register_stays, moves_stay, starts_stay, write_stays, line_stays, lines_stay, machine_stays, block_stays, moves_before};
 
 use crate::first::MACHINE;
 use crate::says::{begins_at, is_same, moves_at, moves_before, place_by, places_at};
-use crate::table::{Ground, Table};
+use crate::table::{Ground, OwnerTable};
 use certificates::certificate::{Certificate, Equality, Transfer};
 use cfg_live::numbering::next_point;
 use cfg_live::uses::line_writes;
@@ -15,7 +15,7 @@ use vcode::line::Line;
 use vcode::place::Location;
 
 /// Whether a place holds the register's value.
-pub(crate) fn owns(table: &Table, place: Location, register: u32) -> bool
+pub(crate) fn owns(table: &OwnerTable, place: Location, register: u32) -> bool
     ensures { result ≡ owns (own_of table.now) place register }
 {
     match table.owner(place) {
@@ -24,7 +24,7 @@ pub(crate) fn owns(table: &Table, place: Location, register: u32) -> bool
     }
 }
 
-fn place_stays(table: &Table, ground: &Ground, place: Location) -> bool
+fn place_stays(table: &OwnerTable, ground: &Ground, place: Location) -> bool
     requires { IsFirst ground.now.registers ground.now.everywhere.now table.now.first }
     ensures { result ≡ place_stays ground.now.everywhere.now (own_of table.now) place }
 {
@@ -34,7 +34,7 @@ fn place_stays(table: &Table, ground: &Ground, place: Location) -> bool
     }
 }
 
-fn register_stays(table: &Table, ground: &Ground, register: u32) -> bool
+fn register_stays(table: &OwnerTable, ground: &Ground, register: u32) -> bool
     requires { IsFirst ground.now.registers ground.now.everywhere.now table.now.first }
     ensures { result ≡ register_stays ground.now.everywhere.now (own_of table.now) register }
 {
@@ -44,7 +44,7 @@ fn register_stays(table: &Table, ground: &Ground, register: u32) -> bool
     }
 }
 
-fn moves_stay(table: &Table, ground: &Ground, moves: &[Transfer]) -> bool
+fn moves_stay(table: &OwnerTable, ground: &Ground, moves: &[Transfer]) -> bool
     requires { IsFirst ground.now.registers ground.now.everywhere.now table.now.first }
     ensures { result ≡ moves_stay ground.now.everywhere.now (own_of table.now) moves.now }
 {
@@ -56,7 +56,7 @@ fn moves_stay(table: &Table, ground: &Ground, moves: &[Transfer]) -> bool
     true
 }
 
-fn starts_stay(table: &Table, ground: &Ground, begins: &[Equality]) -> bool
+fn starts_stay(table: &OwnerTable, ground: &Ground, begins: &[Equality]) -> bool
     requires { IsFirst ground.now.registers ground.now.everywhere.now table.now.first }
     ensures { result ≡ starts_stay ground.now.everywhere.now (own_of table.now) begins.now }
 {
@@ -68,7 +68,12 @@ fn starts_stay(table: &Table, ground: &Ground, begins: &[Equality]) -> bool
     true
 }
 
-fn write_stays(table: &Table, ground: &Ground, places: &[Equality], written: Option<u32>) -> bool
+fn write_stays(
+    table: &OwnerTable,
+    ground: &Ground,
+    places: &[Equality],
+    written: Option<u32>,
+) -> bool
     requires { IsFirst ground.now.registers ground.now.everywhere.now table.now.first }
     ensures { result ≡ write_stays ground.now.everywhere.now (own_of table.now) (place_by places.now) written }
 {
@@ -82,7 +87,7 @@ fn write_stays(table: &Table, ground: &Ground, places: &[Equality], written: Opt
 }
 
 fn line_stays(
-    table: &Table,
+    table: &OwnerTable,
     ground: &Ground,
     certificate: &Certificate,
     at: usize,
@@ -96,7 +101,7 @@ fn line_stays(
 }
 
 fn lines_stay(
-    table: &Table,
+    table: &OwnerTable,
     ground: &Ground,
     certificate: &Certificate,
     first: usize,
@@ -116,7 +121,7 @@ fn lines_stay(
     moves_stay(table, ground, moves_at(certificate, at))
 }
 
-fn machine_stays(table: &Table, ground: &Ground) -> bool
+fn machine_stays(table: &OwnerTable, ground: &Ground) -> bool
     requires { IsFirst ground.now.registers ground.now.everywhere.now table.now.first }
     ensures { result ≡ machine_stays ground.now.everywhere.now (own_of table.now) 28 }
 {
@@ -129,7 +134,7 @@ fn machine_stays(table: &Table, ground: &Ground) -> bool
 
 /// Whether all holds at the end of a block, with these lines from that point on, that holds at the start of every block.
 pub(crate) fn block_stays(
-    table: &Table,
+    table: &OwnerTable,
     ground: &Ground,
     certificate: &Certificate,
     first: usize,
@@ -146,7 +151,7 @@ pub(crate) fn block_stays(
             && lines_stay(table, ground, certificate, first, lines)
 }
 
-fn is_apart(table: &Table, ground: &Ground, equality: Equality) -> bool
+fn is_apart(table: &OwnerTable, ground: &Ground, equality: Equality) -> bool
     requires first { IsFirst ground.now.registers ground.now.everywhere.now table.now.first }
     requires own { own_of table.now ≡ known ground.now.everywhere.now nobody }
     ensures { result ≡ (owns (known ground.now.everywhere.now nobody) equality.place equality.register && is_at equality.place (standing ground.now.everywhere.now nowhere equality.register)) }
@@ -159,7 +164,7 @@ fn is_apart(table: &Table, ground: &Ground, equality: Equality) -> bool
 }
 
 /// Whether no register has two places everywhere, and no place two registers. The table is one in which no block began yet.
-pub(crate) fn are_apart(table: &Table, ground: &Ground) -> bool
+pub(crate) fn are_apart(table: &OwnerTable, ground: &Ground) -> bool
     requires first { IsFirst ground.now.registers ground.now.everywhere.now table.now.first }
     requires own { own_of table.now ≡ known ground.now.everywhere.now nobody }
     ensures { result ≡ are_apart ground.now.everywhere.now }

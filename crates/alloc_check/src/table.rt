@@ -6,7 +6,7 @@ ghost use Rattle.vcode.specs.declared.place.Location.TheVariants.{Register};
 ghost use Rattle.vcode.specs.Places.{is_callers};
 ghost use Rattle.alloc_check.specs.Owners.{nobody, known, nowhere, standing, own_kept, where_held};
 ghost use Rattle.alloc_check.specs.Accepted.{exists_in};
-ghost use Rattle.alloc_check.specs.Table.{item, cell_at, first_at, latest, counts, own_of, in_table, forgets, Forgotten, IsFirst, IsTable, Rewrites};
+ghost use Rattle.alloc_check.specs.OwnerTable.{item, cell_at, first_at, latest, counts, own_of, in_table, forgets, Forgotten, IsFirst, IsTable, Rewrites};
 ghost use Rattle.alloc_check.specs.Walk.{put_in, move_in, also_in};
 
 use crate::first::{First, MACHINE, empty, has_cell, item};
@@ -32,7 +32,7 @@ pub(crate) struct Ground<'a> {
 /// Whose value each place holds: what became of it since the block began, or else what it holds at the start of every block. Its owner counts as long as that
 /// was not written since.
 #[derive(Drop)]
-pub(crate) struct Table {
+pub(crate) struct OwnerTable {
     machine: Vec<Option<Held>>,
     slots: Vec<Option<Held>>,
     written: Vec<usize>,
@@ -88,13 +88,13 @@ fn unwritten(alloc: Global, count: usize) -> Result<Vec<usize>, AllocError>
     Ok(times)
 }
 
-impl Table {
+impl OwnerTable {
     /// A table in which each place holds what it does at the start of every block.
     ///
     /// # Errors
     ///
     /// Only where memory was refused.
-    pub(crate) fn new(alloc: Global, ground: &Ground) -> Result<Table, AllocError>
+    pub(crate) fn new(alloc: Global, ground: &Ground) -> Result<OwnerTable, AllocError>
         requires { list_all (exists_in ground.now.registers) ground.now.everywhere.now ≡ true }
         ensures own { IfOk result (λ t. own_of t ≡ known ground.now.everywhere.now nobody) }
         ensures table { IfOk result (λ t. IsTable ground.now.registers ground.now.everywhere.now 0 t) }
@@ -103,7 +103,7 @@ impl Table {
         let machine = empty(alloc, MACHINE)?;
         let slots = empty(alloc, ground.registers as usize)?;
         let written = unwritten(alloc, ground.registers as usize)?;
-        Ok(Table {
+        Ok(OwnerTable {
             machine,
             slots,
             written,

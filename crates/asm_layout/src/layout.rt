@@ -7,7 +7,7 @@ ghost use Rattle.asm_layout.specs.Forms.{holes_of, words_of};
 
 use crate::emit::{push_holes, push_words};
 use crate::places::{chosen_places, longest_places};
-use rv_isa::code::Code;
+use rv_isa::code::MachineCode;
 use rv_isa::labelled::LabelledCode;
 use std::alloc::{AllocError, Global};
 
@@ -17,7 +17,7 @@ use std::alloc::{AllocError, Global};
 /// shortest form that would reach its label if all items took their longest one. There is one word at least, and no more
 /// than the items' longest forms take. Memory is all that can be wanting.
 #[tactic(auto, using(crate::proofs::Whole::lays_out, crate::proofs::Whole::is_code, crate::proofs::Whole::not_longer, crate::proofs::Whole::forms_fit))]
-pub fn layout(alloc: Global, code: LabelledCode) -> Result<Code, AllocError>
+pub fn layout(alloc: Global, code: LabelledCode) -> Result<MachineCode, AllocError>
     ensures laid { IfOk result (λ out. LaysOut code.items out.words out.holes) }
     ensures words { IfOk result (λ out. out.words ≡ words_of code) }
     ensures holes { IfOk result (λ out. out.holes ≡ holes_of code) }
@@ -31,5 +31,5 @@ pub fn layout(alloc: Global, code: LabelledCode) -> Result<Code, AllocError>
     push_words(&mut words, far.as_slice(), places.as_slice(), items)?;
     let mut holes = Vec::new(alloc);
     push_holes(&mut holes, far.as_slice(), items)?;
-    Ok(Code::new(words, holes))
+    Ok(MachineCode::new(words, holes))
 }

@@ -3,7 +3,7 @@ use elf_file::{Loaded, read_image};
 use il_ast::value::End;
 use il_interp::interpret::interpret;
 use il_types::checked::Checked;
-use obj_link::resolve::resolve;
+use obj_link::linking::resolve::resolve;
 use qbec::compile::compile;
 use qbec::texts::checked_texts;
 use regalloc::linear_scan::LinearScan;

@@ -3,7 +3,7 @@ use il_ast::text::Text;
 use il_reader::read::read;
 use il_types::check::check;
 use il_types::checked::Checked;
-use obj_link::resolve::resolve;
+use obj_link::linking::resolve::resolve;
 use qbec::compile::compile;
 use regalloc::linear_scan::LinearScan;
 use std::alloc::{AllocError, Global};

@@ -5,7 +5,7 @@ use il_interp::interpret::interpret;
 use il_reader::read::read;
 use il_types::check::check;
 use il_types::checked::Checked;
-use obj_link::resolve::resolve;
+use obj_link::linking::resolve::resolve;
 use std::alloc::{AllocError, Global};
 
 const ALU: &str = "export function w $main() {

@@ -16,8 +16,15 @@ fn shown(alloc: Global, files: &mut MemoryDisk, words: &str) -> Result<String, A
     let words: Vec<&str> = words.split(' ').collect(alloc)?;
     let mut out = MemorySink::new(alloc, usize::MAX, 0);
     let mut err = MemorySink::new(alloc, usize::MAX, 0);
-    let mut how = LinearScan::new(alloc);
-    let status = command(alloc, words.as_slice(), &mut how, files, &mut out, &mut err);
+    let mut allocator = LinearScan::new(alloc);
+    let status = command(
+        alloc,
+        words.as_slice(),
+        &mut allocator,
+        files,
+        &mut out,
+        &mut err,
+    );
     let output = text_of(&out);
     let message = text_of(&err);
     format!(in alloc; "{status}|{output}|{message}")

@@ -7,7 +7,7 @@ use Rattle.il_interp.specs.declared.error.RunError.TheVariants.{Words as WordsRe
 use Rattle.il_interp.specs.Begun.{Refuses as RefusesWords}
 use Rattle.elf_file.specs.Conditions.{Loads, Refuses as RefusesFile}
 use Rattle.elf_file.specs.Loaded.{Executable}
-use Rattle.obj_link.specs.Words.{are_arguments}
+use Rattle.obj_link.specs.Arguments.{are_arguments}
 use Rattle.rv_machine.specs.declared.start.StartError.{StartError}
 use Rattle.rv_machine.specs.declared.start.StartError.TheVariants.{Arguments, Memory as NotStarted}
 use Rattle.qbec.specs.declared.error.CompileError.{CompileError}

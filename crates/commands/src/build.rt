@@ -59,7 +59,7 @@ fn put_compiled<'a, D: Disk>(
 /// Compiles texts to the file `out`, which is written only after success.
 fn make<'a, D: Disk>(
     alloc: Global,
-    how: &mut dyn Strategy,
+    allocator: &mut dyn Strategy,
     disk: &mut D,
     out: &'a str,
     texts: &[&[u8]],
@@ -67,7 +67,7 @@ fn make<'a, D: Disk>(
     ensures made { OnOk result (IsMade (D.told disk.old) (D.told disk.new) (map (λ t. t.now) texts.now) out.now) }
     ensures fails { IfErr result (MakingFails (D.told disk.old) (D.told disk.new) (map (λ t. t.now) texts.now) out.entry) }
 {
-    let compiled = compile(alloc, texts, how);
+    let compiled = compile(alloc, texts, allocator);
     put_compiled(disk, out, compiled)
 }
 
@@ -75,7 +75,7 @@ fn make<'a, D: Disk>(
 #[tactic(auto, unfolding(crate::specs::Parts::BuildFails))]
 pub(crate) fn build<'a, D: Disk>(
     alloc: Global,
-    how: &mut dyn Strategy,
+    allocator: &mut dyn Strategy,
     disk: &mut D,
     out: &'a str,
     paths: &[&'a str],
@@ -86,6 +86,6 @@ pub(crate) fn build<'a, D: Disk>(
 {
     let texts = read_all(alloc, disk, paths)?;
     let slices = slices(alloc, texts.as_slice())?;
-    make(alloc, how, disk, out, slices.as_slice())?;
+    make(alloc, allocator, disk, out, slices.as_slice())?;
     Ok(0)
 }

@@ -69,7 +69,7 @@ fn show<O: Sink, E: Sink>(alloc: Global, refusal: Refusal, out: &mut O, err: &mu
 fn perform<'a, D: Disk, O: Sink>(
     alloc: Global,
     command: &Command<'a>,
-    how: &mut dyn Strategy,
+    allocator: &mut dyn Strategy,
     disk: &mut D,
     out: &mut O,
 ) -> Result<u8, Failure<'a>>
@@ -78,7 +78,7 @@ fn perform<'a, D: Disk, O: Sink>(
 {
     match command {
         Command::Build { out: target, files } => {
-            build(alloc, how, disk, *target, files.as_slice())
+            build(alloc, allocator, disk, *target, files.as_slice())
         }
         Command::Run { limit, file, words } => {
             run(alloc, disk, out, *limit, *file, words.as_slice())
@@ -109,7 +109,7 @@ fn perform<'a, D: Disk, O: Sink>(
 pub fn command<D: Disk, O: Sink, E: Sink>(
     alloc: Global,
     words: &[&str],
-    how: &mut dyn Strategy,
+    allocator: &mut dyn Strategy,
     disk: &mut D,
     out: &mut O,
     err: &mut E,
@@ -120,7 +120,7 @@ pub fn command<D: Disk, O: Sink, E: Sink>(
         result }
 {
     match command_of(alloc, words) {
-        Ok(command) => match perform(alloc, &command, how, disk, out) {
+        Ok(command) => match perform(alloc, &command, allocator, disk, out) {
             Ok(status) => status,
             Err(failure) => report(failure, err),
         },

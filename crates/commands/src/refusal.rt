@@ -4,7 +4,7 @@ ghost use Rattle.il_types.specs.RuleNumber.{rule_number};
 ghost use Rattle.commands.specs.declared.refusal.Refusal.TheVariants.{Rule};
 
 use elf_file::LoadError;
-use il_types::rule::Fault;
+use il_types::rule::BrokenRule;
 use qbec::error::CompileError;
 
 /// Why texts, a file or argument words are refused.
@@ -30,7 +30,7 @@ pub enum Refusal {
     File(LoadError),
 }
 
-fn broken_rule(text: usize, fault: Fault) -> Refusal
+fn broken_rule(text: usize, fault: BrokenRule) -> Refusal
     ensures { result ≡ Rule (rule_number fault.rule) text fault.line }
 {
     Refusal::Rule {

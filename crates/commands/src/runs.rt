@@ -1,7 +1,7 @@
 //! Runs of files and of texts.
 ghost use Rattle.std.specs.Prelude.{◌≡◌, ◌↔◌, ◌∷◌, [], map, Err, IfOk, OnOk, IfErr, true, false};
 ghost use Rattle.il_ast.specs.Meaning.{meaning};
-ghost use Rattle.obj_link.specs.Words.{are_arguments};
+ghost use Rattle.obj_link.specs.Arguments.{are_arguments};
 ghost use Rattle.rv_machine.specs.declared.start.StartError.TheVariants.{Arguments};
 ghost use Rattle.rv_machine.specs.Runs.{RunEnds};
 ghost use Rattle.rv_machine.specs.Start.{start_state};
@@ -12,7 +12,7 @@ use crate::failure::Failure;
 use elf_file::{Loaded, read_image};
 use il_ast::value::End;
 use il_interp::interpret::interpret;
-use obj_link::resolve::resolve;
+use obj_link::linking::resolve::resolve;
 use qbec::error::link_refusal;
 use qbec::texts::checked_texts;
 use rv_machine::machine::Machine;

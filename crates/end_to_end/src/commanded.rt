@@ -45,8 +45,8 @@ pub fn perform_with(
     mut out: MemorySink,
     mut err: MemorySink,
 ) -> Result<Done, AllocError> {
-    let mut how = LinearScan::new(alloc);
-    let status = command(alloc, words, &mut how, disk, &mut out, &mut err);
+    let mut allocator = LinearScan::new(alloc);
+    let status = command(alloc, words, &mut allocator, disk, &mut out, &mut err);
     written(alloc, status, out, err)
 }
 

@@ -21,9 +21,9 @@ pub enum Compiled {
 pub fn compile_with(
     alloc: Global,
     texts: &[&[u8]],
-    how: &mut dyn Strategy,
+    allocator: &mut dyn Strategy,
 ) -> Result<Compiled, AllocError> {
-    match compile(alloc, texts, how) {
+    match compile(alloc, texts, allocator) {
         Ok(file) => Ok(Compiled::File(file)),
         Err(error) => Ok(Compiled::Refused(refusal_told(alloc, error)?)),
     }

@@ -92,10 +92,10 @@ fn check_file(
 fn check_once(
     program: &Program<'_>,
     what: &str,
-    how: &mut Fixed,
+    allocator: &mut Fixed,
     report: &mut Report,
 ) -> Result<(), AllocError> {
-    let compiled = compile_with(report.alloc, program.texts, how)?;
+    let compiled = compile_with(report.alloc, program.texts, allocator)?;
     match &compiled {
         Compiled::File(file) => check_file(program, what, file.as_slice(), report),
         Compiled::Refused(why) => report.fail(what, "a file", why.as_str()),
@@ -114,9 +114,9 @@ fn check_answer(
     report: &mut Report,
 ) -> Result<(), AllocError> {
     begin(program.case.name.as_str(), answer, report)?;
-    let mut how = Fixed::new(report.alloc, answer);
-    check_once(program, "first time", &mut how, report)?;
-    check_once(program, "second time", &mut how, report)
+    let mut allocator = Fixed::new(report.alloc, answer);
+    check_once(program, "first time", &mut allocator, report)?;
+    check_once(program, "second time", &mut allocator, report)
 }
 
 fn check_answers(program: &Program<'_>, report: &mut Report) -> Result<(), AllocError> {

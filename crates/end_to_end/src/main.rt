@@ -27,7 +27,7 @@ mod table;
 mod told;
 mod watched;
 
-use crate::table::Table;
+use crate::table::CaseTable;
 use std::alloc::AllocError;
 use std::rt::Files;
 use std::{env, fs, io, str};
@@ -74,17 +74,17 @@ fn words_asked(rt: &HostRuntime) -> io::Result<Asked> {
 }
 
 /// The table of the file of programs.
-fn table_of<R: Files + AllocGlobal>(rt: &R) -> io::Result<Table> {
+fn table_of<R: Files + AllocGlobal>(rt: &R) -> io::Result<CaseTable> {
     let bytes = fs::read(rt, "programs.cases")?;
     let text = str::from_utf8(bytes.as_slice()).unwrap_or("");
-    let mut table = Table::new(rt.alloc());
+    let mut table = CaseTable::new(rt.alloc());
     for line in text.lines() {
         table.take(rt, line)?;
     }
     Ok(table)
 }
 
-fn check_table(table: &Table, asked: &Asked, report: &mut Report) -> Result<(), AllocError> {
+fn check_table(table: &CaseTable, asked: &Asked, report: &mut Report) -> Result<(), AllocError> {
     for case in &table.cases {
         if asked.has(case.group.as_str()) {
             report.enter(case.group.as_str())?;
@@ -94,7 +94,7 @@ fn check_table(table: &Table, asked: &Asked, report: &mut Report) -> Result<(), 
     Ok(())
 }
 
-fn check_rest(table: &Table, asked: &Asked, report: &mut Report) -> Result<(), AllocError> {
+fn check_rest(table: &CaseTable, asked: &Asked, report: &mut Report) -> Result<(), AllocError> {
     if asked.has("strategies") {
         report.enter("strategies")?;
         hostile::check(table.cases.as_slice(), report)?;

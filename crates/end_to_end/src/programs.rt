@@ -175,11 +175,11 @@ fn check_scanned(
     spilled: &[u8],
     report: &mut Report,
 ) -> Result<(), AllocError> {
-    let mut how = Watched::new(report.alloc);
-    let compiled = compile_with(report.alloc, texts, &mut how)?;
+    let mut allocator = Watched::new(report.alloc);
+    let compiled = compile_with(report.alloc, texts, &mut allocator)?;
     check_scanned_file(case, &compiled, words, spilled, report)?;
     let functions = functions_of(report.alloc, texts)?;
-    check_watched(case, &how, functions, report)
+    check_watched(case, &allocator, functions, report)
 }
 
 fn check_scanned_file(
@@ -202,14 +202,23 @@ fn check_scanned_file(
 // Linear scan is asked once for each function, and each time its answer is accepted.
 fn check_watched(
     case: &Case,
-    how: &Watched,
+    allocator: &Watched,
     functions: u64,
     report: &mut Report,
 ) -> Result<(), AllocError> {
-    report.holds("each certificate is accepted", how.accepted == how.asked)?;
-    report.holds("a value is moved", 0 < how.moves || !case.marks.is_cut)?;
-    report.holds("registers are named", how.named >= case.bounds.registers)?;
-    report.holds("once for each function", how.asked == functions)
+    report.holds(
+        "each certificate is accepted",
+        allocator.accepted == allocator.asked,
+    )?;
+    report.holds(
+        "a value is moved",
+        0 < allocator.moves || !case.marks.is_cut,
+    )?;
+    report.holds(
+        "registers are named",
+        allocator.named >= case.bounds.registers,
+    )?;
+    report.holds("once for each function", allocator.asked == functions)
 }
 
 // The status and the line of a run that ended so.

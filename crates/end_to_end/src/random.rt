@@ -53,10 +53,10 @@ struct Program<'p> {
 fn compiled(
     what: &str,
     text: &[u8],
-    how: &mut dyn Strategy,
+    allocator: &mut dyn Strategy,
     report: &mut Report,
 ) -> Result<Vec<u8>, AllocError> {
-    match compile_with(report.alloc, &[text], how)? {
+    match compile_with(report.alloc, &[text], allocator)? {
         Compiled::File(file) => Ok(file),
         Compiled::Refused(why) => {
             report.fail(what, "a file", why.as_str())?;
@@ -77,11 +77,11 @@ fn check_run<R: Ram>(
 
 fn check_strategy(
     what: &str,
-    how: &mut dyn Strategy,
+    allocator: &mut dyn Strategy,
     program: &Program<'_>,
     report: &mut Report,
 ) -> Result<(), AllocError> {
-    let file = compiled(what, program.text, how, report)?;
+    let file = compiled(what, program.text, allocator, report)?;
     check_run::<PageRam>(what, file.as_slice(), program, report)
 }
 
@@ -108,8 +108,8 @@ fn check_answer(
     program: &Program<'_>,
     report: &mut Report,
 ) -> Result<(), AllocError> {
-    let mut how = Fixed::new(report.alloc, answer);
-    check_strategy(what, &mut how, program, report)
+    let mut allocator = Fixed::new(report.alloc, answer);
+    check_strategy(what, &mut allocator, program, report)
 }
 
 fn check_program(program: &Program<'_>, report: &mut Report) -> Result<(), AllocError> {

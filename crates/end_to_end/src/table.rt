@@ -33,7 +33,7 @@ enum Lines {
 
 /// The cases so far, and the block of lines that is read.
 #[derive(Drop)]
-pub struct Table {
+pub struct CaseTable {
     alloc: Global,
     pub cases: Vec<Case>,
     group: String,
@@ -41,9 +41,9 @@ pub struct Table {
     block: String,
 }
 
-impl Table {
-    pub fn new(alloc: Global) -> Table {
-        Table {
+impl CaseTable {
+    pub fn new(alloc: Global) -> CaseTable {
+        CaseTable {
             alloc,
             cases: Vec::new(alloc),
             group: String::new(alloc),

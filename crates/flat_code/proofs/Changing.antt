@@ -6,7 +6,7 @@ use Rattle.std.proofs.lemmas.Bool.Decides.{nat_tests}
 use Rattle.std.proofs.lemmas.Option.{slice_get_within}
 use Rattle.il_ast.specs.declared.value.Cell.{Cell}
 use Rattle.il_ast.specs.Memory.{Memory, block_at, size_at, put, write_at}
-use Rattle.flat_code.specs.Spots.{Away, Known, Spots, Bases, Entries, ShowsCell, ShowsMemory, IsPlaced, SameBlocks, SameReach}
+use Rattle.flat_code.specs.Spots.{NoAccess, ThisByte, Spots, Bases, Entries, ShowsCell, ShowsMemory, IsPlaced, SameBlocks, SameReach}
 use Rattle.flat_code.specs.Step.{is_there, all_there, is_in}
 use Rattle.flat_code.proofs.Shown.{some_is, none_is}
 use Rattle.flat_code.proofs.Standing.{two_addresses}
@@ -194,7 +194,7 @@ spliced_length o new old within =
 pub record IsCovered (e : Entries) (p : Bases) (f g : Spots) (at : ℕ) (new : List Cell) : Type 0 where
   pub inside : (k : ℕ) (c : Cell) → slice_get new k ≡ Some c → ShowsCell e p c (g (at + k))
   pub outside : (x : ℕ) → (x < at) ⊎ (at + length new ≤ x) → g x ≡ f x
-  pub bytes : (x n : ℕ) → g x ≡ Known n → n < 256
+  pub bytes : (x n : ℕ) → g x ≡ ThisByte n → n < 256
 
 -- the block after it, and each other block
 written_block : (m : Memory) (b : ℕ) (mid old : List Cell) → block_at m b ≡ Some old → (c : ℕ) (cells : List Cell) → block_at (slice_set m b (Some mid)) c ≡ Some cells
@@ -277,7 +277,7 @@ written_shown e p m f g b o a new now memory w at covered =
     apart_alike x y i j k l s t (inl h) = inl (omega arith)
     apart_alike x y i j k l s t (inr h) = inr (omega arith)
 
-    reached : (x : ℕ) → f x ≡ Away → ((x < a + o) ⊎ (a + o + length new ≤ x)) ⊎ ((k : ℕ) × (k < length new) × (x ≡ a + o + k)) → g x ≡ Away
+    reached : (x : ℕ) → f x ≡ NoAccess → ((x < a + o) ⊎ (a + o + length new ≤ x)) ⊎ ((k : ℕ) × (k < length new) × (x ≡ a + o + k)) → g x ≡ NoAccess
     reached x away (inl out) = covered.outside x out ∙ away
     reached x away (inr z) =
         let small : z.0 < length new = z.1 in

@@ -8,7 +8,7 @@ use Rattle.il_ast.specs.declared.value.Value.{Value}
 use Rattle.il_ast.specs.declared.value.Value.TheVariants.{Integer, Pointer, Function}
 use Rattle.il_ast.specs.declared.value.Cell.{Cell}
 use Rattle.il_ast.specs.Memory.{Memory, block_at, cells_at, write_at, copy, apart_or_same as cells_apart}
-use Rattle.flat_code.specs.Spots.{Spot, Known, Spots, Bases, Entries, Shows, ShowsCell, ShowsMemory}
+use Rattle.flat_code.specs.Spots.{Spot, ThisByte, Spots, Bases, Entries, Shows, ShowsCell, ShowsMemory}
 use Rattle.flat_code.specs.Step.{is_in, all_there, apart_or_same, with_copy, copied}
 use Rattle.flat_code.proofs.Shown.{some_is, none_is}
 use Rattle.flat_code.proofs.Standing.{Stands, stands}
@@ -91,10 +91,10 @@ copy_inside f n from to k h =
 copy_outside : (f : Spots) (n from to x : ℕ) → (x < to) ⊎ (to + n ≤ x) → with_copy f n from to x ≡ f x
 copy_outside f n from to x h = ap (λ (t : Bool). if t then f (from + (x - to)) else f x) (out_of_range to n x h)
 
-copy_bytes : (f : Spots) → ((x i : ℕ) → f x ≡ Known i → i < 256) → (n from to x i : ℕ) → with_copy f n from to x ≡ Known i → i < 256
+copy_bytes : (f : Spots) → ((x i : ℕ) → f x ≡ ThisByte i → i < 256) → (n from to x i : ℕ) → with_copy f n from to x ≡ ThisByte i → i < 256
 copy_bytes f bytes n from to x i h = by_test (is_in to n x) h
   where
-    by_test : (t : Bool) → (if t then f (from + (x - to)) else f x) ≡ Known i → i < 256
+    by_test : (t : Bool) → (if t then f (from + (x - to)) else f x) ≡ ThisByte i → i < 256
     by_test true h = bytes (from + (x - to)) i h
     by_test false h = bytes x i h
 

@@ -4,7 +4,7 @@ use Rattle.std.specs.Option.{option_map}
 use Rattle.std.proofs.lemmas.Option.{slice_get_within}
 use Rattle.il_ast.specs.declared.value.Cell.{Cell}
 use Rattle.il_ast.specs.Memory.{Memory, block_at, size_at, free_all}
-use Rattle.flat_code.specs.Spots.{Spot, Away, Known, Spots, Bases, ShowsCell, ShowsMemory, SameReach, SameBlocks}
+use Rattle.flat_code.specs.Spots.{Spot, NoAccess, ThisByte, Spots, Bases, ShowsCell, ShowsMemory, SameReach, SameBlocks}
 use Rattle.flat_code.specs.Step.{is_in, closed}
 use Rattle.flat_code.proofs.Shown.{some_is, none_is}
 use Rattle.flat_code.proofs.Runs.{not_away}
@@ -13,19 +13,19 @@ use Rattle.flat_code.proofs.Owning.{Ground, IsGround, is_among, IsHeld, freed_ma
 
 -- ---- closed bytes
 
-closed_inside : (f : Spots) (at n x : ℕ) → at ≤ x → x < at + n → closed f at n x ≡ Away
-closed_inside f at n x h k = ap (λ (t : Bool). if t then Away else f x) (in_range at n x h k)
+closed_inside : (f : Spots) (at n x : ℕ) → at ≤ x → x < at + n → closed f at n x ≡ NoAccess
+closed_inside f at n x h k = ap (λ (t : Bool). if t then NoAccess else f x) (in_range at n x h k)
 
 closed_outside : (f : Spots) (at n x : ℕ) → (x < at) ⊎ (at + n ≤ x) → closed f at n x ≡ f x
-closed_outside f at n x h = ap (λ (t : Bool). if t then Away else f x) (out_of_range at n x h)
+closed_outside f at n x h = ap (λ (t : Bool). if t then NoAccess else f x) (out_of_range at n x h)
 
-closed_bytes : (f : Spots) → ((x i : ℕ) → f x ≡ Known i → i < 256) → (at n x i : ℕ) → closed f at n x ≡ Known i → i < 256
+closed_bytes : (f : Spots) → ((x i : ℕ) → f x ≡ ThisByte i → i < 256) → (at n x i : ℕ) → closed f at n x ≡ ThisByte i → i < 256
 closed_bytes f bytes at n x i h = by_test (is_in at n x) h
   where
-    apart : Away ≡ Known i → ⊥
+    apart : NoAccess ≡ ThisByte i → ⊥
     apart e = cc
 
-    by_test : (t : Bool) → (if t then Away else f x) ≡ Known i → i < 256
+    by_test : (t : Bool) → (if t then NoAccess else f x) ≡ ThisByte i → i < 256
     by_test true h = absurd (apart h)
     by_test false h = bytes x i h
 
@@ -96,7 +96,7 @@ left_by g ground p m owned f used held =
         (sym (closed_outside f g.base g.size (a + k) (found_outside g ground p m owned f used held b a k cells h.0 h.1 at (slice_get_within cells k c got))))
         (held.memory.cells b a k cells c h.1 at got)
 
-    reached : (x : ℕ) → g.before x ≡ Away → ((x < g.base) ⊎ (g.base + g.size ≤ x)) ⊎ ((k : ℕ) × (k < g.size) × (x ≡ g.base + k)) → closed f g.base g.size x ≡ Away
+    reached : (x : ℕ) → g.before x ≡ NoAccess → ((x < g.base) ⊎ (g.base + g.size ≤ x)) ⊎ ((k : ℕ) × (k < g.size) × (x ≡ g.base + k)) → closed f g.base g.size x ≡ NoAccess
     reached x away (inl out) = closed_outside f g.base g.size x out ∙ held.reach x away out
     reached x away (inr z) =
         let lt : z.0 < g.size = z.1 in

@@ -9,7 +9,7 @@ use Rattle.il_ast.specs.declared.value.Cell.{Cell}
 use Rattle.il_ast.specs.declared.value.Cell.TheVariants.{Plain, Part, Blank}
 use Rattle.il_ast.specs.Memory.{Memory, block_at, size_at, fresh}
 use Rattle.il_ast.specs.Cost.{round_16}
-use Rattle.flat_code.specs.Spots.{Spot, Away, Open, Known, Spots, Bases, Entries, Grown, ShowsCell, ShowsMemory, IsPlaced}
+use Rattle.flat_code.specs.Spots.{Spot, NoAccess, AnyByte, ThisByte, Spots, Bases, Entries, Grown, ShowsCell, ShowsMemory, IsPlaced}
 use Rattle.flat_code.specs.Step.{is_in, opened}
 use Rattle.flat_code.proofs.Shown.{some_is, none_is, shows_grown}
 use Rattle.flat_code.proofs.Runs.{not_away}
@@ -18,19 +18,19 @@ use Rattle.flat_code.proofs.Owning.{Ground, IsGround, is_among, among_last, IsHe
 
 -- ---- opened bytes
 
-opened_inside : (f : Spots) (at n k : ℕ) → k < n → opened f at n (at + k) ≡ Open
-opened_inside f at n k h = ap (λ (t : Bool). if t then Open else f (at + k)) (in_range at n (at + k) (omega arith) (omega arith))
+opened_inside : (f : Spots) (at n k : ℕ) → k < n → opened f at n (at + k) ≡ AnyByte
+opened_inside f at n k h = ap (λ (t : Bool). if t then AnyByte else f (at + k)) (in_range at n (at + k) (omega arith) (omega arith))
 
 opened_outside : (f : Spots) (at n x : ℕ) → (x < at) ⊎ (at + n ≤ x) → opened f at n x ≡ f x
-opened_outside f at n x h = ap (λ (t : Bool). if t then Open else f x) (out_of_range at n x h)
+opened_outside f at n x h = ap (λ (t : Bool). if t then AnyByte else f x) (out_of_range at n x h)
 
-opened_bytes : (f : Spots) → ((x i : ℕ) → f x ≡ Known i → i < 256) → (at n x i : ℕ) → opened f at n x ≡ Known i → i < 256
+opened_bytes : (f : Spots) → ((x i : ℕ) → f x ≡ ThisByte i → i < 256) → (at n x i : ℕ) → opened f at n x ≡ ThisByte i → i < 256
 opened_bytes f bytes at n x i h = by_test (is_in at n x) h
   where
-    apart : Open ≡ Known i → ⊥
+    apart : AnyByte ≡ ThisByte i → ⊥
     apart e = cc
 
-    by_test : (t : Bool) → (if t then Open else f x) ≡ Known i → i < 256
+    by_test : (t : Bool) → (if t then AnyByte else f x) ≡ ThisByte i → i < 256
     by_test true h = absurd (apart h)
     by_test false h = bytes x i h
 
@@ -105,7 +105,7 @@ unmade_size m b e = ap (λ (o : Option (Option (List Cell))). option_map length 
 
 -- what is asked of the place: bytes that are away, not at 0 and not over the end
 record IsRoom (f : Spots) (at n : ℕ) : Type 0 where
-  away : (x : ℕ) → at ≤ x → x < at + n → f x ≡ Away
+  away : (x : ℕ) → at ≤ x → x < at + n → f x ≡ NoAccess
   above_zero : 0 < at
   below_end : at + n < 2 ^ 64
 
@@ -198,10 +198,10 @@ fresh_shown e p m f at n memory room =
         let blank : Blank ≡ c = blank_get n k c (ap (λ (s : List Cell). slice_get s k) (sym h.1) ∙ got) in
         let size : length cells ≡ n = ap length h.1 ∙ long in
         let within : k < length cells = slice_get_within cells k c got in
-        let open_there : opened f at n (a + k) ≡ Open = ap (λ i. opened f at n (i + k)) (new b a h.0 is) ∙ opened_inside f at n k (omega arith) in
+        let open_there : opened f at n (a + k) ≡ AnyByte = ap (λ i. opened f at n (i + k)) (new b a h.0 is) ∙ opened_inside f at n k (omega arith) in
         subst (λ (d : Cell). ShowsCell e q d (opened f at n (a + k))) blank (λ away. open_away (sym open_there ∙ away))
       where
-        open_away : Open ≡ Away → ⊥
+        open_away : AnyByte ≡ NoAccess → ⊥
         open_away e = cc
 
     two : (b c a d : ℕ) (xs ys : List Cell) → b ≢ c → ((b < length m) × (block_at m b ≡ Some xs)) ⊎ ((b ≡ length m) × (xs ≡ replicate n Blank)) → ((c < length m) × (block_at m c ≡ Some ys)) ⊎ ((c ≡ length m) × (ys ≡ replicate n Blank))

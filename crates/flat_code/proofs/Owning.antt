@@ -5,7 +5,7 @@ use Rattle.std.specs.Option.{option_map, option_flatten}
 use Rattle.std.proofs.lemmas.Option.{slice_get_past}
 use Rattle.il_ast.specs.declared.value.Cell.{Cell}
 use Rattle.il_ast.specs.Memory.{Memory, block_at, size_at, free, free_all}
-use Rattle.flat_code.specs.Spots.{Away, Spots, Bases, Entries, Grown, ShowsMemory, AreEntries, Clear, SameReach, SameBlocks}
+use Rattle.flat_code.specs.Spots.{NoAccess, Spots, Bases, Entries, Grown, ShowsMemory, AreEntries, Clear, SameReach, SameBlocks}
 use Rattle.flat_code.proofs.Shown.{none_is}
 use Rattle.flat_code.proofs.Changing.{block_other, set_made, is_same, is_other}
 
@@ -49,7 +49,7 @@ pub record IsHeld (g : Ground) (p : Bases) (m : Memory) (owned : List ℕ) (f : 
   pub memory : ShowsMemory g.entries p m f
   pub grown : Grown g.bases p
   pub above : Clear (g.base + used) (g.base + g.size) f
-  pub reach : (x : ℕ) → g.before x ≡ Away → (x < g.base) ⊎ (g.base + g.size ≤ x) → f x ≡ Away
+  pub reach : (x : ℕ) → g.before x ≡ NoAccess → (x < g.base) ⊎ (g.base + g.size ≤ x) → f x ≡ NoAccess
   pub others : (b : ℕ) → is_among b owned ≡ false → size_at m b ≡ size_at g.made b
   pub mine : (b : ℕ) → is_among b owned ≡ true → size_at g.made b ≡ None
 

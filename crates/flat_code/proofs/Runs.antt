@@ -12,7 +12,7 @@ use Rattle.il_ast.specs.declared.value.Cell.{Cell}
 use Rattle.il_ast.specs.declared.value.Cell.TheVariants.{Plain, Part, Blank}
 use Rattle.il_ast.specs.Values.{number_of, same_value}
 use Rattle.il_ast.specs.Memory.{Memory, block_at, cells_at, span, plain_bytes, are_parts_from, value_of}
-use Rattle.flat_code.specs.Spots.{Spot, Away, Open, Known, Spots, Bases, Entries, Shows, ShowsCell, ShowsMemory}
+use Rattle.flat_code.specs.Spots.{Spot, NoAccess, AnyByte, ThisByte, Spots, Bases, Entries, Shows, ShowsCell, ShowsMemory}
 use Rattle.flat_code.specs.Step.{read_spot, known_number, is_there, all_there}
 use Rattle.flat_code.proofs.Shown.{some_is, none_is, shown_by_one}
 use Rattle.flat_code.proofs.Operating.{callee_is, same_number}
@@ -37,17 +37,17 @@ run_of e p f at (c ∷ cells) h = (
 
 -- ---- bytes that are there
 
-spot_there : (s : Spot) → s ≢ Away → is_there s ≡ true
-spot_there Away h = absurd (h refl)
-spot_there Open h = refl
-spot_there (Known b) h = refl
+spot_there : (s : Spot) → s ≢ NoAccess → is_there s ≡ true
+spot_there NoAccess h = absurd (h refl)
+spot_there AnyByte h = refl
+spot_there (ThisByte b) h = refl
 
 pub cell_there : (e : Entries) (p : Bases) (c : Cell) (s : Spot) → ShowsCell e p c s → is_there s ≡ true
 cell_there e p (Plain b) s h = ap is_there h
 cell_there e p (Part v k) s h = ap is_there h.3
 cell_there e p Blank s h = spot_there s h
 
-pub not_away : (e : Entries) (p : Bases) (c : Cell) (s : Spot) → ShowsCell e p c s → s ≢ Away
+pub not_away : (e : Entries) (p : Bases) (c : Cell) (s : Spot) → ShowsCell e p c s → s ≢ NoAccess
 not_away e p c s h away =
     let e : false ≡ true = sym (ap is_there away) ∙ cell_there e p c s h in cc
 
@@ -116,8 +116,8 @@ parts_known e p f v x shown small at k (Part u i ∷ cells) run is =
     let first = both_true (same_value u v) (nat_eq i k && are_parts_from (k + 1) v cells) is in
     let second = both_true (nat_eq i k) (are_parts_from (k + 1) v cells) first.1 in
     let here : Shows e p v run.0.0 = subst (λ (w : Value). Shows e p w run.0.0) (value_is u v first.0) run.0.1 in
-    let byte : f at ≡ Known (byte_at k x) =
-    run.0.3 ∙ (ap (λ n. Known (byte_at i n)) (shown_by_one e p v run.0.0 x here shown) ∙ ap (λ n. Known (byte_at n x)) (same_number i k second.0)) in
+    let byte : f at ≡ ThisByte (byte_at k x) =
+    run.0.3 ∙ (ap (λ n. ThisByte (byte_at i n)) (shown_by_one e p v run.0.0 x here shown) ∙ ap (λ n. ThisByte (byte_at n x)) (same_number i k second.0)) in
     ap (λ (s : Spot). read_spot s (known_number f (at + 1) (length cells))) byte
     ∙ (ap (option_map (λ n. byte_at k x + 256 * n)) (parts_known e p f v x shown small (at + 1) (k + 1) cells run.1 second.1)
     ∙ ap (λ (n : ℕ). Some n) (digit k x))
@@ -151,7 +151,7 @@ value_known e p f at (Part u i ∷ cells) v run is = by_test (are_parts_from 0 u
 
 -- ---- how large the number is
 
-pub known_below : (f : Spots) → ((x n : ℕ) → f x ≡ Known n → n < 256) → (n at z : ℕ) → known_number f at n ≡ Some z → z < 256 ^ n
+pub known_below : (f : Spots) → ((x n : ℕ) → f x ≡ ThisByte n → n < 256) → (n at z : ℕ) → known_number f at n ≡ Some z → z < 256 ^ n
 unfolding known_number
 known_below f bytes zero at z is = subst (λ n. n < 256 ^ 0) (some_is 0 z is) (omega arith)
 known_below f bytes (suc n) at z is = by_spot (f at) (known_number f (at + 1) n) refl (known_below f bytes n (at + 1)) is
@@ -160,10 +160,10 @@ known_below f bytes (suc n) at z is = by_spot (f at) (known_number f (at + 1) n)
     more b y j h k = let e : 256 ^ suc j ≡ 256 ^ j * 256 = pow-suc 256 j in omega arith
 
     by_spot : (s : Spot) (o : Option ℕ) → f at ≡ s → ((y : ℕ) → o ≡ Some y → y < 256 ^ n) → read_spot s o ≡ Some z → z < 256 ^ suc n
-    by_spot Away o e rest is = absurd (none_is z is)
-    by_spot Open o e rest is = absurd (none_is z is)
-    by_spot (Known b) None e rest is = absurd (none_is z is)
-    by_spot (Known b) (Some y) e rest is = subst (λ m. m < 256 ^ suc n) (some_is (b + 256 * y) z is) (more b y n (bytes at b e) (rest y refl))
+    by_spot NoAccess o e rest is = absurd (none_is z is)
+    by_spot AnyByte o e rest is = absurd (none_is z is)
+    by_spot (ThisByte b) None e rest is = absurd (none_is z is)
+    by_spot (ThisByte b) (Some y) e rest is = subst (λ m. m < 256 ^ suc n) (some_is (b + 256 * y) z is) (more b y n (bytes at b e) (rest y refl))
 
 -- ---- spans of a block
 

@@ -11,7 +11,7 @@ use Rattle.il_ast.specs.declared.value.Cell.{Cell}
 use Rattle.il_ast.specs.declared.value.Cell.TheVariants.{Plain, Part}
 use Rattle.il_ast.specs.Values.{bytes_of}
 use Rattle.il_ast.specs.Memory.{Memory, parts, cells_for, write_at, store}
-use Rattle.flat_code.specs.Spots.{Spot, Known, Spots, Bases, Entries, Shows, ShowsCell, ShowsMemory, AreEntries}
+use Rattle.flat_code.specs.Spots.{Spot, ThisByte, Spots, Bases, Entries, Shows, ShowsCell, ShowsMemory, AreEntries}
 use Rattle.flat_code.specs.Step.{is_in, all_there, with_number, stored}
 use Rattle.flat_code.proofs.Shown.{some_is, none_is}
 use Rattle.flat_code.proofs.Standing.{Stands, stands}
@@ -49,7 +49,7 @@ parts_get v (suc (suc (suc (suc (suc (suc (suc (suc k)))))))) c h = absurd (none
 -- n new cells, which the bytes of the number show
 record AreCells (e : Entries) (p : Bases) (n z : ℕ) (new : List Cell) : Type 0 where
   long : length new ≡ n
-  shown : (k : ℕ) (c : Cell) → slice_get new k ≡ Some c → ShowsCell e p c (Known (byte_at k z))
+  shown : (k : ℕ) (c : Cell) → slice_get new k ≡ Some c → ShowsCell e p c (ThisByte (byte_at k z))
 
 parts_shown : (e : Entries) (p : Bases) (n z : ℕ) (v : Value) (new : List Cell) → Shows e p v z → z < 2 ^ 64 → (t : Bool) → nat_eq n 8 ≡ t → (if t then Some (parts v) else None) ≡ Some new → AreCells e p n z new
 parts_shown e p n z v new h small false test is = absurd (none_is new is)
@@ -57,7 +57,7 @@ parts_shown e p n z v new h small true test is =
     let same : parts v ≡ new = some_is (parts v) new is in
     record {
       long = ap length (sym same) ∙ sym (same_number n 8 test);
-      shown = λ k c got. subst (λ (d : Cell). ShowsCell e p d (Known (byte_at k z))) (parts_get v k c (ap (λ (xs : List Cell). slice_get xs k) same ∙ got)) (z, h, small, refl);
+      shown = λ k c got. subst (λ (d : Cell). ShowsCell e p d (ThisByte (byte_at k z))) (parts_get v k c (ap (λ (xs : List Cell). slice_get xs k) same ∙ got)) (z, h, small, refl);
     }
 
 address_small : (a o z : ℕ) → z ≡ (a + o) % 2 ^ 64 → z < 2 ^ 64
@@ -69,7 +69,7 @@ cells_shown e p entries n z (Integer i) new h is =
     record {
       long = ap length (sym same) ∙ bytes_length n i;
       shown = λ k c got.
-          subst (λ (d : Cell). ShowsCell e p d (Known (byte_at k z))) (bytes_get n i k c (ap (λ (xs : List Cell). slice_get xs k) same ∙ got)) (ap (λ m. Known (byte_at k m)) h);
+          subst (λ (d : Cell). ShowsCell e p d (ThisByte (byte_at k z))) (bytes_get n i k c (ap (λ (xs : List Cell). slice_get xs k) same ∙ got)) (ap (λ m. ThisByte (byte_at k m)) h);
     }
 cells_shown e p entries n z (Pointer b o) new h is = parts_shown e p n z (Pointer b o) new h (address_small h.0 o z h.2) (nat_eq n 8) refl is
 cells_shown e p entries n z (Function f) new h is = parts_shown e p n z (Function f) new h (entries.small f z h) (nat_eq n 8) refl is
@@ -83,28 +83,28 @@ byte_below (suc k) z = small (z / 256 ^ suc k)
     small : (d : ℕ) → d % 256 < 256
     small d = omega arith
 
-number_inside : (f : Spots) (at n z k : ℕ) → k < n → with_number f at n z (at + k) ≡ Known (byte_at k z)
+number_inside : (f : Spots) (at n z k : ℕ) → k < n → with_number f at n z (at + k) ≡ ThisByte (byte_at k z)
 number_inside f at n z k h =
-    ap (λ (t : Bool). if t then Known (byte_at (at + k - at) z) else f (at + k)) (in_range at n (at + k) (omega arith) (omega arith))
-    ∙ ap (λ i. Known (byte_at i z)) (back at k)
+    ap (λ (t : Bool). if t then ThisByte (byte_at (at + k - at) z) else f (at + k)) (in_range at n (at + k) (omega arith) (omega arith))
+    ∙ ap (λ i. ThisByte (byte_at i z)) (back at k)
   where
     back : (a k : ℕ) → a + k - a ≡ k
     back a k = omega arith
 
 number_outside : (f : Spots) (at n z x : ℕ) → (x < at) ⊎ (at + n ≤ x) → with_number f at n z x ≡ f x
-number_outside f at n z x h = ap (λ (t : Bool). if t then Known (byte_at (x - at) z) else f x) (out_of_range at n x h)
+number_outside f at n z x h = ap (λ (t : Bool). if t then ThisByte (byte_at (x - at) z) else f x) (out_of_range at n x h)
 
-known_is : (a b : ℕ) → Known a ≡ Known b → a ≡ b
+known_is : (a b : ℕ) → ThisByte a ≡ ThisByte b → a ≡ b
 known_is a b h = cc
 
-number_bytes : (f : Spots) → ((x i : ℕ) → f x ≡ Known i → i < 256) → (at n z x i : ℕ) → with_number f at n z x ≡ Known i → i < 256
+number_bytes : (f : Spots) → ((x i : ℕ) → f x ≡ ThisByte i → i < 256) → (at n z x i : ℕ) → with_number f at n z x ≡ ThisByte i → i < 256
 number_bytes f bytes at n z x i h = by_test (is_in at n x) h
   where
-    by_test : (t : Bool) → (if t then Known (byte_at (x - at) z) else f x) ≡ Known i → i < 256
+    by_test : (t : Bool) → (if t then ThisByte (byte_at (x - at) z) else f x) ≡ ThisByte i → i < 256
     by_test true h = subst (λ b. b < 256) (known_is (byte_at (x - at) z) i h) (byte_below (x - at) z)
     by_test false h = bytes x i h
 
-number_covers : (e : Entries) (p : Bases) (f : Spots) → ((x i : ℕ) → f x ≡ Known i → i < 256) → (at n z : ℕ) (new : List Cell) → AreCells e p n z new → IsCovered e p f (with_number f at n z) at new
+number_covers : (e : Entries) (p : Bases) (f : Spots) → ((x i : ℕ) → f x ≡ ThisByte i → i < 256) → (at n z : ℕ) (new : List Cell) → AreCells e p n z new → IsCovered e p f (with_number f at n z) at new
 number_covers e p f bytes at n z new are =
     record {
       inside = λ k c is.

@@ -20,7 +20,7 @@ use Rattle.vcode.specs.ExampleCodes.{destination, straight}
 use Rattle.vcode.specs.Places.{located}
 use Rattle.vcode.specs.Regular.{IsRegular, area}
 use Rattle.vcode.specs.Step.{begin, step}
-use Rattle.flat_code.specs.Spots.{Away, Spots, Bases, Entries, AreEntries, AllShow}
+use Rattle.flat_code.specs.Spots.{NoAccess, Spots, Bases, Entries, AreEntries, AllShow}
 use Rattle.flat_code.specs.Flat.{FlatGiven, FlatReturned, FlatEnded, ShowsGiven}
 use Rattle.flat_code.specs.Step.{FlatState, FlatEvent, flat_begin, flat_step}
 
@@ -38,7 +38,7 @@ number_within go zero s = None
 number_within go (suc n) s = next_number (go s) (number_within go n)
 
 abbrev pub nowhere : Spots
-nowhere x = Away
+nowhere x = NoAccess
 
 abbrev pub shown : List ℕ → FlatGiven
 shown args = record { turns = 9; room = 4096; args = args; memory = nowhere }

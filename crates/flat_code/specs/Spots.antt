@@ -11,9 +11,9 @@ use Rattle.il_ast.specs.Memory.{Memory, block_at, size_at}
 
 -- what is known of the byte at an address: no access is allowed; any byte; this byte
 pub data Spot : Type 0 where
-  Away : Spot
-  Open : Spot
-  Known : ℕ → Spot
+  NoAccess : Spot
+  AnyByte : Spot
+  ThisByte : ℕ → Spot
 
 -- the addresses that may be accessed, and what is known of their bytes
 abbrev pub Spots : Type 0
@@ -58,9 +58,9 @@ ShowsResult e p (Some v) (Some x) = Shows e p v x
 
 -- a byte is itself, a part of a value the same byte of its number of 64 bits, a blank cell any byte
 abbrev pub ShowsCell : Entries → Bases → Cell → Spot → Type 0
-ShowsCell e p (Plain b) s = s ≡ Known b
-ShowsCell e p (Part v k) s = (x : ℕ) × Shows e p v x × (x < 2 ^ 64) × (s ≡ Known (byte_at k x))
-ShowsCell e p Blank s = s ≢ Away
+ShowsCell e p (Plain b) s = s ≡ ThisByte b
+ShowsCell e p (Part v k) s = (x : ℕ) × Shows e p v x × (x < 2 ^ 64) × (s ≡ ThisByte (byte_at k x))
+ShowsCell e p Blank s = s ≢ NoAccess
 
 -- ---- memory
 
@@ -90,15 +90,15 @@ pub record ShowsMemory (e : Entries) (p : Bases) (m : Memory) (f : Spots) : Type
       → 0 < length xs
       → 0 < length ys
       → (a + length xs ≤ d) ⊎ (d + length ys ≤ a)
-  pub bytes : (x n : ℕ) → f x ≡ Known n → n < 256
+  pub bytes : (x n : ℕ) → f x ≡ ThisByte n → n < 256
 
 -- no access is allowed from one address up to another
 abbrev pub Clear : (low high : ℕ) → Spots → Type 0
-Clear low high f = (x : ℕ) → low ≤ x → x < high → f x ≡ Away
+Clear low high f = (x : ℕ) → low ≤ x → x < high → f x ≡ NoAccess
 
 -- no further address may be accessed
 abbrev pub SameReach : Spots → Spots → Type 0
-SameReach f g = (x : ℕ) → f x ≡ Away → g x ≡ Away
+SameReach f g = (x : ℕ) → f x ≡ NoAccess → g x ≡ NoAccess
 
 -- the same blocks are live, with the same sizes
 abbrev pub SameBlocks : Memory → Memory → Type 0

@@ -42,25 +42,25 @@ use Rattle.vcode.specs.Operations.{is_extended}
 use Rattle.vcode.specs.Places.{same_location, is_callers}
 use Rattle.vcode.specs.Regular.{area}
 use Rattle.vcode.specs.Step.{weighs}
-use Rattle.flat_code.specs.Spots.{Spot, Away, Open, Known, Spots}
+use Rattle.flat_code.specs.Spots.{Spot, NoAccess, AnyByte, ThisByte, Spots}
 use Rattle.flat_code.specs.Flat.{FlatGiven, FlatAsked, FlatOutcome, FlatReturned, FlatEnded}
 
 -- ---- bytes
 
 -- the number of n known bytes from an address upward, the lowest first
 abbrev pub read_spot : Spot → Option ℕ → Option ℕ
-read_spot Away rest = None
-read_spot Open rest = None
-read_spot (Known b) rest = option_map (λ n. b + 256 * n) rest
+read_spot NoAccess rest = None
+read_spot AnyByte rest = None
+read_spot (ThisByte b) rest = option_map (λ n. b + 256 * n) rest
 
 unfoldable pub known_number : Spots → (at n : ℕ) → Option ℕ
 known_number f at zero = Some 0
 known_number f at (suc n) = read_spot (f at) (known_number f (at + 1) n)
 
 abbrev pub is_there : Spot → Bool
-is_there Away = false
-is_there Open = true
-is_there (Known b) = true
+is_there NoAccess = false
+is_there AnyByte = true
+is_there (ThisByte b) = true
 
 -- n bytes from an address upward may be accessed
 unfoldable pub all_there : Spots → (at n : ℕ) → Bool
@@ -73,7 +73,7 @@ is_in at n x = nat_le at x && nat_lt x (at + n)
 
 -- with the lowest n bytes of v from an address upward, if they may be accessed
 abbrev pub with_number : Spots → (at n v : ℕ) → Spots
-with_number f at n v x = if is_in at n x then Known (byte_at (x - at) v) else f x
+with_number f at n v x = if is_in at n x then ThisByte (byte_at (x - at) v) else f x
 
 abbrev pub stored : Spots → (at n v : ℕ) → Option Spots
 stored f at n v = if all_there f at n then Some (with_number f at n v) else None
@@ -94,11 +94,11 @@ copied f (suc n) from to =
 
 -- n bytes that may be accessed and hold anything
 abbrev pub opened : Spots → (at n : ℕ) → Spots
-opened f at n x = if is_in at n x then Open else f x
+opened f at n x = if is_in at n x then AnyByte else f x
 
 -- n bytes that may not be accessed
 abbrev pub closed : Spots → (at n : ℕ) → Spots
-closed f at n x = if is_in at n x then Away else f x
+closed f at n x = if is_in at n x then NoAccess else f x
 
 -- ---- numbers
 

@@ -3,7 +3,7 @@ use Rattle.std.proofs.Common.{◌≡◌, ◌≢◌, ◌⊎◌, inl, inr, ℕ, ze
 use Rattle.std.specs.Prelude.{slice_get, Some, None}
 use Rattle.il_ast.specs.declared.value.Cell.{Cell}
 use Rattle.il_ast.specs.Memory.{Memory, block_at}
-use Rattle.flat_code.specs.Spots.{Known, Spots, Bases, Entries, ShowsCell, ShowsMemory}
+use Rattle.flat_code.specs.Spots.{ThisByte, Spots, Bases, Entries, ShowsCell, ShowsMemory}
 
 -- ---- one block
 
@@ -203,7 +203,7 @@ none_beyond (at ∷ places) (suc b) h = none_beyond places b (omega (arith, h))
 
 -- ---- the memory
 
-pub shows_all : (e : Entries) (places : List ℕ) (f : Spots) (m : Memory) → AllShow e (λ b. slice_get places b) f m places → AllApart m places → ((x n : ℕ) → f x ≡ Known n → n < 256) → ShowsMemory e (λ b. slice_get places b) m f
+pub shows_all : (e : Entries) (places : List ℕ) (f : Spots) (m : Memory) → AllShow e (λ b. slice_get places b) f m places → AllApart m places → ((x n : ℕ) → f x ≡ ThisByte n → n < 256) → ShowsMemory e (λ b. slice_get places b) m f
 shows_all e places f m all apart bytes =
     record {
       placed =

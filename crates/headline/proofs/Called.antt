@@ -6,7 +6,7 @@ use Rattle.il_ast.specs.declared.operation.Class.{Class}
 use Rattle.il_ast.specs.declared.operation.Class.TheVariants.{W, L}
 use Rattle.il_ast.specs.declared.function.Param.{Param}
 use Rattle.il_ast.specs.declared.function.Func.{Func}
-use Rattle.il_ast.specs.declared.program.Placed.{Placed}
+use Rattle.il_ast.specs.declared.program.InText.{InText}
 use Rattle.il_ast.specs.declared.program.Program.{Program}
 use Rattle.il_ast.specs.declared.value.Value.{Value}
 use Rattle.il_ast.specs.declared.value.End.TheVariants.{Exit, Halt, Undefined, Stack, Turns}
@@ -114,7 +114,7 @@ ready_again w at sp classes params same j room s r =
 with_room : (need room : ℕ) → nat_lt room need ≡ false → need + (room - need) ≡ room
 with_room need room h = grind (arith, nat_tests)
 
-enters : (c : Setting) (p : Program) (calls : Callees) → AllKept c calls → (sp : ℕ) (i : Asked) (f : Placed Func) → ((at : ℕ) → c.entries i.call.callee ≡ Some at → KeepsBody c at (need f.item) (map (λ (x : Param). x.class) f.item.params) f.item.result (body_of p f)) → (same_classes i.call.classes (map (λ (x : Param). x.class) f.item.params) ≡ true) × (result_fits i.call.wants f.item.result ≡ true) → nat_lt i.room (need f.item) ≡ false → KeepsCall c sp i (after one_call (body_of p f calls (record { turns = i.turns; room = i.room - need f.item; args = i.call.args; memory = i.memory })))
+enters : (c : Setting) (p : Program) (calls : Callees) → AllKept c calls → (sp : ℕ) (i : Asked) (f : InText Func) → ((at : ℕ) → c.entries i.call.callee ≡ Some at → KeepsBody c at (need f.item) (map (λ (x : Param). x.class) f.item.params) f.item.result (body_of p f)) → (same_classes i.call.classes (map (λ (x : Param). x.class) f.item.params) ≡ true) × (result_fits i.call.wants f.item.result ≡ true) → nat_lt i.room (need f.item) ≡ false → KeepsCall c sp i (after one_call (body_of p f calls (record { turns = i.turns; room = i.room - need f.item; args = i.call.args; memory = i.memory })))
 enters c p calls all sp i f keeps fits roomy q j grown shows good =
     let params = map (λ (x : Param). x.class) f.item.params in
     let room = i.room - need f.item in
@@ -147,7 +147,7 @@ enters c p calls all sp i f keeps fits roomy q j grown shows good =
           (kept.performs u (ready_again c.world j.at sp j.classes params (shows.classes ∙ same) j.given room u r)));
     }
 
-pub function_call_kept : (c : Setting) (p : Program) (calls : Callees) → AllKept c calls → (sp : ℕ) (i : Asked) (found : Option (Placed Func)) → ((f : Placed Func) → found ≡ Some f → (at : ℕ) → c.entries i.call.callee ≡ Some at → KeepsBody c at (need f.item) (map (λ (x : Param). x.class) f.item.params) f.item.result (body_of p f)) → KeepsCall c sp i (call_function p calls i.call i.turns i.room i.memory found)
+pub function_call_kept : (c : Setting) (p : Program) (calls : Callees) → AllKept c calls → (sp : ℕ) (i : Asked) (found : Option (InText Func)) → ((f : InText Func) → found ≡ Some f → (at : ℕ) → c.entries i.call.callee ≡ Some at → KeepsBody c at (need f.item) (map (λ (x : Param). x.class) f.item.params) f.item.result (body_of p f)) → KeepsCall c sp i (call_function p calls i.call i.turns i.room i.memory found)
 function_call_kept c p calls all sp i None keeps = undefined_kept c sp i nothing
 function_call_kept c p calls all sp i (Some f) keeps =
     let params = map (λ (x : Param). x.class) f.item.params in

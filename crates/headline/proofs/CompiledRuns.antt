@@ -4,7 +4,7 @@ use Rattle.std.specs.Prelude.{slice_get, slice_index, Option, Some, None}
 use Rattle.std.specs.Option.{option_and_then}
 use Rattle.il_ast.specs.declared.datum.DataDef.{DataDef}
 use Rattle.il_ast.specs.declared.function.Func.{Func}
-use Rattle.il_ast.specs.declared.program.Placed.{Placed}
+use Rattle.il_ast.specs.declared.program.InText.{InText}
 use Rattle.il_ast.specs.declared.program.Program.{Program}
 use Rattle.il_ast.specs.declared.program.Target.{Target}
 use Rattle.il_ast.specs.declared.program.Target.TheVariants.{Code, Object}
@@ -20,7 +20,7 @@ use Rattle.flat_code.specs.Step.{flat_begin, flat_step}
 use Rattle.abi_frames.specs.Layout.{frame_size}
 use Rattle.rv_isa.specs.Words.{Words}
 use Rattle.rv_isa.specs.State.{State}
-use Rattle.obj_link.specs.declared.addresses.Addresses.{Addresses}
+use Rattle.obj_link.specs.declared.placing.addresses.Addresses.{Addresses}
 use Rattle.obj_link.specs.Image.{IsImage}
 use Rattle.obj_link.specs.Limits.{object_size}
 use Rattle.obj_link.specs.Natives.{functions_start}
@@ -61,7 +61,7 @@ name_is a (Some targets) n x h = by targets n h
 
 -- ---- bounds of addresses
 
-object_most : (at : ℕ) (ds : List (Placed DataDef)) (k x : ℕ) → slice_get (object_addresses at ds) k ≡ Some x → x ≤ objects_end at ds
+object_most : (at : ℕ) (ds : List (InText DataDef)) (k x : ℕ) → slice_get (object_addresses at ds) k ≡ Some x → x ≤ objects_end at ds
 object_most at [] k x h = absurd (let no : ⊥ = cc in no)
 object_most at (d ∷ ds) zero x h =
     let same : at ≡ x = cc in
@@ -131,23 +131,23 @@ text_shown p codes has fits w words t = by (slice_get p.targets t) refl
 
 -- ---- each function
 
-record FoundCode (codes : List Words) (k : ℕ) (f : Placed Func) : Type 0 where
+record FoundCode (codes : List Words) (k : ℕ) (f : InText Func) : Type 0 where
   words : Words
   here : slice_get codes k ≡ Some words
   stands : StandFor f.item words
 
-found_code : (codes : List Words) (fs : List (Placed Func)) → EachStands codes fs → (k : ℕ) (f : Placed Func) → slice_get fs k ≡ Some f → FoundCode codes k f
+found_code : (codes : List Words) (fs : List (InText Func)) → EachStands codes fs → (k : ℕ) (f : InText Func) → slice_get fs k ≡ Some f → FoundCode codes k f
 found_code [] [] each k f h = absurd (let no : ⊥ = cc in no)
 found_code [] (g ∷ fs) each k f h = absurd each
 found_code (c ∷ codes) [] each k f h = absurd each
 found_code (c ∷ codes) (g ∷ fs) each zero f h =
     let same : g ≡ f = cc in
-    record { words = c; here = refl; stands = subst (λ (x : Placed Func). StandFor x.item c) same each.0 }
+    record { words = c; here = refl; stands = subst (λ (x : InText Func). StandFor x.item c) same each.0 }
 found_code (c ∷ codes) (g ∷ fs) each (suc k) f h =
     let rest = found_code codes fs each.1 k f h in
     record { words = rest.words; here = rest.here; stands = rest.stands }
 
-as_many : (codes : List Words) (fs : List (Placed Func)) → EachStands codes fs → length codes ≡ length fs
+as_many : (codes : List Words) (fs : List (InText Func)) → EachStands codes fs → length codes ≡ length fs
 as_many [] [] each = refl
 as_many [] (f ∷ fs) each = absurd each
 as_many (c ∷ codes) [] each = absurd each

@@ -13,7 +13,7 @@ use Rattle.il_ast.specs.declared.datum.Item.{Item}
 use Rattle.il_ast.specs.declared.datum.Item.TheVariants.{Int, Bytes, Address}
 use Rattle.il_ast.specs.declared.operation.Size.{Size}
 use Rattle.il_ast.specs.declared.function.Func.{Func}
-use Rattle.il_ast.specs.declared.program.Placed.{Placed}
+use Rattle.il_ast.specs.declared.program.InText.{InText}
 use Rattle.il_ast.specs.declared.program.Program.{Program}
 use Rattle.il_ast.specs.declared.program.Target.{Target}
 use Rattle.il_ast.specs.declared.program.Target.TheVariants.{Code, Object}
@@ -31,7 +31,7 @@ use Rattle.rv_isa.specs.Words.{Words}
 use Rattle.rv_isa.specs.Laid.{filled, WordsStand}
 use Rattle.rv_isa.specs.State.{State}
 use Rattle.asm_layout.proofs.Filling.{filled_length}
-use Rattle.obj_link.specs.declared.addresses.Addresses.{Addresses}
+use Rattle.obj_link.specs.declared.placing.addresses.Addresses.{Addresses}
 use Rattle.obj_link.specs.Image.{IsImage, code_start, image_end, round_to_page, data_start}
 use Rattle.obj_link.specs.Limits.{item_size, field_size, object_size}
 use Rattle.obj_link.specs.Natives.{start_words, write_words, exit_words, functions_start, write_address, exit_address}
@@ -139,7 +139,7 @@ record FoundIn (words mid : List ℕ) (at x : ℕ) : Type 0 where
   is : words ≡ pre ++ (mid ++ post)
   place : x ≡ at + 4 * length pre
 
-found_words : (a : Addresses) (targets : List (List Target)) (codes : List Words) (fs : List (Placed Func)) (at k x : ℕ) (c : Words) (f : Placed Func) → slice_get codes k ≡ Some c → slice_get fs k ≡ Some f → slice_get (function_addresses at codes) k ≡ Some x
+found_words : (a : Addresses) (targets : List (List Target)) (codes : List Words) (fs : List (InText Func)) (at k x : ℕ) (c : Words) (f : InText Func) → slice_get codes k ≡ Some c → slice_get fs k ≡ Some f → slice_get (function_addresses at codes) k ≡ Some x
     → FoundIn (functions_words a targets codes fs) (filled (name_address a targets f.text) c.words c.holes) at x
 found_words a targets [] fs at k x c f hc hf hx = absurd (let no : ⊥ = cc in no)
 found_words a targets (d ∷ codes) [] at k x c f hc hf hx = absurd (let no : ⊥ = cc in no)
@@ -151,7 +151,7 @@ found_words a targets (d ∷ codes) (g ∷ fs) at zero x c f hc hf hx =
       pre = [];
       post = functions_words a targets codes fs;
       is = ap (λ (e : Words). filled (name_address a targets g.text) e.words e.holes ++ functions_words a targets codes fs) code
-          ∙ ap (λ (e : Placed Func). filled (name_address a targets e.text) c.words c.holes ++ functions_words a targets codes fs) func;
+          ∙ ap (λ (e : InText Func). filled (name_address a targets e.text) c.words c.holes ++ functions_words a targets codes fs) func;
       place = omega (arith, same);
     }
 found_words a targets (d ∷ codes) (g ∷ fs) at (suc k) x c f hc hf hx =
@@ -172,7 +172,7 @@ abbrev first_words : Program → List Words → List ℕ
 first_words p codes = start_words (callee_address (addresses_of p codes) (Defined p.main)) ++ write_words ++ exit_words
 
 pub function_stands : (p : Program) (codes : List Words) (x : Executable) (words : List (List ℕ)) (s : State) → IsImage (contents_of p codes) → Stands (contents_of p codes) x → Starts x words s
-    → (k at : ℕ) (c : Words) (f : Placed Func) → slice_get codes k ≡ Some c → slice_get p.functions k ≡ Some f → entries_of p codes (Defined k) ≡ Some at
+    → (k at : ℕ) (c : Words) (f : InText Func) → slice_get codes k ≡ Some c → slice_get p.functions k ≡ Some f → entries_of p codes (Defined k) ≡ Some at
     → WordsStand (ground_of s) at (filled (name_address (addresses_of p codes) p.targets f.text) c.words c.holes)
 function_stands p codes x words s good stands starts k at c f hc hf hat =
     let a = addresses_of p codes in
@@ -337,7 +337,7 @@ field_long : (globals : List Value) (f : Field) → length (field_cells globals 
 field_long globals (Items size is) = all_long (item_cells globals size) (item_size size) (item_long globals size) is
 field_long globals (Zeros k) = length-replicate k (Plain 0)
 
-object_long : (p : Program) (d : Placed DataDef) → length (object_cells p d) ≡ object_size d.item
+object_long : (p : Program) (d : InText DataDef) → length (object_cells p d) ≡ object_size d.item
 object_long p d = all_long (field_cells (globals_of p d.text)) field_size (field_long (globals_of p d.text)) d.item.fields
 
 slot_long : (bs : List ℕ) → length (in_slots bs) ≡ round_16 (length bs)
@@ -379,7 +379,7 @@ cells_stand p codes w byte (c ∷ cells) at h b = (cell_stands p codes w (byte a
 
 -- ---- all data
 
-objects_stand : (p : Program) (codes : List Words) → NamesAreThere p → Worth p codes → (byte : ℕ → Option ℕ) (high : ℕ) (ds : List (Placed DataDef)) (from at : ℕ) → from ≤ at
+objects_stand : (p : Program) (codes : List Words) → NamesAreThere p → Worth p codes → (byte : ℕ → Option ℕ) (high : ℕ) (ds : List (InText DataDef)) (from at : ℕ) → from ≤ at
     → BytesStand byte (flat_map (object_bytes (addresses_of p codes) p) ds) at → at + length (flat_map (object_bytes (addresses_of p codes) p) ds) ≤ high
     → BlocksStand (entries_of p codes) (bases_of p codes) byte from high (map (object_cells p) ds) (object_addresses at ds)
 objects_stand p codes has w byte high [] from at le b fits = tt
@@ -403,11 +403,11 @@ objects_stand p codes has w byte high (d ∷ ds) from at le b fits =
           (subst (BytesStand byte rest) next split.second) (omega (arith, fits, both, whole)),
     )
 
-pub length_objects : (at : ℕ) (ds : List (Placed DataDef)) → length (object_addresses at ds) ≡ length ds
+pub length_objects : (at : ℕ) (ds : List (InText DataDef)) → length (object_addresses at ds) ≡ length ds
 length_objects at [] = refl
 length_objects at (d ∷ ds) = ap suc (length_objects (at + round_16 (object_size d.item)) ds)
 
-words_end : (a : Addresses) (targets : List (List Target)) (at : ℕ) (codes : List Words) (fs : List (Placed Func)) → length codes ≡ length fs → functions_end at codes ≡ at + 4 * length (functions_words a targets codes fs)
+words_end : (a : Addresses) (targets : List (List Target)) (at : ℕ) (codes : List Words) (fs : List (InText Func)) → length codes ≡ length fs → functions_end at codes ≡ at + 4 * length (functions_words a targets codes fs)
 words_end a targets at [] fs same = omega arith
 words_end a targets at (c ∷ codes) [] same = absurd (omega (arith, same))
 words_end a targets at (c ∷ codes) (f ∷ fs) same =

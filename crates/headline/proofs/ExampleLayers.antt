@@ -4,7 +4,7 @@ use Rattle.std.specs.Prelude.{Option, Some}
 use Rattle.il_ast.specs.declared.operation.Class.TheVariants.{W}
 use Rattle.il_ast.specs.declared.operation.Class.{Class}
 use Rattle.il_ast.specs.declared.function.Param.{Param}
-use Rattle.il_ast.specs.declared.program.Placed.{Placed}
+use Rattle.il_ast.specs.declared.program.InText.{InText}
 use Rattle.il_ast.specs.declared.function.Func.{Func}
 use Rattle.il_ast.specs.declared.value.End.TheVariants.{Halt, Turns}
 use Rattle.il_ast.specs.Memory.{Memory}
@@ -34,7 +34,7 @@ use Rattle.headline.proofs.Answer.{grown_same}
 use Rattle.headline.proofs.LayersKeep.{layers_keep}
 
 -- the function of the example
-abbrev pub main_function : Placed Func
+abbrev pub main_function : InText Func
 main_function = record { text = 0; item = Rattle.il_ast.specs.ExamplePrograms.function [] (Rattle.il_ast.specs.ExamplePrograms.block 0 [] [] Rattle.il_ast.specs.declared.instruction.Jump.TheVariants.Halt ∷ []) 0 1 refl refl refl refl refl refl }
 
 run_halts : (callees : Callees) (room t : ℕ) (m : Memory) → run (record { func = main_function.item; globals = globals_of halts 0 }) callees room t t (begun main_function.item []) m ≡ halting t

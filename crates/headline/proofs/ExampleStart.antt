@@ -28,7 +28,7 @@ use Rattle.rv_isa.specs.Start.{stack_top, stack_bottom}
 use Rattle.rv_machine.specs.Mapped.{read_and_write}
 use Rattle.rv_isa.specs.Labelled.{Fixed, InstrAt}
 use Rattle.rv_isa.proofs.RunLemmas.{comes_here}
-use Rattle.flat_code.specs.Spots.{Away, Known, IsPlaced, ShowsCell, ShowsMemory}
+use Rattle.flat_code.specs.Spots.{NoAccess, ThisByte, IsPlaced, ShowsCell, ShowsMemory}
 use Rattle.abi_frames.specs.Calls.{IsUsable, IsWorld, HoldsSpots, Ready, passed}
 use Rattle.headline.specs.Knot.{IsSetting}
 use Rattle.headline.specs.Natives.{NativesPerform}
@@ -87,27 +87,27 @@ record IsSpot (x n : ℕ) : Type 0 where
   high : x < stack_top + 16
   zero_byte : n ≡ 0
 
-spot_is : (x n : ℕ) → spot x ≡ Known n → IsSpot x n
+spot_is : (x n : ℕ) → spot x ≡ ThisByte n → IsSpot x n
 spot_is x n h = of_test (nat_le (stack_top + 8) x && nat_lt x (stack_top + 16)) refl h
   where
-    of_test : (b : Bool) → (nat_le (stack_top + 8) x && nat_lt x (stack_top + 16)) ≡ b → (if b then Known 0 else Away) ≡ Known n → IsSpot x n
+    of_test : (b : Bool) → (nat_le (stack_top + 8) x && nat_lt x (stack_top + 16)) ≡ b → (if b then ThisByte 0 else NoAccess) ≡ ThisByte n → IsSpot x n
     of_test true is k = record { low = grind (arith, nat_tests); high = grind (arith, nat_tests); zero_byte = cc }
     of_test false is k = absurd (apart k)
       where
-        apart : Away ≡ Known n → ⊥
+        apart : NoAccess ≡ ThisByte n → ⊥
         apart e = cc
 
-reached : (x : ℕ) → spot x ≢ Away → (stack_top + 8 ≤ x) × (x < stack_top + 16)
+reached : (x : ℕ) → spot x ≢ NoAccess → (stack_top + 8 ≤ x) × (x < stack_top + 16)
 reached x h = of_test (nat_le (stack_top + 8) x && nat_lt x (stack_top + 16)) refl h
   where
-    of_test : (b : Bool) → (nat_le (stack_top + 8) x && nat_lt x (stack_top + 16)) ≡ b → (if b then Known 0 else Away) ≢ Away → (stack_top + 8 ≤ x) × (x < stack_top + 16)
+    of_test : (b : Bool) → (nat_le (stack_top + 8) x && nat_lt x (stack_top + 16)) ≡ b → (if b then ThisByte 0 else NoAccess) ≢ NoAccess → (stack_top + 8 ≤ x) × (x < stack_top + 16)
     of_test true is k = (grind (arith, nat_tests), grind (arith, nat_tests))
     of_test false is k = absurd (k refl)
 
-spot_here : (k : ℕ) → k < 8 → spot (stack_top + 8 + k) ≡ Known 0
+spot_here : (k : ℕ) → k < 8 → spot (stack_top + 8 + k) ≡ ThisByte 0
 spot_here k few = grind (arith, nat_tests)
 
-spot_away : (x : ℕ) → x < stack_top → spot x ≡ Away
+spot_away : (x : ℕ) → x < stack_top → spot x ≡ NoAccess
 spot_away x below = grind (arith, nat_tests)
 
 byte_beyond : (x : ℕ) → 0x1000c ≤ x → byte x ≡ 0
@@ -177,7 +177,7 @@ shown b a k cells c h at found =
     let cell = cell_is 8 k c (ap (λ cs. slice_get cs k) one.1 ∙ found) in
     let here : Some (stack_top + 8) ≡ Some a = ap base (sym one.0) ∙ at in
     let place : stack_top + 8 ≡ a = cc in
-    subst (λ d. ShowsCell entry base d (spot (a + k))) cell.1 (subst (λ x. spot (x + k) ≡ Known 0) place (spot_here k cell.0))
+    subst (λ d. ShowsCell entry base d (spot (a + k))) cell.1 (subst (λ x. spot (x + k) ≡ ThisByte 0) place (spot_here k cell.0))
 
 unmade : (b : ℕ) → 1 ≤ b → base b ≡ None
 unmade zero h = absurd (omega (arith, h))

@@ -8,10 +8,10 @@ use Rattle.std.proofs.lemmas.Option.{slice_get-map}
 use Rattle.il_ast.specs.declared.function.Func.{Func}
 use Rattle.il_ast.specs.declared.text.Definition.{Definition}
 use Rattle.il_ast.specs.declared.text.Definition.TheVariants.{Function, Object}
-use Rattle.il_ast.specs.declared.program.Placed.{Placed}
+use Rattle.il_ast.specs.declared.program.InText.{InText}
 use Rattle.il_ast.specs.declared.program.Program.{Program}
 use Rattle.il_types.specs.declared.checked.Checked.{Checked}
-use Rattle.obj_link.specs.declared.linked.Linked.{Linked}
+use Rattle.obj_link.specs.declared.linking.linked.Linked.{Linked}
 use Rattle.obj_link.specs.Names.{function_in, functions_from}
 use Rattle.obj_link.specs.Shown.{shown}
 use Rattle.obj_link.specs.Program.{IsProgram}
@@ -21,17 +21,17 @@ use Rattle.phi_copies.proofs.GoodTexts.{good_function}
 
 -- ---- all texts
 
-abbrev AllGood : List (Placed Func) → Type 0
+abbrev AllGood : List (InText Func) → Type 0
 AllGood [] = Unit {0}
 AllGood (f ∷ fs) = IsGoodFunction f.item × AllGood fs
 
-both_good : (fs gs : List (Placed Func)) → AllGood fs → AllGood gs → AllGood (fs ++ gs)
+both_good : (fs gs : List (InText Func)) → AllGood fs → AllGood gs → AllGood (fs ++ gs)
 both_good [] gs h k = k
 both_good (f ∷ fs) gs h k = (h.0, both_good fs gs h.1 k)
 
-good_at : (fs : List (Placed Func)) → AllGood fs → (k : ℕ) (f : Placed Func) → slice_get fs k ≡ Some f → IsGoodFunction f.item
+good_at : (fs : List (InText Func)) → AllGood fs → (k : ℕ) (f : InText Func) → slice_get fs k ≡ Some f → IsGoodFunction f.item
 good_at [] h k f at = absurd (let no : ⊥ = cc in no)
-good_at (x ∷ fs) h zero f at = let same : x ≡ f = cc in subst (λ (y : Placed Func). IsGoodFunction y.item) same h.0
+good_at (x ∷ fs) h zero f at = let same : x ≡ f = cc in subst (λ (y : InText Func). IsGoodFunction y.item) same h.0
 good_at (x ∷ fs) h (suc k) f at = good_at fs h.1 k f at
 
 text_good : (n : ℕ) (ds : List Definition) → ((k : ℕ) (f : Func) → slice_get ds k ≡ Some (Function f) → IsGoodFunction f) → AllGood (flat_map (function_in n) ds)
@@ -46,10 +46,10 @@ texts_good n (t ∷ texts) =
     (text_good n t.text.definitions (good_function t.text t.good)) (texts_good (n + 1) texts)
 
 -- of a program
-pub program_functions_are_good : (texts : List Checked) (p : Program) → IsProgram texts p → (k : ℕ) (f : Placed Func) → slice_get p.functions k ≡ Some f → IsGoodFunction f.item
+pub program_functions_are_good : (texts : List Checked) (p : Program) → IsProgram texts p → (k : ℕ) (f : InText Func) → slice_get p.functions k ≡ Some f → IsGoodFunction f.item
 program_functions_are_good texts p is k f at = good_at p.functions (subst AllGood (sym is.functions) (texts_good 0 texts)) k f at
 
 -- of linked texts
-pub functions_are_good : (texts : List Checked) (l : Linked) → IsLinked texts l → (k : ℕ) (f : Placed (Bor Func)) → slice_get l.functions k ≡ Some f → IsGoodFunction f.item.now
+pub functions_are_good : (texts : List Checked) (l : Linked) → IsLinked texts l → (k : ℕ) (f : InText (Bor Func)) → slice_get l.functions k ≡ Some f → IsGoodFunction f.item.now
 functions_are_good texts l linked k f at =
     program_functions_are_good texts (program l) linked.is_program k (shown f) (slice_get-map shown l.functions k ∙ ap (option_map shown) at)

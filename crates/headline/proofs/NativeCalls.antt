@@ -16,7 +16,7 @@ use Rattle.il_ast.specs.Memory.{Memory, block_at, span, cells_at, plain_bytes}
 use Rattle.il_ast.specs.Run.{nothing, Outcome, Ended, Callees}
 use Rattle.il_ast.specs.Meaning.{same_classes, result_fits, call_fits, answered, put_out, write_bytes, write_integer, write_call, exit_call, call_named}
 use Rattle.il_ast.specs.Keeps.{Asked, Passes, AreArgs}
-use Rattle.flat_code.specs.Spots.{Known, Spots, Bases, Entries, AllShow, ShowsCell, ShowsMemory}
+use Rattle.flat_code.specs.Spots.{ThisByte, Spots, Bases, Entries, AllShow, ShowsCell, ShowsMemory}
 use Rattle.flat_code.specs.Flat.{FlatGiven, FlatOutcome, FlatEnded, ShowsOutcome}
 use Rattle.abi_frames.specs.Calls.{GoodStack, Ready}
 use Rattle.abi_frames.specs.Performs.{Performs, PerformsAt}
@@ -61,7 +61,7 @@ plain_first (Plain b) cells bytes h = of_rest (plain_bytes cells) refl h
 plain_first (Part v i) cells bytes h = cc
 plain_first Blank cells bytes h = cc
 
-known_of : (f : Spots) (x b : ℕ) (n : ℕ) (bs : List ℕ) → f x ≡ Known b → known_bytes f (x + 1) n ≡ Some bs → known_bytes f x (suc n) ≡ Some (b ∷ bs)
+known_of : (f : Spots) (x b : ℕ) (n : ℕ) (bs : List ℕ) → f x ≡ ThisByte b → known_bytes f (x + 1) n ≡ Some bs → known_bytes f x (suc n) ≡ Some (b ∷ bs)
 known_of f x b n bs h k =
     ap (λ s. option_and_then (λ d. option_map (λ ds. d ∷ ds) (known_bytes f (x + 1) n)) (known_byte s)) h ∙ ap (option_map (λ ds. b ∷ ds)) k
 

@@ -30,7 +30,7 @@ use Rattle.obj_link.specs.Placed.{callee_address, functions_words, addresses_of,
 use Rattle.elf_file.specs.Loaded.{Executable}
 use Rattle.elf_file.specs.Stands.{Stands}
 use Rattle.rv_machine.specs.Start.{Starts}
-use Rattle.flat_code.specs.Spots.{Spot, Away, Open, Known, Spots}
+use Rattle.flat_code.specs.Spots.{Spot, NoAccess, AnyByte, ThisByte, Spots}
 use Rattle.flat_code.specs.Flat.{FlatGiven}
 use Rattle.abi_frames.specs.Calls.{World, HoldsSpots, Ready, is_kept}
 use Rattle.abi_frames.specs.Performs.{Returns, Performs}
@@ -66,10 +66,10 @@ record Readable (g : Ground) (f : Spots) (s : State) (at n : ℕ) (bytes : List 
   are : bytes_at s.bytes at n ≡ bytes
   below : at + n ≤ 2 ^ 64
 
-not_away : (s : Spot) (b : ℕ) → s ≡ Known b → s ≢ Away
-not_away s b h e = let no : Known b ≡ Away = sym h ∙ e in apart no
+not_away : (s : Spot) (b : ℕ) → s ≡ ThisByte b → s ≢ NoAccess
+not_away s b h e = let no : ThisByte b ≡ NoAccess = sym h ∙ e in apart no
   where
-    apart : Known b ≡ Away → ⊥
+    apart : ThisByte b ≡ NoAccess → ⊥
     apart g = cc
 
 readable_from : (g : Ground) (f : Spots) (s : State) → Fixed g s → HoldsSpots g f s → (n at : ℕ) (bytes : List ℕ) → at ≤ 2 ^ 64 → known_bytes f at n ≡ Some bytes → Readable g f s at n bytes
@@ -84,10 +84,10 @@ readable_from g f s fixed holds (suc n) at bytes le h =
     by : (o : Spot) (rest : Option (List ℕ)) → f at ≡ o → known_bytes f (at + 1) n ≡ rest
         → (at < 2 ^ 64 → (bs : List ℕ) → known_bytes f (at + 1) n ≡ Some bs → Readable g f s (at + 1) n bs)
         → option_and_then (λ b. option_map (λ bs. b ∷ bs) rest) (known_byte o) ≡ Some bytes → Readable g f s at (suc n) bytes
-    by Away rest is more again e = absurd (let no : ⊥ = cc in no)
-    by Open rest is more again e = absurd (let no : ⊥ = cc in no)
-    by (Known b) None is more again e = absurd (let no : ⊥ = cc in no)
-    by (Known b) (Some bs) is more again e =
+    by NoAccess rest is more again e = absurd (let no : ⊥ = cc in no)
+    by AnyByte rest is more again e = absurd (let no : ⊥ = cc in no)
+    by (ThisByte b) None is more again e = absurd (let no : ⊥ = cc in no)
+    by (ThisByte b) (Some bs) is more again e =
         let usable = holds.usable at (not_away (f at) b is) in
         let rest = again usable.small bs more in
         let whole : b ∷ bs ≡ bytes = cc in

@@ -7,14 +7,14 @@ use Rattle.il_ast.specs.declared.value.Value.TheVariants.{Pointer}
 use Rattle.il_ast.specs.Memory.{Memory, parts}
 use Rattle.il_ast.specs.Start.{word_cells, pointers_from}
 use Rattle.rv_isa.specs.Start.{pointer_bytes, word_bytes}
-use Rattle.flat_code.specs.Spots.{Known, Spots, Bases, Entries}
+use Rattle.flat_code.specs.Spots.{ThisByte, Spots, Bases, Entries}
 use Rattle.headline.specs.Places.{word_places}
 use Rattle.headline.proofs.Blocks.{SpotsShow, spots_append, AllShow, AllApart, Between, apart_from}
 
 -- these bytes are known from an address upward
 abbrev pub BytesKnown : Spots → List ℕ → ℕ → Type 0
 BytesKnown f [] at = Unit {0}
-BytesKnown f (b ∷ bs) at = (f at ≡ Known b) × BytesKnown f bs (at + 1)
+BytesKnown f (b ∷ bs) at = (f at ≡ ThisByte b) × BytesKnown f bs (at + 1)
 
 pub known_split : (f : Spots) (xs ys : List ℕ) (at : ℕ) → BytesKnown f (xs ++ ys) at → BytesKnown f xs at × BytesKnown f ys (at + length xs)
 known_split f [] ys at h = let same : at ≡ at + 0 = omega arith in (tt, subst (λ a. BytesKnown f ys a) same h)

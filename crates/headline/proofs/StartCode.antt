@@ -39,7 +39,7 @@ use Rattle.elf_file.specs.Loaded.{Executable}
 use Rattle.elf_file.specs.Stands.{Stands}
 use Rattle.rv_machine.specs.Start.{Starts}
 use Rattle.rv_machine.proofs.Arguments.{arguments_length}
-use Rattle.flat_code.specs.Spots.{Away, Known}
+use Rattle.flat_code.specs.Spots.{NoAccess, ThisByte}
 use Rattle.abi_frames.specs.Calls.{IsUsable, passed}
 use Rattle.headline.specs.Places.{Places, DataStands, start_spots}
 use Rattle.headline.specs.Start.{ExitsWith}
@@ -227,21 +227,21 @@ exits g main stand u n fixed place result =
 
 -- ---- what `main` finds
 
-spot_known : (at : Places) (words : List (List ℕ)) (s : State) (a n : ℕ) → start_spots at words s a ≡ Known n → s.bytes a ≡ n
+spot_known : (at : Places) (words : List (List ℕ)) (s : State) (a n : ℕ) → start_spots at words s a ≡ ThisByte n → s.bytes a ≡ n
 spot_known at words s a n h = by ((nat_le at.low a && nat_lt a at.high) || (nat_le stack_top a && nat_lt a (stack_top + length (argument_bytes words)))) h
   where
-    by : (b : Bool) → (if b then Known (s.bytes a) else Away) ≡ Known n → s.bytes a ≡ n
+    by : (b : Bool) → (if b then ThisByte (s.bytes a) else NoAccess) ≡ ThisByte n → s.bytes a ≡ n
     by true k = cc
     by false k = cc
 
 abbrev InRange : Places → List (List ℕ) → ℕ → Type 0
 InRange at words a = ((at.low ≤ a) × (a < at.high)) ⊎ ((stack_top ≤ a) × (a < stack_top + length (argument_bytes words)))
 
-range_of : (at : Places) (words : List (List ℕ)) (s : State) (a : ℕ) → start_spots at words s a ≢ Away → InRange at words a
+range_of : (at : Places) (words : List (List ℕ)) (s : State) (a : ℕ) → start_spots at words s a ≢ NoAccess → InRange at words a
 range_of at words s a some = by (nat_le at.low a && nat_lt a at.high) refl (nat_le stack_top a && nat_lt a (stack_top + length (argument_bytes words))) refl some
   where
     by : (b : Bool) → (nat_le at.low a && nat_lt a at.high) ≡ b → (c : Bool) → (nat_le stack_top a && nat_lt a (stack_top + length (argument_bytes words))) ≡ c
-        → ((if b || c then Known (s.bytes a) else Away) ≡ Away → ⊥) → InRange at words a
+        → ((if b || c then ThisByte (s.bytes a) else NoAccess) ≡ NoAccess → ⊥) → InRange at words a
     by true h c k away = inl (grind (arith, nat_tests), grind (arith, nat_tests))
     by false h true k away = inr (grind (arith, nat_tests), grind (arith, nat_tests))
     by false h false k away = absurd (away refl)

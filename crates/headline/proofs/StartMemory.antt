@@ -12,7 +12,7 @@ use Rattle.rv_isa.specs.State.{State}
 use Rattle.rv_isa.specs.Start.{stack_top, stack_bottom, argument_bytes, pointer_bytes, word_bytes}
 use Rattle.elf_file.specs.Loaded.{Executable, byte_in}
 use Rattle.rv_machine.specs.Start.{Starts}
-use Rattle.flat_code.specs.Spots.{Spot, Away, Known, Spots, Bases, Entries, Grown, ShowsCell, ShowsMemory}
+use Rattle.flat_code.specs.Spots.{Spot, NoAccess, ThisByte, Spots, Bases, Entries, Grown, ShowsCell, ShowsMemory}
 use Rattle.headline.specs.Places.{Places, CellStands, CellsStand, BlocksStand, DataStands, word_places, first_word, start_places, setting_of, start_spots}
 use Rattle.headline.proofs.LayersKeep.{shows_grown}
 use Rattle.headline.proofs.Blocks.{SpotsShow, spots_append, BlockShows, AllShow, all_append, AllApart, Between, apart_from, apart_append, shows_all}
@@ -45,19 +45,19 @@ stand_by p (y ∷ ys) zs k h =
 -- what is known of the data's bytes
 record DataKnown (f : Spots) (byte : ℕ → Option ℕ) (low high : ℕ) : Type 0 where
   bytes : ℕ → ℕ
-  known : (a : ℕ) → low ≤ a → a < high → f a ≡ Known (bytes a)
+  known : (a : ℕ) → low ≤ a → a < high → f a ≡ ThisByte (bytes a)
   same : (a b : ℕ) → byte a ≡ Some b → bytes a ≡ b
 
-not_away : (s : Spot) (n : ℕ) → s ≡ Known n → s ≢ Away
+not_away : (s : Spot) (n : ℕ) → s ≡ ThisByte n → s ≢ NoAccess
 not_away s n h e = apart (sym h ∙ e)
   where
-    apart : Known n ≡ Away → ⊥
+    apart : ThisByte n ≡ NoAccess → ⊥
     apart g = cc
 
 cell_shown : (e : Entries) (p q : Bases) → Grown p q → (f : Spots) (byte : ℕ → Option ℕ) (low high : ℕ) → DataKnown f byte low high → (at : ℕ) → low ≤ at → at < high → (c : Cell) → CellStands e p (byte at) c → ShowsCell e q c (f at)
-cell_shown e p q g f byte low high d at le lt (Plain b) h = d.known at le lt ∙ ap Known (d.same at b h)
+cell_shown e p q g f byte low high d at le lt (Plain b) h = d.known at le lt ∙ ap ThisByte (d.same at b h)
 cell_shown e p q g f byte low high d at le lt (Part v k) h =
-    (h.0, shows_grown e p q g v h.0 h.1, h.2, d.known at le lt ∙ ap Known (d.same at (byte_at k h.0) h.3))
+    (h.0, shows_grown e p q g v h.0 h.1, h.2, d.known at le lt ∙ ap ThisByte (d.same at (byte_at k h.0) h.3))
 cell_shown e p q g f byte low high d at le lt Blank h = not_away (f at) (d.bytes at) (d.known at le lt)
 
 cells_shown : (e : Entries) (p q : Bases) → Grown p q → (f : Spots) (byte : ℕ → Option ℕ) (low high : ℕ) → DataKnown f byte low high → (cells : List Cell) (at : ℕ) → low ≤ at → at + length cells ≤ high → CellsStand e p byte cells at → SpotsShow e q f cells at
@@ -100,7 +100,7 @@ objects_apart e p byte high cells (x ∷ ds) from (at ∷ places) h =
 
 -- ---- the argument range
 
-known_from : (f : Spots) (bs : List ℕ) (at : ℕ) → ((k : ℕ) → k < length bs → f (at + k) ≡ Known (slice_index bs k)) → BytesKnown f bs at
+known_from : (f : Spots) (bs : List ℕ) (at : ℕ) → ((k : ℕ) → k < length bs → f (at + k) ≡ ThisByte (slice_index bs k)) → BytesKnown f bs at
 known_from f [] at h = tt
 known_from f (b ∷ bs) at h =
     let here : at ≡ at + 0 = omega arith in (
@@ -189,38 +189,38 @@ length_arguments words =
     in
     omega arith
 
-spot_in_data : (at : Places) (words : List (List ℕ)) (s : State) (a : ℕ) → at.low ≤ a → a < at.high → start_spots at words s a ≡ Known (s.bytes a)
+spot_in_data : (at : Places) (words : List (List ℕ)) (s : State) (a : ℕ) → at.low ≤ a → a < at.high → start_spots at words s a ≡ ThisByte (s.bytes a)
 spot_in_data at words s a low high =
     of_tests (nat_le at.low a && nat_lt a at.high) (nat_le stack_top a && nat_lt a (stack_top + length (argument_bytes words))) (grind (arith, nat_tests))
   where
-    of_tests : (x y : Bool) → x ≡ true → (if x || y then Known (s.bytes a) else Away) ≡ Known (s.bytes a)
+    of_tests : (x y : Bool) → x ≡ true → (if x || y then ThisByte (s.bytes a) else NoAccess) ≡ ThisByte (s.bytes a)
     of_tests true y h = refl
     of_tests false y h = cc
 
-spot_in_arguments : (at : Places) (words : List (List ℕ)) (s : State) (a : ℕ) → stack_top ≤ a → a < stack_top + length (argument_bytes words) → start_spots at words s a ≡ Known (s.bytes a)
+spot_in_arguments : (at : Places) (words : List (List ℕ)) (s : State) (a : ℕ) → stack_top ≤ a → a < stack_top + length (argument_bytes words) → start_spots at words s a ≡ ThisByte (s.bytes a)
 spot_in_arguments at words s a low high =
     of_tests (nat_le at.low a && nat_lt a at.high) (nat_le stack_top a && nat_lt a (stack_top + length (argument_bytes words))) (grind (arith, nat_tests))
   where
-    of_tests : (x y : Bool) → y ≡ true → (if x || y then Known (s.bytes a) else Away) ≡ Known (s.bytes a)
+    of_tests : (x y : Bool) → y ≡ true → (if x || y then ThisByte (s.bytes a) else NoAccess) ≡ ThisByte (s.bytes a)
     of_tests true y h = refl
     of_tests false true h = refl
     of_tests false false h = cc
 
-spot_byte : (at : Places) (words : List (List ℕ)) (s : State) (x n : ℕ) → start_spots at words s x ≡ Known n → s.bytes x ≡ n
+spot_byte : (at : Places) (words : List (List ℕ)) (s : State) (x n : ℕ) → start_spots at words s x ≡ ThisByte n → s.bytes x ≡ n
 spot_byte at words s x n h =
     of_test ((nat_le at.low x && nat_lt x at.high) || (nat_le stack_top x && nat_lt x (stack_top + length (argument_bytes words)))) h
   where
-    of_test : (b : Bool) → (if b then Known (s.bytes x) else Away) ≡ Known n → s.bytes x ≡ n
+    of_test : (b : Bool) → (if b then ThisByte (s.bytes x) else NoAccess) ≡ ThisByte n → s.bytes x ≡ n
     of_test true k = cc
     of_test false k = cc
 
 -- the stack is away
-pub stack_clear : (p : Program) (at : Places) (x : Executable) (words : List (List ℕ)) (s : State) → DataStands p at x → (a : ℕ) → stack_bottom ≤ a → a < stack_top → start_spots at words s a ≡ Away
+pub stack_clear : (p : Program) (at : Places) (x : Executable) (words : List (List ℕ)) (s : State) → DataStands p at x → (a : ℕ) → stack_bottom ≤ a → a < stack_top → start_spots at words s a ≡ NoAccess
 stack_clear p at x words s there a low high =
     let below = there.below in
     of_tests (nat_le at.low a && nat_lt a at.high) (nat_le stack_top a && nat_lt a (stack_top + length (argument_bytes words))) (grind (arith, nat_tests)) (grind (arith, nat_tests))
   where
-    of_tests : (x y : Bool) → x ≡ false → y ≡ false → (if x || y then Known (s.bytes a) else Away) ≡ Away
+    of_tests : (x y : Bool) → x ≡ false → y ≡ false → (if x || y then ThisByte (s.bytes a) else NoAccess) ≡ NoAccess
     of_tests true y h k = cc
     of_tests false true h k = cc
     of_tests false false h k = refl
@@ -242,7 +242,7 @@ start_shown p at x words s starts there few short =
     in
     let arguments : BytesKnown f (argument_bytes words) stack_top =
     known_from f (argument_bytes words) stack_top
-    (λ k lt. spot_in_arguments at words s (stack_top + k) (omega arith) (omega arith) ∙ ap Known (starts.begins.arguments k lt))
+    (λ k lt. spot_in_arguments at words s (stack_top + k) (omega arith) (omega arith) ∙ ap ThisByte (starts.begins.arguments k lt))
     in
     let parts = ranges f words arguments in
     let end : first_word words + length (word_bytes words) < 2 ^ 64 = omega arith in

@@ -3,7 +3,7 @@
 use Rattle.std.specs.Prelude.{ℕ, ◌≤◌, List, [], ◌∷◌, length}
 use Rattle.il_ast.specs.declared.limits.TheConstants.{WORDS, WORD_BYTES}
 use Rattle.il_ast.specs.declared.function.Func.{Func}
-use Rattle.il_ast.specs.declared.program.Placed.{Placed}
+use Rattle.il_ast.specs.declared.program.InText.{InText}
 use Rattle.il_ast.specs.declared.program.Program.{Program}
 use Rattle.il_ast.specs.Passes.{IsCodeOf}
 use Rattle.vcode.specs.declared.place.Location.{Location}
@@ -37,7 +37,7 @@ pub record StandFor (f : Func) (c : Words) : Type 0 where
   pub laid : LaysOut items c.words c.holes
 
 -- one for each function, in order
-abbrev pub EachStands : List Words → List (Placed Func) → Type 0
+abbrev pub EachStands : List Words → List (InText Func) → Type 0
 EachStands [] [] = Unit {0}
 EachStands [] (f ∷ fs) = ⊥
 EachStands (c ∷ codes) [] = ⊥

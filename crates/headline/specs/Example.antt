@@ -10,7 +10,7 @@ use Rattle.rv_isa.specs.declared.permission.Permission.{Permission}
 use Rattle.rv_isa.specs.State.{State}
 use Rattle.rv_isa.specs.Start.{stack_top, stack_bottom}
 use Rattle.rv_machine.specs.Mapped.{read_and_write}
-use Rattle.flat_code.specs.Spots.{Spot, Away, Known}
+use Rattle.flat_code.specs.Spots.{Spot, NoAccess, ThisByte}
 use Rattle.flat_code.specs.Flat.{FlatGiven, FlatAsked, FlatOutcome, FlatEnded}
 use Rattle.headline.specs.Knot.{Setting}
 
@@ -48,7 +48,7 @@ base zero = Some (stack_top + 8)
 base (suc b) = None
 
 abbrev pub spot : ℕ → Spot
-spot a = if nat_le (stack_top + 8) a && nat_lt a (stack_top + 16) then Known 0 else Away
+spot a = if nat_le (stack_top + 8) a && nat_lt a (stack_top + 16) then ThisByte 0 else NoAccess
 
 abbrev pub setting : Setting
 setting =

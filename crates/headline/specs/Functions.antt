@@ -2,7 +2,7 @@
 use Rattle.std.specs.Prelude.{◌≡◌, ℕ, map, slice_get, Some}
 use Rattle.il_ast.specs.declared.function.Param.{Param}
 use Rattle.il_ast.specs.declared.function.Func.{Func}
-use Rattle.il_ast.specs.declared.program.Placed.{Placed}
+use Rattle.il_ast.specs.declared.program.InText.{InText}
 use Rattle.il_ast.specs.declared.program.Program.{Program}
 use Rattle.il_ast.specs.declared.value.Callee.TheVariants.{Defined}
 use Rattle.il_ast.specs.Cost.{need}
@@ -14,7 +14,7 @@ use Rattle.headline.specs.Knot.{Setting, IsSetting, AllKept, KeepsBody}
 use Rattle.headline.specs.Natives.{NativesPerform}
 
 -- the body of a function of the program
-abbrev pub body_of : Program → Placed Func → Body
+abbrev pub body_of : Program → InText Func → Body
 body_of p f callees i =
     body (record { func = f.item; globals = globals_of p f.text }) callees i.turns i.room i.args
     i.memory
@@ -22,7 +22,7 @@ body_of p f callees i =
 -- each function is kept at its address
 abbrev pub FunctionsKept : Setting → Program → Type 0
 FunctionsKept c p =
-    (k at : ℕ) (f : Placed Func)
+    (k at : ℕ) (f : InText Func)
     → slice_get p.functions k ≡ Some f
     → c.entries (Defined k) ≡ Some at
     → KeepsBody c at (need f.item) (map (λ (x : Param). x.class) f.item.params) f.item.result

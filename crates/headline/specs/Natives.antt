@@ -6,16 +6,16 @@ use Rattle.il_ast.specs.declared.operation.Class.TheVariants.{W, L}
 use Rattle.il_ast.specs.declared.value.Callee.TheVariants.{SystemWrite, SystemExit}
 use Rattle.il_ast.specs.declared.value.End.TheVariants.{Exit, Undefined}
 use Rattle.il_ast.specs.Run.{nothing, one_call}
-use Rattle.flat_code.specs.Spots.{Spot, Away, Open, Known, Spots}
+use Rattle.flat_code.specs.Spots.{Spot, NoAccess, AnyByte, ThisByte, Spots}
 use Rattle.flat_code.specs.Flat.{FlatGiven, FlatOutcome, FlatReturned, FlatEnded}
 use Rattle.abi_frames.specs.Calls.{GoodStack}
 use Rattle.abi_frames.specs.Performs.{PerformsAt}
 use Rattle.headline.specs.Knot.{Setting}
 
 abbrev pub known_byte : Spot → Option ℕ
-known_byte Away = None
-known_byte Open = None
-known_byte (Known b) = Some b
+known_byte NoAccess = None
+known_byte AnyByte = None
+known_byte (ThisByte b) = Some b
 
 -- the n bytes from an address upward, where each is known
 abbrev pub known_bytes : Spots → (at n : ℕ) → Option (List ℕ)

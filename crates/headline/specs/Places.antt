@@ -9,7 +9,7 @@ use Rattle.rv_isa.specs.State.{State}
 use Rattle.rv_isa.specs.Start.{stack_top, stack_bottom, argument_bytes}
 use Rattle.elf_file.specs.declared.flags.Flags.TheVariants.{ReadWrite}
 use Rattle.elf_file.specs.Loaded.{Executable, byte_in, flags_in}
-use Rattle.flat_code.specs.Spots.{Away, Known, Spots, Bases, Entries, Shows}
+use Rattle.flat_code.specs.Spots.{NoAccess, ThisByte, Spots, Bases, Entries, Shows}
 use Rattle.headline.specs.Knot.{Setting}
 
 -- the address of each function and of each datum, and the range that has the data
@@ -84,5 +84,5 @@ abbrev pub start_spots : Places → List (List ℕ) → State → Spots
 start_spots at words s a =
     if (nat_le at.low a && nat_lt a at.high) || (nat_le stack_top a
     && nat_lt a (stack_top + length (argument_bytes words)))
-    then Known (s.bytes a)
-    else Away
+    then ThisByte (s.bytes a)
+    else NoAccess

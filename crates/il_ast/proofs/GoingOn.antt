@@ -4,7 +4,7 @@ use Rattle.std.specs.Prelude.{nat_lt, slice_get, Option, Some, None}
 use Rattle.il_ast.specs.declared.operand.Dest.{Dest}
 use Rattle.il_ast.specs.declared.function.Param.{Param}
 use Rattle.il_ast.specs.declared.function.Func.{Func}
-use Rattle.il_ast.specs.declared.program.Placed.{Placed}
+use Rattle.il_ast.specs.declared.program.InText.{InText}
 use Rattle.il_ast.specs.declared.program.Program.{Program}
 use Rattle.il_ast.specs.declared.value.Callee.{Callee}
 use Rattle.il_ast.specs.declared.value.Callee.TheVariants.{Defined, SystemWrite, SystemExit}
@@ -143,7 +143,7 @@ cond_first : (b : Bool) (x o p : Outcome) → GoesOn o p → GoesOn (cond b x o)
 cond_first true x o p h = stays x
 cond_first false x o p h = h
 
-function_goes_on : (p : Program) (c d : Callees) → CalleesGoOn c d → (call : Call) (t u room : ℕ) (m : Memory) → t ≤ u → (f : Option (Placed Func)) → GoesOn (call_function p c call t room m f) (call_function p d call u room m f)
+function_goes_on : (p : Program) (c d : Callees) → CalleesGoOn c d → (call : Call) (t u room : ℕ) (m : Memory) → t ≤ u → (f : Option (InText Func)) → GoesOn (call_function p c call t room m f) (call_function p d call u room m f)
 function_goes_on p c d cs call t u room m le None = refl
 function_goes_on p c d cs call t u room m le (Some f) =
     cond_goes_on (call_fits call (map (λ (x : Param). x.class) f.item.params) f.item.result) _ _ (Ended nothing Undefined)

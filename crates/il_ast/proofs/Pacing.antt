@@ -13,7 +13,7 @@ use Rattle.il_ast.specs.declared.block.Phi.{Phi}
 use Rattle.il_ast.specs.declared.block.Block.{Block}
 use Rattle.il_ast.specs.declared.operation.Class.TheVariants.{W, L}
 use Rattle.il_ast.specs.declared.function.Param.{Param}
-use Rattle.il_ast.specs.declared.program.Placed.{Placed}
+use Rattle.il_ast.specs.declared.program.InText.{InText}
 use Rattle.il_ast.specs.declared.program.Program.{Program}
 use Rattle.il_ast.specs.declared.function.Func.{Func}
 use Rattle.il_ast.specs.declared.value.Callee.{Callee}
@@ -397,7 +397,7 @@ entered_goes env c t room args m cs =
     (let same : t - 0 ≡ t = omega arith in
     subst (λ n. GoesSo (λ k. body env c k room args m) n (body env c t room args m)) (sym same) (body_goes env c t room args m cs))
 
-function_goes : (p : Program) (c : Callees) (t : ℕ) → AllGoSo t c → (call : Call) (room : ℕ) (m : Memory) (f : Option (Placed Func)) → GoesSo (λ n. call_function p c call n room m f) t (call_function p c call t room m f)
+function_goes : (p : Program) (c : Callees) (t : ℕ) → AllGoSo t c → (call : Call) (room : ℕ) (m : Memory) (f : Option (InText Func)) → GoesSo (λ n. call_function p c call n room m f) t (call_function p c call t room m f)
 function_goes p c t cs call room m None = inl refl
 function_goes p c t cs call room m (Some f) =
     let env : Env = record { func = f.item; globals = globals_of p f.text } in

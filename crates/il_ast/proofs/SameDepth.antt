@@ -4,7 +4,7 @@ use Rattle.std.specs.Prelude.{nat_lt, slice_get, Option, Some, None}
 use Rattle.il_ast.specs.declared.operand.Dest.{Dest}
 use Rattle.il_ast.specs.declared.function.Param.{Param}
 use Rattle.il_ast.specs.declared.function.Func.{Func}
-use Rattle.il_ast.specs.declared.program.Placed.{Placed}
+use Rattle.il_ast.specs.declared.program.InText.{InText}
 use Rattle.il_ast.specs.declared.program.Program.{Program}
 use Rattle.il_ast.specs.declared.value.Callee.{Callee}
 use Rattle.il_ast.specs.declared.value.Callee.TheVariants.{Defined, SystemWrite, SystemExit}
@@ -64,7 +64,7 @@ cond_same b o p x e = ap (λ q. cond b q x) e
 cond_second : (b : Bool) (x o p : Outcome) → o ≡ p → cond b x o ≡ cond b x p
 cond_second b x o p e = ap (λ q. cond b x q) e
 
-same_function : (p : Program) (c d : Callees) (t : ℕ) → SameBelow t c d → (call : Call) (room : ℕ) (m : Memory) (f : Option (Placed Func)) → call_function p c call t room m f ≡ call_function p d call t room m f
+same_function : (p : Program) (c d : Callees) (t : ℕ) → SameBelow t c d → (call : Call) (room : ℕ) (m : Memory) (f : Option (InText Func)) → call_function p c call t room m f ≡ call_function p d call t room m f
 same_function p c d t cs call room m None = refl
 same_function p c d t cs call room m (Some f) =
     cond_same (call_fits call (map (λ (x : Param). x.class) f.item.params) f.item.result) _ _ (Ended nothing Undefined)

@@ -7,7 +7,7 @@ use Rattle.il_ast.specs.declared.operation.Class.{Class}
 use Rattle.il_ast.specs.declared.operation.Class.TheVariants.{W, L}
 use Rattle.il_ast.specs.declared.function.Param.{Param}
 use Rattle.il_ast.specs.declared.function.Func.{Func}
-use Rattle.il_ast.specs.declared.program.Placed.{Placed}
+use Rattle.il_ast.specs.declared.program.InText.{InText}
 use Rattle.il_ast.specs.declared.program.Program.{Program}
 use Rattle.il_ast.specs.declared.value.Callee.{Callee}
 use Rattle.il_ast.specs.declared.value.Callee.TheVariants.{Defined, SystemWrite, SystemExit}
@@ -77,7 +77,7 @@ exit_call args = Ended nothing Undefined
 
 -- first the types, then the room
 abbrev pub call_function : Program → Callees → Call → (turns room : ℕ) → Memory →
-    Option (Placed Func) → Outcome
+    Option (InText Func) → Outcome
 call_function p callees call t room m None = Ended nothing Undefined
 call_function p callees call t room m (Some f) =
     if call_fits call (map (λ (x : Param). x.class) f.item.params) f.item.result
@@ -118,7 +118,7 @@ abbrev pub main_classes : List Param → List Class
 main_classes [] = []
 main_classes (x ∷ xs) = W ∷ L ∷ []
 
-abbrev pub params_of : Option (Placed Func) → List Param
+abbrev pub params_of : Option (InText Func) → List Param
 params_of None = []
 params_of (Some f) = f.item.params
 

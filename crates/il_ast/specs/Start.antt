@@ -9,7 +9,7 @@ use Rattle.il_ast.specs.declared.datum.DataDef.{DataDef}
 use Rattle.il_ast.specs.declared.operation.Size.{Size}
 use Rattle.il_ast.specs.declared.program.Target.{Target}
 use Rattle.il_ast.specs.declared.program.Target.TheVariants.{Code, Object}
-use Rattle.il_ast.specs.declared.program.Placed.{Placed}
+use Rattle.il_ast.specs.declared.program.InText.{InText}
 use Rattle.il_ast.specs.declared.program.Program.{Program}
 use Rattle.il_ast.specs.declared.value.Value.{Value}
 use Rattle.il_ast.specs.declared.value.Value.TheVariants.{Integer, Pointer, Function}
@@ -52,7 +52,7 @@ field_cells globals (Items size items) = flat_map (item_cells globals size) item
 field_cells globals (Zeros n) = replicate n (Plain 0)
 
 -- the cells of a datum: nothing is put between its items
-abbrev pub object_cells : Program → Placed DataDef → List Cell
+abbrev pub object_cells : Program → InText DataDef → List Cell
 object_cells p d = flat_map (field_cells (globals_of p d.text)) d.item.fields
 
 -- ---- arguments
@@ -73,6 +73,6 @@ list_cells first n = pointers_from first n ++ replicate 8 (Plain 0)
 -- a block for each datum, then one for each word, then one for the argument list
 abbrev pub start_memory : Program → List (List ℕ) → Memory
 start_memory p words =
-    map (λ (d : Placed DataDef). Some (object_cells p d)) p.objects
+    map (λ (d : InText DataDef). Some (object_cells p d)) p.objects
     ++ (map (λ (w : List ℕ). Some (word_cells w)) words
     ++ Some (list_cells (length p.objects) (length words)) ∷ [])

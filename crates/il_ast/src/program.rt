@@ -14,7 +14,7 @@ pub enum Target {
 
 /// A definition, with the number of the text that it stands in.
 #[derive(Drop)]
-pub struct Placed<T> {
+pub struct InText<T> {
     pub text: usize,
     pub item: T,
 }
@@ -25,9 +25,9 @@ pub struct Program {
     /// for each text, what its symbols mean, in the order of `Text::symbols`
     pub targets: Seq<Seq<Target>>,
     /// all functions, in order of texts and definitions
-    pub functions: Seq<Placed<Func>>,
+    pub functions: Seq<InText<Func>>,
     /// all data, in order of texts and definitions
-    pub objects: Seq<Placed<DataDef>>,
+    pub objects: Seq<InText<DataDef>>,
     /// the number of the exported function `main`
     pub main: usize,
 }

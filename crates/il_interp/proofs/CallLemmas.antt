@@ -4,7 +4,7 @@ use Rattle.std.specs.Prelude.{Option, Some, None}
 use Rattle.std.specs.Option.{option_map}
 use Rattle.std.proofs.lemmas.Bool.Decides.{nat_tests}
 use Rattle.il_ast.specs.declared.function.Func.{Func}
-use Rattle.il_ast.specs.declared.program.Placed.{Placed}
+use Rattle.il_ast.specs.declared.program.InText.{InText}
 use Rattle.il_ast.specs.Cost.{need}
 use Rattle.il_types.specs.Capped.{capped}
 use Rattle.il_interp.specs.Room.{LeavesRoom}
@@ -18,19 +18,19 @@ less_false room n le = grind (arith, nat_tests)
 less_true : (room n : ℕ) → room < n → nat_lt room n ≡ true
 less_true room n lt = grind (arith, nat_tests)
 
-pub enough : (o : Option (Placed Func)) (room c left : ℕ) → room < 2 ^ 32 → Some c ≡ option_map (λ (f : Placed Func). capped (need f.item)) o → c ≤ room → left ≡ room - c → LeavesRoom o room (Some left)
+pub enough : (o : Option (InText Func)) (room c left : ℕ) → room < 2 ^ 32 → Some c ≡ option_map (λ (f : InText Func). capped (need f.item)) o → c ≤ room → left ≡ room - c → LeavesRoom o room (Some left)
 enough None room c left small e le is = tt
 enough (Some f) room c left small e le is =
     let same : c ≡ capped (need f.item) = cc in
     let fits : need f.item ≤ room = fits_below room (need f.item) small (omega (arith, same)) in
     (less_false room (need f.item) fits, omega (arith, same, fits))
 
-pub too_little : (o : Option (Placed Func)) (room c : ℕ) → Some c ≡ option_map (λ (f : Placed Func). capped (need f.item)) o → room < c → LeavesRoom o room None
+pub too_little : (o : Option (InText Func)) (room c : ℕ) → Some c ≡ option_map (λ (f : InText Func). capped (need f.item)) o → room < c → LeavesRoom o room None
 too_little None room c e lt = tt
 too_little (Some f) room c e lt =
     let same : c ≡ capped (need f.item) = cc in
     less_true room (need f.item) (omega (arith, same))
 
-pub no_need : (o : Option (Placed Func)) (room : ℕ) → None ≡ option_map (λ (f : Placed Func). capped (need f.item)) o → LeavesRoom o room None
+pub no_need : (o : Option (InText Func)) (room : ℕ) → None ≡ option_map (λ (f : InText Func). capped (need f.item)) o → LeavesRoom o room None
 no_need None room e = tt
 no_need (Some f) room e = cc

@@ -8,7 +8,7 @@ use Rattle.il_ast.specs.declared.block.Block.{Block}
 use Rattle.il_ast.specs.declared.function.Func.{Func}
 use Rattle.il_ast.specs.declared.text.Definition.{Definition}
 use Rattle.il_ast.specs.declared.text.Definition.TheVariants.{Function, Object}
-use Rattle.il_ast.specs.declared.program.Placed.{Placed}
+use Rattle.il_ast.specs.declared.program.InText.{InText}
 use Rattle.il_types.specs.declared.checked.Checked.{Checked}
 use Rattle.il_types.specs.declared.rule.Rule.TheVariants.{PhiCoversPredecessors}
 use Rattle.il_types.specs.First.{first}
@@ -16,22 +16,22 @@ use Rattle.il_types.specs.Locals.{uncovered_phi}
 use Rattle.il_types.specs.Rules.{broken_in}
 use Rattle.il_types.specs.Arguments.{are_all_distinct}
 use Rattle.il_types.proofs.ArgumentLemmas.{none_first, block_distinct}
-use Rattle.obj_link.specs.declared.linked.Linked.{Linked}
+use Rattle.obj_link.specs.declared.linking.linked.Linked.{Linked}
 use Rattle.obj_link.specs.Names.{function_in, functions_from}
 use Rattle.obj_link.specs.Program.{IsProgram}
 use Rattle.obj_link.specs.ProgramOf.{program}
 
-abbrev AllCovered : List (Placed Func) → Type 0
+abbrev AllCovered : List (InText Func) → Type 0
 AllCovered [] = Unit {0}
 AllCovered (f ∷ fs) = (uncovered_phi f.item ≡ None) × AllCovered fs
 
-both_covered : (fs gs : List (Placed Func)) → AllCovered fs → AllCovered gs → AllCovered (fs ++ gs)
+both_covered : (fs gs : List (InText Func)) → AllCovered fs → AllCovered gs → AllCovered (fs ++ gs)
 both_covered [] gs h k = k
 both_covered (f ∷ fs) gs h k = (h.0, both_covered fs gs h.1 k)
 
-covered_at : (fs : List (Placed Func)) → AllCovered fs → (k : ℕ) (f : Placed Func) → slice_get fs k ≡ Some f → uncovered_phi f.item ≡ None
+covered_at : (fs : List (InText Func)) → AllCovered fs → (k : ℕ) (f : InText Func) → slice_get fs k ≡ Some f → uncovered_phi f.item ≡ None
 covered_at [] h k f at = absurd (let no : ⊥ = cc in no)
-covered_at (x ∷ fs) h zero f at = let same : x ≡ f = cc in subst (λ (y : Placed Func). uncovered_phi y.item ≡ None) same h.0
+covered_at (x ∷ fs) h zero f at = let same : x ≡ f = cc in subst (λ (y : InText Func). uncovered_phi y.item ≡ None) same h.0
 covered_at (x ∷ fs) h (suc k) f at = covered_at fs h.1 k f at
 
 text_covered : (n : ℕ) (ds : List Definition) → first (broken_in PhiCoversPredecessors) ds ≡ None → AllCovered (flat_map (function_in n) ds)
@@ -47,7 +47,7 @@ texts_covered n (t ∷ texts) =
     (text_covered n t.text.definitions (t.good.rules PhiCoversPredecessors)) (texts_covered (n + 1) texts)
 
 -- the phis of each block of a program
-pub program_distinct : (l : Linked) (k : ℕ) (f : Placed Func) → slice_get (program l).functions k ≡ Some f → (n : ℕ) (b : Block) → slice_get f.item.blocks n ≡ Some b → are_all_distinct b.phis ≡ true
+pub program_distinct : (l : Linked) (k : ℕ) (f : InText Func) → slice_get (program l).functions k ≡ Some f → (n : ℕ) (b : Block) → slice_get f.item.blocks n ≡ Some b → are_all_distinct b.phis ≡ true
 program_distinct l k f at n b there = by (are_all_distinct b.phis) refl
   where
     proved : IsProgram l.texts.now (program l) → are_all_distinct b.phis ≡ true

@@ -5,9 +5,9 @@ use Rattle.std.specs.Option.{option_and_then}
 use Rattle.std.specs.Borrow.{Bor}
 use Rattle.std.proofs.lemmas.List.{take_more, length-take-le, length-map, map-append}
 use Rattle.il_ast.specs.declared.function.Func.{Func}
-use Rattle.il_ast.specs.declared.program.Placed.{Placed}
+use Rattle.il_ast.specs.declared.program.InText.{InText}
 use Rattle.il_ast.specs.Effect.{place_of}
-use Rattle.il_types.specs.Places.{place_in}
+use Rattle.il_types.specs.LabelBlocks.{place_in}
 use Rattle.il_types.proofs.PlaceTable.{eq_zero_suc, eq_suc_zero, eq_suc_suc}
 use Rattle.obj_link.specs.Shown.{shown}
 use Rattle.il_interp.specs.Places.{placed, places_of}
@@ -25,14 +25,14 @@ placed_push tables t k j = ap (option_and_then (λ table. place_in table j)) (ge
     by true = refl
     by false = refl
 
-places_push : (fs : List (Placed Func)) (f : Placed Func) (k j : ℕ) → places_of (fs ++ f ∷ []) k j ≡ cond (nat_eq k (length fs)) (place_of f.item.blocks j) (places_of fs k j)
-places_push fs f k j = ap (option_and_then (λ (x : Placed Func). place_of x.item.blocks j)) (get_push fs f k) ∙ by (nat_eq k (length fs))
+places_push : (fs : List (InText Func)) (f : InText Func) (k j : ℕ) → places_of (fs ++ f ∷ []) k j ≡ cond (nat_eq k (length fs)) (place_of f.item.blocks j) (places_of fs k j)
+places_push fs f k j = ap (option_and_then (λ (x : InText Func). place_of x.item.blocks j)) (get_push fs f k) ∙ by (nat_eq k (length fs))
   where
-    by : (b : Bool) → option_and_then (λ (x : Placed Func). place_of x.item.blocks j) (cond b (Some f) (slice_get fs k)) ≡ cond b (place_of f.item.blocks j) (places_of fs k j)
+    by : (b : Bool) → option_and_then (λ (x : InText Func). place_of x.item.blocks j) (cond b (Some f) (slice_get fs k)) ≡ cond b (place_of f.item.blocks j) (places_of fs k j)
     by true = refl
     by false = refl
 
-pub tables_further : (fs : List (Placed (Bor Func))) (i : ℕ) (f : Placed (Bor Func)) (tables new : List (List (Option ℕ))) (t : List (Option ℕ)) → i < length fs → f ≡ get_or fs i f → length tables ≡ i → new ≡ tables ++ t ∷ [] → ((l : ℕ) → place_in t l ≡ place_of f.item.now.blocks l) → ((k j : ℕ) → placed tables k j ≡ places_of (map shown (take i fs)) k j) → (k j : ℕ) → placed new k j ≡ places_of (map shown (take (i + 1) fs)) k j
+pub tables_further : (fs : List (InText (Bor Func))) (i : ℕ) (f : InText (Bor Func)) (tables new : List (List (Option ℕ))) (t : List (Option ℕ)) → i < length fs → f ≡ get_or fs i f → length tables ≡ i → new ≡ tables ++ t ∷ [] → ((l : ℕ) → place_in t l ≡ place_of f.item.now.blocks l) → ((k j : ℕ) → placed tables k j ≡ places_of (map shown (take i fs)) k j) → (k j : ℕ) → placed new k j ≡ places_of (map shown (take (i + 1) fs)) k j
 tables_further fs i f tables new t lt at long n h inv k j =
     let front : length (map shown (take i fs)) ≡ i = length-map (take i fs) shown ∙ length-take-le i fs (omega arith) in
     let next : map shown (take (i + 1) fs) ≡ map shown (take i fs) ++ shown f ∷ [] =

@@ -3,7 +3,7 @@ use Rattle.std.proofs.Common.{◌≡◌, ℕ, suc, ◌+◌, ◌-◌, ◌<◌, Li
 use Rattle.il_ast.specs.declared.program.Program.{Program}
 use Rattle.il_ast.specs.declared.value.End.{End}
 use Rattle.il_ast.specs.Meaning.{Behaviour, meaning}
-use Rattle.obj_link.specs.declared.linked.Linked.{Linked}
+use Rattle.obj_link.specs.declared.linking.linked.Linked.{Linked}
 use Rattle.obj_link.specs.ProgramOf.{program}
 use Rattle.il_interp.proofs.Unwinding.{machine_means}
 use Rattle.il_interp.specs.declared.state.State.{State}

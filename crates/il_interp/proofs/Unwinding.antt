@@ -6,7 +6,7 @@ use Rattle.std.proofs.lemmas.List.{append-nil}
 use Rattle.il_ast.specs.declared.operation.Class.TheVariants.{W, L}
 use Rattle.il_ast.specs.declared.operand.Dest.{Dest}
 use Rattle.il_ast.specs.declared.function.Param.{Param}
-use Rattle.il_ast.specs.declared.program.Placed.{Placed}
+use Rattle.il_ast.specs.declared.program.InText.{InText}
 use Rattle.il_ast.specs.declared.function.Func.{Func}
 use Rattle.il_ast.specs.declared.program.Program.{Program}
 use Rattle.il_ast.specs.declared.value.Callee.{Callee}
@@ -67,7 +67,7 @@ body_goes p env room t args m =
 
 -- ---- how an activation of the machine goes on
 
-abbrev rest_at : Program → ℕ → Option (Placed Func) → Rest
+abbrev rest_at : Program → ℕ → Option (InText Func) → Rest
 rest_at p room None zero a m = Ended nothing Turns
 rest_at p room None (suc t) a m = Ended nothing Undefined
 rest_at p room (Some f) t a m = go p (env_of p f) room t a m
@@ -75,7 +75,7 @@ rest_at p room (Some f) t a m = go p (env_of p f) room t a m
 abbrev rest_of : Program → Frame → Rest
 rest_of p f t a m = rest_at p f.room (slice_get p.functions f.function) t a m
 
-rest_none : (p : Program) (room : ℕ) (o : Option (Placed Func)) (a : Activation) (m : Memory) → rest_at p room o zero a m ≡ Ended nothing Turns
+rest_none : (p : Program) (room : ℕ) (o : Option (InText Func)) (a : Activation) (m : Memory) → rest_at p room o zero a m ≡ Ended nothing Turns
 rest_none p room None a m = refl
 rest_none p room (Some f) a m = go_none p (env_of p f) room a m
 
@@ -185,7 +185,7 @@ cond_is false rest f x y o q h k = k
 undefined_is : (p : Program) (n : ℕ) (st : State) (to : Option Dest) (e : End) → go_on (machine p n) (Over st.output e) ≡ unwind p n st.below st.output (resume (rest_of p st.frame) n to (act_of st.frame) (Ended nothing e))
 undefined_is p n st to e = sym (unwind_ended p n st.below st.output nothing e refl)
 
-entered_is : (p : Program) (n : ℕ) → Unwinds p n → (st : State) (to : Option Dest) (call : Call) (k : ℕ) (f : Placed Func) → slice_get p.functions k ≡ Some f → machine p n (entered st to call k f.item) ≡ unwind p n st.below st.output (resume (rest_of p st.frame) n to (act_of st.frame) (after one_call (body (env_of p f) (callees p n) n (st.frame.room - need f.item) call.args st.memory)))
+entered_is : (p : Program) (n : ℕ) → Unwinds p n → (st : State) (to : Option Dest) (call : Call) (k : ℕ) (f : InText Func) → slice_get p.functions k ≡ Some f → machine p n (entered st to call k f.item) ≡ unwind p n st.below st.output (resume (rest_of p st.frame) n to (act_of st.frame) (after one_call (body (env_of p f) (callees p n) n (st.frame.room - need f.item) call.args st.memory)))
 entered_is p n ih st to call k f at =
     let fs : List Frame = record st.frame { waits = to } ∷ st.below in
     let room : ℕ = st.frame.room - need f.item in
@@ -195,7 +195,7 @@ entered_is p n ih st to call k f at =
     ∙ (sym (unwind_call p n fs st.output (body (env_of p f) (callees p n) n room call.args st.memory))
     ∙ sym (unwind_waits p n st.frame to st.below st.output (after one_call (body (env_of p f) (callees p n) n room call.args st.memory))))))
 
-function_is : (p : Program) (n : ℕ) → Unwinds p n → (st : State) (to : Option Dest) (call : Call) (k : ℕ) (o : Option (Placed Func)) → slice_get p.functions k ≡ o → go_on (machine p n) (function_step st to call k o) ≡ unwind p n st.below st.output (resume (rest_of p st.frame) n to (act_of st.frame) (call_function p (callees p n) call n st.frame.room st.memory o))
+function_is : (p : Program) (n : ℕ) → Unwinds p n → (st : State) (to : Option Dest) (call : Call) (k : ℕ) (o : Option (InText Func)) → slice_get p.functions k ≡ o → go_on (machine p n) (function_step st to call k o) ≡ unwind p n st.below st.output (resume (rest_of p st.frame) n to (act_of st.frame) (call_function p (callees p n) call n st.frame.room st.memory o))
 function_is p n ih st to call k None at = undefined_is p n st to Undefined
 function_is p n ih st to call k (Some f) at =
     cond_is (call_fits call (map (λ (x : Param). x.class) f.item.params) f.item.result) (machine p n)
@@ -225,10 +225,10 @@ return_is p n ih (f ∷ fs) out v m =
     ∙ ap (λ x. unwind p n fs x (receive (rest_of p f) n f.waits (act_of f) v m)) (append-nil out))
 
 -- the rest of the activation's function, at any room
-rest_some : (p : Program) (fr : Frame) (f : Placed Func) → slice_get p.functions fr.function ≡ Some f → (t : ℕ) (a : Activation) (m : Memory) → rest_of p fr t a m ≡ go p (env_of p f) fr.room t a m
+rest_some : (p : Program) (fr : Frame) (f : InText Func) → slice_get p.functions fr.function ≡ Some f → (t : ℕ) (a : Activation) (m : Memory) → rest_of p fr t a m ≡ go p (env_of p f) fr.room t a m
 rest_some p fr f at t a m = ap (λ o. rest_at p fr.room o t a m) at
 
-reacts : (p : Program) (n : ℕ) → Unwinds p n → (st : State) (f : Placed Func) → slice_get p.functions st.frame.function ≡ Some f → (e : Effect) → go_on (machine p n) (react p st e) ≡ unwind p (suc n) st.below st.output (perform (callees p (suc n)) st.frame.room (rest_of p st.frame) n st.memory e)
+reacts : (p : Program) (n : ℕ) → Unwinds p n → (st : State) (f : InText Func) → slice_get p.functions st.frame.function ≡ Some f → (e : Effect) → go_on (machine p n) (react p st e) ≡ unwind p (suc n) st.below st.output (perform (callees p (suc n)) st.frame.room (rest_of p st.frame) n st.memory e)
 unfolding callees
 reacts p n ih st f at (Goes w a m) =
     ih (record st { frame = standing st.frame a; memory = m }) ∙ sym (unwind_turn p n st.below st.output w (rest_of p st.frame n a m))
@@ -245,7 +245,7 @@ unwinds p zero st =
     ∙ unwind_ended p zero st.below st.output nothing Turns refl)
 unwinds p (suc n) st = at (unwinds p n) (slice_get p.functions st.frame.function) refl
   where
-    at : Unwinds p n → (o : Option (Placed Func)) → slice_get p.functions st.frame.function ≡ o → go_on (machine p n) (turn_in_function p st (slice_get p.functions st.frame.function)) ≡ unwind p (suc n) st.below st.output (rest_of p st.frame (suc n) (act_of st.frame) st.memory)
+    at : Unwinds p n → (o : Option (InText Func)) → slice_get p.functions st.frame.function ≡ o → go_on (machine p n) (turn_in_function p st (slice_get p.functions st.frame.function)) ≡ unwind p (suc n) st.below st.output (rest_of p st.frame (suc n) (act_of st.frame) st.memory)
     at ih None e =
         ap (λ o. go_on (machine p n) (turn_in_function p st o)) e
         ∙ sym (ap (λ o. unwind p (suc n) st.below st.output (rest_at p st.frame.room o (suc n) (act_of st.frame) st.memory)) e
@@ -255,7 +255,7 @@ unwinds p (suc n) st = at (unwinds p n) (slice_get p.functions st.frame.function
         ∙ (reacts p n ih st f e (effect (env_of p f) (act_of st.frame) st.memory)
         ∙ ap (unwind p (suc n) st.below st.output) (whole f e))
       where
-        whole : (f : Placed Func) → slice_get p.functions st.frame.function ≡ Some f → perform (callees p (suc n)) st.frame.room (rest_of p st.frame) n st.memory (effect (env_of p f) (act_of st.frame) st.memory) ≡ rest_of p st.frame (suc n) (act_of st.frame) st.memory
+        whole : (f : InText Func) → slice_get p.functions st.frame.function ≡ Some f → perform (callees p (suc n)) st.frame.room (rest_of p st.frame) n st.memory (effect (env_of p f) (act_of st.frame) st.memory) ≡ rest_of p st.frame (suc n) (act_of st.frame) st.memory
         whole f e =
             same_perform (callees p (suc n)) (callees p (suc n)) st.frame.room (rest_of p st.frame) (go p (env_of p f) st.frame.room) n
             (λ call m. refl) (λ u a m le. rest_some p st.frame f e u a m) st.memory (effect (env_of p f) (act_of st.frame) st.memory)
@@ -264,7 +264,7 @@ unwinds p (suc n) st = at (unwinds p n) (slice_get p.functions st.frame.function
 
 -- ---- the whole
 
-begins : (p : Program) (n : ℕ) (m : Memory) (call : Call) (k : ℕ) (o : Option (Placed Func)) → slice_get p.functions k ≡ o → go_on (machine p n) (main_frame m call k o) ≡ behaviour_of (call_function p (callees p n) call n stack_room m o)
+begins : (p : Program) (n : ℕ) (m : Memory) (call : Call) (k : ℕ) (o : Option (InText Func)) → slice_get p.functions k ≡ o → go_on (machine p n) (main_frame m call k o) ≡ behaviour_of (call_function p (callees p n) call n stack_room m o)
 begins p n m call k None at = refl
 begins p n m call k (Some f) at =
     cond_is (call_fits call (map (λ (x : Param). x.class) f.item.params) f.item.result) (machine p n) behaviour_of _ _ _ _

@@ -7,7 +7,7 @@ use Rattle.il_ast.specs.declared.operand.Arg.{Arg}
 use Rattle.il_ast.specs.declared.operand.Dest.{Dest}
 use Rattle.il_ast.specs.declared.function.Param.{Param}
 use Rattle.il_ast.specs.declared.function.Func.{Func}
-use Rattle.il_ast.specs.declared.program.Placed.{Placed}
+use Rattle.il_ast.specs.declared.program.InText.{InText}
 use Rattle.il_ast.specs.declared.program.Program.{Program}
 use Rattle.il_ast.specs.declared.value.Callee.{Callee}
 use Rattle.il_ast.specs.declared.value.Callee.TheVariants.{Defined, SystemWrite, SystemExit}
@@ -39,7 +39,7 @@ abbrev pub standing : Frame → Activation → Frame
 standing f a =
     record f { block = a.block; next = a.next; temps = a.locals.temps; owned = a.locals.owned }
 
-abbrev pub env_of : Program → Placed Func → Env
+abbrev pub env_of : Program → InText Func → Env
 env_of p f = record { func = f.item; globals = globals_of p f.text }
 
 -- ---- results of calls
@@ -80,7 +80,7 @@ entered st to call k f =
       output = st.output;
     }
 
-abbrev pub function_step : State → Option Dest → Call → ℕ → Option (Placed Func) → Next
+abbrev pub function_step : State → Option Dest → Call → ℕ → Option (InText Func) → Next
 function_step st to call k None = Over st.output Undefined
 function_step st to call k (Some f) =
     if call_fits call (map (λ (x : Param). x.class) f.item.params) f.item.result
@@ -111,7 +111,7 @@ react p st (Calls w call to a) =
 react p st (Returns v m) = return_to st.output m v st.below
 react p st (Ends e) = Over st.output e
 
-abbrev pub turn_in_function : Program → State → Option (Placed Func) → Next
+abbrev pub turn_in_function : Program → State → Option (InText Func) → Next
 turn_in_function p st None = Over st.output Undefined
 turn_in_function p st (Some f) = react p st (effect (env_of p f) (act_of st.frame) st.memory)
 
@@ -130,7 +130,7 @@ machine p (suc n) st = go_on (machine p n) (step p st)
 
 -- ---- the start
 
-abbrev pub main_frame : Memory → Call → ℕ → Option (Placed Func) → Next
+abbrev pub main_frame : Memory → Call → ℕ → Option (InText Func) → Next
 main_frame m call k None = Over [] Undefined
 main_frame m call k (Some f) =
     if call_fits call (map (λ (x : Param). x.class) f.item.params) f.item.result

@@ -14,7 +14,7 @@ use il_ast::operand::{Dest, Val};
 use il_ast::operation::{Alignment, BinaryOp, Class, Size, UnaryOp};
 use il_ast::temp::Temp;
 use il_ast::value::{End, Value};
-use obj_link::linked::Linked;
+use obj_link::linking::linked::Linked;
 use std::alloc::AllocError;
 
 /// Assigns a temporary, and goes on at the next instruction.

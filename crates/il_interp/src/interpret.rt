@@ -4,7 +4,7 @@ ghost use Rattle.il_ast.specs.declared.operation.Class.TheVariants.{W};
 ghost use Rattle.il_ast.specs.declared.function.Param.{Param as ParamOf};
 ghost use Rattle.il_ast.specs.Meaning.{main_args, main_classes, same_classes, result_fits, meaning};
 ghost use Rattle.obj_link.specs.ProgramOf.{program};
-ghost use Rattle.obj_link.specs.Words.{are_arguments};
+ghost use Rattle.obj_link.specs.Arguments.{are_arguments};
 ghost use Rattle.il_interp.specs.declared.error.RunError.TheVariants.{Words};
 ghost use Rattle.il_interp.specs.Prepared.{program_of};
 ghost use Rattle.il_interp.specs.Machine.{main_frame, started};
@@ -25,8 +25,8 @@ use il_ast::operation::Class;
 use il_ast::temp::Temp;
 use il_ast::value::{End, Value};
 use il_mem::memory::BlockMemory;
-use obj_link::linked::Linked;
-use obj_link::words::are_arguments;
+use obj_link::arguments::are_arguments;
+use obj_link::linking::linked::Linked;
 use std::alloc::{AllocError, Global};
 
 /// Runs a program with these argument words for at most so many turns. Answers the output and the

@@ -25,11 +25,11 @@ use il_ast::label::Label;
 use il_ast::list::Seq;
 use il_ast::operand::{Dest, Val};
 use il_ast::operation::Class;
-use il_ast::program::Placed;
+use il_ast::program::InText;
 use il_ast::value::{End, Value};
 use il_mem::memory::BlockMemory;
 use il_types::arguments::{argument_at, search};
-use obj_link::linked::Linked;
+use obj_link::linking::linked::Linked;
 use std::alloc::AllocError;
 
 /// The argument of a phi for the block come from. It is the one at `place`, where that has the label.
@@ -117,7 +117,7 @@ fn write_phis(temps: &mut Slots, phis: &[Phi], values: &[Value])
 /// phi there.
 fn enter(
     prepared: &Prepared<'_>,
-    function: &Placed<&Func>,
+    function: &InText<&Func>,
     from: Label,
     state: &mut State,
     label: Label,
@@ -218,7 +218,7 @@ fn branch_to(value: Value, nonzero: Label, otherwise: Label) -> Label
 /// `ret`
 fn returns(
     linked: &Linked<'_>,
-    function: &Placed<&Func>,
+    function: &InText<&Func>,
     from: Label,
     state: &mut State,
     value: Option<Val>,
@@ -248,7 +248,7 @@ fn places_to<'a>(prepared: &'a Prepared<'_>, frame: &Frame, first: bool) -> Opti
 /// A jump from the block of a label.
 pub fn jump(
     prepared: &Prepared<'_>,
-    function: &Placed<&Func>,
+    function: &InText<&Func>,
     from: Label,
     state: &mut State,
     jump: Jump,

@@ -2,7 +2,7 @@
 //!
 //! [`interpret::interpret`] runs a linked program with argument words for at most so many turns, and
 //! answers exactly the output and the end of the program's meaning (`il_ast`, `specs/Meaning`). It
-//! refuses exactly the argument words that pass a limit ([`obj_link::words::are_arguments`]); else only want of
+//! refuses exactly the argument words that pass a limit ([`obj_link::arguments::are_arguments`]); else only want of
 //! memory stops it. It is total, whatever the program.
 //!
 //! The meaning is a recursion on calls. The interpreter keeps a list of activations in its place

@@ -11,10 +11,10 @@ ghost use Rattle.obj_link.specs.ProgramOf.{program};
 use crate::operand::global_value;
 use il_ast::datum::{DataDef, Field, Item};
 use il_ast::operation::Size;
-use il_ast::program::Placed;
+use il_ast::program::InText;
 use il_ast::value::{Cell, Value};
 use il_mem::block::Block;
-use obj_link::linked::Linked;
+use obj_link::linking::linked::Linked;
 use std::alloc::{AllocError, Global};
 
 /// Puts bytes at the end of a block.
@@ -159,7 +159,7 @@ fn push_field(
 pub fn object_block(
     alloc: Global,
     linked: &Linked<'_>,
-    object: &Placed<&DataDef>,
+    object: &InText<&DataDef>,
 ) -> Result<Block, AllocError>
     ensures { IfOk result (λ block. block ≡ object_cells (program linked.now) (shown object.now)) }
 {

@@ -11,14 +11,14 @@ use crate::slots::Slots;
 use il_ast::function::Func;
 use il_ast::operand::{Arg, Val};
 use il_ast::operation::Class;
-use il_ast::program::{Placed, Target};
+use il_ast::program::{InText, Target};
 use il_ast::value::Value;
-use obj_link::linked::Linked;
+use obj_link::linking::linked::Linked;
 use std::alloc::{AllocError, Global};
 
 /// A function of the program by its number.
 #[tactic(auto, using(crate::proofs::ListLemmas::mapped))]
-pub fn function_at<'a>(linked: &'a Linked<'_>, number: usize) -> Option<&'a Placed<&'a Func>>
+pub fn function_at<'a>(linked: &'a Linked<'_>, number: usize) -> Option<&'a InText<&'a Func>>
     ensures { MatchOption result (slice_get (program linked.now).functions number ≡ None) (λ found. slice_get (program linked.now).functions number ≡ Some (shown found.now)) }
 {
     linked.functions.as_slice().get(number)

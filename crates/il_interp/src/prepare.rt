@@ -7,16 +7,16 @@ ghost use Rattle.obj_link.specs.Shown.{shown};
 ghost use Rattle.il_interp.specs.Places.{needs_of, placed, places_of};
 ghost use Rattle.il_interp.specs.Prepared.{program_of};
 ghost use Rattle.il_ast.specs.declared.function.Func.{Func as FuncOf};
-ghost use Rattle.il_ast.specs.declared.program.Placed.{Placed as PlacedOf};
+ghost use Rattle.il_ast.specs.declared.program.InText.{InText as InTextOf};
 
 use crate::edges::{Edges, edges_of};
 use crate::prepared::Prepared;
 use il_ast::function::Func;
 use il_ast::list::Seq;
-use il_ast::program::Placed;
+use il_ast::program::InText;
 use il_types::cost::capped_need;
-use il_types::places::block_places;
-use obj_link::linked::Linked;
+use il_types::label_blocks::block_places;
+use obj_link::linking::linked::Linked;
 use std::alloc::{AllocError, Global};
 
 /// Prepares a program to be run.
@@ -34,7 +34,7 @@ pub fn prepare<'a>(alloc: Global, linked: &'a Linked<'a>) -> Result<Prepared<'a>
     })
 }
 
-fn needs(alloc: Global, functions: &[Placed<&Func>]) -> Result<Vec<u64>, AllocError>
+fn needs(alloc: Global, functions: &[InText<&Func>]) -> Result<Vec<u64>, AllocError>
     ensures { IfOk result (λ needs. needs.items ≡ needs_of (map shown functions.now)) }
 {
     let mut needs = Vec::new(alloc);
@@ -44,7 +44,7 @@ fn needs(alloc: Global, functions: &[Placed<&Func>]) -> Result<Vec<u64>, AllocEr
     Ok(needs)
 }
 
-fn places(alloc: Global, functions: &[Placed<&Func>]) -> Result<Vec<Seq<Option<usize>>>, AllocError>
+fn places(alloc: Global, functions: &[InText<&Func>]) -> Result<Vec<Seq<Option<usize>>>, AllocError>
     ensures { IfOk result (λ tables. (k l : ℕ) → placed tables.items k l ≡ places_of (map shown functions.now) k l) }
 {
     let mut tables = Vec::new(alloc);
@@ -58,7 +58,7 @@ fn places(alloc: Global, functions: &[Placed<&Func>]) -> Result<Vec<Seq<Option<u
 /// The edges from the blocks of each function.
 fn edges(
     alloc: Global,
-    functions: &[Placed<&Func>],
+    functions: &[InText<&Func>],
     places: &[Seq<Option<usize>>],
 ) -> Result<Vec<Seq<Edges>>, AllocError> {
     let mut tables = Vec::new(alloc);
@@ -76,7 +76,7 @@ fn edges(
 /// How much room a function needs; a number that would pass 64 bits stays at the largest one.
 #[tactic(auto, using(crate::proofs::ListLemmas::mapped))]
 pub fn need_at(prepared: &Prepared<'_>, number: usize) -> Option<u64>
-    ensures { result ≡ option_map (λ (f : PlacedOf FuncOf). capped (need f.item)) (slice_get (program_of prepared.now).functions number) }
+    ensures { result ≡ option_map (λ (f : InTextOf FuncOf). capped (need f.item)) (slice_get (program_of prepared.now).functions number) }
 {
     prepared.needs.get(number).copied()
 }

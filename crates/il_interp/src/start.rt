@@ -1,7 +1,7 @@
 //! The memory that a program starts in.
 ghost use Rattle.std.specs.Prelude.{◌≡◌, ℕ, List, ◌∷◌, [], ◌++◌, map, length, Some, IfOk, OnOk};
 ghost use Rattle.il_ast.specs.declared.datum.DataDef.{DataDef as DataDefOf};
-ghost use Rattle.il_ast.specs.declared.program.Placed.{Placed as PlacedOf};
+ghost use Rattle.il_ast.specs.declared.program.InText.{InText as InTextOf};
 ghost use Rattle.il_ast.specs.Start.{object_cells, word_cells, pointers_from, list_cells, start_memory};
 ghost use Rattle.obj_link.specs.ProgramOf.{program};
 
@@ -10,7 +10,7 @@ use crate::object::{object_block, push_bytes, push_parts, push_zeros};
 use il_ast::value::{Cell, Value};
 use il_mem::block::Block;
 use il_mem::memory::BlockMemory;
-use obj_link::linked::Linked;
+use obj_link::linking::linked::Linked;
 use std::alloc::{AllocError, Global};
 
 /// The memory that a program starts in: a block for each datum, then one for each word, then one for
@@ -45,7 +45,7 @@ fn add_objects(
     memory: &mut BlockMemory,
     linked: &Linked<'_>,
 ) -> Result<(), AllocError>
-    ensures { OnOk result (memory.new ≡ memory.old ++ map (λ (d : PlacedOf DataDefOf). Some (object_cells (program linked.now) d)) (program linked.now).objects) }
+    ensures { OnOk result (memory.new ≡ memory.old ++ map (λ (d : InTextOf DataDefOf). Some (object_cells (program linked.now) d)) (program linked.now).objects) }
 {
     let objects = linked.objects.as_slice();
     for object in objects {

@@ -15,7 +15,7 @@ use crate::state::State;
 use il_ast::block::Block;
 use il_ast::function::Func;
 use il_ast::instruction::Inst;
-use il_ast::program::Placed;
+use il_ast::program::InText;
 use il_ast::value::{End, Value};
 use std::alloc::{AllocError, Global};
 
@@ -56,7 +56,7 @@ fn instruction(
 fn turn_in_block(
     alloc: Global,
     prepared: &Prepared<'_>,
-    function: &Placed<&Func>,
+    function: &InText<&Func>,
     block: &Block,
     state: &mut State,
     values: &mut Vec<Value>,

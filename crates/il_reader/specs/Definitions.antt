@@ -20,8 +20,8 @@ use Rattle.il_ast.specs.declared.datum.DataDef.{DataDef}
 use Rattle.il_ast.specs.declared.text.Definition.{Definition}
 use Rattle.il_ast.specs.declared.text.Definition.TheVariants.{Function, Object}
 use Rattle.il_ast.specs.declared.text.Text.{Text}
-use Rattle.il_reader.specs.declared.fault.Fault.{Fault}
-use Rattle.il_reader.specs.declared.fault.Fault.TheVariants.{Syntax}
+use Rattle.il_reader.specs.declared.fault.Unread.{Unread}
+use Rattle.il_reader.specs.declared.fault.Unread.TheVariants.{Syntax}
 use Rattle.il_reader.specs.State.{State, start}
 use Rattle.il_reader.specs.Reads.{falling}
 use Rattle.il_reader.specs.Steps.{Step, ◌>>=◌, ◌>>◌, give, piece, keyword, word, natural, integer, string, temp, symbol, newline, many, commas, maybe, either, sees}
@@ -280,7 +280,7 @@ abbrev pub text_step : List ℕ → Option TextParts
 text_step bytes = option_and_then (whole bytes) (definitions (start bytes))
 
 -- the tree of which these definitions give the parts, and a fault of syntax only where they give none
-abbrev pub IsFound : List ℕ → Result Text Fault → Type 0
+abbrev pub IsFound : List ℕ → Result Text Unread → Type 0
 IsFound bytes result = MatchResult result
     (λ tree. text_step bytes ≡ Some (text_parts tree))
     (λ fault. fault ≡ Syntax → text_step bytes ≡ None)

@@ -3,8 +3,8 @@ use Rattle.std.specs.Prelude.{◌≡◌, ℕ, Bool, true, false, if◌then◌els
 use Rattle.std.specs.Borrow.{Bor}
 use Rattle.std.specs.Option.{option_map}
 use Rattle.std.specs.Result.{MatchResult}
-use Rattle.il_reader.specs.declared.fault.Fault.{Fault}
-use Rattle.il_reader.specs.declared.fault.Fault.TheVariants.{Syntax}
+use Rattle.il_reader.specs.declared.fault.Unread.{Unread}
+use Rattle.il_reader.specs.declared.fault.Unread.TheVariants.{Syntax}
 use Rattle.il_lex.specs.Scan.{scan}
 use Rattle.il_ast.specs.declared.block.Phi.{Phi}
 use Rattle.il_ast.specs.declared.block.Block.{Block}
@@ -21,12 +21,12 @@ use Rattle.il_reader.specs.Steps.{Step, ◌>>=◌, give, many, commas, sees}
 use Rattle.il_reader.specs.Reading.{is_newline, is_word}
 
 -- what a step reads and the state afterwards, and a syntax error only where the step reads nothing
-abbrev pub Gives : {A : Type 0} → Step A → State → State → Result A Fault → Type 0
+abbrev pub Gives : {A : Type 0} → Step A → State → State → Result A Unread → Type 0
 Gives step old new result =
     MatchResult result (λ x. step old ≡ Some (x, new)) (λ e. e ≡ Syntax → step old ≡ None)
 
 -- the same of a step that reads a text
-abbrev pub GivesText : Step (List ℕ) → State → State → Result (Bor (List ℕ)) Fault → Type 0
+abbrev pub GivesText : Step (List ℕ) → State → State → Result (Bor (List ℕ)) Unread → Type 0
 GivesText step old new result =
     MatchResult result (λ text. step old ≡ Some (text.now, new)) (λ e. e ≡ Syntax → step old ≡ None)
 

@@ -1,12 +1,12 @@
 //! Reading the lists of arguments.
 ghost use Rattle.std.specs.Prelude.{◌≡◌, None, Some, suc, length};
 ghost use Rattle.std.specs.Result.{MatchResult};
-ghost use Rattle.il_reader.specs.declared.fault.Fault.TheVariants.{Syntax};
+ghost use Rattle.il_reader.specs.declared.fault.Unread.TheVariants.{Syntax};
 ghost use Rattle.il_reader.specs.Gives.{Gives, appended};
 ghost use Rattle.il_reader.specs.Steps.{sees, separated, commas};
 ghost use Rattle.il_reader.specs.Reading.{argument, phi_argument, arguments, comma, is_comma, is_word, is_label};
 
-use crate::fault::Fault;
+use crate::fault::Unread;
 use crate::kinds::{is_comma, is_label, is_word};
 use crate::operand::{push_argument, push_phi_argument};
 use crate::reader::Reader;
@@ -16,7 +16,7 @@ use il_ast::operand::Arg;
 use il_lex::kind::Symbol;
 
 /// Reads the arguments of a call behind the first.
-fn more_arguments(reader: &mut Reader<'_>, args: &mut Few<Arg>) -> Result<(), Fault>
+fn more_arguments(reader: &mut Reader<'_>, args: &mut Few<Arg>) -> Result<(), Unread>
     ensures { MatchResult result
         (λ _. appended args.old (separated (suc (length reader.old.rest)) (sees is_comma) comma (sees is_word) argument reader.old) ≡ Some (args.new, reader.new))
         (λ e. e ≡ Syntax → separated (suc (length reader.old.rest)) (sees is_comma) comma (sees is_word) argument reader.old ≡ None) }
@@ -31,12 +31,12 @@ fn more_arguments(reader: &mut Reader<'_>, args: &mut Few<Arg>) -> Result<(), Fa
         }
         push_argument(reader, args)?;
     }
-    Err(Fault::Syntax)
+    Err(Unread::Syntax)
 }
 
 /// Reads the arguments of a call, which may be none.
 #[tactic(auto, using(crate::proofs::Rounds::commas_pushed))]
-pub(crate) fn arguments(reader: &mut Reader<'_>) -> Result<Few<Arg>, Fault>
+pub(crate) fn arguments(reader: &mut Reader<'_>) -> Result<Few<Arg>, Unread>
     ensures { Gives arguments reader.old reader.new result }
 {
     let mut args = Few::new(reader.alloc());
@@ -48,7 +48,7 @@ pub(crate) fn arguments(reader: &mut Reader<'_>) -> Result<Few<Arg>, Fault>
 }
 
 /// Reads the arguments of a phi behind the first.
-fn more_phi_arguments(reader: &mut Reader<'_>, args: &mut Few<PhiArg>) -> Result<(), Fault>
+fn more_phi_arguments(reader: &mut Reader<'_>, args: &mut Few<PhiArg>) -> Result<(), Unread>
     ensures { MatchResult result
         (λ _. appended args.old (separated (suc (length reader.old.rest)) (sees is_comma) comma (sees is_label) phi_argument reader.old) ≡ Some (args.new, reader.new))
         (λ e. e ≡ Syntax → separated (suc (length reader.old.rest)) (sees is_comma) comma (sees is_label) phi_argument reader.old ≡ None) }
@@ -63,12 +63,12 @@ fn more_phi_arguments(reader: &mut Reader<'_>, args: &mut Few<PhiArg>) -> Result
         }
         push_phi_argument(reader, args)?;
     }
-    Err(Fault::Syntax)
+    Err(Unread::Syntax)
 }
 
 /// Reads the arguments of a phi.
 #[tactic(auto, using(crate::proofs::Rounds::commas_pushed))]
-pub(crate) fn phi_arguments(reader: &mut Reader<'_>) -> Result<Few<PhiArg>, Fault>
+pub(crate) fn phi_arguments(reader: &mut Reader<'_>) -> Result<Few<PhiArg>, Unread>
     ensures { Gives (commas (sees is_comma) comma (sees is_label) phi_argument) reader.old reader.new result }
 {
     let mut args = Few::new(reader.alloc());

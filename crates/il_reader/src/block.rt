@@ -1,13 +1,13 @@
 //! Reading blocks.
 ghost use Rattle.std.specs.Prelude.{◌≡◌, None, Some, suc, length, false};
 ghost use Rattle.std.specs.Result.{MatchResult};
-ghost use Rattle.il_reader.specs.declared.fault.Fault.TheVariants.{Syntax};
+ghost use Rattle.il_reader.specs.declared.fault.Unread.TheVariants.{Syntax};
 ghost use Rattle.il_reader.specs.Gives.{Gives, with_lines, with_line};
 ghost use Rattle.il_reader.specs.Steps.{maybe, sees, label};
 ghost use Rattle.il_reader.specs.Reading.{on_line, lined, jump, is_word};
 ghost use Rattle.il_reader.specs.Blocks.{statement, lines, body, block};
 
-use crate::fault::Fault;
+use crate::fault::Unread;
 use crate::jump::lined_jump;
 use crate::kinds::is_word;
 use crate::lines::{sees_statement, statement};
@@ -20,7 +20,7 @@ use il_ast::label::Label;
 use il_ast::list::Seq;
 
 /// Reads a line of a block before its jump.
-fn statement_line(reader: &mut Reader<'_>) -> Result<Statement, Fault>
+fn statement_line(reader: &mut Reader<'_>) -> Result<Statement, Unread>
     ensures { Gives (on_line statement) reader.old reader.new result }
 {
     let statement = statement(reader)?;
@@ -29,7 +29,7 @@ fn statement_line(reader: &mut Reader<'_>) -> Result<Statement, Fault>
 }
 
 /// Reads a label on its line.
-fn label_line(reader: &mut Reader<'_>) -> Result<Label, Fault>
+fn label_line(reader: &mut Reader<'_>) -> Result<Label, Unread>
     ensures { Gives (on_line label) reader.old reader.new result }
 {
     let label = reader.label()?;
@@ -38,7 +38,7 @@ fn label_line(reader: &mut Reader<'_>) -> Result<Label, Fault>
 }
 
 /// Reads a jump on its line.
-fn jump_line(reader: &mut Reader<'_>) -> Result<Lined<Jump>, Fault>
+fn jump_line(reader: &mut Reader<'_>) -> Result<Lined<Jump>, Unread>
     ensures { Gives (on_line (lined jump)) reader.old reader.new result }
 {
     let jump = lined_jump(reader)?;
@@ -47,7 +47,7 @@ fn jump_line(reader: &mut Reader<'_>) -> Result<Lined<Jump>, Fault>
 }
 
 /// Reads a jump on its line, if one comes.
-fn optional_jump(reader: &mut Reader<'_>) -> Result<Option<Lined<Jump>>, Fault>
+fn optional_jump(reader: &mut Reader<'_>) -> Result<Option<Lined<Jump>>, Unread>
     ensures { Gives (maybe (sees is_word) (on_line (lined jump))) reader.old reader.new result }
 {
     if is_word(reader.ahead()) {
@@ -65,7 +65,7 @@ fn push_line(
     begun: bool,
     phis: &mut Seq<Phi>,
     insts: &mut Seq<Lined<Inst>>,
-) -> Result<bool, Fault>
+) -> Result<bool, Unread>
     ensures { MatchResult result
         (λ begun_now. with_line begun phis.old insts.old (on_line statement reader.old) ≡ Some (((phis.new, insts.new), begun_now), reader.new))
         (λ e. e ≡ Syntax → with_line begun phis.old insts.old (on_line statement reader.old) ≡ None) }
@@ -73,7 +73,7 @@ fn push_line(
     match statement_line(reader)? {
         Statement::Phi(phi) => {
             if begun {
-                return Err(Fault::Syntax);
+                return Err(Unread::Syntax);
             }
             phis.push(phi)?;
             Ok(false)
@@ -90,7 +90,7 @@ fn push_lines(
     reader: &mut Reader<'_>,
     phis: &mut Seq<Phi>,
     insts: &mut Seq<Lined<Inst>>,
-) -> Result<(), Fault>
+) -> Result<(), Unread>
     ensures { MatchResult result
         (λ _. with_lines phis.old insts.old (lines (suc (length reader.old.rest)) false reader.old) ≡ Some ((phis.new, insts.new), reader.new))
         (λ e. e ≡ Syntax → lines (suc (length reader.old.rest)) false reader.old ≡ None) }
@@ -102,12 +102,12 @@ fn push_lines(
         }
         begun = push_line(reader, begun, phis, insts)?;
     }
-    Err(Fault::Syntax)
+    Err(Unread::Syntax)
 }
 
 /// Reads the lines of a block before its jump.
 #[tactic(auto, using(crate::proofs::BlockLines::lines_before_none))]
-fn body(reader: &mut Reader<'_>) -> Result<(Seq<Phi>, Seq<Lined<Inst>>), Fault>
+fn body(reader: &mut Reader<'_>) -> Result<(Seq<Phi>, Seq<Lined<Inst>>), Unread>
     ensures { Gives body reader.old reader.new result }
 {
     let mut phis = Seq::new(reader.alloc());
@@ -117,7 +117,7 @@ fn body(reader: &mut Reader<'_>) -> Result<(Seq<Phi>, Seq<Lined<Inst>>), Fault>
 }
 
 /// Reads a block, which may lack a jump.
-pub(crate) fn block(reader: &mut Reader<'_>) -> Result<Block, Fault>
+pub(crate) fn block(reader: &mut Reader<'_>) -> Result<Block, Unread>
     ensures { Gives block reader.old reader.new result }
 {
     let line = reader.line();

@@ -1,13 +1,13 @@
 //! Reading data definitions. Between their tokens the ends of lines are spacing.
 ghost use Rattle.std.specs.Prelude.{◌≡◌, None, Some, suc, length, unwrap_or};
 ghost use Rattle.std.specs.Result.{MatchResult};
-ghost use Rattle.il_reader.specs.declared.fault.Fault.TheVariants.{Syntax};
+ghost use Rattle.il_reader.specs.declared.fault.Unread.TheVariants.{Syntax};
 ghost use Rattle.il_reader.specs.Gives.{Gives, appended, pushed, some};
 ghost use Rattle.il_reader.specs.Steps.{sees, separated, repeated, maybe, piece, keyword, word, natural, integer, string, symbol, commas};
 ghost use Rattle.il_reader.specs.Reading.{size_of, comma, is_comma, is_word};
 ghost use Rattle.il_reader.specs.Definitions.{spaced, is_item, is_plus, offset, address, item, items, zeros, field, fields, aligned, alignment, object_head, object};
 
-use crate::fault::Fault;
+use crate::fault::Unread;
 use crate::kinds::{is_comma, is_item, is_number, is_plus, is_quoted, is_word};
 use crate::reader::Reader;
 use crate::spacing::newlines;
@@ -18,21 +18,21 @@ use il_ast::operation::Size;
 use il_ast::symbol::Symbol as Global;
 use il_lex::kind::Symbol;
 
-fn spaced_piece(reader: &mut Reader<'_>, mark: Symbol) -> Result<(), Fault>
+fn spaced_piece(reader: &mut Reader<'_>, mark: Symbol) -> Result<(), Unread>
     ensures { Gives (spaced (piece mark)) reader.old reader.new result }
 {
     reader.piece(mark)?;
     newlines(reader)
 }
 
-fn spaced_word(reader: &mut Reader<'_>, text: &[u8]) -> Result<(), Fault>
+fn spaced_word(reader: &mut Reader<'_>, text: &[u8]) -> Result<(), Unread>
     ensures { Gives (spaced (word text.now)) reader.old reader.new result }
 {
     reader.keyword(text)?;
     newlines(reader)
 }
 
-fn spaced_natural(reader: &mut Reader<'_>) -> Result<u64, Fault>
+fn spaced_natural(reader: &mut Reader<'_>) -> Result<u64, Unread>
     ensures { Gives (spaced natural) reader.old reader.new result }
 {
     let number = reader.natural()?;
@@ -40,7 +40,7 @@ fn spaced_natural(reader: &mut Reader<'_>) -> Result<u64, Fault>
     Ok(number)
 }
 
-fn spaced_integer(reader: &mut Reader<'_>) -> Result<u64, Fault>
+fn spaced_integer(reader: &mut Reader<'_>) -> Result<u64, Unread>
     ensures { Gives (spaced integer) reader.old reader.new result }
 {
     let number = reader.integer()?;
@@ -48,7 +48,7 @@ fn spaced_integer(reader: &mut Reader<'_>) -> Result<u64, Fault>
     Ok(number)
 }
 
-fn spaced_string(reader: &mut Reader<'_>) -> Result<Seq<u8>, Fault>
+fn spaced_string(reader: &mut Reader<'_>) -> Result<Seq<u8>, Unread>
     ensures { Gives (spaced string) reader.old reader.new result }
 {
     let bytes = reader.string()?;
@@ -56,7 +56,7 @@ fn spaced_string(reader: &mut Reader<'_>) -> Result<Seq<u8>, Fault>
     Ok(bytes)
 }
 
-fn spaced_symbol(reader: &mut Reader<'_>) -> Result<Global, Fault>
+fn spaced_symbol(reader: &mut Reader<'_>) -> Result<Global, Unread>
     ensures { Gives (spaced symbol) reader.old reader.new result }
 {
     let symbol = reader.symbol()?;
@@ -64,7 +64,7 @@ fn spaced_symbol(reader: &mut Reader<'_>) -> Result<Global, Fault>
     Ok(symbol)
 }
 
-fn spaced_size(reader: &mut Reader<'_>) -> Result<Size, Fault>
+fn spaced_size(reader: &mut Reader<'_>) -> Result<Size, Unread>
     ensures { Gives (spaced (keyword size_of)) reader.old reader.new result }
 {
     let text = reader.word()?;
@@ -73,19 +73,19 @@ fn spaced_size(reader: &mut Reader<'_>) -> Result<Size, Fault>
             newlines(reader)?;
             Ok(size)
         }
-        None => Err(Fault::Syntax),
+        None => Err(Unread::Syntax),
     }
 }
 
 /// Reads a plus sign and what is added to an address.
-fn offset(reader: &mut Reader<'_>) -> Result<u64, Fault>
+fn offset(reader: &mut Reader<'_>) -> Result<u64, Unread>
     ensures { Gives offset reader.old reader.new result }
 {
     spaced_piece(reader, Symbol::Plus)?;
     spaced_natural(reader)
 }
 
-fn address(reader: &mut Reader<'_>) -> Result<Item, Fault>
+fn address(reader: &mut Reader<'_>) -> Result<Item, Unread>
     ensures { Gives address reader.old reader.new result }
 {
     let symbol = spaced_symbol(reader)?;
@@ -97,7 +97,7 @@ fn address(reader: &mut Reader<'_>) -> Result<Item, Fault>
     }
 }
 
-fn item(reader: &mut Reader<'_>) -> Result<Item, Fault>
+fn item(reader: &mut Reader<'_>) -> Result<Item, Unread>
     ensures { Gives item reader.old reader.new result }
 {
     let ahead = reader.ahead();
@@ -113,7 +113,7 @@ fn item(reader: &mut Reader<'_>) -> Result<Item, Fault>
 }
 
 /// Reads an item behind others.
-fn push_item(reader: &mut Reader<'_>, items: &mut Seq<Item>) -> Result<(), Fault>
+fn push_item(reader: &mut Reader<'_>, items: &mut Seq<Item>) -> Result<(), Unread>
     ensures { MatchResult result
         (λ _. pushed items.old (item reader.old) ≡ Some (items.new, reader.new))
         (λ e. e ≡ Syntax → item reader.old ≡ None) }
@@ -124,7 +124,7 @@ fn push_item(reader: &mut Reader<'_>, items: &mut Seq<Item>) -> Result<(), Fault
 }
 
 /// Reads the items behind the first.
-fn more_items(reader: &mut Reader<'_>, items: &mut Seq<Item>) -> Result<(), Fault>
+fn more_items(reader: &mut Reader<'_>, items: &mut Seq<Item>) -> Result<(), Unread>
     ensures { MatchResult result
         (λ _. appended items.old (repeated (suc (length reader.old.rest)) (sees is_item) item reader.old) ≡ Some (items.new, reader.new))
         (λ e. e ≡ Syntax → repeated (suc (length reader.old.rest)) (sees is_item) item reader.old ≡ None) }
@@ -135,12 +135,12 @@ fn more_items(reader: &mut Reader<'_>, items: &mut Seq<Item>) -> Result<(), Faul
         }
         push_item(reader, items)?;
     }
-    Err(Fault::Syntax)
+    Err(Unread::Syntax)
 }
 
 /// Reads a list of items.
 #[tactic(auto, using(crate::proofs::Rounds::some_pushed))]
-fn item_list(reader: &mut Reader<'_>) -> Result<Seq<Item>, Fault>
+fn item_list(reader: &mut Reader<'_>) -> Result<Seq<Item>, Unread>
     ensures { Gives (some (sees is_item) item) reader.old reader.new result }
 {
     let mut items = Seq::new(reader.alloc());
@@ -150,7 +150,7 @@ fn item_list(reader: &mut Reader<'_>) -> Result<Seq<Item>, Fault>
 }
 
 /// Reads a size and its items.
-fn items(reader: &mut Reader<'_>) -> Result<Field, Fault>
+fn items(reader: &mut Reader<'_>) -> Result<Field, Unread>
     ensures { Gives items reader.old reader.new result }
 {
     let size = spaced_size(reader)?;
@@ -158,7 +158,7 @@ fn items(reader: &mut Reader<'_>) -> Result<Field, Fault>
     Ok(Field::Items { size, items })
 }
 
-fn zeros(reader: &mut Reader<'_>) -> Result<Field, Fault>
+fn zeros(reader: &mut Reader<'_>) -> Result<Field, Unread>
     ensures { Gives zeros reader.old reader.new result }
 {
     spaced_word(reader, b"z")?;
@@ -166,7 +166,7 @@ fn zeros(reader: &mut Reader<'_>) -> Result<Field, Fault>
     Ok(Field::Zeros(count))
 }
 
-fn field(reader: &mut Reader<'_>) -> Result<Field, Fault>
+fn field(reader: &mut Reader<'_>) -> Result<Field, Unread>
     ensures { Gives field reader.old reader.new result }
 {
     if reader.sees_text(b"z") {
@@ -177,7 +177,7 @@ fn field(reader: &mut Reader<'_>) -> Result<Field, Fault>
 }
 
 /// Reads a field behind others.
-fn push_field(reader: &mut Reader<'_>, fields: &mut Seq<Field>) -> Result<(), Fault>
+fn push_field(reader: &mut Reader<'_>, fields: &mut Seq<Field>) -> Result<(), Unread>
     ensures { MatchResult result
         (λ _. pushed fields.old (field reader.old) ≡ Some (fields.new, reader.new))
         (λ e. e ≡ Syntax → field reader.old ≡ None) }
@@ -188,7 +188,7 @@ fn push_field(reader: &mut Reader<'_>, fields: &mut Seq<Field>) -> Result<(), Fa
 }
 
 /// Reads the fields behind the first.
-fn more_fields(reader: &mut Reader<'_>, fields: &mut Seq<Field>) -> Result<(), Fault>
+fn more_fields(reader: &mut Reader<'_>, fields: &mut Seq<Field>) -> Result<(), Unread>
     ensures { MatchResult result
         (λ _. appended fields.old (separated (suc (length reader.old.rest)) (sees is_comma) (spaced comma) (sees is_word) field reader.old) ≡ Some (fields.new, reader.new))
         (λ e. e ≡ Syntax → separated (suc (length reader.old.rest)) (sees is_comma) (spaced comma) (sees is_word) field reader.old ≡ None) }
@@ -203,12 +203,12 @@ fn more_fields(reader: &mut Reader<'_>, fields: &mut Seq<Field>) -> Result<(), F
         }
         push_field(reader, fields)?;
     }
-    Err(Fault::Syntax)
+    Err(Unread::Syntax)
 }
 
 /// Reads a list of fields.
 #[tactic(auto, using(crate::proofs::Rounds::commas_pushed))]
-fn field_list(reader: &mut Reader<'_>) -> Result<Seq<Field>, Fault>
+fn field_list(reader: &mut Reader<'_>) -> Result<Seq<Field>, Unread>
     ensures { Gives (commas (sees is_comma) (spaced comma) (sees is_word) field) reader.old reader.new result }
 {
     let mut fields = Seq::new(reader.alloc());
@@ -218,7 +218,7 @@ fn field_list(reader: &mut Reader<'_>) -> Result<Seq<Field>, Fault>
 }
 
 /// Reads the fields in braces.
-fn fields(reader: &mut Reader<'_>) -> Result<Seq<Field>, Fault>
+fn fields(reader: &mut Reader<'_>) -> Result<Seq<Field>, Unread>
     ensures { Gives fields reader.old reader.new result }
 {
     spaced_piece(reader, Symbol::LeftBrace)?;
@@ -227,14 +227,14 @@ fn fields(reader: &mut Reader<'_>) -> Result<Seq<Field>, Fault>
     Ok(fields)
 }
 
-fn aligned(reader: &mut Reader<'_>) -> Result<u64, Fault>
+fn aligned(reader: &mut Reader<'_>) -> Result<u64, Unread>
     ensures { Gives aligned reader.old reader.new result }
 {
     spaced_word(reader, b"align")?;
     spaced_natural(reader)
 }
 
-fn alignment(reader: &mut Reader<'_>) -> Result<Option<u64>, Fault>
+fn alignment(reader: &mut Reader<'_>) -> Result<Option<u64>, Unread>
     ensures { Gives alignment reader.old reader.new result }
 {
     if is_word(reader.ahead()) {
@@ -246,7 +246,7 @@ fn alignment(reader: &mut Reader<'_>) -> Result<Option<u64>, Fault>
 }
 
 /// Reads what stands before the alignment: the line of the name, and the name.
-fn object_head(reader: &mut Reader<'_>) -> Result<(usize, Global), Fault>
+fn object_head(reader: &mut Reader<'_>) -> Result<(usize, Global), Unread>
     ensures { Gives object_head reader.old reader.new result }
 {
     spaced_word(reader, b"data")?;
@@ -257,7 +257,7 @@ fn object_head(reader: &mut Reader<'_>) -> Result<(usize, Global), Fault>
 }
 
 /// Reads a data definition behind the word that exports it.
-pub(crate) fn object(reader: &mut Reader<'_>, exported: bool) -> Result<DataDef, Fault>
+pub(crate) fn object(reader: &mut Reader<'_>, exported: bool) -> Result<DataDef, Unread>
     ensures { Gives (object exported) reader.old reader.new result }
 {
     let (line, name) = object_head(reader)?;

@@ -1,7 +1,7 @@
 //! Reading functions.
 ghost use Rattle.std.specs.Prelude.{◌≡◌, None, Some, suc, length};
 ghost use Rattle.std.specs.Result.{MatchResult};
-ghost use Rattle.il_reader.specs.declared.fault.Fault.TheVariants.{Syntax};
+ghost use Rattle.il_reader.specs.declared.fault.Unread.TheVariants.{Syntax};
 ghost use Rattle.il_reader.specs.Gives.{Gives, appended, pushed, fell, next_fallen, fallen, falling_blocks};
 ghost use Rattle.il_reader.specs.Reads.{jump_to};
 ghost use Rattle.il_reader.specs.Steps.{sees, separated, repeated, maybe, piece};
@@ -10,7 +10,7 @@ ghost use Rattle.il_reader.specs.Blocks.{block};
 ghost use Rattle.il_reader.specs.Definitions.{parameter, parameters, function_head, function_params, function_body, function, function_parts};
 
 use crate::block::block;
-use crate::fault::Fault;
+use crate::fault::Unread;
 use crate::kinds::{is_comma, is_label, is_word};
 use crate::operand::class;
 use crate::reader::Reader;
@@ -24,7 +24,7 @@ use il_ast::symbol::Symbol as Global;
 use il_lex::kind::Symbol;
 
 /// Reads a class and a temporary behind others.
-fn push_parameter(reader: &mut Reader<'_>, params: &mut Seq<Param>) -> Result<(), Fault>
+fn push_parameter(reader: &mut Reader<'_>, params: &mut Seq<Param>) -> Result<(), Unread>
     ensures { MatchResult result
         (λ _. pushed params.old (parameter reader.old) ≡ Some (params.new, reader.new))
         (λ e. e ≡ Syntax → parameter reader.old ≡ None) }
@@ -37,7 +37,7 @@ fn push_parameter(reader: &mut Reader<'_>, params: &mut Seq<Param>) -> Result<()
 }
 
 /// Reads the parameters behind the first.
-fn more_parameters(reader: &mut Reader<'_>, params: &mut Seq<Param>) -> Result<(), Fault>
+fn more_parameters(reader: &mut Reader<'_>, params: &mut Seq<Param>) -> Result<(), Unread>
     ensures { MatchResult result
         (λ _. appended params.old (separated (suc (length reader.old.rest)) (sees is_comma) comma (sees is_word) parameter reader.old) ≡ Some (params.new, reader.new))
         (λ e. e ≡ Syntax → separated (suc (length reader.old.rest)) (sees is_comma) comma (sees is_word) parameter reader.old ≡ None) }
@@ -52,12 +52,12 @@ fn more_parameters(reader: &mut Reader<'_>, params: &mut Seq<Param>) -> Result<(
         }
         push_parameter(reader, params)?;
     }
-    Err(Fault::Syntax)
+    Err(Unread::Syntax)
 }
 
 /// Reads the parameters, which may be none.
 #[tactic(auto, using(crate::proofs::Rounds::commas_pushed))]
-fn parameters(reader: &mut Reader<'_>) -> Result<Seq<Param>, Fault>
+fn parameters(reader: &mut Reader<'_>) -> Result<Seq<Param>, Unread>
     ensures { Gives parameters reader.old reader.new result }
 {
     let mut params = Seq::new(reader.alloc());
@@ -69,7 +69,7 @@ fn parameters(reader: &mut Reader<'_>) -> Result<Seq<Param>, Fault>
 }
 
 /// Reads the parameters in parentheses, and the ends of lines behind them.
-fn function_params(reader: &mut Reader<'_>) -> Result<Seq<Param>, Fault>
+fn function_params(reader: &mut Reader<'_>) -> Result<Seq<Param>, Unread>
     ensures { Gives function_params reader.old reader.new result }
 {
     reader.piece(Symbol::LeftParen)?;
@@ -88,7 +88,7 @@ struct Head {
     name: Global,
 }
 
-fn optional_class(reader: &mut Reader<'_>) -> Result<Option<Class>, Fault>
+fn optional_class(reader: &mut Reader<'_>) -> Result<Option<Class>, Unread>
     ensures { Gives (maybe (sees is_word) class) reader.old reader.new result }
 {
     if is_word(reader.ahead()) {
@@ -100,7 +100,7 @@ fn optional_class(reader: &mut Reader<'_>) -> Result<Option<Class>, Fault>
 }
 
 /// Reads what stands before a function's parameters. The function has no names yet.
-fn function_head(reader: &mut Reader<'_>) -> Result<Head, Fault>
+fn function_head(reader: &mut Reader<'_>) -> Result<Head, Unread>
     ensures { MatchResult result
         (λ head. function_head reader.old ≡ Some ((head.result, (head.line, head.name)), reader.new))
         (λ e. e ≡ Syntax → function_head reader.old ≡ None) }
@@ -147,7 +147,11 @@ fn fell(block: Block, next: &Block) -> Block
 }
 
 /// Reads the next block, and puts the one before it behind the others.
-fn next_block(reader: &mut Reader<'_>, blocks: &mut Seq<Block>, last: Block) -> Result<Block, Fault>
+fn next_block(
+    reader: &mut Reader<'_>,
+    blocks: &mut Seq<Block>,
+    last: Block,
+) -> Result<Block, Unread>
     ensures { MatchResult result
         (λ next. next_fallen blocks.old last (block reader.old) ≡ Some ((blocks.new, next), reader.new))
         (λ e. e ≡ Syntax → block reader.old ≡ None) }
@@ -158,7 +162,7 @@ fn next_block(reader: &mut Reader<'_>, blocks: &mut Seq<Block>, last: Block) -> 
 }
 
 /// Reads the blocks behind the first, and puts them all behind the others.
-fn more_blocks(reader: &mut Reader<'_>, blocks: &mut Seq<Block>, first: Block) -> Result<(), Fault>
+fn more_blocks(reader: &mut Reader<'_>, blocks: &mut Seq<Block>, first: Block) -> Result<(), Unread>
     ensures { MatchResult result
         (λ _. fallen blocks.old first (repeated (suc (length reader.old.rest)) (sees is_label) block reader.old) ≡ Some (blocks.new, reader.new))
         (λ e. e ≡ Syntax → repeated (suc (length reader.old.rest)) (sees is_label) block reader.old ≡ None) }
@@ -171,11 +175,11 @@ fn more_blocks(reader: &mut Reader<'_>, blocks: &mut Seq<Block>, first: Block) -
         }
         last = next_block(reader, blocks, last)?;
     }
-    Err(Fault::Syntax)
+    Err(Unread::Syntax)
 }
 
 /// Reads blocks, of which one without a jump goes to the next.
-fn falling_blocks(reader: &mut Reader<'_>) -> Result<Seq<Block>, Fault>
+fn falling_blocks(reader: &mut Reader<'_>) -> Result<Seq<Block>, Unread>
     ensures { Gives falling_blocks reader.old reader.new result }
 {
     let first = block(reader)?;
@@ -185,7 +189,7 @@ fn falling_blocks(reader: &mut Reader<'_>) -> Result<Seq<Block>, Fault>
 }
 
 /// Reads an opening brace on its line.
-fn brace_line(reader: &mut Reader<'_>) -> Result<(), Fault>
+fn brace_line(reader: &mut Reader<'_>) -> Result<(), Unread>
     ensures { Gives (on_line (piece Symbol.LeftBrace)) reader.old reader.new result }
 {
     reader.piece(Symbol::LeftBrace)?;
@@ -193,7 +197,7 @@ fn brace_line(reader: &mut Reader<'_>) -> Result<(), Fault>
 }
 
 /// Reads the blocks in braces.
-fn function_body(reader: &mut Reader<'_>) -> Result<Seq<Block>, Fault>
+fn function_body(reader: &mut Reader<'_>) -> Result<Seq<Block>, Unread>
     ensures { Gives function_body reader.old reader.new result }
 {
     brace_line(reader)?;
@@ -203,7 +207,7 @@ fn function_body(reader: &mut Reader<'_>) -> Result<Seq<Block>, Fault>
 }
 
 /// Reads a function behind the word that exports it.
-pub(crate) fn function(reader: &mut Reader<'_>, exported: bool) -> Result<Func, Fault>
+pub(crate) fn function(reader: &mut Reader<'_>, exported: bool) -> Result<Func, Unread>
     ensures { MatchResult result
         (λ read. function exported reader.old ≡ Some (function_parts read, reader.new))
         (λ e. e ≡ Syntax → function exported reader.old ≡ None) }

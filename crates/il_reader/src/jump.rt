@@ -3,14 +3,14 @@ ghost use Rattle.std.specs.Prelude.{◌≡◌};
 ghost use Rattle.il_reader.specs.Gives.{Gives};
 ghost use Rattle.il_reader.specs.Reading.{goto, branch, returning, jump, lined};
 
-use crate::fault::Fault;
+use crate::fault::Unread;
 use crate::kinds::is_value;
 use crate::operand::value;
 use crate::reader::Reader;
 use il_ast::instruction::{Jump, Lined};
 use il_lex::kind::Symbol;
 
-fn goto(reader: &mut Reader<'_>) -> Result<Jump, Fault>
+fn goto(reader: &mut Reader<'_>) -> Result<Jump, Unread>
     ensures { Gives goto reader.old reader.new result }
 {
     reader.keyword(b"jmp")?;
@@ -18,7 +18,7 @@ fn goto(reader: &mut Reader<'_>) -> Result<Jump, Fault>
     Ok(Jump::Goto(label))
 }
 
-fn branch(reader: &mut Reader<'_>) -> Result<Jump, Fault>
+fn branch(reader: &mut Reader<'_>) -> Result<Jump, Unread>
     ensures { Gives branch reader.old reader.new result }
 {
     reader.keyword(b"jnz")?;
@@ -34,7 +34,7 @@ fn branch(reader: &mut Reader<'_>) -> Result<Jump, Fault>
     })
 }
 
-fn returning(reader: &mut Reader<'_>) -> Result<Jump, Fault>
+fn returning(reader: &mut Reader<'_>) -> Result<Jump, Unread>
     ensures { Gives returning reader.old reader.new result }
 {
     reader.keyword(b"ret")?;
@@ -46,7 +46,7 @@ fn returning(reader: &mut Reader<'_>) -> Result<Jump, Fault>
     }
 }
 
-fn jump(reader: &mut Reader<'_>) -> Result<Jump, Fault>
+fn jump(reader: &mut Reader<'_>) -> Result<Jump, Unread>
     ensures { Gives jump reader.old reader.new result }
 {
     if reader.sees_text(b"jmp") {
@@ -63,7 +63,7 @@ fn jump(reader: &mut Reader<'_>) -> Result<Jump, Fault>
 }
 
 /// Reads a jump with its line.
-pub(crate) fn lined_jump(reader: &mut Reader<'_>) -> Result<Lined<Jump>, Fault>
+pub(crate) fn lined_jump(reader: &mut Reader<'_>) -> Result<Lined<Jump>, Unread>
     ensures { Gives (lined jump) reader.old reader.new result }
 {
     let line = reader.line();

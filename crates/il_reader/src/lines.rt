@@ -6,7 +6,7 @@ ghost use Rattle.il_reader.specs.Reading.{store_of, storing, blit, sees_word};
 ghost use Rattle.il_reader.specs.Blocks.{operation_of, called, unary_to, binary_to, alloc_to, assigned, assignment, effect, statement, sees_statement};
 
 use crate::arguments::{arguments, phi_arguments};
-use crate::fault::Fault;
+use crate::fault::Unread;
 use crate::kinds::is_temp;
 use crate::operand::{destination, value};
 use crate::reader::Reader;
@@ -19,18 +19,18 @@ use il_ast::operation::{Alignment, BinaryOp, Size, UnaryOp};
 use il_lex::kind::Symbol;
 
 /// Reads the word behind a destination.
-fn operation(reader: &mut Reader<'_>) -> Result<Operation, Fault>
+fn operation(reader: &mut Reader<'_>) -> Result<Operation, Unread>
     ensures { Gives (keyword operation_of) reader.old reader.new result }
 {
     let text = reader.word()?;
     match operation_of(text) {
         Some(operation) => Ok(operation),
-        None => Err(Fault::Syntax),
+        None => Err(Unread::Syntax),
     }
 }
 
 /// Reads a call behind its word.
-fn called(reader: &mut Reader<'_>, to: Option<Dest>) -> Result<Inst, Fault>
+fn called(reader: &mut Reader<'_>, to: Option<Dest>) -> Result<Inst, Unread>
     ensures { Gives (called to) reader.old reader.new result }
 {
     let callee = value(reader)?;
@@ -40,14 +40,14 @@ fn called(reader: &mut Reader<'_>, to: Option<Dest>) -> Result<Inst, Fault>
     Ok(Inst::Call { to, callee, args })
 }
 
-fn unary_to(reader: &mut Reader<'_>, to: Dest, op: UnaryOp) -> Result<Inst, Fault>
+fn unary_to(reader: &mut Reader<'_>, to: Dest, op: UnaryOp) -> Result<Inst, Unread>
     ensures { Gives (unary_to to op) reader.old reader.new result }
 {
     let value = value(reader)?;
     Ok(Inst::Unary { to, op, value })
 }
 
-fn binary_to(reader: &mut Reader<'_>, to: Dest, op: BinaryOp) -> Result<Inst, Fault>
+fn binary_to(reader: &mut Reader<'_>, to: Dest, op: BinaryOp) -> Result<Inst, Unread>
     ensures { Gives (binary_to to op) reader.old reader.new result }
 {
     let left = value(reader)?;
@@ -61,7 +61,7 @@ fn binary_to(reader: &mut Reader<'_>, to: Dest, op: BinaryOp) -> Result<Inst, Fa
     })
 }
 
-fn alloc_to(reader: &mut Reader<'_>, to: Dest, alignment: Alignment) -> Result<Inst, Fault>
+fn alloc_to(reader: &mut Reader<'_>, to: Dest, alignment: Alignment) -> Result<Inst, Unread>
     ensures { Gives (alloc_to to alignment) reader.old reader.new result }
 {
     let size = reader.natural()?;
@@ -78,7 +78,7 @@ fn assigned(
     line: usize,
     to: Dest,
     operation: Operation,
-) -> Result<Statement, Fault>
+) -> Result<Statement, Unread>
     ensures { Gives (assigned line to operation) reader.old reader.new result }
 {
     let item = match operation {
@@ -95,7 +95,7 @@ fn assigned(
 }
 
 /// Reads a line that begins with a destination.
-fn assignment(reader: &mut Reader<'_>, line: usize) -> Result<Statement, Fault>
+fn assignment(reader: &mut Reader<'_>, line: usize) -> Result<Statement, Unread>
     ensures { Gives (assignment line) reader.old reader.new result }
 {
     let to = destination(reader)?;
@@ -103,17 +103,17 @@ fn assignment(reader: &mut Reader<'_>, line: usize) -> Result<Statement, Fault>
     assigned(reader, line, to, operation)
 }
 
-fn store_size(reader: &mut Reader<'_>) -> Result<Size, Fault>
+fn store_size(reader: &mut Reader<'_>) -> Result<Size, Unread>
     ensures { Gives (keyword store_of) reader.old reader.new result }
 {
     let text = reader.word()?;
     match store_of(text) {
         Some(size) => Ok(size),
-        None => Err(Fault::Syntax),
+        None => Err(Unread::Syntax),
     }
 }
 
-fn storing(reader: &mut Reader<'_>) -> Result<Inst, Fault>
+fn storing(reader: &mut Reader<'_>) -> Result<Inst, Unread>
     ensures { Gives storing reader.old reader.new result }
 {
     let size = store_size(reader)?;
@@ -127,7 +127,7 @@ fn storing(reader: &mut Reader<'_>) -> Result<Inst, Fault>
     })
 }
 
-fn blit(reader: &mut Reader<'_>) -> Result<Inst, Fault>
+fn blit(reader: &mut Reader<'_>) -> Result<Inst, Unread>
     ensures { Gives blit reader.old reader.new result }
 {
     reader.keyword(b"blit")?;
@@ -149,7 +149,7 @@ fn sees_store(reader: &Reader<'_>) -> bool
 }
 
 /// Reads an instruction without a destination.
-fn effect(reader: &mut Reader<'_>) -> Result<Inst, Fault>
+fn effect(reader: &mut Reader<'_>) -> Result<Inst, Unread>
     ensures { Gives effect reader.old reader.new result }
 {
     if sees_store(reader) {
@@ -163,7 +163,7 @@ fn effect(reader: &mut Reader<'_>) -> Result<Inst, Fault>
 }
 
 /// Reads a line, but not its end.
-pub(crate) fn statement(reader: &mut Reader<'_>) -> Result<Statement, Fault>
+pub(crate) fn statement(reader: &mut Reader<'_>) -> Result<Statement, Unread>
     ensures { Gives statement reader.old reader.new result }
 {
     let line = reader.line();

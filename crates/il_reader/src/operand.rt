@@ -1,11 +1,11 @@
 //! Reading operands and destinations.
 ghost use Rattle.std.specs.Prelude.{◌≡◌, None, Some};
 ghost use Rattle.std.specs.Result.{MatchResult};
-ghost use Rattle.il_reader.specs.declared.fault.Fault.TheVariants.{Syntax};
+ghost use Rattle.il_reader.specs.declared.fault.Unread.TheVariants.{Syntax};
 ghost use Rattle.il_reader.specs.Gives.{Gives, pushed};
 ghost use Rattle.il_reader.specs.Reading.{class, value, destination, argument, phi_argument};
 
-use crate::fault::Fault;
+use crate::fault::Unread;
 use crate::kinds::{is_number, is_temp};
 use crate::reader::Reader;
 use crate::words::class_of;
@@ -16,18 +16,18 @@ use il_ast::operation::Class;
 use il_lex::kind::Symbol;
 
 /// Reads a class.
-pub(crate) fn class(reader: &mut Reader<'_>) -> Result<Class, Fault>
+pub(crate) fn class(reader: &mut Reader<'_>) -> Result<Class, Unread>
     ensures { Gives class reader.old reader.new result }
 {
     let text = reader.word()?;
     match class_of(text) {
         Some(class) => Ok(class),
-        None => Err(Fault::Syntax),
+        None => Err(Unread::Syntax),
     }
 }
 
 /// Reads a temporary, `=` and a class.
-pub(crate) fn destination(reader: &mut Reader<'_>) -> Result<Dest, Fault>
+pub(crate) fn destination(reader: &mut Reader<'_>) -> Result<Dest, Unread>
     ensures { Gives destination reader.old reader.new result }
 {
     let temp = reader.temp()?;
@@ -37,7 +37,7 @@ pub(crate) fn destination(reader: &mut Reader<'_>) -> Result<Dest, Fault>
 }
 
 /// Reads a number, a temporary or a global name.
-pub(crate) fn value(reader: &mut Reader<'_>) -> Result<Val, Fault>
+pub(crate) fn value(reader: &mut Reader<'_>) -> Result<Val, Unread>
     ensures { Gives value reader.old reader.new result }
 {
     let ahead = reader.ahead();
@@ -54,7 +54,7 @@ pub(crate) fn value(reader: &mut Reader<'_>) -> Result<Val, Fault>
 }
 
 /// Reads a class and a value behind others.
-pub(crate) fn push_argument(reader: &mut Reader<'_>, args: &mut Few<Arg>) -> Result<(), Fault>
+pub(crate) fn push_argument(reader: &mut Reader<'_>, args: &mut Few<Arg>) -> Result<(), Unread>
     ensures { MatchResult result
         (λ _. pushed args.old (argument reader.old) ≡ Some (args.new, reader.new))
         (λ e. e ≡ Syntax → argument reader.old ≡ None) }
@@ -69,7 +69,7 @@ pub(crate) fn push_argument(reader: &mut Reader<'_>, args: &mut Few<Arg>) -> Res
 pub(crate) fn push_phi_argument(
     reader: &mut Reader<'_>,
     args: &mut Few<PhiArg>,
-) -> Result<(), Fault>
+) -> Result<(), Unread>
     ensures { MatchResult result
         (λ _. pushed args.old (phi_argument reader.old) ≡ Some (args.new, reader.new))
         (λ e. e ≡ Syntax → phi_argument reader.old ≡ None) }

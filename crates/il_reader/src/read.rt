@@ -8,7 +8,7 @@ ghost use Rattle.il_reader.specs.Answers.{IsTree, NamesLine};
 ghost use Rattle.il_reader.specs.Definitions.{IsFound};
 
 use crate::error::ReadError;
-use crate::fault::Fault;
+use crate::fault::Unread;
 use crate::reader::Reader;
 use crate::text::whole_text;
 use il_ast::text::Text;
@@ -26,8 +26,8 @@ pub fn read(alloc: Global, text: &[u8]) -> Result<Text, ReadError>
     let mut left = 0;
     match found_in(alloc, text, &mut left) {
         Ok(tree) => Ok(tree),
-        Err(Fault::Memory) => Err(ReadError::Memory),
-        Err(Fault::Syntax) => {
+        Err(Unread::Memory) => Err(ReadError::Memory),
+        Err(Unread::Syntax) => {
             let at = text.len().saturating_sub(left);
             let line = line_at(text, at);
             Err(ReadError::Syntax { line })
@@ -36,7 +36,7 @@ pub fn read(alloc: Global, text: &[u8]) -> Result<Text, ReadError>
 }
 
 /// Reads a text, and sets `left` to how many bytes were left before the token at which the reading stopped.
-fn found_in(alloc: Global, text: &[u8], left: &mut usize) -> Result<Text, Fault>
+fn found_in(alloc: Global, text: &[u8], left: &mut usize) -> Result<Text, Unread>
     ensures { IsFound text.now result }
 {
     let mut reader = Reader::new(alloc, text);
@@ -46,7 +46,7 @@ fn found_in(alloc: Global, text: &[u8], left: &mut usize) -> Result<Text, Fault>
 }
 
 /// Reads a text from its start.
-fn tree(reader: &mut Reader<'_>, text: &[u8]) -> Result<Text, Fault>
+fn tree(reader: &mut Reader<'_>, text: &[u8]) -> Result<Text, Unread>
     requires { reader.old ≡ start text.now }
     ensures { IsFound text.now result }
 {

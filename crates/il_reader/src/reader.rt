@@ -2,9 +2,9 @@
 ghost use Rattle.std.specs.Prelude.{◌≡◌, Some, None};
 ghost use Rattle.std.specs.Result.{MatchResult};
 ghost use Rattle.il_lex.specs.Line.{line_ends};
-ghost use Rattle.il_reader.specs.declared.fault.Fault.TheVariants.{Syntax};
+ghost use Rattle.il_reader.specs.declared.fault.Unread.TheVariants.{Syntax};
 
-use crate::fault::Fault;
+use crate::fault::Unread;
 use crate::kinds::{
     integer_test, label_test, natural_test, newline_test, piece_test, string_test, symbol_test,
     temp_test, word_test,
@@ -142,7 +142,7 @@ impl<'a> Reader<'a> {
     }
 
     /// Reads the next token, whatever it is: its kind and text.
-    pub(crate) fn next(&mut self) -> Result<(Kind, &'a [u8]), Fault>
+    pub(crate) fn next(&mut self) -> Result<(Kind, &'a [u8]), Unread>
         ensures { MatchResult result (λ token. next self.old ≡ Some ((token.0, token.1.now), self.new)) (λ e. e ≡ Syntax → next self.old ≡ None) }
     {
         self.left_before = self.rest.len();
@@ -155,8 +155,8 @@ impl<'a> Reader<'a> {
                 self.line += line_ends(kind);
                 Ok((kind, text))
             }
-            Ahead::End => Err(Fault::Syntax),
-            Ahead::Bad => Err(Fault::Syntax),
+            Ahead::End => Err(Unread::Syntax),
+            Ahead::Bad => Err(Unread::Syntax),
         }
     }
 
@@ -166,7 +166,7 @@ impl<'a> Reader<'a> {
     }
 
     /// Reads the end of the text.
-    pub(crate) fn finish(&mut self) -> Result<(), Fault>
+    pub(crate) fn finish(&mut self) -> Result<(), Unread>
         ensures { MatchResult result
             (λ _. (is_end (scan self.old.rest) ≡ true) × (self.new ≡ self.old))
             (λ e. e ≡ Syntax → is_end (scan self.old.rest) ≡ false) }
@@ -174,85 +174,85 @@ impl<'a> Reader<'a> {
         self.left_before = self.rest.len();
         match self.ahead {
             Ahead::End => Ok(()),
-            _ => Err(Fault::Syntax),
+            _ => Err(Unread::Syntax),
         }
     }
 
     /// Reads the end of a line.
-    pub(crate) fn newline(&mut self) -> Result<(), Fault>
+    pub(crate) fn newline(&mut self) -> Result<(), Unread>
         ensures { Gives newline self.old self.new result }
     {
         let (kind, text) = self.next()?;
         match newline_test(kind, text) {
             Some(()) => Ok(()),
-            None => Err(Fault::Syntax),
+            None => Err(Unread::Syntax),
         }
     }
 
     /// Reads a symbol.
-    pub(crate) fn piece(&mut self, mark: Symbol) -> Result<(), Fault>
+    pub(crate) fn piece(&mut self, mark: Symbol) -> Result<(), Unread>
         ensures { Gives (piece mark) self.old self.new result }
     {
         let (kind, text) = self.next()?;
         match piece_test(mark, kind, text) {
             Some(()) => Ok(()),
-            None => Err(Fault::Syntax),
+            None => Err(Unread::Syntax),
         }
     }
 
     /// Reads a number without a minus sign.
-    pub(crate) fn natural(&mut self) -> Result<u64, Fault>
+    pub(crate) fn natural(&mut self) -> Result<u64, Unread>
         ensures { Gives natural self.old self.new result }
     {
         let (kind, text) = self.next()?;
         match natural_test(kind, text) {
             Some(number) => Ok(number),
-            None => Err(Fault::Syntax),
+            None => Err(Unread::Syntax),
         }
     }
 
     /// Reads a number, modulo 2^64.
-    pub(crate) fn integer(&mut self) -> Result<u64, Fault>
+    pub(crate) fn integer(&mut self) -> Result<u64, Unread>
         ensures { Gives integer self.old self.new result }
     {
         let (kind, text) = self.next()?;
         match integer_test(kind, text) {
             Some(number) => Ok(number),
-            None => Err(Fault::Syntax),
+            None => Err(Unread::Syntax),
         }
     }
 
     /// Reads a word.
-    pub(crate) fn word(&mut self) -> Result<&'a [u8], Fault>
+    pub(crate) fn word(&mut self) -> Result<&'a [u8], Unread>
         ensures { GivesText (keyword Some) self.old self.new result }
     {
         let (kind, text) = self.next()?;
         match word_test(kind, text) {
             Some(word) => Ok(word),
-            None => Err(Fault::Syntax),
+            None => Err(Unread::Syntax),
         }
     }
 
     /// Reads a string: the bytes that it stands for.
-    pub(crate) fn string(&mut self) -> Result<Seq<u8>, Fault>
+    pub(crate) fn string(&mut self) -> Result<Seq<u8>, Unread>
         ensures { Gives string self.old self.new result }
     {
         let (kind, text) = self.next()?;
         match string_test(kind, text) {
             Some(text) => Ok(Seq::from_vec(string_bytes(self.alloc, text)?)),
-            None => Err(Fault::Syntax),
+            None => Err(Unread::Syntax),
         }
     }
 
     /// Reads this word.
-    pub(crate) fn keyword(&mut self, word: &[u8]) -> Result<(), Fault>
+    pub(crate) fn keyword(&mut self, word: &[u8]) -> Result<(), Unread>
         ensures { Gives (the_word word.now) self.old self.new result }
     {
         let text = self.word()?;
         if is_text(word, text) {
             Ok(())
         } else {
-            Err(Fault::Syntax)
+            Err(Unread::Syntax)
         }
     }
 
@@ -286,35 +286,35 @@ impl<'a> Reader<'a> {
     }
 
     /// Reads a temporary.
-    pub(crate) fn temp(&mut self) -> Result<Temp, Fault>
+    pub(crate) fn temp(&mut self) -> Result<Temp, Unread>
         ensures { Gives temp self.old self.new result }
     {
         let (kind, text) = self.next()?;
         match temp_test(kind, text) {
             Some(name) => Ok(Temp::at(self.temps.place(name)?)),
-            None => Err(Fault::Syntax),
+            None => Err(Unread::Syntax),
         }
     }
 
     /// Reads a label.
-    pub(crate) fn label(&mut self) -> Result<Label, Fault>
+    pub(crate) fn label(&mut self) -> Result<Label, Unread>
         ensures { Gives label self.old self.new result }
     {
         let (kind, text) = self.next()?;
         match label_test(kind, text) {
             Some(name) => Ok(Label::at(self.labels.place(name)?)),
-            None => Err(Fault::Syntax),
+            None => Err(Unread::Syntax),
         }
     }
 
     /// Reads a global name.
-    pub(crate) fn symbol(&mut self) -> Result<Global, Fault>
+    pub(crate) fn symbol(&mut self) -> Result<Global, Unread>
         ensures { Gives symbol self.old self.new result }
     {
         let (kind, text) = self.next()?;
         match symbol_test(kind, text) {
             Some(name) => Ok(Global::at(self.symbols.place(name)?)),
-            None => Err(Fault::Syntax),
+            None => Err(Unread::Syntax),
         }
     }
 }

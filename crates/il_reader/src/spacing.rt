@@ -1,18 +1,18 @@
 //! Reading the ends of lines.
 ghost use Rattle.std.specs.Prelude.{◌≡◌, None, Some, suc, length};
 ghost use Rattle.std.specs.Result.{MatchResult};
-ghost use Rattle.il_reader.specs.declared.fault.Fault.TheVariants.{Syntax};
+ghost use Rattle.il_reader.specs.declared.fault.Unread.TheVariants.{Syntax};
 ghost use Rattle.il_reader.specs.Gives.{passed};
 ghost use Rattle.il_reader.specs.Steps.{sees, repeated, newline};
 ghost use Rattle.il_reader.specs.Reading.{is_newline, line_ends};
 ghost use Rattle.il_reader.specs.Definitions.{newlines};
 
-use crate::fault::Fault;
+use crate::fault::Unread;
 use crate::kinds::is_newline;
 use crate::reader::Reader;
 
 /// Reads the ends of lines, if any come.
-pub(crate) fn newlines(reader: &mut Reader<'_>) -> Result<(), Fault>
+pub(crate) fn newlines(reader: &mut Reader<'_>) -> Result<(), Unread>
     ensures { MatchResult result (λ _. passed (newlines reader.old) ≡ Some reader.new) (λ e. e ≡ Syntax → newlines reader.old ≡ None) }
 {
     for _ in 0..reader.rounds() {
@@ -21,11 +21,11 @@ pub(crate) fn newlines(reader: &mut Reader<'_>) -> Result<(), Fault>
         }
         reader.newline()?;
     }
-    Err(Fault::Syntax)
+    Err(Unread::Syntax)
 }
 
 /// Reads the ends of lines, at least one.
-pub(crate) fn line_ends(reader: &mut Reader<'_>) -> Result<(), Fault>
+pub(crate) fn line_ends(reader: &mut Reader<'_>) -> Result<(), Unread>
     ensures { MatchResult result (λ _. passed (line_ends reader.old) ≡ Some reader.new) (λ e. e ≡ Syntax → line_ends reader.old ≡ None) }
 {
     reader.newline()?;

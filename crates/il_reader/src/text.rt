@@ -1,14 +1,14 @@
 //! Reading texts.
 ghost use Rattle.std.specs.Prelude.{◌≡◌, None, Some, suc, length, map};
 ghost use Rattle.std.specs.Result.{MatchResult};
-ghost use Rattle.il_reader.specs.declared.fault.Fault.TheVariants.{Syntax};
+ghost use Rattle.il_reader.specs.declared.fault.Unread.TheVariants.{Syntax};
 ghost use Rattle.il_reader.specs.Gives.{Gives, appended, pushed, parts_of, definition_list, whole_text};
 ghost use Rattle.il_reader.specs.Steps.{sees, separated};
 ghost use Rattle.il_reader.specs.Reading.{is_newline, is_word};
 ghost use Rattle.il_reader.specs.Definitions.{exporting, between, definition, definition_parts, definitions};
 
 use crate::datum::object;
-use crate::fault::Fault;
+use crate::fault::Unread;
 use crate::function::function;
 use crate::kinds::{is_newline, is_word};
 use crate::reader::Reader;
@@ -17,7 +17,7 @@ use il_ast::list::Seq;
 use il_ast::text::Definition;
 
 /// Reads the word that exports a definition, if it comes: whether it does.
-fn exporting(reader: &mut Reader<'_>) -> Result<bool, Fault>
+fn exporting(reader: &mut Reader<'_>) -> Result<bool, Unread>
     ensures { Gives exporting reader.old reader.new result }
 {
     if reader.sees_text(b"export") {
@@ -29,7 +29,7 @@ fn exporting(reader: &mut Reader<'_>) -> Result<bool, Fault>
     }
 }
 
-fn definition(reader: &mut Reader<'_>) -> Result<Definition, Fault>
+fn definition(reader: &mut Reader<'_>) -> Result<Definition, Unread>
     ensures { MatchResult result
         (λ read. definition reader.old ≡ Some (definition_parts read, reader.new))
         (λ e. e ≡ Syntax → definition reader.old ≡ None) }
@@ -45,7 +45,7 @@ fn definition(reader: &mut Reader<'_>) -> Result<Definition, Fault>
 }
 
 /// Reads a definition behind others.
-fn push_definition(reader: &mut Reader<'_>, definitions: &mut Seq<Definition>) -> Result<(), Fault>
+fn push_definition(reader: &mut Reader<'_>, definitions: &mut Seq<Definition>) -> Result<(), Unread>
     ensures { MatchResult result
         (λ _. pushed (parts_of definitions.old) (definition reader.old) ≡ Some (parts_of definitions.new, reader.new))
         (λ e. e ≡ Syntax → definition reader.old ≡ None) }
@@ -56,14 +56,17 @@ fn push_definition(reader: &mut Reader<'_>, definitions: &mut Seq<Definition>) -
 }
 
 /// Reads the ends of lines between definitions.
-fn between(reader: &mut Reader<'_>) -> Result<(), Fault>
+fn between(reader: &mut Reader<'_>) -> Result<(), Unread>
     ensures { Gives between reader.old reader.new result }
 {
     line_ends(reader)
 }
 
 /// Reads the definitions behind the first.
-fn more_definitions(reader: &mut Reader<'_>, definitions: &mut Seq<Definition>) -> Result<(), Fault>
+fn more_definitions(
+    reader: &mut Reader<'_>,
+    definitions: &mut Seq<Definition>,
+) -> Result<(), Unread>
     ensures { MatchResult result
         (λ _. appended (parts_of definitions.old) (separated (suc (length reader.old.rest)) (sees is_newline) between (sees is_word) definition reader.old) ≡ Some (parts_of definitions.new, reader.new))
         (λ e. e ≡ Syntax → separated (suc (length reader.old.rest)) (sees is_newline) between (sees is_word) definition reader.old ≡ None) }
@@ -78,11 +81,11 @@ fn more_definitions(reader: &mut Reader<'_>, definitions: &mut Seq<Definition>) 
         }
         push_definition(reader, definitions)?;
     }
-    Err(Fault::Syntax)
+    Err(Unread::Syntax)
 }
 
 /// Reads the definitions behind the ends of lines, which may be none.
-fn definition_list(reader: &mut Reader<'_>) -> Result<Seq<Definition>, Fault>
+fn definition_list(reader: &mut Reader<'_>) -> Result<Seq<Definition>, Unread>
     ensures { MatchResult result
         (λ read. definition_list reader.old ≡ Some (parts_of read, reader.new))
         (λ e. e ≡ Syntax → definition_list reader.old ≡ None) }
@@ -97,7 +100,7 @@ fn definition_list(reader: &mut Reader<'_>) -> Result<Seq<Definition>, Fault>
 }
 
 /// Reads the definitions of a text.
-fn definitions(reader: &mut Reader<'_>) -> Result<Seq<Definition>, Fault>
+fn definitions(reader: &mut Reader<'_>) -> Result<Seq<Definition>, Unread>
     ensures { MatchResult result
         (λ read. definitions reader.old ≡ Some (parts_of read, reader.new))
         (λ e. e ≡ Syntax → definitions reader.old ≡ None) }
@@ -107,7 +110,7 @@ fn definitions(reader: &mut Reader<'_>) -> Result<Seq<Definition>, Fault>
 }
 
 /// Reads the definitions of a text up to its end.
-pub(crate) fn whole_text(reader: &mut Reader<'_>) -> Result<Seq<Definition>, Fault>
+pub(crate) fn whole_text(reader: &mut Reader<'_>) -> Result<Seq<Definition>, Unread>
     ensures { MatchResult result
         (λ read. whole_text reader.old ≡ Some (parts_of read, reader.new))
         (λ e. e ≡ Syntax → whole_text reader.old ≡ None) }

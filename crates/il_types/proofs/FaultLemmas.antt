@@ -8,7 +8,7 @@ use Rattle.il_ast.specs.declared.text.Definition.TheVariants.{Function, Object}
 use Rattle.il_ast.specs.declared.text.Text.{Text}
 use Rattle.il_types.specs.declared.rule.Rule.{Rule}
 use Rattle.il_types.specs.declared.rule.Rule.TheVariants.{DistinctGlobals, DistinctLocals, KnownLabels, EntryNotTarget, LastBlockEnds, OneType, OperandFits, PhiCoversPredecessors, AllocInEntry, ReturnFits, DefinedTemporaries, DataFields, Alignment, BlitSize}
-use Rattle.il_types.specs.declared.rule.Fault.{Fault}
+use Rattle.il_types.specs.declared.rule.BrokenRule.{BrokenRule}
 use Rattle.il_types.specs.First.{or_else, first}
 use Rattle.il_types.specs.Faults.{fault_at, fault_or, label_fault, temp_fault, size_fault, function_fault, object_fault, definition_fault, first_fault, text_fault}
 use Rattle.il_types.specs.Locals.{repeated_local, unknown_label, jump_to_entry, block_without_jump, two_types, misplaced, uncovered_phi, wrong_alloc, wrong_return, undefined_temp, long_blit}
@@ -16,7 +16,7 @@ use Rattle.il_types.specs.Rules.{wrong_fields, wrong_alignment, repeated_global,
 
 -- ---- choices
 
-none_both : (a b : Option Fault) → fault_or a b ≡ None → (a ≡ None) × (b ≡ None)
+none_both : (a b : Option BrokenRule) → fault_or a b ≡ None → (a ≡ None) × (b ≡ None)
 none_both None b h = (refl, h)
 none_both (Some f) b h = cc
 
@@ -25,11 +25,11 @@ none_at r None h = refl
 none_at r (Some l) h = cc
 
 -- a claim of a fault that holds of each of two holds of the one that is chosen
-either : (P : Fault → Type 0) (a b : Option Fault) (f : Fault) → fault_or a b ≡ Some f → (a ≡ Some f → P f) → (b ≡ Some f → P f) → P f
+either : (P : BrokenRule → Type 0) (a b : Option BrokenRule) (f : BrokenRule) → fault_or a b ≡ Some f → (a ≡ Some f → P f) → (b ≡ Some f → P f) → P f
 either P None b f h p q = q h
 either P (Some g) b f h p q = p h
 
-some_at : (P : Fault → Type 0) (r : Rule) (o : Option ℕ) (f : Fault) → fault_at r o ≡ Some f → ((l : ℕ) → o ≡ Some l → P (record { rule = r; line = l })) → P f
+some_at : (P : BrokenRule → Type 0) (r : Rule) (o : Option ℕ) (f : BrokenRule) → fault_at r o ≡ Some f → ((l : ℕ) → o ≡ Some l → P (record { rule = r; line = l })) → P f
 some_at P r None f h p = cc
 some_at P r (Some l) f h p = let e : record { rule = r; line = l } ≡ f = cc in subst P e (p l refl)
 
@@ -58,22 +58,22 @@ none_4 p q r s a b c d h =
     let rest = none_3 q r s b c d both.1 in
     record { first = none_at p a both.0; second = rest.first; third = rest.second; fourth = rest.third }
 
-some_3 : (P : Fault → Type 0) (p q r : Rule) (a b c : Option ℕ) (f : Fault) → fault_or (fault_at p a) (fault_or (fault_at q b) (fault_at r c)) ≡ Some f → ((l : ℕ) → a ≡ Some l → P (record { rule = p; line = l })) → ((l : ℕ) → b ≡ Some l → P (record { rule = q; line = l })) → ((l : ℕ) → c ≡ Some l → P (record { rule = r; line = l })) → P f
+some_3 : (P : BrokenRule → Type 0) (p q r : Rule) (a b c : Option ℕ) (f : BrokenRule) → fault_or (fault_at p a) (fault_or (fault_at q b) (fault_at r c)) ≡ Some f → ((l : ℕ) → a ≡ Some l → P (record { rule = p; line = l })) → ((l : ℕ) → b ≡ Some l → P (record { rule = q; line = l })) → ((l : ℕ) → c ≡ Some l → P (record { rule = r; line = l })) → P f
 some_3 P p q r a b c f h x y z =
     either P (fault_at p a) (fault_or (fault_at q b) (fault_at r c)) f h (λ e. some_at P p a f e x)
     (λ e. either P (fault_at q b) (fault_at r c) f e (λ d. some_at P q b f d y) (λ d. some_at P r c f d z))
 
-some_4 : (P : Fault → Type 0) (p q r s : Rule) (a b c d : Option ℕ) (f : Fault) → fault_or (fault_at p a) (fault_or (fault_at q b) (fault_or (fault_at r c) (fault_at s d))) ≡ Some f → ((l : ℕ) → a ≡ Some l → P (record { rule = p; line = l })) → ((l : ℕ) → b ≡ Some l → P (record { rule = q; line = l })) → ((l : ℕ) → c ≡ Some l → P (record { rule = r; line = l })) → ((l : ℕ) → d ≡ Some l → P (record { rule = s; line = l })) → P f
+some_4 : (P : BrokenRule → Type 0) (p q r s : Rule) (a b c d : Option ℕ) (f : BrokenRule) → fault_or (fault_at p a) (fault_or (fault_at q b) (fault_or (fault_at r c) (fault_at s d))) ≡ Some f → ((l : ℕ) → a ≡ Some l → P (record { rule = p; line = l })) → ((l : ℕ) → b ≡ Some l → P (record { rule = q; line = l })) → ((l : ℕ) → c ≡ Some l → P (record { rule = r; line = l })) → ((l : ℕ) → d ≡ Some l → P (record { rule = s; line = l })) → P f
 some_4 P p q r s a b c d f h x y z w =
     either P (fault_at p a) (fault_or (fault_at q b) (fault_or (fault_at r c) (fault_at s d))) f h (λ e. some_at P p a f e x)
     (λ e. some_3 P q r s b c d f e y z w)
 
 -- ---- one definition
 
-abbrev pub Breaks : Func → Fault → Type 0
+abbrev pub Breaks : Func → BrokenRule → Type 0
 Breaks g f = broken_in_function f.rule g ≡ Some f.line
 
-label_breaks : (g : Func) (f : Fault) → label_fault g ≡ Some f → Breaks g f
+label_breaks : (g : Func) (f : BrokenRule) → label_fault g ≡ Some f → Breaks g f
 unfolding label_fault
 label_breaks g f h = some_4 (Breaks g) DistinctLocals KnownLabels EntryNotTarget LastBlockEnds (repeated_local g) (unknown_label g) (jump_to_entry g) (block_without_jump g) f h (λ l o. o) (λ l o. o) (λ l o. o) (λ l o. o)
 
@@ -81,7 +81,7 @@ label_keeps : (g : Func) → label_fault g ≡ None → None4 (repeated_local g)
 unfolding label_fault
 label_keeps g h = none_4 DistinctLocals KnownLabels EntryNotTarget LastBlockEnds (repeated_local g) (unknown_label g) (jump_to_entry g) (block_without_jump g) h
 
-temp_breaks : (g : Func) (f : Fault) → temp_fault g ≡ Some f → Breaks g f
+temp_breaks : (g : Func) (f : BrokenRule) → temp_fault g ≡ Some f → Breaks g f
 unfolding temp_fault
 temp_breaks g f h = some_4 (Breaks g) OneType OperandFits ReturnFits DefinedTemporaries (two_types g) (misplaced g) (wrong_return g) (undefined_temp g) f h (λ l o. o) (λ l o. o) (λ l o. o) (λ l o. o)
 
@@ -89,7 +89,7 @@ temp_keeps : (g : Func) → temp_fault g ≡ None → None4 (two_types g) (mispl
 unfolding temp_fault
 temp_keeps g h = none_4 OneType OperandFits ReturnFits DefinedTemporaries (two_types g) (misplaced g) (wrong_return g) (undefined_temp g) h
 
-size_breaks : (g : Func) (f : Fault) → size_fault g ≡ Some f → Breaks g f
+size_breaks : (g : Func) (f : BrokenRule) → size_fault g ≡ Some f → Breaks g f
 unfolding size_fault
 size_breaks g f h = some_3 (Breaks g) PhiCoversPredecessors AllocInEntry BlitSize (uncovered_phi g) (wrong_alloc g) (long_blit g) f h (λ l o. o) (λ l o. o) (λ l o. o)
 
@@ -97,7 +97,7 @@ size_keeps : (g : Func) → size_fault g ≡ None → None3 (uncovered_phi g) (w
 unfolding size_fault
 size_keeps g h = none_3 PhiCoversPredecessors AllocInEntry BlitSize (uncovered_phi g) (wrong_alloc g) (long_blit g) h
 
-function_breaks : (g : Func) (f : Fault) → function_fault g ≡ Some f → Breaks g f
+function_breaks : (g : Func) (f : BrokenRule) → function_fault g ≡ Some f → Breaks g f
 function_breaks g f h =
     either (Breaks g) (label_fault g) (fault_or (temp_fault g) (size_fault g)) f h (label_breaks g f)
     (λ e. either (Breaks g) (temp_fault g) (size_fault g) f e (temp_breaks g f) (size_breaks g f))
@@ -132,10 +132,10 @@ kept g h BlitSize = h.sizes.third
 function_keeps : (g : Func) → function_fault g ≡ None → (r : Rule) → broken_in_function r g ≡ None
 function_keeps g h r = kept g (all_keep g h) r
 
-abbrev pub BreaksObject : DataDef → Fault → Type 0
+abbrev pub BreaksObject : DataDef → BrokenRule → Type 0
 BreaksObject d f = broken_in_object f.rule d ≡ Some f.line
 
-object_breaks : (d : DataDef) (f : Fault) → object_fault d ≡ Some f → broken_in_object f.rule d ≡ Some f.line
+object_breaks : (d : DataDef) (f : BrokenRule) → object_fault d ≡ Some f → broken_in_object f.rule d ≡ Some f.line
 object_breaks d f h =
     either (BreaksObject d) (fault_at DataFields (wrong_fields d)) (fault_at Alignment (wrong_alignment d)) f h
     (λ e. some_at (BreaksObject d) DataFields (wrong_fields d) f e (λ l o. o))
@@ -159,7 +159,7 @@ object_keeps d h Alignment =
     let both = none_both (fault_at DataFields (wrong_fields d)) (fault_at Alignment (wrong_alignment d)) h in none_at Alignment (wrong_alignment d) both.1
 object_keeps d h BlitSize = refl
 
-definition_breaks : (d : Definition) (f : Fault) → definition_fault d ≡ Some f → broken_in f.rule d ≡ Some f.line
+definition_breaks : (d : Definition) (f : BrokenRule) → definition_fault d ≡ Some f → broken_in f.rule d ≡ Some f.line
 definition_breaks (Function g) f h = function_breaks g f h
 definition_breaks (Object d) f h = object_breaks d f h
 
@@ -175,13 +175,13 @@ first_keeps (d ∷ ds) h r =
     let both = none_both (definition_fault d) (first_fault ds) h in
     ap (λ o. or_else o (first (broken_in r) ds)) (definition_keeps d both.0 r) ∙ first_keeps ds both.1 r
 
-first_breaks_at : (d : Definition) (ds : List Definition) (f : Fault) (o : Option Fault) → definition_fault d ≡ o → fault_or o (first_fault ds) ≡ Some f → (first_fault ds ≡ Some f → first (broken_in f.rule) ds ≡ Some f.line) → first (broken_in f.rule) (d ∷ ds) ≡ Some f.line
+first_breaks_at : (d : Definition) (ds : List Definition) (f : BrokenRule) (o : Option BrokenRule) → definition_fault d ≡ o → fault_or o (first_fault ds) ≡ Some f → (first_fault ds ≡ Some f → first (broken_in f.rule) ds ≡ Some f.line) → first (broken_in f.rule) (d ∷ ds) ≡ Some f.line
 first_breaks_at d ds f None e h rest =
     ap (λ o. or_else o (first (broken_in f.rule) ds)) (definition_keeps d e f.rule) ∙ rest h
 first_breaks_at d ds f (Some g) e h rest =
     ap (λ o. or_else o (first (broken_in f.rule) ds)) (definition_breaks d f (e ∙ h))
 
-first_breaks : (ds : List Definition) (f : Fault) → first_fault ds ≡ Some f → first (broken_in f.rule) ds ≡ Some f.line
+first_breaks : (ds : List Definition) (f : BrokenRule) → first_fault ds ≡ Some f → first (broken_in f.rule) ds ≡ Some f.line
 first_breaks [] f h = cc
 first_breaks (d ∷ ds) f h = first_breaks_at d ds f (definition_fault d) refl h (first_breaks ds f)
 
@@ -209,10 +209,10 @@ as_broken t DataFields l h = h
 as_broken t Alignment l h = h
 as_broken t BlitSize l h = h
 
-abbrev pub BreaksText : Text → Fault → Type 0
+abbrev pub BreaksText : Text → BrokenRule → Type 0
 BreaksText t f = broken f.rule t ≡ Some f.line
 
-pub text_breaks : (t : Text) (f : Fault) → text_fault t ≡ Some f → broken f.rule t ≡ Some f.line
+pub text_breaks : (t : Text) (f : BrokenRule) → text_fault t ≡ Some f → broken f.rule t ≡ Some f.line
 unfolding text_fault
 text_breaks t f h =
     either (BreaksText t) (fault_at DistinctGlobals (repeated_global t)) (first_fault t.definitions) f h

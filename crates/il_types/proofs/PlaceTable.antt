@@ -8,7 +8,7 @@ use Rattle.std.proofs.lemmas.List.{take_more, length-take-le}
 use Rattle.std.proofs.lemmas.Bool.Decides.{nat_tests}
 use Rattle.il_ast.specs.declared.block.Block.{Block}
 use Rattle.il_ast.specs.Effect.{place_of}
-use Rattle.il_types.specs.Places.{place_in}
+use Rattle.il_types.specs.LabelBlocks.{place_in}
 
 -- ---- one table
 

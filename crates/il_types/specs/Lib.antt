@@ -12,4 +12,4 @@ pub mod Rules
 pub mod Faults
 pub mod Refusals
 pub mod Arguments
-pub mod Places
+pub mod LabelBlocks

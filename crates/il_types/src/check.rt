@@ -10,7 +10,7 @@ use crate::error::CheckError;
 use crate::faults::{at, definition_fault, or};
 use crate::globals::repeated_global;
 use crate::limits::within_limits;
-use crate::rule::{Fault, Rule};
+use crate::rule::{BrokenRule, Rule};
 use il_ast::text::{Definition, Text};
 use std::alloc::{AllocError, Global};
 
@@ -34,7 +34,7 @@ pub fn check(alloc: Global, text: Text) -> Result<Checked, CheckError>
 
 /// A fault of a text.
 #[tactic(auto, unfolding(crate::specs::Faults::text_fault))]
-fn text_fault(alloc: Global, text: &Text) -> Result<Option<Fault>, AllocError>
+fn text_fault(alloc: Global, text: &Text) -> Result<Option<BrokenRule>, AllocError>
     ensures { IfOk result (λ fault. fault ≡ text_fault text.now) }
 {
     let global = at(Rule::DistinctGlobals, repeated_global(alloc, text)?);
@@ -42,7 +42,7 @@ fn text_fault(alloc: Global, text: &Text) -> Result<Option<Fault>, AllocError>
     Ok(or(global, local))
 }
 
-fn first_fault(alloc: Global, definitions: &[Definition]) -> Result<Option<Fault>, AllocError>
+fn first_fault(alloc: Global, definitions: &[Definition]) -> Result<Option<BrokenRule>, AllocError>
     ensures { IfOk result (λ fault. fault ≡ first_fault definitions.now) }
 {
     for definition in definitions {

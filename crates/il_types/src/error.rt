@@ -1,5 +1,5 @@
 //! Why a text was refused.
-use crate::rule::Fault;
+use crate::rule::BrokenRule;
 use std::alloc::AllocError;
 use thiserror::Error;
 
@@ -8,7 +8,7 @@ use thiserror::Error;
 pub enum CheckError {
     /// A rule is broken, at a line.
     #[error("E2")]
-    Rule(Fault),
+    Rule(BrokenRule),
     /// A limit of one text is passed.
     #[error("E6")]
     Limit,

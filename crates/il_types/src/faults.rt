@@ -6,7 +6,7 @@ use crate::insts::{long_blit, wrong_alloc};
 use crate::labels::{block_without_jump, jump_to_entry, repeated_local, unknown_label};
 use crate::objects::{wrong_alignment, wrong_fields};
 use crate::phis::uncovered_phi;
-use crate::rule::{Fault, Rule};
+use crate::rule::{BrokenRule, Rule};
 use crate::temps::{misplaced, two_types, undefined_temp, wrong_return};
 use il_ast::datum::DataDef;
 use il_ast::function::Func;
@@ -14,17 +14,17 @@ use il_ast::text::Definition;
 use std::alloc::{AllocError, Global};
 
 /// The fault of the rule at the line, if there is one.
-pub fn at(rule: Rule, line: Option<usize>) -> Option<Fault>
+pub fn at(rule: Rule, line: Option<usize>) -> Option<BrokenRule>
     ensures { result ≡ fault_at rule line }
 {
     match line {
-        Some(line) => Some(Fault { rule, line }),
+        Some(line) => Some(BrokenRule { rule, line }),
         None => None,
     }
 }
 
 /// The first fault, or else the other.
-pub fn or(fault: Option<Fault>, other: Option<Fault>) -> Option<Fault>
+pub fn or(fault: Option<BrokenRule>, other: Option<BrokenRule>) -> Option<BrokenRule>
     ensures { result ≡ fault_or fault other }
 {
     match fault {
@@ -34,7 +34,10 @@ pub fn or(fault: Option<Fault>, other: Option<Fault>) -> Option<Fault>
 }
 
 /// A fault of a definition: none is found where no rule is broken in it.
-pub fn definition_fault(alloc: Global, definition: &Definition) -> Result<Option<Fault>, AllocError>
+pub fn definition_fault(
+    alloc: Global,
+    definition: &Definition,
+) -> Result<Option<BrokenRule>, AllocError>
     ensures { IfOk result (λ fault. fault ≡ definition_fault definition.now) }
 {
     match definition {
@@ -43,7 +46,7 @@ pub fn definition_fault(alloc: Global, definition: &Definition) -> Result<Option
     }
 }
 
-fn object_fault(object: &DataDef) -> Option<Fault>
+fn object_fault(object: &DataDef) -> Option<BrokenRule>
     ensures { result ≡ object_fault object.now }
 {
     let fields = at(Rule::DataFields, wrong_fields(object));
@@ -51,7 +54,7 @@ fn object_fault(object: &DataDef) -> Option<Fault>
     or(fields, alignment)
 }
 
-fn function_fault(alloc: Global, function: &Func) -> Result<Option<Fault>, AllocError>
+fn function_fault(alloc: Global, function: &Func) -> Result<Option<BrokenRule>, AllocError>
     ensures { IfOk result (λ fault. fault ≡ function_fault function.now) }
 {
     let labels = label_fault(alloc, function)?;
@@ -61,7 +64,7 @@ fn function_fault(alloc: Global, function: &Func) -> Result<Option<Fault>, Alloc
 }
 
 #[tactic(auto, unfolding(crate::specs::Faults::label_fault))]
-fn label_fault(alloc: Global, function: &Func) -> Result<Option<Fault>, AllocError>
+fn label_fault(alloc: Global, function: &Func) -> Result<Option<BrokenRule>, AllocError>
     ensures { IfOk result (λ fault. fault ≡ label_fault function.now) }
 {
     let repeated = at(Rule::DistinctLocals, repeated_local(alloc, function)?);
@@ -72,7 +75,7 @@ fn label_fault(alloc: Global, function: &Func) -> Result<Option<Fault>, AllocErr
 }
 
 #[tactic(auto, unfolding(crate::specs::Faults::temp_fault))]
-fn temp_fault(alloc: Global, function: &Func) -> Result<Option<Fault>, AllocError>
+fn temp_fault(alloc: Global, function: &Func) -> Result<Option<BrokenRule>, AllocError>
     ensures { IfOk result (λ fault. fault ≡ temp_fault function.now) }
 {
     let types = at(Rule::OneType, two_types(alloc, function)?);
@@ -83,7 +86,7 @@ fn temp_fault(alloc: Global, function: &Func) -> Result<Option<Fault>, AllocErro
 }
 
 #[tactic(auto, unfolding(crate::specs::Faults::size_fault))]
-fn size_fault(alloc: Global, function: &Func) -> Result<Option<Fault>, AllocError>
+fn size_fault(alloc: Global, function: &Func) -> Result<Option<BrokenRule>, AllocError>
     ensures { IfOk result (λ fault. fault ≡ size_fault function.now) }
 {
     let phi = at(Rule::PhiCoversPredecessors, uncovered_phi(alloc, function)?);

@@ -48,7 +48,7 @@ impl Rule {
 
 /// A rule that is broken, at a line.
 #[derive(Clone, Copy, Debug, PartialEq, Eq)]
-pub struct Fault {
+pub struct BrokenRule {
     pub rule: Rule,
     pub line: usize,
 }

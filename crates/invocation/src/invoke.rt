@@ -33,7 +33,7 @@ fn words_failure<'a>(kind: ErrorKind) -> Failure<'a>
 fn perform<D: Disk, O: Sink, E: Sink>(
     alloc: Global,
     args: &[String],
-    how: &mut dyn Strategy,
+    allocator: &mut dyn Strategy,
     disk: &mut D,
     out: &mut O,
     err: &mut E,
@@ -44,7 +44,7 @@ fn perform<D: Disk, O: Sink, E: Sink>(
         result }
 {
     match words_of(alloc, args) {
-        Ok(words) => command(alloc, words.as_slice(), how, disk, out, err),
+        Ok(words) => command(alloc, words.as_slice(), allocator, disk, out, err),
         Err(_) => report(Failure::Memory, err),
     }
 }
@@ -54,7 +54,7 @@ fn perform<D: Disk, O: Sink, E: Sink>(
 fn status<D: Disk, O: Sink, E: Sink>(
     alloc: Global,
     args: io::Result<Vec<String>>,
-    how: &mut dyn Strategy,
+    allocator: &mut dyn Strategy,
     disk: &mut D,
     out: &mut O,
     err: &mut E,
@@ -69,7 +69,7 @@ fn status<D: Disk, O: Sink, E: Sink>(
         result) }
 {
     match args {
-        Ok(args) => perform(alloc, args.as_slice(), how, disk, out, err),
+        Ok(args) => perform(alloc, args.as_slice(), allocator, disk, out, err),
         Err(error) => report(words_failure(error.kind()), err),
     }
 }
@@ -80,7 +80,7 @@ fn status<D: Disk, O: Sink, E: Sink>(
 pub fn invoke<D: Disk, O: Sink, E: Sink>(
     alloc: Global,
     args: io::Result<Vec<String>>,
-    how: &mut dyn Strategy,
+    allocator: &mut dyn Strategy,
     disk: &mut D,
     out: &mut O,
     err: &mut E,
@@ -94,5 +94,5 @@ pub fn invoke<D: Disk, O: Sink, E: Sink>(
         (record { disk = D.told disk.new; out = O.told out.new; err = E.told err.new })
         (exit_status result)) }
 {
-    exit_code(status(alloc, args, how, disk, out, err))
+    exit_code(status(alloc, args, allocator, disk, out, err))
 }

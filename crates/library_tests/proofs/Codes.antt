@@ -5,11 +5,11 @@ use Rattle.std.specs.List.{list_all}
 use Rattle.std.proofs.lemmas.Bool.{and_parts}
 use Rattle.std.proofs.lemmas.Bool.Decides.{nat_tests}
 use Rattle.il_ast.specs.declared.function.Func.{Func}
-use Rattle.il_ast.specs.declared.program.Placed.{Placed}
+use Rattle.il_ast.specs.declared.program.InText.{InText}
 use Rattle.rv_isa.specs.Words.{Words}
 use Rattle.obj_link.specs.Placed.{AreCodes}
 
-pub small_codes : (codes : List Words) (fs : List (Placed Func)) → length codes ≡ length fs
+pub small_codes : (codes : List Words) (fs : List (InText Func)) → length codes ≡ length fs
     → list_all (λ (c : Words). nat_le (length c.words) 256) codes ≡ true → AreCodes codes fs
 small_codes [] [] same small = tt
 small_codes [] (f ∷ fs) same small = absurd (omega arith)

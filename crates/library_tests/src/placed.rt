@@ -6,11 +6,11 @@ ghost use Rattle.obj_link.specs.ProgramOf.{IsLinked};
 use crate::texts::{MAIN, checked};
 use il_types::checked::Checked;
 use obj_link::laws::programs_fit;
-use obj_link::linked::Linked;
-use obj_link::place::place;
-use obj_link::resolve::resolve;
+use obj_link::linking::linked::Linked;
+use obj_link::linking::resolve::resolve;
+use obj_link::placing::place::place;
 use obj_link::{Image, SLOT};
-use rv_isa::code::{Code, Hole};
+use rv_isa::code::{Hole, MachineCode};
 use rv_isa::instruction::LoadOp;
 use rv_isa::ranges::{Immediate, Register};
 use rv_isa::relocation::{Partial, Relocation};
@@ -22,7 +22,7 @@ const X10: Register = Register { number: 10 };
 
 const NOP_WORD: u32 = 0x0000_0013;
 
-fn are_small(codes: &[Code]) -> bool
+fn are_small(codes: &[MachineCode]) -> bool
     ensures { result ≡ list_all (λ c. nat_le (length c.words) 256) codes.now }
 {
     codes.iter().all(|code| code.words().len() <= 256)
@@ -33,7 +33,7 @@ fn image(
     alloc: Global,
     texts: &[Checked],
     linked: &Linked,
-    codes: &[Code],
+    codes: &[MachineCode],
 ) -> Result<Option<Image>, AllocError>
     requires { IsLinked texts.now linked.now }
 {
@@ -51,7 +51,7 @@ fn image(
 }
 
 // The image of texts whose functions have these codes.
-fn image_of(alloc: Global, texts: &[Checked], codes: &[Code]) -> Result<Image, Fail> {
+fn image_of(alloc: Global, texts: &[Checked], codes: &[MachineCode]) -> Result<Image, Fail> {
     match resolve(alloc, texts) {
         Ok(linked) => match image(alloc, texts, &linked, codes)? {
             Some(image) => Ok(image),
@@ -61,15 +61,15 @@ fn image_of(alloc: Global, texts: &[Checked], codes: &[Code]) -> Result<Image, F
     }
 }
 
-// Code of so many words, without names.
-fn words(alloc: Global, count: usize) -> Result<Code, AllocError>
+// MachineCode of so many words, without names.
+fn words(alloc: Global, count: usize) -> Result<MachineCode, AllocError>
     requires { 0 < count }
 {
     let words = vec![in alloc; NOP_WORD; count]?;
-    Ok(Code::new(words, Vec::new(alloc)))
+    Ok(MachineCode::new(words, Vec::new(alloc)))
 }
 
-fn first_codes(alloc: Global) -> Result<Vec<Code>, AllocError> {
+fn first_codes(alloc: Global) -> Result<Vec<MachineCode>, AllocError> {
     let mut codes = Vec::new(alloc);
     for count in [256, 256, 1] {
         codes.push(words(alloc, count)?)?;
@@ -114,7 +114,7 @@ const DATA: &str =
     "data $d = { b 511 \"Hi\", l $e + 4 $main $exit $main + 1, z 2 }\ndata $e = { z 16 }\n";
 
 // The image of these texts whose one function has this code.
-fn image_of_one(alloc: Global, texts: &[&str], code: Code) -> Result<Image, Fail> {
+fn image_of_one(alloc: Global, texts: &[&str], code: MachineCode) -> Result<Image, Fail> {
     let texts = checked(alloc, texts)?;
     let codes = vec![in alloc; code]?;
     image_of(alloc, texts.as_slice(), codes.as_slice())
@@ -146,7 +146,7 @@ fn hole(word: usize, instruction: Partial, offset: Immediate) -> Hole
 }
 
 // One function of three words, of which two wait for its own address: a load of eight bytes 1,072 bytes below it.
-fn code(alloc: Global) -> Result<Code, AllocError> {
+fn code(alloc: Global) -> Result<MachineCode, AllocError> {
     let words = vec![in alloc; NOP_WORD; 3]?;
     let below = Immediate { value: -1072 };
     let load = Partial::Load {
@@ -155,7 +155,7 @@ fn code(alloc: Global) -> Result<Code, AllocError> {
         rs1: X10,
     };
     let holes = vec![in alloc; hole(0, Partial::Upper(X10), below), hole(1, load, below)]?;
-    Ok(Code::new(words, holes))
+    Ok(MachineCode::new(words, holes))
 }
 
 #[test]

@@ -2,7 +2,7 @@
 use elf_file::LoadError;
 use il_reader::error::ReadError;
 use il_types::error::CheckError;
-use obj_link::error::LinkError;
+use obj_link::linking::error::LinkError;
 use rv_machine::start::StartError;
 use std::alloc::{AllocError, Global};
 use std::fmt::Display;

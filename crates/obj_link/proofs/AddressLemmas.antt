@@ -3,7 +3,7 @@ use Rattle.std.proofs.Common.{◌≡◌, ℕ, ◌+◌, ◌*◌, ◌<◌, ◌≤�
 use Rattle.std.proofs.lemmas.List.{drop_more}
 use Rattle.std.specs.Borrow.{Bor}
 use Rattle.il_ast.specs.declared.datum.DataDef.{DataDef}
-use Rattle.il_ast.specs.declared.program.Placed.{Placed}
+use Rattle.il_ast.specs.declared.program.InText.{InText}
 use Rattle.il_ast.specs.Cost.{round_16}
 use Rattle.rv_isa.specs.Words.{Words}
 use Rattle.obj_link.specs.Shown.{shown}
@@ -14,17 +14,17 @@ pub functions_rise : (at : ℕ) (codes : List Words) → at ≤ functions_end at
 functions_rise at [] = omega arith
 functions_rise at (c ∷ codes) = let rest = functions_rise (at + 4 * length c.words) codes in omega arith
 
-pub objects_rise : (at : ℕ) (ds : List (Placed DataDef)) → at ≤ objects_end at ds
+pub objects_rise : (at : ℕ) (ds : List (InText DataDef)) → at ≤ objects_end at ds
 objects_rise at [] = omega arith
 objects_rise at (d ∷ ds) = let rest = objects_rise (at + round_16 (object_size d.item)) ds in omega arith
 
 -- one object further
-pub addresses_further : (at : ℕ) (xs : List (Placed (Bor DataDef))) (i : ℕ) (d : Placed (Bor DataDef)) → i < length xs
+pub addresses_further : (at : ℕ) (xs : List (InText (Bor DataDef))) (i : ℕ) (d : InText (Bor DataDef)) → i < length xs
     → object_addresses at (map shown (drop i xs))
     ≡ at ∷ object_addresses (at + round_16 (object_size (get_or xs i d).item.now)) (map shown (drop (i + 1) xs))
 addresses_further at xs i d lt = ap (λ ys. object_addresses at (map shown ys)) (drop_more xs i d lt)
 
-pub end_further : (at : ℕ) (xs : List (Placed (Bor DataDef))) (i : ℕ) (d : Placed (Bor DataDef)) → i < length xs
+pub end_further : (at : ℕ) (xs : List (InText (Bor DataDef))) (i : ℕ) (d : InText (Bor DataDef)) → i < length xs
     → objects_end at (map shown (drop i xs)) ≡ objects_end (at + round_16 (object_size (get_or xs i d).item.now)) (map shown (drop (i + 1) xs))
 end_further at xs i d lt = ap (λ ys. objects_end at (map shown ys)) (drop_more xs i d lt)
 
@@ -38,11 +38,11 @@ function_room at i end codes c lt is e =
     let same : length c.words ≡ length (get_or codes i c).words = ap (λ (x : Words). length x.words) is in
     omega arith
 
-pub object_room : (at i end : ℕ) (xs : List (Placed (Bor DataDef))) (d : Placed (Bor DataDef)) → i < length xs → d ≡ get_or xs i d
+pub object_room : (at i end : ℕ) (xs : List (InText (Bor DataDef))) (d : InText (Bor DataDef)) → i < length xs → d ≡ get_or xs i d
     → objects_end at (map shown (drop i xs)) ≡ end → at + round_16 (object_size d.item.now) ≤ end
 object_room at i end xs d lt is e =
     let more = end_further at xs i d lt in
     let size : ℕ = round_16 (object_size (get_or xs i d).item.now) in
     let rise = objects_rise (at + size) (map shown (drop (i + 1) xs)) in
-    let same : round_16 (object_size d.item.now) ≡ size = ap (λ (x : Placed (Bor DataDef)). round_16 (object_size x.item.now)) is in
+    let same : round_16 (object_size d.item.now) ≡ size = ap (λ (x : InText (Bor DataDef)). round_16 (object_size x.item.now)) is in
     omega arith

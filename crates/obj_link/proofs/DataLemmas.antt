@@ -5,9 +5,9 @@ use Rattle.std.specs.List.{flat_map}
 use Rattle.std.specs.Borrow.{Bor}
 use Rattle.std.proofs.lemmas.List.{drop_more, replicate-append-replicate}
 use Rattle.il_ast.specs.declared.datum.DataDef.{DataDef}
-use Rattle.il_ast.specs.declared.program.Placed.{Placed}
+use Rattle.il_ast.specs.declared.program.InText.{InText}
 use Rattle.il_ast.specs.declared.program.Target.{Target}
-use Rattle.obj_link.specs.declared.addresses.Addresses.{Addresses}
+use Rattle.obj_link.specs.declared.placing.addresses.Addresses.{Addresses}
 use Rattle.obj_link.specs.Shown.{shown}
 use Rattle.obj_link.specs.DataBytes.{slot_bytes}
 use Rattle.il_ast.specs.Values.{bytes_of}
@@ -48,17 +48,17 @@ pub zeros_more : (xs : List ℕ) (n : ℕ) → (xs ++ replicate n 0) ++ 0 ∷ []
 zeros_more xs n = append_assoc xs (replicate n 0) (0 ∷ []) ∙ ap (λ ys. xs ++ ys) (replicate-append-replicate n 1 0)
 
 -- one datum further
-pub objects_further : (a : Addresses) (targets : List (List Target)) (xs : List (Placed (Bor DataDef))) (i : ℕ) (d : Placed (Bor DataDef)) → i < length xs
+pub objects_further : (a : Addresses) (targets : List (List Target)) (xs : List (InText (Bor DataDef))) (i : ℕ) (d : InText (Bor DataDef)) → i < length xs
     → flat_map (slot_bytes a targets) (map shown (drop i xs))
     ≡ slot_bytes a targets (shown (get_or xs i d)) ++ flat_map (slot_bytes a targets) (map shown (drop (i + 1) xs))
-objects_further a targets xs i d lt = ap (λ (ys : List (Placed (Bor DataDef))). flat_map (slot_bytes a targets) (map shown ys)) (drop_more xs i d lt)
+objects_further a targets xs i d lt = ap (λ (ys : List (InText (Bor DataDef))). flat_map (slot_bytes a targets) (map shown ys)) (drop_more xs i d lt)
 
-pub object_after : (a : Addresses) (targets : List (List Target)) (xs : List (Placed (Bor DataDef))) (i : ℕ) (d : Placed (Bor DataDef)) (before after : List ℕ)
+pub object_after : (a : Addresses) (targets : List (List Target)) (xs : List (InText (Bor DataDef))) (i : ℕ) (d : InText (Bor DataDef)) (before after : List ℕ)
     → i < length xs → d ≡ get_or xs i d → after ≡ before ++ slot_bytes a targets (shown d)
     → after ++ flat_map (slot_bytes a targets) (map shown (drop (i + 1) xs)) ≡ before ++ flat_map (slot_bytes a targets) (map shown (drop i xs))
 object_after a targets xs i d before after lt is e =
     let rest : List ℕ = flat_map (slot_bytes a targets) (map shown (drop (i + 1) xs)) in
     ap (λ ys. ys ++ rest) e
     ∙ append_assoc before (slot_bytes a targets (shown d)) rest
-    ∙ ap (λ (x : Placed (Bor DataDef)). before ++ (slot_bytes a targets (shown x) ++ rest)) is
+    ∙ ap (λ (x : InText (Bor DataDef)). before ++ (slot_bytes a targets (shown x) ++ rest)) is
     ∙ ap (λ ys. before ++ ys) (sym (objects_further a targets xs i d lt))

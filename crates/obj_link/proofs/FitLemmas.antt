@@ -6,7 +6,7 @@ use Rattle.std.proofs.lemmas.Bool.Decides.{nat_tests}
 use Rattle.std.proofs.lemmas.List.Sums.{sum_by-cons}
 use Rattle.il_ast.specs.declared.datum.DataDef.{DataDef}
 use Rattle.il_ast.specs.declared.function.Func.{Func}
-use Rattle.il_ast.specs.declared.program.Placed.{Placed}
+use Rattle.il_ast.specs.declared.program.InText.{InText}
 use Rattle.il_ast.specs.declared.program.Program.{Program}
 use Rattle.il_ast.specs.Cost.{weight, round_16}
 use Rattle.il_types.specs.declared.checked.Checked.{Checked}
@@ -17,7 +17,7 @@ use Rattle.obj_link.specs.Natives.{functions_start}
 use Rattle.obj_link.specs.Program.{IsProgram}
 use Rattle.obj_link.specs.Placed.{functions_end, objects_end, objects_start, AreCodes, FitsBelow}
 
-code_bound : (at : ℕ) (codes : List Words) (fs : List (Placed Func)) → AreCodes codes fs
+code_bound : (at : ℕ) (codes : List Words) (fs : List (InText Func)) → AreCodes codes fs
     → functions_end at codes ≤ at + 4 * (32 * total_weight fs + 256 * length fs)
 code_bound at [] [] are = omega arith
 code_bound at [] (f ∷ fs) are = absurd are
@@ -25,14 +25,14 @@ code_bound at (c ∷ codes) [] are = absurd are
 code_bound at (c ∷ codes) (f ∷ fs) are =
     let one = are.0 in
     let rest = code_bound (at + 4 * length c.words) codes fs are.1 in
-    let sum = sum_by-cons (λ (x : Placed Func). weight x.item) f fs in
+    let sum = sum_by-cons (λ (x : InText Func). weight x.item) f fs in
     omega arith
 
-data_bound : (at : ℕ) (ds : List (Placed DataDef)) → objects_end at ds ≡ at + total_size ds
+data_bound : (at : ℕ) (ds : List (InText DataDef)) → objects_end at ds ≡ at + total_size ds
 data_bound at [] = omega arith
 data_bound at (d ∷ ds) =
     let rest = data_bound (at + round_16 (object_size d.item)) ds in
-    let sum = sum_by-cons (λ (x : Placed DataDef). round_16 (object_size x.item)) d ds in
+    let sum = sum_by-cons (λ (x : InText DataDef). round_16 (object_size x.item)) d ds in
     omega arith
 
 pub program_fits : (texts : List Checked) (p : Program) (codes : List Words) → IsProgram texts p → AreCodes codes p.functions → FitsBelow p codes

@@ -14,7 +14,7 @@ use Rattle.il_ast.specs.declared.datum.Field.{Field}
 use Rattle.il_ast.specs.declared.datum.Field.TheVariants.{Items, Zeros}
 use Rattle.il_ast.specs.declared.operation.Size.{Size}
 use Rattle.il_ast.specs.declared.function.Func.{Func}
-use Rattle.il_ast.specs.declared.program.Placed.{Placed}
+use Rattle.il_ast.specs.declared.program.InText.{InText}
 use Rattle.il_ast.specs.declared.program.Program.{Program}
 use Rattle.il_ast.specs.declared.program.Target.{Target}
 use Rattle.il_ast.specs.declared.program.Target.TheVariants.{Code, Object}
@@ -35,7 +35,7 @@ use Rattle.rv_isa.specs.declared.ranges.Register.{Register}
 use Rattle.il_ast.specs.declared.value.Callee.TheVariants.{Defined}
 use Rattle.asm_layout.proofs.Filling.{filled_length}
 use Rattle.asm_layout.proofs.WordRanges.{small_at, word_small}
-use Rattle.obj_link.specs.declared.addresses.Addresses.{Addresses}
+use Rattle.obj_link.specs.declared.placing.addresses.Addresses.{Addresses}
 use Rattle.obj_link.specs.Image.{Contents, IsImage, code_start}
 use Rattle.obj_link.specs.Limits.{item_size, field_size, object_size}
 use Rattle.obj_link.specs.Natives.{start_words, write_words, exit_words, functions_start}
@@ -107,7 +107,7 @@ fields_are a targets t (f ∷ fs) =
     ∙ ap (λ xs. xs ++ map (cell_byte a) (flat_map (field_cells (values_of (slice_get targets t))) fs)) (field_is a targets t f)
     ∙ ap (λ xs. field_bytes a targets t f ++ xs) (fields_are a targets t fs)
 
-pub objects_are : (a : Addresses) (p : Program) (ds : List (Placed DataDef)) → flat_map (slot_bytes a p.targets) ds ≡ flat_map (object_bytes a p) ds
+pub objects_are : (a : Addresses) (p : Program) (ds : List (InText DataDef)) → flat_map (slot_bytes a p.targets) ds ≡ flat_map (object_bytes a p) ds
 objects_are a p [] = refl
 objects_are a p (d ∷ ds) =
     ap (λ xs. in_slots xs ++ flat_map (slot_bytes a p.targets) ds) (sym (fields_are a p.targets d.text d.item.fields))
@@ -154,16 +154,16 @@ slots_count xs =
     length-replicate (round_16 (length xs) - length xs) 0 in
     omega arith
 
-slot_count : (a : Addresses) (targets : List (List Target)) (d : Placed DataDef) → length (slot_bytes a targets d) ≡ round_16 (object_size d.item)
+slot_count : (a : Addresses) (targets : List (List Target)) (d : InText DataDef) → length (slot_bytes a targets d) ≡ round_16 (object_size d.item)
 slot_count a targets d =
     slots_count (flat_map (field_bytes a targets d.text) d.item.fields)
     ∙ ap round_16 (flat_count (field_bytes a targets d.text) field_size (field_count a targets d.text) d.item.fields)
 
-record DataEnd (a : Addresses) (targets : List (List Target)) (at : ℕ) (ds : List (Placed DataDef)) : Type 0 where
+record DataEnd (a : Addresses) (targets : List (List Target)) (at : ℕ) (ds : List (InText DataDef)) : Type 0 where
   end : at + length (flat_map (slot_bytes a targets) ds) ≡ objects_end at ds
   whole : length (flat_map (slot_bytes a targets) ds) % 16 ≡ 0
 
-data_end : (a : Addresses) (targets : List (List Target)) (at : ℕ) (ds : List (Placed DataDef)) → DataEnd a targets at ds
+data_end : (a : Addresses) (targets : List (List Target)) (at : ℕ) (ds : List (InText DataDef)) → DataEnd a targets at ds
 data_end a targets at [] = record { end = omega arith; whole = refl }
 data_end a targets at (d ∷ ds) =
     let rest = data_end a targets (at + round_16 (object_size d.item)) ds in
@@ -175,7 +175,7 @@ data_end a targets at (d ∷ ds) =
 
 -- ---- sizes of code
 
-functions_count : (a : Addresses) (targets : List (List Target)) (at : ℕ) (codes : List Words) (fs : List (Placed Func)) → length codes ≡ length fs
+functions_count : (a : Addresses) (targets : List (List Target)) (at : ℕ) (codes : List Words) (fs : List (InText Func)) → length codes ≡ length fs
     → at + 4 * length (functions_words a targets codes fs) ≡ functions_end at codes
 functions_count a targets at [] fs same = omega arith
 functions_count a targets at (c ∷ codes) [] same = absurd (omega arith)
@@ -227,7 +227,7 @@ wide_filled global ws (x ∷ hs) h =
     let w : ℕ = word (relocated x.relocation (global x.relocation.global)) in
     wide_filled global (slice_set ws x.word w) hs (wide_set ws x.word w h (word_small (relocated x.relocation (global x.relocation.global))))
 
-functions_wide : (a : Addresses) (targets : List (List Target)) (codes : List Words) (fs : List (Placed Func)) → EveryCode codes
+functions_wide : (a : Addresses) (targets : List (List Target)) (codes : List Words) (fs : List (InText Func)) → EveryCode codes
     → Wide (functions_words a targets codes fs)
 functions_wide a targets [] fs every = λ n. lit< tt
 functions_wide a targets (c ∷ codes) [] every = λ n. lit< tt

@@ -8,36 +8,36 @@ use Rattle.std.proofs.lemmas.List.Sums.{sum_by-append}
 use Rattle.std.proofs.lemmas.Slice.Eq.{bytes_eq-Decides}
 use Rattle.il_ast.specs.declared.function.Func.{Func}
 use Rattle.il_ast.specs.declared.datum.DataDef.{DataDef}
-use Rattle.il_ast.specs.declared.program.Placed.{Placed}
+use Rattle.il_ast.specs.declared.program.InText.{InText}
 use Rattle.il_ast.specs.declared.program.Program.{Program}
 use Rattle.il_ast.specs.declared.program.Target.{Target}
 use Rattle.il_ast.specs.declared.program.Target.TheVariants.{Code, Object}
 use Rattle.il_ast.specs.declared.value.Callee.TheVariants.{Defined, SystemWrite, SystemExit}
 use Rattle.il_types.specs.declared.checked.Checked.{Checked}
-use Rattle.obj_link.specs.declared.names.GlobalName.{GlobalName}
+use Rattle.obj_link.specs.declared.linking.names.GlobalName.{GlobalName}
 use Rattle.obj_link.specs.Names.{functions_of, objects_of, names_of, names_of_functions, names_of_objects, symbol_name, is_export, predefined, visible, times_exported}
 use Rattle.obj_link.specs.Main.{is_main, main_at, main_in, main_of, IsMain, ExportsMain}
 use Rattle.obj_link.specs.Program.{IsProgram}
 
 -- the name of function n
-abbrev named : ℕ → Placed Func → GlobalName
+abbrev named : ℕ → InText Func → GlobalName
 named n f = record { text = f.text; symbol = f.item.name; exported = f.item.exported; target = Code (Defined n) }
 
 -- ---- one that is there is found, where it is the only one
 
-here_first : (n : ℕ) (x f : Placed Func) → Some x ≡ Some f → named n x ≡ named (n + zero) f
+here_first : (n : ℕ) (x f : InText Func) → Some x ≡ Some f → named n x ≡ named (n + zero) f
 here_first n x f at =
     let same : x ≡ f = cc in
     let none : n ≡ n + zero = omega arith in
     ap (named n) same ∙ ap (λ m. named m f) none
 
-further : (p : GlobalName → Bool) (n k : ℕ) (f : Placed Func) → p (named (n + suc k) f) ≡ true → p (named (n + 1 + k) f) ≡ true
+further : (p : GlobalName → Bool) (n k : ℕ) (f : InText Func) → p (named (n + suc k) f) ≡ true → p (named (n + 1 + k) f) ≡ true
 further p n k f holds = let e : n + 1 + k ≡ n + suc k = omega arith in ap (λ m. p (named m f)) e ∙ holds
 
 first_counts : (p : GlobalName → Bool) (g : GlobalName) (xs : List GlobalName) (n : ℕ) → cond (p g) 1 0 ≡ n → count_by p (g ∷ xs) ≡ n + count_by p xs
 first_counts p g xs n e = let all = sum_by-append (λ y. cond (p y) 1 0) (g ∷ []) xs in omega (arith, all, e)
 
-is_counted : (p : GlobalName → Bool) (n : ℕ) (fs : List (Placed Func)) (rest : List GlobalName) (k : ℕ) (f : Placed Func) → slice_get fs k ≡ Some f → p (named (n + k) f) ≡ true → 1 ≤ count_by p (names_of_functions n fs ++ rest)
+is_counted : (p : GlobalName → Bool) (n : ℕ) (fs : List (InText Func)) (rest : List GlobalName) (k : ℕ) (f : InText Func) → slice_get fs k ≡ Some f → p (named (n + k) f) ≡ true → 1 ≤ count_by p (names_of_functions n fs ++ rest)
 is_counted p n [] rest zero f at holds = cc
 is_counted p n [] rest (suc k) f at holds = cc
 is_counted p n (x ∷ fs) rest zero f at holds =
@@ -48,7 +48,7 @@ is_counted p n (x ∷ fs) rest (suc k) f at holds =
     let first = first_counts p (named n x) (names_of_functions (n + 1) fs ++ rest) (cond (p (named n x)) 1 0) refl in
     omega (arith, more, first)
 
-is_found : (p : GlobalName → Bool) (n : ℕ) (fs : List (Placed Func)) (rest : List GlobalName) (k : ℕ) (f : Placed Func) → slice_get fs k ≡ Some f → p (named (n + k) f) ≡ true → count_by p (names_of_functions n fs ++ rest) ≤ 1 → find p (names_of_functions n fs ++ rest) ≡ Some (named (n + k) f)
+is_found : (p : GlobalName → Bool) (n : ℕ) (fs : List (InText Func)) (rest : List GlobalName) (k : ℕ) (f : InText Func) → slice_get fs k ≡ Some f → p (named (n + k) f) ≡ true → count_by p (names_of_functions n fs ++ rest) ≤ 1 → find p (names_of_functions n fs ++ rest) ≡ Some (named (n + k) f)
 is_found p n [] rest zero f at holds once = cc
 is_found p n [] rest (suc k) f at holds once = cc
 is_found p n (x ∷ fs) rest zero f at holds once =
@@ -68,7 +68,7 @@ is_found p n (x ∷ fs) rest (suc k) f at holds once = by_test (p (named n x)) r
         let next : n + 1 + k ≡ n + suc k = omega arith in
         ap (λ b. cond b (Some (named n x)) (find p tail)) e ∙ (later (omega (arith, once, first)) ∙ ap (λ m. Some (named m f)) next)
 
-exports_name : (texts : List Checked) (name : List ℕ) (k : ℕ) (f : Placed Func) → f.item.exported ≡ true → symbol_name texts f.text f.item.name ≡ name → is_export texts name (named k f) ≡ true
+exports_name : (texts : List Checked) (name : List ℕ) (k : ℕ) (f : InText Func) → f.item.exported ≡ true → symbol_name texts f.text f.item.name ≡ name → is_export texts name (named k f) ≡ true
 exports_name texts name k f e s = ap (λ b. b && bytes_eq (symbol_name texts f.text f.item.name) name) e ∙ (bytes_eq-Decides (symbol_name texts f.text f.item.name) name).1 s
 
 -- texts that export a `main` of one of the two forms, and it once, have it
@@ -92,16 +92,16 @@ both : (a b : Bool) → (a && b) ≡ true → (a ≡ true) × (b ≡ true)
 both true b h = (refl, h)
 both false b h = cc
 
-is_there : (p : GlobalName → Bool) (n : ℕ) (fs : List (Placed Func)) (ds : List (Placed DataDef)) (m : ℕ) (g : GlobalName) (k : ℕ) → find p (names_of_functions n fs ++ names_of_objects m ds) ≡ Some g → g.target ≡ Code (Defined k)
-    → (j : ℕ) × (f : Placed Func) × (k ≡ n + j) × (slice_get fs j ≡ Some f) × (p (named k f) ≡ true)
+is_there : (p : GlobalName → Bool) (n : ℕ) (fs : List (InText Func)) (ds : List (InText DataDef)) (m : ℕ) (g : GlobalName) (k : ℕ) → find p (names_of_functions n fs ++ names_of_objects m ds) ≡ Some g → g.target ≡ Code (Defined k)
+    → (j : ℕ) × (f : InText Func) × (k ≡ n + j) × (slice_get fs j ≡ Some f) × (p (named k f) ≡ true)
 is_there p n [] [] m g k found is = cc
 is_there p n [] (d ∷ ds) m g k found is = by_test (p datum) refl (is_there p n [] ds (m + 1) g k)
   where
     datum : GlobalName
     datum = record { text = d.text; symbol = d.item.name; exported = d.item.exported; target = Object m }
 
-    by_test : (b : Bool) → p datum ≡ b → (find p (names_of_objects (m + 1) ds) ≡ Some g → g.target ≡ Code (Defined k) → (j : ℕ) × (f : Placed Func) × (k ≡ n + j) × (slice_get [] j ≡ Some f) × (p (named k f) ≡ true))
-        → (j : ℕ) × (f : Placed Func) × (k ≡ n + j) × (slice_get [] j ≡ Some f) × (p (named k f) ≡ true)
+    by_test : (b : Bool) → p datum ≡ b → (find p (names_of_objects (m + 1) ds) ≡ Some g → g.target ≡ Code (Defined k) → (j : ℕ) × (f : InText Func) × (k ≡ n + j) × (slice_get [] j ≡ Some f) × (p (named k f) ≡ true))
+        → (j : ℕ) × (f : InText Func) × (k ≡ n + j) × (slice_get [] j ≡ Some f) × (p (named k f) ≡ true)
     by_test true e later =
         let this : Some datum ≡ Some g = sym (ap (λ b. cond b (Some datum) (find p (names_of_objects (m + 1) ds))) e) ∙ found in
         let same : datum ≡ g = cc in
@@ -113,8 +113,8 @@ is_there p n (x ∷ fs) ds m g k found is = by_test (p (named n x)) refl (λ e. 
     tail : List GlobalName
     tail = names_of_functions (n + 1) fs ++ names_of_objects m ds
 
-    by_test : (b : Bool) → p (named n x) ≡ b → (find p tail ≡ Some g → (j : ℕ) × (f : Placed Func) × (k ≡ n + 1 + j) × (slice_get fs j ≡ Some f) × (p (named k f) ≡ true))
-        → (j : ℕ) × (f : Placed Func) × (k ≡ n + j) × (slice_get (x ∷ fs) j ≡ Some f) × (p (named k f) ≡ true)
+    by_test : (b : Bool) → p (named n x) ≡ b → (find p tail ≡ Some g → (j : ℕ) × (f : InText Func) × (k ≡ n + 1 + j) × (slice_get fs j ≡ Some f) × (p (named k f) ≡ true))
+        → (j : ℕ) × (f : InText Func) × (k ≡ n + j) × (slice_get (x ∷ fs) j ≡ Some f) × (p (named k f) ≡ true)
     by_test true e later =
         let this : Some (named n x) ≡ Some g = sym (ap (λ b. cond b (Some (named n x)) (find p tail)) e) ∙ found in
         let same : named n x ≡ g = cc in
@@ -127,22 +127,22 @@ is_there p n (x ∷ fs) ds m g k found is = by_test (p (named n x)) refl (λ e. 
         (suc there.0, there.1, omega (arith, number), there.3, there.4)
 
 -- `main` of a program is such a function
-pub main_is : (texts : List Checked) (k : ℕ) → main_of texts ≡ Some k → (f : Placed Func) × (slice_get (functions_of texts) k ≡ Some f) × IsMain texts f
+pub main_is : (texts : List Checked) (k : ℕ) → main_of texts ≡ Some k → (f : InText Func) × (slice_get (functions_of texts) k ≡ Some f) × IsMain texts f
 main_is texts k is = by_name (find p (names_of texts)) refl
   where
-    fs : List (Placed Func)
+    fs : List (InText Func)
     fs = functions_of texts
 
     p : GlobalName → Bool
     p = is_export texts (codes "main")
 
     Answer : Type 0
-    Answer = (f : Placed Func) × (slice_get fs k ≡ Some f) × IsMain texts f
+    Answer = (f : InText Func) × (slice_get fs k ≡ Some f) × IsMain texts f
 
     of_function : (g : GlobalName) (n : ℕ) → find p (names_of texts) ≡ Some g → g.target ≡ Code (Defined n) → Answer
     of_function g n found at = by_form (is_main there.1.item) refl
       where
-        there : (j : ℕ) × (f : Placed Func) × (n ≡ 0 + j) × (slice_get fs j ≡ Some f) × (p (named n f) ≡ true)
+        there : (j : ℕ) × (f : InText Func) × (n ≡ 0 + j) × (slice_get fs j ≡ Some f) × (p (named n f) ≡ true)
         there = is_there p 0 fs (objects_of texts) 0 g n found at
 
         here : slice_get fs n ≡ Some there.1
@@ -174,7 +174,7 @@ main_is texts k is = by_name (find p (names_of texts)) refl
     by_name None found = let none : None ≡ Some k = sym (ap (λ o. main_in fs (option_or (option_map (λ (x : GlobalName). x.target) o) (predefined (codes "main")))) found) ∙ is in cc
     by_name (Some g) found = by_target g g.target found refl
 
-pub programs_export_main : (texts : List Checked) (p : Program) → IsProgram texts p → (f : Placed Func) × (slice_get p.functions p.main ≡ Some f) × IsMain texts f
+pub programs_export_main : (texts : List Checked) (p : Program) → IsProgram texts p → (f : InText Func) × (slice_get p.functions p.main ≡ Some f) × IsMain texts f
 programs_export_main texts p is =
     let found = main_is texts p.main is.main in
     (found.0, ap (λ fs. slice_get fs p.main) is.functions ∙ found.1, found.2)

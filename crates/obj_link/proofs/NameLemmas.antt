@@ -5,7 +5,7 @@ use Rattle.std.specs.List.{flat_map}
 use Rattle.std.specs.Borrow.{Bor}
 use Rattle.il_ast.specs.declared.function.Func.{Func}
 use Rattle.il_ast.specs.declared.datum.DataDef.{DataDef}
-use Rattle.il_ast.specs.declared.program.Placed.{Placed}
+use Rattle.il_ast.specs.declared.program.InText.{InText}
 use Rattle.il_ast.specs.declared.program.Target.TheVariants.{Code, Object}
 use Rattle.il_ast.specs.declared.value.Callee.TheVariants.{Defined}
 use Rattle.il_types.specs.declared.checked.Checked.{Checked}
@@ -18,8 +18,8 @@ functions_further xs i d lt = ap (functions_from i) (drop_more xs i d lt)
 pub objects_further : (xs : List Checked) (i : ℕ) (d : Checked) → i < length xs → objects_from i (drop i xs) ≡ flat_map (object_in i) (get_or xs i d).text.definitions ++ objects_from (i + 1) (drop (i + 1) xs)
 objects_further xs i d lt = ap (objects_from i) (drop_more xs i d lt)
 
-pub function_names_further : (xs : List (Placed (Bor Func))) (i : ℕ) (d : Placed (Bor Func)) → i < length xs → names_of_functions i (map shown (drop i xs)) ≡ record { text = (get_or xs i d).text; symbol = (get_or xs i d).item.now.name; exported = (get_or xs i d).item.now.exported; target = Code (Defined i) } ∷ names_of_functions (i + 1) (map shown (drop (i + 1) xs))
+pub function_names_further : (xs : List (InText (Bor Func))) (i : ℕ) (d : InText (Bor Func)) → i < length xs → names_of_functions i (map shown (drop i xs)) ≡ record { text = (get_or xs i d).text; symbol = (get_or xs i d).item.now.name; exported = (get_or xs i d).item.now.exported; target = Code (Defined i) } ∷ names_of_functions (i + 1) (map shown (drop (i + 1) xs))
 function_names_further xs i d lt = ap (λ ys. names_of_functions i (map shown ys)) (drop_more xs i d lt)
 
-pub object_names_further : (xs : List (Placed (Bor DataDef))) (i : ℕ) (d : Placed (Bor DataDef)) → i < length xs → names_of_objects i (map shown (drop i xs)) ≡ record { text = (get_or xs i d).text; symbol = (get_or xs i d).item.now.name; exported = (get_or xs i d).item.now.exported; target = Object i } ∷ names_of_objects (i + 1) (map shown (drop (i + 1) xs))
+pub object_names_further : (xs : List (InText (Bor DataDef))) (i : ℕ) (d : InText (Bor DataDef)) → i < length xs → names_of_objects i (map shown (drop i xs)) ≡ record { text = (get_or xs i d).text; symbol = (get_or xs i d).item.now.name; exported = (get_or xs i d).item.now.exported; target = Object i } ∷ names_of_objects (i + 1) (map shown (drop (i + 1) xs))
 object_names_further xs i d lt = ap (λ ys. names_of_objects i (map shown ys)) (drop_more xs i d lt)

@@ -7,7 +7,7 @@ use Rattle.std.proofs.lemmas.List.{take_more}
 use Rattle.std.proofs.lemmas.List.Folds.{find-append}
 use Rattle.std.proofs.lemmas.Bool.Decides.{nat_tests}
 use Rattle.il_ast.specs.declared.program.Target.{Target}
-use Rattle.obj_link.specs.declared.names.GlobalName.{GlobalName}
+use Rattle.obj_link.specs.declared.linking.names.GlobalName.{GlobalName}
 use Rattle.obj_link.specs.Names.{is_own, own}
 
 map_or : (a b : Option GlobalName) → option_map (λ (g : GlobalName). g.target) (option_or a b) ≡ option_or (option_map (λ (g : GlobalName). g.target) a) (option_map (λ (g : GlobalName). g.target) b)

@@ -5,13 +5,13 @@ use Rattle.std.specs.Option.{option_map, option_and_then}
 use Rattle.std.specs.Borrow.{Bor}
 use Rattle.il_ast.specs.declared.function.Func.{Func}
 use Rattle.il_ast.specs.declared.datum.DataDef.{DataDef}
-use Rattle.il_ast.specs.declared.program.Placed.{Placed}
+use Rattle.il_ast.specs.declared.program.InText.{InText}
 use Rattle.il_ast.specs.declared.program.Target.{Target}
 use Rattle.il_ast.specs.declared.program.Program.{Program}
 use Rattle.il_types.specs.declared.checked.Checked.{Checked}
-use Rattle.obj_link.specs.declared.names.GlobalName.{GlobalName}
-use Rattle.obj_link.specs.declared.error.LinkError.{LinkError}
-use Rattle.obj_link.specs.declared.error.LinkError.TheVariants.{UnknownName, ExportedTwice, NoMain, Limit, Memory}
+use Rattle.obj_link.specs.declared.linking.names.GlobalName.{GlobalName}
+use Rattle.obj_link.specs.declared.linking.error.LinkError.{LinkError}
+use Rattle.obj_link.specs.declared.linking.error.LinkError.TheVariants.{UnknownName, ExportedTwice, NoMain, Limit, Memory}
 use Rattle.obj_link.specs.Shown.{shown}
 use Rattle.obj_link.specs.Names.{functions_of, objects_of, names_of, names_of_functions, names_of_objects, visible, meaning_of, symbols_by, targets_by, targets_of}
 use Rattle.obj_link.specs.Main.{main_in, ExportsMain}
@@ -87,7 +87,7 @@ refuted Memory texts p h g = refl
 some_same : {A : Type 0} (a b : A) → Some a ≡ Some b → a ≡ b
 some_same a b e = cc
 
-same_parts : (t u : List (List Target)) (f g : List (Placed Func)) (o q : List (Placed DataDef)) (m n : ℕ) → t ≡ u → f ≡ g → o ≡ q → m ≡ n → (let p : Program = record { targets = t; functions = f; objects = o; main = m } in p) ≡ record { targets = u; functions = g; objects = q; main = n }
+same_parts : (t u : List (List Target)) (f g : List (InText Func)) (o q : List (InText DataDef)) (m n : ℕ) → t ≡ u → f ≡ g → o ≡ q → m ≡ n → (let p : Program = record { targets = t; functions = f; objects = o; main = m } in p) ≡ record { targets = u; functions = g; objects = q; main = n }
 same_parts t u f g o q m n a b c d =
     ap (λ x. record { targets = x; functions = f; objects = o; main = m }) a
     ∙ (ap (λ x. record { targets = u; functions = x; objects = o; main = m }) b
@@ -101,7 +101,7 @@ one_program texts p q g h =
 
 -- ---- the program that was made
 
-pub made : (texts : List Checked) (functions : List (Placed (Bor Func))) (objects : List (Placed (Bor DataDef))) (targets : List (List Target)) (named : Option Target) (main : ℕ) → map shown functions ≡ functions_of texts → map shown objects ≡ objects_of texts → IsJoined texts (names_of texts) targets named → within_limits texts (map shown functions) (map shown objects) ≡ true → main_in (map shown functions) named ≡ Some main → IsProgram texts (program_with targets functions objects main)
+pub made : (texts : List Checked) (functions : List (InText (Bor Func))) (objects : List (InText (Bor DataDef))) (targets : List (List Target)) (named : Option Target) (main : ℕ) → map shown functions ≡ functions_of texts → map shown objects ≡ objects_of texts → IsJoined texts (names_of texts) targets named → within_limits texts (map shown functions) (map shown objects) ≡ true → main_in (map shown functions) named ≡ Some main → IsProgram texts (program_with targets functions objects main)
 made texts functions objects targets named main f o j l m =
     record {
       functions = f;
@@ -113,10 +113,10 @@ made texts functions objects targets named main f o j l m =
       limits = ap (λ fs. within_limits texts fs (objects_of texts)) (sym f) ∙ (ap (within_limits texts (map shown functions)) (sym o) ∙ l);
     }
 
-pub named_by : (texts : List Checked) (functions : List (Placed (Bor Func))) (objects : List (Placed (Bor DataDef))) (names : List GlobalName) → map shown functions ≡ functions_of texts → map shown objects ≡ objects_of texts → names ≡ names_of_functions 0 (map shown functions) ++ names_of_objects 0 (map shown objects) → names ≡ names_of texts
+pub named_by : (texts : List Checked) (functions : List (InText (Bor Func))) (objects : List (InText (Bor DataDef))) (names : List GlobalName) → map shown functions ≡ functions_of texts → map shown objects ≡ objects_of texts → names ≡ names_of_functions 0 (map shown functions) ++ names_of_objects 0 (map shown objects) → names ≡ names_of texts
 named_by texts functions objects names f o n = n ∙ (ap (λ fs. names_of_functions 0 fs ++ names_of_objects 0 (map shown objects)) f ∙ ap (λ os. names_of_functions 0 (functions_of texts) ++ names_of_objects 0 os) o)
 
-pub begun : (texts : List Checked) (given functions sliced again : List (Placed (Bor Func))) (given_objects objects sliced_objects : List (Placed (Bor DataDef))) (targets : List (List Target)) (named : Option Target) (main : ℕ) → functions ≡ given → sliced ≡ functions → again ≡ functions → objects ≡ given_objects → sliced_objects ≡ objects → map shown given ≡ functions_of texts → map shown given_objects ≡ objects_of texts → IsJoined texts (names_of texts) targets named → true ≡ within_limits texts (map shown sliced) (map shown sliced_objects) → Some main ≡ main_in (map shown again) named → IsProgram texts (program_with targets functions objects main)
+pub begun : (texts : List Checked) (given functions sliced again : List (InText (Bor Func))) (given_objects objects sliced_objects : List (InText (Bor DataDef))) (targets : List (List Target)) (named : Option Target) (main : ℕ) → functions ≡ given → sliced ≡ functions → again ≡ functions → objects ≡ given_objects → sliced_objects ≡ objects → map shown given ≡ functions_of texts → map shown given_objects ≡ objects_of texts → IsJoined texts (names_of texts) targets named → true ≡ within_limits texts (map shown sliced) (map shown sliced_objects) → Some main ≡ main_in (map shown again) named → IsProgram texts (program_with targets functions objects main)
 begun texts given functions sliced again given_objects objects sliced_objects targets named main a b b2 c d f o j l m =
     made texts functions objects targets named main
     (ap (map shown) a ∙ f) (ap (map shown) c ∙ o) j
@@ -124,7 +124,7 @@ begun texts given functions sliced again given_objects objects sliced_objects ta
     (sym (m ∙ ap (λ fs. main_in (map shown fs) named) b2))
 
 -- where the name `main` means no function of either form, none is exported
-pub no_main : (texts : List Checked) (given functions again : List (Placed (Bor Func))) (targets : List (List Target)) (named : Option Target) → functions ≡ given → again ≡ functions → map shown given ≡ functions_of texts → IsJoined texts (names_of texts) targets named → None ≡ main_in (map shown again) named → ExportsMain texts → ⊥
+pub no_main : (texts : List Checked) (given functions again : List (InText (Bor Func))) (targets : List (List Target)) (named : Option Target) → functions ≡ given → again ≡ functions → map shown given ≡ functions_of texts → IsJoined texts (names_of texts) targets named → None ≡ main_in (map shown again) named → ExportsMain texts → ⊥
 no_main texts given functions again targets named a b f j none =
     let whole : map shown again ≡ functions_of texts = ap (map shown) (b ∙ a) ∙ f in
     exported_main texts (j.once (codes "main")) (ap (main_in (functions_of texts)) (sym j.main_is) ∙ (ap (λ fs. main_in fs named) (sym whole) ∙ sym none))

@@ -5,8 +5,8 @@ use Rattle.std.specs.Option.{option_map, option_and_then}
 use Rattle.std.proofs.lemmas.List.{drop_more, append-nil}
 use Rattle.il_ast.specs.declared.program.Target.{Target}
 use Rattle.il_types.specs.declared.checked.Checked.{Checked}
-use Rattle.obj_link.specs.declared.error.LinkError.{LinkError}
-use Rattle.obj_link.specs.declared.error.LinkError.TheVariants.{UnknownName, ExportedTwice, NoMain, Limit, Memory}
+use Rattle.obj_link.specs.declared.linking.error.LinkError.{LinkError}
+use Rattle.obj_link.specs.declared.linking.error.LinkError.TheVariants.{UnknownName, ExportedTwice, NoMain, Limit, Memory}
 use Rattle.obj_link.specs.Refusals.{RefusesSymbols, RefusesNames}
 use Rattle.obj_link.specs.Names.{symbols_by, targets_by}
 

@@ -6,13 +6,13 @@ use Rattle.std.specs.Option.{option_map, option_and_then, option_or}
 use Rattle.std.specs.Str.{bytes_eq}
 use Rattle.il_ast.specs.declared.function.Func.{Func}
 use Rattle.il_ast.specs.declared.datum.DataDef.{DataDef}
-use Rattle.il_ast.specs.declared.program.Placed.{Placed}
+use Rattle.il_ast.specs.declared.program.InText.{InText}
 use Rattle.il_ast.specs.declared.program.Program.{Program}
 use Rattle.il_ast.specs.declared.program.Target.{Target}
 use Rattle.il_ast.specs.declared.program.Target.TheVariants.{Code, Object}
 use Rattle.il_ast.specs.declared.value.Callee.TheVariants.{Defined, SystemWrite, SystemExit}
 use Rattle.il_types.specs.declared.checked.Checked.{Checked}
-use Rattle.obj_link.specs.declared.names.GlobalName.{GlobalName}
+use Rattle.obj_link.specs.declared.linking.names.GlobalName.{GlobalName}
 use Rattle.obj_link.specs.Names.{functions_of, objects_of, names_of, names_of_functions, names_of_objects, is_own, own, is_export, exported, predefined, visible, meaning_of, symbols_by, targets_by}
 use Rattle.obj_link.specs.Main.{is_main, main_at, main_in}
 use Rattle.obj_link.specs.Laws.{IsThere, HasWhatNamesMean}
@@ -28,11 +28,11 @@ both_there : (f o : ℕ) (xs ys : List GlobalName) → AllThere f o xs → AllTh
 both_there f o [] ys h k = k
 both_there f o (x ∷ xs) ys h k = (h.0, both_there f o xs ys h.1 k)
 
-functions_there : (f o n : ℕ) (fs : List (Placed Func)) → n + length fs ≤ f → AllThere f o (names_of_functions n fs)
+functions_there : (f o n : ℕ) (fs : List (InText Func)) → n + length fs ≤ f → AllThere f o (names_of_functions n fs)
 functions_there f o n [] le = tt
 functions_there f o n (x ∷ fs) le = (omega (arith, le), functions_there f o (n + 1) fs (omega (arith, le)))
 
-objects_there : (f o n : ℕ) (ds : List (Placed DataDef)) → n + length ds ≤ o → AllThere f o (names_of_objects n ds)
+objects_there : (f o n : ℕ) (ds : List (InText DataDef)) → n + length ds ≤ o → AllThere f o (names_of_objects n ds)
 objects_there f o n [] le = tt
 objects_there f o n (x ∷ ds) le = (omega (arith, le), objects_there f o (n + 1) ds (omega (arith, le)))
 
@@ -136,14 +136,14 @@ text_at meaning t (x ∷ xs) found (suc i) ts e at =
 
 -- ---- main
 
-main_there : (fs : List (Placed Func)) (named : Option Target) (k : ℕ) → main_in fs named ≡ Some k → (f : Placed Func) × (slice_get fs k ≡ Some f) × (is_main f.item ≡ true)
+main_there : (fs : List (InText Func)) (named : Option Target) (k : ℕ) → main_in fs named ≡ Some k → (f : InText Func) × (slice_get fs k ≡ Some f) × (is_main f.item ≡ true)
 main_there fs (Some (Code (Defined n))) k e = at_place (slice_get fs n) refl
   where
-    at_place : (o : Option (Placed Func)) → slice_get fs n ≡ o → (f : Placed Func) × (slice_get fs k ≡ Some f) × (is_main f.item ≡ true)
+    at_place : (o : Option (InText Func)) → slice_get fs n ≡ o → (f : InText Func) × (slice_get fs k ≡ Some f) × (is_main f.item ≡ true)
     at_place None at = let e2 : main_at n None ≡ Some k = sym (ap (main_at n) at) ∙ e in cc
     at_place (Some f) at = by_form (is_main f.item) refl (sym (ap (main_at n) at) ∙ e)
       where
-        by_form : (b : Bool) → is_main f.item ≡ b → main_at n (Some f) ≡ Some k → (f : Placed Func) × (slice_get fs k ≡ Some f) × (is_main f.item ≡ true)
+        by_form : (b : Bool) → is_main f.item ≡ b → main_at n (Some f) ≡ Some k → (f : InText Func) × (slice_get fs k ≡ Some f) × (is_main f.item ≡ true)
         by_form true m e2 =
             let e3 : Some n ≡ Some k = sym (ap (λ b. cond b (Some n) None) m) ∙ e2 in
             let same : n ≡ k = cc in

@@ -10,8 +10,8 @@ use Rattle.il_ast.specs.declared.operation.Size.{Size}
 use Rattle.il_ast.specs.declared.program.Target.{Target}
 use Rattle.il_ast.specs.declared.program.Target.TheVariants.{Code, Object}
 use Rattle.il_ast.specs.Values.{bytes_of, byte_count}
-use Rattle.obj_link.specs.declared.addresses.Addresses.{Addresses}
-use Rattle.il_ast.specs.declared.program.Placed.{Placed}
+use Rattle.obj_link.specs.declared.placing.addresses.Addresses.{Addresses}
+use Rattle.il_ast.specs.declared.program.InText.{InText}
 use Rattle.il_ast.specs.declared.datum.DataDef.{DataDef}
 use Rattle.obj_link.specs.Placed.{callee_address, meaning, in_slots}
 
@@ -32,5 +32,5 @@ field_bytes a targets t (Items size items) = flat_map (item_bytes a targets t si
 field_bytes a targets t (Zeros n) = replicate n 0
 
 -- the bytes of a datum, with the zeros after them
-abbrev pub slot_bytes : Addresses → List (List Target) → Placed DataDef → List ℕ
+abbrev pub slot_bytes : Addresses → List (List Target) → InText DataDef → List ℕ
 slot_bytes a targets d = in_slots (flat_map (field_bytes a targets d.text) d.item.fields)

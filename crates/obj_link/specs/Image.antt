@@ -2,7 +2,7 @@
 -- The addresses are this project's choice; the page is the 4096 bytes of p_align (ELF64, "Program
 -- Header").
 use Rattle.std.specs.Prelude.{◌≡◌, ℕ, ◌+◌, ◌*◌, ◌/◌, ◌%◌, ◌^◌, ◌<◌, ◌≤◌, List, length, slice_index}
-use Rattle.obj_link.specs.declared.image.TheConstants.{CODE_START, IMAGE_END}
+use Rattle.obj_link.specs.declared.placing.image.TheConstants.{CODE_START, IMAGE_END}
 
 -- the words of the code, and the bytes of the data after it
 pub record Contents : Type 0 where

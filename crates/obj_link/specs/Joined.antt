@@ -3,9 +3,9 @@ use Rattle.std.specs.Prelude.{◌≡◌, ◌<◌, ◌≤◌, ℕ, List, Option, 
 use Rattle.std.specs.Option.{option_or}
 use Rattle.il_ast.specs.declared.program.Target.{Target}
 use Rattle.il_types.specs.declared.checked.Checked.{Checked}
-use Rattle.obj_link.specs.declared.names.GlobalName.{GlobalName}
-use Rattle.obj_link.specs.declared.error.LinkError.{LinkError}
-use Rattle.obj_link.specs.declared.error.LinkError.TheVariants.{UnknownName, ExportedTwice, NoMain, Limit, Memory}
+use Rattle.obj_link.specs.declared.linking.names.GlobalName.{GlobalName}
+use Rattle.obj_link.specs.declared.linking.error.LinkError.{LinkError}
+use Rattle.obj_link.specs.declared.linking.error.LinkError.TheVariants.{UnknownName, ExportedTwice, NoMain, Limit, Memory}
 use Rattle.obj_link.specs.Names.{own, visible, times_exported, targets_by}
 use Rattle.obj_link.specs.Refusals.{IsUnknown}
 

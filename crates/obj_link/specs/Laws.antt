@@ -1,7 +1,7 @@
 -- The laws of linking.
 use Rattle.std.specs.Prelude.{◌≡◌, ◌<◌, ℕ, true, List, length, slice_get, Some}
 use Rattle.il_ast.specs.declared.function.Func.{Func}
-use Rattle.il_ast.specs.declared.program.Placed.{Placed}
+use Rattle.il_ast.specs.declared.program.InText.{InText}
 use Rattle.il_ast.specs.declared.program.Program.{Program}
 use Rattle.il_ast.specs.declared.program.Target.{Target}
 use Rattle.il_ast.specs.declared.program.Target.TheVariants.{Code, Object}
@@ -35,13 +35,13 @@ pub record HasWhatNamesMean (texts : List Checked) (p : Program) : Type 0 where
       slice_get p.targets t ≡ Some targets → slice_get targets s ≡ Some target →
       IsThere (length p.functions) (length p.objects) target
   -- `main` is a function of one of the two forms
-  pub main : (f : Placed Func) × (slice_get p.functions p.main ≡ Some f) × (is_main f.item ≡ true)
+  pub main : (f : InText Func) × (slice_get p.functions p.main ≡ Some f) × (is_main f.item ≡ true)
 
 -- a program begins with a function that is exported as `main`, in one of the two forms
 abbrev pub ProgramsExportMain : Type 0
 ProgramsExportMain =
     (texts : List Checked) (p : Program) → IsProgram texts p →
-    (f : Placed Func) × (slice_get p.functions p.main ≡ Some f) × IsMain texts f
+    (f : InText Func) × (slice_get p.functions p.main ≡ Some f) × IsMain texts f
 
 abbrev pub ProgramsHaveWhatNamesMean : Type 0
 ProgramsHaveWhatNamesMean =

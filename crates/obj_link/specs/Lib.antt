@@ -13,4 +13,4 @@ pub mod Laws
 pub mod Natives
 pub mod Placed
 pub mod DataBytes
-pub mod Words
+pub mod Arguments

@@ -9,7 +9,7 @@ use Rattle.il_ast.specs.declared.datum.Field.{Field}
 use Rattle.il_ast.specs.declared.datum.Field.TheVariants.{Items, Zeros}
 use Rattle.il_ast.specs.declared.datum.DataDef.{DataDef}
 use Rattle.il_ast.specs.declared.function.Func.{Func}
-use Rattle.il_ast.specs.declared.program.Placed.{Placed}
+use Rattle.il_ast.specs.declared.program.InText.{InText}
 use Rattle.il_ast.specs.Values.{byte_count}
 use Rattle.il_ast.specs.Cost.{round_16, weight}
 use Rattle.il_types.specs.declared.checked.Checked.{Checked}
@@ -27,14 +27,14 @@ field_size (Zeros n) = n
 abbrev pub object_size : DataDef → ℕ
 object_size d = sum_by field_size d.fields
 
-abbrev pub total_weight : List (Placed Func) → ℕ
-total_weight functions = sum_by (λ (f : Placed Func). weight f.item) functions
+abbrev pub total_weight : List (InText Func) → ℕ
+total_weight functions = sum_by (λ (f : InText Func). weight f.item) functions
 
 -- the bytes of all data, each datum rounded up to 16
-abbrev pub total_size : List (Placed DataDef) → ℕ
-total_size objects = sum_by (λ (d : Placed DataDef). round_16 (object_size d.item)) objects
+abbrev pub total_size : List (InText DataDef) → ℕ
+total_size objects = sum_by (λ (d : InText DataDef). round_16 (object_size d.item)) objects
 
-abbrev pub within_limits : List Checked → List (Placed Func) → List (Placed DataDef) → Bool
+abbrev pub within_limits : List Checked → List (InText Func) → List (InText DataDef) → Bool
 within_limits texts functions objects =
     nat_le (length texts) TEXTS
     && (nat_le (length functions) FUNCTIONS && (nat_le (total_weight functions) PROGRAM_WEIGHT

@@ -8,42 +8,42 @@ use Rattle.il_ast.specs.declared.function.Func.{Func}
 use Rattle.il_ast.specs.declared.datum.DataDef.{DataDef}
 use Rattle.il_ast.specs.declared.text.Definition.{Definition}
 use Rattle.il_ast.specs.declared.text.Definition.TheVariants.{Function, Object as ObjectDefinition}
-use Rattle.il_ast.specs.declared.program.Placed.{Placed}
+use Rattle.il_ast.specs.declared.program.InText.{InText}
 use Rattle.il_ast.specs.declared.program.Target.{Target}
 use Rattle.il_ast.specs.declared.program.Target.TheVariants.{Code, Object}
 use Rattle.il_ast.specs.declared.value.Callee.TheVariants.{Defined, SystemWrite, SystemExit}
 use Rattle.il_types.specs.declared.checked.Checked.{Checked}
-use Rattle.obj_link.specs.declared.names.GlobalName.{GlobalName}
+use Rattle.obj_link.specs.declared.linking.names.GlobalName.{GlobalName}
 
 -- ---- definitions, in order of texts, each with the number of its text
 
-abbrev pub function_in : ℕ → Definition → List (Placed Func)
+abbrev pub function_in : ℕ → Definition → List (InText Func)
 function_in t (Function f) = record { text = t; item = f } ∷ []
 function_in t (ObjectDefinition d) = []
 
-abbrev pub object_in : ℕ → Definition → List (Placed DataDef)
+abbrev pub object_in : ℕ → Definition → List (InText DataDef)
 object_in t (Function f) = []
 object_in t (ObjectDefinition d) = record { text = t; item = d } ∷ []
 
 -- of texts that are numbered from t on
-abbrev pub functions_from : ℕ → List Checked → List (Placed Func)
+abbrev pub functions_from : ℕ → List Checked → List (InText Func)
 functions_from t [] = []
 functions_from t (x ∷ xs) = flat_map (function_in t) x.text.definitions ++ functions_from (t + 1) xs
 
-abbrev pub objects_from : ℕ → List Checked → List (Placed DataDef)
+abbrev pub objects_from : ℕ → List Checked → List (InText DataDef)
 objects_from t [] = []
 objects_from t (x ∷ xs) = flat_map (object_in t) x.text.definitions ++ objects_from (t + 1) xs
 
-abbrev pub functions_of : List Checked → List (Placed Func)
+abbrev pub functions_of : List Checked → List (InText Func)
 functions_of texts = functions_from 0 texts
 
-abbrev pub objects_of : List Checked → List (Placed DataDef)
+abbrev pub objects_of : List Checked → List (InText DataDef)
 objects_of texts = objects_from 0 texts
 
 -- ---- the names that they define: a function gives its name the function with its number, from n
 -- on, and a datum the datum
 
-abbrev pub names_of_functions : ℕ → List (Placed Func) → List GlobalName
+abbrev pub names_of_functions : ℕ → List (InText Func) → List GlobalName
 names_of_functions n [] = []
 names_of_functions n (f ∷ fs) =
     record {
@@ -53,7 +53,7 @@ names_of_functions n (f ∷ fs) =
       target = Code (Defined n);
     } ∷ names_of_functions (n + 1) fs
 
-abbrev pub names_of_objects : ℕ → List (Placed DataDef) → List GlobalName
+abbrev pub names_of_objects : ℕ → List (InText DataDef) → List GlobalName
 names_of_objects n [] = []
 names_of_objects n (d ∷ ds) =
     record { text = d.text; symbol = d.item.name; exported = d.item.exported; target = Object n }

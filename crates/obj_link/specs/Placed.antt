@@ -5,7 +5,7 @@ use Rattle.std.specs.Int.{byte_at}
 use Rattle.std.specs.List.{flat_map}
 use Rattle.il_ast.specs.declared.datum.DataDef.{DataDef}
 use Rattle.il_ast.specs.declared.function.Func.{Func}
-use Rattle.il_ast.specs.declared.program.Placed.{Placed}
+use Rattle.il_ast.specs.declared.program.InText.{InText}
 use Rattle.il_ast.specs.declared.program.Program.{Program}
 use Rattle.il_ast.specs.declared.program.Target.{Target}
 use Rattle.il_ast.specs.declared.program.Target.TheVariants.{Code, Object}
@@ -19,7 +19,7 @@ use Rattle.il_ast.specs.Cost.{weight, round_16}
 use Rattle.il_ast.specs.Start.{object_cells}
 use Rattle.rv_isa.specs.Words.{Words, IsCode}
 use Rattle.rv_isa.specs.Laid.{filled}
-use Rattle.obj_link.specs.declared.addresses.Addresses.{Addresses}
+use Rattle.obj_link.specs.declared.placing.addresses.Addresses.{Addresses}
 use Rattle.obj_link.specs.Image.{Contents, code_start, image_end, round_to_page}
 use Rattle.obj_link.specs.Limits.{object_size}
 use Rattle.obj_link.specs.Natives.{start_words, write_words, exit_words, write_address, exit_address, functions_start}
@@ -37,12 +37,12 @@ functions_end at [] = at
 functions_end at (c ∷ codes) = functions_end (at + 4 * length c.words) codes
 
 -- data stand one after another, each from a multiple of 16
-abbrev pub object_addresses : (at : ℕ) → List (Placed DataDef) → List ℕ
+abbrev pub object_addresses : (at : ℕ) → List (InText DataDef) → List ℕ
 object_addresses at [] = []
 object_addresses at (d ∷ ds) = at ∷ object_addresses (at + round_16 (object_size d.item)) ds
 
 -- where the last one's slot ends
-abbrev pub objects_end : (at : ℕ) → List (Placed DataDef) → ℕ
+abbrev pub objects_end : (at : ℕ) → List (InText DataDef) → ℕ
 objects_end at [] = at
 objects_end at (d ∷ ds) = objects_end (at + round_16 (object_size d.item)) ds
 
@@ -78,7 +78,7 @@ name_address a targets t n = target_address a (meaning targets t n)
 -- ---- code
 
 -- each function's words, with the addresses of its text's names
-abbrev pub functions_words : Addresses → List (List Target) → List Words → List (Placed Func) →
+abbrev pub functions_words : Addresses → List (List Target) → List Words → List (InText Func) →
     List ℕ
 functions_words a targets [] fs = []
 functions_words a targets (c ∷ codes) [] = []
@@ -108,7 +108,7 @@ cell_byte a Blank = 0
 unfoldable pub in_slots : List ℕ → List ℕ
 in_slots bytes = bytes ++ replicate (round_16 (length bytes) - length bytes) 0
 
-abbrev pub object_bytes : Addresses → Program → Placed DataDef → List ℕ
+abbrev pub object_bytes : Addresses → Program → InText DataDef → List ℕ
 object_bytes a p d = in_slots (map (cell_byte a) (object_cells p d))
 
 -- ---- the whole
@@ -131,7 +131,7 @@ EveryCode [] = Unit {0}
 EveryCode (c ∷ codes) = IsCode c × EveryCode codes
 
 -- one code for each function, of at most 32 words for each unit of its weight and 256 more
-abbrev pub AreCodes : List Words → List (Placed Func) → Type 0
+abbrev pub AreCodes : List Words → List (InText Func) → Type 0
 AreCodes [] [] = Unit {0}
 AreCodes [] (f ∷ fs) = ⊥
 AreCodes (c ∷ codes) [] = ⊥

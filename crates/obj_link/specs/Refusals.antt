@@ -3,9 +3,9 @@ use Rattle.std.specs.Prelude.{◌≡◌, ◌<◌, ℕ, false, List, Option, Some
 use Rattle.std.specs.Option.{option_and_then}
 use Rattle.il_ast.specs.declared.program.Target.{Target}
 use Rattle.il_types.specs.declared.checked.Checked.{Checked}
-use Rattle.obj_link.specs.declared.names.GlobalName.{GlobalName}
-use Rattle.obj_link.specs.declared.error.LinkError.{LinkError}
-use Rattle.obj_link.specs.declared.error.LinkError.TheVariants.{UnknownName, ExportedTwice, NoMain, Limit, Memory}
+use Rattle.obj_link.specs.declared.linking.names.GlobalName.{GlobalName}
+use Rattle.obj_link.specs.declared.linking.error.LinkError.{LinkError}
+use Rattle.obj_link.specs.declared.linking.error.LinkError.TheVariants.{UnknownName, ExportedTwice, NoMain, Limit, Memory}
 use Rattle.obj_link.specs.Names.{times_exported, meaning_of, names_of, functions_of, objects_of}
 use Rattle.obj_link.specs.Main.{ExportsMain}
 use Rattle.obj_link.specs.Limits.{within_limits}

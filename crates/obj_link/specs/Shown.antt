@@ -1,6 +1,6 @@
 -- A definition that is referred to, as the definition itself.
 use Rattle.std.specs.Borrow.{Bor}
-use Rattle.il_ast.specs.declared.program.Placed.{Placed}
+use Rattle.il_ast.specs.declared.program.InText.{InText}
 
-abbrev pub shown : {X : Type 0} → Placed (Bor X) → Placed X
+abbrev pub shown : {X : Type 0} → InText (Bor X) → InText X
 shown x = record { text = x.text; item = x.item.now }

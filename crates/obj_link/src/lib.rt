@@ -1,13 +1,13 @@
 //! # Linking texts, and the linked image of a program
 //!
-//! [`resolve::resolve`] links texts that keep the rules: it gives each global name of each text its meaning, or refuses the texts. Texts are a
+//! [`linking::resolve::resolve`] links texts that keep the rules: it gives each global name of each text its meaning, or refuses the texts. Texts are a
 //! program exactly where `IsProgram` of `specs/Program.antt` holds, and are at most one ([`laws::at_most_one_program`]). An answer is that program,
-//! and a refusal, aside want of memory, says what is true of the texts and comes only where they are no program. A [`linked::Linked`] borrows
+//! and a refusal, aside want of memory, says what is true of the texts and comes only where they are no program. A [`linking::linked::Linked`] borrows
 //! the functions and data of the texts and says what each name means by numbers, so that nothing later looks up a name.
 //!
 //! The work goes over the definitions once, with a look-up in a hash table for each definition and for each name that a text mentions.
 //!
-//! [`place::place`] makes the image of a linked program whose functions have been laid out: the start code, `write` and `exit`, the functions in
+//! [`placing::place::place`] makes the image of a linked program whose functions have been laid out: the start code, `write` and `exit`, the functions in
 //! order, the data in order, each name filled in by its address. What it makes is `contents_of` of `specs/Placed.antt`, and there is no error but want of
 //! memory; where each function has at most 32 words for each unit of its weight and 256 more, a program always fits ([`laws::programs_fit`]).
 //!
@@ -38,22 +38,9 @@
 //! The crate stands on `il_ast` and `il_types`, on `rv_isa`, `asm_layout` and `bits` for the words of code, and on `thiserror` for the texts of refusals.
 #![tactic(auto)]
 
-mod addresses;
-mod data_bytes;
-pub mod error;
-mod exports;
-mod fill;
-mod image;
+pub mod arguments;
 pub mod laws;
-pub mod limits;
-pub mod linked;
-mod main_function;
-mod names;
-mod natives;
-pub mod place;
-pub mod resolve;
-mod tables;
-mod targets;
-pub mod words;
+pub mod linking;
+pub mod placing;
 
-pub use image::{CODE_START, IMAGE_END, Image, PAGE, SLOT};
+pub use placing::image::{CODE_START, IMAGE_END, Image, PAGE, SLOT};

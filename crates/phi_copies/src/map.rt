@@ -4,7 +4,7 @@ ghost use Rattle.il_ast.specs.Effect.{place_of};
 ghost use Rattle.phi_copies.specs.Good.{IsGoodFunction};
 ghost use Rattle.phi_copies.specs.Copies.{phis_at};
 ghost use Rattle.phi_copies.specs.Lowered.{target};
-ghost use Rattle.il_types.specs.Places.{place_in};
+ghost use Rattle.il_types.specs.LabelBlocks.{place_in};
 ghost use Rattle.phi_copies.specs.Map.{first_numbers};
 ghost use Rattle.std.proofs.Props.{props};
 
@@ -12,7 +12,7 @@ use crate::arguments::argument_places;
 use il_ast::block::Phi;
 use il_ast::function::Func;
 use il_ast::label::Label;
-use il_types::places::block_places;
+use il_types::label_blocks::block_places;
 use std::alloc::{AllocError, Global};
 
 /// A function, with the place of each label's block and the number of the first temporary for each block's phis; and where to look for the arguments of phis for

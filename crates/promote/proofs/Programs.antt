@@ -16,7 +16,7 @@ use Rattle.il_ast.specs.declared.function.Param.{Param}
 use Rattle.il_ast.specs.declared.function.Func.{Func}
 use Rattle.il_ast.specs.declared.program.Target.{Target}
 use Rattle.il_ast.specs.declared.program.Target.TheVariants.{Code, Object}
-use Rattle.il_ast.specs.declared.program.Placed.{Placed}
+use Rattle.il_ast.specs.declared.program.InText.{InText}
 use Rattle.il_ast.specs.declared.program.Program.{Program}
 use Rattle.il_ast.specs.declared.value.Callee.{Callee}
 use Rattle.il_ast.specs.declared.value.Callee.TheVariants.{Defined, SystemWrite, SystemExit}
@@ -117,7 +117,7 @@ called call f t room m g params result n globals =
     cond (call_fits call (map (λ (x : Param). x.class) params) result)
     (cond (nat_lt room n) (Ended nothing Stack) (after one_call (body (record { func = g; globals = globals }) f t (room - n) call.args m))) (Ended nothing Undefined)
 
-function_so : (p q : Program) (base : Marks) (f g : Callees) → q.targets ≡ p.targets → NamesClean p base → CalleesSo base f g → (call : Call) (t room : ℕ) (hs : Marks) (m : Memory) (x y : Placed Func) → Extends base hs → length hs ≡ length m → CleanMemory hs m → CleanAll hs call.args → y.text ≡ x.text → IsPromoted x.item y.item → OutcomeSo hs m (call_function p f call t room m (Some x)) (call_function q g call t room (hide hs m) (Some y))
+function_so : (p q : Program) (base : Marks) (f g : Callees) → q.targets ≡ p.targets → NamesClean p base → CalleesSo base f g → (call : Call) (t room : ℕ) (hs : Marks) (m : Memory) (x y : InText Func) → Extends base hs → length hs ≡ length m → CleanMemory hs m → CleanAll hs call.args → y.text ≡ x.text → IsPromoted x.item y.item → OutcomeSo hs m (call_function p f call t room m (Some x)) (call_function q g call t room (hide hs m) (Some y))
 function_so p q base f g targets names callees call t room hs m x y from alike clean args text r =
     let w = width_in (mentions_of x.item) in
     let globals : globals_of q y.text ≡ globals_of p x.text = ap (λ ts. values_of (slice_get ts y.text)) targets ∙ ap (λ n. values_of (slice_get p.targets n)) text in
@@ -139,18 +139,18 @@ function_so p q base f g targets names callees call t room hs m x y from alike c
     (body_so c x.item y.item base f g t (room - need x.item) call.args r (all_respected (mentions_of x.item)) from callees clean args))) tt)
 
 -- a function by its number, on both sides
-abbrev AtBoth : Option (Placed Func) → Option (Placed Func) → Type 0
+abbrev AtBoth : Option (InText Func) → Option (InText Func) → Type 0
 AtBoth None o = o ≡ None
-AtBoth (Some x) o = (y : Placed Func) × (o ≡ Some y) × (y.text ≡ x.text) × IsPromoted x.item y.item
+AtBoth (Some x) o = (y : InText Func) × (o ≡ Some y) × (y.text ≡ x.text) × IsPromoted x.item y.item
 
-at_both : (fs gs : List (Placed Func)) (k : ℕ) → ArePromoted fs gs → AtBoth (slice_get fs k) (slice_get gs k)
+at_both : (fs gs : List (InText Func)) (k : ℕ) → ArePromoted fs gs → AtBoth (slice_get fs k) (slice_get gs k)
 at_both [] [] k h = refl
 at_both [] (g ∷ gs) k h = absurd h
 at_both (f ∷ fs) [] k h = absurd h
 at_both (f ∷ fs) (g ∷ gs) zero h = (g, refl, h.0, h.1)
 at_both (f ∷ fs) (g ∷ gs) (suc k) h = at_both fs gs k h.2
 
-defined_so : (p q : Program) (base : Marks) (f g : Callees) → q.targets ≡ p.targets → NamesClean p base → CalleesSo base f g → (call : Call) (t room : ℕ) (hs : Marks) (m : Memory) (x y : Option (Placed Func)) → Extends base hs → length hs ≡ length m → CleanMemory hs m → CleanAll hs call.args → AtBoth x y → OutcomeSo hs m (call_function p f call t room m x) (call_function q g call t room (hide hs m) y)
+defined_so : (p q : Program) (base : Marks) (f g : Callees) → q.targets ≡ p.targets → NamesClean p base → CalleesSo base f g → (call : Call) (t room : ℕ) (hs : Marks) (m : Memory) (x y : Option (InText Func)) → Extends base hs → length hs ≡ length m → CleanMemory hs m → CleanAll hs call.args → AtBoth x y → OutcomeSo hs m (call_function p f call t room m x) (call_function q g call t room (hide hs m) y)
 defined_so p q base f g targets names callees call t room hs m None y from alike clean args h = tt
 defined_so p q base f g targets names callees call t room hs m (Some x) y from alike clean args h =
     subst (λ o. OutcomeSo hs m (call_function p f call t room m (Some x)) (call_function q g call t room (hide hs m) o)) (sym h.1)
@@ -243,7 +243,7 @@ both_clean : (hs : Marks) (m n : Memory) → AllClean hs m → AllClean hs n →
 both_clean hs [] n h k = k
 both_clean hs (x ∷ m) n h k = (h.0, both_clean hs m n h.1 k)
 
-objects_clean : (p : Program) (hs : Marks) (ds : List (Placed DataDef)) → NamesClean p hs → ObjectsHaveBytes ds → AllClean hs (map (λ (d : Placed DataDef). Some (object_cells p d)) ds)
+objects_clean : (p : Program) (hs : Marks) (ds : List (InText DataDef)) → NamesClean p hs → ObjectsHaveBytes ds → AllClean hs (map (λ (d : InText DataDef). Some (object_cells p d)) ds)
 objects_clean p hs [] names h = tt
 objects_clean p hs (d ∷ ds) names h = (fields_clean hs (globals_of p d.text) d.item.fields (names d.text) h.0, objects_clean p hs ds names h.1)
 
@@ -263,8 +263,8 @@ pointers_clean n b (suc k) le =
 
 start_long : (p : Program) (words : List (List ℕ)) → length (start_memory p words) ≡ length p.objects + (length words + 1)
 start_long p words =
-    length-append (map (λ (d : Placed DataDef). Some (object_cells p d)) p.objects) (map (λ (w : List ℕ). Some (word_cells w)) words ++ Some (list_cells (length p.objects) (length words)) ∷ [])
-    ∙ (ap (λ n. n + length (map (λ (w : List ℕ). Some (word_cells w)) words ++ Some (list_cells (length p.objects) (length words)) ∷ [])) (length-map p.objects (λ (d : Placed DataDef). Some (object_cells p d)))
+    length-append (map (λ (d : InText DataDef). Some (object_cells p d)) p.objects) (map (λ (w : List ℕ). Some (word_cells w)) words ++ Some (list_cells (length p.objects) (length words)) ∷ [])
+    ∙ (ap (λ n. n + length (map (λ (w : List ℕ). Some (word_cells w)) words ++ Some (list_cells (length p.objects) (length words)) ∷ [])) (length-map p.objects (λ (d : InText DataDef). Some (object_cells p d)))
     ∙ ap (λ n. length p.objects + n)
     (length-append (map (λ (w : List ℕ). Some (word_cells w)) words) (Some (list_cells (length p.objects) (length words)) ∷ [])
     ∙ ap (λ n. n + 1) (length-map words (λ (w : List ℕ). Some (word_cells w)))))
@@ -282,7 +282,7 @@ start_clean p words h b x e =
     let long = start_long p words in
     let hs = start_marks p words in
     clean_there hs (start_memory p words) b x
-    (both_clean hs (map (λ (d : Placed DataDef). Some (object_cells p d)) p.objects) (map (λ (w : List ℕ). Some (word_cells w)) words ++ Some (list_cells (length p.objects) (length words)) ∷ [])
+    (both_clean hs (map (λ (d : InText DataDef). Some (object_cells p d)) p.objects) (map (λ (w : List ℕ). Some (word_cells w)) words ++ Some (list_cells (length p.objects) (length words)) ∷ [])
     (objects_clean p hs p.objects (names_start p words h) h.data_bytes)
     (both_clean hs (map (λ (w : List ℕ). Some (word_cells w)) words) (Some (list_cells (length p.objects) (length words)) ∷ []) (words_clean hs words h.word_bytes) (
       clean_both hs (pointers_from (length p.objects) (length words)) (replicate 8 (Plain 0))
@@ -298,9 +298,9 @@ main_clean p words h (x ∷ ps) =
 
 -- ---- the whole
 
-start_of : (List (List Target)) → List (Placed DataDef) → List (List ℕ) → Memory
+start_of : (List (List Target)) → List (InText DataDef) → List (List ℕ) → Memory
 start_of targets objects words =
-    map (λ (d : Placed DataDef). Some (flat_map (field_cells (values_of (slice_get targets d.text))) d.item.fields)) objects
+    map (λ (d : InText DataDef). Some (flat_map (field_cells (values_of (slice_get targets d.text))) d.item.fields)) objects
     ++ (map (λ (w : List ℕ). Some (word_cells w)) words ++ Some (list_cells (length objects) (length words)) ∷ [])
 
 start_same : (p q : Program) (words : List (List ℕ)) → IsProgramPromoted p q → start_memory q words ≡ start_memory p words
@@ -308,7 +308,7 @@ unfolding start_of
 start_same p q words both =
     ap (λ ts. start_of ts q.objects words) both.targets ∙ ap (λ ds. start_of p.targets ds words) both.objects
 
-params_by : (x y : Option (Placed Func)) → AtBoth x y → params_of y ≡ params_of x
+params_by : (x y : Option (InText Func)) → AtBoth x y → params_of y ≡ params_of x
 params_by None y h = ap params_of h
 params_by (Some x) y h = ap params_of h.1 ∙ h.3.params
 

@@ -8,7 +8,7 @@ use Rattle.il_ast.specs.declared.datum.DataDef.{DataDef}
 use Rattle.il_ast.specs.declared.function.Func.{Func}
 use Rattle.il_ast.specs.declared.program.Target.{Target}
 use Rattle.il_ast.specs.declared.program.Target.TheVariants.{Code, Object}
-use Rattle.il_ast.specs.declared.program.Placed.{Placed}
+use Rattle.il_ast.specs.declared.program.InText.{InText}
 use Rattle.il_ast.specs.declared.program.Program.{Program}
 use Rattle.il_ast.specs.declared.value.End.TheVariants.{Exit, Halt, Undefined, Stack, Turns}
 use Rattle.il_ast.specs.Memory.{Memory}
@@ -19,7 +19,7 @@ use Rattle.promote.specs.Promoted.{IsPromoted}
 -- ---- programs
 
 -- each function of the second list is that of the first with its temporaries promoted
-abbrev pub ArePromoted : List (Placed Func) → List (Placed Func) → Type 0
+abbrev pub ArePromoted : List (InText Func) → List (InText Func) → Type 0
 ArePromoted [] [] = Unit {0}
 ArePromoted [] (g ∷ gs) = ⊥
 ArePromoted (f ∷ fs) [] = ⊥
@@ -52,7 +52,7 @@ FieldsHaveBytes [] = Unit {0}
 FieldsHaveBytes (Items size items ∷ fields) = ItemsHaveBytes items × FieldsHaveBytes fields
 FieldsHaveBytes (Zeros n ∷ fields) = FieldsHaveBytes fields
 
-abbrev pub ObjectsHaveBytes : List (Placed DataDef) → Type 0
+abbrev pub ObjectsHaveBytes : List (InText DataDef) → Type 0
 ObjectsHaveBytes [] = Unit {0}
 ObjectsHaveBytes (d ∷ ds) = FieldsHaveBytes d.item.fields × ObjectsHaveBytes ds
 

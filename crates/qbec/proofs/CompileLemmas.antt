@@ -4,8 +4,8 @@ use Rattle.std.specs.Prelude.{Result, Ok, Err, IfOk, IfErr}
 use Rattle.std.specs.Result.{MatchResult}
 use Rattle.il_ast.specs.declared.program.Program.{Program}
 use Rattle.il_types.specs.declared.checked.Checked.{Checked}
-use Rattle.obj_link.specs.declared.error.LinkError.{LinkError}
-use Rattle.obj_link.specs.declared.error.LinkError.TheVariants.{UnknownName as LinkUnknown, ExportedTwice as LinkTwice, NoMain as LinkNoMain, Limit as LinkLimit, Memory as LinkMemory}
+use Rattle.obj_link.specs.declared.linking.error.LinkError.{LinkError}
+use Rattle.obj_link.specs.declared.linking.error.LinkError.TheVariants.{UnknownName as LinkUnknown, ExportedTwice as LinkTwice, NoMain as LinkNoMain, Limit as LinkLimit, Memory as LinkMemory}
 use Rattle.obj_link.specs.Names.{times_exported, meaning_of, names_of}
 use Rattle.obj_link.specs.Refusals.{IsUnknown, Refuses as LinkRefuses}
 use Rattle.qbec.specs.declared.error.CompileError.{CompileError}

@@ -9,7 +9,7 @@ use Rattle.il_ast.specs.declared.datum.Field.TheVariants.{Items, Zeros}
 use Rattle.il_ast.specs.declared.datum.Item.{Item}
 use Rattle.il_ast.specs.declared.datum.Item.TheVariants.{Int, Bytes, Address}
 use Rattle.il_ast.specs.declared.operation.Size.{Size}
-use Rattle.il_ast.specs.declared.program.Placed.{Placed}
+use Rattle.il_ast.specs.declared.program.InText.{InText}
 use Rattle.il_ast.specs.declared.program.Program.{Program}
 use Rattle.il_ast.specs.declared.program.Target.{Target}
 use Rattle.il_ast.specs.declared.program.Target.TheVariants.{Code, Object}
@@ -80,7 +80,7 @@ fields_have globals (Items size items ∷ fields) h = (
 fields_have globals (Zeros n ∷ fields) h =
     fields_have globals fields (plain_then (replicate n (Plain 0)) (flat_map (field_cells globals) fields) h)
 
-objects_have : (p : Program) (e : Entries) (bases : Bases) (byte : ℕ → Option ℕ) → ((a b : ℕ) → byte a ≡ Some b → b < 256) → (low high : ℕ) (ds : List (Placed DataDef)) (places : List ℕ)
+objects_have : (p : Program) (e : Entries) (bases : Bases) (byte : ℕ → Option ℕ) → ((a b : ℕ) → byte a ≡ Some b → b < 256) → (low high : ℕ) (ds : List (InText DataDef)) (places : List ℕ)
     → BlocksStand e bases byte low high (map (object_cells p) ds) places → ObjectsHaveBytes ds
 objects_have p e bases byte small low high [] places h = tt
 objects_have p e bases byte small low high (d ∷ ds) [] h = absurd h

@@ -1,7 +1,7 @@
 -- The functions that are compiled in the place of a program's.
 use Rattle.std.proofs.Common.{◌≡◌, suc, ◌<◌, List, [], ◌∷◌, ◌++◌, length, refl, sym, ◌∙◌, ap, subst}
 use Rattle.il_ast.specs.declared.function.Func.{Func}
-use Rattle.il_ast.specs.declared.program.Placed.{Placed}
+use Rattle.il_ast.specs.declared.program.InText.{InText}
 use Rattle.il_ast.specs.declared.program.Program.{Program}
 use Rattle.il_ast.specs.declared.program.Target.{Target}
 use Rattle.il_ast.specs.declared.value.Callee.TheVariants.{Defined}
@@ -9,7 +9,7 @@ use Rattle.il_ast.specs.Cost.{weight}
 use Rattle.phi_copies.specs.Good.{IsGoodFunction}
 use Rattle.rv_isa.specs.Words.{Words}
 use Rattle.rv_isa.specs.Laid.{filled}
-use Rattle.obj_link.specs.declared.addresses.Addresses.{Addresses}
+use Rattle.obj_link.specs.declared.placing.addresses.Addresses.{Addresses}
 use Rattle.obj_link.specs.Laws.{IsThere}
 use Rattle.obj_link.specs.Natives.{start_words, write_words, exit_words}
 use Rattle.obj_link.specs.Placed.{name_address, functions_words, addresses_of, callee_address, contents_of}
@@ -35,12 +35,12 @@ same_weights f g is = same_weight (width_in (mentions_of f)) f g is
 -- ---- all functions
 
 -- what the functions become, for which the words stand
-pub record Compiled (codes : List Words) (fs : List (Placed Func)) : Type 0 where
-  pub functions : List (Placed Func)
+pub record Compiled (codes : List Words) (fs : List (InText Func)) : Type 0 where
+  pub functions : List (InText Func)
   pub are : ArePromoted fs functions
   pub stand : EachStands codes functions
 
-pub compiled : (codes : List Words) (fs : List (Placed Func)) → EachPromoted codes fs → Compiled codes fs
+pub compiled : (codes : List Words) (fs : List (InText Func)) → EachPromoted codes fs → Compiled codes fs
 compiled [] [] h = record { functions = []; are = tt; stand = tt }
 compiled [] (f ∷ fs) h = absurd h
 compiled (c ∷ codes) [] h = absurd h
@@ -52,13 +52,13 @@ compiled (c ∷ codes) (f ∷ fs) h =
       stand = (h.0.stand, rest.stand);
     }
 
-pub as_many : (fs gs : List (Placed Func)) → ArePromoted fs gs → length gs ≡ length fs
+pub as_many : (fs gs : List (InText Func)) → ArePromoted fs gs → length gs ≡ length fs
 as_many [] [] h = refl
 as_many [] (g ∷ gs) h = absurd h
 as_many (f ∷ fs) [] h = absurd h
 as_many (f ∷ fs) (g ∷ gs) h = ap suc (as_many fs gs h.2)
 
-pub one_each : (codes : List Words) (fs : List (Placed Func)) → EachPromoted codes fs → length codes ≡ length fs
+pub one_each : (codes : List Words) (fs : List (InText Func)) → EachPromoted codes fs → length codes ≡ length fs
 one_each [] [] h = refl
 one_each [] (f ∷ fs) h = absurd h
 one_each (c ∷ codes) [] h = absurd h
@@ -66,10 +66,10 @@ one_each (c ∷ codes) (f ∷ fs) h = ap suc (one_each codes fs h.1)
 
 -- ---- the program
 
-pub is_promoted : (p : Program) (gs : List (Placed Func)) → ArePromoted p.functions gs → IsProgramPromoted p (with_functions p gs)
+pub is_promoted : (p : Program) (gs : List (InText Func)) → ArePromoted p.functions gs → IsProgramPromoted p (with_functions p gs)
 is_promoted p gs are = record { targets = refl; functions = are; objects = refl; main = refl }
 
-pub names_are_there : (p : Program) (gs : List (Placed Func)) → ArePromoted p.functions gs → NamesAreThere p → NamesAreThere (with_functions p gs)
+pub names_are_there : (p : Program) (gs : List (InText Func)) → ArePromoted p.functions gs → NamesAreThere p → NamesAreThere (with_functions p gs)
 names_are_there p gs are has =
     let many : length p.functions ≡ length gs = sym (as_many p.functions gs are) in
     record {
@@ -77,7 +77,7 @@ names_are_there p gs are has =
       main = subst (λ k. p.main < k) many has.main;
     }
 
-same_words : (a : Addresses) (targets : List (List Target)) (codes : List Words) (fs gs : List (Placed Func)) → ArePromoted fs gs → functions_words a targets codes fs ≡ functions_words a targets codes gs
+same_words : (a : Addresses) (targets : List (List Target)) (codes : List Words) (fs gs : List (InText Func)) → ArePromoted fs gs → functions_words a targets codes fs ≡ functions_words a targets codes gs
 same_words a targets [] fs gs h = refl
 same_words a targets (c ∷ codes) [] [] h = refl
 same_words a targets (c ∷ codes) [] (g ∷ gs) h = absurd h
@@ -87,7 +87,7 @@ same_words a targets (c ∷ codes) (f ∷ fs) (g ∷ gs) h =
     ∙ ap (λ ws. filled (name_address a targets g.text) c.words c.holes ++ ws) (same_words a targets codes fs gs h.2)
 
 -- words for functions of the same texts make the same image
-pub same_contents : (p : Program) (codes : List Words) (gs : List (Placed Func)) → ArePromoted p.functions gs → contents_of p codes ≡ contents_of (with_functions p gs) codes
+pub same_contents : (p : Program) (codes : List Words) (gs : List (InText Func)) → ArePromoted p.functions gs → contents_of p codes ≡ contents_of (with_functions p gs) codes
 same_contents p codes gs are =
     let a = addresses_of p codes in
     ap (λ ws. record (contents_of p codes) { code = start_words (callee_address a (Defined p.main)) ++ write_words ++ exit_words ++ ws })

@@ -2,18 +2,18 @@
 use Rattle.std.specs.Prelude.{◌≡◌, ℕ, List, slice_get, Some}
 use Rattle.std.specs.Borrow.{Bor}
 use Rattle.il_ast.specs.declared.function.Func.{Func}
-use Rattle.il_ast.specs.declared.program.Placed.{Placed}
+use Rattle.il_ast.specs.declared.program.InText.{InText}
 use Rattle.phi_copies.specs.Good.{IsGoodFunction}
 use Rattle.rv_isa.specs.Words.{Words}
 use Rattle.obj_link.specs.Placed.{AreCodes, EveryCode}
 use Rattle.qbec.specs.Promoted.{EachPromoted}
 
 -- each can be lowered
-abbrev pub AreGood : List (Placed (Bor Func)) → Type 0
-AreGood fs = (k : ℕ) (f : Placed (Bor Func)) → slice_get fs k ≡ Some f → IsGoodFunction f.item.now
+abbrev pub AreGood : List (InText (Bor Func)) → Type 0
+AreGood fs = (k : ℕ) (f : InText (Bor Func)) → slice_get fs k ≡ Some f → IsGoodFunction f.item.now
 
 -- words that stand for what each function becomes, and not too many
-pub record AreWords (codes : List Words) (fs : List (Placed Func)) : Type 0 where
+pub record AreWords (codes : List Words) (fs : List (InText Func)) : Type 0 where
   pub stand : EachPromoted codes fs
   pub few : AreCodes codes fs
   pub every : EveryCode codes

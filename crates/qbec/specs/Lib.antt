@@ -1,7 +1,7 @@
 pub mod Texts
 pub mod Refusals
 pub mod Laws
-pub mod Words
+pub mod Pipeline
 pub mod Promoted
 pub mod Codes
 pub mod Compile

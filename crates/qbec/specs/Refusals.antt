@@ -6,7 +6,7 @@ use Rattle.il_reader.specs.Reads.{Reads}
 use Rattle.il_reader.specs.declared.error.ReadError.{ReadError}
 use Rattle.il_reader.specs.declared.error.ReadError.TheVariants.{Syntax as NotRead, Memory as ReadMemory}
 use Rattle.il_types.specs.declared.checked.Checked.{Checked}
-use Rattle.il_types.specs.declared.rule.Fault.{Fault}
+use Rattle.il_types.specs.declared.rule.BrokenRule.{BrokenRule}
 use Rattle.il_types.specs.Rules.{broken, within_limits as is_within}
 use Rattle.il_types.specs.declared.error.CheckError.{CheckError}
 use Rattle.il_types.specs.declared.error.CheckError.TheVariants.{Rule as Broken, Limit as Passed, Memory as CheckMemory}
@@ -14,8 +14,8 @@ use Rattle.obj_link.specs.Names.{times_exported, meaning_of, names_of, functions
 use Rattle.obj_link.specs.Main.{ExportsMain}
 use Rattle.obj_link.specs.Limits.{within_limits}
 use Rattle.obj_link.specs.Refusals.{IsUnknown}
-use Rattle.obj_link.specs.declared.error.LinkError.{LinkError}
-use Rattle.obj_link.specs.declared.error.LinkError.TheVariants.{UnknownName as LinkUnknown, ExportedTwice as LinkTwice, NoMain as LinkNoMain, Limit as LinkLimit, Memory as LinkMemory}
+use Rattle.obj_link.specs.declared.linking.error.LinkError.{LinkError}
+use Rattle.obj_link.specs.declared.linking.error.LinkError.TheVariants.{UnknownName as LinkUnknown, ExportedTwice as LinkTwice, NoMain as LinkNoMain, Limit as LinkLimit, Memory as LinkMemory}
 use Rattle.qbec.specs.declared.error.CompileError.{CompileError}
 use Rattle.qbec.specs.declared.error.CompileError.TheVariants.{Syntax, Rule, UnknownName, ExportedTwice, NoMain, Limit, Memory}
 use Rattle.qbec.specs.Texts.{AreTexts}
@@ -27,7 +27,7 @@ abbrev pub IsNoText : (line : ℕ) → List ℕ → Type 0
 IsNoText line bytes = (1 ≤ line) × (line ≤ lines_in bytes + 1) × ((t : Text) → Reads bytes t → ⊥)
 
 -- it breaks the rule, at the line
-abbrev pub Breaks : Fault → List ℕ → Type 0
+abbrev pub Breaks : BrokenRule → List ℕ → Type 0
 Breaks fault bytes = (t : Text) × Reads bytes t × (broken fault.rule t ≡ Some fault.line)
 
 -- it passes a limit of one text

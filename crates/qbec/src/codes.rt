@@ -4,14 +4,14 @@ ghost use Rattle.obj_link.specs.Shown.{shown};
 ghost use Rattle.rv_isa.specs.Words.{IsCode};
 ghost use Rattle.qbec.specs.Codes.{AreGood, AreWords};
 
-use crate::words::function_words;
+use crate::pipeline::function_words;
 use certificates::strategy::Strategy;
 use il_ast::function::Func;
-use il_ast::program::Placed;
-use rv_isa::code::Code;
+use il_ast::program::InText;
+use rv_isa::code::MachineCode;
 use std::alloc::{AllocError, Global};
 
-fn push_code(codes: &mut Vec<Code>, code: Code) -> Result<(), AllocError>
+fn push_code(codes: &mut Vec<MachineCode>, code: MachineCode) -> Result<(), AllocError>
     ensures pushed { OnOk result (codes.new.items ≡ codes.old.items ++ code ∷ []) }
     ensures code { IsCode code }
 {
@@ -28,15 +28,15 @@ fn push_code(codes: &mut Vec<Code>, code: Code) -> Result<(), AllocError>
 /// Only where memory was refused.
 pub fn codes_of(
     alloc: Global,
-    functions: &[Placed<&Func>],
-    how: &mut dyn Strategy,
-) -> Result<Vec<Code>, AllocError>
+    functions: &[InText<&Func>],
+    allocator: &mut dyn Strategy,
+) -> Result<Vec<MachineCode>, AllocError>
     requires { AreGood functions.now }
     ensures { IfOk result (λ v. AreWords v.items (map shown functions.now)) }
 {
     let mut codes = Vec::new(alloc);
     for k in 0..functions.len() {
-        let code = function_words(alloc, functions[k].item, how)?;
+        let code = function_words(alloc, functions[k].item, allocator)?;
         push_code(&mut codes, code)?;
     }
     Ok(codes)

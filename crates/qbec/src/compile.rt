@@ -15,13 +15,17 @@ use crate::error::{CompileError, link_refusal};
 use crate::texts::checked_texts;
 use certificates::strategy::Strategy;
 use elf_file::write_image;
-use obj_link::linked::Linked;
-use obj_link::place::place;
-use obj_link::resolve::resolve;
-use rv_isa::code::Code;
+use obj_link::linking::linked::Linked;
+use obj_link::linking::resolve::resolve;
+use obj_link::placing::place::place;
+use rv_isa::code::MachineCode;
 use std::alloc::Global;
 
-fn file_of(alloc: Global, linked: &Linked<'_>, codes: &[Code]) -> Result<Vec<u8>, CompileError>
+fn file_of(
+    alloc: Global,
+    linked: &Linked<'_>,
+    codes: &[MachineCode],
+) -> Result<Vec<u8>, CompileError>
     requires program { IsProgram linked.now.texts.now (program linked.now) }
     requires words { AreWords codes.now (program linked.now).functions }
     ensures { MatchResult result (λ v. IsFile (program linked.now) v.items) (λ e. e ≡ Memory) }
@@ -38,13 +42,13 @@ fn file_of(alloc: Global, linked: &Linked<'_>, codes: &[Code]) -> Result<Vec<u8>
 fn compiled(
     alloc: Global,
     linked: &Linked<'_>,
-    how: &mut dyn Strategy,
+    allocator: &mut dyn Strategy,
 ) -> Result<Vec<u8>, CompileError>
     requires program { IsProgram linked.now.texts.now (program linked.now) }
     requires good { AreGood linked.now.functions }
     ensures { MatchResult result (λ v. IsFile (program linked.now) v.items) (λ e. e ≡ Memory) }
 {
-    let codes = codes_of(alloc, linked.functions.as_slice(), how)?;
+    let codes = codes_of(alloc, linked.functions.as_slice(), allocator)?;
     file_of(alloc, linked, codes.as_slice())
 }
 
@@ -62,7 +66,7 @@ fn compiled(
 pub fn compile(
     alloc: Global,
     texts: &[&[u8]],
-    how: &mut dyn Strategy,
+    allocator: &mut dyn Strategy,
 ) -> Result<Vec<u8>, CompileError>
     ensures file { IfOk result (λ v. IsCompiled (map (λ t. t.now) texts.now) v.items) }
     ensures refused { IfErr result (λ e. Refuses e (map (λ t. t.now) texts.now)) }
@@ -70,7 +74,7 @@ pub fn compile(
 {
     match checked_texts(alloc, texts) {
         Ok(checked) => match resolve(alloc, checked.as_slice()) {
-            Ok(linked) => compiled(alloc, &linked, how),
+            Ok(linked) => compiled(alloc, &linked, allocator),
             Err(error) => Err(link_refusal(alloc, error)),
         },
         Err(error) => Err(error),

@@ -2,8 +2,8 @@
 ghost use Rattle.std.specs.Prelude.{◌≡◌, IfOk};
 ghost use Rattle.qbec.specs.Refusals.{SaysAsMuch};
 
-use il_types::rule::Fault;
-use obj_link::error::LinkError;
+use il_types::rule::BrokenRule;
+use obj_link::linking::error::LinkError;
 use std::alloc::{AllocError, Global};
 
 /// Why texts are refused: they are no program, or memory was refused. Texts are numbered from 1, in order.
@@ -12,7 +12,7 @@ pub enum CompileError {
     /// The text is not in the grammar. The line is from 1 to 1 more than the text's bytes 10.
     Syntax { text: usize, line: usize },
     /// The text breaks a rule, at a line.
-    Rule { text: usize, fault: Fault },
+    Rule { text: usize, fault: BrokenRule },
     /// A text mentions this name, which means nothing in it.
     UnknownName(Vec<u8>),
     /// This name is exported more than once, or is that of a predefined function.

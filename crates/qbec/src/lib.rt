@@ -16,5 +16,5 @@ pub mod codes;
 pub mod compile;
 pub mod error;
 pub mod laws;
+pub mod pipeline;
 pub mod texts;
-pub mod words;

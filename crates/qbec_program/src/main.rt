@@ -18,14 +18,14 @@ fn words_of_process<R: Env + AllocGlobal>(rt: &R) -> io::Result<Vec<String>> {
 
 fn main(rt: HostRuntime) -> ExitCode {
     let alloc = rt.alloc();
-    let mut how = LinearScan::new(alloc);
+    let mut allocator = LinearScan::new(alloc);
     let mut files = HostFiles::new(&rt);
     let mut out = Stream::new(rt.stdout());
     let mut err = Stream::new(rt.stderr());
     invoke(
         alloc,
         words_of_process(&rt),
-        &mut how,
+        &mut allocator,
         &mut files,
         &mut out,
         &mut err,

@@ -16,7 +16,7 @@ pub struct KnownCopy {
 
 /// The copies that are known at a place of a block, the oldest first.
 #[derive(Drop)]
-pub(crate) struct Known {
+pub(crate) struct KnownCopies {
     copies: Vec<KnownCopy>,
 }
 
@@ -73,12 +73,12 @@ fn note(known: &mut Vec<KnownCopy>, made: Option<KnownCopy>) -> Result<(), Alloc
     Ok(())
 }
 
-impl Known {
+impl KnownCopies {
     /// Nothing is known.
-    pub(crate) fn nothing(alloc: Global) -> Known
+    pub(crate) fn nothing(alloc: Global) -> KnownCopies
         ensures { result.copies.items ≡ [] }
     {
-        Known {
+        KnownCopies {
             copies: Vec::new(alloc),
         }
     }

@@ -4,7 +4,7 @@ ghost use Rattle.il_ast.specs.Passes.{Keeps};
 ghost use Rattle.vcode.specs.Coded.{virtual_code};
 ghost use Rattle.read_copies.specs.Copied.{reading_lines, known_behind, reading_block, reading_copies};
 
-use crate::known::Known;
+use crate::known::KnownCopies;
 use il_ast::list::Seq;
 use std::alloc::{AllocError, Global};
 use vcode::code::{Block, Code};
@@ -12,7 +12,11 @@ use vcode::function::VFunc;
 use vcode::line::Line;
 use vcode::replace::{jump, line};
 
-fn lines(alloc: Global, known: &mut Known, from: &[Line<u32>]) -> Result<Seq<Line<u32>>, AllocError>
+fn lines(
+    alloc: Global,
+    known: &mut KnownCopies,
+    from: &[Line<u32>],
+) -> Result<Seq<Line<u32>>, AllocError>
     ensures lines { IfOk result (λ v. v ≡ reading_lines known.old.copies.items from.now) }
     ensures known { OnOk result (known.new.copies.items ≡ known_behind known.old.copies.items from.now) }
 {
@@ -28,7 +32,7 @@ fn lines(alloc: Global, known: &mut Known, from: &[Line<u32>]) -> Result<Seq<Lin
 fn block(alloc: Global, from: &Block<u32>) -> Result<Block<u32>, AllocError>
     ensures { IfOk result (λ v. v ≡ reading_block from.now) }
 {
-    let mut known = Known::nothing(alloc);
+    let mut known = KnownCopies::nothing(alloc);
     let lines = lines(alloc, &mut known, from.lines.as_slice())?;
     let jump = jump(&known, &from.jump);
     Ok(Block { lines, jump })

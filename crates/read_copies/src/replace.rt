@@ -1,11 +1,11 @@
 //! Operands that read copies.
 ghost use Rattle.read_copies.specs.Copied.{read_by};
 
-use crate::known::Known;
+use crate::known::KnownCopies;
 use vcode::place::Operand;
 use vcode::replace::Replace;
 
-impl Replace for Known {
+impl Replace for KnownCopies {
     ghost replacing = { λ k. read_by k.copies.items };
 
     fn operand(&self, from: &Operand<u32>) -> Operand<u32> {

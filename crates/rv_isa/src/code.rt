@@ -19,12 +19,12 @@ pub struct Hole {
 ///
 /// There is one at least. The holes lie in order and apart, each at one of the function's words.
 #[derive(Drop, Debug)]
-pub struct Code {
+pub struct MachineCode {
     words: Vec<u32>,
     holes: Vec<Hole>,
 }
 
-impl Model for Code {
+impl Model for MachineCode {
     ghost use Rattle.rv_isa.specs.Words.{Words, IsCode};
 
     ghost Value = { Words };
@@ -34,13 +34,13 @@ impl Model for Code {
     ghost invariant = { λ c. IsCode (record { words = c.words.items; holes = c.holes.items }) };
 }
 
-impl Code {
+impl MachineCode {
     /// The code of these words and holes.
-    pub fn new(words: Vec<u32>, holes: Vec<Hole>) -> Code
+    pub fn new(words: Vec<u32>, holes: Vec<Hole>) -> MachineCode
         requires { IsCode (record { words = words.items; holes = holes.items }) }
         ensures { result ≡ record { words = words.items; holes = holes.items } }
     {
-        Code { words, holes }
+        MachineCode { words, holes }
     }
 
     /// The words, in order.

@@ -23,11 +23,11 @@
 //! - `StartsWith`: the stack and the argument words at the start (`Start.antt`);
 //! - `Stand`: what it means that [`labelled::Item`]s stand at an address (`Labelled.antt`).
 //!
-//! ## Code of functions
+//! ## MachineCode of functions
 //!
 //! - [`labelled::LabelledCode`] is code with labels, whose invariants are `IsLabelled` of `specs/Labels.antt`;
 //! - [`relocation::Relocation`] is an instruction of it that takes a part of a global's address as its immediate;
-//! - [`code::Code`] is the words made of it, with holes for addresses, whose invariants are `IsCode` of `specs/Words.antt`;
+//! - [`code::MachineCode`] is the words made of it, with holes for addresses, whose invariants are `IsCode` of `specs/Words.antt`;
 //! - `LaysOut` says that such words stand for such code wherever they are put (`Laid.antt`).
 //!
 //! The module [`laws`] has what is proved of them. The choices that the manual leaves to an environment: an unknown word, a fetch of bytes that may

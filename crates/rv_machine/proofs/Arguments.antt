@@ -12,7 +12,7 @@ use Rattle.elf_file.specs.declared.flags.Flags.{Flags}
 use Rattle.elf_file.specs.declared.flags.Flags.TheVariants.{Execute, Read, ReadExecute, ReadWrite}
 use Rattle.elf_file.specs.Loaded.{Executable, flags_in}
 use Rattle.rv_machine.specs.Mapped.{is_mapped, read_and_write, permission_in, stack_permission, flags_or}
-use Rattle.obj_link.specs.Words.{are_arguments}
+use Rattle.obj_link.specs.Arguments.{are_arguments}
 
 -- ---- lengths
 

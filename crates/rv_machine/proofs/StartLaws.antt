@@ -13,7 +13,7 @@ use Rattle.rv_isa.specs.declared.permission.Permission.{Permission}
 use Rattle.elf_file.specs.declared.flags.Flags.{Flags}
 use Rattle.elf_file.specs.Loaded.{Executable, Mapping, IsMapping, IsExecutable, holds, mapping_at, byte_in, byte_of}
 use Rattle.rv_machine.specs.Mapped.{read_and_write, stack_permission, permission_in, start_byte, flags_or}
-use Rattle.obj_link.specs.Words.{are_arguments}
+use Rattle.obj_link.specs.Arguments.{are_arguments}
 use Rattle.rv_machine.specs.Start.{filled, start_state, Starts, AreBytes, AreTexts}
 use Rattle.rv_machine.proofs.Arguments.{in_stack}
 

@@ -6,7 +6,7 @@ use crate::ram::Ram;
 use crate::registers::Registers;
 use crate::words::argument_bytes;
 use elf_file::Loaded;
-use obj_link::words::are_arguments;
+use obj_link::arguments::are_arguments;
 use rv_isa::abi;
 use rv_isa::ranges::Register;
 use std::alloc::Global;
@@ -26,7 +26,7 @@ impl<R: Ram> Machine<R> {
     ghost use Rattle.std.specs.Prelude.{◌≡◌, ◌↔◌, false, Err, IfOk};
     ghost use Rattle.rv_machine.specs.Machine.{view};
     ghost use Rattle.rv_machine.specs.Start.{start_state};
-    ghost use Rattle.obj_link.specs.Words.{are_arguments};
+    ghost use Rattle.obj_link.specs.Arguments.{are_arguments};
     ghost use Rattle.rv_machine.specs.Words.{texts};
 
     /// The machine at the start of a program with these argument words: at its entry, with the stack pointer in x2 and the words above it. All other

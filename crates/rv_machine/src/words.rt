@@ -2,7 +2,7 @@
 
 ghost use Rattle.std.specs.Prelude.{◌≡◌, ◌+◌, ◌<◌, ◌≤◌, ◌^◌, ◌++◌, length, OnOk, IfOk};
 ghost use Rattle.rv_isa.specs.Start.{argument_bytes, pointer_bytes, word_bytes};
-ghost use Rattle.obj_link.specs.Words.{WORDS, WORD_BYTES};
+ghost use Rattle.obj_link.specs.Arguments.{WORDS, WORD_BYTES};
 ghost use Rattle.rv_machine.specs.Words.{texts};
 
 use rv_isa::abi;

@@ -2,9 +2,9 @@
 use il_reader::read::read;
 use il_types::check::check;
 use il_types::checked::Checked;
-use obj_link::error::LinkError;
-use obj_link::linked::Linked;
-use obj_link::resolve::resolve;
+use obj_link::linking::error::LinkError;
+use obj_link::linking::linked::Linked;
+use obj_link::linking::resolve::resolve;
 use std::alloc::{AllocError, Global};
 use std::str;
 use text_maker::maker::TextMaker;

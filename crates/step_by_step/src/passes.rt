@@ -1,13 +1,13 @@
 //! The passes on virtual code.
 use block_order::order::order_blocks;
 use code_text::function::{virtual_function, virtual_text};
-use dead_lines::remove::remove_dead_lines;
-use forwarding::forward::forward;
-use loop_constants::constants::hold_constants;
+use constant_hoisting::constants::hoist_constants;
+use dead_code::remove::remove_dead_code;
+use propagation::propagate::propagate;
 use read_copies::read::read_copies;
+use sign_extensions::copies::copy_whole_words;
 use std::alloc::{AllocError, Global};
 use vcode::function::VFunc;
-use whole_words::copies::copy_whole_words;
 
 /// The text of what a pass made.
 fn shown(alloc: Global, made: Result<VFunc, AllocError>) -> Option<String> {
@@ -32,13 +32,13 @@ pub fn with_whole_words(alloc: Global, text: &str) -> Option<String> {
 /// The function with what is known of registers carried forward.
 pub fn forwarded(alloc: Global, text: &str) -> Option<String> {
     let function = virtual_function(alloc, text)?;
-    shown(alloc, forward(alloc, &function))
+    shown(alloc, propagate(alloc, &function))
 }
 
 /// The function without its dead lines.
 pub fn without_dead_lines(alloc: Global, text: &str) -> Option<String> {
     let function = virtual_function(alloc, text)?;
-    shown(alloc, remove_dead_lines(alloc, &function))
+    shown(alloc, remove_dead_code(alloc, &function))
 }
 
 /// The function with copies read in place of what they are copies of.
@@ -50,7 +50,7 @@ pub fn with_copies_read(alloc: Global, text: &str) -> Option<String> {
 /// The function with constants of its loops in registers.
 pub fn with_constants_held(alloc: Global, text: &str) -> Option<String> {
     let function = virtual_function(alloc, text)?;
-    shown(alloc, hold_constants(alloc, &function))
+    shown(alloc, hoist_constants(alloc, &function))
 }
 
 /// The function with its blocks in the order that is chosen.

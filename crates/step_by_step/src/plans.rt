@@ -1,8 +1,8 @@
 //! Plans for registers that hold constants.
 use crate::passes::shown_or_refused;
 use code_text::function::virtual_function;
-use loop_constants::hold::with_constant;
-use loop_constants::plan::{Constant, Plan};
+use constant_hoisting::hold::with_constant;
+use constant_hoisting::plan::{Constant, Plan};
 use std::alloc::Global;
 
 /// For each word whether it is `yes`.

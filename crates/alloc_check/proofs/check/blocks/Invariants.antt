@@ -1,6 +1,6 @@
 use Rattle.std.proofs.Common.{◌≡◌, drop}
 use Rattle.alloc_check.specs.Accepted.{end_point}
-use Rattle.alloc_check.specs.Table.{IsTable}
+use Rattle.alloc_check.specs.OwnerTable.{IsTable}
 use Rattle.alloc_check.specs.Walk.{blocks_in}
 use Rattle.alloc_check.proofs.check.blocks.Given as goal
 

@@ -1,5 +1,5 @@
 use Rattle.std.proofs.Common.{◌≡◌, drop}
-use Rattle.alloc_check.specs.Table.{own_of}
+use Rattle.alloc_check.specs.OwnerTable.{own_of}
 use Rattle.alloc_check.specs.Walk.{entry_holds}
 use Rattle.alloc_check.proofs.check.entry_holds.Given as goal
 

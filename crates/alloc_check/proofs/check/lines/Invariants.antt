@@ -1,6 +1,6 @@
 use Rattle.std.proofs.Common.{◌≡◌, ◌+◌, drop}
 use Rattle.alloc_check.specs.Certified.{jump_point}
-use Rattle.alloc_check.specs.Table.{own_of, IsTable}
+use Rattle.alloc_check.specs.OwnerTable.{own_of, IsTable}
 use Rattle.alloc_check.specs.Walk.{lines_in}
 use Rattle.alloc_check.proofs.check.lines.Given as goal
 

@@ -1,5 +1,5 @@
 use Rattle.std.proofs.Common.{sym, ◌∙◌}
-use Rattle.alloc_check.specs.Table.{own_of}
+use Rattle.alloc_check.specs.OwnerTable.{own_of}
 use Rattle.alloc_check.proofs.Entering.{too_few}
 use Rattle.alloc_check.proofs.check.params.Goals as goal
 

@@ -1,5 +1,5 @@
 use Rattle.std.proofs.Common.{◌≡◌, drop}
-use Rattle.alloc_check.specs.Table.{own_of, IsTable}
+use Rattle.alloc_check.specs.OwnerTable.{own_of, IsTable}
 use Rattle.alloc_check.specs.Walk.{params_in}
 use Rattle.alloc_check.proofs.check.params.Given as goal
 

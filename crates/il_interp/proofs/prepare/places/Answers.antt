@@ -1,5 +1,5 @@
 use Rattle.std.proofs.Common.{◌∙◌, ap, arith, ◌∷◌, [], length, length-append}
-use Rattle.il_types.specs.Places.{place_in}
+use Rattle.il_types.specs.LabelBlocks.{place_in}
 use Rattle.il_interp.proofs.PlaceLemmas.{tables_further}
 use Rattle.il_ast.specs.Effect.{place_of}
 use Rattle.il_interp.proofs.prepare.places.Goals as goal

@@ -1,11 +1,11 @@
 use Rattle.std.proofs.Common.{◌≡◌, ◌++◌, map, take}
 use Rattle.std.specs.Prelude.{Some}
 use Rattle.il_ast.specs.declared.datum.DataDef.{DataDef}
-use Rattle.il_ast.specs.declared.program.Placed.{Placed}
+use Rattle.il_ast.specs.declared.program.InText.{InText}
 use Rattle.il_ast.specs.Start.{object_cells}
 use Rattle.obj_link.specs.Shown.{shown}
 use Rattle.obj_link.specs.ProgramOf.{program}
 use Rattle.il_interp.proofs.start.add_objects.Given as goal
 
 abbrev pub invariant-loop-object : goal.invariant-loop-object
-invariant-loop-object l = l.memory ≡ l.fn.memory ++ map (λ (d : Placed DataDef). Some (object_cells (program l.linked) d)) (map shown (take l.object-index l.objects))
+invariant-loop-object l = l.memory ≡ l.fn.memory ++ map (λ (d : InText DataDef). Some (object_cells (program l.linked) d)) (map shown (take l.object-index l.objects))

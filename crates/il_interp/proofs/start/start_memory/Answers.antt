@@ -4,7 +4,7 @@ use Rattle.std.specs.Borrow.{Bor}
 use Rattle.std.proofs.lemmas.List.{length-map}
 use Rattle.il_ast.specs.Start.{list_cells, object_cells, word_cells}
 use Rattle.il_ast.specs.declared.datum.DataDef.{DataDef}
-use Rattle.il_ast.specs.declared.program.Placed.{Placed}
+use Rattle.il_ast.specs.declared.program.InText.{InText}
 use Rattle.obj_link.specs.Shown.{shown}
 use Rattle.obj_link.specs.ProgramOf.{program}
 use Rattle.il_interp.proofs.StartLemmas.{three_parts}
@@ -19,7 +19,7 @@ returns c =
     ∙ (ap (λ n. list_cells n (length c.args.words.now)) (c.len.ensures ∙ sym (length-map c.args.linked.now.objects shown))
     ∙ ap (list_cells objects) (sym (length-map c.args.words.now (λ (w : Bor (List ℕ)). w.now)))) in
     three_parts c.new-memory.result c.add_objects.new.memory c.add_words.new.memory c.add.new.memory
-    (map (λ (d : Placed DataDef). Some (object_cells (program c.args.linked.now) d)) (map shown c.args.linked.now.objects))
+    (map (λ (d : InText DataDef). Some (object_cells (program c.args.linked.now) d)) (map shown c.args.linked.now.objects))
     (map (λ (w : List ℕ). Some (word_cells w)) words) (Some (list_cells objects (length words)) ∷ [])
     c.new-memory.ensures c.in_ok-add_objects.ensures c.in_ok-add_words.ensures
     (c.in_ok-add.ensures ∙ ap (λ x. c.add_words.new.memory ++ Some x ∷ []) lists)

@@ -1,6 +1,0 @@
-use Rattle.std.proofs.Common.{ap, ◌∙◌}
-use Rattle.alloc_check.specs.Owners.{Owners}
-use Rattle.alloc_check.proofs.table.Table.first_owner.Goals as goal
-
-pub returns : goal.returns
-returns c = c.owner.ensures ∙ ap (λ (own : Owners). own c.args.place) c.requires.owners

@@ -1,4 +1,0 @@
-pub mod Facts
-pub mod Table
-pub mod Shortened
-pub mod Forwarded

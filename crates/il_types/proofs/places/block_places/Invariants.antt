@@ -1,7 +1,0 @@
-use Rattle.std.proofs.Common.{◌≡◌, ℕ, take}
-use Rattle.il_ast.specs.Effect.{place_of}
-use Rattle.il_types.specs.Places.{place_in}
-use Rattle.il_types.proofs.places.block_places.Given as goal
-
-abbrev pub invariant-loop-place : goal.invariant-loop-place
-invariant-loop-place l = (j : ℕ) → place_in l.table.items j ≡ place_of (take l.place l.blocks) j

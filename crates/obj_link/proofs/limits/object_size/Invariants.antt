@@ -1,8 +1,0 @@
-use Rattle.std.proofs.Common.{◌≡◌, take}
-use Rattle.std.specs.List.{sum_by}
-use Rattle.il_types.specs.Capped.{capped}
-use Rattle.obj_link.specs.Limits.{field_size}
-use Rattle.obj_link.proofs.limits.object_size.Given as goal
-
-abbrev pub invariant-loop-field : goal.invariant-loop-field
-invariant-loop-field l = l.total ≡ capped (sum_by field_size (take l.field-index l.fields))

@@ -1,8 +1,0 @@
-use Rattle.std.proofs.Common.{◌≡◌, take, map}
-use Rattle.il_types.specs.Capped.{capped}
-use Rattle.obj_link.specs.Shown.{shown}
-use Rattle.obj_link.specs.Limits.{total_weight}
-use Rattle.obj_link.proofs.limits.total_weight.Given as goal
-
-abbrev pub invariant-loop-function : goal.invariant-loop-function
-invariant-loop-function l = l.total ≡ capped (total_weight (map shown (take l.function-index l.functions)))

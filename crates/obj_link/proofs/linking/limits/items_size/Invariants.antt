@@ -1,0 +1,8 @@
+use Rattle.std.proofs.Common.{◌≡◌, take}
+use Rattle.std.specs.List.{sum_by}
+use Rattle.il_types.specs.Capped.{capped}
+use Rattle.obj_link.specs.Limits.{item_size}
+use Rattle.obj_link.proofs.linking.limits.items_size.Given as goal
+
+abbrev pub invariant-loop-item : goal.invariant-loop-item
+invariant-loop-item l = l.total ≡ capped (sum_by (item_size l.size) (take l.item-index l.items))

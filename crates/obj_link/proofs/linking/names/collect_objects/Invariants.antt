@@ -1,0 +1,8 @@
+use Rattle.std.proofs.Common.{◌≡◌, ◌++◌, map, take}
+use Rattle.std.specs.List.{flat_map}
+use Rattle.obj_link.specs.Shown.{shown}
+use Rattle.obj_link.specs.Names.{object_in}
+use Rattle.obj_link.proofs.linking.names.collect_objects.Given as goal
+
+abbrev pub invariant-loop-definition : goal.invariant-loop-definition
+invariant-loop-definition l = map shown l.found.items ≡ map shown l.fn.found.items ++ flat_map (object_in l.text) (take l.definition-index l.definitions)

@@ -1,0 +1,9 @@
+use Rattle.std.proofs.Common.{◌≡◌, drop}
+use Rattle.rv_isa.specs.Laid.{filled}
+use Rattle.obj_link.specs.Placed.{name_address}
+use Rattle.obj_link.proofs.placing.fill.fill_all.Given as goal
+
+abbrev pub invariant-loop-hole : goal.invariant-loop-hole
+invariant-loop-hole l =
+    filled (name_address l.addresses l.targets l.text) l.words (drop l.hole-index l.holes)
+    ≡ filled (name_address l.fn.addresses l.fn.targets l.fn.text) l.fn.words l.fn.holes

@@ -1,7 +1,0 @@
-use Rattle.std.proofs.Common.{◌≡◌, ℕ, take}
-use Rattle.obj_link.specs.Names.{own}
-use Rattle.obj_link.specs.Tables.{held}
-use Rattle.obj_link.proofs.tables.owned.Given as goal
-
-abbrev pub invariant-loop-global : goal.invariant-loop-global
-invariant-loop-global l = (t s : ℕ) → held l.table t s ≡ own (take l.global-index l.names) t s

@@ -1,5 +1,0 @@
-use Rattle.std.proofs.Common.{length}
-use Rattle.obj_link.proofs.words.+total_fits.Given as goal
-
-abbrev pub decreases-total_fits : goal.decreases-total_fits
-decreases-total_fits l = length l.words.now

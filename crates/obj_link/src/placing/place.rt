@@ -1,0 +1,118 @@
+//! The image of a program.
+
+ghost use Rattle.std.specs.Prelude.{◌≡◌, ◌≤◌, ◌<◌, ◌^◌, length, map, IfOk, MatchResult};
+ghost use Rattle.std.specs.List.{flat_map};
+ghost use Rattle.obj_link.specs.declared.linking.error.LinkError.TheVariants.{Memory};
+ghost use Rattle.obj_link.specs.ProgramOf.{program};
+ghost use Rattle.obj_link.specs.DataBytes.{slot_bytes};
+ghost use Rattle.obj_link.specs.Placed.{addresses_of, objects_start, code_of, contents_of, FitsBelow, EveryCode};
+
+use crate::linking::error::LinkError;
+use crate::linking::linked::Linked;
+use crate::placing::addresses::{
+    Addresses, FUNCTIONS, callee_address, function_addresses, functions_end, object_addresses,
+};
+use crate::placing::data_bytes::push_objects;
+use crate::placing::fill::push_functions;
+use crate::placing::image::{CODE_START, Image, PAGE};
+use crate::placing::natives::{push_natives, push_start};
+use il_ast::list::Seq;
+use il_ast::value::Callee;
+use rv_isa::code::MachineCode;
+use std::alloc::{AllocError, Global};
+
+const START: u32 = CODE_START as u32;
+
+const PAGE_SIZE: u32 = PAGE as u32;
+
+/// Where the data begin.
+#[tactic(auto, using(crate::proofs::ImageLemmas::ends))]
+fn objects_start(codes: &[MachineCode], linked: &Linked) -> u32
+    requires { FitsBelow (program linked.now) codes.now }
+    ensures value { result ≡ objects_start codes.now }
+    ensures codes { EveryCode codes.now }
+{
+    let end = functions_end(FUNCTIONS, codes);
+    START + (end - START).div_ceil(PAGE_SIZE) * PAGE_SIZE
+}
+
+#[tactic(auto, using(crate::proofs::ImageLemmas::ends))]
+fn addresses_of(
+    alloc: Global,
+    start: u32,
+    codes: &[MachineCode],
+    linked: &Linked,
+) -> Result<Addresses, AllocError>
+    requires start { start ≡ objects_start codes.now }
+    requires fits { FitsBelow (program linked.now) codes.now }
+    ensures { IfOk result (λ a. a ≡ addresses_of (program linked.now) codes.now) }
+{
+    let functions = function_addresses(alloc, FUNCTIONS, codes)?;
+    let objects = object_addresses(alloc, start, linked.objects.as_slice())?;
+    Ok(Addresses {
+        functions: Seq::from_vec(functions),
+        objects: Seq::from_vec(objects),
+    })
+}
+
+fn code_of(
+    alloc: Global,
+    addresses: &Addresses,
+    codes: &[MachineCode],
+    linked: &Linked,
+) -> Result<Vec<u32>, AllocError>
+    requires { length codes.now ≡ length linked.now.functions }
+    ensures { IfOk result (λ words. words.items ≡ code_of addresses.now (program linked.now) codes.now) }
+{
+    let mut words = Vec::new(alloc);
+    let main = callee_address(addresses, Callee::Defined(linked.main));
+    push_start(&mut words, main)?;
+    push_natives(&mut words)?;
+    let targets = linked.targets.as_slice();
+    let functions = linked.functions.as_slice();
+    push_functions(alloc, &mut words, addresses, targets, codes, functions)?;
+    Ok(words)
+}
+
+fn data_of(alloc: Global, addresses: &Addresses, linked: &Linked) -> Result<Vec<u8>, AllocError>
+    ensures { IfOk result (λ bytes. bytes.items ≡ flat_map (slot_bytes addresses.now linked.now.targets) (program linked.now).objects) }
+{
+    let mut bytes = Vec::new(alloc);
+    push_objects(
+        &mut bytes,
+        addresses,
+        linked.targets.as_slice(),
+        linked.objects.as_slice(),
+    )?;
+    Ok(bytes)
+}
+
+fn image_of(alloc: Global, codes: &[MachineCode], linked: &Linked) -> Result<Image, AllocError>
+    requires one_each { length codes.now ≡ length linked.now.functions }
+    requires fits { FitsBelow (program linked.now) codes.now }
+    ensures { IfOk result (λ image. image ≡ contents_of (program linked.now) codes.now) }
+{
+    let start = objects_start(codes, linked);
+    let addresses = addresses_of(alloc, start, codes, linked)?;
+    let words = code_of(alloc, &addresses, codes, linked)?;
+    let bytes = data_of(alloc, &addresses, linked)?;
+    Ok(Image::new(words, bytes))
+}
+
+/// The image of a linked program whose functions have these words, in order.
+///
+/// There must be one code for each function, and all must fit below [`crate::IMAGE_END`]. The code begins with the start
+/// code, `write` and `exit`; the functions and the data follow at their addresses, with names filled in. `LinkError::Memory` says
+/// that memory was refused; there is no other error.
+pub fn place<'a>(
+    alloc: Global,
+    codes: &[MachineCode],
+    linked: &'a Linked<'a>,
+) -> Result<Image, LinkError<'a>>
+    requires one_each { length codes.now ≡ length linked.now.functions }
+    requires fits { FitsBelow (program linked.now) codes.now }
+    ensures { MatchResult result (λ image. image ≡ contents_of (program linked.now) codes.now) (λ error. error ≡ Memory) }
+{
+    let image = image_of(alloc, codes, linked)?;
+    Ok(image)
+}

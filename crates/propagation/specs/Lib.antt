@@ -1,0 +1,4 @@
+pub mod Facts
+pub mod FactTable
+pub mod Shortened
+pub mod Forwarded

@@ -1,0 +1,43 @@
+//! Functions in which extensions of whole words are copies.
+ghost use Rattle.std.specs.Prelude.{◌≡◌, IfOk, IsTrue};
+ghost use Rattle.il_ast.specs.Passes.{Keeps};
+ghost use Rattle.vcode.specs.Coded.{virtual_code};
+ghost use Rattle.sign_extensions.specs.Whole.{are_closed, IsCopied};
+
+use crate::lines::blocks;
+use crate::marks::whole_registers;
+use std::alloc::{AllocError, Global};
+use vcode::code::Code;
+use vcode::function::VFunc;
+
+fn with_copies(alloc: Global, function: &VFunc, marks: &[bool]) -> Result<VFunc, AllocError>
+    requires { IsTrue (are_closed marks.now function.now.code) }
+    ensures kept { IfOk result (λ w. Keeps (virtual_code function.now) (virtual_code w)) }
+    ensures copied { IfOk result (λ w. IsCopied function.now w) }
+{
+    let params = function.code.params.try_clone(alloc)?;
+    let blocks = blocks(alloc, marks, function.code.blocks.as_slice())?;
+    Ok(VFunc {
+        code: Code {
+            result: function.code.result,
+            params,
+            blocks,
+        },
+        registers: function.registers,
+    })
+}
+
+/// The function, in which each extension to a word of a register that holds whole words alone is a copy, and each word that is passed from such a register is claimed to
+/// stand extended. It takes time and memory as the text is long.
+///
+/// # Errors
+///
+/// Only where memory was refused.
+pub fn copy_whole_words(alloc: Global, function: &VFunc) -> Result<VFunc, AllocError>
+    ensures kept { IfOk result (λ w. Keeps (virtual_code function.now) (virtual_code w)) }
+    ensures copied { IfOk result (λ w. IsCopied function.now w) }
+{
+    let marks = whole_registers(alloc, &function.code, function.registers)?;
+    let made = with_copies(alloc, function, marks.as_slice())?;
+    Ok(made)
+}

@@ -1,6 +1,0 @@
-use Rattle.std.proofs.Common.{◌≡◌, take, map}
-use Rattle.whole_words.specs.Whole.{with_copy}
-use Rattle.whole_words.proofs.lines.lines.Given as goal
-
-abbrev pub invariant-loop-item : goal.invariant-loop-item
-invariant-loop-item l = l.made.items ≡ map (with_copy l.marks) (take l.item-index l.from)

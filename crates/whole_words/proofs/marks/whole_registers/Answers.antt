@@ -1,8 +1,0 @@
-use Rattle.std.proofs.Common.{Bool, List, sym, subst}
-use Rattle.std.specs.Prelude.{IsTrue}
-use Rattle.whole_words.specs.Whole.{are_closed}
-use Rattle.whole_words.proofs.Keeping.{none_closed}
-use Rattle.whole_words.proofs.marks.whole_registers.Goals as goal
-
-pub returns : goal.returns
-returns c = subst (λ (ms : List Bool). IsTrue (are_closed ms c.args.code.now)) (sym c.new.ensures.items) (none_closed c.args.code.now)

@@ -1,4 +1,0 @@
-use Rattle.whole_words.proofs.marks.whole_registers.Given as goal
-
-abbrev pub invariant-loop : goal.invariant-loop
-invariant-loop l = Unit {0}
