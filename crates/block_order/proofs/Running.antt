@@ -28,7 +28,7 @@ use Rattle.vcode.specs.declared.code.Code.{Code}
 use Rattle.vcode.specs.Operations.{held, loaded}
 use Rattle.vcode.specs.Places.{put, assign, kept, virtual}
 use Rattle.vcode.specs.Coded.{classes_in}
-use Rattle.vcode.specs.Step.{State, begin, value_of, read, read_result, read_all, operated, address_of, goes_on, sets, changes, weighs, ticks, receives, resumes, calls, made_in, line_step, enters, compared, branches, returns, jump_step, step}
+use Rattle.vcode.specs.Step.{State, begin, value_of, read, read_result, read_all, operated, address_of, goes_on, sets, takes, changes, weighs, ticks, receives, resumes, calls, made_in, line_step, enters, compared, branches, returns, jump_step, step}
 use Rattle.vcode.proofs.Stepping.{step_line, step_jump, step_nowhere}
 use Rattle.block_order.specs.Ordered.{Order, place_in, is_named, block_at, led, placed, in_order, begins, leads_within}
 use Rattle.block_order.proofs.Placing.{both_true, at_place, all_named}
@@ -50,10 +50,13 @@ Onward related s p = (u : State ℕ) → u.block ≡ s.block → related u (in_b
 
 -- ---- each line
 
+takes_beside : (related : Relation) (s : State ℕ) (p to : ℕ) (o : Option Value) → Onward related s p → Beside related (takes virtual s to o) (takes virtual (in_block p s) to o)
+takes_beside related s p to o on =
+    let u : State ℕ = record s { next = s.next + 1; values = assign virtual to o s.values } in (in_block p u, refl, on u refl)
+
 sets_beside : (related : Relation) (s : State ℕ) (p to : ℕ) (o : Option Value) → Onward related s p → Beside related (sets virtual s to o) (sets virtual (in_block p s) to o)
 sets_beside related s p to None on = λ f. absurd f
-sets_beside related s p to (Some v) on =
-    let u : State ℕ = record s { next = s.next + 1; values = put virtual to v s.values } in (in_block p u, refl, on u refl)
+sets_beside related s p to (Some v) on = takes_beside related s p to (Some v) on
 
 changes_beside : (related : Relation) (s : State ℕ) (p : ℕ) (o : Option Memory) → Onward related s p → Beside related (changes s o) (changes (in_block p s) o)
 changes_beside related s p None on = λ f. absurd f
@@ -95,10 +98,9 @@ line_beside : (related : Relation) (globals : List Value) (i : Given) (s : State
     → Beside related (line_step virtual globals i s l) (line_step virtual globals i (in_block p s) l)
 unfolding line_step
 line_beside related globals i s p (Tick turn w) on = ticks_beside related i s p turn w on
-line_beside related globals i s p (Set to a) on =
-    let u : State ℕ = record s { next = s.next + 1; values = assign virtual to (value_of globals s.values a) s.values } in (in_block p u, refl, on u refl)
+line_beside related globals i s p (Set to a) on = takes_beside related s p to (value_of globals s.values a) on
 line_beside related globals i s p (Operate to op a b) on =
-    sets_beside related s p to (operated s.memory op (value_of globals s.values a) (value_of globals s.values b)) on
+    takes_beside related s p to (operated s.memory op (value_of globals s.values a) (value_of globals s.values b)) on
 line_beside related globals i s p (Load to op at) on =
     sets_beside related s p to (option_and_then (loaded s.memory op) (address_of globals s.memory s.values at)) on
 line_beside related globals i s p (Store size a at) on =

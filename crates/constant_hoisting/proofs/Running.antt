@@ -148,16 +148,22 @@ abbrev Onward : Relation → (r : ℕ) → State ℕ → ℕ → Values ℕ → 
 Onward related r s n el =
     (u : State ℕ) (new : Values ℕ) → u.block ≡ s.block → u.next ≡ s.next + 1 → Agree r u.values new → new r ≡ el r → related u (carry u (n + 1) new)
 
+takes_beside : (related : Relation) (r : ℕ) (s : State ℕ) (n : ℕ) (el : Values ℕ) (to : ℕ) (o q : Option Value) → q ≡ o → is_other r to ≡ true → Agree r s.values el → Onward related r s n el
+    → Beside related (takes virtual s to o) (takes virtual (carry s n el) to q)
+takes_beside related r s n el to o q e other agrees on =
+    subst (λ (z : Option Value). Beside related (takes virtual s to o) (takes virtual (carry s n el) to z)) (sym e) (
+      carry (record s { next = s.next + 1; values = assign virtual to o s.values }) (n + 1) (assign virtual to o el),
+      refl,
+      on (record s { next = s.next + 1; values = assign virtual to o s.values }) (assign virtual to o el) refl refl (assign_agrees r s.values el to o agrees)
+          (assign_leaves r el to o other),
+    )
+
 sets_beside : (related : Relation) (r : ℕ) (s : State ℕ) (n : ℕ) (el : Values ℕ) (to : ℕ) (o q : Option Value) → q ≡ o → is_other r to ≡ true → Agree r s.values el → Onward related r s n el
     → Beside related (sets virtual s to o) (sets virtual (carry s n el) to q)
 sets_beside related r s n el to None q e other agrees on = λ f. absurd f
 sets_beside related r s n el to (Some v) q e other agrees on =
-    subst (λ (z : Option Value). Beside related (sets virtual s to (Some v)) (sets virtual (carry s n el) to z)) (sym e) (
-      carry (record s { next = s.next + 1; values = put virtual to v s.values }) (n + 1) (put virtual to v el),
-      refl,
-      on (record s { next = s.next + 1; values = put virtual to v s.values }) (put virtual to v el) refl refl (assign_agrees r s.values el to (Some v) agrees)
-          (assign_leaves r el to (Some v) other),
-    )
+    subst (λ (z : Option Value). Beside related (sets virtual s to (Some v)) (sets virtual (carry s n el) to z)) (sym e)
+    (takes_beside related r s n el to (Some v) (Some v) refl other agrees on)
 
 changes_beside : (related : Relation) (r : ℕ) (s : State ℕ) (n : ℕ) (el : Values ℕ) (o q : Option Memory) → q ≡ o → Agree r s.values el → Onward related r s n el
     → Beside related (changes s o) (changes (carry s n el) q)
@@ -226,16 +232,11 @@ unfolding line_step
 line_beside related globals i r s n el f (Tick turn x) keeps agrees same on = ticks_beside related i r s n el turn x agrees on
 line_beside related globals i r s n el f (Set to a) keeps agrees same on =
     let h = and_parts (is_other r to) (operand_keeps (is_other r) a) keeps in
-    subst (λ (o : Option Value). Beside related (takes virtual s to (value_of globals s.values a)) (takes virtual (carry s n el) to o)) (sym (same a h.1)) (
-      carry (record s { next = s.next + 1; values = assign virtual to (value_of globals s.values a) s.values }) (n + 1) (assign virtual to (value_of globals s.values a) el),
-      refl,
-      on (record s { next = s.next + 1; values = assign virtual to (value_of globals s.values a) s.values }) (assign virtual to (value_of globals s.values a) el) refl refl
-          (assign_agrees r s.values el to (value_of globals s.values a) agrees) (assign_leaves r el to (value_of globals s.values a) h.0),
-    )
+    takes_beside related r s n el to (value_of globals s.values a) (value_of globals el (f a)) (same a h.1) h.0 agrees on
 line_beside related globals i r s n el f (Operate to op a b) keeps agrees same on =
     let h = and_parts (is_other r to) (operand_keeps (is_other r) a && operand_keeps (is_other r) b) keeps in
     let k = and_parts (operand_keeps (is_other r) a) (operand_keeps (is_other r) b) h.1 in
-    sets_beside related r s n el to
+    takes_beside related r s n el to
     (option_and_then (λ u. option_and_then (λ v. operate s.memory op u v) (value_of globals s.values b)) (value_of globals s.values a))
     (option_and_then (λ u. option_and_then (λ v. operate s.memory op u v) (value_of globals el (f b))) (value_of globals el (f a)))
     (two_same globals s.values el f a b (operate s.memory op) (same a k.0) (same b k.1)) h.0 agrees on

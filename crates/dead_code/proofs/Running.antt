@@ -34,7 +34,7 @@ use Rattle.vcode.specs.Addresses.{distance}
 use Rattle.vcode.specs.Operations.{held, operate, loaded, passed}
 use Rattle.vcode.specs.Places.{Values, put, assign, kept, virtual}
 use Rattle.vcode.specs.Coded.{classes_in}
-use Rattle.vcode.specs.Step.{State, begin, value_of, read, read_argument, read_result, read_all, operated, address_of, goes_on, sets, changes, weighs, ticks, receives, resumes, calls, line_step, enters, compared, branches, returns, jump_step, step}
+use Rattle.vcode.specs.Step.{State, begin, value_of, read, read_argument, read_result, read_all, operated, address_of, goes_on, sets, takes, changes, weighs, ticks, receives, resumes, calls, line_step, enters, compared, branches, returns, jump_step, step}
 use Rattle.vcode.proofs.Lists.{head_at, tail_at, nothing_at, same_some}
 use Rattle.vcode.proofs.Stepping.{step_line, step_jump, step_nowhere}
 use Rattle.cfg_live.specs.Registers.{with_operand, jump_reads}
@@ -122,15 +122,21 @@ Onward related s n w =
 abbrev but : Wanted → ℕ → Wanted
 but w to r = w r && not (nat_eq to r)
 
+takes_beside : (related : Relation) (s : State ℕ) (n : ℕ) (el : Values ℕ) (w : Wanted) (to : ℕ) (o p : Option Value) → p ≡ o → Agree (but w to) s.values el → Onward related s n w
+    → Beside related (takes virtual s to o) (takes virtual (carry s n el) to p)
+takes_beside related s n el w to o p e agrees on =
+    subst (λ (q : Option Value). Beside related (takes virtual s to o) (takes virtual (carry s n el) to q)) (sym e) (
+      carry (record s { next = s.next + 1; values = assign virtual to o s.values }) (n + 1) (assign virtual to o el),
+      refl,
+      on (record s { next = s.next + 1; values = assign virtual to o s.values }) (assign virtual to o el) refl refl (assign_agrees w s.values el to o agrees),
+    )
+
 sets_beside : (related : Relation) (s : State ℕ) (n : ℕ) (el : Values ℕ) (w : Wanted) (to : ℕ) (o p : Option Value) → p ≡ o → Agree (but w to) s.values el → Onward related s n w
     → Beside related (sets virtual s to o) (sets virtual (carry s n el) to p)
 sets_beside related s n el w to None p e agrees on = λ f. absurd f
 sets_beside related s n el w to (Some v) p e agrees on =
-    subst (λ (q : Option Value). Beside related (sets virtual s to (Some v)) (sets virtual (carry s n el) to q)) (sym e) (
-      carry (record s { next = s.next + 1; values = put virtual to v s.values }) (n + 1) (put virtual to v el),
-      refl,
-      on (record s { next = s.next + 1; values = put virtual to v s.values }) (put virtual to v el) refl refl (assign_agrees w s.values el to (Some v) agrees),
-    )
+    subst (λ (q : Option Value). Beside related (sets virtual s to (Some v)) (sets virtual (carry s n el) to q)) (sym e)
+    (takes_beside related s n el w to (Some v) (Some v) refl agrees on)
 
 changes_beside : (related : Relation) (s : State ℕ) (n : ℕ) (el : Values ℕ) (w : Wanted) (o p : Option Memory) → p ≡ o → Agree w s.values el → Onward related s n w
     → Beside related (changes s o) (changes (carry s n el) p)
@@ -210,16 +216,10 @@ unfolding line_step
 line_beside related globals i s n el w (Tick turn x) agrees on =
     ticks_beside related i s n el w turn x (whole_agrees w s.values el (above_agrees w (Tick turn x) s.values el agrees)) on
 line_beside related globals i s n el w (Set to a) agrees on =
-    let same = value_same globals s.values el a (one_agrees s.values el a (reads_agree w (Set to a) s.values el agrees)) in
-    subst (λ (o : Option Value). Beside related (goes_on (record s { values = assign virtual to (value_of globals s.values a) s.values })) (goes_on (record (carry s n el) { values = assign virtual to o el })))
-    (sym same) (
-      carry (record s { next = s.next + 1; values = assign virtual to (value_of globals s.values a) s.values }) (n + 1) (assign virtual to (value_of globals s.values a) el),
-      refl,
-      on (record s { next = s.next + 1; values = assign virtual to (value_of globals s.values a) s.values }) (assign virtual to (value_of globals s.values a) el) refl refl
-          (assign_agrees w s.values el to (value_of globals s.values a) (above_agrees w (Set to a) s.values el agrees)),
-    )
+    takes_beside related s n el w to (value_of globals s.values a) (value_of globals el a) (value_same globals s.values el a (one_agrees s.values el a (reads_agree w (Set to a) s.values el agrees)))
+    (above_agrees w (Set to a) s.values el agrees) on
 line_beside related globals i s n el w (Operate to op a b) agrees on =
-    sets_beside related s n el w to
+    takes_beside related s n el w to
     (option_and_then (λ u. option_and_then (λ v. operate s.memory op u v) (value_of globals s.values b)) (value_of globals s.values a))
     (option_and_then (λ u. option_and_then (λ v. operate s.memory op u v) (value_of globals el b)) (value_of globals el a))
     (two_same globals s.values el a b (operate s.memory op) (reads_agree w (Operate to op a b) s.values el agrees))
@@ -271,21 +271,23 @@ wanted_stays w ev el to o dead h r e = by (nat_eq r to) (turned to r (dead_unwri
     by true f = cc
     by false f = h r e
 
+takes_alone : (related : Relation) (step2 : State ℕ → Event (State ℕ) Asked Outcome) (s : State ℕ) (n : ℕ) (el : Values ℕ) (w : Wanted) (to : ℕ) (o : Option Value) → not (w to) ≡ true
+    → Agree w s.values el → StandsStill related s n el w → MatchesEvent related Fine step2 (takes virtual s to o) (carry s n el)
+takes_alone related step2 s n el w to o dead agrees still =
+    (0, (carry s n el, refl, still (record s { next = s.next + 1; values = assign virtual to o s.values }) refl refl (wanted_stays w s.values el to o dead agrees)))
+
 sets_alone : (related : Relation) (step2 : State ℕ → Event (State ℕ) Asked Outcome) (s : State ℕ) (n : ℕ) (el : Values ℕ) (w : Wanted) (to : ℕ) (o : Option Value) → not (w to) ≡ true
     → Agree w s.values el → StandsStill related s n el w → MatchesEvent related Fine step2 (sets virtual s to o) (carry s n el)
 sets_alone related step2 s n el w to None dead agrees still = λ f. absurd f
-sets_alone related step2 s n el w to (Some v) dead agrees still =
-    (0, (carry s n el, refl, still (record s { next = s.next + 1; values = put virtual to v s.values }) refl refl (wanted_stays w s.values el to (Some v) dead agrees)))
+sets_alone related step2 s n el w to (Some v) dead agrees still = takes_alone related step2 s n el w to (Some v) dead agrees still
 
 dead_alone : (related : Relation) (step2 : State ℕ → Event (State ℕ) Asked Outcome) (globals : List Value) (i : Given) (s : State ℕ) (n : ℕ) (el : Values ℕ) (w : Wanted) (l : Line ℕ) → is_dead w l ≡ true
     → Agree w s.values el → StandsStill related s n el w → MatchesEvent related Fine step2 (line_step virtual globals i s l) (carry s n el)
 unfolding line_step
 dead_alone related step2 globals i s n el w (Tick turn x) dead agrees still = cc
-dead_alone related step2 globals i s n el w (Set to a) dead agrees still =
-    let o = value_of globals s.values a in
-    (0, (carry s n el, refl, still (record s { next = s.next + 1; values = assign virtual to o s.values }) refl refl (wanted_stays w s.values el to o dead agrees)))
+dead_alone related step2 globals i s n el w (Set to a) dead agrees still = takes_alone related step2 s n el w to (value_of globals s.values a) dead agrees still
 dead_alone related step2 globals i s n el w (Operate to op a b) dead agrees still =
-    sets_alone related step2 s n el w to
+    takes_alone related step2 s n el w to
     (option_and_then (λ u. option_and_then (λ v. operate s.memory op u v) (value_of globals s.values b)) (value_of globals s.values a)) dead agrees still
 dead_alone related step2 globals i s n el w (Load to op at) dead agrees still =
     sets_alone related step2 s n el w to (option_and_then (loaded s.memory op) (address_of globals s.memory s.values at)) dead agrees still

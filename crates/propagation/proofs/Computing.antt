@@ -20,7 +20,7 @@ use Rattle.vcode.specs.declared.line.Line.TheVariants.{Tick, Set, Operate, Load,
 use Rattle.vcode.specs.Cost.{line_cost}
 use Rattle.vcode.specs.Operations.{operate}
 use Rattle.vcode.specs.Places.{virtual}
-use Rattle.vcode.specs.Step.{State, sets, line_step}
+use Rattle.vcode.specs.Step.{State, takes, line_step}
 use Rattle.propagation.specs.Shortened.{result_of, is_cheaper, with_result, computed, by_shift, shortened}
 use Rattle.propagation.proofs.Shortening.{Unnumbered, shift_cheaper, shift_unchanged, shift_step}
 
@@ -96,7 +96,7 @@ number_step : (globals : List Value) (i : Given) (s : State ℕ) (to : ℕ) (op 
     → line_step virtual globals i s (Set to (Number (result_of op a b))) ≡ line_step virtual globals i s (Operate to op (Number a) (Number b))
 unfolding line_step
 number_step globals i s to op a b =
-    ap (λ n. sets virtual s to (Some (Integer n))) (small_word (result_of op a b) (result_fits op a b)) ∙ sym (ap (sets virtual s to) (given_by s.memory op a b))
+    ap (λ n. takes virtual s to (Some (Integer n))) (small_word (result_of op a b) (result_fits op a b)) ∙ sym (ap (takes virtual s to) (given_by s.memory op a b))
 
 computed_step : (globals : List Value) (i : Given) (s : State ℕ) (l : Line ℕ) → line_step virtual globals i s (computed l) ≡ line_step virtual globals i s l
 computed_step globals i s (Tick turn w) = refl

@@ -42,7 +42,7 @@ use Rattle.vcode.specs.Addresses.{low, distance, beyond}
 use Rattle.vcode.specs.Operations.{held, operate, loaded, passed as passed_value}
 use Rattle.vcode.specs.Places.{Values, put, assign, kept, virtual}
 use Rattle.vcode.specs.Coded.{classes_in}
-use Rattle.vcode.specs.Step.{State, begin, value_of, read, read_result, read_all, operated, address_of, goes_on, sets, changes, weighs, ticks, receives, resumes, calls, line_step, compared, branches, returns, jump_step, step}
+use Rattle.vcode.specs.Step.{State, begin, value_of, read, read_result, read_all, operated, address_of, goes_on, sets, takes, changes, weighs, ticks, receives, resumes, calls, line_step, compared, branches, returns, jump_step, step}
 use Rattle.vcode.specs.Replaced.{Replacing, with_base, with_argument, with_comparison}
 use Rattle.vcode.proofs.Going.{OnNext, OnEvent, Relation, StartsWith, event_more, one_event, jump_starts}
 use Rattle.vcode.proofs.SameReads.{SameValue, SameArguments, two_same, args_same, calls_same}
@@ -239,12 +239,9 @@ address_same globals s fs all at =
 line_same : (globals : List Value) (i : Given) (s : State ℕ) (fs : Facts) → AreTrue globals s fs → (l : Line ℕ) → line_step virtual globals i s (with_line fs l) ≡ line_step virtual globals i s l
 unfolding line_step
 line_same globals i s fs all (Tick turn w) = refl
-line_same globals i s fs all (Set to a) = ap (takes_to s to) (operand_same globals s fs all a)
-  where
-    takes_to : State ℕ → ℕ → Option Value → Event (State ℕ) Asked Outcome
-    takes_to s to o = goes_on (record s { values = assign virtual to o s.values })
+line_same globals i s fs all (Set to a) = ap (takes virtual s to) (operand_same globals s fs all a)
 line_same globals i s fs all (Operate to op a b) =
-    ap (sets virtual s to)
+    ap (takes virtual s to)
     (folded_same globals s fs all op (propagate fs a) (propagate fs b) ∙ two_same globals s.values s.values (propagate fs) a b (operate s.memory op) (operand_same globals s fs all a) (operand_same globals s fs all b))
 line_same globals i s fs all (Load to op at) = ap (λ (o : Option Value). sets virtual s to (option_and_then (loaded s.memory op) o)) (address_same globals s fs all at)
 line_same globals i s fs all (Store size a at) =
@@ -470,19 +467,23 @@ first_false false b h = (refl, h)
 unknown_fact : (globals : List Value) (u : State ℕ) (r : ℕ) (f : Fact) → None ≡ Some f → Truth globals u r f
 unknown_fact globals u r f h = absurd (let no : ⊥ = cc in no)
 
-sets_moves : (globals : List Value) (m : Line ℕ) (s : State ℕ) (to : ℕ) (o : Option Value) → ((r : ℕ) → writes_it m r ≡ nat_eq to r)
-    → ((v : Value) → o ≡ Some v → (r : ℕ) (f : Fact) → nat_eq to r ≡ true → fact_of m ≡ Some f → ((k : ℕ) → writes_it m k ≡ true → fact_names f k ≡ false)
-    → Truth globals (record s { next = s.next + 1; values = put virtual to v s.values }) r f)
-    → OnEvent (Moved globals m s) (sets virtual s to o)
-sets_moves globals m s to None writes known = tt
-sets_moves globals m s to (Some v) writes known =
+takes_moves : (globals : List Value) (m : Line ℕ) (s : State ℕ) (to : ℕ) (o : Option Value) → ((r : ℕ) → writes_it m r ≡ nat_eq to r)
+    → ((r : ℕ) (f : Fact) → nat_eq to r ≡ true → fact_of m ≡ Some f → ((k : ℕ) → writes_it m k ≡ true → fact_names f k ≡ false)
+    → Truth globals (record s { next = s.next + 1; values = assign virtual to o s.values }) r f)
+    → OnEvent (Moved globals m s) (takes virtual s to o)
+takes_moves globals m s to o writes known =
     record {
       block = refl;
       next = refl;
-      values = λ r h. other_value s.values to (Some v) r (sym (writes r) ∙ h);
+      values = λ r h. other_value s.values to o r (sym (writes r) ∙ h);
       memory = λ h. refl;
-      fact = λ r f w h names. known v refl r f (sym (writes r) ∙ w) h names;
+      fact = λ r f w h names. known r f (sym (writes r) ∙ w) h names;
     }
+
+sets_moves : (globals : List Value) (m : Line ℕ) (s : State ℕ) (to : ℕ) (o : Option Value) → ((r : ℕ) → writes_it m r ≡ nat_eq to r) → fact_of m ≡ None → OnEvent (Moved globals m s) (sets virtual s to o)
+sets_moves globals m s to None writes none = tt
+sets_moves globals m s to (Some v) writes none =
+    takes_moves globals m s to (Some v) writes (λ r f w h names. unknown_fact globals (record s { next = s.next + 1; values = put virtual to v s.values }) r f (sym none ∙ h))
 
 changes_moves : (globals : List Value) (m : Line ℕ) (s : State ℕ) (o : Option Memory) → changes_memory m ≡ true → fact_of m ≡ None → OnEvent (Moved globals m s) (changes s o)
 changes_moves globals m s None c n = tt
@@ -548,38 +549,41 @@ set_true globals s to a r f w h names =
     some_fact : (x y : Fact) → Some x ≡ Some y → x ≡ y
     some_fact x y e = cc
 
-compared_true : (globals : List Value) (s : State ℕ) (to : ℕ) (c : Comparison ℕ) (v : Value) (r : ℕ) (f : Fact) → compared globals s c ≡ Some v → nat_eq to r ≡ true → Some (Test c) ≡ Some f
-    → ((k : ℕ) → nat_eq to k ≡ true → fact_names f k ≡ false) → Truth globals (record s { next = s.next + 1; values = put virtual to v s.values }) r f
-compared_true globals s to c v r f e w h names =
+compared_true : (globals : List Value) (s : State ℕ) (to : ℕ) (c : Comparison ℕ) (r : ℕ) (f : Fact) → nat_eq to r ≡ true → Some (Test c) ≡ Some f
+    → ((k : ℕ) → nat_eq to k ≡ true → fact_names f k ≡ false) → Truth globals (record s { next = s.next + 1; values = assign virtual to (compared globals s c) s.values }) r f
+compared_true globals s to c r f w h names =
     let is : Test c ≡ f = some_fact (Test c) f h in
     let unnamed = first_false (names_it c.left to) (names_it c.right to) (ap (λ (x : Fact). fact_names x to) is ∙ names to (is_same to)) in
-    let ev : Values ℕ = put virtual to v s.values in
-    let act : Value → Value → Option Value = operate s.memory (Compare c.condition c.class) in
-    let same : compared globals (record s { next = s.next + 1; values = ev }) c ≡ compared globals s c =
-    ap (λ (x : Option Value). option_and_then (λ a. option_and_then (λ b. operate s.memory (Compare c.condition c.class) a b) x) (value_of globals ev c.left)) (still globals s.values to (Some v) c.right unnamed.1)
-    ∙ ap (λ (x : Option Value). option_and_then (λ a. option_and_then (λ b. operate s.memory (Compare c.condition c.class) a b) (value_of globals s.values c.right)) x) (still globals s.values to (Some v) c.left unnamed.0)
+    let o = compared globals s c in
+    let ev : Values ℕ = assign virtual to o s.values in
+    let same : compared globals (record s { next = s.next + 1; values = ev }) c ≡ o =
+    ap (λ (x : Option Value). option_and_then (λ a. option_and_then (λ b. operate s.memory (Compare c.condition c.class) a b) x) (value_of globals ev c.left)) (still globals s.values to o c.right unnamed.1)
+    ∙ ap (λ (x : Option Value). option_and_then (λ a. option_and_then (λ b. operate s.memory (Compare c.condition c.class) a b) (value_of globals s.values c.right)) x) (still globals s.values to o c.left unnamed.0)
     in
-    subst (λ (x : Fact). Truth globals (record s { next = s.next + 1; values = ev }) r x) is (own_value s.values to (Some v) r w ∙ sym e ∙ sym same)
+    subst (λ (x : Fact). Truth globals (record s { next = s.next + 1; values = ev }) r x) is (own_value s.values to o r w ∙ sym same)
   where
     some_fact : (x y : Fact) → Some x ≡ Some y → x ≡ y
     some_fact x y e = cc
 
-sum_true : (globals : List Value) (s : State ℕ) (to : ℕ) (op : Operation) (a b : Operand ℕ) (v : Value) (r : ℕ) (f : Fact)
-    → operated s.memory op (value_of globals s.values a) (value_of globals s.values b) ≡ Some v → nat_eq to r ≡ true → (if is_add op then sum_of a b else None) ≡ Some f
-    → ((k : ℕ) → nat_eq to k ≡ true → fact_names f k ≡ false) → Truth globals (record s { next = s.next + 1; values = put virtual to v s.values }) r f
-sum_true globals s to op a b v r f e w h names = by_op (is_add op) refl h
+sum_true : (globals : List Value) (s : State ℕ) (to : ℕ) (op : Operation) (a b : Operand ℕ) (r : ℕ) (f : Fact)
+    → nat_eq to r ≡ true → (if is_add op then sum_of a b else None) ≡ Some f → ((k : ℕ) → nat_eq to k ≡ true → fact_names f k ≡ false)
+    → Truth globals (record s { next = s.next + 1; values = assign virtual to (operated s.memory op (value_of globals s.values a) (value_of globals s.values b)) s.values }) r f
+sum_true globals s to op a b r f w h names = by_op (is_add op) refl h
   where
-    ev : Values ℕ
-    ev = put virtual to v s.values
+    given : Option Value
+    given = operated s.memory op (value_of globals s.values a) (value_of globals s.values b)
 
-    known : (q n : ℕ) → Sum (At q) n ≡ f → operated s.memory (Reg Add) (s.values q) (Some (Integer (n % 2 ^ 64))) ≡ Some v → Truth globals (record s { next = s.next + 1; values = ev }) r f
+    ev : Values ℕ
+    ev = assign virtual to given s.values
+
+    known : (q n : ℕ) → Sum (At q) n ≡ f → operated s.memory (Reg Add) (s.values q) (Some (Integer (n % 2 ^ 64))) ≡ given → Truth globals (record s { next = s.next + 1; values = ev }) r f
     known q n is sum =
         let unnamed : names_it (At q) to ≡ false = ap (λ (x : Fact). fact_names x to) is ∙ names to (is_same to) in
         subst (λ (x : Fact). Truth globals (record s { next = s.next + 1; values = ev }) r x) is
-        (own_value s.values to (Some v) r w
-        ∙ (sym sum ∙ (no_memory s.memory (s.values q) (n % 2 ^ 64) ∙ ap (λ (x : Option Value). summed x n) (sym (still globals s.values to (Some v) (At q) unnamed)))))
+        (own_value s.values to given r w
+        ∙ (sym sum ∙ (no_memory s.memory (s.values q) (n % 2 ^ 64) ∙ ap (λ (x : Option Value). summed x n) (sym (still globals s.values to given (At q) unnamed)))))
 
-    by : (a b : Operand ℕ) → operated s.memory (Reg Add) (value_of globals s.values a) (value_of globals s.values b) ≡ Some v → sum_of a b ≡ Some f → Truth globals (record s { next = s.next + 1; values = ev }) r f
+    by : (a b : Operand ℕ) → operated s.memory (Reg Add) (value_of globals s.values a) (value_of globals s.values b) ≡ given → sum_of a b ≡ Some f → Truth globals (record s { next = s.next + 1; values = ev }) r f
     by (At q) (Number n) sum g = let is : Sum (At q) n ≡ f = cc in known q n is sum
     by (At q) (At p) sum g = absurd (let no : ⊥ = cc in no)
     by (At q) (Name p) sum g = absurd (let no : ⊥ = cc in no)
@@ -587,32 +591,25 @@ sum_true globals s to op a b v r f e w h names = by_op (is_add op) refl h
     by (Name k) b sum g = absurd (let no : ⊥ = cc in no)
 
     by_op : (c : Bool) → is_add op ≡ c → (if c then sum_of a b else None) ≡ Some f → Truth globals (record s { next = s.next + 1; values = ev }) r f
-    by_op true g k = by a b (subst (λ (o : Operation). operated s.memory o (value_of globals s.values a) (value_of globals s.values b) ≡ Some v) (adds op g) e) k
+    by_op true g k = by a b (sym (ap (λ (o : Operation). operated s.memory o (value_of globals s.values a) (value_of globals s.values b)) (adds op g))) k
     by_op false g k = absurd (let no : ⊥ = cc in no)
 
 line_moves : (globals : List Value) (i : Given) (s : State ℕ) (m : Line ℕ) → OnEvent (Moved globals m s) (line_step virtual globals i s m)
 unfolding line_step
 line_moves globals i s (Tick turn w) = ticks_move globals i s turn w
-line_moves globals i s (Set to a) =
-    record {
-      block = refl;
-      next = refl;
-      values = λ r h. other_value s.values to (value_of globals s.values a) r h;
-      memory = λ h. refl;
-      fact = λ r f w h names. set_true globals s to a r f w h names;
-    }
+line_moves globals i s (Set to a) = takes_moves globals (Set to a) s to (value_of globals s.values a) (λ r. refl) (λ r f w h names. set_true globals s to a r f w h names)
 line_moves globals i s (Operate to (Compare on k) a b) =
-    sets_moves globals (Operate to (Compare on k) a b) s to (compared globals s (record { condition = on; class = k; left = a; right = b })) (λ r. refl)
-    (λ v e r f w h names. compared_true globals s to (record { condition = on; class = k; left = a; right = b }) v r f e w h names)
+    takes_moves globals (Operate to (Compare on k) a b) s to (compared globals s (record { condition = on; class = k; left = a; right = b })) (λ r. refl)
+    (λ r f w h names. compared_true globals s to (record { condition = on; class = k; left = a; right = b }) r f w h names)
 line_moves globals i s (Operate to (Reg op) a b) =
-    sets_moves globals (Operate to (Reg op) a b) s to (option_and_then (λ u. option_and_then (λ v. operate s.memory (Reg op) u v) (value_of globals s.values b)) (value_of globals s.values a)) (λ r. refl)
-    (λ v e r f w h names. sum_true globals s to (Reg op) a b v r f e w h names)
+    takes_moves globals (Operate to (Reg op) a b) s to (operated s.memory (Reg op) (value_of globals s.values a) (value_of globals s.values b)) (λ r. refl)
+    (λ r f w h names. sum_true globals s to (Reg op) a b r f w h names)
 line_moves globals i s (Operate to (RegW op) a b) =
-    sets_moves globals (Operate to (RegW op) a b) s to (option_and_then (λ u. option_and_then (λ v. operate s.memory (RegW op) u v) (value_of globals s.values b)) (value_of globals s.values a)) (λ r. refl)
-    (λ v e r f w h names. unknown_fact globals (record s { next = s.next + 1; values = put virtual to v s.values }) r f h)
+    let o = operated s.memory (RegW op) (value_of globals s.values a) (value_of globals s.values b) in
+    takes_moves globals (Operate to (RegW op) a b) s to o (λ r. refl)
+    (λ r f w h names. unknown_fact globals (record s { next = s.next + 1; values = assign virtual to o s.values }) r f h)
 line_moves globals i s (Load to op at) =
-    sets_moves globals (Load to op at) s to (option_and_then (loaded s.memory op) (address_of globals s.memory s.values at)) (λ r. refl)
-    (λ v e r f w h names. unknown_fact globals (record s { next = s.next + 1; values = put virtual to v s.values }) r f h)
+    sets_moves globals (Load to op at) s to (option_and_then (loaded s.memory op) (address_of globals s.memory s.values at)) (λ r. refl) refl
 line_moves globals i s (Store size a at) =
     changes_moves globals (Store size a at) s
     (option_and_then (λ v. option_and_then (λ p. store s.memory (byte_count size) p v) (address_of globals s.memory s.values at)) (read globals s.values (stored_class size) a)) refl refl

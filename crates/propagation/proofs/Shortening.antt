@@ -28,7 +28,7 @@ use Rattle.vcode.specs.declared.line.Line.TheVariants.{Tick, Set, Operate, Load,
 use Rattle.vcode.specs.Cost.{is_immediate, operand_cost, operation_cost, line_cost}
 use Rattle.vcode.specs.Operations.{operate}
 use Rattle.vcode.specs.Places.{virtual}
-use Rattle.vcode.specs.Step.{State, value_of, sets, line_step}
+use Rattle.vcode.specs.Step.{State, value_of, takes, line_step}
 use Rattle.propagation.specs.Shortened.{exponent, if_below, by_power, with_operation, by_shift}
 
 -- ---- powers
@@ -266,7 +266,7 @@ shift_step globals i s (Operate to op a (Name g)) = refl
 shift_step globals i s (Operate to op a (Number n)) = by (option_and_then (by_power op) (exponent n)) refl
   where
     given : Operation → ℕ → Event (State ℕ) Asked Outcome
-    given o m = sets virtual s to (option_and_then (λ u. operate s.memory o u (Integer (m % 2 ^ 64))) (value_of globals s.values a))
+    given o m = takes virtual s to (option_and_then (λ u. operate s.memory o u (Integer (m % 2 ^ 64))) (value_of globals s.values a))
 
     same_of : (o new : Operation) (m : ℕ) → ((u : Value) → operate s.memory new u (Integer (m % 2 ^ 64)) ≡ operate s.memory o u (Integer (n % 2 ^ 64))) → (v : Option Value)
         → option_and_then (λ u. operate s.memory new u (Integer (m % 2 ^ 64))) v ≡ option_and_then (λ u. operate s.memory o u (Integer (n % 2 ^ 64))) v
@@ -278,7 +278,7 @@ shift_step globals i s (Operate to op a (Number n)) = by (option_and_then (by_po
     by (Some p) e =
         let f = found op n (exponent n) p refl e in
         let as_power : SameGiven p.0 op n p.1 = subst (λ m. SameGiven p.0 op m p.1) (sym f.1.0.is) f.1.1.same in
-        ap (sets virtual s to) (same_of op p.0 p.1 (as_power s.memory) (value_of globals s.values a))
+        ap (takes virtual s to) (same_of op p.0 p.1 (as_power s.memory) (value_of globals s.values a))
 shift_step globals i s (Load to op at) = refl
 shift_step globals i s (Store size a at) = refl
 shift_step globals i s (Alloc to size) = refl

@@ -75,7 +75,7 @@ line_same : (globals : List Value) (i : Given) (s : State ℕ) (f : Replacing) �
 unfolding line_step
 line_same globals i s f same (Tick turn w) = refl
 line_same globals i s f same (Set to a) = ap (takes virtual s to) (same a)
-line_same globals i s f same (Operate to op a b) = ap (sets virtual s to) (two_same globals s.values s.values f a b (operate s.memory op) (same a) (same b))
+line_same globals i s f same (Operate to op a b) = ap (takes virtual s to) (two_same globals s.values s.values f a b (operate s.memory op) (same a) (same b))
 line_same globals i s f same (Load to op at) = ap (λ (o : Option Value). sets virtual s to (option_and_then (loaded s.memory op) o)) (address_same globals s.memory s.values s.values f at (same at.base))
 line_same globals i s f same (Store size a at) =
     ap (changes s)
@@ -133,15 +133,18 @@ copies_register ev to from false e c h =
     subst (λ (d : KnownCopy). assign virtual to (ev from) ev d.copy ≡ assign virtual to (ev from) ev d.source) is
     (own_value ev to (ev from) ∙ sym (other_value ev to (ev from) from e))
 
-sets_moves : (m : Line ℕ) (s : State ℕ) (to : ℕ) (o : Option Value) → line_writes m ≡ Some to → made_by m ≡ None → OnEvent (Moved m s) (sets virtual s to o)
-sets_moves m s to None writes none = tt
-sets_moves m s to (Some v) writes none =
+takes_moves : (m : Line ℕ) (s : State ℕ) (to : ℕ) (o : Option Value) → line_writes m ≡ Some to → made_by m ≡ None → OnEvent (Moved m s) (takes virtual s to o)
+takes_moves m s to o writes none =
     record {
       block = refl;
       next = refl;
-      values = λ r h. other_value s.values to (Some v) r (sym (ap (λ (w : Option ℕ). is_written w r) writes) ∙ h);
-      copied = λ c h. makes_none (put virtual to v s.values) (made_by m) none c h;
+      values = λ r h. other_value s.values to o r (sym (ap (λ (w : Option ℕ). is_written w r) writes) ∙ h);
+      copied = λ c h. makes_none (assign virtual to o s.values) (made_by m) none c h;
     }
+
+sets_moves : (m : Line ℕ) (s : State ℕ) (to : ℕ) (o : Option Value) → line_writes m ≡ Some to → made_by m ≡ None → OnEvent (Moved m s) (sets virtual s to o)
+sets_moves m s to None writes none = tt
+sets_moves m s to (Some v) writes none = takes_moves m s to (Some v) writes none
 
 changes_moves : (m : Line ℕ) (s : State ℕ) (o : Option Memory) → made_by m ≡ None → OnEvent (Moved m s) (changes s o)
 changes_moves m s None none = tt

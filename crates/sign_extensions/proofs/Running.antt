@@ -1,4 +1,4 @@
--- The code with copies runs as the code does, step by step in the same states, in which marked registers hold whole words.
+-- The code with copies runs as the code does, step by step, in states in which marked registers hold whole words, and in the same ones but that registers may hold more: a copy takes also what has no extension.
 use Rattle.std.proofs.Common.{◌≡◌, ℕ, zero, suc, ◌+◌, ◌-◌, ◌%◌, ◌^◌, Bool, true, false, not, ◌&&◌, ◌||◌, nat_eq, nat_lt, if◌then◌else◌, List, [], ◌∷◌, map, length, Option, Some, None, slice_get, refl, sym, ◌∙◌, ap, subst, arith}
 use Rattle.std.specs.List.{list_all}
 use Rattle.std.specs.Option.{option_map, option_and_then}
@@ -38,22 +38,22 @@ use Rattle.vcode.specs.Operations.{held, passed, operate, loaded}
 use Rattle.vcode.specs.Places.{Values, unknown, put, assign, kept, virtual}
 use Rattle.vcode.specs.Coded.{classes_in}
 use Rattle.vcode.specs.Step.{State, bound, begin, value_of, read, read_argument, read_result, read_all, fails, goes_on, sets, takes, changes, ticks, receives, resumes, calls, line_step, compared, branches, returns, jump_step, block_step, step_in, step, address_of}
-use Rattle.vcode.proofs.Going.{OnNext, OnEvent, StartsWith, event_self, event_more, jump_starts}
+use Rattle.vcode.proofs.Following.{Follows, AllFollow, Ahead, with_values, takes_ahead, line_ahead, jump_ahead}
+use Rattle.vcode.proofs.Going.{OnNext, OnEvent, StartsWith, event_more, event_both, jump_starts}
 use Rattle.sign_extensions.specs.Whole.{is_marked, is_whole, gives_whole, loads_whole, is_word, takes_whole, wants_whole, keeps_marks, are_closed, is_extension, claim, with_claim, jump_claim, with_copy, with_copies}
 use Rattle.sign_extensions.proofs.Values.{Whole, IfWhole, AreWhole, whole_number, assign_whole, operand_whole, then_whole, operate_whole, load_whole, held_whole, extension_is}
 
 -- ---- events that go on so
 
--- the states are the same, and marked registers hold whole words
-record Related (marks : List Bool) (s t : State ℕ) : Type 0 where
-  is : t ≡ s
-  whole : AreWhole marks s.values
-
 abbrev WholeIn : List Bool → State ℕ → Type 0
 WholeIn marks u = AreWhole marks u.values
 
-event_whole : (marks : List Bool) (e : Event (State ℕ) Asked Outcome) → OnEvent (WholeIn marks) e → Together (Related marks) Fine e e
-event_whole marks e h = event_self (Related marks) e (event_more (WholeIn marks) (λ u. Related marks u u) (λ u whole. record { is = refl; whole = whole }) e h)
+-- marked registers hold whole words, and registers of the second state at least as much
+abbrev Related : List Bool → State ℕ → State ℕ → Type 0
+Related marks s t = WholeIn marks s × Ahead s t
+
+event_whole : (marks : List Bool) (e f : Event (State ℕ) Asked Outcome) → OnEvent (WholeIn marks) e → Together Ahead Fine e f → Together (Related marks) Fine e f
+event_whole marks e f h k = event_both (WholeIn marks) Ahead e f h k
 
 -- ---- what lines leave whole
 
@@ -108,7 +108,7 @@ line_whole marks globals i s (Set to a) h all =
     assign_whole marks s.values to (value_of globals s.values a) all
     (λ marked. operand_whole marks globals s.values a all (unless (is_marked marks to) (is_whole marks a) h marked))
 line_whole marks globals i s (Operate to op a b) h all =
-    sets_whole marks s to (option_and_then (λ u. option_and_then (λ v. operate s.memory op u v) (value_of globals s.values b)) (value_of globals s.values a)) all
+    assign_whole marks s.values to (option_and_then (λ u. option_and_then (λ v. operate s.memory op u v) (value_of globals s.values b)) (value_of globals s.values a)) all
     (λ marked. then_whole (value_of globals s.values a) (λ u. option_and_then (λ v. operate s.memory op u v) (value_of globals s.values b))
     (λ u x. then_whole (value_of globals s.values b) (λ v. operate s.memory op u v)
     (λ v y. operate_whole marks globals s.values s.memory op a b u v all (unless (is_marked marks to) (gives_whole marks op a b) h marked) x y)))
@@ -163,33 +163,29 @@ extends marks (RegW Remuw) a b h = absurd (let no : ⊥ = cc in no)
 extends marks (Reg op) a b h = absurd (let no : ⊥ = cc in no)
 extends marks (Compare on k) a b h = absurd (let no : ⊥ = cc in no)
 
--- of a register that holds a whole word: the same is written
-extension_beside : (marks : List Bool) (s : State ℕ) (to n : ℕ) (o : Option Value) → n ≡ 0 → AreWhole marks s.values → IfWhole o
-    → Together (Related marks) Fine (sets virtual s to (option_and_then (λ u. operate s.memory (RegW Addw) u (Integer (n % 2 ^ 64))) o)) (takes virtual s to o)
+-- of a register that holds a whole word: that is written
+extension_follows : (memory : Memory) (n : ℕ) (o p : Option Value) → n ≡ 0 → IfWhole o → Follows p o → Follows p (option_and_then (λ u. operate memory (RegW Addw) u (Integer (n % 2 ^ 64))) o)
 unfolding operate
-extension_beside marks s to n None nought all h = λ f. absurd f
-extension_beside marks s to n (Some (Integer k)) nought all h =
-    let same = extension_is k n nought h in (
-      record s { next = s.next + 1; values = assign virtual to (Some (Integer k)) s.values },
-      refl,
-      record {
-        is = ap (λ x. record s { next = s.next + 1; values = put virtual to (Integer x) s.values }) (sym same);
-        whole = assign_whole marks s.values to (Some (Integer (regw_value Addw k (n % 2 ^ 64)))) all (λ marked. subst (λ x. IfWhole (Some (Integer x))) (sym same) h);
-      },
-    )
-extension_beside marks s to n (Some (Pointer b k)) nought all h = λ f. absurd f
-extension_beside marks s to n (Some (Function g)) nought all h = λ f. absurd f
+extension_follows memory n None p nought h follows v e = absurd (let no : ⊥ = cc in no)
+extension_follows memory n (Some (Integer k)) p nought h follows v e =
+    follows (Integer k) refl ∙ ap (λ x. Some (Integer x)) (sym (extension_is k n nought h)) ∙ e
+extension_follows memory n (Some (Pointer b k)) p nought h follows v e = absurd (let no : ⊥ = cc in no)
+extension_follows memory n (Some (Function g)) p nought h follows v e = absurd (let no : ⊥ = cc in no)
 
-operate_beside : (marks : List Bool) (globals : List Value) (i : Given) (s : State ℕ) (to : ℕ) (op : Operation) (a b : Operand ℕ) (t : Bool) → is_extension marks op a b ≡ t → keeps_marks marks (Operate to op a b) ≡ true → AreWhole marks s.values
-    → Together (Related marks) Fine (line_step virtual globals i s (Operate to op a b)) (line_step virtual globals i s (if t then Set to a else Operate to op a b))
+extension_ahead : (marks : List Bool) (globals : List Value) (i : Given) (s : State ℕ) (el : Values ℕ) (to : ℕ) (op : Operation) (a b : Operand ℕ) → Extends marks op a b → AreWhole marks s.values → AllFollow el s.values
+    → Together Ahead Fine (line_step virtual globals i s (Operate to op a b)) (line_step virtual globals i (with_values s el) (Set to a))
 unfolding line_step
-operate_beside marks globals i s to op a b false e h all = event_whole marks (line_step virtual globals i s (Operate to op a b)) (line_whole marks globals i s (Operate to op a b) h all)
-operate_beside marks globals i s to op a b true e h all =
-    let x = extends marks op a b e in
-    subst (λ (y : Operation). Together (Related marks) Fine (line_step virtual globals i s (Operate to y a b)) (line_step virtual globals i s (Set to a))) (sym x.operation)
-    (subst (λ (y : Operand ℕ). Together (Related marks) Fine (line_step virtual globals i s (Operate to (RegW Addw) y b)) (line_step virtual globals i s (Set to y))) (sym x.left)
-    (subst (λ (y : Operand ℕ). Together (Related marks) Fine (line_step virtual globals i s (Operate to (RegW Addw) (At x.register) y)) (line_step virtual globals i s (Set to (At x.register)))) (sym x.right)
-    (extension_beside marks s to x.number (s.values x.register) x.zero_is all (all x.register x.marked))))
+extension_ahead marks globals i s el to op a b x all more =
+    subst (λ (y : Operation). Together Ahead Fine (line_step virtual globals i s (Operate to y a b)) (line_step virtual globals i (with_values s el) (Set to a))) (sym x.operation)
+    (subst (λ (y : Operand ℕ). Together Ahead Fine (line_step virtual globals i s (Operate to (RegW Addw) y b)) (line_step virtual globals i (with_values s el) (Set to y))) (sym x.left)
+    (subst (λ (y : Operand ℕ). Together Ahead Fine (line_step virtual globals i s (Operate to (RegW Addw) (At x.register) y)) (line_step virtual globals i (with_values s el) (Set to (At x.register)))) (sym x.right)
+    (takes_ahead virtual s el to (option_and_then (λ u. operate s.memory (RegW Addw) u (Integer (x.number % 2 ^ 64))) (s.values x.register)) (el x.register)
+    (extension_follows s.memory x.number (s.values x.register) (el x.register) x.zero_is (all x.register x.marked) (more x.register)) more)))
+
+operate_ahead : (marks : List Bool) (globals : List Value) (i : Given) (s : State ℕ) (el : Values ℕ) (to : ℕ) (op : Operation) (a b : Operand ℕ) (t : Bool) → is_extension marks op a b ≡ t → AreWhole marks s.values → AllFollow el s.values
+    → Together Ahead Fine (line_step virtual globals i s (Operate to op a b)) (line_step virtual globals i (with_values s el) (if t then Set to a else Operate to op a b))
+operate_ahead marks globals i s el to op a b false e all more = line_ahead virtual globals i s el (Operate to op a b) more
+operate_ahead marks globals i s el to op a b true e all more = extension_ahead marks globals i s el to op a b (extends marks op a b e) all more
 
 -- ---- a call beside the one with claims
 
@@ -266,18 +262,31 @@ jump_same marks globals result s Halt all = refl
 
 -- ---- each line beside its copy
 
-line_beside : (marks : List Bool) (globals : List Value) (i : Given) (s : State ℕ) (l : Line ℕ) → keeps_marks marks l ≡ true → AreWhole marks s.values
-    → Together (Related marks) Fine (line_step virtual globals i s l) (line_step virtual globals i s (with_copy marks l))
-line_beside marks globals i s (Tick turn w) h all = event_whole marks (line_step virtual globals i s (Tick turn w)) (line_whole marks globals i s (Tick turn w) h all)
-line_beside marks globals i s (Set to a) h all = event_whole marks (line_step virtual globals i s (Set to a)) (line_whole marks globals i s (Set to a) h all)
-line_beside marks globals i s (Operate to op a b) h all = operate_beside marks globals i s to op a b (is_extension marks op a b) refl h all
-line_beside marks globals i s (Load to op at) h all = event_whole marks (line_step virtual globals i s (Load to op at)) (line_whole marks globals i s (Load to op at) h all)
-line_beside marks globals i s (Store size a at) h all = event_whole marks (line_step virtual globals i s (Store size a at)) (line_whole marks globals i s (Store size a at) h all)
-line_beside marks globals i s (Alloc to size) h all = event_whole marks (line_step virtual globals i s (Alloc to size)) (line_whole marks globals i s (Alloc to size) h all)
-line_beside marks globals i s (Blit from to count) h all = event_whole marks (line_step virtual globals i s (Blit from to count)) (line_whole marks globals i s (Blit from to count) h all)
-line_beside marks globals i s (Call to callee args) h all =
-    subst (Together (Related marks) Fine (line_step virtual globals i s (Call to callee args))) (sym (call_same marks globals i s to callee args all))
-    (event_whole marks (line_step virtual globals i s (Call to callee args)) (line_whole marks globals i s (Call to callee args) h all))
+copy_ahead : (marks : List Bool) (globals : List Value) (i : Given) (s : State ℕ) (el : Values ℕ) (l : Line ℕ) → AreWhole marks s.values → AllFollow el s.values
+    → Together Ahead Fine (line_step virtual globals i s l) (line_step virtual globals i (with_values s el) (with_copy marks l))
+copy_ahead marks globals i s el (Tick turn w) all more = line_ahead virtual globals i s el (Tick turn w) more
+copy_ahead marks globals i s el (Set to a) all more = line_ahead virtual globals i s el (Set to a) more
+copy_ahead marks globals i s el (Operate to op a b) all more = operate_ahead marks globals i s el to op a b (is_extension marks op a b) refl all more
+copy_ahead marks globals i s el (Load to op at) all more = line_ahead virtual globals i s el (Load to op at) more
+copy_ahead marks globals i s el (Store size a at) all more = line_ahead virtual globals i s el (Store size a at) more
+copy_ahead marks globals i s el (Alloc to size) all more = line_ahead virtual globals i s el (Alloc to size) more
+copy_ahead marks globals i s el (Blit from to count) all more = line_ahead virtual globals i s el (Blit from to count) more
+copy_ahead marks globals i s el (Call to callee args) all more =
+    let claimed : Line ℕ = Call to callee (map (with_claim marks) args) in
+    subst (λ (x : Event (State ℕ) Asked Outcome). Together Ahead Fine x (line_step virtual globals i (with_values s el) claimed)) (call_same marks globals i s to callee args all)
+    (line_ahead virtual globals i s el claimed more)
+
+line_beside : (marks : List Bool) (globals : List Value) (i : Given) (s : State ℕ) (el : Values ℕ) (l : Line ℕ) → keeps_marks marks l ≡ true → AreWhole marks s.values → AllFollow el s.values
+    → Together (Related marks) Fine (line_step virtual globals i s l) (line_step virtual globals i (with_values s el) (with_copy marks l))
+line_beside marks globals i s el l h all more =
+    event_whole marks (line_step virtual globals i s l) (line_step virtual globals i (with_values s el) (with_copy marks l)) (line_whole marks globals i s l h all) (copy_ahead marks globals i s el l all more)
+
+jump_beside : (marks : List Bool) (globals : List Value) (result : Option Class) (s : State ℕ) (el : Values ℕ) (j : Jump ℕ) → AreWhole marks s.values → AllFollow el s.values
+    → Together (Related marks) Fine (jump_step globals result s j) (jump_step globals result (with_values s el) (jump_claim marks j))
+jump_beside marks globals result s el j all more =
+    event_whole marks (jump_step globals result s j) (jump_step globals result (with_values s el) (jump_claim marks j)) (jump_whole marks globals result s j all)
+    (subst (λ (x : Event (State ℕ) Asked Outcome). Together Ahead Fine x (jump_step globals result (with_values s el) (jump_claim marks j))) (jump_same marks globals result s j all)
+    (jump_ahead globals result s el (jump_claim marks j) more))
 
 -- ---- a step
 
@@ -312,35 +321,34 @@ two_events marks x y e f a b h =
     subst (λ (z : Event (State ℕ) Asked Outcome). Together (Related marks) Fine z y) (sym a)
     (subst (λ (z : Event (State ℕ) Asked Outcome). Together (Related marks) Fine e z) (sym b) h)
 
-block_beside : (marks : List Bool) (v w : Code ℕ) (globals : List Value) (i : Given) (s : State ℕ) → Copied marks v w → AreWhole marks s.values → (b : Block ℕ) → slice_get v.blocks s.block ≡ Some b → (o : Option (Line ℕ)) → slice_get b.lines s.next ≡ o
-    → Together (Related marks) Fine (step virtual globals v i s) (step virtual globals w i s)
-block_beside marks v w globals i s c all b at None here =
+block_beside : (marks : List Bool) (v w : Code ℕ) (globals : List Value) (i : Given) (s : State ℕ) (el : Values ℕ) → Copied marks v w → AreWhole marks s.values → AllFollow el s.values → (b : Block ℕ) → slice_get v.blocks s.block ≡ Some b → (o : Option (Line ℕ)) → slice_get b.lines s.next ≡ o
+    → Together (Related marks) Fine (step virtual globals v i s) (step virtual globals w i (with_values s el))
+block_beside marks v w globals i s el c all more b at None here =
     let there : slice_get w.blocks s.block ≡ Some (with_copies marks b) = ap (λ (xs : List (Block ℕ)). slice_get xs s.block) c.blocks ∙ slice_get-map (with_copies marks) v.blocks s.block ∙ ap (option_map (with_copies marks)) at in
     let end : slice_get (map (with_copy marks) b.lines) s.next ≡ None = slice_get-map (with_copy marks) b.lines s.next ∙ ap (option_map (with_copy marks)) here in
-    two_events marks (step virtual globals v i s) (step virtual globals w i s) (jump_step globals v.result s b.jump) (jump_step globals v.result s b.jump)
+    two_events marks (step virtual globals v i s) (step virtual globals w i (with_values s el)) (jump_step globals v.result s b.jump) (jump_step globals v.result (with_values s el) (jump_claim marks b.jump))
     (step_jump globals v i s b at here)
-    (step_jump globals w i s (with_copies marks b) there end ∙ ap (λ (r : Option Class). jump_step globals r s (jump_claim marks b.jump)) c.result
-    ∙ jump_same marks globals v.result s b.jump all)
-    (event_whole marks (jump_step globals v.result s b.jump) (jump_whole marks globals v.result s b.jump all))
-block_beside marks v w globals i s c all b at (Some l) here =
+    (step_jump globals w i (with_values s el) (with_copies marks b) there end ∙ ap (λ (r : Option Class). jump_step globals r (with_values s el) (jump_claim marks b.jump)) c.result)
+    (jump_beside marks globals v.result s el b.jump all more)
+block_beside marks v w globals i s el c all more b at (Some l) here =
     let there : slice_get w.blocks s.block ≡ Some (with_copies marks b) = ap (λ (xs : List (Block ℕ)). slice_get xs s.block) c.blocks ∙ slice_get-map (with_copies marks) v.blocks s.block ∙ ap (option_map (with_copies marks)) at in
     let line : slice_get (map (with_copy marks) b.lines) s.next ≡ Some (with_copy marks l) = slice_get-map (with_copy marks) b.lines s.next ∙ ap (option_map (with_copy marks)) here in
     let closed = both_true (list_all (takes_whole marks) v.params) (list_all (λ (d : Block ℕ). list_all (keeps_marks marks) d.lines) v.blocks) c.closed in
     let own = all_at (λ (d : Block ℕ). list_all (keeps_marks marks) d.lines) v.blocks s.block b closed.1 at in
-    two_events marks (step virtual globals v i s) (step virtual globals w i s) (line_step virtual globals i s l) (line_step virtual globals i s (with_copy marks l))
-    (step_line globals v i s b l at here) (step_line globals w i s (with_copies marks b) (with_copy marks l) there line)
-    (line_beside marks globals i s l (all_at (keeps_marks marks) b.lines s.next l own here) all)
+    two_events marks (step virtual globals v i s) (step virtual globals w i (with_values s el)) (line_step virtual globals i s l) (line_step virtual globals i (with_values s el) (with_copy marks l))
+    (step_line globals v i s b l at here) (step_line globals w i (with_values s el) (with_copies marks b) (with_copy marks l) there line)
+    (line_beside marks globals i s el l (all_at (keeps_marks marks) b.lines s.next l own here) all more)
 
-step_beside : (marks : List Bool) (v w : Code ℕ) (globals : List Value) (i : Given) (s : State ℕ) → Copied marks v w → AreWhole marks s.values → (o : Option (Block ℕ)) → slice_get v.blocks s.block ≡ o
-    → Together (Related marks) Fine (step virtual globals v i s) (step virtual globals w i s)
-step_beside marks v w globals i s c all None at =
-    subst (λ (x : Event (State ℕ) Asked Outcome). Together (Related marks) Fine x (step virtual globals w i s)) (sym (step_nowhere globals v i s at)) (λ f. absurd f)
-step_beside marks v w globals i s c all (Some b) at = block_beside marks v w globals i s c all b at (slice_get b.lines s.next) refl
+step_beside : (marks : List Bool) (v w : Code ℕ) (globals : List Value) (i : Given) (s : State ℕ) (el : Values ℕ) → Copied marks v w → AreWhole marks s.values → AllFollow el s.values → (o : Option (Block ℕ)) → slice_get v.blocks s.block ≡ o
+    → Together (Related marks) Fine (step virtual globals v i s) (step virtual globals w i (with_values s el))
+step_beside marks v w globals i s el c all more None at =
+    subst (λ (x : Event (State ℕ) Asked Outcome). Together (Related marks) Fine x (step virtual globals w i (with_values s el))) (sym (step_nowhere globals v i s at)) (λ f. absurd f)
+step_beside marks v w globals i s el c all more (Some b) at = block_beside marks v w globals i s el c all more b at (slice_get b.lines s.next) refl
 
 in_lockstep : (marks : List Bool) (v w : Code ℕ) (globals : List Value) (i : Given) → Copied marks v w → Lockstep (Related marks) Fine (step virtual globals v i) (step virtual globals w i)
 in_lockstep marks v w globals i c s t h =
-    subst (λ (u : State ℕ). Together (Related marks) Fine (step virtual globals v i s) (step virtual globals w i u)) (sym h.is)
-    (step_beside marks v w globals i s c h.whole (slice_get v.blocks s.block) refl)
+    subst (λ (u : State ℕ). Together (Related marks) Fine (step virtual globals v i s) (step virtual globals w i u)) (sym h.1.is)
+    (step_beside marks v w globals i s t.values c h.0 h.1.follow (slice_get v.blocks s.block) refl)
 
 -- ---- the start
 
@@ -358,8 +366,8 @@ pub runs : (marks : List Bool) (v w : Code ℕ) → Copied marks v w → (global
     → KeepsCode (classes_in v.params) (begin virtual v) (step virtual globals v) (begin virtual w) (step virtual globals w)
 runs marks v w c globals =
     lockstep_keeps (classes_in v.params) (begin virtual v) (step virtual globals v) (begin virtual w) (step virtual globals w) (λ i. Related marks)
-    (λ i args. record {
-      is = start_same v w c.params i;
-      whole = bound_whole marks unknown v.params i.args (both_true (list_all (takes_whole marks) v.params) (list_all (λ (d : Block ℕ). list_all (keeps_marks marks) d.lines) v.blocks) c.closed).0 (λ r marked. tt);
-    })
+    (λ i args. (
+      bound_whole marks unknown v.params i.args (both_true (list_all (takes_whole marks) v.params) (list_all (λ (d : Block ℕ). list_all (keeps_marks marks) d.lines) v.blocks) c.closed).0 (λ r marked. tt),
+      subst (λ (t : State ℕ). Ahead (begin virtual v i) t) (sym (start_same v w c.params i)) (record { is = refl; follow = λ r x e. e }),
+    ))
     (λ i. in_lockstep marks v w globals i c)

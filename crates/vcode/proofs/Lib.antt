@@ -7,3 +7,4 @@ mod Affording
 pub mod Replacing
 pub mod SameReads
 pub mod Going
+pub mod Following
