@@ -19,7 +19,7 @@ use Rattle.vcode.specs.Places.{virtual}
 use Rattle.vcode.specs.Regular.{is_target, leads_inside, is_alloc, allocs_first, alloc_bytes, area, turns_of, passes_few, weight_of, code_weight, IsRegular}
 use Rattle.block_order.specs.Ordered.{Order, place_in, is_named, block_at, led, placed, in_order, begins, names_once, leads_within, is_order}
 use Rattle.block_order.proofs.Placing.{both_true, both_are, below_is, one_more_below, named_place}
-use Rattle.block_order.proofs.Summing.{sum_in_order, most_in_order}
+use Rattle.block_order.proofs.Summing.{sum_in_order}
 use Rattle.block_order.proofs.Running.{runs}
 
 -- ---- an order, by its parts
@@ -211,15 +211,12 @@ regular order f h is =
       few_args = blocks_pass (λ (b : Block ℕ). list_all passes_few b.lines) order f h (λ b e. e) is.few_args;
     }
 
-pub keeps : (order : Order) (f : Code ℕ) (n : ℕ) → Holds order f → Keeps (coded virtual f n) (coded virtual (in_order order f) n)
-keeps order f n h =
+pub keeps : (order : Order) (f : Code ℕ) → Holds order f → Keeps (coded virtual f) (coded virtual (in_order order f))
+keeps order f h =
     record {
       params = refl;
       result = refl;
       weight = weight_less order f h;
-      area = area_less order f h;
-      outgoing = most_in_order order order f.blocks;
-      places = omega arith;
       runs = runs order f h.first h.closed;
     }
 

@@ -19,11 +19,10 @@ use Rattle.vcode.specs.declared.code.Code.{Code}
 use Rattle.vcode.specs.Coded.{coded}
 use Rattle.vcode.specs.Cost.{is_paid}
 use Rattle.vcode.specs.Named.{operand_keeps, wanted_keeps, line_keeps, jump_keeps, block_keeps, keeps_places, is_below}
-use Rattle.vcode.specs.Outgoing.{args_on_stack, most_in_lines, most_in_blocks}
 use Rattle.vcode.specs.Places.{virtual}
 use Rattle.vcode.specs.Regular.{leads_inside, is_alloc, allocs_first, alloc_bytes, area, turns_of, passes_few, weight_of, code_weight, IsRegular}
 use Rattle.vcode.specs.Replaced.{Replacing, with_line, with_jump}
-use Rattle.vcode.proofs.Replacing.{Stays, weight_stays, bytes_stay, turns_stay, alloc_stays, few_stays, passed_stays, line_low, jump_low, inside_same}
+use Rattle.vcode.proofs.Replacing.{Stays, weight_stays, bytes_stay, turns_stay, alloc_stays, few_stays, line_low, jump_low, inside_same}
 use Rattle.constant_hoisting.specs.declared.plan.Constant.{Constant}
 use Rattle.constant_hoisting.specs.declared.plan.Constant.TheVariants.{Number as OfNumber, Name as OfName}
 use Rattle.constant_hoisting.specs.declared.plan.Plan.{Plan}
@@ -69,12 +68,6 @@ allocs_same p held false [] = refl
 allocs_same p held true [] = refl
 allocs_same p held set (l ∷ lines) =
     ap (λ b. b || list_any is_alloc (lines_of p held set lines)) (alloc_stays (replaced p held) l) ∙ ap (λ b. is_alloc l || b) (allocs_same p held set lines)
-
-most_same : (p : Plan) (held set : Bool) (lines : List (Line ℕ)) → most_in_lines (lines_of p held set lines) ≡ most_in_lines lines
-most_same p held false [] = refl
-most_same p held true [] = refl
-most_same p held set (l ∷ lines) =
-    ap (λ n. max n (most_in_lines (lines_of p held set lines))) (passed_stays (replaced p held) l) ∙ ap (λ n. max (args_on_stack l) n) (most_same p held set lines)
 
 -- ---- the registers that it names
 
@@ -124,11 +117,6 @@ first_kept p k [] h = refl
 first_kept p k (b ∷ blocks) h =
     blocks_all (λ (d : Block ℕ). not (list_any is_alloc d.lines)) p (λ held set d e. ap not (allocs_same p held set d.lines) ∙ e) (k + 1) blocks h
 
-most_kept : (p : Plan) (k : ℕ) (blocks : List (Block ℕ)) → most_in_blocks (with_blocks p k blocks) ≡ most_in_blocks blocks
-most_kept p k [] = refl
-most_kept p k (b ∷ blocks) =
-    ap (λ n. max n (most_in_blocks (with_blocks p (k + 1) blocks))) (most_same p (is_held p k) (is_set p k) b.lines) ∙ ap (λ n. max (most_in_lines b.lines) n) (most_kept p (k + 1) blocks)
-
 -- ---- the whole
 
 pub weight_same : (p : Plan) (v : Code ℕ) → code_weight (with_constant p v) ≡ code_weight v
@@ -163,18 +151,13 @@ regular p v paid is =
           (λ held set b e. lines_all passes_few p held set (λ l h. few_stays (replaced p held) l ∙ h) refl b.lines e) 0 v.blocks is.few_args;
     }
 
-pub keeps : (p : Plan) (n : ℕ) (v : Code ℕ) → is_safe p v ≡ true → Keeps (coded virtual v n) (coded virtual (with_constant p v) n)
-keeps p n v safe =
+pub keeps : (p : Plan) (v : Code ℕ) → is_safe p v ≡ true → Keeps (coded virtual v) (coded virtual (with_constant p v))
+keeps p v safe =
     let weight = weight_same p v in
-    let bytes = area_same p v in
-    let passed = most_kept p 0 v.blocks in
     record {
       params = refl;
       result = refl;
       weight = omega (arith, weight);
-      area = omega (arith, bytes);
-      outgoing = omega (arith, passed);
-      places = omega arith;
       runs = runs p v safe;
     }
 

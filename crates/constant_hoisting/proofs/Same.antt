@@ -11,9 +11,6 @@ keeps_itself c =
       params = refl;
       result = refl;
       weight = omega arith;
-      area = omega arith;
-      outgoing = omega arith;
-      places = omega arith;
       runs = λ globals log i o args fine n logged. (n, logged);
     }
 

@@ -19,7 +19,6 @@ use Rattle.vcode.specs.declared.function.VFunc.{VFunc}
 use Rattle.vcode.specs.Coded.{coded}
 use Rattle.vcode.specs.Cost.{line_cost, affords, is_paid}
 use Rattle.vcode.specs.Named.{line_keeps, jump_keeps, block_keeps, keeps_places}
-use Rattle.vcode.specs.Outgoing.{args_on_stack, most_in_lines, most_in_blocks}
 use Rattle.vcode.specs.Places.{virtual}
 use Rattle.vcode.specs.Regular.{leads_inside, is_alloc, allocs_first, alloc_bytes, area, turns_of, passes_few, weight_of, code_weight, IsRegular}
 use Rattle.cfg_live.specs.Points.{graph_of}
@@ -116,15 +115,6 @@ lines_none test un out (l ∷ lines) h =
     let s = not_either (test l) (list_any test lines) h in
     let w : Wanted = wanted_at out lines in
     none_by_kind test (as_wanted w l) (kept_lines out lines) (is_dead w l) (ap not (same_as_wanted test un w l) ∙ s.0) (lines_none test un out lines s.1)
-
-most_kept : (out : Wanted) (lines : List (Line ℕ)) → most_in_lines (kept_lines out lines) ≤ most_in_lines lines
-most_kept out [] = omega arith
-most_kept out (l ∷ lines) = by (is_dead (wanted_at out lines) l) (as_wanted (wanted_at out lines) l) (same_as_wanted args_on_stack (λ to size. refl) (wanted_at out lines) l) (most_kept out lines)
-  where
-    by : (b : Bool) (m : Line ℕ) → args_on_stack m ≡ args_on_stack l → most_in_lines (kept_lines out lines) ≤ most_in_lines lines
-        → most_in_lines (if b then kept_lines out lines else m ∷ kept_lines out lines) ≤ max (args_on_stack l) (most_in_lines lines)
-    by true m same rest = omega arith
-    by false m same rest = omega arith
 
 -- ---- what is paid for
 
@@ -238,13 +228,6 @@ first_kept rows p [] h = refl
 first_kept rows p (b ∷ blocks) h =
     blocks_all (λ (d : Block ℕ). not (list_any is_alloc d.lines)) (λ out d e. lines_none is_alloc (λ to size. refl) out d.lines e) rows (jump_point p b.lines + 1) blocks h
 
-most_in_kept : (rows : List Bits) (p : ℕ) (blocks : List (Block ℕ)) → most_in_blocks (kept_blocks rows p blocks) ≤ most_in_blocks blocks
-most_in_kept rows p [] = omega arith
-most_in_kept rows p (b ∷ blocks) =
-    let here = most_kept (holds rows (jump_point p b.lines)) b.lines in
-    let rest = most_in_kept rows (jump_point p b.lines + 1) blocks in
-    omega (arith, here, rest)
-
 -- ---- the whole
 
 pub weight_same : (rows : List Bits) (v : Code ℕ) → code_weight (without_dead rows v) ≡ code_weight v
@@ -285,17 +268,12 @@ made rows v params blocks before from same pushed empty is =
     ∙ ap (λ (bs : List (Block ℕ)). record { result = v.result; params = params; blocks = bs })
     (sym (pushed ∙ ap (λ (xs : List (Block ℕ)). xs ++ kept_blocks rows 0 from) empty ∙ ap (kept_blocks rows 0) is))
 
-pub keeps : (v : VFunc) (rows : List Bits) (n : ℕ) → AreLive (graph_of v.code) v.registers rows → Keeps (coded virtual v.code n) (coded virtual (without_dead rows v.code) n)
-keeps v rows n live =
+pub keeps : (v : VFunc) (rows : List Bits) → AreLive (graph_of v.code) v.registers rows → Keeps (coded virtual v.code) (coded virtual (without_dead rows v.code))
+keeps v rows live =
     let weight = weight_same rows v.code in
-    let bytes = area_same rows v.code in
-    let passed = most_in_kept rows 0 v.code.blocks in
     record {
       params = refl;
       result = refl;
       weight = omega (arith, weight);
-      area = omega (arith, bytes);
-      outgoing = omega (arith, passed);
-      places = omega arith;
       runs = runs v rows live;
     }

@@ -27,7 +27,6 @@ use Rattle.vcode.specs.declared.code.Code.{Code}
 use Rattle.vcode.specs.Coded.{classes_in, coded}
 use Rattle.vcode.specs.Cost.{is_immediate, operand_cost, line_cost, branch_cost, jump_cost, affords, is_paid}
 use Rattle.vcode.specs.Named.{operand_keeps, wanted_keeps, line_keeps, jump_keeps, block_keeps, keeps_places, is_below}
-use Rattle.vcode.specs.Outgoing.{args_on_stack, most_in_lines, most_in_blocks}
 use Rattle.vcode.specs.Places.{virtual}
 use Rattle.vcode.specs.Regular.{is_target, leads_inside, is_alloc, allocs_first, alloc_bytes, area, turns_of, passes_few, weight_of, code_weight, IsRegular}
 use Rattle.vcode.specs.Replaced.{with_base, with_argument, with_returned, with_comparison}
@@ -454,19 +453,6 @@ few_carried fs (Call to callee args) = ap (λ n. nat_le n 64) (args_count (propa
 few_stays : Stays passes_few
 few_stays = stays passes_few (λ to op other a n m. refl, λ to op a b n. refl) few_carried
 
-passed_carried : Carried args_on_stack
-passed_carried fs (Tick turn w) = refl
-passed_carried fs (Set to a) = refl
-passed_carried fs (Operate to op a b) = refl
-passed_carried fs (Load to op a) = refl
-passed_carried fs (Store size a b) = refl
-passed_carried fs (Alloc to size) = refl
-passed_carried fs (Blit a b count) = refl
-passed_carried fs (Call to callee args) = ap (λ n. n - 8) (args_count (propagate fs) args)
-
-passed_stays : Stays args_on_stack
-passed_stays = stays args_on_stack (λ to op other a n m. refl, λ to op a b n. refl) passed_carried
-
 -- ---- lines side by side
 
 -- lines of the second that are those of the first with other operands, in their short form
@@ -503,12 +489,6 @@ lines_any test same [] [] h = refl
 lines_any test same [] (m ∷ new) h = absurd h
 lines_any test same (l ∷ lines) [] h = absurd h
 lines_any test same (l ∷ lines) (m ∷ new) h = ap (λ b. b || list_any test new) (ap test h.0.1 ∙ same h.0.0 l) ∙ ap (λ b. test l || b) (lines_any test same lines new h.1)
-
-most_same : (lines new : List (Line ℕ)) → Alike lines new → most_in_lines new ≡ most_in_lines lines
-most_same [] [] h = refl
-most_same [] (m ∷ new) h = absurd h
-most_same (l ∷ lines) [] h = absurd h
-most_same (l ∷ lines) (m ∷ new) h = ap (λ n. max n (most_in_lines new)) (ap args_on_stack h.0.1 ∙ passed_stays h.0.0 l) ∙ ap (λ n. max (args_on_stack l) n) (most_same lines new h.1)
 
 kept_below : (n : ℕ) (b : Bool) (test : Fact → Bool) (o : Option Fact) (f : Fact) → kept_if (λ g. b && (fact_below n g && test g)) o ≡ Some f → fact_below n f ≡ true
 kept_below n b test None f h = absurd (let no : ⊥ = cc in no)
@@ -577,13 +557,6 @@ first_kept n (b ∷ blocks) [] h all = absurd h
 first_kept n (b ∷ blocks) (c ∷ new) h all =
     blocks_all (λ (d : Block ℕ). not (list_any is_alloc d.lines)) n (λ x y f e. ap not (lines_any is_alloc alloc_stays x.lines y.lines (block_alike n x y f)) ∙ e) blocks new h.1 all
 
-most_in_new : (n : ℕ) (blocks new : List (Block ℕ)) → AllForwarded n blocks new → most_in_blocks new ≡ most_in_blocks blocks
-most_in_new n [] [] h = refl
-most_in_new n [] (c ∷ new) h = absurd h
-most_in_new n (b ∷ blocks) [] h = absurd h
-most_in_new n (b ∷ blocks) (c ∷ new) h =
-    ap (λ m. max m (most_in_blocks new)) (most_same b.lines c.lines (block_alike n b c h.0)) ∙ ap (λ m. max (most_in_lines b.lines) m) (most_in_new n blocks new h.1)
-
 -- ---- the whole
 
 pub weight_same : (n : ℕ) (v w : Code ℕ) → AllForwarded n v.blocks w.blocks → code_weight w ≡ code_weight v
@@ -616,17 +589,12 @@ regular n v w all same is =
           blocks_all (λ (b : Block ℕ). list_all passes_few b.lines) n (λ b c f e. lines_all passes_few few_stays b.lines c.lines (block_alike n b c f) ∙ e) v.blocks w.blocks all is.few_args;
     }
 
-pub keeps : (n places : ℕ) (v w : Code ℕ) → AllForwarded n v.blocks w.blocks → w.result ≡ v.result → w.params ≡ v.params → Keeps (coded virtual v places) (coded virtual w places)
-keeps n places v w all result params =
+pub keeps : (n : ℕ) (v w : Code ℕ) → AllForwarded n v.blocks w.blocks → w.result ≡ v.result → w.params ≡ v.params → Keeps (coded virtual v) (coded virtual w)
+keeps n v w all result params =
     let weight = weight_same n v w all in
-    let bytes = area_same n v w all in
-    let passed = most_in_new n v.blocks w.blocks all in
     record {
       params = ap classes_in params;
       result = result;
       weight = omega (arith, weight);
-      area = omega (arith, bytes);
-      outgoing = omega (arith, passed);
-      places = omega arith;
       runs = runs n v w all result params;
     }

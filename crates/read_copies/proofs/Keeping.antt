@@ -16,11 +16,10 @@ use Rattle.vcode.specs.declared.code.Code.{Code}
 use Rattle.vcode.specs.Coded.{coded}
 use Rattle.vcode.specs.Cost.{line_cost, affords, is_paid}
 use Rattle.vcode.specs.Named.{line_keeps, jump_keeps, block_keeps, keeps_places, is_below}
-use Rattle.vcode.specs.Outgoing.{args_on_stack, most_in_lines, most_in_blocks}
 use Rattle.vcode.specs.Places.{virtual}
 use Rattle.vcode.specs.Regular.{leads_inside, is_alloc, allocs_first, alloc_bytes, area, turns_of, passes_few, weight_of, code_weight, IsRegular}
 use Rattle.vcode.specs.Replaced.{Replacing, with_line, with_jump}
-use Rattle.vcode.proofs.Replacing.{Stays, weight_stays, bytes_stay, turns_stay, alloc_stays, few_stays, passed_stays, Costs, line_cost_same, jump_cost_same, Low, line_low, jump_low, inside_same}
+use Rattle.vcode.proofs.Replacing.{Stays, weight_stays, bytes_stay, turns_stay, alloc_stays, few_stays, Costs, line_cost_same, jump_cost_same, Low, line_low, jump_low, inside_same}
 use Rattle.cfg_live.specs.Registers.{line_writes}
 use Rattle.read_copies.specs.declared.known.KnownCopy.{KnownCopy}
 use Rattle.read_copies.specs.Copied.{copy_of, read_by, survives, surviving, made_by, with_copy, after, reading_lines, known_behind, reading_block, reading_copies}
@@ -46,12 +45,6 @@ lines_any test stays copies [] = refl
 lines_any test stays copies (l ∷ lines) =
     let m : Line ℕ = with_line (read_by copies) l in
     ap (λ b. b || list_any test (reading_lines (after m copies) lines)) (stays (read_by copies) l) ∙ ap (λ b. test l || b) (lines_any test stays (after m copies) lines)
-
-most_same : (copies : List KnownCopy) (lines : List (Line ℕ)) → most_in_lines (reading_lines copies lines) ≡ most_in_lines lines
-most_same copies [] = refl
-most_same copies (l ∷ lines) =
-    let m : Line ℕ = with_line (read_by copies) l in
-    ap (λ n. max n (most_in_lines (reading_lines (after m copies) lines))) (passed_stays (read_by copies) l) ∙ ap (λ n. max (args_on_stack l) n) (most_same (after m copies) lines)
 
 -- ---- what pays
 
@@ -218,10 +211,6 @@ first_same : (blocks : List (Block ℕ)) → allocs_first (map reading_block blo
 first_same [] = refl
 first_same (b ∷ blocks) = blocks_all (λ (d : Block ℕ). not (list_any is_alloc d.lines)) (λ d. ap not (lines_any is_alloc alloc_stays [] d.lines)) blocks
 
-most_kept : (blocks : List (Block ℕ)) → most_in_blocks (map reading_block blocks) ≡ most_in_blocks blocks
-most_kept [] = refl
-most_kept (b ∷ blocks) = ap (λ n. max n (most_in_blocks (map reading_block blocks))) (most_same [] b.lines) ∙ ap (λ n. max (most_in_lines b.lines) n) (most_kept blocks)
-
 -- ---- the whole
 
 pub weight_same : (v : Code ℕ) → code_weight (reading_copies v) ≡ code_weight v
@@ -250,18 +239,13 @@ regular v is =
       few_args = blocks_all (λ (b : Block ℕ). list_all passes_few b.lines) (λ b. lines_all passes_few few_stays [] b.lines) v.blocks ∙ is.few_args;
     }
 
-pub keeps : (n : ℕ) (v : Code ℕ) → Keeps (coded virtual v n) (coded virtual (reading_copies v) n)
-keeps n v =
+pub keeps : (v : Code ℕ) → Keeps (coded virtual v) (coded virtual (reading_copies v))
+keeps v =
     let weight = weight_same v in
-    let bytes = area_same v in
-    let passed = most_kept v.blocks in
     record {
       params = refl;
       result = refl;
       weight = omega (arith, weight);
-      area = omega (arith, bytes);
-      outgoing = omega (arith, passed);
-      places = omega arith;
       runs = runs v;
     }
 

@@ -19,7 +19,6 @@ use Rattle.vcode.specs.declared.code.Code.{Code}
 use Rattle.vcode.specs.Coded.{classes_in, coded}
 use Rattle.vcode.specs.Cost.{line_cost, jump_cost, affords, is_paid}
 use Rattle.vcode.specs.Named.{operand_keeps, wanted_keeps, line_keeps, jump_keeps, block_keeps, keeps_places, is_below}
-use Rattle.vcode.specs.Outgoing.{args_on_stack, most_in_lines, most_in_blocks}
 use Rattle.vcode.specs.Places.{virtual}
 use Rattle.vcode.specs.Regular.{leads_inside, is_alloc, allocs_first, alloc_bytes, area, turns_of, passes_few, weight_of, code_weight, IsRegular}
 use Rattle.sign_extensions.specs.Whole.{is_marked, takes_whole, wants_whole, keeps_marks, are_closed, is_extension, with_claim, jump_claim, with_copy, with_copies}
@@ -122,16 +121,6 @@ few_stays marks (Alloc to size) = refl
 few_stays marks (Blit from to count) = refl
 few_stays marks (Call to callee args) = ap (λ n. nat_le n 64) (length-map args (with_claim marks))
 
-passed_stays : (marks : List Bool) → Stays marks args_on_stack
-passed_stays marks (Tick turn w) = refl
-passed_stays marks (Set to a) = refl
-passed_stays marks (Operate to op a b) = either args_on_stack 0 (Set to a) (Operate to op a b) (is_extension marks op a b) refl refl
-passed_stays marks (Load to op at) = refl
-passed_stays marks (Store size a at) = refl
-passed_stays marks (Alloc to size) = refl
-passed_stays marks (Blit from to count) = refl
-passed_stays marks (Call to callee args) = ap (λ n. n - 8) (length-map args (with_claim marks))
-
 -- ---- of lines and of blocks
 
 sum_same : {X : Type 0} (g : X → ℕ) (f : X → X) → ((x : X) → g (f x) ≡ g x) → (xs : List X) → sum_by g (map f xs) ≡ sum_by g xs
@@ -151,14 +140,6 @@ all_kept : {X : Type 0} (test : X → Bool) (f : X → X) → ((x : X) → test 
 all_kept test f kept [] h = refl
 all_kept test f kept (x ∷ xs) h =
     let s = both_true (test x) (list_all test xs) h in both_are (test (f x)) (list_all test (map f xs)) (kept x s.0) (all_kept test f kept xs s.1)
-
-most_lines : (marks : List Bool) (ls : List (Line ℕ)) → most_in_lines (map (with_copy marks) ls) ≡ most_in_lines ls
-most_lines marks [] = refl
-most_lines marks (l ∷ ls) = ap (λ n. max n (most_in_lines (map (with_copy marks) ls))) (passed_stays marks l) ∙ ap (λ n. max (args_on_stack l) n) (most_lines marks ls)
-
-most_blocks : (marks : List Bool) (bs : List (Block ℕ)) → most_in_blocks (map (with_copies marks) bs) ≡ most_in_blocks bs
-most_blocks marks [] = refl
-most_blocks marks (b ∷ bs) = ap (λ n. max n (most_in_blocks (map (with_copies marks) bs))) (most_lines marks b.lines) ∙ ap (λ n. max (most_in_lines b.lines) n) (most_blocks marks bs)
 
 -- ---- of a jump
 
@@ -313,17 +294,12 @@ regular marks v w c is =
       few_args = blocks_same marks (λ (b : Block ℕ). list_all passes_few b.lines) (λ b. all_same passes_few (with_copy marks) (few_stays marks) b.lines) v w c is.few_args;
     }
 
-pub keeps : (marks : List Bool) (places : ℕ) (v w : Code ℕ) → Copied marks v w → Keeps (coded virtual v places) (coded virtual w places)
-keeps marks places v w c =
+pub keeps : (marks : List Bool) (v w : Code ℕ) → Copied marks v w → Keeps (coded virtual v) (coded virtual w)
+keeps marks v w c =
     let weight = weight_same marks v w c in
-    let bytes = area_same marks v w c in
-    let passed : most_in_blocks w.blocks ≡ most_in_blocks v.blocks = ap most_in_blocks c.blocks ∙ most_blocks marks v.blocks in
     record {
       params = ap classes_in c.params;
       result = c.result;
       weight = omega (arith, weight);
-      area = omega (arith, bytes);
-      outgoing = omega (arith, passed);
-      places = omega arith;
       runs = runs marks v w c;
     }

@@ -11,7 +11,6 @@ use Rattle.vcode.specs.declared.line.Jump.{Jump}
 use Rattle.vcode.specs.declared.line.Jump.TheVariants.{Goto, Branch, Return, Halt}
 use Rattle.vcode.specs.Cost.{operand_cost, place_cost, operation_cost, line_cost, branch_cost, jump_cost}
 use Rattle.vcode.specs.Named.{operand_keeps, wanted_keeps, line_keeps, jump_keeps, is_below}
-use Rattle.vcode.specs.Outgoing.{args_on_stack}
 use Rattle.vcode.specs.Regular.{leads_inside, is_alloc, alloc_bytes, turns_of, passes_few, weight_of}
 use Rattle.vcode.specs.Replaced.{Replacing, with_argument, with_line, with_jump}
 
@@ -73,16 +72,6 @@ few_stays f (Store size a at) = refl
 few_stays f (Alloc to size) = refl
 few_stays f (Blit from to count) = refl
 few_stays f (Call to callee args) = ap (λ n. nat_le n 64) (args_count f args)
-
-pub passed_stays : Stays args_on_stack
-passed_stays f (Tick turn w) = refl
-passed_stays f (Set to a) = refl
-passed_stays f (Operate to op a b) = refl
-passed_stays f (Load to op at) = refl
-passed_stays f (Store size a at) = refl
-passed_stays f (Alloc to size) = refl
-passed_stays f (Blit from to count) = refl
-passed_stays f (Call to callee args) = ap (λ n. n - ARGUMENT_REGISTERS) (args_count f args)
 
 -- ---- what pays
 

@@ -38,7 +38,7 @@ returns-clause-kept c =
     let is : in_order order v.code ≡ new =
     made order v.code c.in_ok-params.params c.in_ok-blocks.blocks c.in_ok-params.ensures
     (c.in_ok-blocks.ensures ∙ ap (λ (bs : List (Block ℕ)). map (λ k. placed order (block_at bs k)) order) c.as_slice.ensures) in
-    subst (λ (f : Code ℕ). Keeps (virtual_code v) (coded virtual f v.registers)) is (keeps order v.code v.registers one)
+    subst (λ (f : Code ℕ). Keeps (virtual_code v) (coded virtual f)) is (keeps order v.code one)
 
 pub returns-clause-code : goal.returns-clause-code
 returns-clause-code c =

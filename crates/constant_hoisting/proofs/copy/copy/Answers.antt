@@ -28,4 +28,4 @@ returns c =
     let v = c.args.function.now in
     let new : Code ℕ = record { result = v.code.result; params = c.in_ok-params.params; blocks = c.in_ok-blocks.blocks } in
     let is : v.code ≡ new = same_code v.code c.in_ok-params.params c.in_ok-blocks.blocks c.in_ok-params.ensures (c.in_ok-blocks.ensures ∙ c.as_slice.ensures) in
-    subst (λ (f : Code ℕ). Keeps (virtual_code v) (coded virtual f v.registers)) is (keeps_itself (virtual_code v))
+    subst (λ (f : Code ℕ). Keeps (virtual_code v) (coded virtual f)) is (keeps_itself (virtual_code v))

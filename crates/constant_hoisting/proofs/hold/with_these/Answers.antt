@@ -34,7 +34,7 @@ returns-clause-kept c =
     let p = c.args.plan.now in
     let new : Code ℕ = record { result = v.code.result; params = c.in_ok-params.params; blocks = c.from_vec.result } in
     let is : with_constant p v.code ≡ new = made p v.code c.in_ok-params.params c.from_vec.result c.in_ok-params.ensures (c.from_vec.ensures ∙ c.requires.made) in
-    subst (λ (f : Code ℕ). Keeps (virtual_code v) (coded virtual f v.registers)) is (keeps p v.registers v.code c.requires.safe)
+    subst (λ (f : Code ℕ). Keeps (virtual_code v) (coded virtual f)) is (keeps p v.code c.requires.safe)
 
 pub returns-clause-code : goal.returns-clause-code
 returns-clause-code c =

@@ -35,4 +35,4 @@ returns-clause-kept c =
     let is : without_dead rows v.code ≡ new =
     made rows v.code c.in_ok-params.params c.push_blocks.new.kept c.new-blocks.result c.as_slice.result.now c.in_ok-params.ensures c.in_ok-push_blocks.ensures c.new-blocks.ensures
     c.as_slice.ensures in
-    subst (λ (f : Code ℕ). Keeps (virtual_code v) (coded virtual f v.registers)) is (keeps v rows v.registers c.requires.live)
+    subst (λ (f : Code ℕ). Keeps (virtual_code v) (coded virtual f)) is (keeps v rows c.requires.live)

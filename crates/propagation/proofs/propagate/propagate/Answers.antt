@@ -34,4 +34,4 @@ returns-clause-kept c =
     let all : AllForwarded v.registers v.code.blocks w.blocks =
     subst (λ n. AllForwarded n v.code.blocks w.blocks) c.in_ok-table.ensures.count
     (subst (λ (xs : List (Block ℕ)). AllForwarded (length c.in_ok-table.table.written.items) xs w.blocks) c.as_slice.ensures c.in_ok-blocks.ensures) in
-    keeps v.registers v.registers v.code w all refl same
+    keeps v.registers v.code w all refl same

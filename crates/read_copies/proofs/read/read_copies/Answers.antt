@@ -33,7 +33,7 @@ returns-clause-kept c =
     let is : reading_copies v.code ≡ new =
     made v.code c.in_ok-params.params c.in_ok-blocks.blocks c.in_ok-params.ensures (c.in_ok-blocks.ensures ∙ ap (map reading_block) c.as_slice.ensures)
     in
-    subst (λ (f : Code ℕ). Keeps (virtual_code v) (coded virtual f v.registers)) is (keeps v.registers v.code)
+    subst (λ (f : Code ℕ). Keeps (virtual_code v) (coded virtual f)) is (keeps v.code)
 
 pub returns-clause-code : goal.returns-clause-code
 returns-clause-code c =

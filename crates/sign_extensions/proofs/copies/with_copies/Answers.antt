@@ -33,7 +33,7 @@ pub returns-clause-kept : goal.returns-clause-kept
 returns-clause-kept c =
     let v = c.args.function.now in
     let w : Code ℕ = record { result = v.code.result; params = c.in_ok-params.params; blocks = c.in_ok-blocks.blocks } in
-    keeps c.args.marks.now v.registers v.code w
+    keeps c.args.marks.now v.code w
     (record {
       result = refl;
       params = c.in_ok-params.ensures;
