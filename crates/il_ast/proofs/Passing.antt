@@ -1,5 +1,5 @@
 -- Passes compose: what keeps a function's code is the function's code.
-use Rattle.std.proofs.Common.{◌≡◌, ℕ, ◌≤◌, List, sym, ◌∙◌, subst, arith}
+use Rattle.std.proofs.Common.{ℕ, ◌≤◌, List, ◌∙◌, subst, arith}
 use Rattle.il_ast.specs.declared.operation.Class.{Class}
 use Rattle.il_ast.specs.declared.function.Func.{Func}
 use Rattle.il_ast.specs.Keeps.{KeepsCode}
