@@ -1,0 +1,60 @@
+-- What registers hold after a write.
+use Rattle.std.proofs.Common.{◌≡◌, ℕ, Bool, true, false, not, ◌&&◌, nat_eq, if◌then◌else◌, Option, Some, None, refl, sym, ◌∙◌, ap, arith}
+use Rattle.std.specs.Option.{option_map_or}
+use Rattle.std.proofs.lemmas.Bool.Decides.{nat_tests}
+use Rattle.il_ast.specs.declared.value.Value.{Value}
+use Rattle.vcode.specs.Places.{Values}
+use Rattle.vcode.specs.Acts.{written}
+
+abbrev pub is_written : Option ℕ → ℕ → Bool
+is_written to r = option_map_or (λ k. nat_eq k r) to false
+
+pub turned : (a b : ℕ) → nat_eq a b ≡ nat_eq b a
+turned a b = grind (arith, nat_tests)
+
+pub is_itself : (r : ℕ) → nat_eq r r ≡ true
+is_itself r = grind (arith, nat_tests)
+
+pub same_number : (a b : ℕ) → nat_eq a b ≡ true → a ≡ b
+same_number a b h = grind (arith, nat_tests)
+
+-- a register that isn't written holds what it did
+pub unwritten : (to : Option ℕ) (o : Option Value) (values : Values ℕ) (r : ℕ) → is_written to r ≡ false → written to o values r ≡ values r
+unwritten None o values r h = refl
+unwritten (Some k) o values r h = ap (λ (b : Bool). if b then o else values r) (turned r k ∙ h)
+
+-- one that is written holds the value
+pub now_holds : (k : ℕ) (o : Option Value) (values : Values ℕ) → written (Some k) o values k ≡ o
+now_holds k o values = ap (λ (b : Bool). if b then o else values k) (is_itself k)
+
+-- ---- two codes that write the same
+
+-- registers of a kind that hold the same
+abbrev pub Agree : (ℕ → Bool) → (before after : Values ℕ) → Type 0
+Agree w before after = (r : ℕ) → w r ≡ true → after r ≡ before r
+
+kept_and : (a b : Bool) → a ≡ true → b ≡ false → (a && not b) ≡ true
+kept_and a b h k = ap (λ x. x && not b) h ∙ ap not k
+
+-- those that agreed but for the one that both write
+pub written_agree : (w : ℕ → Bool) (to : Option ℕ) (o : Option Value) (before after : Values ℕ) → Agree (λ r. w r && not (is_written to r)) before after → Agree w (written to o before) (written to o after)
+written_agree w None o before after agrees r e = agrees r (kept_and (w r) false e refl)
+written_agree w (Some k) o before after agrees r e = by (nat_eq r k) (turned k r)
+  where
+    by : (b : Bool) → nat_eq k r ≡ b → (if b then o else after r) ≡ (if b then o else before r)
+    by true f = refl
+    by false f = agrees r (kept_and (w r) (nat_eq k r) e f)
+
+-- a write to a register that isn't of the kind leaves them, in the one code or in the other
+pub unlike : (w : ℕ → Bool) (k r : ℕ) → w k ≡ false → w r ≡ true → nat_eq k r ≡ false
+unlike w k r isnt e = by (nat_eq k r) refl
+  where
+    by : (b : Bool) → nat_eq k r ≡ b → b ≡ false
+    by true f = sym e ∙ ap w (sym (same_number k r f)) ∙ isnt
+    by false f = refl
+
+pub first_writes : (w : ℕ → Bool) (k : ℕ) (o : Option Value) (before after : Values ℕ) → w k ≡ false → Agree w before after → Agree w (written (Some k) o before) after
+first_writes w k o before after isnt agrees r e = agrees r e ∙ sym (unwritten (Some k) o before r (unlike w k r isnt e))
+
+pub second_writes : (w : ℕ → Bool) (k : ℕ) (o : Option Value) (before after : Values ℕ) → w k ≡ false → Agree w before after → Agree w before (written (Some k) o after)
+second_writes w k o before after isnt agrees r e = unwritten (Some k) o after r (unlike w k r isnt e) ∙ agrees r e
