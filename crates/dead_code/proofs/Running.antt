@@ -161,11 +161,11 @@ line_goes v rows w (Operate to op a b) dead globals memory ev el agrees =
     first_writes w to (operated memory op (value_of globals ev a) (value_of globals ev b)) ev el (not_wanted (w to) dead) agrees
 line_goes v rows w (Load to op at) dead globals memory ev el agrees =
     given_only (λ o. Agree w (written (Some to) o ev) el) (λ o. first_writes w to o ev el (not_wanted (w to) dead) agrees) (option_and_then (loaded memory op) (address_of globals memory ev at))
-line_goes v rows w (Tick turn x) dead = absurd (let no : ⊥ = cc in no)
-line_goes v rows w (Store size a at) dead = absurd (let no : ⊥ = cc in no)
-line_goes v rows w (Alloc to size) dead = absurd (let no : ⊥ = cc in no)
-line_goes v rows w (Blit from to count) dead = absurd (let no : ⊥ = cc in no)
-line_goes v rows w (Call to callee args) dead = absurd (let no : ⊥ = cc in no)
+line_goes v rows w (Tick turn x) dead globals memory ev el agrees = absurd (let no : ⊥ = cc in no)
+line_goes v rows w (Store size a at) dead globals memory ev el agrees = absurd (let no : ⊥ = cc in no)
+line_goes v rows w (Alloc to size) dead globals memory ev el agrees = absurd (let no : ⊥ = cc in no)
+line_goes v rows w (Blit from to count) dead globals memory ev el agrees = absurd (let no : ⊥ = cc in no)
+line_goes v rows w (Call to callee args) dead globals memory ev el agrees = absurd (let no : ⊥ = cc in no)
 
 -- ---- where the jump leads
 
@@ -199,7 +199,7 @@ module _ (v : Code ℕ) (rows : List Bits) where
       jump_itself_alike (claims v rows) globals memory ev el v.result j (jump_read globals ev el j (λ r e. agrees r (is.0 r e)))
       (leads_more (λ k. (q : ℕ) → slice_get (firsts_from 0 v.blocks) k ≡ Some q → is_in (jump_next (firsts_from 0 v.blocks) j) q ≡ true)
       (Arriving (claims v rows) globals memory ev el (λ k. k))
-      (λ k next. (out, (refl, λ q r at live. is.1 q r (next q at) live), agrees)) j (targets_next (firsts_from 0 v.blocks) j))
+      (λ k next. (out, ((refl, λ q r at live. is.1 q r (next q at) live), agrees))) j (targets_next (firsts_from 0 v.blocks) j))
 
   lines_follow : (out : Wanted) (lines : List (Line ℕ)) (j : Jump ℕ) → IsOut out j → Follows (claims v rows) v (without_dead rows v) (wanted_at out lines) lines j (kept_lines out lines) j
   lines_follow out [] j is = Jumps (jump_stays out j is)
