@@ -1,11 +1,11 @@
 -- What a pass owes of the code that it makes, and what follows: the invariants of a function, and that it keeps the function that there was.
-use Rattle.std.proofs.Common.{◌≡◌, ℕ, Bool, true, nat_le, List, length, refl, sym, ◌∙◌, ap, subst}
+use Rattle.std.proofs.Common.{◌≡◌, ℕ, Bool, true, nat_le, List, length, refl, sym, ◌∙◌, ap, subst, arith}
 use Rattle.std.specs.Prelude.{IsTrue}
 use Rattle.std.specs.List.{list_all}
 use Rattle.std.proofs.lemmas.Bool.{and_parts, and_from}
 use Rattle.il_ast.specs.declared.value.Value.{Value}
 use Rattle.il_ast.specs.Keeps.{KeepsCode}
-use Rattle.il_ast.specs.Passes.{Keeps}
+use Rattle.il_ast.specs.Passes.{Coded, Keeps}
 use Rattle.vcode.specs.declared.place.Destination.{Destination}
 use Rattle.vcode.specs.declared.code.Block.{Block}
 use Rattle.vcode.specs.declared.code.Code.{Code}
@@ -101,3 +101,15 @@ made f params blocks these same is =
 pub result_of : (v : VFunc) (these : List (Block ℕ)) → Owed v these → (params : List (Destination ℕ)) (blocks : List (Block ℕ)) → params ≡ v.code.params → blocks ≡ these
     → Result v (record { result = v.code.result; params = params; blocks = blocks })
 result_of v these owed params blocks same is = subst (λ (w : Code ℕ). Result v w) (made v.code params blocks these same is) (owed_result v these owed)
+
+-- ---- a function that stays as it is
+
+pub keeps_itself : (c : Coded) → Keeps c c
+keeps_itself c = record { params = refl; result = refl; weight = omega arith; runs = λ globals log i o args fine n logged. (n, logged) }
+
+-- the code is made of the function's own parameters and blocks
+pub own_result : (v : VFunc) (params : List (Destination ℕ)) (blocks : List (Block ℕ)) → params ≡ v.code.params → blocks ≡ v.code.blocks
+    → Result v (record { result = v.code.result; params = params; blocks = blocks })
+own_result v params blocks same is =
+    subst (λ (w : Code ℕ). Result v w) (made v.code params blocks v.code.blocks same is)
+    (record { regular = v.regular; light = v.light; known = v.known; low = v.low; distinct = v.distinct; keeps = keeps_itself (virtual_code v) })
