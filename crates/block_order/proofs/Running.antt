@@ -16,7 +16,6 @@ use Rattle.vcode.specs.declared.code.Code.{Code}
 use Rattle.vcode.specs.Places.{Values, virtual}
 use Rattle.vcode.specs.Coded.{classes_in}
 use Rattle.vcode.specs.Step.{begin, value_of, step}
-use Rattle.vcode.specs.Replaced.{with_jump}
 use Rattle.vcode.specs.Writes.{line_writes}
 use Rattle.vcode.specs.Acts.{act, written, way}
 use Rattle.vcode.specs.Claims.{Claims}
@@ -30,19 +29,19 @@ use Rattle.vcode.proofs.Rewriting.{rewrites_keep}
 use Rattle.block_order.specs.Ordered.{Order, place_in, is_named, block_at, led, placed, in_order, begins, leads_within}
 use Rattle.block_order.proofs.Placing.{both_true, at_place, all_named}
 
--- registers hold the same; a block that is named is entered where it stands in the order
-abbrev claims : Order → Claims
-claims order =
+-- registers hold the same; a block is entered where it stands in the order, which names it if it is there
+abbrev claims : Order → Code ℕ → Claims
+claims order f =
     record {
       Claim = Unit {0};
       holds = λ q globals memory before after. after ≡ before;
-      arrives = λ q k n. (n ≡ place_in order k) × (is_named order k ≡ true);
+      arrives = λ q k n. (n ≡ place_in order k) × ((b : Block ℕ) → slice_get f.blocks k ≡ Some b → is_named order k ≡ true);
     }
 
 -- ---- lines and jumps
 
-line_follows : (order : Order) (l : Line ℕ) → Alike (claims order) tt tt l l
-line_follows order l globals memory before after same =
+line_follows : (order : Order) (f : Code ℕ) (l : Line ℕ) → Alike (claims order f) tt tt l l
+line_follows order f l globals memory before after same =
     lines_alike (λ next ev el. el ≡ ev) globals memory before after l l (λ works. ap (λ (x : Values ℕ). act globals memory x l) same) (λ o next may. ap (written (line_writes l) o) same)
 
 led_is : (order : Order) (j : Jump ℕ) → led_to (place_in order) j ≡ led order j
@@ -58,19 +57,19 @@ each_named order holds named (Branch on met otherwise) h =
 each_named order holds named (Return a) h = tt
 each_named order holds named Halt h = tt
 
-jump_follows : (order : Order) (f : Code ℕ) (j : Jump ℕ) → leads_within order j ≡ true → LeadAlike (claims order) f.result tt j (led order j)
+jump_follows : (order : Order) (f : Code ℕ) (j : Jump ℕ) → leads_within order j ≡ true → LeadAlike (claims order f) f.result tt j (led order j)
 jump_follows order f j leads globals memory before after same =
-    subst (λ (x : Jump ℕ). Arrives (claims order) globals memory before after (way globals f.result memory before j) (way globals f.result memory after x))
+    subst (λ (x : Jump ℕ). Arrives (claims order f) globals memory before after (way globals f.result memory before j) (way globals f.result memory after x))
     (ap (led_to (place_in order)) (jump_itself j) ∙ led_is order j)
-    (jump_alike (claims order) globals memory before after f.result (place_in order) (λ a. a) j
+    (jump_alike (claims order f) globals memory before after f.result (place_in order) (λ a. a) j
     (jump_reads_every (SameValue globals before after (λ a. a)) (λ (a : Operand ℕ). ap (λ (x : Values ℕ). value_of globals x a) same) j)
-    (each_named order (Arriving (claims order) globals memory before after (place_in order)) (λ k named. (tt, ((refl, named), same))) j leads))
+    (each_named order (Arriving (claims order f) globals memory before after (place_in order)) (λ k named. (tt, ((refl, λ b at. named), same))) j leads))
 
 -- ---- the code follows
 
-lines_follow : (order : Order) (f : Code ℕ) (lines : List (Line ℕ)) (j : Jump ℕ) → leads_within order j ≡ true → Follows (claims order) f (in_order order f) tt lines j lines (led order j)
+lines_follow : (order : Order) (f : Code ℕ) (lines : List (Line ℕ)) (j : Jump ℕ) → leads_within order j ≡ true → Follows (claims order f) f (in_order order f) tt lines j lines (led order j)
 lines_follow order f [] j leads = Jumps (jump_follows order f j leads)
-lines_follow order f (l ∷ lines) j leads = Both (line_follows order l) (lines_follow order f lines j leads)
+lines_follow order f (l ∷ lines) j leads = Both (line_follows order f l) (lines_follow order f lines j leads)
 
 abbrev IsClosed : Order → Code ℕ → Type 0
 IsClosed order f = list_all (λ k. leads_within order (block_at f.blocks k).jump) order ≡ true
@@ -98,12 +97,20 @@ start_named blocks [] h b at =
     absurd (omega arith)
 start_named blocks (k ∷ order) h b at = ap (λ x. x || is_named order 0) h
 
-rewrites : (order : Order) (f : Code ℕ) → begins (length f.blocks) order ≡ true → IsClosed order f → Rewrites (claims order) f (in_order order f)
-rewrites order f first closed = by f.blocks refl
-  where
-    by : (bs : List (Block ℕ)) → f.blocks ≡ bs → Rewrites (claims order) f (in_order order f)
-    by bs e = ?
+rewrites : (order : Order) (f : Code ℕ) → begins (length f.blocks) order ≡ true → IsClosed order f → Rewrites (claims order f) f (in_order order f)
+rewrites order f first closed =
+    record {
+      result = refl;
+      first = tt;
+      arrives = (sym (start_stands f.blocks order first), start_named f.blocks order first);
+      begins = λ globals i args. refl;
+      follows = λ q k n arrives b at.
+          let named : is_named order k ≡ true = arrives.1 b at in
+          let leads : leads_within order b.jump ≡ true =
+          ap (λ (c : Block ℕ). leads_within order c.jump) (sym (found f k b at)) ∙ all_named (λ m. leads_within order (block_at f.blocks m).jump) order k closed named in
+          (placed order b, (ap (slice_get (in_order order f).blocks) arrives.0 ∙ stands order f k b at named, lines_follow order f b.lines b.jump leads));
+    }
 
 pub runs : (order : Order) (f : Code ℕ) → begins (length f.blocks) order ≡ true → IsClosed order f → (globals : List Value)
     → KeepsCode (classes_in f.params) (begin virtual f) (step virtual globals f) (begin virtual (in_order order f)) (step virtual globals (in_order order f))
-runs order f first closed globals = rewrites_keep (claims order) f (in_order order f) (rewrites order f first closed) globals
+runs order f first closed globals = rewrites_keep (claims order f) f (in_order order f) (rewrites order f first closed) globals

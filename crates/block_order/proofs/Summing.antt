@@ -4,7 +4,7 @@ use Rattle.std.specs.List.{list_all, sum_by}
 use Rattle.std.proofs.lemmas.Bool.Decides.{nat_tests}
 use Rattle.std.proofs.lemmas.List.Sums.{sum_by-cons}
 use Rattle.vcode.specs.declared.code.Block.{Block}
-use Rattle.block_order.specs.Ordered.{Order, is_named, block_at, placed, names_once}
+use Rattle.block_order.specs.Ordered.{Order, is_named, block_at, names_once}
 use Rattle.block_order.proofs.Placing.{both_true, is_below}
 
 -- the sum of a number for each below n
@@ -87,4 +87,3 @@ sum_in_order g h blocks order same once low =
     total_same : (e f : ℕ → ℕ) → ((k : ℕ) → e k ≡ f k) → (n : ℕ) → total e n ≡ total f n
     total_same e f same zero = refl
     total_same e f same (suc n) = ap (λ m. m + total (λ k. e (suc k)) n) (same 0) ∙ ap (λ m. f 0 + m) (total_same (λ k. e (suc k)) (λ k. f (suc k)) (λ k. same (suc k)) n)
-

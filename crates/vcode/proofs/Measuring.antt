@@ -33,6 +33,10 @@ pub data Measured (tested : Bool) : List (Line ℕ) → List (Line ℕ) → Type
   LeftOut : {l : Line ℕ} {ls ms : List (Line ℕ)} → measure l ≡ nothing_taken → Measured tested ls ms → Measured tested (l ∷ ls) ms
   SetIn : {m : Line ℕ} {ls ms : List (Line ℕ)} → tested ≡ true → measure m ≡ nothing_taken → Measured tested ls ms → Measured tested ls (m ∷ ms)
 
+pub measured_itself : (lines : List (Line ℕ)) → Measured false lines lines
+measured_itself [] = Empty
+measured_itself (l ∷ lines) = Put refl (λ e. omega arith) (measured_itself lines)
+
 -- ---- sums over the lines
 
 module _ (tested : Bool) (g : Measure → ℕ) (none : g nothing_taken ≡ 0) where
