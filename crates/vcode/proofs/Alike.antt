@@ -39,7 +39,7 @@ MayLeave m (Asks call) o next = MayAnswer call.wants o
 
 -- ---- a line that gives no value writes no register, nor a call of which none is wanted
 
-abbrev WritesNone : Option ℕ → Act → Type 0
+abbrev pub WritesNone : Option ℕ → Act → Type 0
 WritesNone to (Spends turn w) = to ≡ None
 WritesNone to (Leaves m) = to ≡ None
 WritesNone to (Asks call) = call.wants ≡ None → to ≡ None
@@ -61,7 +61,7 @@ asked_writes to args (Some (Integer k)) vs = tt
 asked_writes to args (Some (Pointer b k)) vs = tt
 asked_writes to args None vs = tt
 
-writes_none : (globals : List Value) (m : Memory) (values : Values ℕ) (l : Line ℕ) → WritesNone (line_writes l) (act globals m values l)
+pub writes_none : (globals : List Value) (m : Memory) (values : Values ℕ) (l : Line ℕ) → WritesNone (line_writes l) (act globals m values l)
 writes_none globals m values (Tick turn w) = refl
 writes_none globals m values (Set to a) = tt
 writes_none globals m values (Operate to op a b) = tt
@@ -79,11 +79,11 @@ module _ (holds : Memory → Values ℕ → Values ℕ → Type 0) (memory : Mem
   abbrev Behind : Act → Type 0
   Behind a = (o : Option Value) (next : Memory) → MayLeave memory a o next → holds next (written to o before) (written to2 o after)
 
-  none_written : (next : Memory) (o : Option Value) → to ≡ None → to2 ≡ None → holds next (written to o before) (written to2 o after) → holds next before after
+  pub none_written : (next : Memory) (o : Option Value) → to ≡ None → to2 ≡ None → holds next (written to o before) (written to2 o after) → holds next before after
   none_written next o e f h =
       subst (λ (x : Option ℕ). holds next before (written x o after)) f (subst (λ (x : Option ℕ). holds next (written x o before) (written to2 o after)) e h)
 
-  answers_alike : (k : Option Class) → (k ≡ None → to ≡ None) → (k ≡ None → to2 ≡ None) → ((o : Option Value) (next : Memory) → MayAnswer k o → holds next (written to o before) (written to2 o after))
+  pub answers_alike : (k : Option Class) → (k ≡ None → to ≡ None) → (k ≡ None → to2 ≡ None) → ((o : Option Value) (next : Memory) → MayAnswer k o → holds next (written to o before) (written to2 o after))
       → BehindCall holds to to2 before after k
   answers_alike None e f behind = λ next. none_written next None (e refl) (f refl) (behind None next tt)
   answers_alike (Some k) e f behind = λ next v. behind (Some (held k v)) next (v, refl)

@@ -1,17 +1,12 @@
--- Lines and jumps where places hold at least as much: they go the same way, and places hold at least as much behind them.
-use Rattle.std.proofs.Common.{◌≡◌, ℕ, ◌+◌, Bool, true, false, nat_eq, nat_lt, if◌then◌else◌, List, [], ◌∷◌, ◌++◌, length, Option, Some, None, refl, sym, ◌∙◌, ap, subst}
+-- Lines and jumps of code whose registers hold at least as much: they do the same, but that lines may give more.
+use Rattle.std.proofs.Common.{◌≡◌, ℕ, Bool, true, false, nat_eq, if◌then◌else◌, List, [], ◌∷◌, length, Option, Some, None, refl, sym, ◌∙◌, ap, subst}
 use Rattle.std.specs.Option.{option_map, option_and_then}
 use Rattle.il_ast.specs.declared.operation.Class.{Class}
 use Rattle.il_ast.specs.declared.value.Value.{Value}
 use Rattle.il_ast.specs.declared.value.Value.TheVariants.{Integer, Pointer, Function}
-use Rattle.il_ast.specs.declared.value.End.TheVariants.{Turns}
 use Rattle.il_ast.specs.Values.{byte_count, in_place}
 use Rattle.il_ast.specs.Memory.{Memory, store, copy, fresh}
 use Rattle.il_ast.specs.Effect.{stored_class}
-use Rattle.il_ast.specs.Run.{one_turn, both, Outcome, Returned, Ended}
-use Rattle.il_ast.specs.Logged.{Over, Event, Does}
-use Rattle.il_ast.specs.Keeps.{Asked, Given, Fine}
-use Rattle.il_ast.specs.Simulation.{TogetherNext, Together}
 use Rattle.rv_isa.specs.declared.instruction.RegOp.TheVariants.{Add}
 use Rattle.vcode.specs.declared.place.Operand.{Operand}
 use Rattle.vcode.specs.declared.place.Operand.TheVariants.{At, Number, Name}
@@ -24,9 +19,13 @@ use Rattle.vcode.specs.declared.line.Operation.TheVariants.{Reg, Compare}
 use Rattle.vcode.specs.declared.line.Jump.{Jump}
 use Rattle.vcode.specs.declared.line.Jump.TheVariants.{Goto, Branch, Return, Halt}
 use Rattle.vcode.specs.Addresses.{distance}
-use Rattle.vcode.specs.Operations.{held, passed, operate, loaded}
-use Rattle.vcode.specs.Places.{Places, Values, put, assign, kept}
-use Rattle.vcode.specs.Step.{State, value_of, read, read_argument, read_result, read_all, operated, address_of, goes_on, sets, takes, changes, weighs, ticks, receives, resumes, calls, line_step, compared, branches, returns, jump_step}
+use Rattle.vcode.specs.Operations.{passed, operate, loaded}
+use Rattle.vcode.specs.Places.{Values}
+use Rattle.vcode.specs.Step.{value_of, read, read_argument, read_result, read_all, operated, address_of}
+use Rattle.vcode.specs.Writes.{line_writes}
+use Rattle.vcode.specs.Acts.{Act, Fails, Spends, Gives, Leaves, Makes, Asks, given, left, asked, act, written, Way, Lost, Enters, Answers, Halts, entering, answering, way}
+use Rattle.vcode.specs.Follows.{DoAlike}
+use Rattle.vcode.proofs.Alike.{MayLeave, WritesNone, writes_none, none_written, answers_alike}
 
 -- ---- what holds at least as much
 
@@ -44,31 +43,6 @@ follows_map p (Some x) f a y h = ap (option_map f) (a x refl) ∙ h
 
 abbrev pub AllFollow : {P : Type 0} → (el ev : Values P) → Type 0
 AllFollow {P} el ev = (p : P) → Follows (el p) (ev p)
-
-abbrev pub with_values : {P : Type 0} → State P → Values P → State P
-with_values s el = record s { values = el }
-
--- the same state, in which places hold at least as much
-pub record Ahead {P : Type 0} (s t : State P) : Type 0 where
-  pub is : t ≡ with_values s t.values
-  pub follow : AllFollow t.values s.values
-
-abbrev Beside : {P : Type 0} → Event (State P) Asked Outcome → Event (State P) Asked Outcome → Type 0
-Beside e f = Together Ahead Fine e f
-
-assign_follows : {P : Type 0} (c : Places P) (ev el : Values P) (to : P) (o p : Option Value) → Follows p o → AllFollow el ev → AllFollow (assign c to p el) (assign c to o ev)
-assign_follows c ev el to o p follows all q = by (c.same q to)
-  where
-    by : (b : Bool) → Follows (if b then p else el q) (if b then o else ev q)
-    by true = follows
-    by false = all q
-
-kept_follow : {P : Type 0} (c : Places P) (ev el : Values P) → AllFollow el ev → AllFollow (kept c el) (kept c ev)
-kept_follow c ev el all q = by (c.forgets q)
-  where
-    by : (b : Bool) → Follows (if b then None else el q) (if b then None else ev q)
-    by true = λ x e. e
-    by false = all q
 
 -- ---- operands
 
@@ -103,121 +77,111 @@ args_follow globals ev el (a ∷ args) all =
     (then_follows globals ev el a.value (passed a.extension a.class) all)
     (λ v. follows_map (read_all globals el args) (read_all globals ev args) (λ vs. v ∷ vs) (args_follow globals ev el args all))
 
--- ---- lines
+-- ---- what lines and jumps do
 
-pub takes_ahead : {P : Type 0} (c : Places P) (s : State P) (el : Values P) (to : P) (o p : Option Value) → Follows p o → AllFollow el s.values → Together Ahead Fine (takes c s to o) (takes c (with_values s el) to p)
-takes_ahead c s el to o p follows all =
-    (record s { next = s.next + 1; values = assign c to p el }, refl, record { is = refl; follow = assign_follows c s.values el to o p follows all })
+-- an act that is the other, where that isn't undefined, but that it may give more
+abbrev pub ActFollows : (more less : Act) → Type 0
+ActFollows b Fails = Unit {0}
+ActFollows b (Gives o) = (p : Option Value) × ((b ≡ Gives p) × Follows p o)
+ActFollows b a = b ≡ a
 
-sets_ahead : {P : Type 0} (c : Places P) (s : State P) (el : Values P) (to : P) (o p : Option Value) → Follows p o → AllFollow el s.values → Beside (sets c s to o) (sets c (with_values s el) to p)
-sets_ahead c s el to None p follows all = λ fine. absurd fine
-sets_ahead c s el to (Some v) p follows all =
-    subst (λ (q : Option Value). Beside (sets c s to (Some v)) (sets c (with_values s el) to q)) (sym (follows v refl)) (takes_ahead c s el to (Some v) (Some v) (λ x e. e) all)
+given_follows : (p o : Option Value) → Follows p o → ActFollows (given p) (given o)
+given_follows p None follows = tt
+given_follows p (Some v) follows = (Some v, (ap given (follows v refl), λ x e. e))
 
-changes_ahead : {P : Type 0} (s : State P) (el : Values P) (o p : Option Memory) → Follows p o → AllFollow el s.values → Beside (changes s o) (changes (with_values s el) p)
-changes_ahead s el None p follows all = λ fine. absurd fine
-changes_ahead s el (Some m) p follows all =
-    subst (λ (q : Option Memory). Beside (changes s (Some m)) (changes (with_values s el) q)) (sym (follows m refl))
-    (record s { next = s.next + 1; memory = m; values = el }, refl, record { is = refl; follow = all })
+left_follows : (p o : Option Memory) → Follows p o → ActFollows (left p) (left o)
+left_follows p None follows = tt
+left_follows p (Some m) follows = ap left (follows m refl)
 
-ticks_ahead : {P : Type 0} (i : Given) (s : State P) (el : Values P) (turn : Bool) (w : ℕ) → AllFollow el s.values → Beside (ticks i s turn w) (ticks i (with_values s el) turn w)
-ticks_ahead i s el false w all = (record s { next = s.next + 1; spent = both s.spent (weighs w); values = el }, refl, record { is = refl; follow = all })
-ticks_ahead i s el true w all = by (nat_lt s.spent.turns i.turns)
+asked_follows : (to : Option (Destination ℕ)) (args : List (Argument ℕ)) (x y : Option Value) (vs ws : Option (List Value)) → Follows y x → Follows ws vs → ActFollows (asked to args y ws) (asked to args x vs)
+asked_follows to args None y vs ws fx fv = tt
+asked_follows to args (Some (Integer k)) y vs ws fx fv = tt
+asked_follows to args (Some (Pointer b k)) y vs ws fx fv = tt
+asked_follows to args (Some (Function g)) y None ws fx fv = tt
+asked_follows to args (Some (Function g)) y (Some vs) ws fx fv = ap (λ (z : Option Value). asked to args z ws) (fx (Function g) refl) ∙ ap (asked to args (Some (Function g))) (fv vs refl)
+
+pub act_follows : (globals : List Value) (m : Memory) (ev el : Values ℕ) (l : Line ℕ) → AllFollow el ev → ActFollows (act globals m el l) (act globals m ev l)
+act_follows globals m ev el (Tick turn w) all = refl
+act_follows globals m ev el (Set to a) all = (value_of globals el a, (refl, operand_follows globals ev el a all))
+act_follows globals m ev el (Operate to op a b) all =
+    (operated m op (value_of globals el a) (value_of globals el b), (refl, two_follow globals ev el a b (operate m op) all))
+act_follows globals m ev el (Load to op at) all =
+    given_follows (option_and_then (loaded m op) (address_of globals m el at)) (option_and_then (loaded m op) (address_of globals m ev at))
+    (follows_then (address_of globals m el at) (address_of globals m ev at) (loaded m op) (loaded m op) (address_follows globals m ev el at all) (λ x y e. e))
+act_follows globals m ev el (Store size a at) all =
+    left_follows
+    (option_and_then (λ v. option_and_then (λ p. store m (byte_count size) p v) (address_of globals m el at)) (read globals el (stored_class size) a))
+    (option_and_then (λ v. option_and_then (λ p. store m (byte_count size) p v) (address_of globals m ev at)) (read globals ev (stored_class size) a))
+    (follows_then (read globals el (stored_class size) a) (read globals ev (stored_class size) a)
+    (λ v. option_and_then (λ p. store m (byte_count size) p v) (address_of globals m ev at)) (λ v. option_and_then (λ p. store m (byte_count size) p v) (address_of globals m el at))
+    (then_follows globals ev el a (in_place (stored_class size)) all)
+    (λ v. follows_then (address_of globals m el at) (address_of globals m ev at) (λ p. store m (byte_count size) p v) (λ p. store m (byte_count size) p v)
+    (address_follows globals m ev el at all) (λ x y e. e)))
+act_follows globals m ev el (Alloc to size) all = refl
+act_follows globals m ev el (Blit from to count) all =
+    left_follows
+    (option_and_then (λ p. option_and_then (λ q. copy m count p q) (value_of globals el to)) (value_of globals el from))
+    (option_and_then (λ p. option_and_then (λ q. copy m count p q) (value_of globals ev to)) (value_of globals ev from))
+    (two_follow globals ev el from to (λ p q. copy m count p q) all)
+act_follows globals m ev el (Call to callee args) all =
+    asked_follows to args (value_of globals ev callee) (value_of globals el callee) (read_all globals ev args) (read_all globals el args)
+    (operand_follows globals ev el callee all) (args_follow globals ev el args all)
+
+-- ---- lines that do alike
+
+module _ (holds : Memory → Values ℕ → Values ℕ → Type 0) (memory : Memory) (to to2 : Option ℕ) (before after : Values ℕ) where
+  follow_alike : (a b : Act) → WritesNone to a → WritesNone to2 a → ActFollows b a
+      → ((o p : Option Value) (next : Memory) → MayLeave memory a o next → Follows p o → holds next (written to o before) (written to2 p after)) → DoAlike holds memory to to2 before after a b
+  follow_alike Fails b e f h behind = tt
+  follow_alike (Spends turn w) b e f h behind = (h, none_written holds memory to to2 before after memory None e f (behind None None memory refl (λ x g. g)))
+  follow_alike (Gives o) b e f h behind = (h.0, (h.1.0, behind o h.0 memory (refl, refl) h.1.1))
+  follow_alike (Leaves next) b e f h behind = (h, none_written holds memory to to2 before after next None e f (behind None None next refl (λ x g. g)))
+  follow_alike (Makes size) b e f h behind =
+      let o : Option Value = Some (Pointer (length memory) 0) in (h, behind o o (fresh memory size) (refl, refl) (λ x g. g))
+  follow_alike (Asks call) b e f h behind = (h, answers_alike holds memory to to2 before after call.wants e f (λ o next may. behind o o next may (λ x g. g)))
+
+assign_follows : (to : Option ℕ) (o p : Option Value) (ev el : Values ℕ) → Follows p o → AllFollow el ev → AllFollow (written to p el) (written to o ev)
+assign_follows None o p ev el follows all q = all q
+assign_follows (Some k) o p ev el follows all q = by (nat_eq q k)
   where
-    by : (b : Bool)
-        → Beside (if b then goes_on (record s { spent = both s.spent (one_turn w) }) else Does (Over (Ended s.spent Turns)))
-        (if b then goes_on (record (with_values s el) { spent = both s.spent (one_turn w) }) else Does (Over (Ended s.spent Turns)))
-    by true = (record s { next = s.next + 1; spent = both s.spent (one_turn w); values = el }, refl, record { is = refl; follow = all })
-    by false = λ fine. refl
+    by : (b : Bool) → Follows (if b then p else el q) (if b then o else ev q)
+    by true = follows
+    by false = all q
 
-receives_ahead : {P : Type 0} (c : Places P) (s : State P) (el : Values P) (to : Option (Destination P)) (v : Option Value) → AllFollow el s.values
-    → TogetherNext Ahead Fine (receives c s to v) (receives c (with_values s el) to v)
-receives_ahead c s el None v all = (record s { next = s.next + 1; values = el }, refl, record { is = refl; follow = all })
-receives_ahead c s el (Some d) None all = λ fine. absurd fine
-receives_ahead c s el (Some d) (Some v) all = (
-  record s { next = s.next + 1; values = put c d.place (held d.class v) el },
-  refl,
-  record { is = refl; follow = assign_follows c s.values el d.place (Some (held d.class v)) (Some (held d.class v)) (λ x e. e) all },
-)
-
-resumes_ahead : {P : Type 0} (c : Places P) (s : State P) (el : Values P) (to : Option (Destination P)) (o : Outcome) → AllFollow el s.values
-    → TogetherNext Ahead Fine (resumes c s to o) (resumes c (with_values s el) to o)
-resumes_ahead c s el to (Returned t v now) all =
-    receives_ahead c (record s { values = kept c s.values; memory = now; spent = both s.spent t }) (kept c el) to v (kept_follow c s.values el all)
-resumes_ahead c s el to (Ended t e) all = λ fine. refl
-
-calls_ahead : {P : Type 0} (c : Places P) (i : Given) (s : State P) (el : Values P) (to : Option (Destination P)) (args : List (Argument P)) (x y : Option Value) (vs ws : Option (List Value))
-    → Follows y x → Follows ws vs → AllFollow el s.values → Beside (calls c i s to args x vs) (calls c i (with_values s el) to args y ws)
-calls_ahead c i s el to args None y vs ws fx fv all = λ fine. absurd fine
-calls_ahead c i s el to args (Some (Integer k)) y vs ws fx fv all = λ fine. absurd fine
-calls_ahead c i s el to args (Some (Pointer b k)) y vs ws fx fv all = λ fine. absurd fine
-calls_ahead c i s el to args (Some (Function g)) y None ws fx fv all = λ fine. absurd fine
-calls_ahead c i s el to args (Some (Function g)) y (Some vs) ws fx fv all =
-    subst (λ (z : Option Value). Beside (calls c i s to args (Some (Function g)) (Some vs)) (calls c i (with_values s el) to args z ws)) (sym (fx (Function g) refl))
-    (subst (λ (z : Option (List Value)). Beside (calls c i s to args (Some (Function g)) (Some vs)) (calls c i (with_values s el) to args (Some (Function g)) z)) (sym (fv vs refl))
-    (resumes c (with_values s el) to, refl, λ o. resumes_ahead c s el to o all))
-
-pub line_ahead : {P : Type 0} (c : Places P) (globals : List Value) (i : Given) (s : State P) (el : Values P) (l : Line P) → AllFollow el s.values
-    → Together Ahead Fine (line_step c globals i s l) (line_step c globals i (with_values s el) l)
-unfolding line_step
-line_ahead c globals i s el (Tick turn w) all = ticks_ahead i s el turn w all
-line_ahead c globals i s el (Set to a) all = takes_ahead c s el to (value_of globals s.values a) (value_of globals el a) (operand_follows globals s.values el a all) all
-line_ahead c globals i s el (Operate to op a b) all =
-    takes_ahead c s el to (operated s.memory op (value_of globals s.values a) (value_of globals s.values b)) (operated s.memory op (value_of globals el a) (value_of globals el b))
-    (two_follow globals s.values el a b (operate s.memory op) all) all
-line_ahead c globals i s el (Load to op at) all =
-    sets_ahead c s el to (option_and_then (loaded s.memory op) (address_of globals s.memory s.values at)) (option_and_then (loaded s.memory op) (address_of globals s.memory el at))
-    (follows_then (address_of globals s.memory el at) (address_of globals s.memory s.values at) (loaded s.memory op) (loaded s.memory op) (address_follows globals s.memory s.values el at all) (λ x y e. e)) all
-line_ahead c globals i s el (Store size a at) all =
-    changes_ahead s el
-    (option_and_then (λ v. option_and_then (λ p. store s.memory (byte_count size) p v) (address_of globals s.memory s.values at)) (read globals s.values (stored_class size) a))
-    (option_and_then (λ v. option_and_then (λ p. store s.memory (byte_count size) p v) (address_of globals s.memory el at)) (read globals el (stored_class size) a))
-    (follows_then (read globals el (stored_class size) a) (read globals s.values (stored_class size) a)
-    (λ v. option_and_then (λ p. store s.memory (byte_count size) p v) (address_of globals s.memory s.values at)) (λ v. option_and_then (λ p. store s.memory (byte_count size) p v) (address_of globals s.memory el at))
-    (then_follows globals s.values el a (in_place (stored_class size)) all)
-    (λ v. follows_then (address_of globals s.memory el at) (address_of globals s.memory s.values at) (λ p. store s.memory (byte_count size) p v) (λ p. store s.memory (byte_count size) p v)
-    (address_follows globals s.memory s.values el at all) (λ x y e. e))) all
-line_ahead c globals i s el (Alloc None size) all =
-    (record s { next = s.next + 1; memory = fresh s.memory size; owned = s.owned ++ length s.memory ∷ []; values = el }, refl, record { is = refl; follow = all })
-line_ahead c globals i s el (Alloc (Some to) size) all =
-    let v : Value = Pointer (length s.memory) 0 in (
-      record s { next = s.next + 1; memory = fresh s.memory size; owned = s.owned ++ length s.memory ∷ []; values = put c to v el },
-      refl,
-      record { is = refl; follow = assign_follows c s.values el to (Some v) (Some v) (λ x e. e) all },
-    )
-line_ahead c globals i s el (Blit from to count) all =
-    changes_ahead s el
-    (option_and_then (λ p. option_and_then (λ q. copy s.memory count p q) (value_of globals s.values to)) (value_of globals s.values from))
-    (option_and_then (λ p. option_and_then (λ q. copy s.memory count p q) (value_of globals el to)) (value_of globals el from))
-    (two_follow globals s.values el from to (λ p q. copy s.memory count p q) all) all
-line_ahead c globals i s el (Call to callee args) all =
-    calls_ahead c i s el to args (value_of globals s.values callee) (value_of globals el callee) (read_all globals s.values args) (read_all globals el args)
-    (operand_follows globals s.values el callee all) (args_follow globals s.values el args all) all
+-- with registers that hold at least as much behind them too
+pub lines_follow : (holds : Memory → Values ℕ → Values ℕ → Type 0) (globals : List Value) (memory : Memory) (before after : Values ℕ) (l m : Line ℕ) → line_writes m ≡ line_writes l → AllFollow after before
+    → ActFollows (act globals memory after m) (act globals memory before l)
+    → ((o : Option Value) (next : Memory) (new : Values ℕ) → MayLeave memory (act globals memory before l) o next → AllFollow new (written (line_writes l) o before) → holds next (written (line_writes l) o before) new)
+    → DoAlike holds memory (line_writes l) (line_writes m) before after (act globals memory before l) (act globals memory after m)
+lines_follow holds globals memory before after l m writes all h behind =
+    subst (λ (to2 : Option ℕ). DoAlike holds memory (line_writes l) to2 before after (act globals memory before l) (act globals memory after m)) (sym writes)
+    (follow_alike holds memory (line_writes l) (line_writes l) before after (act globals memory before l) (act globals memory after m) (writes_none globals memory before l) (writes_none globals memory before l) h
+    (λ o p next may follows. behind o next (written (line_writes l) p after) may (assign_follows (line_writes l) o p before after follows all)))
 
 -- ---- jumps
 
-branches_ahead : {P : Type 0} (s : State P) (el : Values P) (met otherwise : ℕ) (o p : Option Value) → Follows p o → AllFollow el s.values → Beside (branches s met otherwise o) (branches (with_values s el) met otherwise p)
-branches_ahead s el met otherwise None p follows all = λ fine. absurd fine
-branches_ahead s el met otherwise (Some (Pointer b k)) p follows all = λ fine. absurd fine
-branches_ahead s el met otherwise (Some (Function g)) p follows all = λ fine. absurd fine
-branches_ahead s el met otherwise (Some (Integer n)) p follows all =
-    subst (λ (q : Option Value). Beside (branches s met otherwise (Some (Integer n))) (branches (with_values s el) met otherwise q)) (sym (follows (Integer n) refl))
-    (record s { block = if nat_eq n 0 then otherwise else met; next = 0; values = el }, refl, record { is = refl; follow = all })
+-- a way that is the other, where that isn't undefined
+abbrev pub WayFollows : (more less : Way) → Type 0
+WayFollows b Lost = Unit {0}
+WayFollows b a = b ≡ a
 
-returns_ahead : {P : Type 0} (s : State P) (el : Values P) (o p : Option Value) → Follows p o → Beside (returns s o) (returns (with_values s el) p)
-returns_ahead s el None p follows = λ fine. absurd fine
-returns_ahead s el (Some v) p follows =
-    subst (λ (q : Option Value). Beside (returns s (Some v)) (returns (with_values s el) q)) (sym (follows v refl)) (λ fine. refl)
+entering_follows : (met otherwise : ℕ) (p o : Option Value) → Follows p o → WayFollows (entering met otherwise p) (entering met otherwise o)
+entering_follows met otherwise p None follows = tt
+entering_follows met otherwise p (Some (Integer n)) follows = ap (entering met otherwise) (follows (Integer n) refl)
+entering_follows met otherwise p (Some (Pointer b n)) follows = tt
+entering_follows met otherwise p (Some (Function g)) follows = tt
 
-pub jump_ahead : {P : Type 0} (globals : List Value) (result : Option Class) (s : State P) (el : Values P) (j : Jump P) → AllFollow el s.values
-    → Together Ahead Fine (jump_step globals result s j) (jump_step globals result (with_values s el) j)
-unfolding jump_step
-jump_ahead globals result s el (Goto k) all = (record s { block = k; next = 0; values = el }, refl, record { is = refl; follow = all })
-jump_ahead globals result s el (Branch on met otherwise) all =
-    branches_ahead s el met otherwise (compared globals s on) (compared globals (with_values s el) on)
-    (two_follow globals s.values el on.left on.right (operate s.memory (Compare on.condition on.class)) all) all
-jump_ahead globals result s el (Return None) all = λ fine. refl
-jump_ahead globals None s el (Return (Some a)) all = λ fine. absurd fine
-jump_ahead globals (Some k) s el (Return (Some a)) all =
-    returns_ahead s el (read_result globals s.values k a) (read_result globals el k a) (then_follows globals s.values el a.value (passed a.extension k) all)
-jump_ahead globals result s el Halt all = λ fine. refl
+answering_follows : (p o : Option Value) → Follows p o → WayFollows (answering p) (answering o)
+answering_follows p None follows = tt
+answering_follows p (Some v) follows = ap answering (follows v refl)
+
+pub way_follows : (globals : List Value) (result : Option Class) (m : Memory) (ev el : Values ℕ) (j : Jump ℕ) → AllFollow el ev → WayFollows (way globals result m el j) (way globals result m ev j)
+way_follows globals result m ev el (Goto k) all = refl
+way_follows globals result m ev el (Branch on met otherwise) all =
+    entering_follows met otherwise (operated m (Compare on.condition on.class) (value_of globals el on.left) (value_of globals el on.right))
+    (operated m (Compare on.condition on.class) (value_of globals ev on.left) (value_of globals ev on.right)) (two_follow globals ev el on.left on.right (operate m (Compare on.condition on.class)) all)
+way_follows globals result m ev el (Return None) all = refl
+way_follows globals None m ev el (Return (Some a)) all = tt
+way_follows globals (Some k) m ev el (Return (Some a)) all =
+    answering_follows (read_result globals el k a) (read_result globals ev k a) (then_follows globals ev el a.value (passed a.extension k) all)
+way_follows globals result m ev el Halt all = refl
