@@ -43,7 +43,7 @@ use Rattle.flat_code.specs.Flat.{FlatGiven, FlatOutcome, FlatReturned, FlatEnded
 use Rattle.rv_isa.specs.Step.{load_size, load_value}
 use Rattle.rv_isa.specs.declared.instruction.LoadOp.{LoadOp}
 use Rattle.abi_frames.proofs.Reading.{read_is}
-use Rattle.flat_code.specs.Step.{known_number, FlatState, Numbers, put, number_of, taken, passed as read_passed, computed, closed, is_in, sets, ticks, fails, goes_on, enters, compared, branches, returns, returns_as, flat_line, flat_jump, block_step, step_in, flat_step, address_of}
+use Rattle.flat_code.specs.Step.{known_number, FlatState, Numbers, put, number_of, taken, passed as read_passed, operated, computed, closed, is_in, sets, ticks, fails, goes_on, enters, compared, branches, returns, returns_as, flat_line, flat_jump, block_step, step_in, flat_step, address_of}
 use Rattle.abi_frames.specs.Calls.{ResultIn, passed}
 use Rattle.abi_frames.specs.Performs.{AllPerform}
 use Rattle.abi_frames.specs.Layout.{most_in_lines}
@@ -158,52 +158,39 @@ set_case c f is j r n go b to x lines fs k u a log goes all =
     go b lines (record fs { next = fs.next + 1; numbers = numbers }) (k + m.steps) m.after
     (advance c f b (Set to x) lines fs k u numbers fs.memory fs.used a refl (nothing_taken fs.used) a.paid m) log goes all
 
+-- an operation of what is known of its operands
+operation_known : (op : Operation) (x y : ℕ) (o q : Option ℕ) → ((v : ℕ) → o ≡ Some v → x ≡ v) → ((w : ℕ) → q ≡ Some w → y ≡ w)
+    → (e : ℕ) → option_and_then (λ v. option_map (λ w. computed op v w) q) o ≡ Some e → computed op x y ≡ e
+operation_known op x y None q at_x at_y e is = cc
+operation_known op x y (Some v) None at_x at_y e is = cc
+operation_known op x y (Some v) (Some w) at_x at_y e is =
+    ap (λ z. computed op z y) (at_x v refl) ∙ ap (computed op v) (at_y w refl) ∙ (let same : computed op v w ≡ e = cc in same)
+
 -- an operation
-operated : (c : Setting) (f : Code Location) → CodeStands c f → (j : FlatGiven) (r : FlatOutcome) (n : ℕ) → Follows c f j r n
+operate_case : (c : Setting) (f : Code Location) → CodeStands c f → (j : FlatGiven) (r : FlatOutcome) (n : ℕ) → Follows c f j r n
     → (b : Block Location) (to : Location) (op : Operation) (x y : Operand Location) (lines : List (Line Location)) (fs : FlatState) (k : ℕ) (u : State)
-    → (a : At c f b (Operate to op x y ∷ lines) fs k u) → (log : Log) → AllPerform c.world (bottom c) log
-    → (v w : ℕ) → number_of c.addresses fs.numbers x ≡ Some v → number_of c.addresses fs.numbers y ≡ Some w
-    → Then c f j r n log (goes_on (record fs { numbers = put to (Some (computed op v w)) fs.numbers })) → Performed c f r
-operated c f is j r n go b to op x y lines fs k u a log all v w is_x is_y goes =
-    let numbers : Numbers = put to (Some (computed op v w)) fs.numbers in
+    → At c f b (Operate to op x y ∷ lines) fs k u → (log : Log)
+    → Then c f j r n log (goes_on (record fs { numbers = put to (operated op (number_of c.addresses fs.numbers x) (number_of c.addresses fs.numbers y)) fs.numbers }))
+    → AllPerform c.world (bottom c) log → Performed c f r
+operate_case c f is j r n go b to op x y lines fs k u a log goes all =
+    let given = operated op (number_of c.addresses fs.numbers x) (number_of c.addresses fs.numbers y) in
+    let numbers : Numbers = put to given fs.numbers in
     let known = and_parts (is_place c.slots to) (operand_keeps (is_place c.slots) x && operand_keeps (is_place c.slots) y)
     (and_parts (line_keeps (is_place c.slots) (Operate to op x y)) (list_all (line_keeps (is_place c.slots)) lines) a.known).0 in
     let operands = and_parts (operand_keeps (is_place c.slots) x) (operand_keeps (is_place c.slots) y) known.1 in
-    let at_x : operand_in c u x ≡ v = operand_known c fs.numbers fs.memory u x v is.setting a.framed operands.0 is_x in
-    let at_y : operand_in c u y ≡ w = operand_known c fs.numbers fs.memory u y w is.setting a.framed operands.1 is_y in
-    let value : computed op (operand_in c u x) (operand_in c u y) ≡ computed op v w =
-    ap (λ q. computed op q (operand_in c u y)) at_x ∙ ap (computed op v) at_y in
-    let made_v : ℕ = computed op (operand_in c u x) (operand_in c u y) in
+    let made : ℕ = computed op (operand_in c u x) (operand_in c u y) in
     let may = may_write c f is b (Operate to op x y) lines fs k u a to known.0 (λ q. refl) in
     let m = reach c f b (Operate to op x y) lines fs k u (λ t. Framed c numbers fs.memory t × (t.output ≡ u.output)) a
-    (leads_so (site c) (line_items c.layout a.used (Operate to op x y)) u (Assigned c u to made_v) (λ t. Framed c numbers fs.memory t × (t.output ≡ u.output))
+    (leads_so (site c) (line_items c.layout a.used (Operate to op x y)) u (Assigned c u to made) (λ t. Framed c numbers fs.memory t × (t.output ≡ u.output))
     (leads_operate_line c is.setting u to op x y a.framed.pointer known.0 operands.0 operands.1)
-    (λ t fixed made. (
-      assigned c is.setting fs.numbers fs.memory u t to made_v (Some (computed op v w)) known.0 may a.framed made (λ q e. value ∙ some_is (computed op v w) q e),
-      assigned_output c u to made_v t made,
+    (λ t fixed wrote. (
+      assigned c is.setting fs.numbers fs.memory u t to made given known.0 may a.framed wrote
+          (operation_known op (operand_in c u x) (operand_in c u y) (number_of c.addresses fs.numbers x) (number_of c.addresses fs.numbers y)
+          (λ v e. operand_known c fs.numbers fs.memory u x v is.setting a.framed operands.0 e) (λ w e. operand_known c fs.numbers fs.memory u y w is.setting a.framed operands.1 e)),
+      assigned_output c u to made t wrote,
     ))) in
     go b lines (record fs { next = fs.next + 1; numbers = numbers }) (k + m.steps) m.after
     (advance c f b (Operate to op x y) lines fs k u numbers fs.memory fs.used a refl (nothing_taken fs.used) a.paid m) log goes all
-  where
-    some_is : (p q : ℕ) → Some p ≡ Some q → p ≡ q
-    some_is p q e = cc
-
--- its operands are known, or the code is undefined
-operate_case : (c : Setting) (f : Code Location) → CodeStands c f → (j : FlatGiven) (r : FlatOutcome) (n : ℕ) → Follows c f j r n
-    → (b : Block Location) (to : Location) (op : Operation) (x y : Operand Location) (lines : List (Line Location)) (fs : FlatState) (k : ℕ) (u : State)
-    → At c f b (Operate to op x y ∷ lines) fs k u → (log : Log) → AllPerform c.world (bottom c) log
-    → Then c f j r n log
-    (sets fs to
-    (option_and_then (λ v. option_map (λ w. computed op v w) (number_of c.addresses fs.numbers y)) (number_of c.addresses fs.numbers x)))
-    → Performed c f r
-operate_case c f is j r n go b to op x y lines fs k u a log all goes =
-    by_operands (number_of c.addresses fs.numbers x) refl (number_of c.addresses fs.numbers y) refl goes
-  where
-    by_operands : (o : Option ℕ) → number_of c.addresses fs.numbers x ≡ o → (q : Option ℕ) → number_of c.addresses fs.numbers y ≡ q
-        → Then c f j r n log (sets fs to (option_and_then (λ v. option_map (λ w. computed op v w) q) o)) → Performed c f r
-    by_operands None e q d e_goes = undefined c f fs.spent r e_goes.0
-    by_operands (Some v) e None d e_goes = undefined c f fs.spent r e_goes.0
-    by_operands (Some v) e (Some w) d e_goes = operated c f is j r n go b to op x y lines fs k u a log all v w e d e_goes
 
 -- a load
 loaded : (c : Setting) (f : Code Location) → CodeStands c f → (j : FlatGiven) (r : FlatOutcome) (n : ℕ) → Follows c f j r n
@@ -258,7 +245,7 @@ line_case : (c : Setting) (f : Code Location) → CodeStands c f → (j : FlatGi
 unfolding flat_line
 line_case c f is j r n go b (Tick turn w) lines fs k u a log goes all = tick_case c f j r n go b turn w lines fs k u a log goes all
 line_case c f is j r n go b (Set to x) lines fs k u a log goes all = set_case c f is j r n go b to x lines fs k u a log goes all
-line_case c f is j r n go b (Operate to op x y) lines fs k u a log goes all = operate_case c f is j r n go b to op x y lines fs k u a log all goes
+line_case c f is j r n go b (Operate to op x y) lines fs k u a log goes all = operate_case c f is j r n go b to op x y lines fs k u a log goes all
 line_case c f is j r n go b (Load to op at) lines fs k u a log goes all = load_case c f is j r n go b to op at lines fs k u a log all goes
 line_case c f is j r n go b (Store size x at) lines fs k u a log goes all = store_case c f is j r n go b size x at lines fs k u a log goes all
 line_case c f is j r n go b (Alloc to size) lines fs k u a log goes all = alloc_case c f is j r n go b to size lines fs k u a log goes all

@@ -12,7 +12,7 @@ use Rattle.vcode.specs.declared.line.Line.{Line}
 use Rattle.vcode.specs.declared.line.Line.TheVariants.{Set, Operate, Load, Alloc, Call}
 use Rattle.vcode.specs.declared.code.Block.{Block}
 use Rattle.vcode.specs.declared.code.Code.{Code}
-pub use Rattle.vcode.specs.Outgoing.{args_on_stack, most_in_lines, most_in_blocks, outgoing}
+pub use Rattle.vcode.specs.Outgoing.{args_on_stack, most_in_lines, most_in_blocks, outgoing, frame_bound}
 use Rattle.vcode.specs.Regular.{area, turns_of}
 use Rattle.abi_frames.specs.declared.layout.Layout.{Layout}
 use Rattle.abi_frames.specs.declared.pace.TheConstants.{TURN_BOUND}
@@ -88,10 +88,6 @@ slots_offset f = 8 * (outgoing f + length (saved_registers f))
 -- the bytes of the frame
 abbrev pub frame_size : Code Location → (slots : ℕ) → ℕ
 frame_size f slots = round_16 (area f + 8 * (slots + outgoing f + length (saved_registers f)))
-
--- the bytes of stack that a call of the function is counted for, at least
-abbrev pub frame_bound : Code Location → (slots : ℕ) → ℕ
-frame_bound f slots = round_16 (area f + 8 * (slots + outgoing f + 16))
 
 -- the turns of the source that begin in the code
 abbrev pub turns_in : Code Location → ℕ

@@ -120,6 +120,16 @@ fn layout_of(function: &FlatFunc, saved: &[u8]) -> Layout
     }
 }
 
+/// The bytes of stack that a call of the function has to be counted for at least.
+#[tactic(auto, using(crate::proofs::Outgoing::few_outgoing))]
+pub fn frame_bound(function: &FlatFunc) -> u64
+    ensures { result ≡ frame_bound function.now.located.code function.now.located.slots }
+{
+    let code = &function.located.code;
+    let words = u64::from(function.located.slots) + outgoing_of(code) + 16;
+    (area_of(code) + 8 * words + 15) / 16 * 16
+}
+
 /// The machine code of a function, with at most 32 words for each unit of its weight, and 256. Wherever it stands, it performs what the
 /// function's code on bytes runs.
 ///

@@ -16,6 +16,7 @@ use Rattle.vcode.specs.declared.place.Argument.{Argument}
 use Rattle.vcode.specs.declared.place.Destination.{Destination}
 use Rattle.vcode.specs.Operations.{held, passed}
 use Rattle.vcode.specs.Places.{Values, put, assign, kept, virtual, located, same_location, is_callers}
+use Rattle.vcode.proofs.Following.{Follows, follows_then, follows_map}
 use Rattle.vcode.specs.Step.{bound, value_of, read, read_argument, read_result, read_all}
 use Rattle.certificates.specs.declared.certificate.Equality.{Equality}
 use Rattle.certificates.specs.declared.certificate.Transfer.{Transfer}
@@ -34,17 +35,6 @@ either_true true b h = inl refl
 either_true false b h = inr h
 
 -- ---- what the second code finds where the first finds something
-
-abbrev pub Follows : {X : Type 0} → Option X → Option X → Type 0
-Follows {X} p o = (x : X) → o ≡ Some x → p ≡ Some x
-
-pub follows_then : {X Y : Type 0} (p o : Option X) (f g : X → Option Y) → Follows p o → ((x : X) → Follows (g x) (f x)) → Follows (option_and_then g p) (option_and_then f o)
-follows_then p None f g a b y h = cc
-follows_then p (Some x) f g a b y h = ap (option_and_then g) (a x refl) ∙ b x y h
-
-pub follows_map : {X Y : Type 0} (p o : Option X) (f : X → Y) → Follows p o → Follows (option_map f p) (option_map f o)
-follows_map p None f a y h = cc
-follows_map p (Some x) f a y h = ap (option_map f) (a x refl) ∙ h
 
 held_by : (own : Owners) (ev : Values ℕ) (el : Values Location) (d : Location) (r : ℕ) (x : Option ℕ) → own d ≡ x → option_map_or (λ k. nat_eq k r) x false ≡ true → Agrees own ev el → Follows (el d) (ev r)
 held_by own ev el d r None is h agrees v e = cc

@@ -197,7 +197,7 @@ line_goes globals i s el (Tick turn w) m = tick_goes i s el turn w m
 line_goes globals i s el (Set to a) m =
     takes_goes s el to (value_of globals s.values a) (value_of globals el (placed_operand Slot a)) (same_value globals s.values el a m) m
 line_goes globals i s el (Operate to op a b) m =
-    sets_goes_by s el to
+    takes_goes s el to
     (option_and_then (λ u. option_and_then (λ v. operate s.memory op u v) (value_of globals s.values b)) (value_of globals s.values a))
     (option_and_then (λ u. option_and_then (λ v. operate s.memory op u v) (value_of globals el (placed_operand Slot b))) (value_of globals el (placed_operand Slot a)))
     (same_two globals s.values el a b (operate s.memory op) m) m

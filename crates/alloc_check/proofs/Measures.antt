@@ -4,6 +4,7 @@ use Rattle.std.proofs.Common.{◌≡◌, ℕ, ◌+◌, ◌-◌, ◌≤◌, Bool,
 use Rattle.std.specs.Prelude.{max}
 use Rattle.std.specs.List.{sum_by}
 use Rattle.il_ast.specs.declared.operation.Class.{Class}
+use Rattle.il_ast.specs.Cost.{round_16}
 use Rattle.il_ast.specs.Passes.{Keeps}
 use Rattle.vcode.specs.declared.place.Location.{Location}
 use Rattle.vcode.specs.declared.place.Location.TheVariants.{Slot}
@@ -13,15 +14,15 @@ use Rattle.vcode.specs.declared.line.Line.TheVariants.{Tick, Set, Operate, Load,
 use Rattle.vcode.specs.declared.code.Block.{Block}
 use Rattle.vcode.specs.declared.code.Code.{Code}
 use Rattle.vcode.specs.Coded.{classes_in, coded}
-use Rattle.vcode.specs.Outgoing.{args_on_stack, most_in_lines, most_in_blocks}
+use Rattle.vcode.specs.Outgoing.{args_on_stack, most_in_lines, most_in_blocks, outgoing, frame_bound}
 use Rattle.vcode.specs.Places.{virtual, located}
-use Rattle.vcode.specs.Regular.{weight_of, code_weight}
+use Rattle.vcode.specs.Regular.{area, weight_of, code_weight}
 use Rattle.certificates.specs.declared.certificate.Transfer.{Transfer}
 use Rattle.certificates.specs.declared.certificate.Certificate.{Certificate}
 use Rattle.alloc_check.specs.Placed.{Layout, placed_argument, placed_destination, placed_line, placed_block, in_slots}
 use Rattle.alloc_check.specs.Certified.{moves_at, layout_at, transfers, next_point, jump_point, certified_lines, certified_blocks, certified_params, placed_by, params_placed, is_sound}
 use Rattle.alloc_check.specs.Walk.{moves_before}
-use Rattle.alloc_check.proofs.Certifies.{line_on, no_rest, weight_same, weighs_same, area_same as certified_area}
+use Rattle.alloc_check.proofs.Certifies.{weight_same, weighs_same}
 use Rattle.alloc_check.proofs.InSlots.{slots_keep}
 use Rattle.alloc_check.proofs.Regular.{map_length, sum_map, area_same}
 use Rattle.alloc_check.proofs.Sound.{sound_keeps}
@@ -38,24 +39,6 @@ args_same f (Alloc to size) = refl
 args_same f (Blit from to count) = refl
 args_same f (Call to callee args) = ap (λ n. n - 8) (map_length (placed_argument f) args)
 
-moves_pass_none : (ms : List Transfer) (rest : List (Line Location)) → most_in_lines (transfers ms ++ rest) ≡ most_in_lines rest
-moves_pass_none [] rest = refl
-moves_pass_none (m ∷ ms) rest = let more = moves_pass_none ms rest in omega (arith, more)
-
-certified_lines_pass : (c : Certificate) (p : ℕ) (lines : List (Line ℕ)) → most_in_lines (certified_lines c p lines) ≡ most_in_lines lines
-certified_lines_pass c p [] = ap most_in_lines (no_rest (transfers (moves_at c p))) ∙ moves_pass_none (moves_at c p) []
-certified_lines_pass c p (l ∷ lines) =
-    ap most_in_lines (line_on c p l lines)
-    ∙ moves_pass_none (moves_before c p l) (placed_line (layout_at c p) l ∷ certified_lines c (next_point p l) lines)
-    ∙ ap (λ n. max n (most_in_lines (certified_lines c (next_point p l) lines))) (args_same (layout_at c p) l)
-    ∙ ap (λ n. max (args_on_stack l) n) (certified_lines_pass c (next_point p l) lines)
-
-certified_blocks_pass : (c : Certificate) (p : ℕ) (blocks : List (Block ℕ)) → most_in_blocks (certified_blocks c p blocks) ≡ most_in_blocks blocks
-certified_blocks_pass c p [] = refl
-certified_blocks_pass c p (b ∷ blocks) =
-    ap (λ n. max n (most_in_blocks (certified_blocks c (jump_point p b.lines + 1) blocks))) (certified_lines_pass c p b.lines)
-    ∙ ap (λ n. max (most_in_lines b.lines) n) (certified_blocks_pass c (jump_point p b.lines + 1) blocks)
-
 certified_classes : (ds : List (Destination ℕ)) (qs : List Location) → params_placed ds qs ≡ true → classes_in (certified_params ds qs) ≡ classes_in ds
 certified_classes [] qs h = refl
 certified_classes (d ∷ ds) [] h = absurd (let no : ⊥ = cc in no)
@@ -65,18 +48,13 @@ first_true : (a b : Bool) → (a && b) ≡ true → a ≡ true
 first_true true b h = refl
 first_true false b h = absurd (let no : ⊥ = cc in no)
 
-pub certified_keeps : (v : Code ℕ) (c : Certificate) (n : ℕ) → is_sound v c ≡ true → Keeps (coded virtual v n) (coded located (placed_by v c) n)
-certified_keeps v c n sound =
+pub certified_keeps : (v : Code ℕ) (c : Certificate) → is_sound v c ≡ true → Keeps (coded virtual v) (coded located (placed_by v c))
+certified_keeps v c sound =
     let weight = weighs_same v c in
-    let bytes = certified_area v c in
-    let passed = certified_blocks_pass c 0 v.blocks in
     record {
       params = certified_classes v.params c.params (first_true (params_placed v.params c.params) _ sound);
       result = refl;
       weight = omega (arith, weight);
-      area = omega (arith, bytes);
-      outgoing = omega (arith, passed);
-      places = omega arith;
       runs = sound_keeps v c sound;
     }
 
@@ -101,31 +79,17 @@ slots_weigh_same v =
     sum_map (λ (b : Block ℕ). sum_by weight_of b.lines) (λ (b : Block Location). sum_by weight_of b.lines) (placed_block Slot)
     (λ b. sum_map weight_of weight_of (placed_line Slot) (weight_same Slot) b.lines) v.blocks
 
-pub in_slots_keeps : (v : Code ℕ) (n : ℕ) → Keeps (coded virtual v n) (coded located (in_slots v) n)
-in_slots_keeps v n =
+pub in_slots_keeps : (v : Code ℕ) → Keeps (coded virtual v) (coded located (in_slots v))
+in_slots_keeps v =
     let weight = slots_weigh_same v in
-    let bytes = area_same Slot v (in_slots v) refl in
-    let passed = slot_blocks_pass v.blocks in
     record {
       params = slot_classes v.params;
       result = refl;
       weight = omega (arith, weight);
-      area = omega (arith, bytes);
-      outgoing = omega (arith, passed);
-      places = omega arith;
       runs = slots_keep v;
     }
 
--- ---- fewer slots
-
-pub fewer_slots : (v : Code ℕ) (l : Code Location) (n m : ℕ) → m ≤ n → Keeps (coded virtual v n) (coded located l n) → Keeps (coded virtual v n) (coded located l m)
-fewer_slots v l n m few is =
-    record {
-      params = is.params;
-      result = is.result;
-      weight = is.weight;
-      area = is.area;
-      outgoing = is.outgoing;
-      places = few;
-      runs = is.runs;
-    }
+pub slots_take_same : (v : Code ℕ) (n : ℕ) → frame_bound (in_slots v) n ≡ frame_bound v n
+slots_take_same v n =
+    ap (λ bytes. round_16 (bytes + 8 * (n + outgoing (in_slots v) + 16))) (area_same Slot v (in_slots v) refl)
+    ∙ ap (λ passed. round_16 (area v + 8 * (n + passed + 16))) (slot_blocks_pass v.blocks)

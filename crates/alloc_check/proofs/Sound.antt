@@ -31,7 +31,8 @@ use Rattle.vcode.specs.declared.code.Code.{Code}
 use Rattle.vcode.specs.Addresses.{distance}
 use Rattle.vcode.specs.Operations.{held, operate, loaded}
 use Rattle.vcode.specs.Places.{Values, unknown, put, assign, kept, virtual, located}
-use Rattle.vcode.specs.Step.{State, bound, begin, value_of, read, read_result, read_all, operated, address_of, goes_on, sets, changes, weighs, ticks, receives, resumes, calls, line_step, enters, compared, branches, returns, jump_step, step}
+use Rattle.vcode.specs.Step.{State, bound, begin, value_of, read, read_result, read_all, operated, address_of, goes_on, sets, takes, changes, weighs, ticks, receives, resumes, calls, line_step, enters, compared, branches, returns, jump_step, step}
+use Rattle.vcode.proofs.Following.{Follows, follows_then}
 use Rattle.vcode.proofs.Lists.{head_at, tail_at, nothing_at, same_some}
 use Rattle.vcode.proofs.Stepping.{step_line, step_jump, step_nowhere}
 use Rattle.certificates.specs.declared.certificate.Equality.{Equality}
@@ -41,7 +42,7 @@ use Rattle.alloc_check.specs.Placed.{Layout, placed_operand, placed_address, pla
 use Rattle.alloc_check.specs.Kept.{RunsAlike}
 use Rattle.alloc_check.specs.Owners.{Owners, nobody, Agrees, own_put, own_move, own_kept, moved, known, owns, operand_held, args_held, all_hold, where_held, received, after_line}
 use Rattle.alloc_check.specs.Certified.{moves_at, starts_at, layout_at, transfers, certified_lines, jump_point, certified_block, certified_blocks, certified_params, placed_by, jump_right, lines_right, blocks_right, own_params, is_param, entry_right, params_placed, is_sound}
-use Rattle.alloc_check.proofs.Agreeing.{both_true, either_true, Follows, follows_then, operand_follows, read_follows, args_follow, put_agrees, move_agrees, kept_agrees, AllFollow, known_agrees, all_follow, nobody_agrees, params_agree, other_unknown, owned_follows, result_follows}
+use Rattle.alloc_check.proofs.Agreeing.{both_true, either_true, operand_follows, read_follows, args_follow, put_agrees, move_agrees, kept_agrees, AllFollow, known_agrees, all_follow, nobody_agrees, params_agree, other_unknown, owned_follows, result_follows}
 
 -- ---- a state with the next line and the values of the other code
 
@@ -72,16 +73,22 @@ held_is false x o h = absurd (none_some o h)
     none_some : (o : Owners) → None ≡ Some o → ⊥
     none_some o h = let e : false ≡ true = ap (λ (q : Option Owners). option_map_or (λ (w : Owners). true) q false) h in cc
 
+takes_beside : (related : Relation) (s : State ℕ) (n : ℕ) (el : Values Location) (own : Owners) (d : Location) (r : ℕ) (o p : Option Value) → Follows p o → Agrees own s.values el
+    → Onward related s n (own_put d r own) → Beside related (takes virtual s r o) (takes located (carry s n el) d p)
+takes_beside related s n el own d r o p follows agrees on =
+    let ev2 : Values ℕ = assign virtual r o s.values in
+    let el2 : Values Location = assign located d p el in (
+      carry (record s { next = s.next + 1; values = ev2 }) (n + 1) el2,
+      refl,
+      on (record s { next = s.next + 1; values = ev2 }) el2 refl refl (put_agrees own s.values el d r o p follows agrees),
+    )
+
 sets_beside : (related : Relation) (s : State ℕ) (n : ℕ) (el : Values Location) (own : Owners) (d : Location) (r : ℕ) (o p : Option Value) → Follows p o → Agrees own s.values el
     → Onward related s n (own_put d r own) → Beside related (sets virtual s r o) (sets located (carry s n el) d p)
 sets_beside related s n el own d r None p follows agrees on = λ f. absurd f
 sets_beside related s n el own d r (Some v) p follows agrees on =
-    subst (λ (q : Option Value). Beside related (sets virtual s r (Some v)) (sets located (carry s n el) d q)) (sym (follows v refl)) (
-      carry (record s { next = s.next + 1; values = put virtual r v s.values }) (n + 1) (put located d v el),
-      refl,
-      on (record s { next = s.next + 1; values = put virtual r v s.values }) (put located d v el) refl refl
-          (put_agrees own s.values el d r (Some v) (Some v) (λ x e. e) agrees),
-    )
+    subst (λ (q : Option Value). Beside related (sets virtual s r (Some v)) (sets located (carry s n el) d q)) (sym (follows v refl))
+    (takes_beside related s n el own d r (Some v) (Some v) (λ x e. e) agrees on)
 
 changes_beside : (related : Relation) (s : State ℕ) (n : ℕ) (el : Values Location) (own : Owners) (o p : Option Memory) → Follows p o → Agrees own s.values el
     → Onward related s n own → Beside related (changes s o) (changes (carry s n el) p)
@@ -215,16 +222,11 @@ line_beside related globals i s n el own o f (Tick turn w) agrees h on =
     ticks_beside related i s n el own turn w agrees (onward_by related s n own o (held_is true own o h).1 on)
 line_beside related globals i s n el own o f (Set to a) agrees h on =
     let found = held_is (operand_held own f a) (own_put (f to) to own) o h in
-    let ev2 : Values ℕ = assign virtual to (value_of globals s.values a) s.values in
-    let el2 : Values Location = assign located (f to) (value_of globals el (placed_operand f a)) el in (
-      carry (record s { next = s.next + 1; values = ev2 }) (n + 1) el2,
-      refl,
-      onward_by related s n (own_put (f to) to own) o found.1 on (record s { next = s.next + 1; values = ev2 }) el2 refl refl
-          (put_agrees own s.values el (f to) to (value_of globals s.values a) (value_of globals el (placed_operand f a)) (operand_follows globals own s.values el f a found.0 agrees) agrees),
-    )
+    takes_beside related s n el own (f to) to (value_of globals s.values a) (value_of globals el (placed_operand f a)) (operand_follows globals own s.values el f a found.0 agrees) agrees
+    (onward_by related s n (own_put (f to) to own) o found.1 on)
 line_beside related globals i s n el own o f (Operate to op a b) agrees h on =
     let found = held_is (operand_held own f a && operand_held own f b) (own_put (f to) to own) o h in
-    sets_beside related s n el own (f to) to
+    takes_beside related s n el own (f to) to
     (option_and_then (λ u. option_and_then (λ v. operate s.memory op u v) (value_of globals s.values b)) (value_of globals s.values a))
     (option_and_then (λ u. option_and_then (λ v. operate s.memory op u v) (value_of globals el (placed_operand f b))) (value_of globals el (placed_operand f a)))
     (two_follow globals own s.values el f a b (operate s.memory op) found.0 agrees) agrees

@@ -4,6 +4,7 @@ ghost use Rattle.vcode.specs.declared.place.Location.TheVariants.{Slot};
 ghost use Rattle.alloc_check.specs.Placed.{placed_line, placed_block, placed_destination, in_slots};
 ghost use Rattle.il_ast.specs.Passes.{Keeps};
 ghost use Rattle.vcode.specs.Coded.{virtual_code, location_code};
+ghost use Rattle.vcode.specs.Outgoing.{frame_bound};
 
 use crate::placing::{SlotForEach, destination, jump, line};
 use il_ast::list::Seq;
@@ -76,7 +77,8 @@ fn code_in_slots(alloc: Global, code: &Code<u32>) -> Result<Code<Location>, Allo
     })
 }
 
-/// The function with virtual register i in slot i, everywhere. It has as many slots as the function has registers, and goes as the virtual code does.
+/// The function with virtual register i in slot i, everywhere. It has as many slots as the function has registers, goes as the virtual code does, and takes as
+/// much of the stack.
 ///
 /// # Errors
 ///
@@ -85,6 +87,7 @@ pub fn spill_all(alloc: Global, function: &VFunc) -> Result<LFunc, AllocError>
     ensures code { IfOk result (λ l. l.code ≡ in_slots function.now.code) }
     ensures slots { IfOk result (λ l. l.slots ≡ function.now.registers) }
     ensures kept { IfOk result (λ l. Keeps (virtual_code function.now) (location_code l)) }
+    ensures takes { IfOk result (λ l. frame_bound l.code l.slots ≡ frame_bound function.now.code function.now.registers) }
 {
     let code = code_in_slots(alloc, &function.code)?;
     Ok(LFunc {

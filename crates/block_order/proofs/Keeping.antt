@@ -1,25 +1,22 @@
--- The code in an order is regular, takes no more than the code did, and keeps it.
-use Rattle.std.proofs.Common.{◌≡◌, ℕ, zero, suc, ◌+◌, ◌-◌, ◌*◌, ◌≤◌, Bool, true, false, not, ◌&&◌, ◌||◌, nat_eq, nat_lt, nat_le, if◌then◌else◌, List, [], ◌∷◌, map, length, refl, sym, ◌∙◌, ap, arith}
+-- The code in an order takes no more than the code did, and names the registers of the function.
+use Rattle.std.proofs.Common.{◌≡◌, ℕ, zero, suc, ◌≤◌, Bool, true, false, not, ◌&&◌, ◌||◌, nat_eq, nat_lt, nat_le, if◌then◌else◌, List, [], ◌∷◌, map, length, refl, sym, ◌∙◌, ap, arith}
 use Rattle.std.specs.List.{list_all, list_any, sum_by}
 use Rattle.std.proofs.lemmas.Bool.Decides.{nat_tests}
 use Rattle.std.proofs.lemmas.List.{length-map}
 use Rattle.std.proofs.lemmas.List.Folds.{list_all-map}
-use Rattle.il_ast.specs.Passes.{Keeps}
-use Rattle.vcode.specs.declared.place.Destination.{Destination}
-use Rattle.vcode.specs.declared.line.Line.{Line}
-use Rattle.vcode.specs.declared.line.Line.TheVariants.{Tick, Set, Operate, Load, Store, Alloc, Blit, Call}
 use Rattle.vcode.specs.declared.line.Jump.{Jump}
 use Rattle.vcode.specs.declared.line.Jump.TheVariants.{Goto, Branch, Return, Halt}
 use Rattle.vcode.specs.declared.code.Block.{Block}
 use Rattle.vcode.specs.declared.code.Code.{Code}
-use Rattle.vcode.specs.Coded.{coded}
-use Rattle.vcode.specs.Cost.{line_cost, jump_cost, affords, is_paid}
-use Rattle.vcode.specs.Named.{line_keeps, jump_keeps, block_keeps, keeps_places}
-use Rattle.vcode.specs.Places.{virtual}
-use Rattle.vcode.specs.Regular.{is_target, leads_inside, is_alloc, allocs_first, alloc_bytes, area, turns_of, passes_few, weight_of, code_weight, IsRegular}
+use Rattle.vcode.specs.declared.function.VFunc.{VFunc}
+use Rattle.vcode.specs.Cost.{jump_cost, is_paid}
+use Rattle.vcode.specs.Named.{line_keeps, jump_keeps, block_keeps, is_below as is_register}
+use Rattle.vcode.specs.Regular.{is_target, leads_inside, is_alloc, allocs_first, alloc_bytes, turns_of, passes_few, weight_of}
+use Rattle.vcode.proofs.Measuring.{measured_itself, within}
+use Rattle.vcode.proofs.Results.{Owed}
 use Rattle.block_order.specs.Ordered.{Order, place_in, is_named, block_at, led, placed, in_order, begins, names_once, leads_within, is_order}
 use Rattle.block_order.proofs.Placing.{both_true, both_are, below_is, one_more_below, named_place}
-use Rattle.block_order.proofs.Summing.{sum_in_order, most_in_order}
+use Rattle.block_order.proofs.Summing.{sum_in_order}
 use Rattle.block_order.proofs.Running.{runs}
 
 -- ---- an order, by its parts
@@ -143,33 +140,13 @@ first_makes (b ∷ blocks) all (z ∷ order) none first once there =
     rest_none b blocks all z order none first (both_true (not (is_named order z)) (names_once order) once).0
     (both_true (nat_lt z (length (b ∷ blocks))) (list_all (λ k. nat_lt k (length (b ∷ blocks))) order) there).1
 
--- ---- what pays
+-- ---- what pays, and the registers that it names
 
-led_cost : (order : Order) (j : Jump ℕ) → jump_cost (led order j) ≡ jump_cost j
-led_cost order (Goto k) = refl
-led_cost order (Branch on met otherwise) = refl
-led_cost order (Return a) = refl
-led_cost order Halt = refl
-
-led_affords : (order : Order) (j : Jump ℕ) (lines : List (Line ℕ)) (credit : ℕ) → affords credit (led order j) lines ≡ affords credit j lines
-led_affords order j [] credit = ap (λ n. nat_le n credit) (led_cost order j)
-led_affords order j (Tick turn w ∷ lines) credit = led_affords order j lines (credit + 32 * w)
-led_affords order j (Set to a ∷ lines) credit =
-    let cost = line_cost (Set to a) in ap (λ b. nat_le cost credit && b) (led_affords order j lines (credit - cost))
-led_affords order j (Operate to op a b ∷ lines) credit =
-    let cost = line_cost (Operate to op a b) in ap (λ b. nat_le cost credit && b) (led_affords order j lines (credit - cost))
-led_affords order j (Load to op at ∷ lines) credit =
-    let cost = line_cost (Load to op at) in ap (λ b. nat_le cost credit && b) (led_affords order j lines (credit - cost))
-led_affords order j (Store size a at ∷ lines) credit =
-    let cost = line_cost (Store size a at) in ap (λ b. nat_le cost credit && b) (led_affords order j lines (credit - cost))
-led_affords order j (Alloc to size ∷ lines) credit =
-    let cost = (let l : Line ℕ = Alloc to size in line_cost l) in ap (λ b. nat_le cost credit && b) (led_affords order j lines (credit - cost))
-led_affords order j (Blit from to count ∷ lines) credit =
-    let cost = line_cost (Blit from to count) in ap (λ b. nat_le cost credit && b) (led_affords order j lines (credit - cost))
-led_affords order j (Call to callee args ∷ lines) credit =
-    let cost = line_cost (Call to callee args) in ap (λ b. nat_le cost credit && b) (led_affords order j lines (credit - cost))
-
--- ---- the places that it names
+led_cost : (order : Order) (j : Jump ℕ) → jump_cost (led order j) ≤ jump_cost j
+led_cost order (Goto k) = omega arith
+led_cost order (Branch on met otherwise) = omega arith
+led_cost order (Return a) = omega arith
+led_cost order Halt = omega arith
 
 led_keeps : (test : ℕ → Bool) (order : Order) (j : Jump ℕ) → jump_keeps test (led order j) ≡ jump_keeps test j
 led_keeps test order (Goto k) = refl
@@ -177,55 +154,24 @@ led_keeps test order (Branch on met otherwise) = refl
 led_keeps test order (Return a) = refl
 led_keeps test order Halt = refl
 
-pub places_kept : (test : ℕ → Bool) (order : Order) (f : Code ℕ) → Holds order f → keeps_places test f ≡ true → keeps_places test (in_order order f) ≡ true
-places_kept test order f h kept =
-    let s = both_true (list_all (λ (d : Destination ℕ). test d.place) f.params) (list_all (block_keeps test) f.blocks) kept in
-    both_are (list_all (λ (d : Destination ℕ). test d.place) f.params) (list_all (block_keeps test) (in_order order f).blocks) s.0
-    (blocks_pass (block_keeps test) order f h (λ b e. ap (λ x. list_all (line_keeps test) b.lines && x) (led_keeps test order b.jump) ∙ e) s.1)
-
 -- ---- the whole
 
-weight_less : (order : Order) (f : Code ℕ) → Holds order f → code_weight (in_order order f) ≤ code_weight f
-weight_less order f h =
-    sum_in_order (λ (b : Block ℕ). sum_by weight_of b.lines) (λ k. placed order (block_at f.blocks k)) f.blocks order (λ k. refl) h.once h.there
-
-area_less : (order : Order) (f : Code ℕ) → Holds order f → area (in_order order f) ≤ area f
-area_less order f h =
-    sum_in_order (λ (b : Block ℕ). sum_by alloc_bytes b.lines) (λ k. placed order (block_at f.blocks k)) f.blocks order (λ k. refl) h.once h.there
-
-still_within : (less n most : ℕ) → less ≤ n → nat_le n most ≡ true → nat_le less most ≡ true
-still_within less n most le h = grind (arith, nat_tests)
-
-pub still_light : (order : Order) (f : Code ℕ) → Holds order f → nat_le (code_weight f) 40000 ≡ true → nat_le (code_weight (in_order order f)) 40000 ≡ true
-still_light order f h light = still_within (code_weight (in_order order f)) (code_weight f) 40000 (weight_less order f h) light
-
-pub regular : (order : Order) (f : Code ℕ) → Holds order f → IsRegular f → IsRegular (in_order order f)
-regular order f h is =
+pub owed : (order : Order) (v : VFunc) → Holds order v.code → Owed v (in_order order v.code).blocks
+owed order v h =
+    let f : Code ℕ = v.code in
+    let place = (λ (k : ℕ). placed order (block_at f.blocks k)) in
     record {
-      few_params = is.few_params;
-      inside = all_inside order f h is.inside;
-      first = first_makes f.blocks order order is.first h.first h.once h.there;
-      small = still_within (area (in_order order f)) (area f) 1048576 (area_less order f h) is.small;
-      paid = blocks_pass is_paid order f h (λ b e. led_affords order b.jump b.lines 0 ∙ e) is.paid;
-      paced = blocks_pass (λ (b : Block ℕ). nat_le (sum_by turns_of b.lines) 40000) order f h (λ b e. e) is.paced;
-      few_args = blocks_pass (λ (b : Block ℕ). list_all passes_few b.lines) order f h (λ b e. e) is.few_args;
-    }
-
-pub keeps : (order : Order) (f : Code ℕ) (n : ℕ) → Holds order f → Keeps (coded virtual f n) (coded virtual (in_order order f) n)
-keeps order f n h =
-    record {
-      params = refl;
-      result = refl;
-      weight = weight_less order f h;
-      area = area_less order f h;
-      outgoing = most_in_order order order f.blocks;
-      places = omega arith;
+      fits =
+          record {
+            weight = sum_in_order (λ (b : Block ℕ). sum_by weight_of b.lines) place f.blocks order (λ k. refl) h.once h.there;
+            area = sum_in_order (λ (b : Block ℕ). sum_by alloc_bytes b.lines) place f.blocks order (λ k. refl) h.once h.there;
+            makes = λ first. first_makes f.blocks order order first h.first h.once h.there;
+            paid = blocks_pass is_paid order f h (λ b. (within b (placed order b) (measured_itself b.lines) (led_cost order b.jump)).paid);
+            paced = blocks_pass (λ (b : Block ℕ). nat_le (sum_by turns_of b.lines) 40000) order f h (λ b e. e);
+            few = blocks_pass (λ (b : Block ℕ). list_all passes_few b.lines) order f h (λ b e. e);
+          };
+      inside = all_inside order f h;
+      names = blocks_pass (block_keeps (is_register v.registers)) order f h
+          (λ b e. ap (λ x. list_all (line_keeps (is_register v.registers)) b.lines && x) (led_keeps (is_register v.registers) order b.jump) ∙ e);
       runs = runs order f h.first h.closed;
     }
-
--- the code with these parameters and blocks
-pub made : (order : Order) (f : Code ℕ) (params : List (Destination ℕ)) (blocks : List (Block ℕ)) → params ≡ f.params → blocks ≡ map (λ k. placed order (block_at f.blocks k)) order
-    → in_order order f ≡ record { result = f.result; params = params; blocks = blocks }
-made order f params blocks same is =
-    ap (λ (ps : List (Destination ℕ)). record { result = f.result; params = ps; blocks = map (λ k. placed order (block_at f.blocks k)) order }) (sym same)
-    ∙ ap (λ (bs : List (Block ℕ)). record { result = f.result; params = params; blocks = bs }) (sym is)

@@ -4,8 +4,7 @@ use Rattle.std.specs.List.{list_all, sum_by}
 use Rattle.std.proofs.lemmas.Bool.Decides.{nat_tests}
 use Rattle.std.proofs.lemmas.List.Sums.{sum_by-cons}
 use Rattle.vcode.specs.declared.code.Block.{Block}
-use Rattle.vcode.specs.Outgoing.{most_in_lines, most_in_blocks}
-use Rattle.block_order.specs.Ordered.{Order, is_named, block_at, placed, names_once}
+use Rattle.block_order.specs.Ordered.{Order, is_named, block_at, names_once}
 use Rattle.block_order.proofs.Placing.{both_true, is_below}
 
 -- the sum of a number for each below n
@@ -88,14 +87,3 @@ sum_in_order g h blocks order same once low =
     total_same : (e f : ℕ → ℕ) → ((k : ℕ) → e k ≡ f k) → (n : ℕ) → total e n ≡ total f n
     total_same e f same zero = refl
     total_same e f same (suc n) = ap (λ m. m + total (λ k. e (suc k)) n) (same 0) ∙ ap (λ m. f 0 + m) (total_same (λ k. e (suc k)) (λ k. f (suc k)) (λ k. same (suc k)) n)
-
--- ---- the most arguments on the stack
-
-most_at : (blocks : List (Block ℕ)) (k : ℕ) → most_in_lines (block_at blocks k).lines ≤ most_in_blocks blocks
-most_at [] k = omega arith
-most_at (b ∷ blocks) zero = omega arith
-most_at (b ∷ blocks) (suc k) = let rest = most_at blocks k in omega arith
-
-pub most_in_order : (order all : Order) (blocks : List (Block ℕ)) → most_in_blocks (map (λ k. placed all (block_at blocks k)) order) ≤ most_in_blocks blocks
-most_in_order [] all blocks = omega arith
-most_in_order (k ∷ order) all blocks = let here = most_at blocks k in let rest = most_in_order order all blocks in omega arith

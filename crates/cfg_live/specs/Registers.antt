@@ -1,13 +1,13 @@
--- The virtual registers that lines and jumps read and write.
-use Rattle.std.specs.Prelude.{ℕ, List, [], ◌∷◌, ◌++◌, Option, Some, None}
+-- The virtual registers that lines and jumps read; which one a line writes is said with the code.
+use Rattle.std.specs.Prelude.{ℕ, List, [], ◌∷◌, ◌++◌, Some, None}
 use Rattle.vcode.specs.declared.place.Operand.{Operand}
 use Rattle.vcode.specs.declared.place.Operand.TheVariants.{At, Number, Name}
-use Rattle.vcode.specs.declared.place.Destination.{Destination}
 use Rattle.vcode.specs.declared.place.Argument.{Argument}
 use Rattle.vcode.specs.declared.line.Line.{Line}
 use Rattle.vcode.specs.declared.line.Line.TheVariants.{Tick, Set, Operate, Load, Store, Alloc, Blit, Call}
 use Rattle.vcode.specs.declared.line.Jump.{Jump}
 use Rattle.vcode.specs.declared.line.Jump.TheVariants.{Goto, Branch, Return, Halt}
+pub use Rattle.vcode.specs.Writes.{line_writes}
 
 abbrev pub with_operand : List ℕ → Operand ℕ → List ℕ
 with_operand rs (At r) = rs ++ r ∷ []
@@ -27,20 +27,6 @@ line_reads (Store size a at) = with_operand (with_operand [] a) at.base
 line_reads (Alloc to size) = []
 line_reads (Blit from to count) = with_operand (with_operand [] from) to
 line_reads (Call to callee args) = with_args (with_operand [] callee) args
-
-abbrev pub place_of : Option (Destination ℕ) → Option ℕ
-place_of None = None
-place_of (Some d) = Some d.place
-
-abbrev pub line_writes : Line ℕ → Option ℕ
-line_writes (Tick turn w) = None
-line_writes (Set to a) = Some to
-line_writes (Operate to op a b) = Some to
-line_writes (Load to op at) = Some to
-line_writes (Store size a at) = None
-line_writes (Alloc to size) = to
-line_writes (Blit from to count) = None
-line_writes (Call to callee args) = place_of to
 
 abbrev pub jump_reads : Jump ℕ → List ℕ
 jump_reads (Goto k) = []

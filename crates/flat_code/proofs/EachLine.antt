@@ -158,7 +158,7 @@ line_together c is p s t (Set to a) r n =
     takes_together c p s t to (value_of c.names.globals s.values a) (number_of c.names.addresses t.numbers a) r
     (room_later c s (Set to a) t.used t.used n r.room (nothing_more t.used)) (operand_shown c is p s t r a)
 line_together c is p s t (Operate to op a b) r n =
-    sets_together c p s t to
+    takes_together c p s t to
     (values_operated s.memory op (value_of c.names.globals s.values a) (value_of c.names.globals s.values b))
     (operated op (number_of c.names.addresses t.numbers a) (number_of c.names.addresses t.numbers b)) r
     (room_later c s (Operate to op a b) t.used t.used n r.room (nothing_more t.used))

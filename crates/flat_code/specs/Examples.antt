@@ -7,10 +7,11 @@ use Rattle.il_ast.specs.declared.value.Value.TheVariants.{Integer}
 use Rattle.il_ast.specs.Run.{Returned}
 use Rattle.il_ast.specs.Logged.{On, Over, Does, Calls, Logged}
 use Rattle.il_ast.specs.Keeps.{Given}
-use Rattle.rv_isa.specs.declared.instruction.RegOp.TheVariants.{Sub}
+use Rattle.rv_isa.specs.declared.instruction.RegOp.TheVariants.{Add, Sub}
 use Rattle.rv_isa.specs.declared.instruction.LoadOp.TheVariants.{Lb, Ld}
 use Rattle.vcode.specs.declared.place.Location.{Location}
 use Rattle.vcode.specs.declared.place.Location.TheVariants.{Register}
+use Rattle.vcode.specs.declared.place.Operand.{Operand}
 use Rattle.vcode.specs.declared.place.Operand.TheVariants.{At, Number, Name}
 use Rattle.vcode.specs.declared.line.Operation.TheVariants.{Reg}
 use Rattle.vcode.specs.Addresses.{at_once}
@@ -79,6 +80,10 @@ blocks_apart =
     straight L [] (Alloc (Some a) 17 ∷ Alloc (Some b) 1 ∷ Operate b (Reg Sub) (At b) (At a) ∷ [])
     (At b)
 
+-- an unknown number and 1; then an operand is returned
+abbrev pub adds_to_unknown : Operand Location → Code Location
+adds_to_unknown result = straight L [] (Operate b (Reg Add) (At a) (Number 1) ∷ []) result
+
 abbrev pub copies : Code Location
 copies =
     straight L []
@@ -120,6 +125,8 @@ pub record Examples : Type 0 where
   pub nothing_past_the_end : Returns stores_past_the_end [] None
   pub low_byte_with_its_sign : Returns stores_bytes [] (Some (2 ^ 64 - 1))
   pub fresh_blocks_follow : Returns blocks_apart [] (Some 32)
+  pub unknown_is_not_asked : Returns (adds_to_unknown (Number 5)) [] (Some 5)
+  pub unknown_is_not_returned : Returns (adds_to_unknown (At b)) [] None
   pub bytes_are_copied : Returns copies [] (Some 258)
   pub first_block_at_the_base : Returns (straight L [] (Alloc (Some a) 8 ∷ []) (At a)) []
       (Some 8192)

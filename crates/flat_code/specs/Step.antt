@@ -1,8 +1,8 @@
 -- What a line or a jump of location code does on bytes: the same code as on blocks, with numbers
 -- for values and bytes by address for memory. An access to a byte that is away is undefined, and so
--- is a read of one that isn't known. The blocks that the code makes stand one after another from
--- `base` upward, each at a multiple of 16 bytes from there, and none may be accessed after the
--- return.
+-- is a read of one that isn't known; an operation on an unknown number gives one. The blocks that the
+-- code makes stand one after another from `base` upward, each at a multiple of 16 bytes from there,
+-- and none may be accessed after the return.
 use Rattle.std.specs.Prelude.{ℕ, zero, suc, ◌+◌, ◌-◌, ◌*◌, ◌%◌, ◌^◌, Bool, true, false, ◌&&◌, ◌||◌, nat_eq, nat_lt, nat_le, if◌then◌else◌, List, [], ◌∷◌, map, slice_get, Option, Some, None}
 use Rattle.std.specs.Int.{byte_at}
 use Rattle.std.specs.Option.{option_map, option_and_then}
@@ -215,6 +215,9 @@ abbrev pub sets : FlatState → Location → Option ℕ → FlatEvent
 sets s p None = fails s
 sets s p (Some x) = goes_on (record s { numbers = put p (Some x) s.numbers })
 
+abbrev pub takes : FlatState → Location → Option ℕ → FlatEvent
+takes s p o = goes_on (record s { numbers = put p o s.numbers })
+
 abbrev pub changes : FlatState → Option Spots → FlatEvent
 changes s None = fails s
 changes s (Some f) = goes_on (record s { memory = f })
@@ -268,10 +271,9 @@ made_in (Some p) x numbers = put p (Some x) numbers
 
 unfoldable pub flat_line : List ℕ → (base : ℕ) → FlatGiven → FlatState → Line Location → FlatEvent
 flat_line addresses base j s (Tick turn w) = ticks j s turn w
-flat_line addresses base j s (Set to a) =
-    goes_on (record s { numbers = put to (number_of addresses s.numbers a) s.numbers })
+flat_line addresses base j s (Set to a) = takes s to (number_of addresses s.numbers a)
 flat_line addresses base j s (Operate to op a b) =
-    sets s to (operated op (number_of addresses s.numbers a) (number_of addresses s.numbers b))
+    takes s to (operated op (number_of addresses s.numbers a) (number_of addresses s.numbers b))
 flat_line addresses base j s (Load to op at) =
     sets s to
     (option_and_then (λ x. option_map (load_value op) (known_number s.memory x (load_size op)))

@@ -169,11 +169,11 @@ function_kept p codes x words s has each every fits good stands starts k at f fo
     let addresses = addresses_in a (slice_get p.targets f.text) in
     let here = function_stands p codes x words s good stands starts k at code.words f code.here found entry in
     let labelled = r.laid (ground_of s) at global here in
-    let m = frame_in_need f.item r.code r.slots r.items r.is r.machine in
+    let m = frame_in_need f.item r.code r.slots r.items r.is r.fits r.machine in
     layers_keep c setting at (need f.item) (frame_size r.code r.slots) (area r.code) (classes_of f.item.params) f.item.result (globals_of p f.text) addresses (body_of p f) (begin located r.code) (step located (globals_of p f.text) r.code) (flat_begin r.code) (flat_step r.code addresses)
     (record {
       meaning = r.is.runs (globals_of p f.text);
-      flat = bytes_in_need f.item r.code r.slots r.is r.bytes (record { entries = entries_of p codes; globals = globals_of p f.text; addresses = addresses });
+      flat = bytes_in_need f.item r.code r.is r.bytes (record { entries = entries_of p codes; globals = globals_of p f.text; addresses = addresses });
       machine =
           m.keeps c.world at labelled.0 global addresses setting.world (λ n y e. name_is a (slice_get p.targets f.text) n y e)
           (λ n. target_small p codes fits (option_and_then (λ ts. slice_get ts n) (slice_get p.targets f.text)))

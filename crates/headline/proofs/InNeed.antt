@@ -37,22 +37,15 @@ more_need items low high frame area params result start step le f =
       keeps = λ w at label global addresses world names near even stand sp j good. f.keeps w at label global addresses world names near even stand sp j (less_stack w sp low high j.room le good);
     }
 
-enough : (f : Func) (code : Code Location) (slots : ℕ) → IsCodeOf f (coded located code slots) → frame_bound code slots ≤ need f
-enough f code slots is =
-    let bytes = is.area in
-    let passed = is.outgoing in
-    let places = is.places in
-    omega (arith, bytes, passed, places)
-
-pub bytes_in_need : (f : Func) (code : Code Location) (slots : ℕ) → IsCodeOf f (coded located code slots) → FlatKept code → (names : Names)
+pub bytes_in_need : (f : Func) (code : Code Location) → IsCodeOf f (coded located code) → FlatKept code → (names : Names)
     → KeepsFlat names (classes_of f.params) f.result (area code) (begin located code) (step located names.globals code) (flat_begin code) (flat_step code names.addresses)
-bytes_in_need f code slots is kept names =
+bytes_in_need f code is kept names =
     subst (λ (cs : List Class). KeepsFlat names cs f.result (area code) (begin located code) (step located names.globals code) (flat_begin code) (flat_step code names.addresses)) is.params
     (subst (λ (r : Option Class). KeepsFlat names (classes_in code.params) r (area code) (begin located code) (step located names.globals code) (flat_begin code) (flat_step code names.addresses)) is.result (kept names))
 
-pub frame_in_need : (f : Func) (code : Code Location) (slots : ℕ) (items : List Item) → IsCodeOf f (coded located code slots) → IsFrameOf code slots items
+pub frame_in_need : (f : Func) (code : Code Location) (slots : ℕ) (items : List Item) → IsCodeOf f (coded located code) → frame_bound code slots ≤ need f → IsFrameOf code slots items
     → FramePromise items (need f) (frame_size code slots) (area code) (classes_of f.params) f.result (λ addresses. flat_begin code) (λ addresses. flat_step code addresses)
-frame_in_need f code slots items is frame =
-    more_need items (frame_bound code slots) (need f) (frame_size code slots) (area code) (classes_of f.params) f.result (λ addresses. flat_begin code) (λ addresses. flat_step code addresses) (enough f code slots is)
+frame_in_need f code slots items is fits frame =
+    more_need items (frame_bound code slots) (need f) (frame_size code slots) (area code) (classes_of f.params) f.result (λ addresses. flat_begin code) (λ addresses. flat_step code addresses) fits
     (subst (λ (cs : List Class). FramePromise items (frame_bound code slots) (frame_size code slots) (area code) cs f.result (λ addresses. flat_begin code) (λ addresses. flat_step code addresses)) is.params
     (subst (λ (r : Option Class). FramePromise items (frame_bound code slots) (frame_size code slots) (area code) (classes_in code.params) r (λ addresses. flat_begin code) (λ addresses. flat_step code addresses)) is.result frame))

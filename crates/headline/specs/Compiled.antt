@@ -5,6 +5,7 @@ use Rattle.il_ast.specs.declared.limits.TheConstants.{WORDS, WORD_BYTES}
 use Rattle.il_ast.specs.declared.function.Func.{Func}
 use Rattle.il_ast.specs.declared.program.InText.{InText}
 use Rattle.il_ast.specs.declared.program.Program.{Program}
+use Rattle.il_ast.specs.Cost.{need}
 use Rattle.il_ast.specs.Passes.{IsCodeOf}
 use Rattle.vcode.specs.declared.place.Location.{Location}
 use Rattle.vcode.specs.declared.code.Code.{Code}
@@ -12,6 +13,7 @@ use Rattle.vcode.specs.Coded.{coded}
 use Rattle.vcode.specs.Places.{located}
 use Rattle.flat_code.specs.Laws.{FlatKept}
 use Rattle.abi_frames.specs.Frames.{IsFrameOf}
+use Rattle.abi_frames.specs.Layout.{frame_bound}
 use Rattle.rv_isa.specs.declared.labelled.Item.{Item}
 use Rattle.rv_isa.specs.Laid.{LaysOut}
 use Rattle.rv_isa.specs.Words.{Words}
@@ -26,12 +28,14 @@ use Rattle.headline.specs.Headline.{Executes}
 use Rattle.headline.specs.Executables.{NamesAreThere}
 
 -- Words that stand for a function: they are the layout of labelled code that performs what location
--- code, which is the function's, runs on bytes.
+-- code, which is the function's, runs on bytes; and its frame takes at most the stack that a call of
+-- the function is counted for.
 pub record StandFor (f : Func) (c : Words) : Type 0 where
   pub code : Code Location
   pub slots : ℕ
   pub items : List Item
-  pub is : IsCodeOf f (coded located code slots)
+  pub is : IsCodeOf f (coded located code)
+  pub fits : frame_bound code slots ≤ need f
   pub bytes : FlatKept code
   pub machine : IsFrameOf code slots items
   pub laid : LaysOut items c.words c.holes

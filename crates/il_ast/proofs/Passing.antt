@@ -1,5 +1,5 @@
 -- Passes compose: what keeps a function's code is the function's code.
-use Rattle.std.proofs.Common.{◌≡◌, ℕ, ◌≤◌, List, sym, ◌∙◌, subst, arith}
+use Rattle.std.proofs.Common.{ℕ, ◌≤◌, List, ◌∙◌, subst, arith}
 use Rattle.il_ast.specs.declared.operation.Class.{Class}
 use Rattle.il_ast.specs.declared.function.Func.{Func}
 use Rattle.il_ast.specs.Keeps.{KeepsCode}
@@ -15,9 +15,6 @@ keeps_compose a b c h k =
       params = k.params ∙ h.params;
       result = k.result ∙ h.result;
       weight = least c.weight b.weight a.weight k.weight h.weight;
-      area = least c.area b.area a.area k.area h.area;
-      outgoing = least c.outgoing b.outgoing a.outgoing k.outgoing h.outgoing;
-      places = least c.places b.places a.places k.places h.places;
       runs = λ globals.
           codes_compose a.params a.start (a.step globals) b.start (b.step globals) c.start (c.step globals) (h.runs globals)
           (subst (λ (cs : List Class). KeepsCode cs b.start (b.step globals) c.start (c.step globals)) h.params (k.runs globals));
@@ -29,9 +26,6 @@ passes_stay f a b is k =
       params = k.params ∙ is.params;
       result = k.result ∙ is.result;
       weight = least b.weight a.weight _ k.weight is.weight;
-      area = least b.area a.area _ k.area is.area;
-      outgoing = least b.outgoing a.outgoing _ k.outgoing is.outgoing;
-      places = least b.places a.places _ k.places is.places;
       runs = λ globals.
           meaning_composes (classes_of f.params) (body_of f globals) a.start (a.step globals) b.start (b.step globals) (is.runs globals)
           (subst (λ (cs : List Class). KeepsCode cs a.start (a.step globals) b.start (b.step globals)) is.params (k.runs globals));

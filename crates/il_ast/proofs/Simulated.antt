@@ -78,11 +78,17 @@ next_together : {S T I O : Type 0} (related : S → T → Type 0) (fine : O → 
 next_together related fine step (On s) y h = (0, (h.0, h.1, h.2))
 next_together related fine step (Over o) y h = λ f. (0, h f)
 
-event_together : {S T I O : Type 0} (related : S → T → Type 0) (fine : O → Type 0) (step : T → Event T I O) (x : Event S I O) (t : T) → Together related fine x (step t) → MatchesEvent related fine step x t
+pub event_together : {S T I O : Type 0} (related : S → T → Type 0) (fine : O → Type 0) (step : T → Event T I O) (x : Event S I O) (t : T) → Together related fine x (step t) → MatchesEvent related fine step x t
 event_together related fine step (Does (On s)) t h = (1, (h.0, (t, refl, (On h.0, h.1, refl)), h.2))
 event_together related fine step (Does (Over o)) t h = λ f. (1, (t, refl, (Over o, h f, refl)))
 event_together related fine step (Calls i next) t h =
     (0, (t, refl, (h.0, h.1, λ o. next_together related fine step (next o) (h.0 o) (h.2 o))))
+
+-- the second does a step alone
+pub step_before : {S T I O : Type 0} (related : S → T → Type 0) (fine : O → Type 0) (step : T → Event T I O) (x : Event S I O) (t u : T) → step t ≡ Does (On u) → MatchesEvent related fine step x u → MatchesEvent related fine step x t
+step_before related fine step (Does (On s)) t u e h = (suc h.0, (h.1.0, (t, refl, (On u, e, h.1.1)), h.1.2))
+step_before related fine step (Does (Over o)) t u e h = λ f. let a = h f in (suc a.0, (t, refl, (On u, e, a.1)))
+step_before related fine step (Calls i next) t u e h = (suc h.0, (h.1.0, (t, refl, (On u, e, h.1.1)), h.1.2))
 
 pub lockstep_simulates : {S T I O : Type 0} (related : S → T → Type 0) (fine : O → Type 0) (step : S → Event S I O) (step2 : T → Event T I O) → Lockstep related fine step step2 → Simulates related fine step step2
 lockstep_simulates related fine step step2 h s t r = event_together related fine step2 (step s) t (h s t r)

@@ -9,7 +9,6 @@ use Rattle.il_ast.specs.declared.value.Value.TheVariants.{Integer}
 use Rattle.il_ast.specs.Values.{modulus}
 use Rattle.il_ast.specs.Memory.{Memory}
 use Rattle.il_ast.specs.Operations.{holds, truth, operate_two}
-use Rattle.il_ast.specs.Keeps.{Given}
 use Rattle.rv_isa.proofs.RangeLemmas.{reg_value_fits, regw_value_fits}
 use Rattle.vcode.specs.declared.place.Operand.{Operand}
 use Rattle.vcode.specs.declared.place.Operand.TheVariants.{At, Number, Name}
@@ -19,10 +18,10 @@ use Rattle.vcode.specs.declared.line.Line.{Line}
 use Rattle.vcode.specs.declared.line.Line.TheVariants.{Tick, Set, Operate, Load, Store, Alloc, Blit, Call}
 use Rattle.vcode.specs.Cost.{line_cost}
 use Rattle.vcode.specs.Operations.{operate}
-use Rattle.vcode.specs.Places.{virtual}
-use Rattle.vcode.specs.Step.{State, sets, line_step}
+use Rattle.vcode.specs.Places.{Values}
+use Rattle.vcode.specs.Acts.{Gives, act}
 use Rattle.propagation.specs.Shortened.{result_of, is_cheaper, with_result, computed, by_shift, shortened}
-use Rattle.propagation.proofs.Shortening.{Unnumbered, shift_cheaper, shift_unchanged, shift_step}
+use Rattle.propagation.proofs.Shortening.{Unnumbered, shift_cheaper, shift_unchanged, shift_act}
 
 -- ---- what the operations give
 
@@ -92,27 +91,26 @@ computed_unchanged g un (Alloc to size) = refl
 computed_unchanged g un (Blit a b count) = refl
 computed_unchanged g un (Call to callee args) = refl
 
-number_step : (globals : List Value) (i : Given) (s : State ℕ) (to : ℕ) (op : Operation) (a b : ℕ)
-    → line_step virtual globals i s (Set to (Number (result_of op a b))) ≡ line_step virtual globals i s (Operate to op (Number a) (Number b))
-unfolding line_step
-number_step globals i s to op a b =
-    ap (λ n. sets virtual s to (Some (Integer n))) (small_word (result_of op a b) (result_fits op a b)) ∙ sym (ap (sets virtual s to) (given_by s.memory op a b))
+number_act : (globals : List Value) (memory : Memory) (values : Values ℕ) (to : ℕ) (op : Operation) (a b : ℕ)
+    → act globals memory values (Set to (Number (result_of op a b))) ≡ act globals memory values (Operate to op (Number a) (Number b))
+number_act globals memory values to op a b =
+    ap (λ n. Gives (Some (Integer n))) (small_word (result_of op a b) (result_fits op a b)) ∙ sym (ap Gives (given_by memory op a b))
 
-computed_step : (globals : List Value) (i : Given) (s : State ℕ) (l : Line ℕ) → line_step virtual globals i s (computed l) ≡ line_step virtual globals i s l
-computed_step globals i s (Tick turn w) = refl
-computed_step globals i s (Set to a) = refl
-computed_step globals i s (Operate to op (Number a) (Number b)) =
-    with_either (λ m. line_step virtual globals i s m ≡ line_step virtual globals i s (Operate to op (Number a) (Number b))) to op a b (result_of op a b) refl
-    (λ low. number_step globals i s to op a b)
-computed_step globals i s (Operate to op (Number a) (At r)) = refl
-computed_step globals i s (Operate to op (Number a) (Name s2)) = refl
-computed_step globals i s (Operate to op (At r) b) = refl
-computed_step globals i s (Operate to op (Name s2) b) = refl
-computed_step globals i s (Load to op at) = refl
-computed_step globals i s (Store size a at) = refl
-computed_step globals i s (Alloc to size) = refl
-computed_step globals i s (Blit a b count) = refl
-computed_step globals i s (Call to callee args) = refl
+computed_act : (globals : List Value) (memory : Memory) (values : Values ℕ) (l : Line ℕ) → act globals memory values (computed l) ≡ act globals memory values l
+computed_act globals memory values (Tick turn w) = refl
+computed_act globals memory values (Set to a) = refl
+computed_act globals memory values (Operate to op (Number a) (Number b)) =
+    with_either (λ m. act globals memory values m ≡ act globals memory values (Operate to op (Number a) (Number b))) to op a b (result_of op a b) refl
+    (λ low. number_act globals memory values to op a b)
+computed_act globals memory values (Operate to op (Number a) (At r)) = refl
+computed_act globals memory values (Operate to op (Number a) (Name s2)) = refl
+computed_act globals memory values (Operate to op (At r) b) = refl
+computed_act globals memory values (Operate to op (Name s2) b) = refl
+computed_act globals memory values (Load to op at) = refl
+computed_act globals memory values (Store size a at) = refl
+computed_act globals memory values (Alloc to size) = refl
+computed_act globals memory values (Blit a b count) = refl
+computed_act globals memory values (Call to callee args) = refl
 
 -- ---- lines in their short form
 
@@ -129,5 +127,5 @@ Unshortened g = Unnumbered g × Unasked g
 pub unchanged : {X : Type 0} (g : Line ℕ → X) → Unshortened g → (l : Line ℕ) → g (shortened l) ≡ g l
 unchanged g un l = shift_unchanged g un.0 (computed l) ∙ computed_unchanged g un.1 l
 
-pub shortened_step : (globals : List Value) (i : Given) (s : State ℕ) (l : Line ℕ) → line_step virtual globals i s (shortened l) ≡ line_step virtual globals i s l
-shortened_step globals i s l = shift_step globals i s (computed l) ∙ computed_step globals i s l
+pub shortened_act : (globals : List Value) (memory : Memory) (values : Values ℕ) (l : Line ℕ) → act globals memory values (shortened l) ≡ act globals memory values l
+shortened_act globals memory values l = shift_act globals memory values (computed l) ∙ computed_act globals memory values l

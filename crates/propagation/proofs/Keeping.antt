@@ -1,43 +1,38 @@
--- Code that is put by what is known is regular, takes no more than the code did, and keeps it.
-use Rattle.std.proofs.Common.{◌≡◌, ℕ, suc, ◌+◌, ◌-◌, ◌*◌, ◌%◌, ◌^◌, ◌≤◌, Bool, true, false, not, ◌&&◌, ◌||◌, nat_eq, nat_lt, nat_le, if◌then◌else◌, List, [], ◌∷◌, map, length, fold, Option, Some, None, refl, sym, ◌∙◌, ap, arith}
-use Rattle.std.specs.Prelude.{max}
+-- Code that is put by what is known takes no more than the code did, and names registers of the function.
+use Rattle.std.proofs.Common.{◌≡◌, ℕ, ◌+◌, ◌%◌, ◌^◌, ◌≤◌, Bool, true, false, not, ◌&&◌, nat_eq, nat_lt, nat_le, if◌then◌else◌, List, [], ◌∷◌, map, Option, Some, None, refl, sym, ◌∙◌, ap, arith}
 use Rattle.std.specs.Option.{option_map_or}
-use Rattle.std.specs.List.{list_all, list_any, sum_by}
+use Rattle.std.specs.List.{list_all}
 use Rattle.std.proofs.lemmas.Bool.{and_parts, and_from}
-use Rattle.std.proofs.lemmas.Bool.Decides.{nat_tests}
 use Rattle.il_ast.specs.declared.operation.Class.{Class}
 use Rattle.il_ast.specs.declared.operation.Class.TheVariants.{W, L}
 use Rattle.il_ast.specs.declared.operation.Condition.{Condition}
 use Rattle.il_ast.specs.declared.operation.Condition.TheVariants.{Equal, NotEqual, SignedLessEqual, SignedLess, SignedGreaterEqual, SignedGreater, UnsignedLessEqual, UnsignedLess, UnsignedGreaterEqual, UnsignedGreater}
-use Rattle.il_ast.specs.Passes.{Keeps}
 use Rattle.vcode.specs.declared.place.Operand.{Operand}
 use Rattle.vcode.specs.declared.place.Address.{Address}
 use Rattle.vcode.specs.declared.line.Operation.{Operation}
 use Rattle.vcode.specs.Addresses.{distance, beyond}
 use Rattle.vcode.specs.declared.place.Operand.TheVariants.{At, Number, Name}
 use Rattle.vcode.specs.declared.place.Argument.{Argument}
-use Rattle.vcode.specs.declared.place.Destination.{Destination}
 use Rattle.vcode.specs.declared.line.Comparison.{Comparison}
 use Rattle.vcode.specs.declared.line.Line.{Line}
 use Rattle.vcode.specs.declared.line.Line.TheVariants.{Tick, Set, Operate, Load, Store, Alloc, Blit, Call}
 use Rattle.vcode.specs.declared.line.Jump.{Jump}
 use Rattle.vcode.specs.declared.line.Jump.TheVariants.{Goto, Branch, Return, Halt}
 use Rattle.vcode.specs.declared.code.Block.{Block}
-use Rattle.vcode.specs.declared.code.Code.{Code}
-use Rattle.vcode.specs.Coded.{classes_in, coded}
-use Rattle.vcode.specs.Cost.{is_immediate, operand_cost, line_cost, branch_cost, jump_cost, affords, is_paid}
-use Rattle.vcode.specs.Named.{operand_keeps, wanted_keeps, line_keeps, jump_keeps, block_keeps, keeps_places, is_below}
-use Rattle.vcode.specs.Outgoing.{args_on_stack, most_in_lines, most_in_blocks}
-use Rattle.vcode.specs.Places.{virtual}
-use Rattle.vcode.specs.Regular.{is_target, leads_inside, is_alloc, allocs_first, alloc_bytes, area, turns_of, passes_few, weight_of, code_weight, IsRegular}
+use Rattle.vcode.specs.declared.function.VFunc.{VFunc}
+use Rattle.vcode.specs.Cost.{is_immediate, operand_cost, line_cost, branch_cost, jump_cost, affords}
+use Rattle.vcode.specs.Named.{operand_keeps, wanted_keeps, line_keeps, jump_keeps, is_below}
+use Rattle.vcode.specs.Regular.{is_target, leads_inside}
 use Rattle.vcode.specs.Replaced.{with_base, with_argument, with_returned, with_comparison}
 use Rattle.vcode.proofs.Replacing.{args_count, args_low}
+use Rattle.vcode.proofs.Measuring.{measure, Measured, Empty, Put, still_affords, within_tested, Each, NoBlocks, OneMore}
+use Rattle.vcode.proofs.Results.{with_these, Serves, Owed, owed_each}
 use Rattle.propagation.specs.declared.fact.Fact.{Fact}
 use Rattle.propagation.specs.declared.fact.Fact.TheVariants.{Same, Sum, Test}
 use Rattle.propagation.specs.Facts.{Facts, operand_below, fact_below, kept_if, AreBelow}
 use Rattle.propagation.specs.Forwarded.{is_short, copied, propagate, regrouped, grouped, is_add, folded, operands_of, further, from_base, with_address, with_line, test_of, tested_by, with_test, with_branch, numbers_hold, decided, with_jump, writes_it, fact_of, leaves, after, AreForwarded, IsForwarded, AllForwarded}
 use Rattle.propagation.specs.Shortened.{shortened}
-use Rattle.propagation.proofs.Computing.{Unshortened, unchanged, any_cheaper}
+use Rattle.propagation.proofs.Computing.{unchanged, any_cheaper}
 use Rattle.propagation.proofs.Running.{runs}
 
 -- ---- operands cost no more, and are as low
@@ -309,44 +304,39 @@ jump_inside lines n m fs (Branch on met otherwise) h =
 jump_inside lines n m fs (Return a) h = refl
 jump_inside lines n m fs Halt h = refl
 
--- ---- what is paid for
+-- ---- what lines take
 
-pays : (old new credit more : ℕ) (j k : Jump ℕ) (lines lines2 : List (Line ℕ)) → new ≤ old → credit ≤ more → ((c m : ℕ) → c ≤ m → affords c j lines ≡ true → affords m k lines2 ≡ true)
-    → (nat_le old credit && affords (credit - old) j lines) ≡ true → (nat_le new more && affords (more - new) k lines2) ≡ true
-pays old new credit more j k lines lines2 cheap le rest h =
-    let s = and_parts (nat_le old credit) (affords (credit - old) j lines) h in
-    and_from (nat_le new more) (affords (more - new) k lines2) (let a = s.0 in grind (arith, nat_tests)) (rest (credit - old) (more - new) (omega arith) s.1)
+measure_carried : (fs : Facts) (l : Line ℕ) → measure (with_line fs l) ≡ measure l
+measure_carried fs (Tick turn w) = refl
+measure_carried fs (Set to a) = refl
+measure_carried fs (Operate to op a b) = refl
+measure_carried fs (Load to op a) = refl
+measure_carried fs (Store size a b) = refl
+measure_carried fs (Alloc to size) = refl
+measure_carried fs (Blit a b count) = refl
+measure_carried fs (Call to callee args) =
+    ap (λ k. record { weight = 0; turns = 0; bytes = 0; few = nat_le k 64; makes = false }) (args_count (propagate fs) args)
 
-line_paid : (fs : Facts) (l : Line ℕ) (credit more : ℕ) (j k : Jump ℕ) (lines lines2 : List (Line ℕ)) → credit ≤ more → ((c m : ℕ) → c ≤ m → affords c j lines ≡ true → affords m k lines2 ≡ true)
-    → affords credit j (l ∷ lines) ≡ true → affords more k (shortened (with_line fs l) ∷ lines2) ≡ true
-line_paid fs (Tick turn w) credit more j k lines lines2 le rest h = rest (credit + 32 * w) (more + 32 * w) (omega arith) h
-line_paid fs (Set to a) credit more j k lines lines2 le rest h =
-    pays (line_cost (Set to a)) (line_cost (with_line fs (Set to a))) credit more j k lines lines2 (line_costs fs (Set to a)) le rest h
-line_paid fs (Operate to op a b) credit more j k lines lines2 le rest h =
-    any_cheaper (λ m. affords more k (m ∷ lines2) ≡ true) to op (operands_of fs op a b).0 (operands_of fs op a b).1
-    (λ new c cheap. let old = line_costs fs (Operate to op a b) in
-    pays (line_cost (Operate to op a b)) (line_cost (Operate to new (operands_of fs op a b).0 c)) credit more j k lines lines2 (omega (arith, cheap, old)) le rest h)
-    (λ n cheap. let old = line_costs fs (Operate to op a b) in
-    pays (line_cost (Operate to op a b)) (line_cost (let m : Line ℕ = Set to (Number n) in m)) credit more j k lines lines2 (omega (arith, cheap, old)) le rest h)
-line_paid fs (Load to op a) credit more j k lines lines2 le rest h =
-    pays (line_cost (Load to op a)) (line_cost (with_line fs (Load to op a))) credit more j k lines lines2 (line_costs fs (Load to op a)) le rest h
-line_paid fs (Store size a b) credit more j k lines lines2 le rest h =
-    pays (line_cost (Store size a b)) (line_cost (with_line fs (Store size a b))) credit more j k lines lines2 (line_costs fs (Store size a b)) le rest h
-line_paid fs (Alloc to size) credit more j k lines lines2 le rest h =
-    let l : Line ℕ = Alloc to size in pays (line_cost l) (line_cost l) credit more j k lines lines2 (omega arith) le rest h
-line_paid fs (Blit a b count) credit more j k lines lines2 le rest h =
-    pays (line_cost (Blit a b count)) (line_cost (with_line fs (Blit a b count))) credit more j k lines lines2 (line_costs fs (Blit a b count)) le rest h
-line_paid fs (Call to callee args) credit more j k lines lines2 le rest h =
-    pays (line_cost (Call to callee args)) (line_cost (with_line fs (Call to callee args))) credit more j k lines lines2 (line_costs fs (Call to callee args)) le rest h
+short_costs : (l : Line ℕ) → line_cost (shortened l) ≤ line_cost l
+short_costs (Tick turn w) = omega arith
+short_costs (Set to a) = omega arith
+short_costs (Operate to op a b) = any_cheaper (λ m. line_cost m ≤ line_cost (Operate to op a b)) to op a b (λ new c cheap. cheap) (λ n cheap. cheap)
+short_costs (Load to op a) = omega arith
+short_costs (Store size a b) = omega arith
+short_costs (Alloc to size) = omega arith
+short_costs (Blit a b count) = omega arith
+short_costs (Call to callee args) = omega arith
 
--- the new lines pay for any jump that costs no more than the old one
-lines_paid : (n : ℕ) (whole : List (Line ℕ)) (fs : Facts) (lines new : List (Line ℕ)) (j k next : Jump ℕ) → AreForwarded n whole fs lines new j k → jump_cost next ≤ jump_cost j → (credit more : ℕ) → credit ≤ more
-    → affords credit j lines ≡ true → affords more next new ≡ true
-lines_paid n whole fs [] [] j k next f low credit more le h = grind (arith, nat_tests)
-lines_paid n whole fs [] (m ∷ new) j k next f low credit more le h = absurd f
-lines_paid n whole fs (l ∷ lines) [] j k next f low credit more le h = absurd f
-lines_paid n whole fs (l ∷ lines) (m ∷ new) j k next f low credit more le h =
-    ap (λ (x : Line ℕ). affords more next (x ∷ new)) f.0 ∙ line_paid fs l credit more j next lines new le (lines_paid n whole (after n m fs) lines new j k next f.1 low) h
+put_costs : (fs : Facts) (l m : Line ℕ) → m ≡ shortened (with_line fs l) → line_cost m ≤ line_cost l
+put_costs fs l m is = let same = ap line_cost is in let short = short_costs (with_line fs l) in let put = line_costs fs l in omega (arith, same, short, put)
+
+lines_measured : (n : ℕ) (whole : List (Line ℕ)) (fs : Facts) (lines new : List (Line ℕ)) (j k : Jump ℕ) → AreForwarded n whole fs lines new j k → Measured false lines new
+lines_measured n whole fs [] [] j k f = Empty
+lines_measured n whole fs [] (m ∷ new) j k f = absurd f
+lines_measured n whole fs (l ∷ lines) [] j k f = absurd f
+lines_measured n whole fs (l ∷ lines) (m ∷ new) j k f =
+    Put (ap measure f.0 ∙ unchanged measure (λ to op other a p q. refl, λ to op a b p. refl) (with_line fs l) ∙ measure_carried fs l) (λ e. put_costs fs l m f.0)
+    (lines_measured n whole (after n m fs) lines new j k f.1)
 
 -- lines that pay for every jump that costs no more pay for the one that is made of it
 jump_paid : (lines : List (Line ℕ)) (fs : Facts) (j : Jump ℕ) → ((k : Jump ℕ) → jump_cost k ≤ jump_cost j → affords 0 k lines ≡ true) → affords 0 (with_jump lines fs j) lines ≡ true
@@ -370,145 +360,6 @@ jump_made n whole fs [] [] j k f = (fs, f)
 jump_made n whole fs [] (m ∷ new) j k f = absurd f
 jump_made n whole fs (l ∷ lines) [] j k f = absurd f
 jump_made n whole fs (l ∷ lines) (m ∷ new) j k f = jump_made n whole (after n m fs) lines new j k f.1
-
-block_paid : (n : ℕ) (b c : Block ℕ) → IsForwarded n b c → is_paid b ≡ true → is_paid c ≡ true
-block_paid n b c f paid =
-    let made = jump_made n c.lines (λ r. None) b.lines c.lines b.jump c.jump f in
-    ap (λ (k : Jump ℕ). affords 0 k c.lines) made.1
-    ∙ jump_paid c.lines made.0 b.jump (λ k low. lines_paid n c.lines (λ r. None) b.lines c.lines b.jump c.jump k f low 0 0 (omega arith) paid)
-
--- ---- measures of lines that stay
-
-abbrev Stays : {X : Type 0} → (Line ℕ → X) → Type 0
-Stays {X} g = (fs : Facts) (l : Line ℕ) → g (shortened (with_line fs l)) ≡ g l
-
-abbrev Carried : {X : Type 0} → (Line ℕ → X) → Type 0
-Carried {X} g = (fs : Facts) (l : Line ℕ) → g (with_line fs l) ≡ g l
-
-stays : {X : Type 0} (g : Line ℕ → X) → Unshortened g → Carried g → Stays g
-stays g un same fs l = unchanged g un (with_line fs l) ∙ same fs l
-
-weight_carried : Carried weight_of
-weight_carried fs (Tick turn w) = refl
-weight_carried fs (Set to a) = refl
-weight_carried fs (Operate to op a b) = refl
-weight_carried fs (Load to op a) = refl
-weight_carried fs (Store size a b) = refl
-weight_carried fs (Alloc to size) = refl
-weight_carried fs (Blit a b count) = refl
-weight_carried fs (Call to callee args) = refl
-
-weight_stays : Stays weight_of
-weight_stays = stays weight_of (λ to op other a n m. refl, λ to op a b n. refl) weight_carried
-
-bytes_carried : Carried alloc_bytes
-bytes_carried fs (Tick turn w) = refl
-bytes_carried fs (Set to a) = refl
-bytes_carried fs (Operate to op a b) = refl
-bytes_carried fs (Load to op a) = refl
-bytes_carried fs (Store size a b) = refl
-bytes_carried fs (Alloc to size) = refl
-bytes_carried fs (Blit a b count) = refl
-bytes_carried fs (Call to callee args) = refl
-
-bytes_stay : Stays alloc_bytes
-bytes_stay = stays alloc_bytes (λ to op other a n m. refl, λ to op a b n. refl) bytes_carried
-
-turns_carried : Carried turns_of
-turns_carried fs (Tick true w) = refl
-turns_carried fs (Tick false w) = refl
-turns_carried fs (Set to a) = refl
-turns_carried fs (Operate to op a b) = refl
-turns_carried fs (Load to op a) = refl
-turns_carried fs (Store size a b) = refl
-turns_carried fs (Alloc to size) = refl
-turns_carried fs (Blit a b count) = refl
-turns_carried fs (Call to callee args) = refl
-
-turns_stay : Stays turns_of
-turns_stay = stays turns_of (λ to op other a n m. refl, λ to op a b n. refl) turns_carried
-
-alloc_carried : Carried is_alloc
-alloc_carried fs (Tick turn w) = refl
-alloc_carried fs (Set to a) = refl
-alloc_carried fs (Operate to op a b) = refl
-alloc_carried fs (Load to op a) = refl
-alloc_carried fs (Store size a b) = refl
-alloc_carried fs (Alloc to size) = refl
-alloc_carried fs (Blit a b count) = refl
-alloc_carried fs (Call to callee args) = refl
-
-alloc_stays : Stays is_alloc
-alloc_stays = stays is_alloc (λ to op other a n m. refl, λ to op a b n. refl) alloc_carried
-
-few_carried : Carried passes_few
-few_carried fs (Tick turn w) = refl
-few_carried fs (Set to a) = refl
-few_carried fs (Operate to op a b) = refl
-few_carried fs (Load to op a) = refl
-few_carried fs (Store size a b) = refl
-few_carried fs (Alloc to size) = refl
-few_carried fs (Blit a b count) = refl
-few_carried fs (Call to callee args) = ap (λ n. nat_le n 64) (args_count (propagate fs) args)
-
-few_stays : Stays passes_few
-few_stays = stays passes_few (λ to op other a n m. refl, λ to op a b n. refl) few_carried
-
-passed_carried : Carried args_on_stack
-passed_carried fs (Tick turn w) = refl
-passed_carried fs (Set to a) = refl
-passed_carried fs (Operate to op a b) = refl
-passed_carried fs (Load to op a) = refl
-passed_carried fs (Store size a b) = refl
-passed_carried fs (Alloc to size) = refl
-passed_carried fs (Blit a b count) = refl
-passed_carried fs (Call to callee args) = ap (λ n. n - 8) (args_count (propagate fs) args)
-
-passed_stays : Stays args_on_stack
-passed_stays = stays args_on_stack (λ to op other a n m. refl, λ to op a b n. refl) passed_carried
-
--- ---- lines side by side
-
--- lines of the second that are those of the first with other operands, in their short form
-abbrev Alike : (lines new : List (Line ℕ)) → Type 0
-Alike [] [] = Unit {0}
-Alike [] (m ∷ new) = ⊥
-Alike (l ∷ lines) [] = ⊥
-Alike (l ∷ lines) (m ∷ new) = ((fs : Facts) × (m ≡ shortened (with_line fs l))) × Alike lines new
-
-alike : (n : ℕ) (whole : List (Line ℕ)) (fs : Facts) (lines new : List (Line ℕ)) (j k : Jump ℕ) → AreForwarded n whole fs lines new j k → Alike lines new
-alike n whole fs [] [] j k f = tt
-alike n whole fs [] (m ∷ new) j k f = absurd f
-alike n whole fs (l ∷ lines) [] j k f = absurd f
-alike n whole fs (l ∷ lines) (m ∷ new) j k f = ((fs, f.0), alike n whole (after n m fs) lines new j k f.1)
-
-sum_from : (g : Line ℕ → ℕ) → Stays g → (lines new : List (Line ℕ)) → Alike lines new → (a : ℕ) → fold (λ n l. n + g l) a new ≡ fold (λ n l. n + g l) a lines
-sum_from g same [] [] h a = refl
-sum_from g same [] (m ∷ new) h a = absurd h
-sum_from g same (l ∷ lines) [] h a = absurd h
-sum_from g same (l ∷ lines) (m ∷ new) h a =
-    ap (λ k. fold (λ n x. n + g x) (a + k) new) (ap g h.0.1 ∙ same h.0.0 l) ∙ sum_from g same lines new h.1 (a + g l)
-
-lines_sum : (g : Line ℕ → ℕ) → Stays g → (lines new : List (Line ℕ)) → Alike lines new → sum_by g new ≡ sum_by g lines
-lines_sum g same lines new h = sum_from g same lines new h 0
-
-lines_all : (test : Line ℕ → Bool) → Stays test → (lines new : List (Line ℕ)) → Alike lines new → list_all test new ≡ list_all test lines
-lines_all test same [] [] h = refl
-lines_all test same [] (m ∷ new) h = absurd h
-lines_all test same (l ∷ lines) [] h = absurd h
-lines_all test same (l ∷ lines) (m ∷ new) h = ap (λ b. b && list_all test new) (ap test h.0.1 ∙ same h.0.0 l) ∙ ap (λ b. test l && b) (lines_all test same lines new h.1)
-
-lines_any : (test : Line ℕ → Bool) → Stays test → (lines new : List (Line ℕ)) → Alike lines new → list_any test new ≡ list_any test lines
-lines_any test same [] [] h = refl
-lines_any test same [] (m ∷ new) h = absurd h
-lines_any test same (l ∷ lines) [] h = absurd h
-lines_any test same (l ∷ lines) (m ∷ new) h = ap (λ b. b || list_any test new) (ap test h.0.1 ∙ same h.0.0 l) ∙ ap (λ b. test l || b) (lines_any test same lines new h.1)
-
-most_same : (lines new : List (Line ℕ)) → Alike lines new → most_in_lines new ≡ most_in_lines lines
-most_same [] [] h = refl
-most_same [] (m ∷ new) h = absurd h
-most_same (l ∷ lines) [] h = absurd h
-most_same (l ∷ lines) (m ∷ new) h = ap (λ n. max n (most_in_lines new)) (ap args_on_stack h.0.1 ∙ passed_stays h.0.0 l) ∙ ap (λ n. max (args_on_stack l) n) (most_same lines new h.1)
 
 kept_below : (n : ℕ) (b : Bool) (test : Fact → Bool) (o : Option Fact) (f : Fact) → kept_if (λ g. b && (fact_below n g && test g)) o ≡ Some f → fact_below n f ≡ true
 kept_below n b test None f h = absurd (let no : ⊥ = cc in no)
@@ -537,96 +388,25 @@ lines_low n whole fs (l ∷ lines) (m ∷ new) j k f below h =
     and_from (line_keeps (is_below n) m && list_all (line_keeps (is_below n)) new) (jump_keeps (is_below n) k)
     (and_from (line_keeps (is_below n) m) (list_all (line_keeps (is_below n)) new) (ap (line_keeps (is_below n)) f.0 ∙ (unchanged (line_keeps (is_below n)) (λ to op new a p q. refl, λ to op a b p. refl) (with_line fs l) ∙ line_low n fs below l t.0)) u.0) u.1
 
-inside_from : (n size : ℕ) (whole : List (Line ℕ)) (fs : Facts) (lines new : List (Line ℕ)) (j k : Jump ℕ) → AreForwarded n whole fs lines new j k → leads_inside size j ≡ true → leads_inside size k ≡ true
-inside_from n size whole fs [] [] j k f h = ap (leads_inside size) f ∙ jump_inside whole n size fs j h
-inside_from n size whole fs [] (m ∷ new) j k f h = absurd f
-inside_from n size whole fs (l ∷ lines) [] j k f h = absurd f
-inside_from n size whole fs (l ∷ lines) (m ∷ new) j k f h = inside_from n size whole (after n m fs) lines new j k f.1 h
-
--- ---- blocks side by side
-
-block_alike : (n : ℕ) (b c : Block ℕ) → IsForwarded n b c → Alike b.lines c.lines
-block_alike n b c f = alike n c.lines (λ r. None) b.lines c.lines b.jump c.jump f
-
-blocks_count : (n : ℕ) (blocks new : List (Block ℕ)) → AllForwarded n blocks new → length new ≡ length blocks
-blocks_count n [] [] h = refl
-blocks_count n [] (c ∷ new) h = absurd h
-blocks_count n (b ∷ blocks) [] h = absurd h
-blocks_count n (b ∷ blocks) (c ∷ new) h = ap suc (blocks_count n blocks new h.1)
-
-blocks_from : (g : Line ℕ → ℕ) → Stays g → (n : ℕ) (blocks new : List (Block ℕ)) → AllForwarded n blocks new → (a : ℕ)
-    → fold (λ m (b : Block ℕ). m + sum_by g b.lines) a new ≡ fold (λ m (b : Block ℕ). m + sum_by g b.lines) a blocks
-blocks_from g same n [] [] h a = refl
-blocks_from g same n [] (c ∷ new) h a = absurd h
-blocks_from g same n (b ∷ blocks) [] h a = absurd h
-blocks_from g same n (b ∷ blocks) (c ∷ new) h a =
-    ap (λ k. fold (λ m (d : Block ℕ). m + sum_by g d.lines) (a + k) new) (lines_sum g same b.lines c.lines (block_alike n b c h.0)) ∙ blocks_from g same n blocks new h.1 (a + sum_by g b.lines)
-
-blocks_all : (test : Block ℕ → Bool) (n : ℕ) → ((b c : Block ℕ) → IsForwarded n b c → test b ≡ true → test c ≡ true) → (blocks new : List (Block ℕ)) → AllForwarded n blocks new
-    → list_all test blocks ≡ true → list_all test new ≡ true
-blocks_all test n keep [] [] h all = refl
-blocks_all test n keep [] (c ∷ new) h all = absurd h
-blocks_all test n keep (b ∷ blocks) [] h all = absurd h
-blocks_all test n keep (b ∷ blocks) (c ∷ new) h all =
-    let s = and_parts (test b) (list_all test blocks) all in and_from (test c) (list_all test new) (keep b c h.0 s.0) (blocks_all test n keep blocks new h.1 s.1)
-
-first_kept : (n : ℕ) (blocks new : List (Block ℕ)) → AllForwarded n blocks new → allocs_first blocks ≡ true → allocs_first new ≡ true
-first_kept n [] [] h all = refl
-first_kept n [] (c ∷ new) h all = absurd h
-first_kept n (b ∷ blocks) [] h all = absurd h
-first_kept n (b ∷ blocks) (c ∷ new) h all =
-    blocks_all (λ (d : Block ℕ). not (list_any is_alloc d.lines)) n (λ x y f e. ap not (lines_any is_alloc alloc_stays x.lines y.lines (block_alike n x y f)) ∙ e) blocks new h.1 all
-
-most_in_new : (n : ℕ) (blocks new : List (Block ℕ)) → AllForwarded n blocks new → most_in_blocks new ≡ most_in_blocks blocks
-most_in_new n [] [] h = refl
-most_in_new n [] (c ∷ new) h = absurd h
-most_in_new n (b ∷ blocks) [] h = absurd h
-most_in_new n (b ∷ blocks) (c ∷ new) h =
-    ap (λ m. max m (most_in_blocks new)) (most_same b.lines c.lines (block_alike n b c h.0)) ∙ ap (λ m. max (most_in_lines b.lines) m) (most_in_new n blocks new h.1)
-
 -- ---- the whole
 
-pub weight_same : (n : ℕ) (v w : Code ℕ) → AllForwarded n v.blocks w.blocks → code_weight w ≡ code_weight v
-weight_same n v w all = blocks_from weight_of weight_stays n v.blocks w.blocks all 0
-
-area_same : (n : ℕ) (v w : Code ℕ) → AllForwarded n v.blocks w.blocks → area w ≡ area v
-area_same n v w all = blocks_from alloc_bytes bytes_stay n v.blocks w.blocks all 0
-
-pub places_kept : (n : ℕ) (v w : Code ℕ) → AllForwarded n v.blocks w.blocks → w.params ≡ v.params → keeps_places (is_below n) v ≡ true → keeps_places (is_below n) w ≡ true
-places_kept n v w all same h =
-    let s = and_parts (list_all (λ (d : Destination ℕ). is_below n d.place) v.params) (list_all (block_keeps (is_below n)) v.blocks) h in
-    and_from (list_all (λ (d : Destination ℕ). is_below n d.place) w.params) (list_all (block_keeps (is_below n)) w.blocks)
-    (ap (list_all (λ (d : Destination ℕ). is_below n d.place)) same ∙ s.0)
-    (blocks_all (block_keeps (is_below n)) n (λ b c f e. lines_low n c.lines (λ r. None) b.lines c.lines b.jump c.jump f (λ r g h. absurd (let no : ⊥ = cc in no)) e) v.blocks w.blocks all s.1)
-
-pub regular : (n : ℕ) (v w : Code ℕ) → AllForwarded n v.blocks w.blocks → w.params ≡ v.params → IsRegular v → IsRegular w
-regular n v w all same is =
+block_serves : (n : ℕ) (b c : Block ℕ) → IsForwarded n b c → Serves n b c
+block_serves n b c f =
+    let made = jump_made n c.lines (λ r. None) b.lines c.lines b.jump c.jump f in
+    let measured = lines_measured n c.lines (λ r. None) b.lines c.lines b.jump c.jump f in
     record {
-      few_params = ap (λ (ps : List (Destination ℕ)). nat_le (length ps) 64) same ∙ is.few_params;
-      inside =
-          ap (λ m. list_all (λ (b : Block ℕ). leads_inside m b.jump) w.blocks) (blocks_count n v.blocks w.blocks all)
-          ∙ blocks_all (λ (b : Block ℕ). leads_inside (length v.blocks) b.jump) n (λ b c f e. inside_from n (length v.blocks) c.lines (λ r. None) b.lines c.lines b.jump c.jump f e) v.blocks w.blocks all is.inside;
-      first = first_kept n v.blocks w.blocks all is.first;
-      small = ap (λ m. nat_le m 1048576) (area_same n v w all) ∙ is.small;
-      paid = blocks_all is_paid n (block_paid n) v.blocks w.blocks all is.paid;
-      paced =
-          blocks_all (λ (b : Block ℕ). nat_le (sum_by turns_of b.lines) 40000) n
-          (λ b c f e. ap (λ m. nat_le m 40000) (lines_sum turns_of turns_stay b.lines c.lines (block_alike n b c f)) ∙ e) v.blocks w.blocks all is.paced;
-      few_args =
-          blocks_all (λ (b : Block ℕ). list_all passes_few b.lines) n (λ b c f e. lines_all passes_few few_stays b.lines c.lines (block_alike n b c f) ∙ e) v.blocks w.blocks all is.few_args;
+      within = within_tested b c measured
+          (λ paid. ap (λ (k : Jump ℕ). affords 0 k c.lines) made.1
+          ∙ jump_paid c.lines made.0 b.jump (λ k low. still_affords measured b.jump k low 0 0 (omega arith) paid));
+      inside = λ m h. ap (leads_inside m) made.1 ∙ jump_inside c.lines n m made.0 b.jump h;
+      names = lines_low n c.lines (λ r. None) b.lines c.lines b.jump c.jump f (λ r g h. absurd (let no : ⊥ = cc in no));
     }
 
-pub keeps : (n places : ℕ) (v w : Code ℕ) → AllForwarded n v.blocks w.blocks → w.result ≡ v.result → w.params ≡ v.params → Keeps (coded virtual v places) (coded virtual w places)
-keeps n places v w all result params =
-    let weight = weight_same n v w all in
-    let bytes = area_same n v w all in
-    let passed = most_in_new n v.blocks w.blocks all in
-    record {
-      params = ap classes_in params;
-      result = result;
-      weight = omega (arith, weight);
-      area = omega (arith, bytes);
-      outgoing = omega (arith, passed);
-      places = omega arith;
-      runs = runs n v w all result params;
-    }
+blocks_serve : (n : ℕ) (blocks new : List (Block ℕ)) → AllForwarded n blocks new → Each (Serves n) blocks new
+blocks_serve n [] [] h = NoBlocks
+blocks_serve n [] (c ∷ new) h = absurd h
+blocks_serve n (b ∷ blocks) [] h = absurd h
+blocks_serve n (b ∷ blocks) (c ∷ new) h = OneMore (block_serves n b c h.0) (blocks_serve n blocks new h.1)
+
+pub owed : (v : VFunc) (new : List (Block ℕ)) → AllForwarded v.registers v.code.blocks new → Owed v new
+owed v new all = owed_each v new (blocks_serve v.registers v.code.blocks new all) (runs v.registers v.code (with_these v.code new) all refl refl)

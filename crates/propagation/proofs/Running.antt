@@ -1,5 +1,5 @@
--- Code that is put by what is known runs as the code does, step by step in the same states, in which all that is known is true.
-use Rattle.std.proofs.Common.{◌≡◌, ℕ, zero, suc, ◌+◌, ◌%◌, ◌^◌, ◌<◌, Bool, true, false, not, ◌&&◌, ◌||◌, nat_eq, nat_lt, if◌then◌else◌, List, [], ◌∷◌, map, drop, length, Option, Some, None, slice_get, refl, sym, ◌∙◌, ap, subst, arith}
+-- Code that is put by what is known follows the code, in the same states, in which all that is known is true.
+use Rattle.std.proofs.Common.{◌≡◌, ℕ, zero, suc, ◌+◌, ◌%◌, ◌^◌, ◌<◌, Bool, true, false, not, ◌&&◌, ◌||◌, nat_eq, nat_lt, if◌then◌else◌, List, [], ◌∷◌, Option, Some, None, slice_get, refl, sym, ◌∙◌, ap, subst, arith}
 use Rattle.std.specs.Option.{option_map, option_and_then, option_map_or}
 use Rattle.std.proofs.lemmas.Bool.{and_parts}
 use Rattle.std.proofs.lemmas.Bool.Decides.{nat_tests}
@@ -11,24 +11,18 @@ use Rattle.il_ast.specs.declared.operation.Condition.TheVariants.{Equal, NotEqua
 use Rattle.il_ast.specs.declared.operation.BinaryOp.TheVariants.{Compare as CompareTwo}
 use Rattle.il_ast.specs.declared.value.Value.{Value}
 use Rattle.il_ast.specs.declared.value.Value.TheVariants.{Integer, Pointer, Function}
-use Rattle.il_ast.specs.declared.value.End.TheVariants.{Turns}
 use Rattle.il_ast.specs.Values.{byte_count, in_place}
-use Rattle.il_ast.specs.Memory.{Memory, store, copy}
+use Rattle.il_ast.specs.Memory.{Memory, store}
 use Rattle.il_ast.specs.Operations.{holds, truth, compare_places, operate_two}
 use Rattle.il_ast.specs.Effect.{stored_class}
-use Rattle.il_ast.specs.Run.{one_turn, both, Outcome, Returned, Ended}
-use Rattle.il_ast.specs.Logged.{Over, Event, Does}
-use Rattle.il_ast.specs.Keeps.{Asked, Given, Fine, KeepsCode}
-use Rattle.il_ast.specs.Simulation.{Together, Lockstep}
-use Rattle.il_ast.proofs.Simulated.{lockstep_keeps}
+use Rattle.il_ast.specs.Run.{nothing}
+use Rattle.il_ast.specs.Keeps.{KeepsCode}
 use Rattle.vcode.specs.declared.place.Operand.{Operand}
 use Rattle.vcode.specs.declared.place.Address.{Address}
 use Rattle.rv_isa.specs.Arithmetic.{widened}
 use Rattle.rv_isa.specs.declared.instruction.RegOp.TheVariants.{Add, Sub, Sll, Slt, Sltu, Xor, Srl, Sra, Or, And, Mul, Mulh, Mulhsu, Mulhu, Div, Divu, Rem, Remu}
 use Rattle.vcode.specs.declared.line.Operation.{Operation}
 use Rattle.vcode.specs.declared.place.Operand.TheVariants.{At, Number, Name}
-use Rattle.vcode.specs.declared.place.Destination.{Destination}
-use Rattle.vcode.specs.declared.place.Argument.{Argument}
 use Rattle.vcode.specs.declared.line.Line.{Line}
 use Rattle.vcode.specs.declared.line.Line.TheVariants.{Tick, Set, Operate, Load, Store, Alloc, Blit, Call}
 use Rattle.vcode.specs.declared.line.Comparison.{Comparison}
@@ -39,22 +33,31 @@ use Rattle.vcode.specs.declared.code.Block.{Block}
 use Rattle.vcode.specs.declared.code.Code.{Code}
 use Rattle.vcode.specs.Cost.{is_immediate, affords}
 use Rattle.vcode.specs.Addresses.{low, distance, beyond}
-use Rattle.vcode.specs.Operations.{held, operate, loaded, passed as passed_value}
-use Rattle.vcode.specs.Places.{Values, put, assign, kept, virtual}
+use Rattle.vcode.specs.Operations.{operate, loaded, passed as passed_value}
+use Rattle.vcode.specs.Places.{Values, assign, virtual}
 use Rattle.vcode.specs.Coded.{classes_in}
-use Rattle.vcode.specs.Step.{State, begin, value_of, read, read_result, read_all, operated, address_of, goes_on, sets, changes, weighs, ticks, receives, resumes, calls, line_step, compared, branches, returns, jump_step, step}
-use Rattle.vcode.specs.Replaced.{Replacing, with_base, with_argument, with_comparison}
-use Rattle.vcode.proofs.Going.{OnNext, OnEvent, Relation, StartsWith, event_more, one_event, jump_starts}
-use Rattle.vcode.proofs.SameReads.{SameValue, SameArguments, two_same, args_same, calls_same}
-use Rattle.vcode.proofs.Lists.{head_at, tail_at, nothing_at, same_some}
-use Rattle.vcode.proofs.Stepping.{step_line, step_jump, step_nowhere}
-use Rattle.cfg_live.specs.Registers.{line_writes}
+use Rattle.vcode.specs.Step.{State, begin, value_of, read, operated, address_of, compared, step}
+use Rattle.vcode.specs.Replaced.{Replacing, with_base, with_comparison}
+use Rattle.vcode.specs.Writes.{line_writes}
+use Rattle.vcode.specs.Acts.{Act, Gives, given, left, act, written, Way, Lost, Enters, Answers, Halts, entering, answering, way}
+use Rattle.vcode.specs.Follows.{Alike, Follows, Jumps, Both}
+use Rattle.vcode.specs.Facts.{Facts as About, claimed}
+use Rattle.vcode.proofs.SameReads.{SameValue, two_same}
+use Rattle.vcode.proofs.SameActs.{reads_every, act_same}
+use Rattle.vcode.proofs.Alike.{MayLeave}
+use Rattle.vcode.proofs.Writing.{unwritten}
+use Rattle.vcode.proofs.Factual.{fact_line, Claimed, fact_jump, facts_rewrite}
+use Rattle.vcode.proofs.Rewriting.{rewrites_keep}
 use Rattle.propagation.specs.declared.fact.Fact.{Fact}
 use Rattle.propagation.specs.declared.fact.Fact.TheVariants.{Same, Sum, Test}
 use Rattle.propagation.specs.Facts.{Facts, names_it, fact_names, asks_memory, kept_if, fact_below, summed, Truth, AreTrue}
 use Rattle.propagation.specs.Shortened.{shortened}
-use Rattle.propagation.proofs.Computing.{numbers_compared, shortened_step}
-use Rattle.propagation.specs.Forwarded.{is_short, copied, propagate, regrouped, grouped, is_add, folded, further, from_base, with_address, sum_of, with_line, test_of, tested_by, with_test, with_branch, numbers_hold, decided, with_jump, changes_memory, writes_it, fact_of, leaves, after, AreForwarded, IsForwarded, AllForwarded}
+use Rattle.propagation.proofs.Computing.{numbers_compared, unchanged, shortened_act}
+use Rattle.propagation.specs.Forwarded.{is_short, copied, propagate, regrouped, grouped, is_add, folded, further, from_base, with_address, sum_of, with_line, test_of, tested_by, with_test, with_branch, numbers_hold, decided, with_jump, changes_memory, writes_it, fact_of, leaves, after, AreForwarded, AllForwarded}
+
+-- a state with these registers and this memory
+abbrev in_state : Memory → Values ℕ → State ℕ
+in_state memory values = record { block = 0; next = 0; values = values; memory = memory; owned = []; spent = nothing }
 
 -- ---- operands
 
@@ -72,17 +75,6 @@ operand_same : (globals : List Value) (s : State ℕ) (fs : Facts) → AreTrue g
 operand_same globals s fs all (At r) = fact_same globals s r (fs r) (all r)
 operand_same globals s fs all (Number n) = refl
 operand_same globals s fs all (Name g) = refl
-
--- ---- lines
-
--- operands that have the same values
-abbrev SameValues : List Value → State ℕ → Replacing → Type 0
-SameValues globals s f = (a : Operand ℕ) → SameValue globals s.values s.values f a
-
-arguments_same : (globals : List Value) (s : State ℕ) (f : Replacing) → SameValues globals s f → (args : List (Argument ℕ))
-    → SameArguments globals s.values s.values f args
-arguments_same globals s f same [] = tt
-arguments_same globals s f same (a ∷ args) = (same a.value, arguments_same globals s f same args)
 
 -- ---- sums
 
@@ -168,7 +160,7 @@ folded_same globals s fs all op a b = by (is_add op) refl
 
 -- ---- addresses
 
-base_same : (globals : List Value) (s : State ℕ) (f : Replacing) → SameValues globals s f → (at : Address ℕ)
+base_same : (globals : List Value) (s : State ℕ) (f : Replacing) → ((a : Operand ℕ) → SameValue globals s.values s.values f a) → (at : Address ℕ)
     → address_of globals s.memory s.values (with_base f at) ≡ address_of globals s.memory s.values at
 base_same globals s f same at =
     ap (λ (x : Option Value). if nat_eq (distance at) 0 then x else operated s.memory (Reg Add) x (value_of globals s.values (Number (distance at)))) (same at.base)
@@ -236,27 +228,34 @@ address_same globals s fs all at =
 
 -- ---- each line
 
-line_same : (globals : List Value) (i : Given) (s : State ℕ) (fs : Facts) → AreTrue globals s fs → (l : Line ℕ) → line_step virtual globals i s (with_line fs l) ≡ line_step virtual globals i s l
-unfolding line_step
-line_same globals i s fs all (Tick turn w) = refl
-line_same globals i s fs all (Set to a) = ap (takes_to s to) (operand_same globals s fs all a)
-  where
-    takes_to : State ℕ → ℕ → Option Value → Event (State ℕ) Asked Outcome
-    takes_to s to o = goes_on (record s { values = assign virtual to o s.values })
-line_same globals i s fs all (Operate to op a b) =
-    ap (sets virtual s to)
+line_same : (globals : List Value) (s : State ℕ) (fs : Facts) → AreTrue globals s fs → (l : Line ℕ) → act globals s.memory s.values (with_line fs l) ≡ act globals s.memory s.values l
+line_same globals s fs all (Tick turn w) = refl
+line_same globals s fs all (Set to a) = ap Gives (operand_same globals s fs all a)
+line_same globals s fs all (Operate to op a b) =
+    ap Gives
     (folded_same globals s fs all op (propagate fs a) (propagate fs b) ∙ two_same globals s.values s.values (propagate fs) a b (operate s.memory op) (operand_same globals s fs all a) (operand_same globals s fs all b))
-line_same globals i s fs all (Load to op at) = ap (λ (o : Option Value). sets virtual s to (option_and_then (loaded s.memory op) o)) (address_same globals s fs all at)
-line_same globals i s fs all (Store size a at) =
-    ap (changes s)
+line_same globals s fs all (Load to op at) = ap (λ (o : Option Value). given (option_and_then (loaded s.memory op) o)) (address_same globals s fs all at)
+line_same globals s fs all (Store size a at) =
+    ap left
     (ap (λ (x : Option Value). option_and_then (λ v. option_and_then (λ p. store s.memory (byte_count size) p v) x) (read globals s.values (stored_class size) (propagate fs a))) (address_same globals s fs all at)
     ∙ ap (λ (x : Option Value). option_and_then (λ v. option_and_then (λ p. store s.memory (byte_count size) p v) (address_of globals s.memory s.values at)) (option_and_then (in_place (stored_class size)) x)) (operand_same globals s fs all a))
-line_same globals i s fs all (Alloc to size) = refl
-line_same globals i s fs all (Blit from to count) = ap (changes s) (two_same globals s.values s.values (propagate fs) from to (λ p q. copy s.memory count p q) (operand_same globals s fs all from) (operand_same globals s fs all to))
-line_same globals i s fs all (Call to callee args) =
-    ap (λ (x : Option Value). calls virtual i s to (map (with_argument (propagate fs)) args) x (read_all globals s.values (map (with_argument (propagate fs)) args))) (operand_same globals s fs all callee)
-    ∙ ap (calls virtual i s to (map (with_argument (propagate fs)) args) (value_of globals s.values callee)) (args_same globals s.values s.values (propagate fs) args (arguments_same globals s (propagate fs) (operand_same globals s fs all) args))
-    ∙ calls_same i s to (propagate fs) args (value_of globals s.values callee) (read_all globals s.values args)
+line_same globals s fs all (Alloc to size) = refl
+line_same globals s fs all (Blit from to count) =
+    let l : Line ℕ = Blit from to count in
+    act_same globals s.memory s.values s.values (propagate fs) l (reads_every (SameValue globals s.values s.values (propagate fs)) (operand_same globals s fs all) l)
+line_same globals s fs all (Call to callee args) =
+    let l : Line ℕ = Call to callee args in
+    act_same globals s.memory s.values s.values (propagate fs) l (reads_every (SameValue globals s.values s.values (propagate fs)) (operand_same globals s fs all) l)
+
+put_writes : (fs : Facts) (l : Line ℕ) → line_writes (with_line fs l) ≡ line_writes l
+put_writes fs (Tick turn w) = refl
+put_writes fs (Set to a) = refl
+put_writes fs (Operate to op a b) = refl
+put_writes fs (Load to op at) = refl
+put_writes fs (Store size a at) = refl
+put_writes fs (Alloc to size) = refl
+put_writes fs (Blit from to count) = refl
+put_writes fs (Call to callee args) = refl
 
 -- ---- a test of a comparison's result
 
@@ -313,25 +312,25 @@ equal m W false = refl
 equal m L true = refl
 equal m L false = refl
 
-branch_unequal : (s : State ℕ) (k : Class) (met otherwise : ℕ) (o : Option Value) → ((v : Value) → o ≡ Some v → IsTruth v)
-    → branches s met otherwise o ≡ branches s met otherwise (option_and_then (λ u. operate s.memory (Compare NotEqual k) u (Integer 0)) o)
-branch_unequal s k met otherwise None h = refl
-branch_unequal s k met otherwise (Some v) h =
+branch_unequal : (m : Memory) (k : Class) (met otherwise : ℕ) (o : Option Value) → ((v : Value) → o ≡ Some v → IsTruth v)
+    → entering met otherwise o ≡ entering met otherwise (option_and_then (λ u. operate m (Compare NotEqual k) u (Integer 0)) o)
+branch_unequal m k met otherwise None h = refl
+branch_unequal m k met otherwise (Some v) h =
     let t = h v refl in
-    ap (λ (x : Value). branches s met otherwise (Some x)) t.is ∙ ap (branches s met otherwise) (sym (unequal s.memory k t.answer))
-    ∙ ap (λ (x : Value). branches s met otherwise (operate s.memory (Compare NotEqual k) x (Integer 0))) (sym t.is)
+    ap (λ (x : Value). entering met otherwise (Some x)) t.is ∙ ap (entering met otherwise) (sym (unequal m k t.answer))
+    ∙ ap (λ (x : Value). entering met otherwise (operate m (Compare NotEqual k) x (Integer 0))) (sym t.is)
 
-turned_round : (s : State ℕ) (met otherwise : ℕ) (t : Bool) → branches s otherwise met (Some (Integer (truth t))) ≡ branches s met otherwise (Some (Integer (truth (not t))))
-turned_round s met otherwise true = refl
-turned_round s met otherwise false = refl
+turned_round : (met otherwise : ℕ) (t : Bool) → entering otherwise met (Some (Integer (truth t))) ≡ entering met otherwise (Some (Integer (truth (not t))))
+turned_round met otherwise true = refl
+turned_round met otherwise false = refl
 
-branch_equal : (s : State ℕ) (k : Class) (met otherwise : ℕ) (o : Option Value) → ((v : Value) → o ≡ Some v → IsTruth v)
-    → branches s otherwise met o ≡ branches s met otherwise (option_and_then (λ u. operate s.memory (Compare Equal k) u (Integer 0)) o)
-branch_equal s k met otherwise None h = refl
-branch_equal s k met otherwise (Some v) h =
+branch_equal : (m : Memory) (k : Class) (met otherwise : ℕ) (o : Option Value) → ((v : Value) → o ≡ Some v → IsTruth v)
+    → entering otherwise met o ≡ entering met otherwise (option_and_then (λ u. operate m (Compare Equal k) u (Integer 0)) o)
+branch_equal m k met otherwise None h = refl
+branch_equal m k met otherwise (Some v) h =
     let t = h v refl in
-    ap (λ (x : Value). branches s otherwise met (Some x)) t.is ∙ turned_round s met otherwise t.answer ∙ ap (branches s met otherwise) (sym (equal s.memory k t.answer))
-    ∙ ap (λ (x : Value). branches s met otherwise (operate s.memory (Compare Equal k) x (Integer 0))) (sym t.is)
+    ap (λ (x : Value). entering otherwise met (Some x)) t.is ∙ turned_round met otherwise t.answer ∙ ap (entering met otherwise) (sym (equal m k t.answer))
+    ∙ ap (λ (x : Value). entering met otherwise (operate m (Compare Equal k) x (Integer 0))) (sym t.is)
 
 -- what a comparison tests, if it tests one
 record Tests (globals : List Value) (s : State ℕ) (on c : Comparison ℕ) : Type 0 where
@@ -367,7 +366,7 @@ tests globals s fs all (Name m) b c h = absurd (let no : ⊥ = cc in no)
 -- ---- jumps
 
 abbrev SameJump : List Value → Option Class → State ℕ → Jump ℕ → Jump ℕ → Type 0
-SameJump globals result s j k = jump_step globals result s k ≡ jump_step globals result s j
+SameJump globals result s j k = way globals result s.memory s.values k ≡ way globals result s.memory s.values j
 
 either_same : (globals : List Value) (result : Option Class) (s : State ℕ) (j k : Jump ℕ) (b : Bool) → SameJump globals result s j k → SameJump globals result s j (if b then k else j)
 either_same globals result s j k true h = h
@@ -375,17 +374,16 @@ either_same globals result s j k false h = refl
 
 test_same : (whole : List (Line ℕ)) (globals : List Value) (result : Option Class) (s : State ℕ) (on : Comparison ℕ) (k : Condition) (met otherwise : ℕ) (o : Option (Comparison ℕ)) → on.condition ≡ k
     → ((c : Comparison ℕ) → o ≡ Some c → Tests globals s on c) → SameJump globals result s (Branch on met otherwise) (with_test whole k on met otherwise o)
-unfolding jump_step
 test_same whole globals result s on NotEqual met otherwise (Some c) e t =
     either_same globals result s (Branch on met otherwise) (Branch c met otherwise) (affords 0 (Branch c met otherwise) whole)
-    (branch_unequal s on.class met otherwise (compared globals s c) (compared_truth globals s c)
-    ∙ ap (λ (k : Condition). branches s met otherwise (option_and_then (λ u. operate s.memory (Compare k on.class) u (Integer 0)) (compared globals s c))) (sym e)
-    ∙ ap (branches s met otherwise) (sym (compared_tests globals s on c (t c refl))))
+    (branch_unequal s.memory on.class met otherwise (compared globals s c) (compared_truth globals s c)
+    ∙ ap (λ (k : Condition). entering met otherwise (option_and_then (λ u. operate s.memory (Compare k on.class) u (Integer 0)) (compared globals s c))) (sym e)
+    ∙ ap (entering met otherwise) (sym (compared_tests globals s on c (t c refl))))
 test_same whole globals result s on Equal met otherwise (Some c) e t =
     either_same globals result s (Branch on met otherwise) (Branch c otherwise met) (affords 0 (Branch c otherwise met) whole)
-    (branch_equal s on.class met otherwise (compared globals s c) (compared_truth globals s c)
-    ∙ ap (λ (k : Condition). branches s met otherwise (option_and_then (λ u. operate s.memory (Compare k on.class) u (Integer 0)) (compared globals s c))) (sym e)
-    ∙ ap (branches s met otherwise) (sym (compared_tests globals s on c (t c refl))))
+    (branch_equal s.memory on.class met otherwise (compared globals s c) (compared_truth globals s c)
+    ∙ ap (λ (k : Condition). entering met otherwise (option_and_then (λ u. operate s.memory (Compare k on.class) u (Integer 0)) (compared globals s c))) (sym e)
+    ∙ ap (entering met otherwise) (sym (compared_tests globals s on c (t c refl))))
 test_same whole globals result s on NotEqual met otherwise None e t = refl
 test_same whole globals result s on Equal met otherwise None e t = refl
 test_same whole globals result s on SignedLessEqual met otherwise o e t = refl
@@ -408,38 +406,33 @@ known_outcome globals s on k (At r) b t h = absurd (let no : ⊥ = cc in no)
 known_outcome globals s on k (Name g) b t h = absurd (let no : ⊥ = cc in no)
 
 goes_by : (globals : List Value) (result : Option Class) (s : State ℕ) (met otherwise : ℕ) (t : Bool)
-    → jump_step globals result s (Goto (if t then met else otherwise)) ≡ branches s met otherwise (Some (Integer (truth t)))
-unfolding jump_step
+    → way globals result s.memory s.values (Goto (if t then met else otherwise)) ≡ entering met otherwise (Some (Integer (truth t)))
 goes_by globals result s met otherwise true = refl
 goes_by globals result s met otherwise false = refl
 
 outcome_same : (globals : List Value) (result : Option Class) (s : State ℕ) (on : Comparison ℕ) (met otherwise : ℕ) (j : Jump ℕ) (o : Option Bool) → numbers_hold on.condition on.class on.left on.right ≡ o
     → SameJump globals result s (Branch on met otherwise) j → SameJump globals result s (Branch on met otherwise) (decided o met otherwise j)
-unfolding jump_step
 outcome_same globals result s on met otherwise j None e h = h
 outcome_same globals result s on met otherwise j (Some t) e h =
-    goes_by globals result s met otherwise t ∙ ap (branches s met otherwise) (sym (known_outcome globals s on.condition on.class on.left on.right t e))
+    goes_by globals result s met otherwise t ∙ ap (entering met otherwise) (sym (known_outcome globals s on.condition on.class on.left on.right t e))
 
 jump_same : (whole : List (Line ℕ)) (globals : List Value) (result : Option Class) (s : State ℕ) (fs : Facts) → AreTrue globals s fs → (j : Jump ℕ) → SameJump globals result s j (with_jump whole fs j)
-unfolding jump_step
 jump_same whole globals result s fs all (Goto k) = refl
 jump_same whole globals result s fs all (Branch on met otherwise) =
     let new : Comparison ℕ = with_comparison (propagate fs) on in
     outcome_same globals result s new met otherwise (with_branch whole fs new met otherwise) (numbers_hold new.condition new.class new.left new.right) refl
     (test_same whole globals result s new new.condition met otherwise (tested_by fs new.left new.right) refl
     (λ c e. let t = tests globals s fs all new.left new.right c e in record { right = t.0; left = t.1 }))
-    ∙ ap (branches s met otherwise) (two_same globals s.values s.values (propagate fs) on.left on.right (operate s.memory (Compare on.condition on.class)) (operand_same globals s fs all on.left) (operand_same globals s fs all on.right))
+    ∙ ap (entering met otherwise) (two_same globals s.values s.values (propagate fs) on.left on.right (operate s.memory (Compare on.condition on.class)) (operand_same globals s fs all on.left) (operand_same globals s fs all on.right))
 jump_same whole globals result s fs all (Return None) = refl
 jump_same whole globals None s fs all (Return (Some a)) = refl
-jump_same whole globals (Some k) s fs all (Return (Some a)) = ap (λ (x : Option Value). returns s (option_and_then (passed_value a.extension k) x)) (operand_same globals s fs all a.value)
+jump_same whole globals (Some k) s fs all (Return (Some a)) = ap (λ (x : Option Value). answering (option_and_then (passed_value a.extension k) x)) (operand_same globals s fs all a.value)
 jump_same whole globals result s fs all Halt = refl
 
 -- ---- a line was done
 
 -- what it leaves as it was, and that what it makes known is true
 record Moved (globals : List Value) (m : Line ℕ) (s u : State ℕ) : Type 0 where
-  block : u.block ≡ s.block
-  next : u.next ≡ s.next + 1
   values : (r : ℕ) → writes_it m r ≡ false → u.values r ≡ s.values r
   memory : changes_memory m ≡ false → u.memory ≡ s.memory
   fact : (r : ℕ) (f : Fact) → writes_it m r ≡ true → fact_of m ≡ Some f → ((k : ℕ) → writes_it m k ≡ true → fact_names f k ≡ false) → Truth globals u r f
@@ -466,176 +459,105 @@ first_false : (a b : Bool) → (a || b) ≡ false → (a ≡ false) × (b ≡ fa
 first_false true b h = cc
 first_false false b h = (refl, h)
 
--- a line that makes nothing known
-unknown_fact : (globals : List Value) (u : State ℕ) (r : ℕ) (f : Fact) → None ≡ Some f → Truth globals u r f
-unknown_fact globals u r f h = absurd (let no : ⊥ = cc in no)
-
-sets_moves : (globals : List Value) (m : Line ℕ) (s : State ℕ) (to : ℕ) (o : Option Value) → ((r : ℕ) → writes_it m r ≡ nat_eq to r)
-    → ((v : Value) → o ≡ Some v → (r : ℕ) (f : Fact) → nat_eq to r ≡ true → fact_of m ≡ Some f → ((k : ℕ) → writes_it m k ≡ true → fact_names f k ≡ false)
-    → Truth globals (record s { next = s.next + 1; values = put virtual to v s.values }) r f)
-    → OnEvent (Moved globals m s) (sets virtual s to o)
-sets_moves globals m s to None writes known = tt
-sets_moves globals m s to (Some v) writes known =
-    record {
-      block = refl;
-      next = refl;
-      values = λ r h. other_value s.values to (Some v) r (sym (writes r) ∙ h);
-      memory = λ h. refl;
-      fact = λ r f w h names. known v refl r f (sym (writes r) ∙ w) h names;
-    }
-
-changes_moves : (globals : List Value) (m : Line ℕ) (s : State ℕ) (o : Option Memory) → changes_memory m ≡ true → fact_of m ≡ None → OnEvent (Moved globals m s) (changes s o)
-changes_moves globals m s None c n = tt
-changes_moves globals m s (Some x) c n =
-    record {
-      block = refl;
-      next = refl;
-      values = λ r h. refl;
-      memory = λ h. absurd (let no : ⊥ = cc in no);
-      fact = λ r f w h names. unknown_fact globals (record s { next = s.next + 1; memory = x }) r f (sym n ∙ h);
-    }
-
-ticks_move : (globals : List Value) (i : Given) (s : State ℕ) (turn : Bool) (w : ℕ) → OnEvent (Moved globals (Tick turn w) s) (ticks i s turn w)
-ticks_move globals i s false w =
-    record { block = refl; next = refl; values = λ r h. refl; memory = λ h. refl; fact = λ r f e h names. unknown_fact globals (record s { next = s.next + 1; spent = both s.spent (weighs w) }) r f h }
-ticks_move globals i s true w = by (nat_lt s.spent.turns i.turns)
-  where
-    by : (b : Bool) → OnEvent (Moved globals (Tick true w) s) (if b then goes_on (record s { spent = both s.spent (one_turn w) }) else Does (Over (Ended s.spent Turns)))
-    by true =
-        record { block = refl; next = refl; values = λ r h. refl; memory = λ h. refl; fact = λ r f e h names. unknown_fact globals (record s { next = s.next + 1; spent = both s.spent (one_turn w) }) r f h }
-    by false = tt
-
-receives_moves : (globals : List Value) (s u : State ℕ) (to : Option (Destination ℕ)) (callee : Operand ℕ) (args : List (Argument ℕ)) (v : Option Value) → u.block ≡ s.block → u.next ≡ s.next → ((r : ℕ) → u.values r ≡ s.values r)
-    → OnNext (Moved globals (Call to callee args) s) (receives virtual u to v)
-receives_moves globals s u None callee args v b n same =
-    record {
-      block = b;
-      next = ap (λ k. k + 1) n;
-      values = λ r h. same r;
-      memory = λ h. absurd (let no : ⊥ = cc in no);
-      fact = λ r f w h names. unknown_fact globals (record u { next = u.next + 1 }) r f h;
-    }
-receives_moves globals s u (Some d) callee args None b n same = tt
-receives_moves globals s u (Some d) callee args (Some v) b n same =
-    record {
-      block = b;
-      next = ap (λ k. k + 1) n;
-      values = λ r h. other_value u.values d.place (Some (held d.class v)) r h ∙ same r;
-      memory = λ h. absurd (let no : ⊥ = cc in no);
-      fact = λ r f w h names. unknown_fact globals (record u { next = u.next + 1; values = put virtual d.place (held d.class v) u.values }) r f h;
-    }
-
-calls_move : (globals : List Value) (i : Given) (s : State ℕ) (to : Option (Destination ℕ)) (callee : Operand ℕ) (args : List (Argument ℕ)) (x : Option Value) (vs : Option (List Value))
-    → OnEvent (Moved globals (Call to callee args) s) (calls virtual i s to args x vs)
-calls_move globals i s to callee args (Some (Function g)) (Some vs) = by
-  where
-    by : (o : Outcome) → OnNext (Moved globals (Call to callee args) s) (resumes virtual s to o)
-    by (Returned t v now) = receives_moves globals s (record s { values = kept virtual s.values; memory = now; spent = both s.spent t }) to callee args v refl refl (λ r. refl)
-    by (Ended t e) = tt
-calls_move globals i s to callee args (Some (Function g)) None = tt
-calls_move globals i s to callee args (Some (Integer k)) vs = tt
-calls_move globals i s to callee args (Some (Pointer b k)) vs = tt
-calls_move globals i s to callee args None vs = tt
-
 set_true : (globals : List Value) (s : State ℕ) (to : ℕ) (a : Operand ℕ) (r : ℕ) (f : Fact) → nat_eq to r ≡ true → Some (Same a) ≡ Some f → ((k : ℕ) → nat_eq to k ≡ true → fact_names f k ≡ false)
-    → Truth globals (record s { next = s.next + 1; values = assign virtual to (value_of globals s.values a) s.values }) r f
+    → Truth globals (record s { values = assign virtual to (value_of globals s.values a) s.values }) r f
 set_true globals s to a r f w h names =
     let o = value_of globals s.values a in
     let is : Same a ≡ f = some_fact (Same a) f h in
-    subst (λ (x : Fact). Truth globals (record s { next = s.next + 1; values = assign virtual to o s.values }) r x) is
+    subst (λ (x : Fact). Truth globals (record s { values = assign virtual to o s.values }) r x) is
     (own_value s.values to o r w ∙ sym (still globals s.values to o a (ap (λ (x : Fact). fact_names x to) is ∙ names to (is_same to))))
   where
     some_fact : (x y : Fact) → Some x ≡ Some y → x ≡ y
     some_fact x y e = cc
 
-compared_true : (globals : List Value) (s : State ℕ) (to : ℕ) (c : Comparison ℕ) (v : Value) (r : ℕ) (f : Fact) → compared globals s c ≡ Some v → nat_eq to r ≡ true → Some (Test c) ≡ Some f
-    → ((k : ℕ) → nat_eq to k ≡ true → fact_names f k ≡ false) → Truth globals (record s { next = s.next + 1; values = put virtual to v s.values }) r f
-compared_true globals s to c v r f e w h names =
+compared_true : (globals : List Value) (s : State ℕ) (to : ℕ) (c : Comparison ℕ) (r : ℕ) (f : Fact) → nat_eq to r ≡ true → Some (Test c) ≡ Some f
+    → ((k : ℕ) → nat_eq to k ≡ true → fact_names f k ≡ false) → Truth globals (record s { values = assign virtual to (compared globals s c) s.values }) r f
+compared_true globals s to c r f w h names =
     let is : Test c ≡ f = some_fact (Test c) f h in
     let unnamed = first_false (names_it c.left to) (names_it c.right to) (ap (λ (x : Fact). fact_names x to) is ∙ names to (is_same to)) in
-    let ev : Values ℕ = put virtual to v s.values in
-    let act : Value → Value → Option Value = operate s.memory (Compare c.condition c.class) in
-    let same : compared globals (record s { next = s.next + 1; values = ev }) c ≡ compared globals s c =
-    ap (λ (x : Option Value). option_and_then (λ a. option_and_then (λ b. operate s.memory (Compare c.condition c.class) a b) x) (value_of globals ev c.left)) (still globals s.values to (Some v) c.right unnamed.1)
-    ∙ ap (λ (x : Option Value). option_and_then (λ a. option_and_then (λ b. operate s.memory (Compare c.condition c.class) a b) (value_of globals s.values c.right)) x) (still globals s.values to (Some v) c.left unnamed.0)
+    let o = compared globals s c in
+    let ev : Values ℕ = assign virtual to o s.values in
+    let same : compared globals (record s { values = ev }) c ≡ o =
+    ap (λ (x : Option Value). option_and_then (λ a. option_and_then (λ b. operate s.memory (Compare c.condition c.class) a b) x) (value_of globals ev c.left)) (still globals s.values to o c.right unnamed.1)
+    ∙ ap (λ (x : Option Value). option_and_then (λ a. option_and_then (λ b. operate s.memory (Compare c.condition c.class) a b) (value_of globals s.values c.right)) x) (still globals s.values to o c.left unnamed.0)
     in
-    subst (λ (x : Fact). Truth globals (record s { next = s.next + 1; values = ev }) r x) is (own_value s.values to (Some v) r w ∙ sym e ∙ sym same)
+    subst (λ (x : Fact). Truth globals (record s { values = ev }) r x) is (own_value s.values to o r w ∙ sym same)
   where
     some_fact : (x y : Fact) → Some x ≡ Some y → x ≡ y
     some_fact x y e = cc
 
-sum_true : (globals : List Value) (s : State ℕ) (to : ℕ) (op : Operation) (a b : Operand ℕ) (v : Value) (r : ℕ) (f : Fact)
-    → operated s.memory op (value_of globals s.values a) (value_of globals s.values b) ≡ Some v → nat_eq to r ≡ true → (if is_add op then sum_of a b else None) ≡ Some f
-    → ((k : ℕ) → nat_eq to k ≡ true → fact_names f k ≡ false) → Truth globals (record s { next = s.next + 1; values = put virtual to v s.values }) r f
-sum_true globals s to op a b v r f e w h names = by_op (is_add op) refl h
+sum_true : (globals : List Value) (s : State ℕ) (to : ℕ) (op : Operation) (a b : Operand ℕ) (r : ℕ) (f : Fact)
+    → nat_eq to r ≡ true → (if is_add op then sum_of a b else None) ≡ Some f → ((k : ℕ) → nat_eq to k ≡ true → fact_names f k ≡ false)
+    → Truth globals (record s { values = assign virtual to (operated s.memory op (value_of globals s.values a) (value_of globals s.values b)) s.values }) r f
+sum_true globals s to op a b r f w h names = by_op (is_add op) refl h
   where
-    ev : Values ℕ
-    ev = put virtual to v s.values
+    given : Option Value
+    given = operated s.memory op (value_of globals s.values a) (value_of globals s.values b)
 
-    known : (q n : ℕ) → Sum (At q) n ≡ f → operated s.memory (Reg Add) (s.values q) (Some (Integer (n % 2 ^ 64))) ≡ Some v → Truth globals (record s { next = s.next + 1; values = ev }) r f
+    ev : Values ℕ
+    ev = assign virtual to given s.values
+
+    known : (q n : ℕ) → Sum (At q) n ≡ f → operated s.memory (Reg Add) (s.values q) (Some (Integer (n % 2 ^ 64))) ≡ given → Truth globals (record s { values = ev }) r f
     known q n is sum =
         let unnamed : names_it (At q) to ≡ false = ap (λ (x : Fact). fact_names x to) is ∙ names to (is_same to) in
-        subst (λ (x : Fact). Truth globals (record s { next = s.next + 1; values = ev }) r x) is
-        (own_value s.values to (Some v) r w
-        ∙ (sym sum ∙ (no_memory s.memory (s.values q) (n % 2 ^ 64) ∙ ap (λ (x : Option Value). summed x n) (sym (still globals s.values to (Some v) (At q) unnamed)))))
+        subst (λ (x : Fact). Truth globals (record s { values = ev }) r x) is
+        (own_value s.values to given r w
+        ∙ (sym sum ∙ (no_memory s.memory (s.values q) (n % 2 ^ 64) ∙ ap (λ (x : Option Value). summed x n) (sym (still globals s.values to given (At q) unnamed)))))
 
-    by : (a b : Operand ℕ) → operated s.memory (Reg Add) (value_of globals s.values a) (value_of globals s.values b) ≡ Some v → sum_of a b ≡ Some f → Truth globals (record s { next = s.next + 1; values = ev }) r f
+    by : (a b : Operand ℕ) → operated s.memory (Reg Add) (value_of globals s.values a) (value_of globals s.values b) ≡ given → sum_of a b ≡ Some f → Truth globals (record s { values = ev }) r f
     by (At q) (Number n) sum g = let is : Sum (At q) n ≡ f = cc in known q n is sum
     by (At q) (At p) sum g = absurd (let no : ⊥ = cc in no)
     by (At q) (Name p) sum g = absurd (let no : ⊥ = cc in no)
     by (Number k) b sum g = absurd (let no : ⊥ = cc in no)
     by (Name k) b sum g = absurd (let no : ⊥ = cc in no)
 
-    by_op : (c : Bool) → is_add op ≡ c → (if c then sum_of a b else None) ≡ Some f → Truth globals (record s { next = s.next + 1; values = ev }) r f
-    by_op true g k = by a b (subst (λ (o : Operation). operated s.memory o (value_of globals s.values a) (value_of globals s.values b) ≡ Some v) (adds op g) e) k
+    by_op : (c : Bool) → is_add op ≡ c → (if c then sum_of a b else None) ≡ Some f → Truth globals (record s { values = ev }) r f
+    by_op true g k = by a b (sym (ap (λ (o : Operation). operated s.memory o (value_of globals s.values a) (value_of globals s.values b)) (adds op g))) k
     by_op false g k = absurd (let no : ⊥ = cc in no)
 
-line_moves : (globals : List Value) (i : Given) (s : State ℕ) (m : Line ℕ) → OnEvent (Moved globals m s) (line_step virtual globals i s m)
-unfolding line_step
-line_moves globals i s (Tick turn w) = ticks_move globals i s turn w
-line_moves globals i s (Set to a) =
-    record {
-      block = refl;
-      next = refl;
-      values = λ r h. other_value s.values to (value_of globals s.values a) r h;
-      memory = λ h. refl;
-      fact = λ r f w h names. set_true globals s to a r f w h names;
-    }
-line_moves globals i s (Operate to (Compare on k) a b) =
-    sets_moves globals (Operate to (Compare on k) a b) s to (compared globals s (record { condition = on; class = k; left = a; right = b })) (λ r. refl)
-    (λ v e r f w h names. compared_true globals s to (record { condition = on; class = k; left = a; right = b }) v r f e w h names)
-line_moves globals i s (Operate to (Reg op) a b) =
-    sets_moves globals (Operate to (Reg op) a b) s to (option_and_then (λ u. option_and_then (λ v. operate s.memory (Reg op) u v) (value_of globals s.values b)) (value_of globals s.values a)) (λ r. refl)
-    (λ v e r f w h names. sum_true globals s to (Reg op) a b v r f e w h names)
-line_moves globals i s (Operate to (RegW op) a b) =
-    sets_moves globals (Operate to (RegW op) a b) s to (option_and_then (λ u. option_and_then (λ v. operate s.memory (RegW op) u v) (value_of globals s.values b)) (value_of globals s.values a)) (λ r. refl)
-    (λ v e r f w h names. unknown_fact globals (record s { next = s.next + 1; values = put virtual to v s.values }) r f h)
-line_moves globals i s (Load to op at) =
-    sets_moves globals (Load to op at) s to (option_and_then (loaded s.memory op) (address_of globals s.memory s.values at)) (λ r. refl)
-    (λ v e r f w h names. unknown_fact globals (record s { next = s.next + 1; values = put virtual to v s.values }) r f h)
-line_moves globals i s (Store size a at) =
-    changes_moves globals (Store size a at) s
-    (option_and_then (λ v. option_and_then (λ p. store s.memory (byte_count size) p v) (address_of globals s.memory s.values at)) (read globals s.values (stored_class size) a)) refl refl
-line_moves globals i s (Alloc None size) =
-    record {
-      block = refl;
-      next = refl;
-      values = λ r h. refl;
-      memory = λ h. absurd (let no : ⊥ = cc in no);
-      fact = λ r f w h names. absurd (let no : ⊥ = cc in no);
-    }
-line_moves globals i s (Alloc (Some to) size) =
-    record {
-      block = refl;
-      next = refl;
-      values = λ r h. other_value s.values to (Some (Pointer (length s.memory) 0)) r h;
-      memory = λ h. absurd (let no : ⊥ = cc in no);
-      fact = λ r f w h names. absurd (let no : ⊥ = cc in no);
-    }
-line_moves globals i s (Blit from to count) =
-    changes_moves globals (Blit from to count) s
-    (option_and_then (λ p. option_and_then (λ q. copy s.memory count p q) (value_of globals s.values to)) (value_of globals s.values from)) refl refl
-line_moves globals i s (Call to callee args) = calls_move globals i s to callee args (value_of globals s.values callee) (read_all globals s.values args)
+-- a line that doesn't change memory leaves it
+given_leaves : (memory : Memory) (v o : Option Value) (next : Memory) → MayLeave memory (given v) o next → next ≡ memory
+given_leaves memory None o next may = absurd may
+given_leaves memory (Some v) o next may = may.1
+
+memory_left : (globals : List Value) (s : State ℕ) (m : Line ℕ) (o : Option Value) (next : Memory) → MayLeave s.memory (act globals s.memory s.values m) o next → changes_memory m ≡ false → next ≡ s.memory
+memory_left globals s (Tick turn w) o next may h = may
+memory_left globals s (Set to a) o next may h = may.1
+memory_left globals s (Operate to op a b) o next may h = may.1
+memory_left globals s (Load to op at) o next may h = given_leaves s.memory (option_and_then (loaded s.memory op) (address_of globals s.memory s.values at)) o next may
+memory_left globals s (Store size a at) o next may h = absurd (let no : ⊥ = cc in no)
+memory_left globals s (Alloc to size) o next may h = absurd (let no : ⊥ = cc in no)
+memory_left globals s (Blit from to count) o next may h = absurd (let no : ⊥ = cc in no)
+memory_left globals s (Call to callee args) o next may h = absurd (let no : ⊥ = cc in no)
+
+-- where a register was given a value, and memory left as it was
+given_to : (globals : List Value) (s : State ℕ) (to : ℕ) (v o : Option Value) (next : Memory) (r : ℕ) (f : Fact) → o ≡ v → next ≡ s.memory → Truth globals (record s { values = assign virtual to v s.values }) r f
+    → Truth globals (in_state next (written (Some to) o s.values)) r f
+given_to globals s to v o next r f is left h =
+    subst (λ (m : Memory). Truth globals (in_state m (written (Some to) o s.values)) r f) (sym left)
+    (subst (λ (x : Option Value). Truth globals (in_state s.memory (written (Some to) x s.values)) r f) (sym is) h)
+
+-- what it makes known is true
+fact_made : (globals : List Value) (s : State ℕ) (m : Line ℕ) (o : Option Value) (next : Memory) → MayLeave s.memory (act globals s.memory s.values m) o next → (r : ℕ) (f : Fact) → writes_it m r ≡ true → fact_of m ≡ Some f
+    → ((k : ℕ) → writes_it m k ≡ true → fact_names f k ≡ false) → Truth globals (in_state next (written (line_writes m) o s.values)) r f
+fact_made globals s (Set to a) o next may r f w h names = given_to globals s to (value_of globals s.values a) o next r f may.0 may.1 (set_true globals s to a r f w h names)
+fact_made globals s (Operate to (Compare on k) a b) o next may r f w h names =
+    let c : Comparison ℕ = record { condition = on; class = k; left = a; right = b } in
+    given_to globals s to (compared globals s c) o next r f may.0 may.1 (compared_true globals s to c r f w h names)
+fact_made globals s (Operate to (Reg op) a b) o next may r f w h names =
+    given_to globals s to (operated s.memory (Reg op) (value_of globals s.values a) (value_of globals s.values b)) o next r f may.0 may.1 (sum_true globals s to (Reg op) a b r f w h names)
+fact_made globals s (Operate to (RegW op) a b) o next may r f w h names = absurd (let no : ⊥ = cc in no)
+fact_made globals s (Tick turn x) o next may r f w h names = absurd (let no : ⊥ = cc in no)
+fact_made globals s (Load to op at) o next may r f w h names = absurd (let no : ⊥ = cc in no)
+fact_made globals s (Store size a at) o next may r f w h names = absurd (let no : ⊥ = cc in no)
+fact_made globals s (Alloc to size) o next may r f w h names = absurd (let no : ⊥ = cc in no)
+fact_made globals s (Blit from to count) o next may r f w h names = absurd (let no : ⊥ = cc in no)
+fact_made globals s (Call to callee args) o next may r f w h names = absurd (let no : ⊥ = cc in no)
+
+line_moves : (globals : List Value) (s : State ℕ) (m : Line ℕ) (o : Option Value) (next : Memory) → MayLeave s.memory (act globals s.memory s.values m) o next
+    → Moved globals m s (in_state next (written (line_writes m) o s.values))
+line_moves globals s m o next may =
+    record { values = unwritten (line_writes m) o s.values; memory = memory_left globals s m o next may; fact = fact_made globals s m o next may }
 
 -- ---- what was known and what the line makes known is true
 
@@ -715,119 +637,53 @@ true_after globals n m s u old moved all r f h = by (writes_it m r) refl p.from
     by true e g = moved.fact r f e g names
     by false e g = truth_kept globals m s u moved r f e names kept (all r f g)
 
--- ---- the states
+-- ---- the code follows
 
-record Here (n : ℕ) (w : Code ℕ) (globals : List Value) (s : State ℕ) (b : Block ℕ) (left : List (Line ℕ)) : Type 0 where
-  block : Block ℕ
-  facts : Facts
-  found : slice_get w.blocks s.block ≡ Some block
-  forwarded : AreForwarded n block.lines facts left (drop s.next block.lines) b.jump block.jump
-  true_facts : AreTrue globals s facts
+-- what is known, where nothing is claimed at the start of a block
+abbrev known : About
+known = record { Known = Facts; hold = λ fs globals memory values. AreTrue globals (in_state memory values) fs; at_start = λ k r. None }
 
-record Related (n : ℕ) (v w : Code ℕ) (globals : List Value) (s t : State ℕ) : Type 0 where
-  is : t ≡ s
-  there : (b : Block ℕ) → slice_get v.blocks s.block ≡ Some b → Here n w globals s b (drop s.next b.lines)
+nothing_claimed : (globals : List Value) (memory : Memory) (values : Values ℕ) (x : Way) → Claimed known globals memory values x
+nothing_claimed globals memory values Lost = tt
+nothing_claimed globals memory values (Enters k) = λ r f h. absurd (let no : ⊥ = cc in no)
+nothing_claimed globals memory values (Answers o) = tt
+nothing_claimed globals memory values Halts = tt
 
-record Found (n : ℕ) (b : Block ℕ) (o : Option (Block ℕ)) : Type 0 where
-  block : Block ℕ
-  at : o ≡ Some block
-  forwarded : IsForwarded n b block
-
-block_found : (n : ℕ) (blocks new : List (Block ℕ)) → AllForwarded n blocks new → (k : ℕ) (b : Block ℕ) → slice_get blocks k ≡ Some b → Found n b (slice_get new k)
-block_found n [] new all k b e = absurd (let no : ⊥ = cc in no)
-block_found n (d ∷ blocks) [] all k b e = absurd all
-block_found n (d ∷ blocks) (c ∷ new) all zero b e =
-    let same : d ≡ b = cc in record { block = c; at = refl; forwarded = subst (λ (x : Block ℕ). IsForwarded n x c) same all.0 }
-block_found n (d ∷ blocks) (c ∷ new) all (suc k) b e = block_found n blocks new all.1 k b e
-
--- at the start of a block
-at_start : (n : ℕ) (v w : Code ℕ) (globals : List Value) → AllForwarded n v.blocks w.blocks → (s : State ℕ) → s.next ≡ 0 → Related n v w globals s s
-at_start n v w globals all s zero_next =
-    record {
-      is = refl;
-      there = λ b e.
-          let f = block_found n v.blocks w.blocks all s.block b e in
-          record {
-            block = f.block;
-            facts = λ r. None;
-            found = f.at;
-            forwarded = subst (λ k. AreForwarded n f.block.lines (λ r. None) (drop k b.lines) (drop k f.block.lines) b.jump f.block.jump) (sym zero_next) f.forwarded;
-            true_facts = λ r x h. absurd (let no : ⊥ = cc in no);
-          };
-    }
-
--- ---- a step
-
-abbrev Beside : (n : ℕ) (v w : Code ℕ) (globals : List Value) (i : Given) (s : State ℕ) → Type 0
-Beside n v w globals i s = Together (Related n v w globals) Fine (step virtual globals v i s) (step virtual globals w i s)
-
-jump_beside : (n : ℕ) (v w : Code ℕ) (globals : List Value) (i : Given) (s : State ℕ) (b c : Block ℕ) (fs : Facts) → AllForwarded n v.blocks w.blocks → w.result ≡ v.result
-    → slice_get v.blocks s.block ≡ Some b → slice_get w.blocks s.block ≡ Some c → drop s.next b.lines ≡ [] → drop s.next c.lines ≡ [] → c.jump ≡ with_jump c.lines fs b.jump → AreTrue globals s fs
-    → Beside n v w globals i s
-jump_beside n v w globals i s b c fs all result at found ahead ahead2 is facts =
-    one_event (Related n v w globals) (step virtual globals v i s) (step virtual globals w i s) (jump_step globals v.result s b.jump)
-    (step_jump virtual globals v i s b at (nothing_at b.lines s.next ahead))
-    (step_jump virtual globals w i s c found (nothing_at c.lines s.next ahead2) ∙ ap (λ (r : Option Class). jump_step globals r s c.jump) result ∙ ap (jump_step globals v.result s) is
-    ∙ jump_same c.lines globals v.result s fs facts b.jump)
-    (event_more (StartsWith s) (λ u. Related n v w globals u u) (λ u starts. at_start n v w globals all u starts.first) (jump_step globals v.result s b.jump) (jump_starts globals v.result s b.jump))
-
-line_beside : (n : ℕ) (v w : Code ℕ) (globals : List Value) (i : Given) (s : State ℕ) (b c : Block ℕ) (fs : Facts) (l m : Line ℕ) (left left2 : List (Line ℕ))
-    → slice_get v.blocks s.block ≡ Some b → slice_get w.blocks s.block ≡ Some c → drop s.next b.lines ≡ l ∷ left → drop s.next c.lines ≡ m ∷ left2 → m ≡ shortened (with_line fs l)
-    → AreForwarded n c.lines (after n m fs) left left2 b.jump c.jump → AreTrue globals s fs → Beside n v w globals i s
-line_beside n v w globals i s b c fs l m left left2 at found ahead ahead2 is rest facts =
-    one_event (Related n v w globals) (step virtual globals v i s) (step virtual globals w i s) (line_step virtual globals i s m)
-    (step_line virtual globals v i s b l at (head_at b.lines s.next l left ahead)
-    ∙ sym (shortened_step globals i s (with_line fs l) ∙ line_same globals i s fs facts l) ∙ ap (line_step virtual globals i s) (sym is))
-    (step_line virtual globals w i s c m found (head_at c.lines s.next m left2 ahead2))
-    (event_more (Moved globals m s) (λ u. Related n v w globals u u) on (line_step virtual globals i s m) (line_moves globals i s m))
+line_follows : (n : ℕ) (fs : Facts) (l m : Line ℕ) → m ≡ shortened (with_line fs l) → Alike (claimed known) fs (after n m fs) l m
+line_follows n fs l m is =
+    fact_line known fs (after n m fs) l m writes (λ globals memory ev all works. same globals memory ev all)
+    (λ globals memory ev all o next may.
+    subst (λ (x : Option ℕ). AreTrue globals (in_state next (written x o ev)) (after n m fs)) writes
+    (true_after globals n m (in_state memory ev) (in_state next (written (line_writes m) o ev)) fs
+    (line_moves globals (in_state memory ev) m o next (subst (λ (a : Act). MayLeave memory a o next) (sym (same globals memory ev all)) may)) all))
   where
-    on : (u : State ℕ) → Moved globals m s u → Related n v w globals u u
-    on u moved =
-        record {
-          is = refl;
-          there = λ d e.
-              let same : b ≡ d = same_some b d (slice_get v.blocks s.block) at (ap (slice_get v.blocks) (sym moved.block) ∙ e) in
-              let one : drop u.next b.lines ≡ left = ap (λ k. drop k b.lines) moved.next ∙ tail_at b.lines s.next l left ahead in
-              let two : drop u.next c.lines ≡ left2 = ap (λ k. drop k c.lines) moved.next ∙ tail_at c.lines s.next m left2 ahead2 in
-              subst (λ (x : Block ℕ). Here n w globals u x (drop u.next x.lines)) same
-              (subst (λ (xs : List (Line ℕ)). Here n w globals u b xs) (sym one)
-              (record {
-                block = c;
-                facts = after n m fs;
-                found = ap (slice_get w.blocks) moved.block ∙ found;
-                forwarded = subst (λ (xs : List (Line ℕ)). AreForwarded n c.lines (after n m fs) left xs b.jump c.jump) (sym two) rest;
-                true_facts = true_after globals n m s u fs moved facts;
-              }));
-        }
+    writes : line_writes m ≡ line_writes l
+    writes = ap line_writes is ∙ unchanged line_writes (λ to op other a p q. refl, λ to op a b p. refl) (with_line fs l) ∙ put_writes fs l
 
-left_beside : (n : ℕ) (v w : Code ℕ) (globals : List Value) (i : Given) (s : State ℕ) (b c : Block ℕ) (fs : Facts) (left left2 : List (Line ℕ)) → AllForwarded n v.blocks w.blocks → w.result ≡ v.result
-    → slice_get v.blocks s.block ≡ Some b → slice_get w.blocks s.block ≡ Some c → drop s.next b.lines ≡ left → drop s.next c.lines ≡ left2 → AreForwarded n c.lines fs left left2 b.jump c.jump → AreTrue globals s fs
-    → Beside n v w globals i s
-left_beside n v w globals i s b c fs [] [] all result at found ahead ahead2 h facts = jump_beside n v w globals i s b c fs all result at found ahead ahead2 h facts
-left_beside n v w globals i s b c fs [] (m ∷ left2) all result at found ahead ahead2 h facts = absurd h
-left_beside n v w globals i s b c fs (l ∷ left) [] all result at found ahead ahead2 h facts = absurd h
-left_beside n v w globals i s b c fs (l ∷ left) (m ∷ left2) all result at found ahead ahead2 h facts =
-    line_beside n v w globals i s b c fs l m left left2 at found ahead ahead2 h.0 h.1 facts
+    same : (globals : List Value) (memory : Memory) (ev : Values ℕ) → AreTrue globals (in_state memory ev) fs → act globals memory ev m ≡ act globals memory ev l
+    same globals memory ev all = ap (act globals memory ev) is ∙ shortened_act globals memory ev (with_line fs l) ∙ line_same globals (in_state memory ev) fs all l
 
-block_beside : (n : ℕ) (v w : Code ℕ) (globals : List Value) (i : Given) (s : State ℕ) (o : Option (Block ℕ)) → AllForwarded n v.blocks w.blocks → w.result ≡ v.result → slice_get v.blocks s.block ≡ o
-    → ((b : Block ℕ) → slice_get v.blocks s.block ≡ Some b → Here n w globals s b (drop s.next b.lines)) → Beside n v w globals i s
-block_beside n v w globals i s None all result at there =
-    subst (λ (x : Event (State ℕ) Asked Outcome). Together (Related n v w globals) Fine x (step virtual globals w i s)) (sym (step_nowhere virtual globals v i s at)) (λ f. absurd f)
-block_beside n v w globals i s (Some b) all result at there =
-    let h = there b at in
-    left_beside n v w globals i s b h.block h.facts (drop s.next b.lines) (drop s.next h.block.lines) all result at h.found refl refl h.forwarded h.true_facts
+module _ (n : ℕ) (v w : Code ℕ) where
+  lines_follow : (whole : List (Line ℕ)) (fs : Facts) (lines new : List (Line ℕ)) (j k : Jump ℕ) → AreForwarded n whole fs lines new j k → Follows (claimed known) v w fs lines j new k
+  lines_follow whole fs [] [] j k h =
+      Jumps
+      (fact_jump known v.result fs j k (λ globals memory ev all. ap (way globals v.result memory ev) h ∙ jump_same whole globals v.result (in_state memory ev) fs all j)
+      (λ globals memory ev all. nothing_claimed globals memory ev (way globals v.result memory ev j)))
+  lines_follow whole fs [] (m ∷ new) j k h = absurd h
+  lines_follow whole fs (l ∷ lines) [] j k h = absurd h
+  lines_follow whole fs (l ∷ lines) (m ∷ new) j k h = Both (line_follows n fs l m h.0) (lines_follow whole (after n m fs) lines new j k h.1)
 
-in_lockstep : (n : ℕ) (v w : Code ℕ) (globals : List Value) (i : Given) → AllForwarded n v.blocks w.blocks → w.result ≡ v.result → Lockstep (Related n v w globals) Fine (step virtual globals v i) (step virtual globals w i)
-in_lockstep n v w globals i all result s t h =
-    subst (λ (u : State ℕ). Together (Related n v w globals) Fine (step virtual globals v i s) (step virtual globals w i u)) (sym h.is)
-    (block_beside n v w globals i s (slice_get v.blocks s.block) all result refl h.there)
-
-start_same : (v w : Code ℕ) → w.params ≡ v.params → (i : Given) → begin virtual w i ≡ begin virtual v i
-start_same v w e i = ap (λ (ps : List (Destination ℕ)). begin virtual (record v { params = ps }) i) e
+  block_follows : (blocks new : List (Block ℕ)) → AllForwarded n blocks new → (k : ℕ) (b : Block ℕ) → slice_get blocks k ≡ Some b
+      → (d : Block ℕ) × ((slice_get new k ≡ Some d) × Follows (claimed known) v w (λ r. None) b.lines b.jump d.lines d.jump)
+  block_follows [] new all k b e = absurd (let no : ⊥ = cc in no)
+  block_follows (d ∷ blocks) [] all k b e = absurd all
+  block_follows (d ∷ blocks) (c ∷ new) all zero b e =
+      let same : d ≡ b = cc in
+      (c, (refl, subst (λ (x : Block ℕ). Follows (claimed known) v w (λ r. None) x.lines x.jump c.lines c.jump) same (lines_follow c.lines (λ r. None) d.lines c.lines d.jump c.jump all.0)))
+  block_follows (d ∷ blocks) (c ∷ new) all (suc k) b e = block_follows blocks new all.1 k b e
 
 pub runs : (n : ℕ) (v w : Code ℕ) → AllForwarded n v.blocks w.blocks → w.result ≡ v.result → w.params ≡ v.params → (globals : List Value)
     → KeepsCode (classes_in v.params) (begin virtual v) (step virtual globals v) (begin virtual w) (step virtual globals w)
 runs n v w all result params globals =
-    lockstep_keeps (classes_in v.params) (begin virtual v) (step virtual globals v) (begin virtual w) (step virtual globals w) (λ i. Related n v w globals)
-    (λ i args. subst (λ (t : State ℕ). Related n v w globals (begin virtual v i) t) (sym (start_same v w params i)) (at_start n v w globals all (begin virtual v i) refl))
-    (λ i. in_lockstep n v w globals i all result)
+    rewrites_keep (claimed known) v w
+    (facts_rewrite known v w result params (λ globals i. λ r f h. absurd (let no : ⊥ = cc in no)) (block_follows n v w v.blocks w.blocks all)) globals

@@ -13,9 +13,6 @@ use Rattle.bits.specs.Words.{sign_extended}
 use Rattle.il_ast.specs.declared.value.Value.{Value}
 use Rattle.il_ast.specs.declared.value.Value.TheVariants.{Integer, Pointer, Function}
 use Rattle.il_ast.specs.Memory.{Memory}
-use Rattle.il_ast.specs.Run.{Outcome}
-use Rattle.il_ast.specs.Logged.{Event}
-use Rattle.il_ast.specs.Keeps.{Asked, Given}
 use Rattle.rv_isa.specs.Arithmetic.{unsigned_quotient, unsigned_remainder}
 use Rattle.rv_isa.specs.declared.instruction.RegOp.TheVariants.{Add, Sub, Sll, Slt, Sltu, Xor, Srl, Sra, Or, And, Mul, Mulh, Mulhsu, Mulhu, Div, Divu, Rem, Remu}
 use Rattle.rv_isa.specs.declared.instruction.RegWOp.TheVariants.{Addw, Subw, Sllw, Srlw, Sraw, Mulw, Divw, Divuw, Remw, Remuw}
@@ -27,8 +24,9 @@ use Rattle.vcode.specs.declared.line.Line.{Line}
 use Rattle.vcode.specs.declared.line.Line.TheVariants.{Tick, Set, Operate, Load, Store, Alloc, Blit, Call}
 use Rattle.vcode.specs.Cost.{is_immediate, operand_cost, operation_cost, line_cost}
 use Rattle.vcode.specs.Operations.{operate}
-use Rattle.vcode.specs.Places.{virtual}
-use Rattle.vcode.specs.Step.{State, value_of, sets, line_step}
+use Rattle.vcode.specs.Places.{Values}
+use Rattle.vcode.specs.Step.{value_of}
+use Rattle.vcode.specs.Acts.{Gives, act}
 use Rattle.propagation.specs.Shortened.{exponent, if_below, by_power, with_operation, by_shift}
 
 -- ---- powers
@@ -255,32 +253,28 @@ shift_unchanged g un (Alloc to size) = refl
 shift_unchanged g un (Blit a b count) = refl
 shift_unchanged g un (Call to callee args) = refl
 
--- ---- a step
+-- ---- it does the same
 
-pub shift_step : (globals : List Value) (i : Given) (s : State ℕ) (l : Line ℕ) → line_step virtual globals i s (by_shift l) ≡ line_step virtual globals i s l
-unfolding line_step
-shift_step globals i s (Tick turn w) = refl
-shift_step globals i s (Set to a) = refl
-shift_step globals i s (Operate to op a (At r)) = refl
-shift_step globals i s (Operate to op a (Name g)) = refl
-shift_step globals i s (Operate to op a (Number n)) = by (option_and_then (by_power op) (exponent n)) refl
+pub shift_act : (globals : List Value) (memory : Memory) (values : Values ℕ) (l : Line ℕ) → act globals memory values (by_shift l) ≡ act globals memory values l
+shift_act globals memory values (Tick turn w) = refl
+shift_act globals memory values (Set to a) = refl
+shift_act globals memory values (Operate to op a (At r)) = refl
+shift_act globals memory values (Operate to op a (Name g)) = refl
+shift_act globals memory values (Operate to op a (Number n)) = by (option_and_then (by_power op) (exponent n)) refl
   where
-    given : Operation → ℕ → Event (State ℕ) Asked Outcome
-    given o m = sets virtual s to (option_and_then (λ u. operate s.memory o u (Integer (m % 2 ^ 64))) (value_of globals s.values a))
-
-    same_of : (o new : Operation) (m : ℕ) → ((u : Value) → operate s.memory new u (Integer (m % 2 ^ 64)) ≡ operate s.memory o u (Integer (n % 2 ^ 64))) → (v : Option Value)
-        → option_and_then (λ u. operate s.memory new u (Integer (m % 2 ^ 64))) v ≡ option_and_then (λ u. operate s.memory o u (Integer (n % 2 ^ 64))) v
+    same_of : (o new : Operation) (m : ℕ) → ((u : Value) → operate memory new u (Integer (m % 2 ^ 64)) ≡ operate memory o u (Integer (n % 2 ^ 64))) → (v : Option Value)
+        → option_and_then (λ u. operate memory new u (Integer (m % 2 ^ 64))) v ≡ option_and_then (λ u. operate memory o u (Integer (n % 2 ^ 64))) v
     same_of o new m h None = refl
     same_of o new m h (Some u) = h u
 
-    by : (o : Option (Operation × ℕ)) → option_and_then (by_power op) (exponent n) ≡ o → line_step virtual globals i s (with_operation to op a n o) ≡ line_step virtual globals i s (Operate to op a (Number n))
+    by : (o : Option (Operation × ℕ)) → option_and_then (by_power op) (exponent n) ≡ o → act globals memory values (with_operation to op a n o) ≡ act globals memory values (Operate to op a (Number n))
     by None e = refl
     by (Some p) e =
         let f = found op n (exponent n) p refl e in
         let as_power : SameGiven p.0 op n p.1 = subst (λ m. SameGiven p.0 op m p.1) (sym f.1.0.is) f.1.1.same in
-        ap (sets virtual s to) (same_of op p.0 p.1 (as_power s.memory) (value_of globals s.values a))
-shift_step globals i s (Load to op at) = refl
-shift_step globals i s (Store size a at) = refl
-shift_step globals i s (Alloc to size) = refl
-shift_step globals i s (Blit a b count) = refl
-shift_step globals i s (Call to callee args) = refl
+        ap Gives (same_of op p.0 p.1 (as_power memory) (value_of globals values a))
+shift_act globals memory values (Load to op at) = refl
+shift_act globals memory values (Store size a at) = refl
+shift_act globals memory values (Alloc to size) = refl
+shift_act globals memory values (Blit a b count) = refl
+shift_act globals memory values (Call to callee args) = refl

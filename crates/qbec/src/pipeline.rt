@@ -8,9 +8,9 @@ ghost use Rattle.il_ast.specs.Passes.{Keeps, IsCodeOf};
 ghost use Rattle.phi_copies.specs.Good.{IsGoodFunction};
 ghost use Rattle.vcode.specs.Coded.{virtual_code, location_code};
 ghost use Rattle.qbec.specs.Promoted.{StandPromoted};
-ghost use Rattle.qbec.specs.Pipeline.{IsLocated, IsLaidOut};
+ghost use Rattle.qbec.specs.Pipeline.{FitsIn, IsLocated, IsLaidOut};
 
-use abi_frames::frame::frame;
+use abi_frames::frame::{frame, frame_bound};
 use alloc_check::accept::{Refused, accept};
 use alloc_check::spill_all::spill_all;
 use asm_layout::layout::layout;
@@ -22,6 +22,7 @@ use constant_hoisting::constants::hoist_constants;
 use dead_code::remove::remove_dead_code;
 use flat_code::function::{FlatFunc, flat};
 use il_ast::function::Func;
+use il_types::cost::capped_need;
 use phi_copies::lower::lower;
 use promote::promote::promote;
 use propagation::propagate::propagate;
@@ -113,12 +114,8 @@ pub fn virtual_code_of(alloc: Global, func: &Func) -> Result<VFunc, AllocError>
     Ok(arranged)
 }
 
-/// The function in location code, to be read on bytes, as the strategy has it.
-///
-/// # Errors
-///
-/// Only where memory was refused.
-pub fn located(
+/// By all passes, and as the strategy has it.
+fn optimized(
     alloc: Global,
     func: &Func,
     allocator: &mut dyn Strategy,
@@ -129,6 +126,41 @@ pub fn located(
     let function = virtual_code_of(alloc, func)?;
     let placed = allocated(alloc, &function, allocator)?;
     Ok(flat(placed))
+}
+
+/// As it is selected, with every register in a slot of its own: this takes no more of the stack than a call of the function is counted for.
+fn unoptimized(alloc: Global, func: &Func) -> Result<FlatFunc, AllocError>
+    requires { IsGoodFunction func.now }
+    ensures located { IfOk result (λ f. IsLocated func.now f.located) }
+    ensures fits { IfOk result (λ f. FitsIn func.now f.located) }
+{
+    let lowered = lower(alloc, func)?;
+    let selected = select(alloc, &lowered)?;
+    let placed = spill_all(alloc, &selected)?;
+    Ok(flat(placed))
+}
+
+/// The function in location code, to be read on bytes: by all passes and as the strategy has it, if its frame then takes at most the stack that a call of the
+/// function is counted for, else as it is selected, with every register in a slot of its own.
+///
+/// # Errors
+///
+/// Only where memory was refused.
+pub fn located(
+    alloc: Global,
+    func: &Func,
+    allocator: &mut dyn Strategy,
+) -> Result<FlatFunc, AllocError>
+    requires { IsGoodFunction func.now }
+    ensures located { IfOk result (λ f. IsLocated func.now f.located) }
+    ensures fits { IfOk result (λ f. FitsIn func.now f.located) }
+{
+    let optimized = optimized(alloc, func, allocator)?;
+    if frame_bound(&optimized) <= capped_need(func) {
+        Ok(optimized)
+    } else {
+        unoptimized(alloc, func)
+    }
 }
 
 /// The words of a function's machine code.

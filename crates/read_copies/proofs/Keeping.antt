@@ -1,59 +1,23 @@
--- Code that reads copies is regular, takes what the code took, and keeps it.
-use Rattle.std.proofs.Common.{◌≡◌, ℕ, ◌+◌, ◌-◌, ◌*◌, Bool, true, false, not, ◌&&◌, ◌||◌, nat_eq, nat_le, nat_lt, if◌then◌else◌, List, [], ◌∷◌, ◌++◌, map, length, Option, Some, None, refl, sym, ◌∙◌, ap, arith}
-use Rattle.std.specs.Prelude.{max, filter}
-use Rattle.std.specs.List.{list_all, list_any, sum_by}
+-- Code that reads copies takes what the code took, and names the registers of the function.
+use Rattle.std.proofs.Common.{◌≡◌, ℕ, ◌≤◌, Bool, true, false, nat_eq, nat_lt, if◌then◌else◌, List, [], ◌∷◌, ◌++◌, map, length, Option, Some, None, refl, ◌∙◌, arith}
+use Rattle.std.specs.Prelude.{filter}
+use Rattle.std.specs.List.{list_all}
 use Rattle.std.proofs.lemmas.Bool.{and_parts, and_from}
-use Rattle.std.proofs.lemmas.List.{length-map}
-use Rattle.std.proofs.lemmas.List.Sums.{sum_by-cons}
-use Rattle.il_ast.specs.Passes.{Keeps}
 use Rattle.vcode.specs.declared.place.Operand.TheVariants.{At, Number, Name}
-use Rattle.vcode.specs.declared.place.Destination.{Destination}
 use Rattle.vcode.specs.declared.line.Line.{Line}
 use Rattle.vcode.specs.declared.line.Line.TheVariants.{Tick, Set, Operate, Load, Store, Alloc, Blit, Call}
-use Rattle.vcode.specs.declared.line.Jump.{Jump}
 use Rattle.vcode.specs.declared.code.Block.{Block}
-use Rattle.vcode.specs.declared.code.Code.{Code}
-use Rattle.vcode.specs.Coded.{coded}
-use Rattle.vcode.specs.Cost.{line_cost, affords, is_paid}
-use Rattle.vcode.specs.Named.{line_keeps, jump_keeps, block_keeps, keeps_places, is_below}
-use Rattle.vcode.specs.Outgoing.{args_on_stack, most_in_lines, most_in_blocks}
-use Rattle.vcode.specs.Places.{virtual}
-use Rattle.vcode.specs.Regular.{leads_inside, is_alloc, allocs_first, alloc_bytes, area, turns_of, passes_few, weight_of, code_weight, IsRegular}
+use Rattle.vcode.specs.declared.function.VFunc.{VFunc}
+use Rattle.vcode.specs.Cost.{line_cost, jump_cost}
+use Rattle.vcode.specs.Named.{line_keeps, jump_keeps, block_keeps, is_below}
 use Rattle.vcode.specs.Replaced.{Replacing, with_line, with_jump}
-use Rattle.vcode.proofs.Replacing.{Stays, weight_stays, bytes_stay, turns_stay, alloc_stays, few_stays, passed_stays, Costs, line_cost_same, jump_cost_same, Low, line_low, jump_low, inside_same}
-use Rattle.cfg_live.specs.Registers.{line_writes}
+use Rattle.vcode.specs.Writes.{line_writes}
+use Rattle.vcode.proofs.Replacing.{measure_stays, Costs, line_cost_same, jump_cost_same, Low, line_low, jump_low, inside_same}
+use Rattle.vcode.proofs.Measuring.{Measured, Empty, Put, within, each_mapped}
+use Rattle.vcode.proofs.Results.{Serves, Owed, owed_each}
 use Rattle.read_copies.specs.declared.known.KnownCopy.{KnownCopy}
-use Rattle.read_copies.specs.Copied.{copy_of, read_by, survives, surviving, made_by, with_copy, after, reading_lines, known_behind, reading_block, reading_copies}
+use Rattle.read_copies.specs.Copied.{copy_of, read_by, survives, surviving, made_by, with_copy, after, reading_lines, known_behind, reading_block}
 use Rattle.read_copies.proofs.Running.{runs}
-
--- ---- of the lines of a block
-
-lines_sum : (g : Line ℕ → ℕ) → Stays g → (copies : List KnownCopy) (lines : List (Line ℕ)) → sum_by g (reading_lines copies lines) ≡ sum_by g lines
-lines_sum g stays copies [] = refl
-lines_sum g stays copies (l ∷ lines) =
-    let m : Line ℕ = with_line (read_by copies) l in
-    sum_by-cons g m (reading_lines (after m copies) lines) ∙ ap (λ n. n + sum_by g (reading_lines (after m copies) lines)) (stays (read_by copies) l)
-    ∙ ap (λ n. g l + n) (lines_sum g stays (after m copies) lines) ∙ sym (sum_by-cons g l lines)
-
-lines_all : (test : Line ℕ → Bool) → Stays test → (copies : List KnownCopy) (lines : List (Line ℕ)) → list_all test (reading_lines copies lines) ≡ list_all test lines
-lines_all test stays copies [] = refl
-lines_all test stays copies (l ∷ lines) =
-    let m : Line ℕ = with_line (read_by copies) l in
-    ap (λ b. b && list_all test (reading_lines (after m copies) lines)) (stays (read_by copies) l) ∙ ap (λ b. test l && b) (lines_all test stays (after m copies) lines)
-
-lines_any : (test : Line ℕ → Bool) → Stays test → (copies : List KnownCopy) (lines : List (Line ℕ)) → list_any test (reading_lines copies lines) ≡ list_any test lines
-lines_any test stays copies [] = refl
-lines_any test stays copies (l ∷ lines) =
-    let m : Line ℕ = with_line (read_by copies) l in
-    ap (λ b. b || list_any test (reading_lines (after m copies) lines)) (stays (read_by copies) l) ∙ ap (λ b. test l || b) (lines_any test stays (after m copies) lines)
-
-most_same : (copies : List KnownCopy) (lines : List (Line ℕ)) → most_in_lines (reading_lines copies lines) ≡ most_in_lines lines
-most_same copies [] = refl
-most_same copies (l ∷ lines) =
-    let m : Line ℕ = with_line (read_by copies) l in
-    ap (λ n. max n (most_in_lines (reading_lines (after m copies) lines))) (passed_stays (read_by copies) l) ∙ ap (λ n. max (args_on_stack l) n) (most_same (after m copies) lines)
-
--- ---- what pays
 
 -- a register costs what another does
 cost_same : (copies : List KnownCopy) → Costs (read_by copies)
@@ -61,49 +25,14 @@ cost_same copies (At r) = refl
 cost_same copies (Number n) = refl
 cost_same copies (Name g) = refl
 
--- of a line that costs as much, and lines behind it
-spends_same : (less cost credit : ℕ) (now rest : ℕ → Bool) → less ≡ cost → ((left : ℕ) → now left ≡ rest left) → (nat_le less credit && now (credit - less)) ≡ (nat_le cost credit && rest (credit - cost))
-spends_same less cost credit now rest e same = ap (λ n. nat_le n credit && now (credit - n)) e ∙ ap (λ b. nat_le cost credit && b) (same (credit - cost))
+no_more : (a b : ℕ) → a ≡ b → a ≤ b
+no_more a b e = omega arith
 
-affords_same : (copies : List KnownCopy) (j : Jump ℕ) (lines : List (Line ℕ)) (credit : ℕ)
-    → affords credit (with_jump (read_by (known_behind copies lines)) j) (reading_lines copies lines) ≡ affords credit j lines
-affords_same copies j [] credit = ap (λ n. nat_le n credit) (jump_cost_same (read_by copies) (cost_same copies) j)
-affords_same copies j (Tick turn w ∷ lines) credit = affords_same (after (Tick turn w) copies) j lines (credit + 32 * w)
-affords_same copies j (Set to a ∷ lines) credit =
-    let l : Line ℕ = Set to a in
+lines_measured : (copies : List KnownCopy) (lines : List (Line ℕ)) → Measured false lines (reading_lines copies lines)
+lines_measured copies [] = Empty
+lines_measured copies (l ∷ lines) =
     let m : Line ℕ = with_line (read_by copies) l in
-    spends_same (line_cost m) (line_cost l) credit (λ k. affords k (with_jump (read_by (known_behind (after m copies) lines)) j) (reading_lines (after m copies) lines)) (λ k. affords k j lines)
-    (line_cost_same (read_by copies) (cost_same copies) l) (affords_same (after m copies) j lines)
-affords_same copies j (Operate to op a b ∷ lines) credit =
-    let l : Line ℕ = Operate to op a b in
-    let m : Line ℕ = with_line (read_by copies) l in
-    spends_same (line_cost m) (line_cost l) credit (λ k. affords k (with_jump (read_by (known_behind (after m copies) lines)) j) (reading_lines (after m copies) lines)) (λ k. affords k j lines)
-    (line_cost_same (read_by copies) (cost_same copies) l) (affords_same (after m copies) j lines)
-affords_same copies j (Load to op at ∷ lines) credit =
-    let l : Line ℕ = Load to op at in
-    let m : Line ℕ = with_line (read_by copies) l in
-    spends_same (line_cost m) (line_cost l) credit (λ k. affords k (with_jump (read_by (known_behind (after m copies) lines)) j) (reading_lines (after m copies) lines)) (λ k. affords k j lines)
-    (line_cost_same (read_by copies) (cost_same copies) l) (affords_same (after m copies) j lines)
-affords_same copies j (Store size a at ∷ lines) credit =
-    let l : Line ℕ = Store size a at in
-    let m : Line ℕ = with_line (read_by copies) l in
-    spends_same (line_cost m) (line_cost l) credit (λ k. affords k (with_jump (read_by (known_behind (after m copies) lines)) j) (reading_lines (after m copies) lines)) (λ k. affords k j lines)
-    (line_cost_same (read_by copies) (cost_same copies) l) (affords_same (after m copies) j lines)
-affords_same copies j (Alloc to size ∷ lines) credit =
-    let l : Line ℕ = Alloc to size in
-    let m : Line ℕ = with_line (read_by copies) l in
-    spends_same (line_cost m) (line_cost l) credit (λ k. affords k (with_jump (read_by (known_behind (after m copies) lines)) j) (reading_lines (after m copies) lines)) (λ k. affords k j lines)
-    (line_cost_same (read_by copies) (cost_same copies) l) (affords_same (after m copies) j lines)
-affords_same copies j (Blit from to count ∷ lines) credit =
-    let l : Line ℕ = Blit from to count in
-    let m : Line ℕ = with_line (read_by copies) l in
-    spends_same (line_cost m) (line_cost l) credit (λ k. affords k (with_jump (read_by (known_behind (after m copies) lines)) j) (reading_lines (after m copies) lines)) (λ k. affords k j lines)
-    (line_cost_same (read_by copies) (cost_same copies) l) (affords_same (after m copies) j lines)
-affords_same copies j (Call to callee args ∷ lines) credit =
-    let l : Line ℕ = Call to callee args in
-    let m : Line ℕ = with_line (read_by copies) l in
-    spends_same (line_cost m) (line_cost l) credit (λ k. affords k (with_jump (read_by (known_behind (after m copies) lines)) j) (reading_lines (after m copies) lines)) (λ k. affords k j lines)
-    (line_cost_same (read_by copies) (cost_same copies) l) (affords_same (after m copies) j lines)
+    Put (measure_stays (read_by copies) l) (λ e. no_more (line_cost m) (line_cost l) (line_cost_same (read_by copies) (cost_same copies) l)) (lines_measured (after m copies) lines)
 
 -- ---- the registers that it names
 
@@ -196,78 +125,16 @@ block_low n b h =
     and_from (list_all (line_keeps (is_below n)) (reading_lines [] b.lines)) (jump_keeps (is_below n) (with_jump f b.jump)) low.0
     (jump_low n f (read_low n (known_behind [] b.lines) low.1) b.jump s.1)
 
--- ---- blocks
-
-blocks_sum : (g : Block ℕ → ℕ) → ((b : Block ℕ) → g (reading_block b) ≡ g b) → (blocks : List (Block ℕ)) → sum_by g (map reading_block blocks) ≡ sum_by g blocks
-blocks_sum g same [] = refl
-blocks_sum g same (b ∷ blocks) =
-    sum_by-cons g (reading_block b) (map reading_block blocks) ∙ ap (λ n. n + sum_by g (map reading_block blocks)) (same b) ∙ ap (λ n. g b + n) (blocks_sum g same blocks)
-    ∙ sym (sum_by-cons g b blocks)
-
-blocks_all : (test : Block ℕ → Bool) → ((b : Block ℕ) → test (reading_block b) ≡ test b) → (blocks : List (Block ℕ)) → list_all test (map reading_block blocks) ≡ list_all test blocks
-blocks_all test same [] = refl
-blocks_all test same (b ∷ blocks) = ap (λ c. c && list_all test (map reading_block blocks)) (same b) ∙ ap (λ c. test b && c) (blocks_all test same blocks)
-
-blocks_low : (n : ℕ) (blocks : List (Block ℕ)) → list_all (block_keeps (is_below n)) blocks ≡ true → list_all (block_keeps (is_below n)) (map reading_block blocks) ≡ true
-blocks_low n [] h = refl
-blocks_low n (b ∷ blocks) h =
-    let s = and_parts (block_keeps (is_below n) b) (list_all (block_keeps (is_below n)) blocks) h in
-    and_from (block_keeps (is_below n) (reading_block b)) (list_all (block_keeps (is_below n)) (map reading_block blocks)) (block_low n b s.0) (blocks_low n blocks s.1)
-
-first_same : (blocks : List (Block ℕ)) → allocs_first (map reading_block blocks) ≡ allocs_first blocks
-first_same [] = refl
-first_same (b ∷ blocks) = blocks_all (λ (d : Block ℕ). not (list_any is_alloc d.lines)) (λ d. ap not (lines_any is_alloc alloc_stays [] d.lines)) blocks
-
-most_kept : (blocks : List (Block ℕ)) → most_in_blocks (map reading_block blocks) ≡ most_in_blocks blocks
-most_kept [] = refl
-most_kept (b ∷ blocks) = ap (λ n. max n (most_in_blocks (map reading_block blocks))) (most_same [] b.lines) ∙ ap (λ n. max (most_in_lines b.lines) n) (most_kept blocks)
-
 -- ---- the whole
 
-pub weight_same : (v : Code ℕ) → code_weight (reading_copies v) ≡ code_weight v
-weight_same v = blocks_sum (λ (b : Block ℕ). sum_by weight_of b.lines) (λ b. lines_sum weight_of weight_stays [] b.lines) v.blocks
-
-area_same : (v : Code ℕ) → area (reading_copies v) ≡ area v
-area_same v = blocks_sum (λ (b : Block ℕ). sum_by alloc_bytes b.lines) (λ b. lines_sum alloc_bytes bytes_stay [] b.lines) v.blocks
-
-pub places_kept : (n : ℕ) (v : Code ℕ) → keeps_places (is_below n) v ≡ true → keeps_places (is_below n) (reading_copies v) ≡ true
-places_kept n v h =
-    let s = and_parts (list_all (λ (d : Destination ℕ). is_below n d.place) v.params) (list_all (block_keeps (is_below n)) v.blocks) h in
-    and_from (list_all (λ (d : Destination ℕ). is_below n d.place) v.params) (list_all (block_keeps (is_below n)) (map reading_block v.blocks)) s.0 (blocks_low n v.blocks s.1)
-
-pub regular : (v : Code ℕ) → IsRegular v → IsRegular (reading_copies v)
-regular v is =
+block_serves : (n : ℕ) (b : Block ℕ) → Serves n b (reading_block b)
+block_serves n b =
+    let f : Replacing = read_by (known_behind [] b.lines) in
     record {
-      few_params = is.few_params;
-      inside =
-          ap (λ n. list_all (λ (b : Block ℕ). leads_inside n b.jump) (map reading_block v.blocks)) (length-map v.blocks reading_block)
-          ∙ blocks_all (λ (b : Block ℕ). leads_inside (length v.blocks) b.jump) (λ b. inside_same (length v.blocks) (read_by (known_behind [] b.lines)) b.jump) v.blocks ∙ is.inside;
-      first = first_same v.blocks ∙ is.first;
-      small = ap (λ n. nat_le n 1048576) (area_same v) ∙ is.small;
-      paid = blocks_all is_paid (λ b. affords_same [] b.jump b.lines 0) v.blocks ∙ is.paid;
-      paced =
-          blocks_all (λ (b : Block ℕ). nat_le (sum_by turns_of b.lines) 40000) (λ b. ap (λ n. nat_le n 40000) (lines_sum turns_of turns_stay [] b.lines)) v.blocks ∙ is.paced;
-      few_args = blocks_all (λ (b : Block ℕ). list_all passes_few b.lines) (λ b. lines_all passes_few few_stays [] b.lines) v.blocks ∙ is.few_args;
+      within = within b (reading_block b) (lines_measured [] b.lines) (no_more (jump_cost (with_jump f b.jump)) (jump_cost b.jump) (jump_cost_same f (cost_same (known_behind [] b.lines)) b.jump));
+      inside = λ m h. inside_same m f b.jump ∙ h;
+      names = block_low n b;
     }
 
-pub keeps : (n : ℕ) (v : Code ℕ) → Keeps (coded virtual v n) (coded virtual (reading_copies v) n)
-keeps n v =
-    let weight = weight_same v in
-    let bytes = area_same v in
-    let passed = most_kept v.blocks in
-    record {
-      params = refl;
-      result = refl;
-      weight = omega (arith, weight);
-      area = omega (arith, bytes);
-      outgoing = omega (arith, passed);
-      places = omega arith;
-      runs = runs v;
-    }
-
--- the code with these parameters and blocks
-pub made : (v : Code ℕ) (params : List (Destination ℕ)) (blocks : List (Block ℕ)) → params ≡ v.params → blocks ≡ map reading_block v.blocks
-    → reading_copies v ≡ record { result = v.result; params = params; blocks = blocks }
-made v params blocks same is =
-    ap (λ (ps : List (Destination ℕ)). record { result = v.result; params = ps; blocks = map reading_block v.blocks }) (sym same)
-    ∙ ap (λ (bs : List (Block ℕ)). record { result = v.result; params = params; blocks = bs }) (sym is)
+pub owed : (v : VFunc) → Owed v (map reading_block v.code.blocks)
+owed v = owed_each v (map reading_block v.code.blocks) (each_mapped (Serves v.registers) reading_block (block_serves v.registers) v.code.blocks) (runs v.code)

@@ -1,5 +1,5 @@
--- The virtual code of a function passes no more arguments on the stack, and makes no larger blocks of memory, than the function does.
-use Rattle.std.proofs.Common.{◌≡◌, ℕ, ◌≤◌, List, [], ◌∷◌, ◌++◌, length, map, refl, sym, subst, arith, append_assoc}
+-- The virtual code of a function passes no more arguments on the stack, and makes no larger blocks of memory, than the function does: so it takes no more of the stack.
+use Rattle.std.proofs.Common.{◌≡◌, ℕ, ◌+◌, ◌≤◌, List, [], ◌∷◌, ◌++◌, length, map, refl, sym, subst, arith, append_assoc}
 use Rattle.std.specs.Prelude.{max}
 use Rattle.std.proofs.lemmas.List.{length-map}
 use Rattle.il_ast.specs.declared.instruction.Inst.{Inst}
@@ -7,7 +7,7 @@ use Rattle.il_ast.specs.declared.instruction.Inst.TheVariants.{Unary, Binary, Al
 use Rattle.il_ast.specs.declared.instruction.Lined.{Lined}
 use Rattle.il_ast.specs.declared.block.Block.{Block}
 use Rattle.il_ast.specs.declared.function.Func.{Func}
-use Rattle.il_ast.specs.Cost.{args_on_stack as inst_args, largest_in, largest_of, alloc_area}
+use Rattle.il_ast.specs.Cost.{args_on_stack as inst_args, largest_in, largest_of, alloc_area, phi_count, need}
 use Rattle.phi_copies.specs.declared.ending.Assignment.{Assignment}
 use Rattle.phi_copies.specs.declared.ending.Ending.{Ending}
 use Rattle.phi_copies.specs.Endings.{Endings}
@@ -16,7 +16,7 @@ use Rattle.vcode.specs.declared.place.Operand.{Operand}
 use Rattle.vcode.specs.declared.line.Line.{Line}
 use Rattle.vcode.specs.declared.line.Line.TheVariants.{Tick, Set, Operate, Load, Store, Alloc, Blit, Call}
 use Rattle.vcode.specs.declared.code.Block.{Block as VirtualBlock}
-use Rattle.vcode.specs.Outgoing.{most_in_lines, most_in_blocks, outgoing}
+use Rattle.vcode.specs.Outgoing.{most_in_lines, most_in_blocks, outgoing, frame_bound}
 use Rattle.vcode.specs.Regular.{area}
 use Rattle.select.specs.Selected.{operand_of, argument_of, inst_lines, turn_lines, all_lines, copy_lines, unary_lines, binary_lines, assignment_lines, ending_lines, edge_of, blocks_of, selected}
 use Rattle.select.specs.Typed.{Classes}
@@ -77,12 +77,20 @@ blocks_pass classes (b ∷ bs) (e ∷ es) rest h =
     let more = blocks_pass classes bs es rest h in
     omega (arith, one, more)
 
-pub code_passes : (classes : Classes) (f : Func) (code : Endings) → outgoing (selected classes f code) ≤ largest_of f.blocks
+code_passes : (classes : Classes) (f : Func) (code : Endings) → outgoing (selected classes f code) ≤ largest_of f.blocks
 unfolding selected
 code_passes classes f code = blocks_pass classes f.blocks code.endings (map (edge_of classes) code.edges) (edges_pass classes code.edges)
 
 -- ---- blocks of memory
 
-pub code_area : (classes : Classes) (f : Func) (code : Endings) → IsLowered f code → area (selected classes f code) ≡ alloc_area f
+code_area : (classes : Classes) (f : Func) (code : Endings) → IsLowered f code → area (selected classes f code) ≡ alloc_area f
 unfolding selected
 code_area classes f code is = area_is classes f code is
+
+-- ---- in all
+
+pub takes_no_more : (classes : Classes) (f : Func) (code : Endings) → IsLowered f code → frame_bound (selected classes f code) (length f.temps + phi_count f) ≤ need f
+takes_no_more classes f code is =
+    let bytes = code_area classes f code is in
+    let passed = code_passes classes f code in
+    omega (arith, bytes, passed)

@@ -3,7 +3,6 @@ use Rattle.std.proofs.Common.{◌≡◌, ◌+◌, List, [], ◌∷◌, length, m
 use Rattle.il_ast.specs.declared.operation.Class.{Class}
 use Rattle.il_ast.specs.declared.function.Param.{Param}
 use Rattle.il_ast.specs.declared.function.Func.{Func}
-use Rattle.il_ast.specs.Cost.{phi_count}
 use Rattle.il_ast.specs.Passes.{IsCodeOf, classes_of, body_of}
 use Rattle.il_ast.proofs.Simulated.{meaning_composes}
 use Rattle.phi_copies.specs.Endings.{Endings, begin as begin_source, step as step_source}
@@ -18,7 +17,6 @@ use Rattle.select.specs.Typed.{Classes}
 use Rattle.select.specs.Classes.{classes_in as temp_classes}
 use Rattle.select.proofs.Ending.{selected_keeps}
 use Rattle.select.proofs.LoweredTyping.{lowered_is_typed}
-use Rattle.select.proofs.Stack.{code_passes, code_area}
 use Rattle.select.proofs.Weights.{weighs_no_more}
 
 classes_are : (ps : List Param) → classes_in (map parameter_of ps) ≡ classes_of ps
@@ -33,18 +31,14 @@ selected_result : (classes : Classes) (f : Func) (code : Endings) → (selected 
 unfolding selected
 selected_result classes f code = refl
 
-pub is_code : (f : Func) (code : Endings) → IsGoodFunction f → IsLowered f code → IsCodeOf f (coded virtual (selected (temp_classes f) f code) (length f.temps + phi_count f))
+pub is_code : (f : Func) (code : Endings) → IsGoodFunction f → IsLowered f code → IsCodeOf f (coded virtual (selected (temp_classes f) f code))
 is_code f code good is =
     let classes = temp_classes f in
     let v = selected classes f code in
-    let bytes = code_area classes f code is in
     record {
       params = selected_classes classes f code;
       result = selected_result classes f code;
       weight = weighs_no_more classes f code good is;
-      area = omega (arith, bytes);
-      outgoing = code_passes classes f code;
-      places = omega arith;
       runs = λ globals.
           meaning_composes (classes_of f.params) (body_of f globals) (begin_source f) (step_source globals f code) (begin virtual v) (step virtual globals v)
           (lowered_keeps f code is globals) (selected_keeps classes f code (lowered_is_typed f code good is) globals);

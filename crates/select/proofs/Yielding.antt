@@ -60,9 +60,9 @@ set_line c t p a x e = ap (takes virtual t p) e
 pub operate_line : (c : Setting) (t : State ℕ) (p : ℕ) (op : Operation) (a b : Operand ℕ) (u v x : Value) → value_of c.globals t.values a ≡ Some u → value_of c.globals t.values b ≡ Some v → operate t.memory op u v ≡ Some x → line_step virtual c.globals c.given t (Operate p op a b) ≡ Does (On (set_to t p x))
 unfolding line_step
 operate_line c t p op a b u v x e f g =
-    ap (λ o. sets virtual t p (option_and_then (λ y. option_and_then (λ z. operate t.memory op y z) (value_of c.globals t.values b)) o)) e
-    ∙ ap (λ o. sets virtual t p (option_and_then (λ z. operate t.memory op u z) o)) f
-    ∙ ap (sets virtual t p) g
+    ap (λ o. takes virtual t p (option_and_then (λ y. option_and_then (λ z. operate t.memory op y z) (value_of c.globals t.values b)) o)) e
+    ∙ ap (λ o. takes virtual t p (option_and_then (λ z. operate t.memory op u z) o)) f
+    ∙ ap (takes virtual t p) g
 
 pub load_line : (c : Setting) (t : State ℕ) (p : ℕ) (op : LoadOp) (at : Operand ℕ) (u x : Value) → value_of c.globals t.values at ≡ Some u → loaded t.memory op u ≡ Some x → line_step virtual c.globals c.given t (Load p op (at_once at)) ≡ Does (On (set_to t p x))
 unfolding line_step

@@ -1,13 +1,14 @@
 //! Virtual code, made from functions without phis.
 ghost use Rattle.std.specs.Prelude.{◌≡◌, ◌≤◌, ◌+◌, ◌++◌, length, map, IfOk, OnOk};
 ghost use Rattle.il_ast.specs.declared.limits.TheConstants.{FUNCTION_WEIGHT, TEMPORARIES};
-ghost use Rattle.il_ast.specs.Cost.{phi_count};
+ghost use Rattle.il_ast.specs.Cost.{phi_count, need};
 ghost use Rattle.select.specs.Classes.{classes_in};
 ghost use Rattle.select.specs.Tables.{listed};
 ghost use Rattle.select.specs.Selected.{selected};
 ghost use Rattle.select.specs.Narrow.{narrow_block, narrow_edge, narrow_blocks, narrow_code};
 ghost use Rattle.il_ast.specs.Passes.{IsCodeOf};
 ghost use Rattle.vcode.specs.Coded.{virtual_code};
+ghost use Rattle.vcode.specs.Outgoing.{frame_bound};
 
 use crate::classes::classes;
 use crate::instruction::push_turns;
@@ -119,7 +120,7 @@ fn count_registers(func: &Func) -> usize
 }
 
 /// The virtual code of a function without phis. It has a register for each temporary of the function and each phi, and does what the function means, turn for
-/// turn and for the same weight.
+/// turn and for the same weight. With a slot for each register it takes no more of the stack than a call of the function is counted for.
 ///
 /// # Errors
 ///
@@ -128,6 +129,7 @@ pub fn select(alloc: Global, source: &NoPhi<'_>) -> Result<VFunc, AllocError>
     ensures code { IfOk result (λ v. v.code ≡ selected (classes_in source.now.func.now) source.now.func.now (record { endings = source.now.endings; edges = source.now.edges })) }
     ensures registers { IfOk result (λ v. v.registers ≡ length source.now.func.now.temps + phi_count source.now.func.now) }
     ensures is { IfOk result (λ v. IsCodeOf source.now.func.now (virtual_code v)) }
+    ensures takes { IfOk result (λ v. frame_bound v.code v.registers ≤ need source.now.func.now) }
 {
     let classes = classes(alloc, source.func)?;
     let code = code_of(alloc, classes.as_slice(), source)?;

@@ -1,32 +1,25 @@
--- The code with copies is regular, takes no more than the code did, and keeps it.
-use Rattle.std.proofs.Common.{◌≡◌, ℕ, ◌+◌, ◌-◌, ◌*◌, ◌≤◌, Bool, true, false, not, ◌&&◌, ◌||◌, nat_le, if◌then◌else◌, List, [], ◌∷◌, map, length, Option, Some, None, refl, sym, ◌∙◌, ap, arith}
-use Rattle.std.specs.Prelude.{max}
-use Rattle.std.specs.List.{list_all, list_any, sum_by}
-use Rattle.std.proofs.lemmas.Bool.Decides.{nat_tests}
+-- Code with copies takes no more than the code did, and names registers of the function; and no marks are closed.
+use Rattle.std.proofs.Common.{◌≡◌, ℕ, ◌+◌, ◌≤◌, Bool, true, false, ◌&&◌, nat_le, if◌then◌else◌, List, [], ◌∷◌, map, length, Option, Some, None, refl, ◌∙◌, ap, arith}
+use Rattle.std.specs.List.{list_all}
 use Rattle.std.proofs.lemmas.List.{length-map}
-use Rattle.std.proofs.lemmas.List.Sums.{sum_by-cons}
-use Rattle.il_ast.specs.Passes.{Keeps}
-use Rattle.vcode.specs.declared.place.Operand.{Operand}
-use Rattle.vcode.specs.declared.place.Destination.{Destination}
 use Rattle.vcode.specs.declared.place.Argument.{Argument}
-use Rattle.vcode.specs.declared.line.Operation.{Operation}
+use Rattle.vcode.specs.declared.place.Destination.{Destination}
 use Rattle.vcode.specs.declared.line.Line.{Line}
 use Rattle.vcode.specs.declared.line.Line.TheVariants.{Tick, Set, Operate, Load, Store, Alloc, Blit, Call}
 use Rattle.vcode.specs.declared.line.Jump.{Jump}
 use Rattle.vcode.specs.declared.line.Jump.TheVariants.{Goto, Branch, Return, Halt}
 use Rattle.vcode.specs.declared.code.Block.{Block}
 use Rattle.vcode.specs.declared.code.Code.{Code}
-use Rattle.vcode.specs.Coded.{classes_in, coded}
-use Rattle.vcode.specs.Cost.{line_cost, jump_cost, affords, is_paid}
-use Rattle.vcode.specs.Named.{operand_keeps, wanted_keeps, line_keeps, jump_keeps, block_keeps, keeps_places, is_below}
-use Rattle.vcode.specs.Outgoing.{args_on_stack, most_in_lines, most_in_blocks}
-use Rattle.vcode.specs.Places.{virtual}
-use Rattle.vcode.specs.Regular.{leads_inside, is_alloc, allocs_first, alloc_bytes, area, turns_of, passes_few, weight_of, code_weight, IsRegular}
+use Rattle.vcode.specs.declared.function.VFunc.{VFunc}
+use Rattle.vcode.specs.Cost.{line_cost, jump_cost}
+use Rattle.vcode.specs.Named.{operand_keeps, wanted_keeps, line_keeps, jump_keeps, block_keeps, is_below}
+use Rattle.vcode.specs.Regular.{leads_inside}
+use Rattle.vcode.proofs.Measuring.{measure, nothing_taken, Measured, Empty, Put, within, each_mapped}
+use Rattle.vcode.proofs.Results.{Serves, Owed, owed_each}
 use Rattle.sign_extensions.specs.Whole.{is_marked, takes_whole, wants_whole, keeps_marks, are_closed, is_extension, with_claim, jump_claim, with_copy, with_copies}
-use Rattle.sign_extensions.proofs.Running.{Copied, runs}
+use Rattle.sign_extensions.proofs.Running.{runs}
 
 -- ---- without marks
-
 none_marked : (r : ℕ) → is_marked [] r ≡ false
 none_marked r = refl
 
@@ -63,102 +56,49 @@ none_closed f =
     both_are (list_all (takes_whole []) f.params) (list_all (λ (b : Block ℕ). list_all (keeps_marks []) b.lines) f.blocks) (every (takes_whole []) none_takes f.params)
     (every (λ (b : Block ℕ). list_all (keeps_marks []) b.lines) (λ b. every (keeps_marks []) none_keeps b.lines) f.blocks)
 
--- ---- measures that a copy leaves
+-- ---- what lines take
 
 either : {X : Type 0} (g : Line ℕ → X) (x : X) (l m : Line ℕ) (t : Bool) → g l ≡ x → g m ≡ x → g (if t then l else m) ≡ x
 either g x l m true h k = h
 either g x l m false h k = k
 
-abbrev Stays : {X : Type 0} → List Bool → (Line ℕ → X) → Type 0
-Stays marks g = (l : Line ℕ) → g (with_copy marks l) ≡ g l
+measure_stays : (marks : List Bool) (l : Line ℕ) → measure (with_copy marks l) ≡ measure l
+measure_stays marks (Tick turn w) = refl
+measure_stays marks (Set to a) = refl
+measure_stays marks (Operate to op a b) = either measure nothing_taken (Set to a) (Operate to op a b) (is_extension marks op a b) refl refl
+measure_stays marks (Load to op at) = refl
+measure_stays marks (Store size a at) = refl
+measure_stays marks (Alloc to size) = refl
+measure_stays marks (Blit from to count) = refl
+measure_stays marks (Call to callee args) =
+    ap (λ n. record { weight = 0; turns = 0; bytes = 0; few = nat_le n 64; makes = false }) (length-map args (with_claim marks))
 
-weight_stays : (marks : List Bool) → Stays marks weight_of
-weight_stays marks (Tick turn w) = refl
-weight_stays marks (Set to a) = refl
-weight_stays marks (Operate to op a b) = either weight_of 0 (Set to a) (Operate to op a b) (is_extension marks op a b) refl refl
-weight_stays marks (Load to op at) = refl
-weight_stays marks (Store size a at) = refl
-weight_stays marks (Alloc to size) = refl
-weight_stays marks (Blit from to count) = refl
-weight_stays marks (Call to callee args) = refl
+line_costs : (marks : List Bool) (l : Line ℕ) → line_cost (with_copy marks l) ≤ line_cost l
+line_costs marks (Tick turn w) = omega arith
+line_costs marks (Set to a) = omega arith
+line_costs marks (Operate to op a b) = by (is_extension marks op a b)
+  where
+    by : (t : Bool) → line_cost (if t then Set to a else Operate to op a b) ≤ line_cost (Operate to op a b)
+    by true = omega arith
+    by false = omega arith
+line_costs marks (Load to op at) = omega arith
+line_costs marks (Store size a at) = omega arith
+line_costs marks (Alloc to size) = omega arith
+line_costs marks (Blit from to count) = omega arith
+line_costs marks (Call to callee args) = let many = length-map args (with_claim marks) in omega (arith, many)
 
-bytes_stay : (marks : List Bool) → Stays marks alloc_bytes
-bytes_stay marks (Tick turn w) = refl
-bytes_stay marks (Set to a) = refl
-bytes_stay marks (Operate to op a b) = either alloc_bytes 0 (Set to a) (Operate to op a b) (is_extension marks op a b) refl refl
-bytes_stay marks (Load to op at) = refl
-bytes_stay marks (Store size a at) = refl
-bytes_stay marks (Alloc to size) = refl
-bytes_stay marks (Blit from to count) = refl
-bytes_stay marks (Call to callee args) = refl
-
-turns_stay : (marks : List Bool) → Stays marks turns_of
-turns_stay marks (Tick turn w) = refl
-turns_stay marks (Set to a) = refl
-turns_stay marks (Operate to op a b) = either turns_of 0 (Set to a) (Operate to op a b) (is_extension marks op a b) refl refl
-turns_stay marks (Load to op at) = refl
-turns_stay marks (Store size a at) = refl
-turns_stay marks (Alloc to size) = refl
-turns_stay marks (Blit from to count) = refl
-turns_stay marks (Call to callee args) = refl
-
-alloc_stays : (marks : List Bool) → Stays marks is_alloc
-alloc_stays marks (Tick turn w) = refl
-alloc_stays marks (Set to a) = refl
-alloc_stays marks (Operate to op a b) = either is_alloc false (Set to a) (Operate to op a b) (is_extension marks op a b) refl refl
-alloc_stays marks (Load to op at) = refl
-alloc_stays marks (Store size a at) = refl
-alloc_stays marks (Alloc to size) = refl
-alloc_stays marks (Blit from to count) = refl
-alloc_stays marks (Call to callee args) = refl
-
-few_stays : (marks : List Bool) → Stays marks passes_few
-few_stays marks (Tick turn w) = refl
-few_stays marks (Set to a) = refl
-few_stays marks (Operate to op a b) = either passes_few true (Set to a) (Operate to op a b) (is_extension marks op a b) refl refl
-few_stays marks (Load to op at) = refl
-few_stays marks (Store size a at) = refl
-few_stays marks (Alloc to size) = refl
-few_stays marks (Blit from to count) = refl
-few_stays marks (Call to callee args) = ap (λ n. nat_le n 64) (length-map args (with_claim marks))
-
-passed_stays : (marks : List Bool) → Stays marks args_on_stack
-passed_stays marks (Tick turn w) = refl
-passed_stays marks (Set to a) = refl
-passed_stays marks (Operate to op a b) = either args_on_stack 0 (Set to a) (Operate to op a b) (is_extension marks op a b) refl refl
-passed_stays marks (Load to op at) = refl
-passed_stays marks (Store size a at) = refl
-passed_stays marks (Alloc to size) = refl
-passed_stays marks (Blit from to count) = refl
-passed_stays marks (Call to callee args) = ap (λ n. n - 8) (length-map args (with_claim marks))
-
--- ---- of lines and of blocks
-
-sum_same : {X : Type 0} (g : X → ℕ) (f : X → X) → ((x : X) → g (f x) ≡ g x) → (xs : List X) → sum_by g (map f xs) ≡ sum_by g xs
-sum_same g f same [] = refl
-sum_same g f same (x ∷ xs) =
-    sum_by-cons g (f x) (map f xs) ∙ ap (λ n. n + sum_by g (map f xs)) (same x) ∙ ap (λ n. g x + n) (sum_same g f same xs) ∙ sym (sum_by-cons g x xs)
+lines_measured : (marks : List Bool) (lines : List (Line ℕ)) → Measured false lines (map (with_copy marks) lines)
+lines_measured marks [] = Empty
+lines_measured marks (l ∷ lines) = Put (measure_stays marks l) (λ e. line_costs marks l) (lines_measured marks lines)
 
 all_same : {X : Type 0} (test : X → Bool) (f : X → X) → ((x : X) → test (f x) ≡ test x) → (xs : List X) → list_all test (map f xs) ≡ list_all test xs
 all_same test f same [] = refl
 all_same test f same (x ∷ xs) = ap (λ b. b && list_all test (map f xs)) (same x) ∙ ap (λ b. test x && b) (all_same test f same xs)
 
-any_same : {X : Type 0} (test : X → Bool) (f : X → X) → ((x : X) → test (f x) ≡ test x) → (xs : List X) → list_any test (map f xs) ≡ list_any test xs
-any_same test f same [] = refl
-any_same test f same (x ∷ xs) = ap (λ b. b || list_any test (map f xs)) (same x) ∙ ap (λ b. test x || b) (any_same test f same xs)
-
 all_kept : {X : Type 0} (test : X → Bool) (f : X → X) → ((x : X) → test x ≡ true → test (f x) ≡ true) → (xs : List X) → list_all test xs ≡ true → list_all test (map f xs) ≡ true
 all_kept test f kept [] h = refl
 all_kept test f kept (x ∷ xs) h =
     let s = both_true (test x) (list_all test xs) h in both_are (test (f x)) (list_all test (map f xs)) (kept x s.0) (all_kept test f kept xs s.1)
-
-most_lines : (marks : List Bool) (ls : List (Line ℕ)) → most_in_lines (map (with_copy marks) ls) ≡ most_in_lines ls
-most_lines marks [] = refl
-most_lines marks (l ∷ ls) = ap (λ n. max n (most_in_lines (map (with_copy marks) ls))) (passed_stays marks l) ∙ ap (λ n. max (args_on_stack l) n) (most_lines marks ls)
-
-most_blocks : (marks : List Bool) (bs : List (Block ℕ)) → most_in_blocks (map (with_copies marks) bs) ≡ most_in_blocks bs
-most_blocks marks [] = refl
-most_blocks marks (b ∷ bs) = ap (λ n. max n (most_in_blocks (map (with_copies marks) bs))) (most_lines marks b.lines) ∙ ap (λ n. max (most_in_lines b.lines) n) (most_blocks marks bs)
 
 -- ---- of a jump
 
@@ -181,66 +121,6 @@ claim_names marks test (Branch on met otherwise) = refl
 claim_names marks test (Return None) = refl
 claim_names marks test (Return (Some a)) = refl
 claim_names marks test Halt = refl
-
--- ---- what pays
-
--- a line that costs no more, with no less paid
-spends : (cost less credit more : ℕ) (rest now : Bool) → less ≤ cost → credit ≤ more → (nat_le cost credit ≡ true → rest ≡ true → now ≡ true) → (nat_le cost credit && rest) ≡ true → (nat_le less more && now) ≡ true
-spends cost less credit more rest now h k go paid =
-    let s = both_true (nat_le cost credit) rest paid in
-    let enough = s.0 in
-    both_are (nat_le less more) now (grind (arith, nat_tests)) (go s.0 s.1)
-
-left_more : (cost less credit more : ℕ) → less ≤ cost → credit ≤ more → nat_le cost credit ≡ true → credit - cost ≤ more - less
-left_more cost less credit more h k e = let le : cost ≤ credit = grind (arith, nat_tests) in omega (arith, le)
-
-operate_affords : (marks : List Bool) (j i : Jump ℕ) (ls : List (Line ℕ)) (to : ℕ) (op : Operation) (a b : Operand ℕ) (credit more : ℕ) → credit ≤ more
-    → ((less least : ℕ) → less ≤ least → affords less j ls ≡ true → affords least i (map (with_copy marks) ls) ≡ true)
-    → (t : Bool) → affords credit j (Operate to op a b ∷ ls) ≡ true → affords more i ((if t then Set to a else Operate to op a b) ∷ map (with_copy marks) ls) ≡ true
-operate_affords marks j i ls to op a b credit more le go true h =
-    let l : Line ℕ = Operate to op a b in
-    let m : Line ℕ = Set to a in
-    spends (line_cost l) (line_cost m) credit more (affords (credit - line_cost l) j ls) (affords (more - line_cost m) i (map (with_copy marks) ls)) (omega arith) le
-    (λ e. go (credit - line_cost l) (more - line_cost m) (left_more (line_cost l) (line_cost m) credit more (omega arith) le e)) h
-operate_affords marks j i ls to op a b credit more le go false h =
-    let l : Line ℕ = Operate to op a b in
-    spends (line_cost l) (line_cost l) credit more (affords (credit - line_cost l) j ls) (affords (more - line_cost l) i (map (with_copy marks) ls)) (omega arith) le
-    (λ e. go (credit - line_cost l) (more - line_cost l) (omega (arith, le))) h
-
-paid_more : (cost less credit more : ℕ) → less ≡ cost → credit ≤ more → nat_le cost credit ≡ true → nat_le less more ≡ true
-paid_more cost less credit more same le h = grind (arith, nat_tests)
-
-same_affords : (marks : List Bool) (j i : Jump ℕ) → jump_cost i ≡ jump_cost j → (ls : List (Line ℕ)) (credit more : ℕ) → credit ≤ more → affords credit j ls ≡ true → affords more i (map (with_copy marks) ls) ≡ true
-same_affords marks j i same [] credit more le h = paid_more (jump_cost j) (jump_cost i) credit more same le h
-same_affords marks j i same (Tick turn w ∷ ls) credit more le h = same_affords marks j i same ls (credit + 32 * w) (more + 32 * w) (omega (arith, le)) h
-same_affords marks j i same (Set to a ∷ ls) credit more le h =
-    let l : Line ℕ = Set to a in
-    spends (line_cost l) (line_cost l) credit more (affords (credit - line_cost l) j ls) (affords (more - line_cost l) i (map (with_copy marks) ls)) (omega arith) le
-    (λ e. same_affords marks j i same ls (credit - line_cost l) (more - line_cost l) (omega (arith, le))) h
-same_affords marks j i same (Operate to op a b ∷ ls) credit more le h =
-    operate_affords marks j i ls to op a b credit more le (λ less least e. same_affords marks j i same ls less least e) (is_extension marks op a b) h
-same_affords marks j i same (Load to op at ∷ ls) credit more le h =
-    let l : Line ℕ = Load to op at in
-    spends (line_cost l) (line_cost l) credit more (affords (credit - line_cost l) j ls) (affords (more - line_cost l) i (map (with_copy marks) ls)) (omega arith) le
-    (λ e. same_affords marks j i same ls (credit - line_cost l) (more - line_cost l) (omega (arith, le))) h
-same_affords marks j i same (Store size a at ∷ ls) credit more le h =
-    let l : Line ℕ = Store size a at in
-    spends (line_cost l) (line_cost l) credit more (affords (credit - line_cost l) j ls) (affords (more - line_cost l) i (map (with_copy marks) ls)) (omega arith) le
-    (λ e. same_affords marks j i same ls (credit - line_cost l) (more - line_cost l) (omega (arith, le))) h
-same_affords marks j i same (Alloc to size ∷ ls) credit more le h =
-    let l : Line ℕ = Alloc to size in
-    spends (line_cost l) (line_cost l) credit more (affords (credit - line_cost l) j ls) (affords (more - line_cost l) i (map (with_copy marks) ls)) (omega arith) le
-    (λ e. same_affords marks j i same ls (credit - line_cost l) (more - line_cost l) (omega (arith, le))) h
-same_affords marks j i same (Blit from to count ∷ ls) credit more le h =
-    let l : Line ℕ = Blit from to count in
-    spends (line_cost l) (line_cost l) credit more (affords (credit - line_cost l) j ls) (affords (more - line_cost l) i (map (with_copy marks) ls)) (omega arith) le
-    (λ e. same_affords marks j i same ls (credit - line_cost l) (more - line_cost l) (omega (arith, le))) h
-same_affords marks j i same (Call to callee args ∷ ls) credit more le h =
-    let l : Line ℕ = Call to callee args in
-    let m : Line ℕ = Call to callee (map (with_claim marks) args) in
-    let many = length-map args (with_claim marks) in
-    spends (line_cost l) (line_cost m) credit more (affords (credit - line_cost l) j ls) (affords (more - line_cost m) i (map (with_copy marks) ls)) (omega (arith, many)) le
-    (λ e. same_affords marks j i same ls (credit - line_cost l) (more - line_cost m) (omega (arith, le, many))) h
 
 -- ---- the places that it names
 
@@ -269,61 +149,14 @@ block_low marks n b h =
 
 -- ---- the whole
 
-weight_same : (marks : List Bool) (v w : Code ℕ) → Copied marks v w → code_weight w ≡ code_weight v
-weight_same marks v w c =
-    ap (λ (bs : List (Block ℕ)). sum_by (λ (b : Block ℕ). sum_by weight_of b.lines) bs) c.blocks
-    ∙ sum_same (λ (b : Block ℕ). sum_by weight_of b.lines) (with_copies marks) (λ b. sum_same weight_of (with_copy marks) (weight_stays marks) b.lines) v.blocks
-
-area_same : (marks : List Bool) (v w : Code ℕ) → Copied marks v w → area w ≡ area v
-area_same marks v w c =
-    ap (λ (bs : List (Block ℕ)). sum_by (λ (b : Block ℕ). sum_by alloc_bytes b.lines) bs) c.blocks
-    ∙ sum_same (λ (b : Block ℕ). sum_by alloc_bytes b.lines) (with_copies marks) (λ b. sum_same alloc_bytes (with_copy marks) (bytes_stay marks) b.lines) v.blocks
-
-pub still_light : (marks : List Bool) (v w : Code ℕ) → Copied marks v w → nat_le (code_weight v) 40000 ≡ true → nat_le (code_weight w) 40000 ≡ true
-still_light marks v w c h = ap (λ n. nat_le n 40000) (weight_same marks v w c) ∙ h
-
-pub places_kept : (marks : List Bool) (n : ℕ) (v w : Code ℕ) → Copied marks v w → keeps_places (is_below n) v ≡ true → keeps_places (is_below n) w ≡ true
-places_kept marks n v w c h =
-    let s = both_true (list_all (λ (d : Destination ℕ). is_below n d.place) v.params) (list_all (block_keeps (is_below n)) v.blocks) h in
-    both_are (list_all (λ (d : Destination ℕ). is_below n d.place) w.params) (list_all (block_keeps (is_below n)) w.blocks)
-    (ap (list_all (λ (d : Destination ℕ). is_below n d.place)) c.params ∙ s.0)
-    (ap (list_all (block_keeps (is_below n))) c.blocks ∙ all_kept (block_keeps (is_below n)) (with_copies marks) (block_low marks n) v.blocks s.1)
-
-first_kept : (marks : List Bool) (bs : List (Block ℕ)) → allocs_first bs ≡ true → allocs_first (map (with_copies marks) bs) ≡ true
-first_kept marks [] h = refl
-first_kept marks (b ∷ bs) h =
-    all_same (λ (d : Block ℕ). not (list_any is_alloc d.lines)) (with_copies marks) (λ d. ap not (any_same is_alloc (with_copy marks) (alloc_stays marks) d.lines)) bs ∙ h
-
--- a test of all blocks that copies leave
-blocks_same : (marks : List Bool) (test : Block ℕ → Bool) → ((b : Block ℕ) → test (with_copies marks b) ≡ test b) → (v w : Code ℕ) → Copied marks v w → list_all test v.blocks ≡ true → list_all test w.blocks ≡ true
-blocks_same marks test same v w c h = ap (list_all test) c.blocks ∙ all_same test (with_copies marks) same v.blocks ∙ h
-
-pub regular : (marks : List Bool) (v w : Code ℕ) → Copied marks v w → IsRegular v → IsRegular w
-regular marks v w c is =
+block_serves : (marks : List Bool) (n : ℕ) (b : Block ℕ) → Serves n b (with_copies marks b)
+block_serves marks n b =
     record {
-      few_params = ap (λ (ps : List (Destination ℕ)). nat_le (length ps) 64) c.params ∙ is.few_params;
-      inside =
-          ap (λ m. list_all (λ (b : Block ℕ). leads_inside m b.jump) w.blocks) (ap length c.blocks ∙ length-map v.blocks (with_copies marks))
-          ∙ blocks_same marks (λ (b : Block ℕ). leads_inside (length v.blocks) b.jump) (λ b. claim_leads marks (length v.blocks) b.jump) v w c is.inside;
-      first = ap allocs_first c.blocks ∙ first_kept marks v.blocks is.first;
-      small = ap (λ m. nat_le m 1048576) (area_same marks v w c) ∙ is.small;
-      paid = ap (list_all is_paid) c.blocks ∙ all_kept is_paid (with_copies marks) (λ b paid. same_affords marks b.jump (jump_claim marks b.jump) (claim_costs marks b.jump) b.lines 0 0 (omega arith) paid) v.blocks is.paid;
-      paced =
-          blocks_same marks (λ (b : Block ℕ). nat_le (sum_by turns_of b.lines) 40000) (λ b. ap (λ m. nat_le m 40000) (sum_same turns_of (with_copy marks) (turns_stay marks) b.lines)) v w c is.paced;
-      few_args = blocks_same marks (λ (b : Block ℕ). list_all passes_few b.lines) (λ b. all_same passes_few (with_copy marks) (few_stays marks) b.lines) v w c is.few_args;
+      within = within b (with_copies marks b) (lines_measured marks b.lines) (let same = claim_costs marks b.jump in omega (arith, same));
+      inside = λ m h. claim_leads marks m b.jump ∙ h;
+      names = block_low marks n b;
     }
 
-pub keeps : (marks : List Bool) (places : ℕ) (v w : Code ℕ) → Copied marks v w → Keeps (coded virtual v places) (coded virtual w places)
-keeps marks places v w c =
-    let weight = weight_same marks v w c in
-    let bytes = area_same marks v w c in
-    let passed : most_in_blocks w.blocks ≡ most_in_blocks v.blocks = ap most_in_blocks c.blocks ∙ most_blocks marks v.blocks in
-    record {
-      params = ap classes_in c.params;
-      result = c.result;
-      weight = omega (arith, weight);
-      area = omega (arith, bytes);
-      outgoing = omega (arith, passed);
-      places = omega arith;
-      runs = runs marks v w c;
-    }
+pub owed : (marks : List Bool) (v : VFunc) → are_closed marks v.code ≡ true → Owed v (map (with_copies marks) v.code.blocks)
+owed marks v closed =
+    owed_each v (map (with_copies marks) v.code.blocks) (each_mapped (Serves v.registers) (with_copies marks) (block_serves marks v.registers) v.code.blocks) (runs marks v.code closed)

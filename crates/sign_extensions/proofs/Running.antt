@@ -1,5 +1,5 @@
--- The code with copies runs as the code does, step by step in the same states, in which marked registers hold whole words.
-use Rattle.std.proofs.Common.{◌≡◌, ℕ, zero, suc, ◌+◌, ◌-◌, ◌%◌, ◌^◌, Bool, true, false, not, ◌&&◌, ◌||◌, nat_eq, nat_lt, if◌then◌else◌, List, [], ◌∷◌, map, length, Option, Some, None, slice_get, refl, sym, ◌∙◌, ap, subst, arith}
+-- The code with copies follows the code: marked registers hold whole words, and its registers hold at least as much, since a copy takes also what has no extension.
+use Rattle.std.proofs.Common.{◌≡◌, ℕ, zero, suc, ◌%◌, ◌^◌, Bool, true, false, not, ◌&&◌, ◌||◌, nat_eq, if◌then◌else◌, List, [], ◌∷◌, map, length, Option, Some, None, slice_get, refl, sym, ◌∙◌, ap, subst, arith}
 use Rattle.std.specs.List.{list_all}
 use Rattle.std.specs.Option.{option_map, option_and_then}
 use Rattle.std.proofs.lemmas.Bool.Decides.{nat_tests}
@@ -9,15 +9,9 @@ use Rattle.il_ast.specs.declared.operation.Class.{Class}
 use Rattle.il_ast.specs.declared.operation.Class.TheVariants.{W, L}
 use Rattle.il_ast.specs.declared.value.Value.{Value}
 use Rattle.il_ast.specs.declared.value.Value.TheVariants.{Integer, Pointer, Function}
-use Rattle.il_ast.specs.declared.value.End.TheVariants.{Turns}
-use Rattle.il_ast.specs.Values.{byte_count, in_place}
-use Rattle.il_ast.specs.Memory.{Memory, store, copy}
-use Rattle.il_ast.specs.Effect.{stored_class}
-use Rattle.il_ast.specs.Run.{one_turn, both, Outcome, Returned, Ended}
-use Rattle.il_ast.specs.Logged.{Next, On, Over, Event, Does, Calls}
-use Rattle.il_ast.specs.Keeps.{Asked, Given, Fine, KeepsCode}
-use Rattle.il_ast.specs.Simulation.{TogetherNext, Together, Lockstep}
-use Rattle.il_ast.proofs.Simulated.{lockstep_keeps}
+use Rattle.il_ast.specs.Values.{in_place}
+use Rattle.il_ast.specs.Memory.{Memory}
+use Rattle.il_ast.specs.Keeps.{KeepsCode}
 use Rattle.rv_isa.specs.declared.instruction.RegWOp.TheVariants.{Addw, Subw, Sllw, Srlw, Sraw, Mulw, Divw, Divuw, Remw, Remuw}
 use Rattle.rv_isa.specs.Arithmetic.{regw_value}
 use Rattle.vcode.specs.declared.place.Operand.{Operand}
@@ -35,47 +29,34 @@ use Rattle.vcode.specs.declared.line.Operation.TheVariants.{Reg, RegW, Compare}
 use Rattle.vcode.specs.declared.code.Block.{Block}
 use Rattle.vcode.specs.declared.code.Code.{Code}
 use Rattle.vcode.specs.Operations.{held, passed, operate, loaded}
-use Rattle.vcode.specs.Places.{Values, unknown, put, assign, kept, virtual}
+use Rattle.vcode.specs.Places.{Values, unknown, put, virtual}
 use Rattle.vcode.specs.Coded.{classes_in}
-use Rattle.vcode.specs.Step.{State, bound, begin, value_of, read, read_argument, read_result, read_all, fails, goes_on, sets, takes, changes, ticks, receives, resumes, calls, line_step, compared, branches, returns, jump_step, block_step, step_in, step, address_of}
-use Rattle.vcode.proofs.Going.{OnNext, OnEvent, StartsWith, event_self, event_more, jump_starts}
+use Rattle.vcode.specs.Step.{bound, begin, value_of, read_argument, read_all, operated, address_of, step}
+use Rattle.vcode.specs.Writes.{line_writes}
+use Rattle.vcode.specs.Acts.{Act, Asks, Gives, given, asked, act, written, Way, Lost, Enters, Answers, Halts, answering, way}
+use Rattle.vcode.specs.Claims.{Claims}
+use Rattle.vcode.specs.Follows.{Alike, Arrives, LeadAlike, Follows as CodeFollows, Jumps, Both}
+use Rattle.vcode.specs.Rewrites.{Rewrites}
+use Rattle.vcode.proofs.Alike.{MayLeave}
+use Rattle.vcode.proofs.Following.{Follows, AllFollow, ActFollows, act_follows, lines_follow, WayFollows, way_follows}
+use Rattle.vcode.proofs.Rewriting.{rewrites_keep}
 use Rattle.sign_extensions.specs.Whole.{is_marked, is_whole, gives_whole, loads_whole, is_word, takes_whole, wants_whole, keeps_marks, are_closed, is_extension, claim, with_claim, jump_claim, with_copy, with_copies}
 use Rattle.sign_extensions.proofs.Values.{Whole, IfWhole, AreWhole, whole_number, assign_whole, operand_whole, then_whole, operate_whole, load_whole, held_whole, extension_is}
 
--- ---- events that go on so
-
--- the states are the same, and marked registers hold whole words
-record Related (marks : List Bool) (s t : State ℕ) : Type 0 where
-  is : t ≡ s
-  whole : AreWhole marks s.values
-
-abbrev WholeIn : List Bool → State ℕ → Type 0
-WholeIn marks u = AreWhole marks u.values
-
-event_whole : (marks : List Bool) (e : Event (State ℕ) Asked Outcome) → OnEvent (WholeIn marks) e → Together (Related marks) Fine e e
-event_whole marks e h = event_self (Related marks) e (event_more (WholeIn marks) (λ u. Related marks u u) (λ u whole. record { is = refl; whole = whole }) e h)
+-- marked registers hold whole words, and registers of the second code at least as much
+abbrev claims : List Bool → Claims
+claims marks =
+    record {
+      Claim = Unit {0};
+      holds = λ q globals memory before after. AreWhole marks before × AllFollow after before;
+      arrives = λ q k n. n ≡ k;
+    }
 
 -- ---- what lines leave whole
 
 unless : (a b : Bool) → (not a || b) ≡ true → a ≡ true → b ≡ true
 unless true b h e = h
 unless false b h e = absurd (let no : ⊥ = cc in no)
-
-sets_whole : (marks : List Bool) (s : State ℕ) (to : ℕ) (o : Option Value) → AreWhole marks s.values → (is_marked marks to ≡ true → IfWhole o) → OnEvent (WholeIn marks) (sets virtual s to o)
-sets_whole marks s to None all h = tt
-sets_whole marks s to (Some v) all h = assign_whole marks s.values to (Some v) all h
-
-changes_whole : (marks : List Bool) (s : State ℕ) (o : Option Memory) → AreWhole marks s.values → OnEvent (WholeIn marks) (changes s o)
-changes_whole marks s None all = tt
-changes_whole marks s (Some m) all = all
-
-ticks_whole : (marks : List Bool) (i : Given) (s : State ℕ) (turn : Bool) (w : ℕ) → AreWhole marks s.values → OnEvent (WholeIn marks) (ticks i s turn w)
-ticks_whole marks i s false w all = all
-ticks_whole marks i s true w all = by (nat_lt s.spent.turns i.turns)
-  where
-    by : (b : Bool) → OnEvent (WholeIn marks) (if b then goes_on (record s { spent = both s.spent (one_turn w) }) else Does (Over (Ended s.spent Turns)))
-    by true = all
-    by false = tt
 
 class_whole : (c : Class) (v : Value) → is_word c ≡ true → IfWhole (Some (held c v))
 class_whole W v h = held_whole v
@@ -84,48 +65,42 @@ class_whole L v h = absurd (let no : ⊥ = cc in no)
 taken_whole : (marks : List Bool) (d : Destination ℕ) (v : Value) → takes_whole marks d ≡ true → is_marked marks d.place ≡ true → IfWhole (Some (held d.class v))
 taken_whole marks d v h marked = class_whole d.class v (unless (is_marked marks d.place) (is_word d.class) h marked)
 
-receives_whole : (marks : List Bool) (u : State ℕ) (to : Option (Destination ℕ)) (v : Option Value) → wants_whole marks to ≡ true → AreWhole marks u.values → OnNext (WholeIn marks) (receives virtual u to v)
-receives_whole marks u None v h all = all
-receives_whole marks u (Some d) None h all = tt
-receives_whole marks u (Some d) (Some v) h all = assign_whole marks u.values d.place (Some (held d.class v)) all (taken_whole marks d v h)
+given_is : (memory next : Memory) (v o : Option Value) → MayLeave memory (given v) o next → o ≡ v
+given_is memory next None o may = absurd may
+given_is memory next (Some v) o may = may.0
 
-calls_whole : (marks : List Bool) (i : Given) (s : State ℕ) (to : Option (Destination ℕ)) (args : List (Argument ℕ)) (x : Option Value) (vs : Option (List Value)) → wants_whole marks to ≡ true → AreWhole marks s.values
-    → OnEvent (WholeIn marks) (calls virtual i s to args x vs)
-calls_whole marks i s to args (Some (Function g)) (Some vs) h all = by
-  where
-    by : (o : Outcome) → OnNext (WholeIn marks) (resumes virtual s to o)
-    by (Returned t v now) = receives_whole marks (record s { values = kept virtual s.values; memory = now; spent = both s.spent t }) to v h all
-    by (Ended t e) = tt
-calls_whole marks i s to args (Some (Function g)) None h all = tt
-calls_whole marks i s to args (Some (Integer k)) vs h all = tt
-calls_whole marks i s to args (Some (Pointer b k)) vs h all = tt
-calls_whole marks i s to args None vs h all = tt
+-- what is given to a register where the value that a line gives is whole
+assigned_whole : (marks : List Bool) (values : Values ℕ) (to : ℕ) (v o : Option Value) → AreWhole marks values → o ≡ v → (is_marked marks to ≡ true → IfWhole v) → AreWhole marks (written (Some to) o values)
+assigned_whole marks values to v o all is h = assign_whole marks values to o all (λ marked. subst IfWhole (sym is) (h marked))
 
-line_whole : (marks : List Bool) (globals : List Value) (i : Given) (s : State ℕ) (l : Line ℕ) → keeps_marks marks l ≡ true → AreWhole marks s.values → OnEvent (WholeIn marks) (line_step virtual globals i s l)
-unfolding line_step
-line_whole marks globals i s (Tick turn w) h all = ticks_whole marks i s turn w all
-line_whole marks globals i s (Set to a) h all =
-    assign_whole marks s.values to (value_of globals s.values a) all
-    (λ marked. operand_whole marks globals s.values a all (unless (is_marked marks to) (is_whole marks a) h marked))
-line_whole marks globals i s (Operate to op a b) h all =
-    sets_whole marks s to (option_and_then (λ u. option_and_then (λ v. operate s.memory op u v) (value_of globals s.values b)) (value_of globals s.values a)) all
-    (λ marked. then_whole (value_of globals s.values a) (λ u. option_and_then (λ v. operate s.memory op u v) (value_of globals s.values b))
-    (λ u x. then_whole (value_of globals s.values b) (λ v. operate s.memory op u v)
-    (λ v y. operate_whole marks globals s.values s.memory op a b u v all (unless (is_marked marks to) (gives_whole marks op a b) h marked) x y)))
-line_whole marks globals i s (Load to op at) h all =
-    sets_whole marks s to (option_and_then (loaded s.memory op) (address_of globals s.memory s.values at)) all
-    (λ marked. then_whole (address_of globals s.memory s.values at) (loaded s.memory op) (λ v x. load_whole s.memory op v (unless (is_marked marks to) (loads_whole op) h marked)))
-line_whole marks globals i s (Store size a at) h all =
-    changes_whole marks s (option_and_then (λ v. option_and_then (λ p. store s.memory (byte_count size) p v) (address_of globals s.memory s.values at)) (read globals s.values (stored_class size) a)) all
-line_whole marks globals i s (Alloc None size) h all = all
-line_whole marks globals i s (Alloc (Some to) size) h all = assign_whole marks s.values to (Some (Pointer (length s.memory) 0)) all (λ marked. refl)
-line_whole marks globals i s (Blit from to count) h all =
-    changes_whole marks s (option_and_then (λ p. option_and_then (λ q. copy s.memory count p q) (value_of globals s.values to)) (value_of globals s.values from)) all
-line_whole marks globals i s (Call to callee args) h all = calls_whole marks i s to args (value_of globals s.values callee) (read_all globals s.values args) h all
+called_whole : (marks : List Bool) (memory next : Memory) (values : Values ℕ) (d : Destination ℕ) (args : List (Argument ℕ)) (x : Option Value) (vs : Option (List Value)) (o : Option Value) → takes_whole marks d ≡ true → AreWhole marks values
+    → MayLeave memory (asked (Some d) args x vs) o next → AreWhole marks (written (Some d.place) o values)
+called_whole marks memory next values d args (Some (Function g)) (Some vs) o h all may = assigned_whole marks values d.place (Some (held d.class may.0)) o all may.1 (taken_whole marks d may.0 h)
+called_whole marks memory next values d args (Some (Function g)) None o h all may = absurd may
+called_whole marks memory next values d args (Some (Integer k)) vs o h all may = absurd may
+called_whole marks memory next values d args (Some (Pointer b k)) vs o h all may = absurd may
+called_whole marks memory next values d args None vs o h all may = absurd may
 
-jump_whole : (marks : List Bool) (globals : List Value) (result : Option Class) (s : State ℕ) (j : Jump ℕ) → AreWhole marks s.values → OnEvent (WholeIn marks) (jump_step globals result s j)
-jump_whole marks globals result s j all =
-    event_more (StartsWith s) (WholeIn marks) (λ u starts. subst (λ (values : Values ℕ). AreWhole marks values) (sym starts.values) all) (jump_step globals result s j) (jump_starts globals result s j)
+line_whole : (marks : List Bool) (globals : List Value) (memory next : Memory) (values : Values ℕ) (l : Line ℕ) (o : Option Value) → keeps_marks marks l ≡ true → AreWhole marks values → MayLeave memory (act globals memory values l) o next
+    → AreWhole marks (written (line_writes l) o values)
+line_whole marks globals memory next values (Tick turn w) o h all may = all
+line_whole marks globals memory next values (Set to a) o h all may =
+    assigned_whole marks values to (value_of globals values a) o all may.0 (λ marked. operand_whole marks globals values a all (unless (is_marked marks to) (is_whole marks a) h marked))
+line_whole marks globals memory next values (Operate to op a b) o h all may =
+    assigned_whole marks values to (operated memory op (value_of globals values a) (value_of globals values b)) o all may.0
+    (λ marked. then_whole (value_of globals values a) (λ u. option_and_then (λ v. operate memory op u v) (value_of globals values b))
+    (λ u x. then_whole (value_of globals values b) (λ v. operate memory op u v)
+    (λ v y. operate_whole marks globals values memory op a b u v all (unless (is_marked marks to) (gives_whole marks op a b) h marked) x y)))
+line_whole marks globals memory next values (Load to op at) o h all may =
+    let v : Option Value = option_and_then (loaded memory op) (address_of globals memory values at) in
+    assigned_whole marks values to v o all (given_is memory next v o may)
+    (λ marked. then_whole (address_of globals memory values at) (loaded memory op) (λ u x. load_whole memory op u (unless (is_marked marks to) (loads_whole op) h marked)))
+line_whole marks globals memory next values (Store size a at) o h all may = all
+line_whole marks globals memory next values (Alloc None size) o h all may = all
+line_whole marks globals memory next values (Alloc (Some to) size) o h all may = assigned_whole marks values to (Some (Pointer (length memory) 0)) o all may.0 (λ marked. refl)
+line_whole marks globals memory next values (Blit from to count) o h all may = all
+line_whole marks globals memory next values (Call None callee args) o h all may = all
+line_whole marks globals memory next values (Call (Some d) callee args) o h all may = called_whole marks memory next values d args (value_of globals values callee) (read_all globals values args) o h all may
 
 -- ---- an extension beside its copy
 
@@ -163,33 +138,28 @@ extends marks (RegW Remuw) a b h = absurd (let no : ⊥ = cc in no)
 extends marks (Reg op) a b h = absurd (let no : ⊥ = cc in no)
 extends marks (Compare on k) a b h = absurd (let no : ⊥ = cc in no)
 
--- of a register that holds a whole word: the same is written
-extension_beside : (marks : List Bool) (s : State ℕ) (to n : ℕ) (o : Option Value) → n ≡ 0 → AreWhole marks s.values → IfWhole o
-    → Together (Related marks) Fine (sets virtual s to (option_and_then (λ u. operate s.memory (RegW Addw) u (Integer (n % 2 ^ 64))) o)) (takes virtual s to o)
+-- of a register that holds a whole word: that is written
+extension_follows : (memory : Memory) (n : ℕ) (o p : Option Value) → n ≡ 0 → IfWhole o → Follows p o → Follows p (option_and_then (λ u. operate memory (RegW Addw) u (Integer (n % 2 ^ 64))) o)
 unfolding operate
-extension_beside marks s to n None nought all h = λ f. absurd f
-extension_beside marks s to n (Some (Integer k)) nought all h =
-    let same = extension_is k n nought h in (
-      record s { next = s.next + 1; values = assign virtual to (Some (Integer k)) s.values },
-      refl,
-      record {
-        is = ap (λ x. record s { next = s.next + 1; values = put virtual to (Integer x) s.values }) (sym same);
-        whole = assign_whole marks s.values to (Some (Integer (regw_value Addw k (n % 2 ^ 64)))) all (λ marked. subst (λ x. IfWhole (Some (Integer x))) (sym same) h);
-      },
-    )
-extension_beside marks s to n (Some (Pointer b k)) nought all h = λ f. absurd f
-extension_beside marks s to n (Some (Function g)) nought all h = λ f. absurd f
+extension_follows memory n None p nought h follows v e = absurd (let no : ⊥ = cc in no)
+extension_follows memory n (Some (Integer k)) p nought h follows v e =
+    follows (Integer k) refl ∙ ap (λ x. Some (Integer x)) (sym (extension_is k n nought h)) ∙ e
+extension_follows memory n (Some (Pointer b k)) p nought h follows v e = absurd (let no : ⊥ = cc in no)
+extension_follows memory n (Some (Function g)) p nought h follows v e = absurd (let no : ⊥ = cc in no)
 
-operate_beside : (marks : List Bool) (globals : List Value) (i : Given) (s : State ℕ) (to : ℕ) (op : Operation) (a b : Operand ℕ) (t : Bool) → is_extension marks op a b ≡ t → keeps_marks marks (Operate to op a b) ≡ true → AreWhole marks s.values
-    → Together (Related marks) Fine (line_step virtual globals i s (Operate to op a b)) (line_step virtual globals i s (if t then Set to a else Operate to op a b))
-unfolding line_step
-operate_beside marks globals i s to op a b false e h all = event_whole marks (line_step virtual globals i s (Operate to op a b)) (line_whole marks globals i s (Operate to op a b) h all)
-operate_beside marks globals i s to op a b true e h all =
-    let x = extends marks op a b e in
-    subst (λ (y : Operation). Together (Related marks) Fine (line_step virtual globals i s (Operate to y a b)) (line_step virtual globals i s (Set to a))) (sym x.operation)
-    (subst (λ (y : Operand ℕ). Together (Related marks) Fine (line_step virtual globals i s (Operate to (RegW Addw) y b)) (line_step virtual globals i s (Set to y))) (sym x.left)
-    (subst (λ (y : Operand ℕ). Together (Related marks) Fine (line_step virtual globals i s (Operate to (RegW Addw) (At x.register) y)) (line_step virtual globals i s (Set to (At x.register)))) (sym x.right)
-    (extension_beside marks s to x.number (s.values x.register) x.zero_is all (all x.register x.marked))))
+extension_given : (marks : List Bool) (globals : List Value) (memory : Memory) (ev el : Values ℕ) (op : Operation) (a b : Operand ℕ) → Extends marks op a b → AreWhole marks ev → AllFollow el ev
+    → Follows (value_of globals el a) (operated memory op (value_of globals ev a) (value_of globals ev b))
+extension_given marks globals memory ev el op a b x all more =
+    subst (λ (y : Operation). Follows (value_of globals el a) (operated memory y (value_of globals ev a) (value_of globals ev b))) (sym x.operation)
+    (subst (λ (y : Operand ℕ). Follows (value_of globals el y) (operated memory (RegW Addw) (value_of globals ev y) (value_of globals ev b))) (sym x.left)
+    (subst (λ (y : Operand ℕ). Follows (el x.register) (operated memory (RegW Addw) (ev x.register) (value_of globals ev y))) (sym x.right)
+    (extension_follows memory x.number (ev x.register) (el x.register) x.zero_is (all x.register x.marked) (more x.register))))
+
+operate_follows : (marks : List Bool) (globals : List Value) (memory : Memory) (ev el : Values ℕ) (to : ℕ) (op : Operation) (a b : Operand ℕ) (t : Bool) → is_extension marks op a b ≡ t → AreWhole marks ev → AllFollow el ev
+    → ActFollows (act globals memory el (if t then Set to a else Operate to op a b)) (act globals memory ev (Operate to op a b))
+operate_follows marks globals memory ev el to op a b false e all more = act_follows globals memory ev el (Operate to op a b) more
+operate_follows marks globals memory ev el to op a b true e all more =
+    (value_of globals el a, (refl, extension_given marks globals memory ev el op a b (extends marks op a b e) all more))
 
 -- ---- a call beside the one with claims
 
@@ -227,122 +197,81 @@ classes_same : (marks : List Bool) (args : List (Argument ℕ)) → map (λ (a :
 classes_same marks [] = refl
 classes_same marks (a ∷ args) = ap (λ (cs : List Class). a.class ∷ cs) (classes_same marks args)
 
-asked_same : (marks : List Bool) (i : Given) (s : State ℕ) (to : Option (Destination ℕ)) (args : List (Argument ℕ)) (x : Option Value) (vs : Option (List Value))
-    → calls virtual i s to (map (with_claim marks) args) x vs ≡ calls virtual i s to args x vs
-asked_same marks i s to args (Some (Function g)) (Some vs) =
-    ap
-    (λ (cs : List Class). Calls
-    (record {
-      call = record { callee = g; classes = cs; wants = option_map (λ (d : Destination ℕ). d.class) to; args = vs };
-      turns = i.turns - s.spent.turns;
-      room = i.room;
-      memory = s.memory;
-    })
-    (resumes virtual s to))
-    (classes_same marks args)
-asked_same marks i s to args (Some (Function g)) None = refl
-asked_same marks i s to args (Some (Integer k)) vs = refl
-asked_same marks i s to args (Some (Pointer b k)) vs = refl
-asked_same marks i s to args None vs = refl
+asked_same : (marks : List Bool) (to : Option (Destination ℕ)) (args : List (Argument ℕ)) (x : Option Value) (vs : Option (List Value)) → asked to (map (with_claim marks) args) x vs ≡ asked to args x vs
+asked_same marks to args (Some (Function g)) (Some vs) =
+    ap (λ (cs : List Class). Asks (record { callee = g; classes = cs; wants = option_map (λ (d : Destination ℕ). d.class) to; args = vs })) (classes_same marks args)
+asked_same marks to args (Some (Function g)) None = refl
+asked_same marks to args (Some (Integer k)) vs = refl
+asked_same marks to args (Some (Pointer b k)) vs = refl
+asked_same marks to args None vs = refl
 
-call_same : (marks : List Bool) (globals : List Value) (i : Given) (s : State ℕ) (to : Option (Destination ℕ)) (callee : Operand ℕ) (args : List (Argument ℕ)) → AreWhole marks s.values
-    → line_step virtual globals i s (Call to callee (map (with_claim marks) args)) ≡ line_step virtual globals i s (Call to callee args)
-unfolding line_step
-call_same marks globals i s to callee args all =
-    ap (calls virtual i s to (map (with_claim marks) args) (value_of globals s.values callee)) (claims_same marks globals s.values args all)
-    ∙ asked_same marks i s to args (value_of globals s.values callee) (read_all globals s.values args)
+call_same : (marks : List Bool) (globals : List Value) (memory : Memory) (values : Values ℕ) (to : Option (Destination ℕ)) (callee : Operand ℕ) (args : List (Argument ℕ)) → AreWhole marks values
+    → act globals memory values (Call to callee (map (with_claim marks) args)) ≡ act globals memory values (Call to callee args)
+call_same marks globals memory values to callee args all =
+    ap (asked to (map (with_claim marks) args) (value_of globals values callee)) (claims_same marks globals values args all)
+    ∙ asked_same marks to args (value_of globals values callee) (read_all globals values args)
 
--- ---- a jump beside the one with a claim
-
-jump_same : (marks : List Bool) (globals : List Value) (result : Option Class) (s : State ℕ) (j : Jump ℕ) → AreWhole marks s.values
-    → jump_step globals result s (jump_claim marks j) ≡ jump_step globals result s j
-unfolding jump_step
-jump_same marks globals result s (Goto k) all = refl
-jump_same marks globals result s (Branch on met otherwise) all = refl
-jump_same marks globals result s (Return None) all = refl
-jump_same marks globals None s (Return (Some a)) all = refl
-jump_same marks globals (Some k) s (Return (Some a)) all = ap (returns s) (claim_same marks globals s.values k a.value a.extension all)
-jump_same marks globals result s Halt all = refl
+jump_same : (marks : List Bool) (globals : List Value) (result : Option Class) (memory : Memory) (values : Values ℕ) (j : Jump ℕ) → AreWhole marks values
+    → way globals result memory values (jump_claim marks j) ≡ way globals result memory values j
+jump_same marks globals result memory values (Goto k) all = refl
+jump_same marks globals result memory values (Branch on met otherwise) all = refl
+jump_same marks globals result memory values (Return None) all = refl
+jump_same marks globals None memory values (Return (Some a)) all = refl
+jump_same marks globals (Some k) memory values (Return (Some a)) all = ap answering (claim_same marks globals values k a.value a.extension all)
+jump_same marks globals result memory values Halt all = refl
 
 -- ---- each line beside its copy
 
-line_beside : (marks : List Bool) (globals : List Value) (i : Given) (s : State ℕ) (l : Line ℕ) → keeps_marks marks l ≡ true → AreWhole marks s.values
-    → Together (Related marks) Fine (line_step virtual globals i s l) (line_step virtual globals i s (with_copy marks l))
-line_beside marks globals i s (Tick turn w) h all = event_whole marks (line_step virtual globals i s (Tick turn w)) (line_whole marks globals i s (Tick turn w) h all)
-line_beside marks globals i s (Set to a) h all = event_whole marks (line_step virtual globals i s (Set to a)) (line_whole marks globals i s (Set to a) h all)
-line_beside marks globals i s (Operate to op a b) h all = operate_beside marks globals i s to op a b (is_extension marks op a b) refl h all
-line_beside marks globals i s (Load to op at) h all = event_whole marks (line_step virtual globals i s (Load to op at)) (line_whole marks globals i s (Load to op at) h all)
-line_beside marks globals i s (Store size a at) h all = event_whole marks (line_step virtual globals i s (Store size a at)) (line_whole marks globals i s (Store size a at) h all)
-line_beside marks globals i s (Alloc to size) h all = event_whole marks (line_step virtual globals i s (Alloc to size)) (line_whole marks globals i s (Alloc to size) h all)
-line_beside marks globals i s (Blit from to count) h all = event_whole marks (line_step virtual globals i s (Blit from to count)) (line_whole marks globals i s (Blit from to count) h all)
-line_beside marks globals i s (Call to callee args) h all =
-    subst (Together (Related marks) Fine (line_step virtual globals i s (Call to callee args))) (sym (call_same marks globals i s to callee args all))
-    (event_whole marks (line_step virtual globals i s (Call to callee args)) (line_whole marks globals i s (Call to callee args) h all))
+copy_follows : (marks : List Bool) (globals : List Value) (memory : Memory) (ev el : Values ℕ) (l : Line ℕ) → AreWhole marks ev → AllFollow el ev → ActFollows (act globals memory el (with_copy marks l)) (act globals memory ev l)
+copy_follows marks globals memory ev el (Tick turn w) all more = act_follows globals memory ev el (Tick turn w) more
+copy_follows marks globals memory ev el (Set to a) all more = act_follows globals memory ev el (Set to a) more
+copy_follows marks globals memory ev el (Operate to op a b) all more = operate_follows marks globals memory ev el to op a b (is_extension marks op a b) refl all more
+copy_follows marks globals memory ev el (Load to op at) all more = act_follows globals memory ev el (Load to op at) more
+copy_follows marks globals memory ev el (Store size a at) all more = act_follows globals memory ev el (Store size a at) more
+copy_follows marks globals memory ev el (Alloc to size) all more = act_follows globals memory ev el (Alloc to size) more
+copy_follows marks globals memory ev el (Blit from to count) all more = act_follows globals memory ev el (Blit from to count) more
+copy_follows marks globals memory ev el (Call to callee args) all more =
+    let claimed : Line ℕ = Call to callee (map (with_claim marks) args) in
+    subst (λ (x : Act). ActFollows (act globals memory el claimed) x) (call_same marks globals memory ev to callee args all) (act_follows globals memory ev el claimed more)
 
--- ---- a step
+copy_writes : (marks : List Bool) (l : Line ℕ) → line_writes (with_copy marks l) ≡ line_writes l
+copy_writes marks (Tick turn w) = refl
+copy_writes marks (Set to a) = refl
+copy_writes marks (Operate to op a b) = by (is_extension marks op a b)
+  where
+    by : (t : Bool) → line_writes (if t then Set to a else Operate to op a b) ≡ Some to
+    by true = refl
+    by false = refl
+copy_writes marks (Load to op at) = refl
+copy_writes marks (Store size a at) = refl
+copy_writes marks (Alloc to size) = refl
+copy_writes marks (Blit from to count) = refl
+copy_writes marks (Call to callee args) = refl
 
-step_line : (globals : List Value) (code : Code ℕ) (i : Given) (s : State ℕ) (b : Block ℕ) (l : Line ℕ)
-    → slice_get code.blocks s.block ≡ Some b → slice_get b.lines s.next ≡ Some l → step virtual globals code i s ≡ line_step virtual globals i s l
-unfolding step
-step_line globals code i s b l e f = ap (step_in virtual globals code i s) e ∙ ap (block_step virtual globals code i s b) f
+line_beside : (marks : List Bool) (l : Line ℕ) → keeps_marks marks l ≡ true → Alike (claims marks) tt tt l (with_copy marks l)
+line_beside marks l h globals memory before after (all, more) =
+    lines_follow (λ next ev el. AreWhole marks ev × AllFollow el ev) globals memory before after l (with_copy marks l) (copy_writes marks l) more (copy_follows marks globals memory before after l all more)
+    (λ o next new may follow. (line_whole marks globals memory next before l o h all may, follow))
 
-step_jump : (globals : List Value) (code : Code ℕ) (i : Given) (s : State ℕ) (b : Block ℕ)
-    → slice_get code.blocks s.block ≡ Some b → slice_get b.lines s.next ≡ None → step virtual globals code i s ≡ jump_step globals code.result s b.jump
-unfolding step
-step_jump globals code i s b e f = ap (step_in virtual globals code i s) e ∙ ap (block_step virtual globals code i s b) f
+ways_beside : (marks : List Bool) (globals : List Value) (memory : Memory) (before after : Values ℕ) → AreWhole marks before → AllFollow after before → (x y : Way) → WayFollows y x → Arrives (claims marks) globals memory before after x y
+ways_beside marks globals memory before after all more Lost y h = tt
+ways_beside marks globals memory before after all more (Enters k) y h = (k, (h, (tt, (refl, (all, more)))))
+ways_beside marks globals memory before after all more (Answers o) y h = h
+ways_beside marks globals memory before after all more Halts y h = h
 
-step_nowhere : (globals : List Value) (code : Code ℕ) (i : Given) (s : State ℕ) → slice_get code.blocks s.block ≡ None → step virtual globals code i s ≡ fails s
-unfolding step
-step_nowhere globals code i s e = ap (step_in virtual globals code i s) e
+jump_beside : (marks : List Bool) (result : Option Class) (j : Jump ℕ) → LeadAlike (claims marks) result tt j (jump_claim marks j)
+jump_beside marks result j globals memory before after (all, more) =
+    ways_beside marks globals memory before after all more (way globals result memory before j) (way globals result memory after (jump_claim marks j))
+    (subst (λ (x : Way). WayFollows (way globals result memory after (jump_claim marks j)) x) (jump_same marks globals result memory before j all)
+    (way_follows globals result memory before after (jump_claim marks j) more))
 
-all_at : {X : Type 0} (test : X → Bool) (xs : List X) (k : ℕ) (x : X) → list_all test xs ≡ true → slice_get xs k ≡ Some x → test x ≡ true
-all_at test [] k x h at = absurd (let no : ⊥ = cc in no)
-all_at test (y ∷ xs) zero x h at = let same : y ≡ x = cc in ap test (sym same) ∙ (both_true (test y) (list_all test xs) h).0
-all_at test (y ∷ xs) (suc k) x h at = all_at test xs k x (both_true (test y) (list_all test xs) h).1 at
+-- ---- the code follows
 
--- the second is the first with copies of marked registers
-pub record Copied (marks : List Bool) (v w : Code ℕ) : Type 0 where
-  pub result : w.result ≡ v.result
-  pub params : w.params ≡ v.params
-  pub blocks : w.blocks ≡ map (with_copies marks) v.blocks
-  pub closed : are_closed marks v ≡ true
-
-two_events : (marks : List Bool) (x y e f : Event (State ℕ) Asked Outcome) → x ≡ e → y ≡ f → Together (Related marks) Fine e f → Together (Related marks) Fine x y
-two_events marks x y e f a b h =
-    subst (λ (z : Event (State ℕ) Asked Outcome). Together (Related marks) Fine z y) (sym a)
-    (subst (λ (z : Event (State ℕ) Asked Outcome). Together (Related marks) Fine e z) (sym b) h)
-
-block_beside : (marks : List Bool) (v w : Code ℕ) (globals : List Value) (i : Given) (s : State ℕ) → Copied marks v w → AreWhole marks s.values → (b : Block ℕ) → slice_get v.blocks s.block ≡ Some b → (o : Option (Line ℕ)) → slice_get b.lines s.next ≡ o
-    → Together (Related marks) Fine (step virtual globals v i s) (step virtual globals w i s)
-block_beside marks v w globals i s c all b at None here =
-    let there : slice_get w.blocks s.block ≡ Some (with_copies marks b) = ap (λ (xs : List (Block ℕ)). slice_get xs s.block) c.blocks ∙ slice_get-map (with_copies marks) v.blocks s.block ∙ ap (option_map (with_copies marks)) at in
-    let end : slice_get (map (with_copy marks) b.lines) s.next ≡ None = slice_get-map (with_copy marks) b.lines s.next ∙ ap (option_map (with_copy marks)) here in
-    two_events marks (step virtual globals v i s) (step virtual globals w i s) (jump_step globals v.result s b.jump) (jump_step globals v.result s b.jump)
-    (step_jump globals v i s b at here)
-    (step_jump globals w i s (with_copies marks b) there end ∙ ap (λ (r : Option Class). jump_step globals r s (jump_claim marks b.jump)) c.result
-    ∙ jump_same marks globals v.result s b.jump all)
-    (event_whole marks (jump_step globals v.result s b.jump) (jump_whole marks globals v.result s b.jump all))
-block_beside marks v w globals i s c all b at (Some l) here =
-    let there : slice_get w.blocks s.block ≡ Some (with_copies marks b) = ap (λ (xs : List (Block ℕ)). slice_get xs s.block) c.blocks ∙ slice_get-map (with_copies marks) v.blocks s.block ∙ ap (option_map (with_copies marks)) at in
-    let line : slice_get (map (with_copy marks) b.lines) s.next ≡ Some (with_copy marks l) = slice_get-map (with_copy marks) b.lines s.next ∙ ap (option_map (with_copy marks)) here in
-    let closed = both_true (list_all (takes_whole marks) v.params) (list_all (λ (d : Block ℕ). list_all (keeps_marks marks) d.lines) v.blocks) c.closed in
-    let own = all_at (λ (d : Block ℕ). list_all (keeps_marks marks) d.lines) v.blocks s.block b closed.1 at in
-    two_events marks (step virtual globals v i s) (step virtual globals w i s) (line_step virtual globals i s l) (line_step virtual globals i s (with_copy marks l))
-    (step_line globals v i s b l at here) (step_line globals w i s (with_copies marks b) (with_copy marks l) there line)
-    (line_beside marks globals i s l (all_at (keeps_marks marks) b.lines s.next l own here) all)
-
-step_beside : (marks : List Bool) (v w : Code ℕ) (globals : List Value) (i : Given) (s : State ℕ) → Copied marks v w → AreWhole marks s.values → (o : Option (Block ℕ)) → slice_get v.blocks s.block ≡ o
-    → Together (Related marks) Fine (step virtual globals v i s) (step virtual globals w i s)
-step_beside marks v w globals i s c all None at =
-    subst (λ (x : Event (State ℕ) Asked Outcome). Together (Related marks) Fine x (step virtual globals w i s)) (sym (step_nowhere globals v i s at)) (λ f. absurd f)
-step_beside marks v w globals i s c all (Some b) at = block_beside marks v w globals i s c all b at (slice_get b.lines s.next) refl
-
-in_lockstep : (marks : List Bool) (v w : Code ℕ) (globals : List Value) (i : Given) → Copied marks v w → Lockstep (Related marks) Fine (step virtual globals v i) (step virtual globals w i)
-in_lockstep marks v w globals i c s t h =
-    subst (λ (u : State ℕ). Together (Related marks) Fine (step virtual globals v i s) (step virtual globals w i u)) (sym h.is)
-    (step_beside marks v w globals i s c h.whole (slice_get v.blocks s.block) refl)
-
--- ---- the start
+module _ (marks : List Bool) (v w : Code ℕ) where
+  block_follows : (lines : List (Line ℕ)) (j : Jump ℕ) → list_all (keeps_marks marks) lines ≡ true → CodeFollows (claims marks) v w tt lines j (map (with_copy marks) lines) (jump_claim marks j)
+  block_follows [] j h = Jumps (jump_beside marks v.result j)
+  block_follows (l ∷ lines) j h =
+      let s = both_true (keeps_marks marks l) (list_all (keeps_marks marks) lines) h in Both (line_beside marks l s.0) (block_follows lines j s.1)
 
 bound_whole : (marks : List Bool) (values : Values ℕ) (params : List (Destination ℕ)) (args : List Value) → list_all (takes_whole marks) params ≡ true → AreWhole marks values → AreWhole marks (bound virtual values params args)
 bound_whole marks values [] args h all = all
@@ -351,15 +280,31 @@ bound_whole marks values (d ∷ params) (v ∷ args) h all =
     let s = both_true (takes_whole marks d) (list_all (takes_whole marks) params) h in
     bound_whole marks (put virtual d.place (held d.class v) values) params args s.1 (assign_whole marks values d.place (Some (held d.class v)) all (taken_whole marks d v s.0))
 
-start_same : (v w : Code ℕ) → w.params ≡ v.params → (i : Given) → begin virtual w i ≡ begin virtual v i
-start_same v w e i = ap (λ (ps : List (Destination ℕ)). begin virtual (record v { params = ps }) i) e
+all_at : {X : Type 0} (test : X → Bool) (xs : List X) (k : ℕ) (x : X) → list_all test xs ≡ true → slice_get xs k ≡ Some x → test x ≡ true
+all_at test [] k x h at = absurd (let no : ⊥ = cc in no)
+all_at test (y ∷ xs) zero x h at = let same : y ≡ x = cc in ap test (sym same) ∙ (both_true (test y) (list_all test xs) h).0
+all_at test (y ∷ xs) (suc k) x h at = all_at test xs k x (both_true (test y) (list_all test xs) h).1 at
 
-pub runs : (marks : List Bool) (v w : Code ℕ) → Copied marks v w → (globals : List Value)
-    → KeepsCode (classes_in v.params) (begin virtual v) (step virtual globals v) (begin virtual w) (step virtual globals w)
-runs marks v w c globals =
-    lockstep_keeps (classes_in v.params) (begin virtual v) (step virtual globals v) (begin virtual w) (step virtual globals w) (λ i. Related marks)
-    (λ i args. record {
-      is = start_same v w c.params i;
-      whole = bound_whole marks unknown v.params i.args (both_true (list_all (takes_whole marks) v.params) (list_all (λ (d : Block ℕ). list_all (keeps_marks marks) d.lines) v.blocks) c.closed).0 (λ r marked. tt);
-    })
-    (λ i. in_lockstep marks v w globals i c)
+abbrev pub copied : List Bool → Code ℕ → Code ℕ
+copied marks v = record { result = v.result; params = v.params; blocks = map (with_copies marks) v.blocks }
+
+rewrites : (marks : List Bool) (v : Code ℕ) → are_closed marks v ≡ true → Rewrites (claims marks) v (copied marks v)
+rewrites marks v closed =
+    let own = both_true (list_all (takes_whole marks) v.params) (list_all (λ (d : Block ℕ). list_all (keeps_marks marks) d.lines) v.blocks) closed in
+    record {
+      result = refl;
+      first = tt;
+      arrives = refl;
+      begins = λ globals i args. (bound_whole marks unknown v.params i.args own.0 (λ r marked. tt), λ r x e. e);
+      follows = λ q k n same b at. (
+        with_copies marks b,
+        (
+          ap (slice_get (map (with_copies marks) v.blocks)) same ∙ slice_get-map (with_copies marks) v.blocks k ∙ ap (option_map (with_copies marks)) at,
+          block_follows marks v (copied marks v) b.lines b.jump (all_at (λ (d : Block ℕ). list_all (keeps_marks marks) d.lines) v.blocks k b own.1 at),
+        ),
+      );
+    }
+
+pub runs : (marks : List Bool) (v : Code ℕ) → are_closed marks v ≡ true → (globals : List Value)
+    → KeepsCode (classes_in v.params) (begin virtual v) (step virtual globals v) (begin virtual (copied marks v)) (step virtual globals (copied marks v))
+runs marks v closed globals = rewrites_keep (claims marks) v (copied marks v) (rewrites marks v closed) globals

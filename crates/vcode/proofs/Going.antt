@@ -40,6 +40,16 @@ pub event_more : (p q : State ℕ → Type 0) → ((u : State ℕ) → p u → q
 event_more p q more (Does n) h = next_more p q more n h
 event_more p q more (Calls i k) h = λ o. next_more p q more (k o) (h o)
 
+-- what holds of each state in which the first may go on, beside what relates that to the second's
+next_both : (p : State ℕ → Type 0) (related : Relation) (m n : Next (State ℕ) Outcome) → OnNext p m → TogetherNext related Fine m n → TogetherNext (λ u w. p u × related u w) Fine m n
+next_both p related (On u) n h k = (k.0, k.1, (h, k.2))
+next_both p related (Over o) n h k = k
+
+pub event_both : (p : State ℕ → Type 0) (related : Relation) (e f : Event (State ℕ) Asked Outcome) → OnEvent p e → Together related Fine e f → Together (λ u w. p u × related u w) Fine e f
+event_both p related (Does (On u)) f h k = (k.0, k.1, (h, k.2))
+event_both p related (Does (Over o)) f h k = k
+event_both p related (Calls i g) f h k = (k.0, k.1, λ o. next_both p related (g o) (k.0 o) (h o) (k.2 o))
+
 -- a code's event goes together with another's where both are one event, and each next state is related to itself
 pub one_event : (related : Relation) (x y e : Event (State ℕ) Asked Outcome) → x ≡ e → y ≡ e → OnEvent (λ u. related u u) e → Together related Fine x y
 one_event related x y e a b h =

@@ -7,3 +7,13 @@ mod Affording
 pub mod Replacing
 pub mod SameReads
 pub mod Going
+pub mod Following
+pub mod Acting
+pub mod Alike
+pub mod Rewriting
+pub mod SameActs
+pub mod Writing
+pub mod Leading
+pub mod Factual
+pub mod Measuring
+pub mod Results

@@ -1,8 +1,7 @@
 -- What other operands leave of lines and jumps: all measures, the registers below a bound, and where jumps lead.
-use Rattle.std.proofs.Common.{◌≡◌, ℕ, suc, ◌+◌, ◌-◌, ◌*◌, ◌/◌, Bool, true, ◌&&◌, nat_le, List, [], ◌∷◌, map, length, None, Some, refl, ◌∙◌, ap}
+use Rattle.std.proofs.Common.{◌≡◌, ℕ, suc, ◌+◌, ◌*◌, ◌/◌, true, false, ◌&&◌, nat_le, List, [], ◌∷◌, map, length, None, Some, refl, ◌∙◌, ap}
 use Rattle.std.specs.List.{list_all}
 use Rattle.std.proofs.lemmas.Bool.{and_parts, and_from}
-use Rattle.rv_isa.specs.declared.abi.TheConstants.{ARGUMENT_REGISTERS}
 use Rattle.vcode.specs.declared.place.Operand.{Operand}
 use Rattle.vcode.specs.declared.place.Argument.{Argument}
 use Rattle.vcode.specs.declared.line.Line.{Line}
@@ -11,9 +10,9 @@ use Rattle.vcode.specs.declared.line.Jump.{Jump}
 use Rattle.vcode.specs.declared.line.Jump.TheVariants.{Goto, Branch, Return, Halt}
 use Rattle.vcode.specs.Cost.{operand_cost, place_cost, operation_cost, line_cost, branch_cost, jump_cost}
 use Rattle.vcode.specs.Named.{operand_keeps, wanted_keeps, line_keeps, jump_keeps, is_below}
-use Rattle.vcode.specs.Outgoing.{args_on_stack}
 use Rattle.vcode.specs.Regular.{leads_inside, is_alloc, alloc_bytes, turns_of, passes_few, weight_of}
 use Rattle.vcode.specs.Replaced.{Replacing, with_argument, with_line, with_jump}
+use Rattle.vcode.proofs.Measuring.{measure}
 
 -- ---- measures of a line that other operands leave
 
@@ -64,6 +63,17 @@ pub args_count : (f : Replacing) (args : List (Argument ℕ)) → length (map (w
 args_count f [] = refl
 args_count f (a ∷ args) = ap suc (args_count f args)
 
+pub measure_stays : Stays measure
+measure_stays f (Tick turn w) = refl
+measure_stays f (Set to a) = refl
+measure_stays f (Operate to op a b) = refl
+measure_stays f (Load to op at) = refl
+measure_stays f (Store size a at) = refl
+measure_stays f (Alloc to size) = refl
+measure_stays f (Blit from to count) = refl
+measure_stays f (Call to callee args) =
+    ap (λ n. record { weight = 0; turns = 0; bytes = 0; few = nat_le n 64; makes = false }) (args_count f args)
+
 pub few_stays : Stays passes_few
 few_stays f (Tick turn w) = refl
 few_stays f (Set to a) = refl
@@ -73,16 +83,6 @@ few_stays f (Store size a at) = refl
 few_stays f (Alloc to size) = refl
 few_stays f (Blit from to count) = refl
 few_stays f (Call to callee args) = ap (λ n. nat_le n 64) (args_count f args)
-
-pub passed_stays : Stays args_on_stack
-passed_stays f (Tick turn w) = refl
-passed_stays f (Set to a) = refl
-passed_stays f (Operate to op a b) = refl
-passed_stays f (Load to op at) = refl
-passed_stays f (Store size a at) = refl
-passed_stays f (Alloc to size) = refl
-passed_stays f (Blit from to count) = refl
-passed_stays f (Call to callee args) = ap (λ n. n - ARGUMENT_REGISTERS) (args_count f args)
 
 -- ---- what pays
 

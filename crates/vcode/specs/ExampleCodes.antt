@@ -4,7 +4,7 @@ use Rattle.il_ast.specs.declared.operation.Class.{Class}
 use Rattle.il_ast.specs.declared.operation.Class.TheVariants.{W, L}
 use Rattle.il_ast.specs.declared.operation.Size.TheVariants.{Word, Long}
 use Rattle.il_ast.specs.declared.operation.Condition.TheVariants.{NotEqual, SignedLess, UnsignedLess}
-use Rattle.rv_isa.specs.declared.instruction.RegOp.TheVariants.{Add, Sub}
+use Rattle.rv_isa.specs.declared.instruction.RegOp.TheVariants.{Add, Sub, Mul}
 use Rattle.rv_isa.specs.declared.instruction.RegWOp.TheVariants.{Addw}
 use Rattle.rv_isa.specs.declared.instruction.LoadOp.TheVariants.{Lw, Ld, Lbu}
 use Rattle.vcode.specs.declared.place.Operand.{Operand}
@@ -146,6 +146,11 @@ abbrev pub compares_words : Code ℕ
 compares_words =
     straight W (destination 0 L ∷ destination 1 L ∷ [])
     (Operate 2 (Compare SignedLess W) (At 0) (At 1) ∷ []) (At 2)
+
+-- a pointer times itself, which is nothing; then an operand is returned
+abbrev pub squares_pointer : Operand ℕ → Code ℕ
+squares_pointer a =
+    straight L [] (Alloc (Some 0) 8 ∷ Operate 1 (Reg Mul) (At 0) (At 0) ∷ []) a
 
 -- weight alone, and no turn
 abbrev pub heavy : Code ℕ

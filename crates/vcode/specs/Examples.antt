@@ -23,7 +23,7 @@ use Rattle.vcode.specs.Regular.{leads_inside, allocs_first, IsRegular, area}
 use Rattle.vcode.specs.Named.{keeps_places, is_below, is_place, are_near, are_distinct}
 use Rattle.vcode.specs.Cost.{is_paid}
 use Rattle.vcode.specs.Step.{begin, step}
-use Rattle.vcode.specs.ExampleCodes.{block, destination, not_zero, sum, word_as, long_as_word, is_nonzero, caller, keeping, keeping_virtual, loads_word, loads_byte, loads_beyond, loads_before, makes_unnamed, keeps_pointer, compares_pointers, compares_words, heavy, halts, leads_nowhere, straight}
+use Rattle.vcode.specs.ExampleCodes.{block, destination, not_zero, sum, word_as, long_as_word, is_nonzero, caller, keeping, keeping_virtual, loads_word, loads_byte, loads_beyond, loads_before, makes_unnamed, keeps_pointer, compares_pointers, compares_words, squares_pointer, heavy, halts, leads_nowhere, straight}
 
 abbrev pub given : (turns : ℕ) → List Value → Given
 given t args = record { turns = t; room = 4096; args = args; memory = [] }
@@ -141,6 +141,9 @@ pub record Examples : Type 0 where
   pub unknown_is_copied : Gives (straight L [] (Set 1 (At 0) ∷ []) (Number 5)) [] 5 []
   pub unknown_is_not_returned : Goes virtual (straight L [] (Set 1 (At 0) ∷ []) (At 1)) (given 0 [])
       20 [] (Ended (spends 0 0) Undefined)
+  pub nothing_is_not_asked : Gives (squares_pointer (Number 5)) [] 5 (None ∷ [])
+  pub nothing_is_not_returned : Goes virtual (squares_pointer (At 1)) (given 0 []) 20 []
+      (Ended (spends 0 0) Undefined)
   pub weight_alone : Goes virtual heavy (given 0 []) 3 [] (Returned (spends 0 9) None [])
   pub halt_ends : Goes virtual halts (given 1 []) 3 [] (Ended (spends 1 1) Halt)
   pub nowhere : Goes virtual leads_nowhere (given 0 []) 3 [] (Ended (spends 0 0) Undefined)

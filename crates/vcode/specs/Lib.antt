@@ -12,3 +12,9 @@ pub mod Laws
 pub mod Outgoing
 pub mod Coded
 pub mod Replaced
+pub mod Writes
+pub mod Acts
+pub mod Claims
+pub mod Follows
+pub mod Rewrites
+pub mod Facts

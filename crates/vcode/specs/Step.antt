@@ -1,7 +1,8 @@
 -- What a line or a jump of the code does: one step into the next state, an end, or a call, for both
 -- kinds of places. A tick begins a turn of the source where it says so; no turn begins where none
--- is left. Words are read by their low 32 bits. What reads an unknown place is undefined, but for
--- `Set`, which makes its place unknown too.
+-- is left. Words are read by their low 32 bits. An operation that isn't defined, or that reads an
+-- unknown place, makes its place unknown, as `Set` of an unknown place does: so it may be done before
+-- it is known that it is wanted. All else that reads an unknown place is undefined.
 use Rattle.std.specs.Prelude.{ℕ, ◌+◌, ◌-◌, ◌%◌, ◌^◌, Bool, true, false, nat_eq, nat_lt, if◌then◌else◌, List, [], ◌∷◌, ◌++◌, map, length, slice_get, Option, Some, None}
 use Rattle.std.specs.Option.{option_map, option_and_then}
 use Rattle.il_ast.specs.declared.operation.Class.{Class}
@@ -177,7 +178,7 @@ unfoldable pub line_step : {P : Type 0} → Places P → List Value → Given �
 line_step c globals i s (Tick turn w) = ticks i s turn w
 line_step c globals i s (Set to a) = takes c s to (value_of globals s.values a)
 line_step c globals i s (Operate to op a b) =
-    sets c s to (operated s.memory op (value_of globals s.values a) (value_of globals s.values b))
+    takes c s to (operated s.memory op (value_of globals s.values a) (value_of globals s.values b))
 line_step c globals i s (Load to op at) =
     sets c s to (option_and_then (loaded s.memory op) (address_of globals s.memory s.values at))
 line_step c globals i s (Store size a at) =

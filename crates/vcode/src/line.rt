@@ -31,6 +31,7 @@ pub enum Line<P> {
         to: P,
         value: Operand<P>,
     },
+    /// `to` takes what the operation gives; where that is nothing, or an operand is unknown, `to` is unknown.
     Operate {
         to: P,
         operation: Operation,

@@ -11,7 +11,7 @@ use Rattle.alloc_check.specs.Certified.{placed_by}
 use Rattle.alloc_check.specs.Accepted.{is_placed, is_accepted}
 use Rattle.alloc_check.proofs.Accepts.{parts, refused, unplaced, accepted, accepted_sound}
 use Rattle.alloc_check.proofs.Certifies.{to_true, certified_regular, weighs_same}
-use Rattle.alloc_check.proofs.Measures.{certified_keeps, fewer_slots}
+use Rattle.alloc_check.proofs.Measures.{certified_keeps}
 use Rattle.alloc_check.proofs.accept.accept.Goals as goal
 
 pub returns-then-not-right-clause-no : goal.returns-then-not-right-clause-no
@@ -54,6 +54,4 @@ returns-clause-kept c =
     let d = c.args.certificate.now in
     let yes_it_is : is_accepted v d ≡ true =
     accepted v d (sym c.in_ok-right.ensures.right ∙ c.if-not-right.false) (ap (is_placed v.registers) (sym c.in_ok-code.ensures) ∙ sym c.is_placed.ensures ∙ c.if-not-is_placed.false) in
-    fewer_slots v.code c.in_ok-code.code v.registers c.fewest_slots-slots.result c.fewest_slots-slots.ensures.few
-    (subst (λ (l : Code Location). Keeps (virtual_code v) (coded located l v.registers)) (sym c.in_ok-code.ensures)
-    (certified_keeps v.code d v.registers (accepted_sound v d yes_it_is)))
+    subst (λ (l : Code Location). Keeps (virtual_code v) (coded located l)) (sym c.in_ok-code.ensures) (certified_keeps v.code d (accepted_sound v d yes_it_is))

@@ -4,10 +4,11 @@ use Rattle.il_ast.specs.Passes.{Keeps}
 use Rattle.vcode.specs.declared.place.Location.{Location}
 use Rattle.vcode.specs.declared.code.Code.{Code}
 use Rattle.vcode.specs.Named.{keeps_places, is_place, are_near, are_distinct}
+use Rattle.vcode.specs.Outgoing.{frame_bound}
 use Rattle.vcode.specs.Places.{located}
 use Rattle.vcode.specs.Coded.{coded, virtual_code}
 use Rattle.vcode.specs.Regular.{IsRegular, code_weight}
-use Rattle.alloc_check.proofs.Measures.{slots_weigh_same, in_slots_keeps}
+use Rattle.alloc_check.proofs.Measures.{slots_weigh_same, in_slots_keeps, slots_take_same}
 use Rattle.alloc_check.proofs.Regular.{slots_regular, slots_known, slots_near, slots_apart}
 use Rattle.alloc_check.proofs.spill_all.spill_all.Goals as goal
 
@@ -27,4 +28,9 @@ invariant_of-result c =
 pub returns-clause-kept : goal.returns-clause-kept
 returns-clause-kept c =
     let v = c.args.function.now in
-    subst (λ (l : Code Location). Keeps (virtual_code v) (coded located l v.registers)) (sym c.in_ok-code.ensures) (in_slots_keeps v.code v.registers)
+    subst (λ (l : Code Location). Keeps (virtual_code v) (coded located l)) (sym c.in_ok-code.ensures) (in_slots_keeps v.code)
+
+pub returns-clause-takes : goal.returns-clause-takes
+returns-clause-takes c =
+    let v = c.args.function.now in
+    ap (λ (l : Code Location). frame_bound l v.registers) c.in_ok-code.ensures ∙ slots_take_same v.code v.registers

@@ -1,5 +1,5 @@
 use Rattle.vcode.specs.Coded.{virtual_code}
-use Rattle.constant_hoisting.proofs.Same.{keeps_itself}
+use Rattle.vcode.proofs.Results.{keeps_itself}
 use Rattle.constant_hoisting.proofs.constants.by_plan.Goals as goal
 
 pub returns-in-None : goal.returns-in-None

@@ -10,7 +10,7 @@ returns g c =
     let l = c.in_ok-function.ensures in
     let laid = c.in_ok-code.ensures in
     let few = laid.few in
-    let light = l.is.weight in
+    let light = l.located.is.weight in
     let same = same_weights c.args.func.now c.in_ok-promoted.promoted c.in_ok-promoted.ensures in (
       record {
         promoted = c.in_ok-promoted.promoted;
@@ -20,8 +20,9 @@ returns g c =
               code = c.in_ok-function.function.located.code;
               slots = c.in_ok-function.function.located.slots;
               items = laid.items;
-              is = l.is;
-              bytes = l.bytes;
+              is = l.located.is;
+              fits = l.fits;
+              bytes = l.located.bytes;
               machine = laid.machine;
               laid = laid.laid;
             };

@@ -1,16 +1,18 @@
-use Rattle.std.proofs.Common.{ℕ, ◌+◌, length, sym, ◌∙◌, ap, subst, arith}
-use Rattle.il_ast.specs.Cost.{phi_count}
+use Rattle.std.proofs.Common.{ℕ, ◌+◌, ◌≤◌, length, sym, ◌∙◌, ap, subst, arith}
+use Rattle.il_ast.specs.Cost.{phi_count, need}
 use Rattle.phi_copies.specs.Endings.{Endings}
 use Rattle.phi_copies.proofs.Counting.{is_small}
 use Rattle.il_ast.specs.Passes.{IsCodeOf}
 use Rattle.vcode.specs.declared.code.Code.{Code}
 use Rattle.vcode.specs.Coded.{coded}
+use Rattle.vcode.specs.Outgoing.{frame_bound}
 use Rattle.vcode.specs.Places.{virtual}
 use Rattle.vcode.specs.Regular.{code_weight}
 use Rattle.select.specs.Classes.{classes_in}
 use Rattle.select.specs.Invariants.{IsVirtual}
 use Rattle.select.proofs.Narrowing.{small, light, is_selected_by}
 use Rattle.select.proofs.Regular.{le_true}
+use Rattle.select.proofs.Stack.{takes_no_more}
 use Rattle.select.proofs.Weights.{weighs_no_more}
 use Rattle.select.proofs.Parameters.{is_virtual}
 use Rattle.select.proofs.WholeKept.{is_code}
@@ -36,11 +38,19 @@ returns-clause-is c =
     let f = s.func.now in
     let code : Endings = record { endings = s.endings; edges = s.edges } in
     let is = c.in_ok-code.ensures ∙ is_selected_by f code s.good s.lowered c.as_slice.result.now c.in_ok-classes.classes c.as_slice.ensures c.in_ok-classes.ensures.entries in
+    subst (λ (v : Code ℕ). IsCodeOf f (coded virtual v)) (sym is) (is_code f code s.good s.lowered)
+
+pub returns-clause-takes : goal.returns-clause-takes
+returns-clause-takes c =
+    let s = c.args.source.now in
+    let f = s.func.now in
+    let code : Endings = record { endings = s.endings; edges = s.edges } in
+    let is = c.in_ok-code.ensures ∙ is_selected_by f code s.good s.lowered c.as_slice.result.now c.in_ok-classes.classes c.as_slice.ensures c.in_ok-classes.ensures.entries in
     let all = c.count_registers-registers.ensures in
     let few = (is_small f s.good).temporaries in
     let many = c.low_bits.ensures ∙ small c.count_registers-registers.result (omega (arith, all, few)) ∙ all in
-    subst (λ n. IsCodeOf f (coded virtual c.in_ok-code.code n)) (sym many)
-    (subst (λ (v : Code ℕ). IsCodeOf f (coded virtual v (length f.temps + phi_count f))) (sym is) (is_code f code s.good s.lowered))
+    subst (λ n. frame_bound c.in_ok-code.code n ≤ need f) (sym many)
+    (subst (λ (v : Code ℕ). frame_bound v (length f.temps + phi_count f) ≤ need f) (sym is) (takes_no_more (classes_in f) f code s.lowered))
 
 pub invariant_of-result : goal.invariant_of-result
 invariant_of-result c =
