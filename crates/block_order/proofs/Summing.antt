@@ -87,4 +87,3 @@ sum_in_order g h blocks order same once low =
     total_same : (e f : ℕ → ℕ) → ((k : ℕ) → e k ≡ f k) → (n : ℕ) → total e n ≡ total f n
     total_same e f same zero = refl
     total_same e f same (suc n) = ap (λ m. m + total (λ k. e (suc k)) n) (same 0) ∙ ap (λ m. f 0 + m) (total_same (λ k. e (suc k)) (λ k. f (suc k)) (λ k. same (suc k)) n)
-

@@ -133,18 +133,19 @@ copies_register ev to from false e c h =
     subst (λ (d : KnownCopy). assign virtual to (ev from) ev d.copy ≡ assign virtual to (ev from) ev d.source) is
     (own_value ev to (ev from) ∙ sym (other_value ev to (ev from) from e))
 
-takes_moves : (m : Line ℕ) (s : State ℕ) (to : ℕ) (o : Option Value) → line_writes m ≡ Some to → made_by m ≡ None → OnEvent (Moved m s) (takes virtual s to o)
-takes_moves m s to o writes none =
+takes_moves : (m : Line ℕ) (s : State ℕ) (to : ℕ) (o : Option Value) → line_writes m ≡ Some to → ((c : KnownCopy) → made_by m ≡ Some c → assign virtual to o s.values c.copy ≡ assign virtual to o s.values c.source)
+    → OnEvent (Moved m s) (takes virtual s to o)
+takes_moves m s to o writes copied =
     record {
       block = refl;
       next = refl;
       values = λ r h. other_value s.values to o r (sym (ap (λ (w : Option ℕ). is_written w r) writes) ∙ h);
-      copied = λ c h. makes_none (assign virtual to o s.values) (made_by m) none c h;
+      copied = copied;
     }
 
 sets_moves : (m : Line ℕ) (s : State ℕ) (to : ℕ) (o : Option Value) → line_writes m ≡ Some to → made_by m ≡ None → OnEvent (Moved m s) (sets virtual s to o)
 sets_moves m s to None writes none = tt
-sets_moves m s to (Some v) writes none = takes_moves m s to (Some v) writes none
+sets_moves m s to (Some v) writes none = takes_moves m s to (Some v) writes (λ c h. makes_none (put virtual to v s.values) (made_by m) none c h)
 
 changes_moves : (m : Line ℕ) (s : State ℕ) (o : Option Memory) → made_by m ≡ None → OnEvent (Moved m s) (changes s o)
 changes_moves m s None none = tt
@@ -183,16 +184,6 @@ calls_move i s to callee args (Some (Integer k)) vs = tt
 calls_move i s to callee args (Some (Pointer b k)) vs = tt
 calls_move i s to callee args None vs = tt
 
-takes_moves : (m : Line ℕ) (s : State ℕ) (to : ℕ) (o : Option Value) → line_writes m ≡ Some to → ((c : KnownCopy) → made_by m ≡ Some c → assign virtual to o s.values c.copy ≡ assign virtual to o s.values c.source)
-    → OnEvent (Moved m s) (takes virtual s to o)
-takes_moves m s to o writes copied =
-    record {
-      block = refl;
-      next = refl;
-      values = λ r h. other_value s.values to o r (sym (ap (λ (w : Option ℕ). is_written w r) writes) ∙ h);
-      copied = copied;
-    }
-
 line_moves : (globals : List Value) (i : Given) (s : State ℕ) (m : Line ℕ) → OnEvent (Moved m s) (line_step virtual globals i s m)
 unfolding line_step
 line_moves globals i s (Tick turn w) = ticks_move i s turn w
@@ -202,7 +193,8 @@ line_moves globals i s (Set to (Number n)) =
 line_moves globals i s (Set to (Name g)) =
     takes_moves (Set to (Name g)) s to (value_of globals s.values (Name g)) refl (λ c h. makes_none (assign virtual to (value_of globals s.values (Name g)) s.values) None refl c h)
 line_moves globals i s (Operate to op a b) =
-    sets_moves (Operate to op a b) s to (option_and_then (λ u. option_and_then (λ v. operate s.memory op u v) (value_of globals s.values b)) (value_of globals s.values a)) refl refl
+    let o = option_and_then (λ u. option_and_then (λ v. operate s.memory op u v) (value_of globals s.values b)) (value_of globals s.values a) in
+    takes_moves (Operate to op a b) s to o refl (λ c h. makes_none (assign virtual to o s.values) None refl c h)
 line_moves globals i s (Load to op at) = sets_moves (Load to op at) s to (option_and_then (loaded s.memory op) (address_of globals s.memory s.values at)) refl refl
 line_moves globals i s (Store size a at) =
     changes_moves (Store size a at) s
