@@ -1,6 +1,6 @@
 -- Location code that a certificate makes, and code with every register in a slot, keeps the virtual code: it has the same parameters and result, weighs and takes the
 -- same, and runs alike.
-use Rattle.std.proofs.Common.{◌≡◌, ℕ, ◌+◌, ◌*◌, ◌-◌, ◌≤◌, Bool, true, false, ◌&&◌, List, [], ◌∷◌, ◌++◌, map, refl, ◌∙◌, ap, arith}
+use Rattle.std.proofs.Common.{◌≡◌, ℕ, ◌+◌, ◌*◌, ◌-◌, Bool, true, false, ◌&&◌, List, [], ◌∷◌, map, refl, ◌∙◌, ap, arith}
 use Rattle.std.specs.Prelude.{max}
 use Rattle.std.specs.List.{sum_by}
 use Rattle.il_ast.specs.declared.operation.Class.{Class}
@@ -17,11 +17,9 @@ use Rattle.vcode.specs.Coded.{classes_in, coded}
 use Rattle.vcode.specs.Outgoing.{args_on_stack, most_in_lines, most_in_blocks, outgoing, frame_bound}
 use Rattle.vcode.specs.Places.{virtual, located}
 use Rattle.vcode.specs.Regular.{area, weight_of, code_weight}
-use Rattle.certificates.specs.declared.certificate.Transfer.{Transfer}
 use Rattle.certificates.specs.declared.certificate.Certificate.{Certificate}
 use Rattle.alloc_check.specs.Placed.{Layout, placed_argument, placed_destination, placed_line, placed_block, in_slots}
-use Rattle.alloc_check.specs.Certified.{moves_at, layout_at, transfers, next_point, jump_point, certified_lines, certified_blocks, certified_params, placed_by, params_placed, is_sound}
-use Rattle.alloc_check.specs.Walk.{moves_before}
+use Rattle.alloc_check.specs.Certified.{certified_params, placed_by, params_placed, is_sound}
 use Rattle.alloc_check.proofs.Certifies.{weight_same, weighs_same}
 use Rattle.alloc_check.proofs.InSlots.{slots_keep}
 use Rattle.alloc_check.proofs.Regular.{map_length, sum_map, area_same}

@@ -37,6 +37,7 @@ lines_measured out (l ∷ lines) = by (is_dead (wanted_at out lines) l) refl (li
   where
     m : Line ℕ
     m = as_wanted (wanted_at out lines) l
+
     by : (b : Bool) → is_dead (wanted_at out lines) l ≡ b → Measured false lines (kept_lines out lines) → Measured false (l ∷ lines) (if b then kept_lines out lines else m ∷ kept_lines out lines)
     by true e rest = LeftOut (dead_takes_none (wanted_at out lines) l e) rest
     by false e rest =

@@ -207,6 +207,7 @@ module _ (v : Code ℕ) (rows : List Bits) where
     where
       w : Wanted
       w = wanted_at out lines
+
       by : (b : Bool) → is_dead w l ≡ b → Follows (claims v rows) v (without_dead rows v) w lines j (kept_lines out lines) j
           → Follows (claims v rows) v (without_dead rows v) (if b then w else wanted_above w l) (l ∷ lines) j (if b then kept_lines out lines else as_wanted w l ∷ kept_lines out lines) j
       by true e rest = Gone (line_goes v rows w l e) rest
@@ -223,12 +224,14 @@ rewrites v rows live =
           let stand : Stands v.code rows 0 0 k v.code.blocks b = stands v rows live k b at in
           let flows = stand.flows in
           let start : slice_get (firsts_from 0 v.code.blocks) k ≡ Some flows.point =
-          ap (slice_get (firsts_from 0 v.code.blocks)) (let z : k ≡ 0 + k = omega arith in z) ∙ flows.start in
-          (kept_block rows flows.point b, (
-            ap (slice_get (kept_blocks rows 0 v.code.blocks)) arrives.0 ∙ stand.found,
-            Less (λ globals memory ev el agrees r e. agrees r (arrives.1 flows.point r start (flows.lines r e)))
-            (lines_follow v.code rows (holds rows (jump_point flows.point b.lines)) b.lines b.jump (flows.reads, flows.goes)),
-          ));
+          ap (slice_get (firsts_from 0 v.code.blocks)) (let z : k ≡ 0 + k = omega arith in z) ∙ flows.start in (
+            kept_block rows flows.point b,
+            (
+              ap (slice_get (kept_blocks rows 0 v.code.blocks)) arrives.0 ∙ stand.found,
+              Less (λ globals memory ev el agrees r e. agrees r (arrives.1 flows.point r start (flows.lines r e)))
+                  (lines_follow v.code rows (holds rows (jump_point flows.point b.lines)) b.lines b.jump (flows.reads, flows.goes)),
+            ),
+          );
     }
 
 pub runs : (v : VFunc) (rows : List Bits) → AreLive (graph_of v.code) v.registers rows → (globals : List Value)

@@ -10,7 +10,6 @@ use Rattle.il_ast.specs.Run.{Returned}
 use Rattle.il_ast.specs.Logged.{Does, Over}
 use Rattle.il_ast.specs.Keeps.{Passes, Suits}
 use Rattle.vcode.specs.declared.place.Location.{Location}
-use Rattle.vcode.specs.declared.place.Operand.{Operand}
 use Rattle.vcode.specs.declared.place.ReturnValue.{ReturnValue}
 use Rattle.vcode.specs.declared.line.Operation.TheVariants.{Compare}
 use Rattle.vcode.specs.declared.line.Jump.{Jump}

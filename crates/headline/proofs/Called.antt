@@ -1,5 +1,5 @@
 -- A call of a function of the program is kept where its body is.
-use Rattle.std.proofs.Common.{◌≡◌, ℕ, ◌+◌, ◌-◌, Bool, true, false, List, [], ◌∷◌, map, refl, sym, ◌∙◌, subst, ap, ap₂, arith}
+use Rattle.std.proofs.Common.{◌≡◌, ℕ, ◌+◌, ◌-◌, ◌≤◌, Bool, true, false, List, [], ◌∷◌, map, refl, sym, ◌∙◌, subst, ap, ap₂, arith}
 use Rattle.std.proofs.lemmas.Bool.Decides.{nat_tests}
 use Rattle.std.specs.Prelude.{nat_lt, ◌&&◌, Option, Some, None}
 use Rattle.il_ast.specs.declared.operation.Class.{Class}
@@ -13,16 +13,18 @@ use Rattle.il_ast.specs.declared.value.End.TheVariants.{Exit, Halt, Undefined, S
 use Rattle.il_ast.specs.Values.{same_class}
 use Rattle.il_ast.specs.Memory.{Memory}
 use Rattle.il_ast.specs.Cost.{need}
-use Rattle.il_ast.specs.Run.{nothing, one_call, both, Outcome, Returned, Ended, after, Callees}
-use Rattle.il_ast.specs.Meaning.{same_classes, result_fits, call_fits, call_function}
+use Rattle.il_ast.specs.Run.{nothing, one_call, both, Outcome, Returned, Ended, after}
+use Rattle.il_ast.specs.Meaning.{same_classes, result_fits, call_fits, call_function, callees}
 use Rattle.il_ast.specs.Keeps.{Asked, Given, AreArgs, Suits}
 use Rattle.rv_isa.specs.State.{State}
 use Rattle.flat_code.specs.Spots.{Spots, Bases, Entries}
 use Rattle.flat_code.specs.Flat.{FlatGiven, FlatOutcome, FlatReturned, FlatEnded, flat_after, ShowsGiven, ShowsOutcome}
 use Rattle.abi_frames.specs.Calls.{World, GoodStack, Ready, ResultIn}
 use Rattle.abi_frames.specs.Performs.{Performs}
-use Rattle.headline.specs.Knot.{Setting, KeepsCall, AllKept, KeepsBody}
+use Rattle.headline.specs.InPlace.{calls_in}
+use Rattle.headline.specs.Knot.{Setting, KeepsCall, AllKept, KeptBody, KeepsBody}
 use Rattle.headline.specs.Functions.{body_of}
+use Rattle.headline.proofs.InPlace.{same_body}
 use Rattle.headline.proofs.Trivial.{undefined_kept, stack_kept, by_test}
 
 -- ---- types
@@ -114,8 +116,8 @@ ready_again w at sp classes params same j room s r =
 with_room : (need room : ℕ) → nat_lt room need ≡ false → need + (room - need) ≡ room
 with_room need room h = grind (arith, nat_tests)
 
-enters : (c : Setting) (p : Program) (calls : Callees) → AllKept c calls → (sp : ℕ) (i : Asked) (f : InText Func) → ((at : ℕ) → c.entries i.call.callee ≡ Some at → KeepsBody c at (need f.item) (map (λ (x : Param). x.class) f.item.params) f.item.result (body_of p f)) → (same_classes i.call.classes (map (λ (x : Param). x.class) f.item.params) ≡ true) × (result_fits i.call.wants f.item.result ≡ true) → nat_lt i.room (need f.item) ≡ false → KeepsCall c sp i (after one_call (body_of p f calls (record { turns = i.turns; room = i.room - need f.item; args = i.call.args; memory = i.memory })))
-enters c p calls all sp i f keeps fits roomy q j grown shows good =
+enters : (c : Setting) (p : Program) (turns : ℕ) → AllKept c (calls_in p turns) → (sp : ℕ) (i : Asked) → i.turns ≤ turns → (f : InText Func) → ((at : ℕ) → c.entries i.call.callee ≡ Some at → KeepsBody c at (need f.item) turns (map (λ (x : Param). x.class) f.item.params) f.item.result (body_of p f) (calls_in p turns)) → (same_classes i.call.classes (map (λ (x : Param). x.class) f.item.params) ≡ true) × (result_fits i.call.wants f.item.result ≡ true) → nat_lt i.room (need f.item) ≡ false → KeepsCall c sp i (after one_call (body_of p f (callees p turns) (record { turns = i.turns; room = i.room - need f.item; args = i.call.args; memory = i.memory })))
+enters c p turns all sp i low f keeps fits roomy q j grown shows good =
     let params = map (λ (x : Param). x.class) f.item.params in
     let room = i.room - need f.item in
     let given : Given = record { turns = i.turns; room = room; args = i.call.args; memory = i.memory } in
@@ -131,27 +133,28 @@ enters c p calls all sp i f keeps fits roomy q j grown shows good =
       clear = shows.given.clear;
     }
     in
-    let kept =
-    keeps j.at shows.at calls all sp q given flat grown typed shown
-    (subst (λ (x : ℕ). GoodStack c.world sp x) (sym (with_room (need f.item) i.room roomy)) good)
+    let kept : KeptBody c j.at sp params f.item.result q given flat (body_of p f (callees p turns) given) =
+    subst (λ (o : Outcome). KeptBody c j.at sp params f.item.result q given flat o) (same_body p f turns given low)
+    (keeps j.at shows.at all sp q given flat low grown typed shown
+    (subst (λ (x : ℕ). GoodStack c.world sp x) (sym (with_room (need f.item) i.room roomy)) good))
     in
     record {
       placed = kept.placed;
       went = flat_after one_call kept.went;
       grown = kept.grown;
       shows =
-          shows_entered c.entries kept.placed i.call.wants f.item.result fits.1 j.given.memory i.memory (body_of p f calls given) kept.went kept.shows;
+          shows_entered c.entries kept.placed i.call.wants f.item.result fits.1 j.given.memory i.memory (body_of p f (callees p turns) given) kept.went kept.shows;
       performs =
           λ u r. subst (λ (wants : Option Class). Performs c.world sp wants j.given.memory u (flat_after one_call kept.went)) (sym shows.wants)
           (performs_wanted c.world sp i.call.wants f.item.result fits.1 j.given.memory u (flat_after one_call kept.went)
           (kept.performs u (ready_again c.world j.at sp j.classes params (shows.classes ∙ same) j.given room u r)));
     }
 
-pub function_call_kept : (c : Setting) (p : Program) (calls : Callees) → AllKept c calls → (sp : ℕ) (i : Asked) (found : Option (InText Func)) → ((f : InText Func) → found ≡ Some f → (at : ℕ) → c.entries i.call.callee ≡ Some at → KeepsBody c at (need f.item) (map (λ (x : Param). x.class) f.item.params) f.item.result (body_of p f)) → KeepsCall c sp i (call_function p calls i.call i.turns i.room i.memory found)
-function_call_kept c p calls all sp i None keeps = undefined_kept c sp i nothing
-function_call_kept c p calls all sp i (Some f) keeps =
+pub function_call_kept : (c : Setting) (p : Program) (turns : ℕ) → AllKept c (calls_in p turns) → (sp : ℕ) (i : Asked) → i.turns ≤ turns → (found : Option (InText Func)) → ((f : InText Func) → found ≡ Some f → (at : ℕ) → c.entries i.call.callee ≡ Some at → KeepsBody c at (need f.item) turns (map (λ (x : Param). x.class) f.item.params) f.item.result (body_of p f) (calls_in p turns)) → KeepsCall c sp i (call_function p (callees p turns) i.call i.turns i.room i.memory found)
+function_call_kept c p turns all sp i low None keeps = undefined_kept c sp i nothing
+function_call_kept c p turns all sp i low (Some f) keeps =
     let params = map (λ (x : Param). x.class) f.item.params in
     by_test (call_fits i.call params f.item.result) (KeepsCall c sp i) _ _
     (λ fits. by_test (nat_lt i.room (need f.item)) (KeepsCall c sp i) _ _ (λ small. stack_kept c sp i nothing)
-    (λ roomy. enters c p calls all sp i f (keeps f refl) (both_true (same_classes i.call.classes params) (result_fits i.call.wants f.item.result) fits) roomy))
+    (λ roomy. enters c p turns all sp i low f (keeps f refl) (both_true (same_classes i.call.classes params) (result_fits i.call.wants f.item.result) fits) roomy))
     (λ misfit. undefined_kept c sp i nothing)

@@ -33,7 +33,9 @@ use Rattle.rv_machine.specs.Start.{Starts}
 use Rattle.headline.specs.Functions.{FunctionsKept, body_of}
 use Rattle.headline.specs.Places.{setting_of, start_places}
 use Rattle.headline.specs.Executables.{entries_of, places_of, NamesAreThere}
-use Rattle.headline.specs.Compiled.{StandFor, EachStands, CompiledRuns}
+use Rattle.headline.specs.Compiled.{StandIn, EachStands, EachStandsIn, StandsIn, ReplacedRuns, CompiledRuns}
+use Rattle.headline.specs.InPlace.{calls_in}
+use Rattle.headline.proofs.InPlace.{meaning_runs}
 use Rattle.headline.proofs.InNeed.{bytes_in_need, frame_in_need}
 use Rattle.headline.proofs.LayersKeep.{layers_keep}
 use Rattle.headline.proofs.StartMemory.{get_within}
@@ -131,36 +133,36 @@ text_shown p codes has fits w words t = by (slice_get p.targets t) refl
 
 -- ---- each function
 
-record FoundCode (codes : List Words) (k : ℕ) (f : InText Func) : Type 0 where
+record FoundCode (p : Program) (codes : List Words) (k : ℕ) (f : InText Func) : Type 0 where
   words : Words
   here : slice_get codes k ≡ Some words
-  stands : StandFor f.item words
+  stands : StandIn p f words
 
-found_code : (codes : List Words) (fs : List (InText Func)) → EachStands codes fs → (k : ℕ) (f : InText Func) → slice_get fs k ≡ Some f → FoundCode codes k f
-found_code [] [] each k f h = absurd (let no : ⊥ = cc in no)
-found_code [] (g ∷ fs) each k f h = absurd each
-found_code (c ∷ codes) [] each k f h = absurd each
-found_code (c ∷ codes) (g ∷ fs) each zero f h =
+found_code : (p : Program) (codes : List Words) (fs : List (InText Func)) → EachStandsIn p codes fs → (k : ℕ) (f : InText Func) → slice_get fs k ≡ Some f → FoundCode p codes k f
+found_code p [] [] each k f h = absurd (let no : ⊥ = cc in no)
+found_code p [] (g ∷ fs) each k f h = absurd each
+found_code p (c ∷ codes) [] each k f h = absurd each
+found_code p (c ∷ codes) (g ∷ fs) each zero f h =
     let same : g ≡ f = cc in
-    record { words = c; here = refl; stands = subst (λ (x : InText Func). StandFor x.item c) same each.0 }
-found_code (c ∷ codes) (g ∷ fs) each (suc k) f h =
-    let rest = found_code codes fs each.1 k f h in
+    record { words = c; here = refl; stands = subst (λ (x : InText Func). StandIn p x c) same each.0 }
+found_code p (c ∷ codes) (g ∷ fs) each (suc k) f h =
+    let rest = found_code p codes fs each.1 k f h in
     record { words = rest.words; here = rest.here; stands = rest.stands }
 
-as_many : (codes : List Words) (fs : List (InText Func)) → EachStands codes fs → length codes ≡ length fs
-as_many [] [] each = refl
-as_many [] (f ∷ fs) each = absurd each
-as_many (c ∷ codes) [] each = absurd each
-as_many (c ∷ codes) (f ∷ fs) each = ap suc (as_many codes fs each.1)
+as_many : (p : Program) (codes : List Words) (fs : List (InText Func)) → EachStandsIn p codes fs → length codes ≡ length fs
+as_many p [] [] each = refl
+as_many p [] (f ∷ fs) each = absurd each
+as_many p (c ∷ codes) [] each = absurd each
+as_many p (c ∷ codes) (f ∷ fs) each = ap suc (as_many p codes fs each.1)
 
 function_kept : (p : Program) (codes : List Words) (x : Executable) (words : List (List ℕ)) (s : State)
-    → NamesAreThere p → EachStands codes p.functions → EveryCode codes → FitsBelow p codes → IsImage (contents_of p codes) → Stands (contents_of p codes) x → Starts x words s
+    → NamesAreThere p → EachStandsIn p codes p.functions → EveryCode codes → FitsBelow p codes → IsImage (contents_of p codes) → Stands (contents_of p codes) x → Starts x words s
     → FunctionsKept (setting_of (places_of p codes) words s) p
-function_kept p codes x words s has each every fits good stands starts k at f found entry =
-    let many = as_many codes p.functions each in
+function_kept p codes x words s has each every fits good stands starts turns k at f found entry =
+    let many = as_many p codes p.functions each in
     let a = addresses_of p codes in
     let c = setting_of (places_of p codes) words s in
-    let code = found_code codes p.functions each k f found in
+    let code = found_code p codes p.functions each k f found in
     let r = code.stands in
     let w = worth p codes many every fits in
     let well = stands_well p codes x has many every fits good stands in
@@ -169,11 +171,11 @@ function_kept p codes x words s has each every fits good stands starts k at f fo
     let addresses = addresses_in a (slice_get p.targets f.text) in
     let here = function_stands p codes x words s good stands starts k at code.words f code.here found entry in
     let labelled = r.laid (ground_of s) at global here in
-    let m = frame_in_need f.item r.code r.slots r.items r.is r.fits r.machine in
-    layers_keep c setting at (need f.item) (frame_size r.code r.slots) (area r.code) (classes_of f.item.params) f.item.result (globals_of p f.text) addresses (body_of p f) (begin located r.code) (step located (globals_of p f.text) r.code) (flat_begin r.code) (flat_step r.code addresses)
+    let m = frame_in_need f.item r.code r.slots r.items r.params r.result r.fits r.machine in
+    layers_keep c setting at (need f.item) (frame_size r.code r.slots) (area r.code) turns (classes_of f.item.params) f.item.result (globals_of p f.text) addresses (body_of p f) (calls_in p turns) (begin located r.code) (step located (globals_of p f.text) r.code) (flat_begin r.code) (flat_step r.code addresses)
     (record {
-      meaning = r.is.runs (globals_of p f.text);
-      flat = bytes_in_need f.item r.code r.is r.bytes (record { entries = entries_of p codes; globals = globals_of p f.text; addresses = addresses });
+      meaning = r.runs turns;
+      flat = bytes_in_need f.item r.code r.params r.result r.bytes (record { entries = entries_of p codes; globals = globals_of p f.text; addresses = addresses });
       machine =
           m.keeps c.world at labelled.0 global addresses setting.world (λ n y e. name_is a (slice_get p.targets f.text) n y e)
           (λ n. target_small p codes fits (option_and_then (λ ts. slice_get ts n) (slice_get p.targets f.text)))
@@ -187,9 +189,9 @@ function_kept p codes x words s has each every fits good stands starts k at f fo
 
 -- ---- the whole
 
-pub compiled_runs : CompiledRuns
-compiled_runs p codes x words s has each every fits good stands starts few short =
-    let many = as_many codes p.functions each in
+pub replaced_runs : ReplacedRuns
+replaced_runs p codes x words s has each every fits good stands starts few short =
+    let many = as_many p codes p.functions each in
     let w = worth p codes many every fits in
     let well = stands_well p codes x has many every fits good stands in
     let main_is = w.functions p.main has.main in
@@ -197,3 +199,29 @@ compiled_runs p codes x words s has each every fits good stands starts few short
     (function_kept p codes x words s has each every fits good stands starts)
     (natives_perform p codes x words s good stands starts)
     (start_runs p codes x words s good stands starts well.data_bytes few short main_is (main_small p codes fits) (address_aligned functions_start codes refl p.main _ main_is))
+
+-- ---- words that stand for functions, in every program
+
+pub stands_in : StandsIn
+stands_in p f c r =
+    record {
+      code = r.code;
+      slots = r.slots;
+      items = r.items;
+      params = r.is.params;
+      result = r.is.result;
+      runs = λ turns. meaning_runs (classes_of f.item.params) (begin located r.code) (step located (globals_of p f.text) r.code) (body_of p f) (r.is.runs (globals_of p f.text)) (calls_in p turns) turns;
+      fits = r.fits;
+      bytes = r.bytes;
+      machine = r.machine;
+      laid = r.laid;
+    }
+
+all_stand_in : (p : Program) (codes : List Words) (fs : List (InText Func)) → EachStands codes fs → EachStandsIn p codes fs
+all_stand_in p [] [] each = tt
+all_stand_in p [] (f ∷ fs) each = absurd each
+all_stand_in p (c ∷ codes) [] each = absurd each
+all_stand_in p (c ∷ codes) (f ∷ fs) each = (stands_in p f c each.0, all_stand_in p codes fs each.1)
+
+pub compiled_runs : CompiledRuns
+compiled_runs p codes x words s has each = replaced_runs p codes x words s has (all_stand_in p codes p.functions each)

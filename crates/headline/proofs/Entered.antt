@@ -1,12 +1,13 @@
 -- The call of `main` is kept.
-use Rattle.std.proofs.Common.{◌≡◌, ℕ, suc, ◌%◌, ◌^◌, ◌<◌, List, [], ◌∷◌, length, refl, ap, arith}
+use Rattle.std.proofs.Common.{◌≡◌, ℕ, suc, ◌%◌, ◌^◌, ◌<◌, List, [], ◌∷◌, length, refl, sym, subst, ap, arith}
 use Rattle.std.specs.Prelude.{slice_get, Some}
 use Rattle.il_ast.specs.declared.operation.Class.TheVariants.{W}
 use Rattle.il_ast.specs.declared.function.Param.{Param}
 use Rattle.il_ast.specs.declared.program.Program.{Program}
 use Rattle.il_ast.specs.declared.value.Value.TheVariants.{Integer}
+use Rattle.il_ast.specs.Run.{Outcome}
 use Rattle.il_ast.specs.Start.{start_memory}
-use Rattle.il_ast.specs.Meaning.{main_call, main_classes, main_args, params_of, stack_room, outcome}
+use Rattle.il_ast.specs.Meaning.{callees, main_call, main_classes, main_args, params_of, stack_room, outcome}
 use Rattle.il_ast.specs.Keeps.{Asked, AreArgs}
 use Rattle.rv_isa.specs.State.{State}
 use Rattle.flat_code.specs.Flat.{FlatGiven, FlatAsked}
@@ -15,6 +16,7 @@ use Rattle.headline.specs.Natives.{NativesPerform}
 use Rattle.headline.specs.Functions.{FunctionsKept}
 use Rattle.headline.specs.Start.{CallsMain}
 use Rattle.headline.proofs.Answer.{grown_same}
+use Rattle.headline.proofs.InPlace.{below_same}
 use Rattle.headline.proofs.Tied.{calls_are_kept}
 
 main_typed : (objects words : ℕ) → words < 2 ^ 32 → (params : List Param) → AreArgs (main_classes params) (main_args objects words params)
@@ -36,7 +38,9 @@ main_flat c p words s start n =
 pub main_kept : (c : Setting) (p : Program) (words : List (List ℕ)) (s : State) → IsSetting c → FunctionsKept c p → NativesPerform c → length words < 2 ^ 32 → (start : CallsMain c p words s) → (n : ℕ) → KeptCall c start.sp c.start (main_asked p words n) (main_flat c p words s start n) (outcome p words n)
 unfolding outcome
 main_kept c p words s is functions natives few start n =
-    calls_are_kept c p is functions natives (suc n) start.sp (main_asked p words n) c.start (main_flat c p words s start n) (grown_same c.start)
+    subst (λ (o : Outcome). KeptCall c start.sp c.start (main_asked p words n) (main_flat c p words s start n) o)
+    (sym (below_same (suc n) (callees p (suc n)) (suc n) (omega arith) (main_call p words) n stack_room (start_memory p words) (omega arith)))
+    (calls_are_kept c p is functions natives (suc n) start.sp (main_asked p words n) c.start (main_flat c p words s start n) (grown_same c.start)
     (record {
       at = start.is_main;
       classes = refl;
@@ -44,4 +48,4 @@ main_kept c p words s is functions natives few start n =
       typed = main_typed (length p.objects) (length words) few (params_of (slice_get p.functions p.main));
       given = record { turns = refl; room = refl; args = start.args_show; memory = start.shows; clear = start.clear };
     })
-    start.stack
+    start.stack)

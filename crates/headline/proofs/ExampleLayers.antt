@@ -27,10 +27,12 @@ use Rattle.rv_isa.proofs.RunLemmas.{comes_here}
 use Rattle.flat_code.specs.Spots.{Spots, Bases}
 use Rattle.flat_code.specs.Flat.{FlatGiven, FlatAsked, FlatOutcome, FlatEnded, flat_after, ShowsOutcome, KeepsFlat, Plays}
 use Rattle.abi_frames.specs.Performs.{Performs, KeepsFrame}
+use Rattle.headline.specs.InPlace.{calls_in}
 use Rattle.headline.specs.Knot.{IsSetting, KeepsBody, Layers}
 use Rattle.headline.specs.Functions.{body_of, FunctionsKept}
 use Rattle.headline.specs.Example.{setting, halting, flat_halting, begin, step, flat_begin, flat_step}
 use Rattle.headline.proofs.Answer.{grown_same}
+use Rattle.headline.proofs.InPlace.{meaning_runs}
 use Rattle.headline.proofs.LayersKeep.{layers_keep}
 
 -- the function of the example
@@ -98,10 +100,10 @@ machine_kept sp j good clear log r n logged all s ready =
     subst (λ x. Performs setting.world sp (Some W) j.memory s (flat_after one_call x)) (flat_over j (sp - 0) n log r logged)
     (halting_performs sp j.memory s ready.fixed ready.place j.turns)
 
-example_layers : Layers setting 0x10000 128 0 0 [] (Some W) [] [] (body_of halts main_function) begin step flat_begin flat_step
-example_layers =
+example_layers : (turns : ℕ) → Layers setting 0x10000 128 0 0 turns [] (Some W) [] [] (body_of halts main_function) (calls_in halts turns) begin step flat_begin flat_step
+example_layers turns =
     record {
-      meaning = meaning_kept;
+      meaning = meaning_runs [] begin step (body_of halts main_function) meaning_kept (calls_in halts turns) turns;
       flat = flat_kept;
       machine = machine_kept;
       names = tt;
@@ -112,13 +114,13 @@ example_layers =
     }
 
 pub functions_kept : IsSetting setting → FunctionsKept setting halts
-functions_kept is zero at f found here =
+functions_kept is turns zero at f found here =
     let same : main_function ≡ f = some_same main_function f found in
     let place : 0x10000 ≡ at = cc in
-    subst (λ g. KeepsBody setting at (need g.item) (map (λ (x : Param). x.class) g.item.params) g.item.result (body_of halts g)) same
-    (subst (λ a. KeepsBody setting a 128 [] (Some W) (body_of halts main_function)) place
-    (layers_keep setting is 0x10000 128 0 0 [] (Some W) [] [] (body_of halts main_function) begin step flat_begin flat_step example_layers))
+    subst (λ g. KeepsBody setting at (need g.item) turns (map (λ (x : Param). x.class) g.item.params) g.item.result (body_of halts g) (calls_in halts turns)) same
+    (subst (λ a. KeepsBody setting a 128 turns [] (Some W) (body_of halts main_function) (calls_in halts turns)) place
+    (layers_keep setting is 0x10000 128 0 0 turns [] (Some W) [] [] (body_of halts main_function) (calls_in halts turns) begin step flat_begin flat_step (example_layers turns)))
   where
     some_same : {A : Type 0} (x y : A) → Some x ≡ Some y → x ≡ y
     some_same x y h = cc
-functions_kept is (suc k) at f found here = cc
+functions_kept is turns (suc k) at f found here = cc

@@ -1,14 +1,14 @@
 -- Location code that is a function's, on bytes and in its frame, keeps the function with the stack that a call of it is counted for.
-use Rattle.std.proofs.Common.{ℕ, ◌+◌, ◌≤◌, List, subst, arith}
+use Rattle.std.proofs.Common.{◌≡◌, ℕ, ◌+◌, ◌≤◌, List, subst, arith}
 use Rattle.std.specs.Prelude.{Option}
 use Rattle.il_ast.specs.declared.operation.Class.{Class}
 use Rattle.il_ast.specs.declared.function.Func.{Func}
 use Rattle.il_ast.specs.Cost.{need}
 use Rattle.il_ast.specs.Logged.{Event}
-use Rattle.il_ast.specs.Passes.{IsCodeOf, classes_of}
+use Rattle.il_ast.specs.Passes.{classes_of}
 use Rattle.vcode.specs.declared.place.Location.{Location}
 use Rattle.vcode.specs.declared.code.Code.{Code}
-use Rattle.vcode.specs.Coded.{classes_in, coded}
+use Rattle.vcode.specs.Coded.{classes_in}
 use Rattle.vcode.specs.Places.{located}
 use Rattle.vcode.specs.Regular.{area}
 use Rattle.vcode.specs.Step.{begin, step}
@@ -37,15 +37,15 @@ more_need items low high frame area params result start step le f =
       keeps = λ w at label global addresses world names near even stand sp j good. f.keeps w at label global addresses world names near even stand sp j (less_stack w sp low high j.room le good);
     }
 
-pub bytes_in_need : (f : Func) (code : Code Location) → IsCodeOf f (coded located code) → FlatKept code → (names : Names)
+pub bytes_in_need : (f : Func) (code : Code Location) → classes_in code.params ≡ classes_of f.params → code.result ≡ f.result → FlatKept code → (names : Names)
     → KeepsFlat names (classes_of f.params) f.result (area code) (begin located code) (step located names.globals code) (flat_begin code) (flat_step code names.addresses)
-bytes_in_need f code is kept names =
-    subst (λ (cs : List Class). KeepsFlat names cs f.result (area code) (begin located code) (step located names.globals code) (flat_begin code) (flat_step code names.addresses)) is.params
-    (subst (λ (r : Option Class). KeepsFlat names (classes_in code.params) r (area code) (begin located code) (step located names.globals code) (flat_begin code) (flat_step code names.addresses)) is.result (kept names))
+bytes_in_need f code params result kept names =
+    subst (λ (cs : List Class). KeepsFlat names cs f.result (area code) (begin located code) (step located names.globals code) (flat_begin code) (flat_step code names.addresses)) params
+    (subst (λ (r : Option Class). KeepsFlat names (classes_in code.params) r (area code) (begin located code) (step located names.globals code) (flat_begin code) (flat_step code names.addresses)) result (kept names))
 
-pub frame_in_need : (f : Func) (code : Code Location) (slots : ℕ) (items : List Item) → IsCodeOf f (coded located code) → frame_bound code slots ≤ need f → IsFrameOf code slots items
+pub frame_in_need : (f : Func) (code : Code Location) (slots : ℕ) (items : List Item) → classes_in code.params ≡ classes_of f.params → code.result ≡ f.result → frame_bound code slots ≤ need f → IsFrameOf code slots items
     → FramePromise items (need f) (frame_size code slots) (area code) (classes_of f.params) f.result (λ addresses. flat_begin code) (λ addresses. flat_step code addresses)
-frame_in_need f code slots items is fits frame =
+frame_in_need f code slots items params result fits frame =
     more_need items (frame_bound code slots) (need f) (frame_size code slots) (area code) (classes_of f.params) f.result (λ addresses. flat_begin code) (λ addresses. flat_step code addresses) fits
-    (subst (λ (cs : List Class). FramePromise items (frame_bound code slots) (frame_size code slots) (area code) cs f.result (λ addresses. flat_begin code) (λ addresses. flat_step code addresses)) is.params
-    (subst (λ (r : Option Class). FramePromise items (frame_bound code slots) (frame_size code slots) (area code) (classes_in code.params) r (λ addresses. flat_begin code) (λ addresses. flat_step code addresses)) is.result frame))
+    (subst (λ (cs : List Class). FramePromise items (frame_bound code slots) (frame_size code slots) (area code) cs f.result (λ addresses. flat_begin code) (λ addresses. flat_step code addresses)) params
+    (subst (λ (r : Option Class). FramePromise items (frame_bound code slots) (frame_size code slots) (area code) (classes_in code.params) r (λ addresses. flat_begin code) (λ addresses. flat_step code addresses)) result frame))

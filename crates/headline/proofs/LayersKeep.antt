@@ -5,7 +5,7 @@ use Rattle.std.specs.Prelude.{Option}
 use Rattle.il_ast.specs.declared.value.Value.{Value}
 use Rattle.il_ast.specs.declared.value.Value.TheVariants.{Integer, Pointer, Function}
 use Rattle.il_ast.specs.declared.value.End.TheVariants.{Exit, Halt, Undefined, Stack, Turns}
-use Rattle.il_ast.specs.Run.{Outcome, Returned, Ended}
+use Rattle.il_ast.specs.Run.{Outcome, Returned, Ended, Callees}
 use Rattle.il_ast.specs.Logged.{Event}
 use Rattle.il_ast.specs.Keeps.{Asked, Given, Body, Fine}
 use Rattle.flat_code.specs.Spots.{Bases, Entries, Grown, Shows, AllShow}
@@ -13,6 +13,7 @@ use Rattle.flat_code.specs.Flat.{Frame, FlatGiven, FlatAsked, FlatOutcome, FlatE
 use Rattle.abi_frames.specs.Calls.{World, GoodStack}
 use Rattle.headline.specs.Knot.{Setting, IsSetting, KeptBody, KeepsBody, Layers}
 use Rattle.headline.proofs.Answer.{grown_same, answer}
+use Rattle.headline.proofs.InPlace.{goes_fine, shown_so}
 
 pub shows_grown : (e : Entries) (p q : Bases) → Grown p q → (v : Value) (x : ℕ) → Shows e p v x → Shows e q v x
 shows_grown e p q g (Integer n) x h = h
@@ -52,12 +53,12 @@ area_above bottom sp need area room h k = omega arith
 small_stack : (sp top : ℕ) → sp ≤ top → top < 2 ^ 63 → sp < 2 ^ 64
 small_stack sp top h k = omega arith
 
-pub layers_keep : {S T : Type 0} (c : Setting) → IsSetting c → (at need frame area : ℕ) (params : List Class) (result : Option Class) (globals : List Value) (addresses : List ℕ) (body : Body) (start : Given → S) (step : Given → S → Event S Asked Outcome) (flat_start : (base : ℕ) → FlatGiven → T) (flat_step : (base : ℕ) → FlatGiven → T → Event T FlatAsked FlatOutcome) → Layers c at need frame area params result globals addresses body start step flat_start flat_step → KeepsBody c at need params result body
-layers_keep c is at need frame area params result globals addresses body start step flat_start flat_step ls callees kept sp p i j g args shows good =
+pub layers_keep : {S T : Type 0} (c : Setting) → IsSetting c → (at need frame area turns : ℕ) (params : List Class) (result : Option Class) (globals : List Value) (addresses : List ℕ) (body : Body) (callees : Callees) (start : Given → S) (step : Given → S → Event S Asked Outcome) (flat_start : (base : ℕ) → FlatGiven → T) (flat_step : (base : ℕ) → FlatGiven → T → Event T FlatAsked FlatOutcome) → Layers c at need frame area turns params result globals addresses body callees start step flat_start flat_step → KeepsBody c at need turns params result body callees
+layers_keep c is at need frame area turns params result globals addresses body callees start step flat_start flat_step ls kept sp p i j low g args shows good =
     kept_if_fine c at sp params result p i j (body callees i) (λ fine.
     let bottom = c.world.bottom in
     let places = area_below bottom sp need frame area i.room ls.frame_fits ls.area_fits good.above in
-    let run = ls.meaning callees i args fine in
+    let run = ls.meaning i low args fine in
     let shown : ShowsGiven c.entries p bottom (sp - area + area) i j =
     subst (λ (x : ℕ). ShowsGiven c.entries p bottom x i j) (sym places.1) shows
     in
@@ -65,7 +66,7 @@ layers_keep c is at need frame area params result globals addresses body start s
     ls.flat bottom (sp - frame) (sp - area) places.0
     (area_above bottom sp need area i.room ls.some good.above)
     (subst (λ (x : ℕ). x < 2 ^ 64) (sym places.1) (small_stack sp c.world.top good.below is.world.small))
-    run.0 i (body callees i) args fine run.2.0 run.2.1 p j is.entries
+    run.log i run.went args (goes_fine run.went (body callees i) run.goes fine) run.steps run.runs p j is.entries
     (all_show_grown c.entries c.start p g globals addresses ls.names)
     shown
     in
@@ -74,13 +75,15 @@ layers_keep c is at need frame area params result globals addresses body start s
     in
     let a =
     answer c frame_here is refl refl (below_frame c.world sp need frame i.room ls.frame_fits ls.aligned good)
-    (flat_step (sp - area) j) (body callees i) callees kept plays.0 p (flat_start (sp - area) j) run.0 g plays.1 run.1
+    (flat_step (sp - area) j) run.went callees kept plays.0 p (flat_start (sp - area) j) run.log g plays.1 run.calls
     in
+    let shown_body = shown_so c.entries c.world sp a.placed result j.memory i.memory run.went (body callees i) a.went run.goes a.shows in
     record {
       placed = a.placed;
-      went = a.went;
+      went = shown_body.went;
       grown = a.grown;
-      shows = a.shows;
+      shows = shown_body.shows;
       performs =
-          ls.machine sp j (subst (λ (x : ℕ). GoodStack c.world sp (need + x)) (sym shows.room) good) shows.clear a.log a.went a.steps a.logged a.all;
+          λ u ready. shown_body.performs u
+          (ls.machine sp j (subst (λ (x : ℕ). GoodStack c.world sp (need + x)) (sym shows.room) good) shows.clear a.log a.went a.steps a.logged a.all u ready);
     })

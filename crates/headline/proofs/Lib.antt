@@ -1,4 +1,5 @@
 pub mod Answer
+pub mod InPlace
 pub mod LayersKeep
 pub mod Trivial
 pub mod Called

@@ -1,16 +1,18 @@
 -- What the words that are made for a function owe, and what the executable of a program whose
 -- functions have such words does.
-use Rattle.std.specs.Prelude.{ℕ, ◌≤◌, List, [], ◌∷◌, length}
+use Rattle.std.specs.Prelude.{◌≡◌, ℕ, ◌≤◌, List, [], ◌∷◌, length}
 use Rattle.il_ast.specs.declared.limits.TheConstants.{WORDS, WORD_BYTES}
 use Rattle.il_ast.specs.declared.function.Func.{Func}
 use Rattle.il_ast.specs.declared.program.InText.{InText}
 use Rattle.il_ast.specs.declared.program.Program.{Program}
 use Rattle.il_ast.specs.Cost.{need}
-use Rattle.il_ast.specs.Passes.{IsCodeOf}
+use Rattle.il_ast.specs.Passes.{IsCodeOf, classes_of}
+use Rattle.il_ast.specs.Start.{globals_of}
 use Rattle.vcode.specs.declared.place.Location.{Location}
 use Rattle.vcode.specs.declared.code.Code.{Code}
-use Rattle.vcode.specs.Coded.{coded}
+use Rattle.vcode.specs.Coded.{classes_in, coded}
 use Rattle.vcode.specs.Places.{located}
+use Rattle.vcode.specs.Step.{begin, step}
 use Rattle.flat_code.specs.Laws.{FlatKept}
 use Rattle.abi_frames.specs.Frames.{IsFrameOf}
 use Rattle.abi_frames.specs.Layout.{frame_bound}
@@ -24,6 +26,8 @@ use Rattle.obj_link.specs.Placed.{contents_of, FitsBelow, EveryCode}
 use Rattle.elf_file.specs.Loaded.{Executable}
 use Rattle.elf_file.specs.Stands.{Stands}
 use Rattle.rv_machine.specs.Start.{Starts}
+use Rattle.headline.specs.InPlace.{calls_in, KeepsRuns}
+use Rattle.headline.specs.Functions.{body_of}
 use Rattle.headline.specs.Headline.{Executes}
 use Rattle.headline.specs.Executables.{NamesAreThere}
 
@@ -47,9 +51,52 @@ EachStands [] (f ∷ fs) = ⊥
 EachStands (c ∷ codes) [] = ⊥
 EachStands (c ∷ codes) (f ∷ fs) = StandFor f.item c × EachStands codes fs
 
+-- Words that stand in for a function of a program: they are the layout of labelled code that
+-- performs what location code of the function's classes runs on bytes, in a frame that takes at most
+-- the stack that a call of the function is counted for; and in this program that code runs as the
+-- function's body does, but that it may spend less.
+pub record StandIn (p : Program) (f : InText Func) (c : Words) : Type 0 where
+  pub code : Code Location
+  pub slots : ℕ
+  pub items : List Item
+  pub params : classes_in code.params ≡ classes_of f.item.params
+  pub result : code.result ≡ f.item.result
+  pub runs : (turns : ℕ) → KeepsRuns (calls_in p turns) turns (classes_of f.item.params)
+      (begin located code) (step located (globals_of p f.text) code) (body_of p f)
+  pub fits : frame_bound code slots ≤ need f.item
+  pub bytes : FlatKept code
+  pub machine : IsFrameOf code slots items
+  pub laid : LaysOut items c.words c.holes
+
+-- one for each function, in order
+abbrev pub EachStandsIn : Program → List Words → List (InText Func) → Type 0
+EachStandsIn p [] [] = Unit {0}
+EachStandsIn p [] (f ∷ fs) = ⊥
+EachStandsIn p (c ∷ codes) [] = ⊥
+EachStandsIn p (c ∷ codes) (f ∷ fs) = StandIn p f c × EachStandsIn p codes fs
+
+-- words that stand for a function stand in for it in every program
+abbrev pub StandsIn : Type 0
+StandsIn = (p : Program) (f : InText Func) (c : Words) → StandFor f.item c → StandIn p f c
+
 -- From every start of the program's executable, with words within their limits, the machine
--- executes the program. It needn't be a program of texts: its functions may be any that the words
--- stand for.
+-- executes the program, where words stand in for each of its functions. It needn't be a program of
+-- texts: its functions may be any that the words stand in for.
+abbrev pub ReplacedRuns : Type 0
+ReplacedRuns =
+    (p : Program) (codes : List Words) (x : Executable) (words : List (List ℕ)) (s : State)
+    → NamesAreThere p
+    → EachStandsIn p codes p.functions
+    → EveryCode codes
+    → FitsBelow p codes
+    → IsImage (contents_of p codes)
+    → Stands (contents_of p codes) x
+    → Starts x words s
+    → length words ≤ WORDS
+    → length (word_bytes words) ≤ WORD_BYTES
+    → Executes p words s
+
+-- so too where words stand for each function
 abbrev pub CompiledRuns : Type 0
 CompiledRuns =
     (p : Program) (codes : List Words) (x : Executable) (words : List (List ℕ)) (s : State)

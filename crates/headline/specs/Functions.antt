@@ -8,8 +8,8 @@ use Rattle.il_ast.specs.declared.value.Callee.TheVariants.{Defined}
 use Rattle.il_ast.specs.Cost.{need}
 use Rattle.il_ast.specs.Run.{body}
 use Rattle.il_ast.specs.Start.{globals_of}
-use Rattle.il_ast.specs.Meaning.{callees}
 use Rattle.il_ast.specs.Keeps.{Body}
+use Rattle.headline.specs.InPlace.{calls_in}
 use Rattle.headline.specs.Knot.{Setting, IsSetting, AllKept, KeepsBody}
 use Rattle.headline.specs.Natives.{NativesPerform}
 
@@ -19,18 +19,18 @@ body_of p f callees i =
     body (record { func = f.item; globals = globals_of p f.text }) callees i.turns i.room i.args
     i.memory
 
--- each function is kept at its address
+-- each function is kept at its address, where calls go as the program's own do
 abbrev pub FunctionsKept : Setting → Program → Type 0
 FunctionsKept c p =
-    (k at : ℕ) (f : InText Func)
+    (turns k at : ℕ) (f : InText Func)
     → slice_get p.functions k ≡ Some f
     → c.entries (Defined k) ≡ Some at
-    → KeepsBody c at (need f.item) (map (λ (x : Param). x.class) f.item.params) f.item.result
-    (body_of p f)
+    → KeepsBody c at (need f.item) turns (map (λ (x : Param). x.class) f.item.params) f.item.result
+    (body_of p f) (calls_in p turns)
 
--- Where each function is kept if the calls that it makes are, all calls are kept, however deep they
--- nest.
+-- Where each function is kept if the calls that it makes are, all calls of the program are kept, in
+-- however many turns, and so however deep they nest.
 abbrev pub CallsAreKept : Type 0
 CallsAreKept =
-    (c : Setting) (p : Program) → IsSetting c → FunctionsKept c p → NativesPerform c → (depth : ℕ) →
-    AllKept c (callees p depth)
+    (c : Setting) (p : Program) → IsSetting c → FunctionsKept c p → NativesPerform c → (turns : ℕ) →
+    AllKept c (calls_in p turns)

@@ -6,11 +6,12 @@ use Rattle.il_ast.specs.declared.value.Callee.{Callee}
 use Rattle.il_ast.specs.declared.value.Value.{Value}
 use Rattle.il_ast.specs.Run.{Outcome, Callees, one_call}
 use Rattle.il_ast.specs.Logged.{Event}
-use Rattle.il_ast.specs.Keeps.{Asked, Given, Body, AreArgs, KeepsMeaning}
+use Rattle.il_ast.specs.Keeps.{Asked, Given, Body, AreArgs}
 use Rattle.flat_code.specs.Spots.{Bases, Entries, AreEntries, Grown, AllShow}
 use Rattle.flat_code.specs.Flat.{FlatGiven, FlatAsked, FlatOutcome, flat_after, ShowsGiven, ShowsAsked, ShowsOutcome, KeepsFlat}
 use Rattle.abi_frames.specs.Calls.{World, IsWorld, GoodStack}
 use Rattle.abi_frames.specs.Performs.{PerformsAt, KeepsFrame}
+use Rattle.headline.specs.InPlace.{KeepsRuns}
 
 -- what stays while a program runs: the machine's memory, the functions' addresses, and where the
 -- blocks of the start stand
@@ -58,26 +59,29 @@ pub record KeptBody (c : Setting) (at sp : ℕ) (params : List Class) (result : 
   pub shows : ShowsOutcome c.entries placed result j.memory i.memory o went
   pub performs : PerformsAt c.world at sp params result j (flat_after one_call went)
 
--- where all calls are kept, so is the call of the function at `at` that has this body
-abbrev pub KeepsBody : Setting → (at need : ℕ) → List Class → Option Class → Body → Type 0
-KeepsBody c at need params result body =
-    (callees : Callees)
-    → AllKept c callees
+-- where these calls are kept, so is the call of the function at `at` that has this body, in at most
+-- so many turns
+abbrev pub KeepsBody : Setting → (at need turns : ℕ) → List Class → Option Class → Body →
+    Callees → Type 0
+KeepsBody c at need turns params result body callees =
+    AllKept c callees
     → (sp : ℕ) (p : Bases) (i : Given) (j : FlatGiven)
+    → i.turns ≤ turns
     → Grown c.start p
     → AreArgs params i.args
     → ShowsGiven c.entries p c.world.bottom sp i j
     → GoodStack c.world sp (need + i.room)
     → KeptBody c at sp params result p i j (body callees i)
 
--- What the layers of one function promise together: its code on blocks keeps its meaning, its code
--- on bytes keeps that, and its machine code at `at` keeps that in a frame of at most `need` bytes.
-pub record Layers {S T : Type 0} (c : Setting) (at need frame area : ℕ) (params : List Class)
+-- What the layers of one function promise together: its code on blocks runs as its body does where
+-- calls go as these have it, its code on bytes keeps that, and its machine code at `at` keeps that in
+-- a frame of at most `need` bytes.
+pub record Layers {S T : Type 0} (c : Setting) (at need frame area turns : ℕ) (params : List Class)
     (result : Option Class) (globals : List Value) (addresses : List ℕ) (body : Body)
-    (start : Given → S) (step : Given → S → Event S Asked Outcome)
+    (callees : Callees) (start : Given → S) (step : Given → S → Event S Asked Outcome)
     (flat_start : (base : ℕ) → FlatGiven → T) (flat_step : (base : ℕ) → FlatGiven → T →
     Event T FlatAsked FlatOutcome) : Type 0 where
-  pub meaning : KeepsMeaning params start step body
+  pub meaning : KeepsRuns callees turns params start step body
   pub flat : KeepsFlat (record { entries = c.entries; globals = globals; addresses = addresses })
       params result area start step flat_start flat_step
   pub machine : KeepsFrame c.world at need frame area params result flat_start flat_step

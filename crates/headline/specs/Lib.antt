@@ -1,3 +1,4 @@
+pub mod InPlace
 pub mod Knot
 pub mod Natives
 pub mod Functions

@@ -5,7 +5,7 @@ ghost use Rattle.headline.specs.Read.{FunctionsAreGood};
 ghost use Rattle.headline.specs.Whole.{ProgramIsExecuted};
 ghost use Rattle.headline.specs.Executable.{ExecutableRuns};
 ghost use Rattle.headline.specs.Example.{state};
-ghost use Rattle.headline.specs.Compiled.{CompiledRuns};
+ghost use Rattle.headline.specs.Compiled.{CompiledRuns, ReplacedRuns, StandsIn};
 ghost use Rattle.headline.specs.Executables.{PlacedNatives, PlacedStands, PlacedStart, ProgramsHaveNames};
 ghost use Rattle.il_ast.specs.ExamplePrograms.{halts};
 ghost use Rattle.std.specs.Prelude.{[]};
@@ -56,6 +56,16 @@ pub fn executables_stand()
 /// Each function of linked texts is one that can be lowered.
 pub fn functions_are_good()
     ensures { FunctionsAreGood }
+{}
+
+/// Words that stand for a function stand in for it in every program.
+pub fn words_stand_in()
+    ensures { StandsIn }
+{}
+
+/// Where words stand in for each function of a program, its executable executes it: from every start with argument words within their limits.
+pub fn replaced_programs_run()
+    ensures { ReplacedRuns }
 {}
 
 /// Where words stand for each function of a program, its executable executes it: from every start with argument words within their limits.

@@ -1,4 +1,4 @@
-use Rattle.std.proofs.Common.{◌≤◌, sym, ◌∙◌, ap, subst}
+use Rattle.std.proofs.Common.{◌≤◌, sym, subst}
 use Rattle.il_ast.specs.declared.function.Func.{Func}
 use Rattle.il_ast.specs.Cost.{need}
 use Rattle.il_ast.specs.Passes.{Keeps, IsCodeOf}
