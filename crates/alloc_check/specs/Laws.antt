@@ -30,8 +30,8 @@ use Rattle.alloc_check.specs.Slotted.{Wanted, IsSlotted}
 -- the code that a sound certificate makes keeps the virtual code
 abbrev pub SoundKeeps : Type 0
 SoundKeeps =
-    (v : Code ℕ) (c : Certificate) (places : ℕ) → is_sound v c ≡ true →
-    Keeps (coded virtual v places) (coded located (placed_by v c) places)
+    (v : Code ℕ) (c : Certificate) → is_sound v c ≡ true →
+    Keeps (coded virtual v) (coded located (placed_by v c))
 
 -- with each register in its slot the code is that in slots, and is accepted
 abbrev pub SlotsAreAccepted : Type 0
