@@ -156,11 +156,12 @@ led_keeps test order Halt = refl
 
 -- ---- the whole
 
-pub owed : (order : Order) (v : VFunc) → Holds order v.code → Owed v (in_order order v.code).blocks
+pub owed : (order : Order) (v : VFunc) → Holds order v.code → Owed v v.registers (in_order order v.code).blocks
 owed order v h =
     let f : Code ℕ = v.code in
     let place = (λ (k : ℕ). placed order (block_at f.blocks k)) in
     record {
+      more = omega arith;
       fits =
           record {
             weight = sum_in_order (λ (b : Block ℕ). sum_by weight_of b.lines) place f.blocks order (λ k. refl) h.once h.there;

@@ -1,5 +1,5 @@
 -- Code that holds a constant takes what the code took and names registers of the function; whether its ticks still pay is tested.
-use Rattle.std.proofs.Common.{◌≡◌, ℕ, ◌+◌, Bool, true, false, ◌&&◌, nat_lt, if◌then◌else◌, List, [], ◌∷◌, ◌++◌, map, refl, ◌∙◌}
+use Rattle.std.proofs.Common.{◌≡◌, ℕ, ◌+◌, Bool, true, false, ◌&&◌, nat_lt, if◌then◌else◌, List, [], ◌∷◌, ◌++◌, map, refl, ◌∙◌, arith}
 use Rattle.std.specs.List.{list_all}
 use Rattle.std.proofs.lemmas.Bool.{and_parts, and_from}
 use Rattle.vcode.specs.declared.place.Operand.{Operand}
@@ -63,7 +63,7 @@ block_low n p low held set b h =
 
 -- ---- the whole
 
-block_serves : (n : ℕ) (p : Plan) → nat_lt p.register n ≡ true → (held set : Bool) (b : Block ℕ) → is_paid (held_block p held set b) ≡ true → Serves n b (held_block p held set b)
+block_serves : (n : ℕ) (p : Plan) → nat_lt p.register n ≡ true → (held set : Bool) (b : Block ℕ) → is_paid (held_block p held set b) ≡ true → Serves n n b (held_block p held set b)
 block_serves n p low held set b paid =
     record {
       within = within_tested b (held_block p held set b) (lines_measured p held set b.lines) (λ e. paid);
@@ -71,11 +71,11 @@ block_serves n p low held set b paid =
       names = block_low n p low held set b;
     }
 
-blocks_serve : (n : ℕ) (p : Plan) → nat_lt p.register n ≡ true → (k : ℕ) (blocks : List (Block ℕ)) → list_all is_paid (with_blocks p k blocks) ≡ true → Each (Serves n) blocks (with_blocks p k blocks)
+blocks_serve : (n : ℕ) (p : Plan) → nat_lt p.register n ≡ true → (k : ℕ) (blocks : List (Block ℕ)) → list_all is_paid (with_blocks p k blocks) ≡ true → Each (Serves n n) blocks (with_blocks p k blocks)
 blocks_serve n p low k [] paid = NoBlocks
 blocks_serve n p low k (b ∷ blocks) paid =
     let s = and_parts (is_paid (held_block p (is_held p k) (is_set p k) b)) (list_all is_paid (with_blocks p (k + 1) blocks)) paid in
     OneMore (block_serves n p low (is_held p k) (is_set p k) b s.0) (blocks_serve n p low (k + 1) blocks s.1)
 
-pub owed : (p : Plan) (v : VFunc) → nat_lt p.register v.registers ≡ true → is_safe p v.code ≡ true → list_all is_paid (with_blocks p 0 v.code.blocks) ≡ true → Owed v (with_blocks p 0 v.code.blocks)
-owed p v low safe paid = owed_each v (with_blocks p 0 v.code.blocks) (blocks_serve v.registers p low 0 v.code.blocks paid) (runs p v.code safe)
+pub owed : (p : Plan) (v : VFunc) → nat_lt p.register v.registers ≡ true → is_safe p v.code ≡ true → list_all is_paid (with_blocks p 0 v.code.blocks) ≡ true → Owed v v.registers (with_blocks p 0 v.code.blocks)
+owed p v low safe paid = owed_each v v.registers (with_blocks p 0 v.code.blocks) (omega arith) (blocks_serve v.registers p low 0 v.code.blocks paid) (runs p v.code safe)

@@ -1,5 +1,5 @@
 -- Code without dead lines takes no more than the code did.
-use Rattle.std.proofs.Common.{◌≡◌, ℕ, ◌+◌, ◌≤◌, Bool, true, false, not, ◌&&◌, if◌then◌else◌, List, [], ◌∷◌, ◌++◌, Option, Some, None, refl, sym, ◌∙◌, ap, arith}
+use Rattle.std.proofs.Common.{◌≡◌, ℕ, ◌+◌, Bool, true, false, ◌&&◌, if◌then◌else◌, List, [], ◌∷◌, ◌++◌, Some, None, refl, ◌∙◌, ap, arith}
 use Rattle.std.specs.List.{list_all}
 use Rattle.bitset.specs.Bits.{Bits}
 use Rattle.vcode.specs.declared.line.Line.{Line}
@@ -8,7 +8,7 @@ use Rattle.vcode.specs.declared.code.Block.{Block}
 use Rattle.vcode.specs.declared.function.VFunc.{VFunc}
 use Rattle.vcode.specs.Cost.{line_cost, jump_cost}
 use Rattle.vcode.specs.Named.{line_keeps, jump_keeps, block_keeps, is_below}
-use Rattle.vcode.proofs.Measuring.{measure, nothing_taken, Measured, Empty, Put, LeftOut, within, Each, NoBlocks, OneMore}
+use Rattle.vcode.proofs.Measuring.{no_more, measure, nothing_taken, Measured, Empty, Put, LeftOut, within, Each, NoBlocks, OneMore}
 use Rattle.vcode.proofs.Results.{Serves, Owed, owed_each}
 use Rattle.cfg_live.specs.Points.{graph_of}
 use Rattle.cfg_live.specs.Rows.{holds, AreLive}
@@ -27,9 +27,6 @@ dead_takes_none w (Store size a b) dead = absurd (let no : ⊥ = cc in no)
 dead_takes_none w (Alloc to size) dead = absurd (let no : ⊥ = cc in no)
 dead_takes_none w (Blit a b count) dead = absurd (let no : ⊥ = cc in no)
 dead_takes_none w (Call to callee args) dead = absurd (let no : ⊥ = cc in no)
-
-no_more : (a b : ℕ) → a ≡ b → a ≤ b
-no_more a b e = omega arith
 
 lines_measured : (out : Wanted) (lines : List (Line ℕ)) → Measured false lines (kept_lines out lines)
 lines_measured out [] = Empty
@@ -83,7 +80,7 @@ lines_named test out b h =
 
 -- ---- the whole
 
-block_serves : (rows : List Bits) (n p : ℕ) (b : Block ℕ) → Serves n b (kept_block rows p b)
+block_serves : (rows : List Bits) (n p : ℕ) (b : Block ℕ) → Serves n n b (kept_block rows p b)
 block_serves rows n p b =
     record {
       within = within b (kept_block rows p b) (lines_measured (holds rows (jump_point p b.lines)) b.lines) (no_more (jump_cost b.jump) (jump_cost b.jump) refl);
@@ -91,12 +88,12 @@ block_serves rows n p b =
       names = lines_named (is_below n) (holds rows (jump_point p b.lines)) b;
     }
 
-blocks_serve : (rows : List Bits) (n p : ℕ) (blocks : List (Block ℕ)) → Each (Serves n) blocks (kept_blocks rows p blocks)
+blocks_serve : (rows : List Bits) (n p : ℕ) (blocks : List (Block ℕ)) → Each (Serves n n) blocks (kept_blocks rows p blocks)
 blocks_serve rows n p [] = NoBlocks
 blocks_serve rows n p (b ∷ blocks) = OneMore (block_serves rows n p b) (blocks_serve rows n (jump_point p b.lines + 1) blocks)
 
-pub owed : (v : VFunc) (rows : List Bits) → AreLive (graph_of v.code) v.registers rows → Owed v (kept_blocks rows 0 v.code.blocks)
-owed v rows live = owed_each v (kept_blocks rows 0 v.code.blocks) (blocks_serve rows v.registers 0 v.code.blocks) (runs v rows live)
+pub owed : (v : VFunc) (rows : List Bits) → AreLive (graph_of v.code) v.registers rows → Owed v v.registers (kept_blocks rows 0 v.code.blocks)
+owed v rows live = owed_each v v.registers (kept_blocks rows 0 v.code.blocks) (omega arith) (blocks_serve rows v.registers 0 v.code.blocks) (runs v rows live)
 
 -- the blocks that were pushed
 pub pushed : (rows : List Bits) (blocks before from these : List (Block ℕ)) → blocks ≡ before ++ kept_blocks rows 0 from → before ≡ [] → from ≡ these → blocks ≡ kept_blocks rows 0 these

@@ -1,12 +1,10 @@
 -- Code without dead lines follows the code, where the registers that are wanted hold the same: a dead line is gone, any other is beside one.
-use Rattle.std.proofs.Common.{◌≡◌, ℕ, ◌+◌, Bool, true, false, not, ◌&&◌, ◌||◌, nat_eq, if◌then◌else◌, List, [], ◌∷◌, ◌++◌, Option, Some, None, slice_get, refl, sym, ◌∙◌, ap, subst, arith}
+use Rattle.std.proofs.Common.{◌≡◌, ℕ, ◌+◌, Bool, true, false, not, ◌&&◌, ◌||◌, nat_eq, if◌then◌else◌, List, [], ◌∷◌, Option, Some, None, slice_get, refl, sym, ◌∙◌, ap, arith}
 use Rattle.std.specs.Option.{option_and_then}
 use Rattle.std.specs.List.{list_any}
 use Rattle.std.proofs.lemmas.Bool.{and_from}
 use Rattle.bitset.specs.Bits.{Bits}
-use Rattle.il_ast.specs.declared.operation.Class.{Class}
 use Rattle.il_ast.specs.declared.value.Value.{Value}
-use Rattle.il_ast.specs.Memory.{Memory}
 use Rattle.il_ast.specs.Keeps.{KeepsCode}
 use Rattle.vcode.specs.declared.place.Operand.{Operand}
 use Rattle.vcode.specs.declared.place.Operand.TheVariants.{At, Number, Name}
@@ -15,21 +13,18 @@ use Rattle.vcode.specs.declared.line.Line.{Line}
 use Rattle.vcode.specs.declared.line.Line.TheVariants.{Tick, Set, Operate, Load, Store, Alloc, Blit, Call}
 use Rattle.vcode.specs.declared.line.Jump.{Jump}
 use Rattle.vcode.specs.declared.line.Jump.TheVariants.{Goto, Branch, Return, Halt}
-use Rattle.vcode.specs.declared.code.Block.{Block}
 use Rattle.vcode.specs.declared.code.Code.{Code}
 use Rattle.vcode.specs.declared.function.VFunc.{VFunc}
 use Rattle.vcode.specs.Operations.{loaded}
 use Rattle.vcode.specs.Places.{Values, virtual}
 use Rattle.vcode.specs.Coded.{classes_in}
 use Rattle.vcode.specs.Step.{begin, value_of, operated, address_of, step}
-use Rattle.vcode.specs.Replaced.{with_jump}
 use Rattle.vcode.specs.Writes.{line_writes}
 use Rattle.vcode.specs.Acts.{given, act, written}
 use Rattle.vcode.proofs.Alike.{lines_alike}
 use Rattle.vcode.specs.Claims.{Claims}
-use Rattle.vcode.specs.Follows.{OnlyGives, Alike, MayGo, Arrives, LeadAlike, Follows, Jumps, Both, Gone, Less}
+use Rattle.vcode.specs.Follows.{OnlyGives, Alike, MayGo, LeadAlike, Follows, Jumps, Both, Gone, Less}
 use Rattle.vcode.specs.Rewrites.{Rewrites}
-use Rattle.vcode.proofs.SameReads.{SameValue}
 use Rattle.vcode.proofs.SameActs.{ArgumentsRead, Reads, JumpReads, act_agrees}
 use Rattle.vcode.proofs.Writing.{is_written, Agree, written_agree, unlike, first_writes}
 use Rattle.vcode.proofs.Leading.{LeadsTo, Arriving, jump_itself_alike, leads_more}

@@ -390,7 +390,7 @@ lines_low n whole fs (l ∷ lines) (m ∷ new) j k f below h =
 
 -- ---- the whole
 
-block_serves : (n : ℕ) (b c : Block ℕ) → IsForwarded n b c → Serves n b c
+block_serves : (n : ℕ) (b c : Block ℕ) → IsForwarded n b c → Serves n n b c
 block_serves n b c f =
     let made = jump_made n c.lines (λ r. None) b.lines c.lines b.jump c.jump f in
     let measured = lines_measured n c.lines (λ r. None) b.lines c.lines b.jump c.jump f in
@@ -402,11 +402,11 @@ block_serves n b c f =
       names = lines_low n c.lines (λ r. None) b.lines c.lines b.jump c.jump f (λ r g h. absurd (let no : ⊥ = cc in no));
     }
 
-blocks_serve : (n : ℕ) (blocks new : List (Block ℕ)) → AllForwarded n blocks new → Each (Serves n) blocks new
+blocks_serve : (n : ℕ) (blocks new : List (Block ℕ)) → AllForwarded n blocks new → Each (Serves n n) blocks new
 blocks_serve n [] [] h = NoBlocks
 blocks_serve n [] (c ∷ new) h = absurd h
 blocks_serve n (b ∷ blocks) [] h = absurd h
 blocks_serve n (b ∷ blocks) (c ∷ new) h = OneMore (block_serves n b c h.0) (blocks_serve n blocks new h.1)
 
-pub owed : (v : VFunc) (new : List (Block ℕ)) → AllForwarded v.registers v.code.blocks new → Owed v new
-owed v new all = owed_each v new (blocks_serve v.registers v.code.blocks new all) (runs v.registers v.code (with_these v.code new) all refl refl)
+pub owed : (v : VFunc) (new : List (Block ℕ)) → AllForwarded v.registers v.code.blocks new → Owed v v.registers new
+owed v new all = owed_each v v.registers new (omega arith) (blocks_serve v.registers v.code.blocks new all) (runs v.registers v.code (with_these v.code new) all refl refl)

@@ -1,5 +1,5 @@
 -- Code that reads copies takes what the code took, and names the registers of the function.
-use Rattle.std.proofs.Common.{◌≡◌, ℕ, ◌≤◌, Bool, true, false, nat_eq, nat_lt, if◌then◌else◌, List, [], ◌∷◌, ◌++◌, map, length, Option, Some, None, refl, ◌∙◌, arith}
+use Rattle.std.proofs.Common.{◌≡◌, ℕ, Bool, true, false, nat_eq, nat_lt, if◌then◌else◌, List, [], ◌∷◌, ◌++◌, map, length, Option, Some, None, refl, ◌∙◌, arith}
 use Rattle.std.specs.Prelude.{filter}
 use Rattle.std.specs.List.{list_all}
 use Rattle.std.proofs.lemmas.Bool.{and_parts, and_from}
@@ -13,7 +13,7 @@ use Rattle.vcode.specs.Named.{line_keeps, jump_keeps, block_keeps, is_below}
 use Rattle.vcode.specs.Replaced.{Replacing, with_line, with_jump}
 use Rattle.vcode.specs.Writes.{line_writes}
 use Rattle.vcode.proofs.Replacing.{measure_stays, Costs, line_cost_same, jump_cost_same, Low, line_low, jump_low, inside_same}
-use Rattle.vcode.proofs.Measuring.{Measured, Empty, Put, within, each_mapped}
+use Rattle.vcode.proofs.Measuring.{no_more, Measured, Empty, Put, within, each_mapped}
 use Rattle.vcode.proofs.Results.{Serves, Owed, owed_each}
 use Rattle.read_copies.specs.declared.known.KnownCopy.{KnownCopy}
 use Rattle.read_copies.specs.Copied.{copy_of, read_by, survives, surviving, made_by, with_copy, after, reading_lines, known_behind, reading_block}
@@ -24,9 +24,6 @@ cost_same : (copies : List KnownCopy) → Costs (read_by copies)
 cost_same copies (At r) = refl
 cost_same copies (Number n) = refl
 cost_same copies (Name g) = refl
-
-no_more : (a b : ℕ) → a ≡ b → a ≤ b
-no_more a b e = omega arith
 
 lines_measured : (copies : List KnownCopy) (lines : List (Line ℕ)) → Measured false lines (reading_lines copies lines)
 lines_measured copies [] = Empty
@@ -127,7 +124,7 @@ block_low n b h =
 
 -- ---- the whole
 
-block_serves : (n : ℕ) (b : Block ℕ) → Serves n b (reading_block b)
+block_serves : (n : ℕ) (b : Block ℕ) → Serves n n b (reading_block b)
 block_serves n b =
     let f : Replacing = read_by (known_behind [] b.lines) in
     record {
@@ -136,5 +133,5 @@ block_serves n b =
       names = block_low n b;
     }
 
-pub owed : (v : VFunc) → Owed v (map reading_block v.code.blocks)
-owed v = owed_each v (map reading_block v.code.blocks) (each_mapped (Serves v.registers) reading_block (block_serves v.registers) v.code.blocks) (runs v.code)
+pub owed : (v : VFunc) → Owed v v.registers (map reading_block v.code.blocks)
+owed v = owed_each v v.registers (map reading_block v.code.blocks) (omega arith) (each_mapped (Serves v.registers v.registers) reading_block (block_serves v.registers) v.code.blocks) (runs v.code)

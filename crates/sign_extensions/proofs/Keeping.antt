@@ -1,5 +1,5 @@
 -- Code with copies takes no more than the code did, and names registers of the function; and no marks are closed.
-use Rattle.std.proofs.Common.{◌≡◌, ℕ, ◌+◌, ◌≤◌, Bool, true, false, ◌&&◌, nat_le, if◌then◌else◌, List, [], ◌∷◌, map, length, Option, Some, None, refl, ◌∙◌, ap, arith}
+use Rattle.std.proofs.Common.{◌≡◌, ℕ, ◌≤◌, Bool, true, false, ◌&&◌, nat_le, if◌then◌else◌, List, [], ◌∷◌, map, Option, Some, None, refl, ◌∙◌, ap, arith}
 use Rattle.std.specs.List.{list_all}
 use Rattle.std.proofs.lemmas.List.{length-map}
 use Rattle.vcode.specs.declared.place.Argument.{Argument}
@@ -149,7 +149,7 @@ block_low marks n b h =
 
 -- ---- the whole
 
-block_serves : (marks : List Bool) (n : ℕ) (b : Block ℕ) → Serves n b (with_copies marks b)
+block_serves : (marks : List Bool) (n : ℕ) (b : Block ℕ) → Serves n n b (with_copies marks b)
 block_serves marks n b =
     record {
       within = within b (with_copies marks b) (lines_measured marks b.lines) (let same = claim_costs marks b.jump in omega (arith, same));
@@ -157,6 +157,6 @@ block_serves marks n b =
       names = block_low marks n b;
     }
 
-pub owed : (marks : List Bool) (v : VFunc) → are_closed marks v.code ≡ true → Owed v (map (with_copies marks) v.code.blocks)
+pub owed : (marks : List Bool) (v : VFunc) → are_closed marks v.code ≡ true → Owed v v.registers (map (with_copies marks) v.code.blocks)
 owed marks v closed =
-    owed_each v (map (with_copies marks) v.code.blocks) (each_mapped (Serves v.registers) (with_copies marks) (block_serves marks v.registers) v.code.blocks) (runs marks v.code closed)
+    owed_each v v.registers (map (with_copies marks) v.code.blocks) (omega arith) (each_mapped (Serves v.registers v.registers) (with_copies marks) (block_serves marks v.registers) v.code.blocks) (runs marks v.code closed)

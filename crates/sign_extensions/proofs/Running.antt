@@ -13,7 +13,6 @@ use Rattle.il_ast.specs.Values.{in_place}
 use Rattle.il_ast.specs.Memory.{Memory}
 use Rattle.il_ast.specs.Keeps.{KeepsCode}
 use Rattle.rv_isa.specs.declared.instruction.RegWOp.TheVariants.{Addw, Subw, Sllw, Srlw, Sraw, Mulw, Divw, Divuw, Remw, Remuw}
-use Rattle.rv_isa.specs.Arithmetic.{regw_value}
 use Rattle.vcode.specs.declared.place.Operand.{Operand}
 use Rattle.vcode.specs.declared.place.Operand.TheVariants.{At, Number, Name}
 use Rattle.vcode.specs.declared.place.Destination.{Destination}
@@ -33,14 +32,14 @@ use Rattle.vcode.specs.Places.{Values, unknown, put, virtual}
 use Rattle.vcode.specs.Coded.{classes_in}
 use Rattle.vcode.specs.Step.{bound, begin, value_of, read_argument, read_all, operated, address_of, step}
 use Rattle.vcode.specs.Writes.{line_writes}
-use Rattle.vcode.specs.Acts.{Act, Asks, Gives, given, asked, act, written, Way, Lost, Enters, Answers, Halts, answering, way}
+use Rattle.vcode.specs.Acts.{Act, Asks, given, asked, act, written, Way, Lost, Enters, Answers, Halts, answering, way}
 use Rattle.vcode.specs.Claims.{Claims}
 use Rattle.vcode.specs.Follows.{Alike, Arrives, LeadAlike, Follows as CodeFollows, Jumps, Both}
 use Rattle.vcode.specs.Rewrites.{Rewrites}
 use Rattle.vcode.proofs.Alike.{MayLeave}
 use Rattle.vcode.proofs.Following.{Follows, AllFollow, ActFollows, act_follows, lines_follow, WayFollows, way_follows}
 use Rattle.vcode.proofs.Rewriting.{rewrites_keep}
-use Rattle.sign_extensions.specs.Whole.{is_marked, is_whole, gives_whole, loads_whole, is_word, takes_whole, wants_whole, keeps_marks, are_closed, is_extension, claim, with_claim, jump_claim, with_copy, with_copies}
+use Rattle.sign_extensions.specs.Whole.{is_marked, is_whole, gives_whole, loads_whole, is_word, takes_whole, keeps_marks, are_closed, is_extension, claim, with_claim, jump_claim, with_copy, with_copies}
 use Rattle.sign_extensions.proofs.Values.{Whole, IfWhole, AreWhole, whole_number, assign_whole, operand_whole, then_whole, operate_whole, load_whole, held_whole, extension_is}
 
 -- marked registers hold whole words, and registers of the second code at least as much

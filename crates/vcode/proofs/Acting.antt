@@ -25,7 +25,6 @@ use Rattle.vcode.specs.Step.{State, value_of, read, read_result, read_all, addre
 use Rattle.vcode.specs.Writes.{place_of, line_writes}
 use Rattle.vcode.specs.Acts.{Act, Fails, Spends, Gives, Leaves, Makes, Asks, given, left, asked, act, written, Way, Lost, Enters, Answers, Halts, entering, answering, way}
 use Rattle.vcode.specs.Follows.{BehindCall, DoAlike}
-use Rattle.vcode.proofs.Going.{Relation}
 
 -- ---- what a line's act performs
 
@@ -125,6 +124,9 @@ jump_leads globals result s Halt = refl
 
 abbrev pub beside : State ℕ → (block next : ℕ) → Values ℕ → State ℕ
 beside s b n values = record { block = b; next = n; values = values; memory = s.memory; owned = s.owned; spent = s.spent }
+
+abbrev pub Relation : Type 1
+Relation = State ℕ → State ℕ → Type 0
 
 -- what is to be related behind a line: states in which this holds
 abbrev pub Onward : Relation → (Memory → Values ℕ → Values ℕ → Type 0) → State ℕ → (block next : ℕ) → Type 0

@@ -23,7 +23,7 @@ use Rattle.vcode.specs.Operations.{passed, operate, loaded}
 use Rattle.vcode.specs.Places.{Values}
 use Rattle.vcode.specs.Step.{value_of, read, read_argument, read_result, read_all, operated, address_of}
 use Rattle.vcode.specs.Writes.{line_writes}
-use Rattle.vcode.specs.Acts.{Act, Fails, Spends, Gives, Leaves, Makes, Asks, given, left, asked, act, written, Way, Lost, Enters, Answers, Halts, entering, answering, way}
+use Rattle.vcode.specs.Acts.{Act, Fails, Spends, Gives, Leaves, Makes, Asks, given, left, asked, act, written, Way, Lost, entering, answering, way}
 use Rattle.vcode.specs.Follows.{DoAlike}
 use Rattle.vcode.proofs.Alike.{MayLeave, WritesNone, writes_none, none_written, answers_alike}
 

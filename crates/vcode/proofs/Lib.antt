@@ -6,7 +6,6 @@ pub mod Stepping
 mod Affording
 pub mod Replacing
 pub mod SameReads
-pub mod Going
 pub mod Following
 pub mod Acting
 pub mod Alike

@@ -124,16 +124,16 @@ pub record Within (b d : Block ℕ) : Type 0 where
   pub makes : list_any is_alloc d.lines ≡ list_any is_alloc b.lines
   pub paid : is_paid b ≡ true → is_paid d ≡ true
 
-least : (a b : ℕ) → a ≡ b → a ≤ b
-least a b h = omega arith
+pub no_more : (a b : ℕ) → a ≡ b → a ≤ b
+no_more a b h = omega arith
 
 -- where it is tested whether ticks pay
 pub within_tested : {tested : Bool} (b d : Block ℕ) → Measured tested b.lines d.lines → (is_paid b ≡ true → is_paid d ≡ true) → Within b d
 within_tested {tested} b d lines paid =
     record {
-      weight = least (sum_by weight_of d.lines) (sum_by weight_of b.lines) (sums_same tested (λ (x : Measure). x.weight) refl lines);
-      turns = least (sum_by turns_of d.lines) (sum_by turns_of b.lines) (sums_same tested (λ (x : Measure). x.turns) refl lines);
-      bytes = least (sum_by alloc_bytes d.lines) (sum_by alloc_bytes b.lines) (sums_same tested (λ (x : Measure). x.bytes) refl lines);
+      weight = no_more (sum_by weight_of d.lines) (sum_by weight_of b.lines) (sums_same tested (λ (x : Measure). x.weight) refl lines);
+      turns = no_more (sum_by turns_of d.lines) (sum_by turns_of b.lines) (sums_same tested (λ (x : Measure). x.turns) refl lines);
+      bytes = no_more (sum_by alloc_bytes d.lines) (sum_by alloc_bytes b.lines) (sums_same tested (λ (x : Measure). x.bytes) refl lines);
       few = few_same lines;
       makes = makes_same lines;
       paid = paid;

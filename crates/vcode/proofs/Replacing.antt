@@ -10,60 +10,17 @@ use Rattle.vcode.specs.declared.line.Jump.{Jump}
 use Rattle.vcode.specs.declared.line.Jump.TheVariants.{Goto, Branch, Return, Halt}
 use Rattle.vcode.specs.Cost.{operand_cost, place_cost, operation_cost, line_cost, branch_cost, jump_cost}
 use Rattle.vcode.specs.Named.{operand_keeps, wanted_keeps, line_keeps, jump_keeps, is_below}
-use Rattle.vcode.specs.Regular.{leads_inside, is_alloc, alloc_bytes, turns_of, passes_few, weight_of}
+use Rattle.vcode.specs.Regular.{leads_inside}
 use Rattle.vcode.specs.Replaced.{Replacing, with_argument, with_line, with_jump}
 use Rattle.vcode.proofs.Measuring.{measure}
 
--- ---- measures of a line that other operands leave
-
-abbrev pub Stays : {X : Type 0} → (Line ℕ → X) → Type 0
-Stays g = (f : Replacing) (l : Line ℕ) → g (with_line f l) ≡ g l
-
-pub weight_stays : Stays weight_of
-weight_stays f (Tick turn w) = refl
-weight_stays f (Set to a) = refl
-weight_stays f (Operate to op a b) = refl
-weight_stays f (Load to op at) = refl
-weight_stays f (Store size a at) = refl
-weight_stays f (Alloc to size) = refl
-weight_stays f (Blit from to count) = refl
-weight_stays f (Call to callee args) = refl
-
-pub bytes_stay : Stays alloc_bytes
-bytes_stay f (Tick turn w) = refl
-bytes_stay f (Set to a) = refl
-bytes_stay f (Operate to op a b) = refl
-bytes_stay f (Load to op at) = refl
-bytes_stay f (Store size a at) = refl
-bytes_stay f (Alloc to size) = refl
-bytes_stay f (Blit from to count) = refl
-bytes_stay f (Call to callee args) = refl
-
-pub turns_stay : Stays turns_of
-turns_stay f (Tick turn w) = refl
-turns_stay f (Set to a) = refl
-turns_stay f (Operate to op a b) = refl
-turns_stay f (Load to op at) = refl
-turns_stay f (Store size a at) = refl
-turns_stay f (Alloc to size) = refl
-turns_stay f (Blit from to count) = refl
-turns_stay f (Call to callee args) = refl
-
-pub alloc_stays : Stays is_alloc
-alloc_stays f (Tick turn w) = refl
-alloc_stays f (Set to a) = refl
-alloc_stays f (Operate to op a b) = refl
-alloc_stays f (Load to op at) = refl
-alloc_stays f (Store size a at) = refl
-alloc_stays f (Alloc to size) = refl
-alloc_stays f (Blit from to count) = refl
-alloc_stays f (Call to callee args) = refl
+-- ---- what a line takes, which other operands leave
 
 pub args_count : (f : Replacing) (args : List (Argument ℕ)) → length (map (with_argument f) args) ≡ length args
 args_count f [] = refl
 args_count f (a ∷ args) = ap suc (args_count f args)
 
-pub measure_stays : Stays measure
+pub measure_stays : (f : Replacing) (l : Line ℕ) → measure (with_line f l) ≡ measure l
 measure_stays f (Tick turn w) = refl
 measure_stays f (Set to a) = refl
 measure_stays f (Operate to op a b) = refl
@@ -73,16 +30,6 @@ measure_stays f (Alloc to size) = refl
 measure_stays f (Blit from to count) = refl
 measure_stays f (Call to callee args) =
     ap (λ n. record { weight = 0; turns = 0; bytes = 0; few = nat_le n 64; makes = false }) (args_count f args)
-
-pub few_stays : Stays passes_few
-few_stays f (Tick turn w) = refl
-few_stays f (Set to a) = refl
-few_stays f (Operate to op a b) = refl
-few_stays f (Load to op at) = refl
-few_stays f (Store size a at) = refl
-few_stays f (Alloc to size) = refl
-few_stays f (Blit from to count) = refl
-few_stays f (Call to callee args) = ap (λ n. nat_le n 64) (args_count f args)
 
 -- ---- what pays
 

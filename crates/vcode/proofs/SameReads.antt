@@ -1,24 +1,19 @@
 -- What a line or a jump does with other operands that have the same values, in other values of the places.
-use Rattle.std.proofs.Common.{◌≡◌, ℕ, ◌-◌, nat_eq, if◌then◌else◌, List, [], ◌∷◌, map, Option, Some, None, refl, ◌∙◌, ap}
+use Rattle.std.proofs.Common.{◌≡◌, ℕ, nat_eq, if◌then◌else◌, List, [], ◌∷◌, map, Option, refl, ◌∙◌, ap}
 use Rattle.std.specs.Option.{option_map, option_and_then}
-use Rattle.il_ast.specs.declared.operation.Class.{Class}
 use Rattle.il_ast.specs.declared.value.Value.{Value}
-use Rattle.il_ast.specs.declared.value.Value.TheVariants.{Integer, Pointer, Function}
 use Rattle.il_ast.specs.Memory.{Memory}
-use Rattle.il_ast.specs.Logged.{Calls}
-use Rattle.il_ast.specs.Keeps.{Given}
 use Rattle.rv_isa.specs.declared.instruction.RegOp.TheVariants.{Add}
 use Rattle.vcode.specs.declared.place.Operand.{Operand}
 use Rattle.vcode.specs.declared.place.Operand.TheVariants.{Number}
 use Rattle.vcode.specs.declared.place.Address.{Address}
-use Rattle.vcode.specs.declared.place.Destination.{Destination}
 use Rattle.vcode.specs.declared.place.Argument.{Argument}
 use Rattle.vcode.specs.declared.line.Operation.TheVariants.{Reg}
 use Rattle.vcode.specs.Addresses.{distance}
 use Rattle.vcode.specs.Operations.{passed}
-use Rattle.vcode.specs.Places.{Values, virtual}
+use Rattle.vcode.specs.Places.{Values}
 use Rattle.vcode.specs.Replaced.{Replacing, with_base, with_argument}
-use Rattle.vcode.specs.Step.{State, value_of, read_argument, read_all, operated, address_of, resumes, calls}
+use Rattle.vcode.specs.Step.{value_of, read_argument, read_all, operated, address_of}
 
 -- what stands in the place of an operand has that one's value
 abbrev pub SameValue : List Value → (ev el : Values ℕ) → Replacing → Operand ℕ → Type 0
@@ -49,26 +44,3 @@ args_same globals ev el f (a ∷ args) same =
     (λ (x : Option Value). option_and_then (λ v. option_map (λ vs. v ∷ vs) (read_all globals el (map (with_argument f) args))) (option_and_then (passed a.extension a.class) x))
     same.0
     ∙ ap (λ (x : Option (List Value)). option_and_then (λ v. option_map (λ vs. v ∷ vs) x) (read_argument globals ev a)) (args_same globals ev el f args same.1)
-
-classes_same : (f : Replacing) (args : List (Argument ℕ)) → map (λ (a : Argument ℕ). a.class) (map (with_argument f) args) ≡ map (λ (a : Argument ℕ). a.class) args
-classes_same f [] = refl
-classes_same f (a ∷ args) = ap (λ (cs : List Class). a.class ∷ cs) (classes_same f args)
-
--- a call asks for the same, whatever stands in the place of its arguments
-pub calls_same : (i : Given) (s : State ℕ) (to : Option (Destination ℕ)) (f : Replacing) (args : List (Argument ℕ)) (x : Option Value) (vs : Option (List Value))
-    → calls virtual i s to (map (with_argument f) args) x vs ≡ calls virtual i s to args x vs
-calls_same i s to f args (Some (Function g)) (Some vs) =
-    ap
-    (λ (cs : List Class). Calls
-    (record {
-      call = record { callee = g; classes = cs; wants = option_map (λ (d : Destination ℕ). d.class) to; args = vs };
-      turns = i.turns - s.spent.turns;
-      room = i.room;
-      memory = s.memory;
-    })
-    (resumes virtual s to))
-    (classes_same f args)
-calls_same i s to f args (Some (Function g)) None = refl
-calls_same i s to f args (Some (Integer k)) vs = refl
-calls_same i s to f args (Some (Pointer b k)) vs = refl
-calls_same i s to f args None vs = refl

@@ -11,8 +11,8 @@ invariant_of-result c =
     let v = c.args.function.now in
     let order = c.args.order.now in
     let new : Code ℕ = record { result = v.code.result; params = c.in_ok-params.params; blocks = c.in_ok-blocks.blocks } in
-    let r : Result v new =
-    result_of v (in_order order v.code).blocks (owed order v (holds order v.code c.requires.order)) c.in_ok-params.params c.in_ok-blocks.blocks c.in_ok-params.ensures
+    let r : Result v v.registers new =
+    result_of v v.registers (in_order order v.code).blocks (owed order v (holds order v.code c.requires.order)) c.in_ok-params.params c.in_ok-blocks.blocks c.in_ok-params.ensures
     (c.in_ok-blocks.ensures ∙ ap (λ (bs : List (Block ℕ)). map (λ k. placed order (block_at bs k)) order) c.as_slice.ensures) in
     record { few = v.few; regular = r.regular; light = r.light; known = r.known; low = r.low; distinct = r.distinct }
 
@@ -20,7 +20,7 @@ pub returns-clause-kept : goal.returns-clause-kept
 returns-clause-kept c =
     let v = c.args.function.now in
     let order = c.args.order.now in
-    (result_of v (in_order order v.code).blocks (owed order v (holds order v.code c.requires.order)) c.in_ok-params.params c.in_ok-blocks.blocks c.in_ok-params.ensures
+    (result_of v v.registers (in_order order v.code).blocks (owed order v (holds order v.code c.requires.order)) c.in_ok-params.params c.in_ok-blocks.blocks c.in_ok-params.ensures
     (c.in_ok-blocks.ensures ∙ ap (λ (bs : List (Block ℕ)). map (λ k. placed order (block_at bs k)) order) c.as_slice.ensures)).keeps
 
 pub returns-clause-code : goal.returns-clause-code

@@ -13,8 +13,8 @@ invariant_of-result c =
     let p = c.args.plan.now in
     let paid : list_all is_paid (with_blocks p 0 v.code.blocks) ≡ true = ap (list_all is_paid) (sym c.requires.made) ∙ c.requires.paid in
     let new : Code ℕ = record { result = v.code.result; params = c.in_ok-params.params; blocks = c.from_vec.result } in
-    let r : Result v new =
-    result_of v (with_blocks p 0 v.code.blocks) (owed p v c.requires.low c.requires.safe paid) c.in_ok-params.params c.from_vec.result c.in_ok-params.ensures (c.from_vec.ensures ∙ c.requires.made) in
+    let r : Result v v.registers new =
+    result_of v v.registers (with_blocks p 0 v.code.blocks) (owed p v c.requires.low c.requires.safe paid) c.in_ok-params.params c.from_vec.result c.in_ok-params.ensures (c.from_vec.ensures ∙ c.requires.made) in
     record { few = v.few; regular = r.regular; light = r.light; known = r.known; low = r.low; distinct = r.distinct }
 
 pub returns-clause-kept : goal.returns-clause-kept
@@ -22,7 +22,7 @@ returns-clause-kept c =
     let v = c.args.function.now in
     let p = c.args.plan.now in
     let paid : list_all is_paid (with_blocks p 0 v.code.blocks) ≡ true = ap (list_all is_paid) (sym c.requires.made) ∙ c.requires.paid in
-    (result_of v (with_blocks p 0 v.code.blocks) (owed p v c.requires.low c.requires.safe paid) c.in_ok-params.params c.from_vec.result c.in_ok-params.ensures (c.from_vec.ensures ∙ c.requires.made)).keeps
+    (result_of v v.registers (with_blocks p 0 v.code.blocks) (owed p v c.requires.low c.requires.safe paid) c.in_ok-params.params c.from_vec.result c.in_ok-params.ensures (c.from_vec.ensures ∙ c.requires.made)).keeps
 
 pub returns-clause-code : goal.returns-clause-code
 returns-clause-code c =

@@ -14,7 +14,7 @@ invariant_of-result c =
     subst (λ n. AllForwarded n v.code.blocks blocks) c.in_ok-table.ensures.count
     (subst (λ (xs : List (Block ℕ)). AllForwarded (length c.in_ok-table.table.written.items) xs blocks) c.as_slice.ensures c.in_ok-blocks.ensures) in
     let new : Code ℕ = record { result = v.code.result; params = c.in_ok-params.params; blocks = blocks } in
-    let r : Result v new = result_of v blocks (owed v blocks all) c.in_ok-params.params blocks c.in_ok-params.ensures refl in
+    let r : Result v v.registers new = result_of v v.registers blocks (owed v blocks all) c.in_ok-params.params blocks c.in_ok-params.ensures refl in
     record { few = v.few; regular = r.regular; light = r.light; known = r.known; low = r.low; distinct = r.distinct }
 
 pub returns-clause-kept : goal.returns-clause-kept
@@ -24,4 +24,4 @@ returns-clause-kept c =
     let all : AllForwarded v.registers v.code.blocks blocks =
     subst (λ n. AllForwarded n v.code.blocks blocks) c.in_ok-table.ensures.count
     (subst (λ (xs : List (Block ℕ)). AllForwarded (length c.in_ok-table.table.written.items) xs blocks) c.as_slice.ensures c.in_ok-blocks.ensures) in
-    (result_of v blocks (owed v blocks all) c.in_ok-params.params blocks c.in_ok-params.ensures refl).keeps
+    (result_of v v.registers blocks (owed v blocks all) c.in_ok-params.params blocks c.in_ok-params.ensures refl).keeps

@@ -9,15 +9,15 @@ pub invariant_of-result : goal.invariant_of-result
 invariant_of-result c =
     let v = c.args.function.now in
     let new : Code ℕ = record { result = v.code.result; params = c.in_ok-params.params; blocks = c.in_ok-blocks.blocks } in
-    let r : Result v new =
-    result_of v (map reading_block v.code.blocks) (owed v) c.in_ok-params.params c.in_ok-blocks.blocks c.in_ok-params.ensures (c.in_ok-blocks.ensures ∙ ap (map reading_block) c.as_slice.ensures)
+    let r : Result v v.registers new =
+    result_of v v.registers (map reading_block v.code.blocks) (owed v) c.in_ok-params.params c.in_ok-blocks.blocks c.in_ok-params.ensures (c.in_ok-blocks.ensures ∙ ap (map reading_block) c.as_slice.ensures)
     in
     record { few = v.few; regular = r.regular; light = r.light; known = r.known; low = r.low; distinct = r.distinct }
 
 pub returns-clause-kept : goal.returns-clause-kept
 returns-clause-kept c =
     let v = c.args.function.now in
-    (result_of v (map reading_block v.code.blocks) (owed v) c.in_ok-params.params c.in_ok-blocks.blocks c.in_ok-params.ensures (c.in_ok-blocks.ensures ∙ ap (map reading_block) c.as_slice.ensures)).keeps
+    (result_of v v.registers (map reading_block v.code.blocks) (owed v) c.in_ok-params.params c.in_ok-blocks.blocks c.in_ok-params.ensures (c.in_ok-blocks.ensures ∙ ap (map reading_block) c.as_slice.ensures)).keeps
 
 pub returns-clause-code : goal.returns-clause-code
 returns-clause-code c =
