@@ -31,11 +31,6 @@ pub data Made (registers : ℕ) (facts : List Fact) : Line ℕ → Line ℕ → 
   Itself : {l : Line ℕ} → Made registers facts l l
   Copy : {l : Line ℕ} {f : Fact} {r : ℕ} → computed l ≡ Some f → is_dear f.value ≡ true → r < registers → IsIn (record { register = r; value = canonical facts f.value }) facts → Made registers facts l (Set f.register (At r))
 
--- lines before which these facts are known, and those known behind them
-pub data Reuses (registers : ℕ) : List Fact → List (Line ℕ) → List (Line ℕ) → List Fact → Type 0 where
-  Ended : {facts : List Fact} → Reuses registers facts [] [] facts
-  OneLine : {facts behind : List Fact} {l m : Line ℕ} {ls ms : List (Line ℕ)} → Made registers facts l m → Reuses registers (after m facts) ls ms behind → Reuses registers facts (l ∷ ls) (m ∷ ms) behind
-
 -- the facts claimed where a block begins
 abbrev pub claims_at : List (List Fact) → ℕ → List Fact
 claims_at claims k = option_map_or (λ (facts : List Fact). facts) (slice_get claims k) []
@@ -52,14 +47,24 @@ LeadsWell claims facts (Branch on met otherwise) =
 LeadsWell claims facts (Return a) = Unit {0}
 LeadsWell claims facts Halt = Unit {0}
 
-pub record IsReused (registers : ℕ) (claims : List (List Fact)) (k : ℕ) (b d : Block ℕ) : Type 0 where
-  pub behind : List Fact
-  pub lines : Reuses registers (claims_at claims k) b.lines d.lines behind
-  pub jump : d.jump ≡ b.jump
-  pub leads : LeadsWell claims behind b.jump
+-- lines before which these facts are known
+abbrev pub AreReused : (registers : ℕ) → List (List Fact) → List Fact → (lines new : List (Line ℕ)) →
+    Jump ℕ → Type 0
+AreReused registers claims facts [] [] j = LeadsWell claims facts j
+AreReused registers claims facts [] (m ∷ new) j = ⊥
+AreReused registers claims facts (l ∷ lines) [] j = ⊥
+AreReused registers claims facts (l ∷ lines) (m ∷ new) j =
+    Made registers facts l m × AreReused registers claims (after m facts) lines new j
 
-abbrev pub AllReused : (registers : ℕ) → List (List Fact) → ℕ → List (Block ℕ) → List (Block ℕ) → Type 0
+-- a block before which what is claimed of it is known
+abbrev pub IsReused : (registers : ℕ) → List (List Fact) → ℕ → (b d : Block ℕ) → Type 0
+IsReused registers claims k b d =
+    (d.jump ≡ b.jump) × AreReused registers claims (claims_at claims k) b.lines d.lines b.jump
+
+-- blocks from this one on
+abbrev pub AllReused : (registers : ℕ) → List (List Fact) → ℕ → (blocks new : List (Block ℕ)) → Type 0
 AllReused registers claims k [] [] = Unit {0}
-AllReused registers claims k [] (d ∷ ds) = ⊥
-AllReused registers claims k (b ∷ bs) [] = ⊥
-AllReused registers claims k (b ∷ bs) (d ∷ ds) = IsReused registers claims k b d × AllReused registers claims (k + 1) bs ds
+AllReused registers claims k [] (d ∷ new) = ⊥
+AllReused registers claims k (b ∷ blocks) [] = ⊥
+AllReused registers claims k (b ∷ blocks) (d ∷ new) =
+    IsReused registers claims k b d × AllReused registers claims (k + 1) blocks new

@@ -1,8 +1,9 @@
 //! Lines that are done again.
 ghost use Rattle.std.specs.Prelude.{◌≡◌, ◌<◌, ℕ, List, true, IfOk, IfSome, OnOk};
-ghost use Rattle.vcode.specs.declared.line.Line.{Line as ALine};
+ghost use Rattle.vcode.specs.declared.line.Jump.{Jump as AJump};
+ghost use Rattle.value_numbering.specs.declared.fact.Fact.{Fact as AFact};
 ghost use Rattle.value_numbering.specs.Known.{canonical};
-ghost use Rattle.value_numbering.specs.Reused.{is_dear, is_no_number, IsIn, Made, Reuses};
+ghost use Rattle.value_numbering.specs.Reused.{is_dear, is_no_number, IsIn, Made, LeadsWell, AreReused};
 
 use crate::fact::{Expression, Fact, computed};
 use crate::known::{canonical, holder, pass};
@@ -40,10 +41,10 @@ fn is_worth(value: Expression) -> bool {
 }
 
 /// The register that holds what a line computes, if it is to be copied.
-fn reused(facts: &[Fact], registers: u32, fact: Fact) -> Option<u32>
-    ensures dear { IfSome result (λ r. is_dear fact.value ≡ true) }
+fn reused(facts: &[Fact], registers: u32, fact: &Fact) -> Option<u32>
+    ensures dear { IfSome result (λ r. is_dear fact.now.value ≡ true) }
     ensures low { IfSome result (λ r. r < registers) }
-    ensures holds { IfSome result (λ r. IsIn (record { register = r; value = canonical facts.now fact.value }) facts.now) }
+    ensures holds { IfSome result (λ r. IsIn (record { register = r; value = canonical facts.now fact.now.value }) facts.now) }
 {
     if is_dear(fact.value) && is_worth(fact.value) {
         holder(facts, registers, &canonical(facts, fact.value))
@@ -57,7 +58,7 @@ pub(crate) fn copy(facts: &[Fact], registers: u32, line: &Line<u32>) -> Option<L
     ensures { IfSome result (λ m. Made registers facts.now line.now m) }
 {
     match computed(line) {
-        Some(fact) => match reused(facts, registers, fact) {
+        Some(fact) => match reused(facts, registers, &fact) {
             Some(register) => Some(Line::Set {
                 to: fact.register,
                 value: Operand::At(register),
@@ -90,7 +91,7 @@ pub(crate) fn lines(
     registers: u32,
     from: &[Line<u32>],
 ) -> Result<Vec<Line<u32>>, AllocError>
-    ensures { IfOk result (λ v. Reuses registers facts.old.items from.now v.items facts.new.items) }
+    ensures { IfOk result (λ v. (claims : List (List AFact)) (j : AJump ℕ) → LeadsWell claims facts.new.items j → AreReused registers claims facts.old.items from.now v.items j) }
 {
     let mut all = Vec::new(alloc);
     for line in from {
