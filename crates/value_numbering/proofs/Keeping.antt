@@ -1,0 +1,132 @@
+-- Code that uses values again takes what the code took, and names the registers of the function.
+use Rattle.std.proofs.Common.{◌≡◌, ℕ, ◌+◌, ◌<◌, ◌≤◌, Bool, true, false, nat_lt, if◌then◌else◌, List, [], ◌∷◌, Option, Some, None, refl, sym, ◌∙◌, ap, subst, arith}
+use Rattle.std.specs.List.{list_all}
+use Rattle.std.proofs.lemmas.Bool.{and_parts, and_from}
+use Rattle.std.proofs.lemmas.Bool.Decides.{nat_tests}
+use Rattle.vcode.specs.declared.place.Operand.{Operand}
+use Rattle.vcode.specs.declared.place.Operand.TheVariants.{At, Number, Name}
+use Rattle.vcode.specs.declared.line.Operation.{Operation}
+use Rattle.vcode.specs.declared.line.Operation.TheVariants.{Reg, RegW, Compare}
+use Rattle.vcode.specs.declared.line.Line.{Line}
+use Rattle.vcode.specs.declared.line.Line.TheVariants.{Tick, Set, Operate, Load, Store, Alloc, Blit, Call}
+use Rattle.vcode.specs.declared.line.Jump.{Jump}
+use Rattle.vcode.specs.declared.code.Block.{Block}
+use Rattle.vcode.specs.declared.function.VFunc.{VFunc}
+use Rattle.vcode.specs.Cost.{operand_cost, operation_cost, line_cost, jump_cost, is_immediate}
+use Rattle.vcode.specs.Named.{line_keeps, jump_keeps, block_keeps, is_below}
+use Rattle.vcode.specs.Addresses.{distance}
+use Rattle.vcode.specs.Regular.{leads_inside}
+use Rattle.vcode.proofs.Measuring.{Measured, Empty, Put, measure, within, Each, NoBlocks, OneMore}
+use Rattle.vcode.proofs.Results.{Serves, Owed, owed_each, with_these}
+use Rattle.value_numbering.specs.declared.fact.Expression.{Expression}
+use Rattle.value_numbering.specs.declared.fact.Expression.TheVariants.{Same, Operated, Loaded}
+use Rattle.value_numbering.specs.declared.fact.Fact.{Fact}
+use Rattle.value_numbering.specs.Known.{computed, after}
+use Rattle.value_numbering.specs.Reused.{Made, Itself, Copy, is_dear, is_no_number, claims_at, AreReused, IsReused, AllReused}
+use Rattle.value_numbering.proofs.Running.{runs}
+
+-- ---- what lines take
+
+measure_same : (n : ℕ) (facts : List Fact) (l m : Line ℕ) → Made n facts l m → measure m ≡ measure l
+measure_same n facts l m Itself = refl
+measure_same n facts (Set to a) m (Copy is dear low known) = refl
+measure_same n facts (Operate to op a b) m (Copy is dear low known) = refl
+measure_same n facts (Load to op at) m (Copy is dear low known) = refl
+measure_same n facts (Tick turn w) m (Copy is dear low known) = absurd (let no : ⊥ = cc in no)
+measure_same n facts (Store size a at) m (Copy is dear low known) = absurd (let no : ⊥ = cc in no)
+measure_same n facts (Alloc to size) m (Copy is dear low known) = absurd (let no : ⊥ = cc in no)
+measure_same n facts (Blit from to count) m (Copy is dear low known) = absurd (let no : ⊥ = cc in no)
+measure_same n facts (Call to callee args) m (Copy is dear low known) = absurd (let no : ⊥ = cc in no)
+
+operand_least : (a : Operand ℕ) → 1 ≤ operand_cost a
+operand_least (At r) = omega arith
+operand_least (Name g) = omega arith
+operand_least (Number k) = by (is_immediate k)
+  where
+    by : (b : Bool) → 1 ≤ (if b then 1 else 9)
+    by true = omega arith
+    by false = omega arith
+
+operation_least : (op : Operation) → 1 ≤ operation_cost op
+operation_least (Reg op) = omega arith
+operation_least (RegW op) = omega arith
+operation_least (Compare on k) = omega arith
+
+no_number_least : (a : Operand ℕ) → is_no_number a ≡ true → 2 ≤ operand_cost a
+no_number_least (At r) h = omega arith
+no_number_least (Name g) h = omega arith
+no_number_least (Number k) h = absurd (let no : ⊥ = cc in no)
+
+dear_of : (l : Line ℕ) (f : Fact) → computed l ≡ Some f → is_dear f.value ≡ true → 6 ≤ line_cost l
+dear_of (Set to a) f is dear = let same : Same a ≡ f.value = cc in absurd (let e : is_dear (Same a) ≡ true = ap is_dear same ∙ dear in let no : ⊥ = cc in no)
+dear_of (Operate to op a b) f is dear = let x = operand_least a in let y = operand_least b in let z = operation_least op in omega (arith, x, y, z)
+dear_of (Load to op at) f is dear =
+    let same : Loaded op at.base (distance at) ≡ f.value = cc in
+    let x = no_number_least at.base (ap is_dear same ∙ dear) in omega (arith, x)
+dear_of (Tick turn w) f is dear = absurd (let no : ⊥ = cc in no)
+dear_of (Store size a at) f is dear = absurd (let no : ⊥ = cc in no)
+dear_of (Alloc to size) f is dear = absurd (let no : ⊥ = cc in no)
+dear_of (Blit from to count) f is dear = absurd (let no : ⊥ = cc in no)
+dear_of (Call to callee args) f is dear = absurd (let no : ⊥ = cc in no)
+
+itself_least : (k : ℕ) → k ≤ k
+itself_least k = omega arith
+
+cost_less : (n : ℕ) (facts : List Fact) (l m : Line ℕ) → Made n facts l m → line_cost m ≤ line_cost l
+cost_less n facts l m Itself = itself_least (line_cost l)
+cost_less n facts l m (Copy {f = f} is dear low known) = let x = dear_of l f is dear in omega (arith, x)
+
+lines_measured : (n : ℕ) (claims : List (List Fact)) (facts : List Fact) (lines new : List (Line ℕ)) (j : Jump ℕ) → AreReused n claims facts lines new j → Measured false lines new
+lines_measured n claims facts [] [] j h = Empty
+lines_measured n claims facts [] (m ∷ new) j h = absurd h
+lines_measured n claims facts (l ∷ lines) [] j h = absurd h
+lines_measured n claims facts (l ∷ lines) (m ∷ new) j h =
+    Put (measure_same n facts l m h.0) (λ e. cost_less n facts l m h.0) (lines_measured n claims (after m facts) lines new j h.1)
+
+-- ---- the registers that it names
+
+writes_low : (n : ℕ) (l : Line ℕ) (f : Fact) → computed l ≡ Some f → line_keeps (is_below n) l ≡ true → is_below n f.register ≡ true
+writes_low n (Set to a) f is h = let same : to ≡ f.register = cc in ap (is_below n) (sym same) ∙ (and_parts (is_below n to) _ h).0
+writes_low n (Operate to op a b) f is h = let same : to ≡ f.register = cc in ap (is_below n) (sym same) ∙ (and_parts (is_below n to) _ h).0
+writes_low n (Load to op at) f is h = let same : to ≡ f.register = cc in ap (is_below n) (sym same) ∙ (and_parts (is_below n to) _ h).0
+writes_low n (Tick turn w) f is h = absurd (let no : ⊥ = cc in no)
+writes_low n (Store size a at) f is h = absurd (let no : ⊥ = cc in no)
+writes_low n (Alloc to size) f is h = absurd (let no : ⊥ = cc in no)
+writes_low n (Blit from to count) f is h = absurd (let no : ⊥ = cc in no)
+writes_low n (Call to callee args) f is h = absurd (let no : ⊥ = cc in no)
+
+below : (r n : ℕ) → r < n → nat_lt r n ≡ true
+below r n h = grind (arith, nat_tests)
+
+made_low : (n : ℕ) (facts : List Fact) (l m : Line ℕ) → Made n facts l m → line_keeps (is_below n) l ≡ true → line_keeps (is_below n) m ≡ true
+made_low n facts l m Itself h = h
+made_low n facts l m (Copy {f = f} {r = r} is dear low known) h = and_from (is_below n f.register) (is_below n r) (writes_low n l f is h) (below r n low)
+
+lines_low : (n : ℕ) (claims : List (List Fact)) (facts : List Fact) (lines new : List (Line ℕ)) (j : Jump ℕ) → AreReused n claims facts lines new j → list_all (line_keeps (is_below n)) lines ≡ true → list_all (line_keeps (is_below n)) new ≡ true
+lines_low n claims facts [] [] j h low = refl
+lines_low n claims facts [] (m ∷ new) j h low = absurd h
+lines_low n claims facts (l ∷ lines) [] j h low = absurd h
+lines_low n claims facts (l ∷ lines) (m ∷ new) j h low =
+    let s = and_parts (line_keeps (is_below n) l) (list_all (line_keeps (is_below n)) lines) low in
+    and_from (line_keeps (is_below n) m) (list_all (line_keeps (is_below n)) new) (made_low n facts l m h.0 s.0) (lines_low n claims (after m facts) lines new j h.1 s.1)
+
+-- ---- the whole
+
+block_serves : (n : ℕ) (claims : List (List Fact)) (k : ℕ) (b d : Block ℕ) → IsReused n claims k b d → Serves n b d
+block_serves n claims k b d h =
+    record {
+      within = within b d (lines_measured n claims (claims_at claims k) b.lines d.lines b.jump h.1) (subst (λ (j : Jump ℕ). jump_cost j ≤ jump_cost b.jump) (sym h.0) (itself_least (jump_cost b.jump)));
+      inside = λ m e. ap (leads_inside m) h.0 ∙ e;
+      names = λ e.
+          let s = and_parts (list_all (line_keeps (is_below n)) b.lines) (jump_keeps (is_below n) b.jump) e in
+          and_from (list_all (line_keeps (is_below n)) d.lines) (jump_keeps (is_below n) d.jump) (lines_low n claims (claims_at claims k) b.lines d.lines b.jump h.1 s.0) (ap (jump_keeps (is_below n)) h.0 ∙ s.1);
+    }
+
+blocks_serve : (n : ℕ) (claims : List (List Fact)) (k : ℕ) (blocks new : List (Block ℕ)) → AllReused n claims k blocks new → Each (Serves n) blocks new
+blocks_serve n claims k [] [] h = NoBlocks
+blocks_serve n claims k [] (d ∷ new) h = absurd h
+blocks_serve n claims k (b ∷ blocks) [] h = absurd h
+blocks_serve n claims k (b ∷ blocks) (d ∷ new) h = OneMore (block_serves n claims k b d h.0) (blocks_serve n claims (k + 1) blocks new h.1)
+
+pub owed : (v : VFunc) (claims : List (List Fact)) (new : List (Block ℕ)) → claims_at claims 0 ≡ [] → AllReused v.registers claims 0 v.code.blocks new → Owed v new
+owed v claims new nothing all = owed_each v new (blocks_serve v.registers claims 0 v.code.blocks new all) (runs v.registers claims v.code (with_these v.code new) nothing all refl refl)

@@ -1,0 +1,3 @@
+pub mod Making
+pub mod Running
+pub mod Keeping

@@ -1,0 +1,27 @@
+-- Lines and blocks are made one after another.
+use Rattle.std.proofs.Common.{◌≡◌, ℕ, ◌+◌, ◌<◌, List, [], ◌∷◌, ◌++◌, length, get_or, drop, refl, sym, ap, subst}
+use Rattle.vcode.specs.declared.line.Line.{Line}
+use Rattle.vcode.specs.declared.line.Jump.{Jump}
+use Rattle.vcode.specs.declared.code.Block.{Block}
+use Rattle.vcode.proofs.Lists.{item_next}
+use Rattle.value_numbering.specs.declared.fact.Fact.{Fact}
+use Rattle.value_numbering.specs.Known.{after}
+use Rattle.value_numbering.specs.Reused.{IsIn, AllIn, Made, AreReused, IsReused, AllReused}
+
+pub append_one : {X : Type 0} (xs : List X) (x : X) (rest : List X) → (xs ++ x ∷ []) ++ rest ≡ xs ++ x ∷ rest
+append_one [] x rest = refl
+append_one (y ∷ xs) x rest = ap (λ zs. y ∷ zs) (append_one xs x rest)
+
+-- one fact more is known
+pub facts_on : (wanted facts : List Fact) (i : ℕ) (f : Fact) → i < length wanted → f ≡ get_or wanted i f → IsIn f facts → AllIn (drop (i + 1) wanted) facts → AllIn (drop i wanted) facts
+facts_on wanted facts i f low is known rest = subst (λ (xs : List Fact). AllIn xs facts) (sym (item_next wanted i f low is)) (known, rest)
+
+-- one line more
+pub lines_on : (n : ℕ) (claims : List (List Fact)) (facts : List Fact) (lines : List (Line ℕ)) (i : ℕ) (l m : Line ℕ) (rest : List (Line ℕ)) (j : Jump ℕ) → i < length lines → l ≡ get_or lines i l → Made n facts l m
+    → AreReused n claims (after m facts) (drop (i + 1) lines) rest j → AreReused n claims facts (drop i lines) (m ∷ rest) j
+lines_on n claims facts lines i l m rest j low is made on = subst (λ (xs : List (Line ℕ)). AreReused n claims facts xs (m ∷ rest) j) (sym (item_next lines i l low is)) (made, on)
+
+-- one block more
+pub blocks_on : (n : ℕ) (claims : List (List Fact)) (blocks : List (Block ℕ)) (i : ℕ) (b d : Block ℕ) (rest : List (Block ℕ)) → i < length blocks → b ≡ get_or blocks i b → IsReused n claims i b d
+    → AllReused n claims (i + 1) (drop (i + 1) blocks) rest → AllReused n claims i (drop i blocks) (d ∷ rest)
+blocks_on n claims blocks i b d rest low is made on = subst (λ (xs : List (Block ℕ)). AllReused n claims i xs (d ∷ rest)) (sym (item_next blocks i b low is)) (made, on)

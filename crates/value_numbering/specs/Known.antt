@@ -1,0 +1,122 @@
+-- What registers are known to hold before a line, and behind it.
+use Rattle.std.specs.Prelude.{◌≡◌, ℕ, Bool, true, false, not, ◌&&◌, ◌||◌, nat_eq, nat_lt, if◌then◌else◌, List, [], ◌∷◌, ◌++◌, filter, length, Option, Some, None}
+use Rattle.std.specs.Option.{option_map_or, option_and_then}
+use Rattle.il_ast.specs.declared.value.Value.{Value}
+use Rattle.il_ast.specs.Memory.{Memory}
+use Rattle.vcode.specs.declared.place.Operand.{Operand}
+use Rattle.vcode.specs.declared.place.Operand.TheVariants.{At, Number}
+use Rattle.vcode.specs.declared.line.Line.{Line}
+use Rattle.vcode.specs.declared.line.Line.TheVariants.{Set, Operate, Load, Store, Alloc, Blit, Call}
+use Rattle.vcode.specs.declared.line.Operation.TheVariants.{Reg, Compare}
+use Rattle.rv_isa.specs.declared.instruction.RegOp.TheVariants.{Add}
+use Rattle.vcode.specs.Addresses.{distance}
+use Rattle.vcode.specs.Operations.{loaded}
+use Rattle.vcode.specs.Step.{value_of, operated}
+use Rattle.vcode.specs.Places.{Values}
+use Rattle.vcode.specs.Writes.{line_writes}
+use Rattle.vcode.specs.Acts.{Act, Gives, given}
+use Rattle.value_numbering.specs.declared.fact.Expression.{Expression}
+use Rattle.value_numbering.specs.declared.fact.Expression.TheVariants.{Same, Operated, Loaded}
+use Rattle.value_numbering.specs.declared.fact.Fact.{Fact}
+
+-- ---- what expressions give
+
+-- so many bytes beyond what the operand holds
+abbrev pub reached : List Value → Memory → Values ℕ → Operand ℕ → (distance : ℕ) → Option Value
+reached globals m values a d =
+    if nat_eq d 0 then value_of globals values a
+    else operated m (Reg Add) (value_of globals values a) (value_of globals values (Number d))
+
+abbrev pub gives : List Value → Memory → Values ℕ → Expression → Act
+gives globals m values (Same a) = Gives (value_of globals values a)
+gives globals m values (Operated op a b) =
+    Gives (operated m op (value_of globals values a) (value_of globals values b))
+gives globals m values (Loaded op a d) =
+    given (option_and_then (loaded m op) (reached globals m values a d))
+
+abbrev pub IsTrueOf : List Value → Memory → Values ℕ → Fact → Type 0
+IsTrueOf globals m values f = gives globals m values f.value ≡ Gives (values f.register)
+
+-- what a line computes, and where to
+abbrev pub computed : Line ℕ → Option Fact
+computed (Set to a) = Some (record { register = to; value = Same a })
+computed (Operate to op a b) = Some (record { register = to; value = Operated op a b })
+computed (Load to op at) =
+    Some (record { register = to; value = Loaded op at.base (distance at) })
+computed l = None
+
+-- ---- which facts stay true over a line
+
+abbrev pub names : ℕ → Operand ℕ → Bool
+names r (At q) = nat_eq q r
+names r a = false
+
+abbrev pub reads : ℕ → Expression → Bool
+reads r (Same a) = names r a
+reads r (Operated op a b) = names r a || names r b
+reads r (Loaded op a d) = names r a
+
+-- a comparison asks which blocks of memory live
+abbrev pub asks_memory : Expression → Bool
+asks_memory (Operated (Compare on k) a b) = true
+asks_memory (Loaded op a d) = true
+asks_memory e = false
+
+abbrev pub changes_memory : Line ℕ → Bool
+changes_memory (Store size a at) = true
+changes_memory (Alloc to size) = true
+changes_memory (Blit from to count) = true
+changes_memory (Call to callee args) = true
+changes_memory l = false
+
+abbrev pub spares : (written : Option ℕ) → Fact → Bool
+spares None f = true
+spares (Some r) f = not (nat_eq f.register r || reads r f.value)
+
+abbrev pub stays : Line ℕ → Fact → Bool
+stays l f = not (changes_memory l && asks_memory f.value) && spares (line_writes l) f
+
+-- ---- expressions of registers that are no copies
+
+abbrev pub copied_from : Expression → Option ℕ
+copied_from (Same (At q)) = Some q
+copied_from e = None
+
+abbrev pub source_by : Option ℕ → ℕ → ℕ
+source_by (Some q) r = q
+source_by None r = r
+
+-- the register that this one is first known to be a copy of, or itself
+abbrev pub source : List Fact → ℕ → ℕ
+source [] r = r
+source (f ∷ facts) r =
+    source_by (if nat_eq f.register r then copied_from f.value else None) (source facts r)
+
+abbrev pub copied : List Fact → Operand ℕ → Operand ℕ
+copied facts (At r) = At (source facts r)
+copied facts a = a
+
+abbrev pub canonical : List Fact → Expression → Expression
+canonical facts (Same a) = Same (copied facts a)
+canonical facts (Operated op a b) = Operated op (copied facts a) (copied facts b)
+canonical facts (Loaded op a d) = Loaded op (copied facts a) d
+
+-- ---- what is known behind a line
+
+-- nothing where the register is written that is read
+abbrev pub kept_fact : Fact → Option Fact
+kept_fact f = if reads f.register f.value then None else Some f
+
+abbrev pub known_by : List Fact → Line ℕ → Option Fact
+known_by facts l =
+    option_and_then
+    (λ f. kept_fact (record { register = f.register; value = canonical facts f.value }))
+    (computed l)
+
+-- one more, if fewer than 64 are known
+abbrev pub with_fact : Option Fact → List Fact → List Fact
+with_fact None facts = facts
+with_fact (Some f) facts = if nat_lt (length facts) 64 then facts ++ f ∷ [] else facts
+
+abbrev pub after : Line ℕ → List Fact → List Fact
+after l facts = with_fact (known_by facts l) (filter (stays l) facts)

@@ -1,0 +1,70 @@
+-- Code in which lines that compute what a register holds are copies of it.
+use Rattle.std.specs.Prelude.{◌≡◌, ℕ, ◌+◌, ◌<◌, Bool, true, false, List, [], ◌∷◌, slice_get, Option, Some, None}
+use Rattle.std.specs.Option.{option_map_or}
+use Rattle.vcode.specs.declared.place.Operand.{Operand}
+use Rattle.vcode.specs.declared.place.Operand.TheVariants.{At, Number}
+use Rattle.vcode.specs.declared.line.Line.{Line}
+use Rattle.vcode.specs.declared.line.Line.TheVariants.{Set}
+use Rattle.vcode.specs.declared.line.Jump.{Jump}
+use Rattle.vcode.specs.declared.line.Jump.TheVariants.{Goto, Branch, Return, Halt}
+use Rattle.vcode.specs.declared.code.Block.{Block}
+use Rattle.value_numbering.specs.declared.fact.Expression.{Expression}
+use Rattle.value_numbering.specs.declared.fact.Expression.TheVariants.{Same, Operated, Loaded}
+use Rattle.value_numbering.specs.declared.fact.Fact.{Fact}
+use Rattle.value_numbering.specs.Known.{computed, canonical, after}
+
+abbrev pub IsIn : Fact → List Fact → Type 0
+IsIn f facts = (k : ℕ) × (slice_get facts k ≡ Some f)
+
+abbrev pub is_no_number : Operand ℕ → Bool
+is_no_number (Number n) = false
+is_no_number a = true
+
+-- a copy costs no more than it does
+abbrev pub is_dear : Expression → Bool
+is_dear (Same a) = false
+is_dear (Operated op a b) = true
+is_dear (Loaded op a d) = is_no_number a
+
+-- a line itself, or a copy of a register of the function that holds what the line computes
+pub data Made (registers : ℕ) (facts : List Fact) : Line ℕ → Line ℕ → Type 0 where
+  Itself : {l : Line ℕ} → Made registers facts l l
+  Copy : {l : Line ℕ} {f : Fact} {r : ℕ} → computed l ≡ Some f → is_dear f.value ≡ true → r < registers → IsIn (record { register = r; value = canonical facts f.value }) facts → Made registers facts l (Set f.register (At r))
+
+-- the facts claimed where a block begins
+abbrev pub claims_at : List (List Fact) → ℕ → List Fact
+claims_at claims k = option_map_or (λ (facts : List Fact). facts) (slice_get claims k) []
+
+abbrev pub AllIn : List Fact → List Fact → Type 0
+AllIn [] facts = Unit {0}
+AllIn (f ∷ wanted) facts = IsIn f facts × AllIn wanted facts
+
+-- what is claimed of each block that a jump may lead to is known
+abbrev pub LeadsWell : List (List Fact) → List Fact → Jump ℕ → Type 0
+LeadsWell claims facts (Goto k) = AllIn (claims_at claims k) facts
+LeadsWell claims facts (Branch on met otherwise) =
+    AllIn (claims_at claims met) facts × AllIn (claims_at claims otherwise) facts
+LeadsWell claims facts (Return a) = Unit {0}
+LeadsWell claims facts Halt = Unit {0}
+
+-- lines before which these facts are known
+abbrev pub AreReused : (registers : ℕ) → List (List Fact) → List Fact → (lines new : List (Line ℕ)) →
+    Jump ℕ → Type 0
+AreReused registers claims facts [] [] j = LeadsWell claims facts j
+AreReused registers claims facts [] (m ∷ new) j = ⊥
+AreReused registers claims facts (l ∷ lines) [] j = ⊥
+AreReused registers claims facts (l ∷ lines) (m ∷ new) j =
+    Made registers facts l m × AreReused registers claims (after m facts) lines new j
+
+-- a block before which what is claimed of it is known
+abbrev pub IsReused : (registers : ℕ) → List (List Fact) → ℕ → (b d : Block ℕ) → Type 0
+IsReused registers claims k b d =
+    (d.jump ≡ b.jump) × AreReused registers claims (claims_at claims k) b.lines d.lines b.jump
+
+-- blocks from this one on
+abbrev pub AllReused : (registers : ℕ) → List (List Fact) → ℕ → (blocks new : List (Block ℕ)) → Type 0
+AllReused registers claims k [] [] = Unit {0}
+AllReused registers claims k [] (d ∷ new) = ⊥
+AllReused registers claims k (b ∷ blocks) [] = ⊥
+AllReused registers claims k (b ∷ blocks) (d ∷ new) =
+    IsReused registers claims k b d × AllReused registers claims (k + 1) blocks new

@@ -1,0 +1,150 @@
+//! The facts that are known at a place of a block.
+ghost use Rattle.std.specs.Prelude.{◌≡◌, ◌<◌, ℕ, true, [], filter, OnOk, IfOk, IfSome, slice_get, None, if◌then◌else◌, nat_eq};
+ghost use Rattle.value_numbering.specs.Known.{copied_from, source, copied, canonical, known_by, kept_fact, with_fact, stays, after};
+ghost use Rattle.value_numbering.specs.Reused.{IsIn, AllIn, claims_at};
+
+use crate::fact::{Expression, Fact, computed, reads, stays};
+use crate::same::{same_expression, same_fact};
+use std::alloc::AllocError;
+use vcode::line::Line;
+use vcode::place::Operand;
+
+/// The register that a fact says this one is a copy of.
+fn copied_by(fact: Fact, register: u32) -> Option<u32>
+    ensures { result ≡ if nat_eq fact.register register then copied_from fact.value else None }
+{
+    if fact.register == register {
+        match fact.value {
+            Expression::Same(Operand::At(from)) => Some(from),
+            _ => None,
+        }
+    } else {
+        None
+    }
+}
+
+/// The register that this one is first known to be a copy of, or itself.
+fn source(facts: &[Fact], register: u32) -> u32
+    ensures { result ≡ source facts.now register }
+{
+    for fact in facts {
+        if let Some(from) = copied_by(*fact, register) {
+            return from;
+        }
+    }
+    register
+}
+
+fn copied(facts: &[Fact], operand: Operand<u32>) -> Operand<u32>
+    ensures { result ≡ copied facts.now operand }
+{
+    match operand {
+        Operand::At(register) => Operand::At(source(facts, register)),
+        _ => operand,
+    }
+}
+
+/// The expression of registers that are no copies.
+pub(crate) fn canonical(facts: &[Fact], value: Expression) -> Expression
+    ensures { result ≡ canonical facts.now value }
+{
+    match value {
+        Expression::Same(operand) => Expression::Same(copied(facts, operand)),
+        Expression::Operated(op, left, right) => {
+            Expression::Operated(op, copied(facts, left), copied(facts, right))
+        }
+        Expression::Loaded(op, base, distance) => {
+            Expression::Loaded(op, copied(facts, base), distance)
+        }
+    }
+}
+
+fn kept_fact(fact: Fact) -> Option<Fact>
+    ensures { result ≡ kept_fact fact }
+{
+    if reads(fact.register, fact.value) {
+        None
+    } else {
+        Some(fact)
+    }
+}
+
+/// What a line makes known.
+fn known_by(facts: &[Fact], line: &Line<u32>) -> Option<Fact>
+    ensures { result ≡ known_by facts.now line.now }
+{
+    match computed(line) {
+        Some(fact) => kept_fact(Fact {
+            register: fact.register,
+            value: canonical(facts, fact.value),
+        }),
+        None => None,
+    }
+}
+
+/// One fact more, if few are known.
+fn note(facts: &mut Vec<Fact>, made: Option<Fact>) -> Result<(), AllocError>
+    ensures { OnOk result (facts.new.items ≡ with_fact made facts.old.items) }
+{
+    if let Some(fact) = made {
+        if facts.len() < 64 {
+            facts.extend_from_slice(&[fact])?;
+        }
+    }
+    Ok(())
+}
+
+fn forget(facts: &mut Vec<Fact>, line: &Line<u32>)
+    ensures { facts.new.items ≡ filter (stays line.now) facts.old.items }
+{
+    facts.retain(|fact| stays(line, *fact));
+}
+
+/// Takes what is known before a line to what is known behind it.
+///
+/// # Errors
+///
+/// Only where memory was refused.
+pub(crate) fn pass(facts: &mut Vec<Fact>, line: &Line<u32>) -> Result<(), AllocError>
+    ensures { OnOk result (facts.new.items ≡ after line.now facts.old.items) }
+{
+    let made = known_by(facts.as_slice(), line);
+    forget(facts, line);
+    note(facts, made)
+}
+
+/// A register of the function that is known to hold what the expression gives.
+pub(crate) fn holder(facts: &[Fact], registers: u32, value: &Expression) -> Option<u32>
+    ensures low { IfSome result (λ r. r < registers) }
+    ensures holds { IfSome result (λ r. IsIn (record { register = r; value = value.now }) facts.now) }
+{
+    for fact in facts {
+        if fact.register < registers && same_expression(&fact.value, value) {
+            return Some(fact.register);
+        }
+    }
+    None
+}
+
+fn is_known(facts: &[Fact], wanted: &Fact) -> bool
+    ensures { result ≡ true → IsIn wanted.now facts.now }
+{
+    for fact in facts {
+        if same_fact(fact, wanted) {
+            return true;
+        }
+    }
+    false
+}
+
+/// Whether all these facts are among those that are known.
+pub(crate) fn are_known(facts: &[Fact], wanted: &[Fact]) -> bool
+    ensures { result ≡ true → AllIn wanted.now facts.now }
+{
+    for fact in wanted {
+        if !is_known(facts, fact) {
+            return false;
+        }
+    }
+    true
+}

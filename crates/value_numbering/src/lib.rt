@@ -1,0 +1,20 @@
+//! # Value numbering
+//!
+//! A pass on virtual code. [`reuse::reuse_values`] walks over each block with what registers are known to hold: what another does, what an operation on registers and numbers gives, what a load
+//! gave (`specs/Known`). A line that computes what a register holds already becomes a copy of that register (`specs/Reused`). A fact stays until a register that it names is written, or, if it asks memory, memory
+//! is changed.
+//!
+//! What is known where a block begins is claimed by a guess (`claims`): what is known at the end of each block that leads there. At each jump the walk tests that what is claimed of the blocks ahead is known; where
+//! it isn't, the function is done without claims. So no proof rests on the guess.
+//!
+//! At most 64 facts are known at a time, so that it takes time as the text is long.
+//!
+//! The crate stands on `vcode` for the code, and on `il_ast` and `rv_isa` for the operations.
+#![tactic(auto)]
+
+mod claims;
+mod fact;
+mod known;
+mod lines;
+pub mod reuse;
+mod same;

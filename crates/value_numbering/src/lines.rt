@@ -1,0 +1,103 @@
+//! Lines that are done again.
+ghost use Rattle.std.specs.Prelude.{◌≡◌, ◌<◌, ℕ, List, true, IfOk, IfSome, OnOk};
+ghost use Rattle.vcode.specs.declared.line.Jump.{Jump as AJump};
+ghost use Rattle.value_numbering.specs.declared.fact.Fact.{Fact as AFact};
+ghost use Rattle.value_numbering.specs.Known.{canonical};
+ghost use Rattle.value_numbering.specs.Reused.{is_dear, is_no_number, IsIn, Made, LeadsWell, AreReused};
+
+use crate::fact::{Expression, Fact, computed};
+use crate::known::{canonical, holder, pass};
+use rv_isa::instruction::RegOp;
+use std::alloc::{AllocError, Global};
+use vcode::line::{Line, Operation};
+use vcode::place::Operand;
+
+fn is_no_number(operand: Operand<u32>) -> bool
+    ensures { result ≡ is_no_number operand }
+{
+    match operand {
+        Operand::Number(_) => false,
+        _ => true,
+    }
+}
+
+/// Whether a copy costs no more.
+fn is_dear(value: Expression) -> bool
+    ensures { result ≡ is_dear value }
+{
+    match value {
+        Expression::Same(_) => false,
+        Expression::Operated(_, _, _) => true,
+        Expression::Loaded(_, base, _) => is_no_number(base),
+    }
+}
+
+/// Whether it is worth a register: a sum with a number mostly becomes an offset of an address.
+fn is_worth(value: Expression) -> bool {
+    match value {
+        Expression::Operated(Operation::Reg(RegOp::Add), _, Operand::Number(_)) => false,
+        _ => true,
+    }
+}
+
+/// The register that holds what a line computes, if it is to be copied.
+fn reused(facts: &[Fact], registers: u32, fact: &Fact) -> Option<u32>
+    ensures dear { IfSome result (λ r. is_dear fact.now.value ≡ true) }
+    ensures low { IfSome result (λ r. r < registers) }
+    ensures holds { IfSome result (λ r. IsIn (record { register = r; value = canonical facts.now fact.now.value }) facts.now) }
+{
+    if is_dear(fact.value) && is_worth(fact.value) {
+        holder(facts, registers, &canonical(facts, fact.value))
+    } else {
+        None
+    }
+}
+
+/// The copy that may stand in the place of a line.
+pub(crate) fn copy(facts: &[Fact], registers: u32, line: &Line<u32>) -> Option<Line<u32>>
+    ensures { IfSome result (λ m. Made registers facts.now line.now m) }
+{
+    match computed(line) {
+        Some(fact) => match reused(facts, registers, &fact) {
+            Some(register) => Some(Line::Set {
+                to: fact.register,
+                value: Operand::At(register),
+            }),
+            None => None,
+        },
+        None => None,
+    }
+}
+
+/// A line, or a copy in its place.
+fn made(
+    alloc: Global,
+    facts: &[Fact],
+    registers: u32,
+    line: &Line<u32>,
+) -> Result<Line<u32>, AllocError>
+    ensures { IfOk result (λ m. Made registers facts.now line.now m) }
+{
+    match copy(facts, registers, line) {
+        Some(copy) => Ok(copy),
+        None => line.try_clone(alloc),
+    }
+}
+
+/// The lines, with copies in the place of some. The facts become those that are known behind them.
+pub(crate) fn lines(
+    alloc: Global,
+    facts: &mut Vec<Fact>,
+    registers: u32,
+    from: &[Line<u32>],
+) -> Result<Vec<Line<u32>>, AllocError>
+    ensures { IfOk result (λ v. (claims : List (List AFact)) (j : AJump ℕ) → LeadsWell claims facts.new.items j → AreReused registers claims facts.old.items from.now v.items j) }
+{
+    let mut all = Vec::new(alloc);
+    for line in from {
+        let made = made(alloc, facts.as_slice(), registers, line)?;
+        pass(facts, &made)?;
+        all.push(made)?;
+    }
+    Ok(all)
+}

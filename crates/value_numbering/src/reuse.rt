@@ -1,0 +1,130 @@
+//! Blocks and functions in which values are used again.
+ghost use Rattle.std.specs.Prelude.{◌≡◌, ◌+◌, ℕ, List, [], true, map, IfOk, IfSome};
+ghost use Rattle.il_ast.specs.Passes.{Keeps};
+ghost use Rattle.vcode.specs.declared.code.Block.{Block as ABlock};
+ghost use Rattle.vcode.specs.Coded.{virtual_code};
+ghost use Rattle.value_numbering.specs.Reused.{claims_at, LeadsWell, IsReused, AllReused};
+
+use crate::claims::claims;
+use crate::fact::Fact;
+use crate::known::are_known;
+use crate::lines::lines;
+use il_ast::list::Seq;
+use std::alloc::{AllocError, Global};
+use vcode::code::{Block, Code};
+use vcode::function::VFunc;
+use vcode::line::Jump;
+
+/// The facts claimed where a block begins.
+fn claims_at(claims: &[Seq<Fact>], block: usize) -> &[Fact]
+    ensures { result.now ≡ claims_at claims.now block }
+{
+    match claims.get(block) {
+        Some(facts) => facts.as_slice(),
+        None => &[],
+    }
+}
+
+/// Whether what is claimed of each block that a jump may lead to is known.
+fn leads_well(claims: &[Seq<Fact>], facts: &[Fact], jump: &Jump<u32>) -> bool
+    ensures { result ≡ true → LeadsWell claims.now facts.now jump.now }
+{
+    match jump {
+        Jump::Goto(block) => are_known(facts, claims_at(claims, *block)),
+        Jump::Branch { met, otherwise, .. } => {
+            are_known(facts, claims_at(claims, *met))
+                && are_known(facts, claims_at(claims, *otherwise))
+        }
+        Jump::Return(_) | Jump::Halt => true,
+    }
+}
+
+/// A block with copies in the place of lines; none where the claims are not right.
+fn block(
+    alloc: Global,
+    claims: &[Seq<Fact>],
+    registers: u32,
+    number: usize,
+    from: &Block<u32>,
+) -> Result<Option<Block<u32>>, AllocError>
+    ensures { IfOk result (λ o. IfSome o (λ d. IsReused registers claims.now number from.now d)) }
+{
+    let mut facts = Vec::new(alloc);
+    facts.extend_from_slice(claims_at(claims, number))?;
+    let lines = lines(alloc, &mut facts, registers, from.lines.as_slice())?;
+    if !leads_well(claims, facts.as_slice(), &from.jump) {
+        return Ok(None);
+    }
+    Ok(Some(Block {
+        lines: Seq::from_vec(lines),
+        jump: from.jump,
+    }))
+}
+
+fn blocks(
+    alloc: Global,
+    claims: &[Seq<Fact>],
+    registers: u32,
+    from: &[Block<u32>],
+) -> Result<Option<Vec<Block<u32>>>, AllocError>
+    ensures { IfOk result (λ o. IfSome o (λ v. AllReused registers claims.now 0 from.now v.items)) }
+{
+    let mut made = Vec::with_capacity(alloc, from.len())?;
+    for (number, item) in from.iter().enumerate() {
+        match block(alloc, claims, registers, number, item)? {
+            Some(block) => made.push(block)?,
+            None => return Ok(None),
+        }
+    }
+    Ok(Some(made))
+}
+
+/// The function by these claims, where they are right.
+fn reused(
+    alloc: Global,
+    function: &VFunc,
+    claims: &[Seq<Fact>],
+) -> Result<Option<VFunc>, AllocError>
+    ensures { IfOk result (λ o. IfSome o (λ w. Keeps (virtual_code function.now) (virtual_code w))) }
+{
+    if claims_at(claims, 0).len() != 0 {
+        return Ok(None);
+    }
+    match blocks(
+        alloc,
+        claims,
+        function.registers,
+        function.code.blocks.as_slice(),
+    )? {
+        Some(blocks) => {
+            let params = function.code.params.try_clone(alloc)?;
+            Ok(Some(VFunc {
+                code: Code {
+                    result: function.code.result,
+                    params,
+                    blocks: Seq::from_vec(blocks),
+                },
+                registers: function.registers,
+            }))
+        }
+        None => Ok(None),
+    }
+}
+
+/// The function in which lines that compute what a register holds are copies of it, within blocks and, where the claims are right, across them.
+///
+/// # Errors
+///
+/// Only where memory was refused.
+pub fn reuse_values(alloc: Global, function: VFunc) -> Result<VFunc, AllocError>
+    ensures { IfOk result (λ w. Keeps (virtual_code function) (virtual_code w)) }
+{
+    let claims = claims(alloc, function.registers, function.code.blocks.as_slice())?;
+    if let Some(made) = reused(alloc, &function, claims.as_slice())? {
+        return Ok(made);
+    }
+    if let Some(made) = reused(alloc, &function, &[])? {
+        return Ok(made);
+    }
+    Ok(function)
+}
