@@ -31,6 +31,7 @@ use rv_isa::code::MachineCode;
 use select::select::select;
 use sign_extensions::copies::copy_whole_words;
 use std::alloc::{AllocError, Global};
+use value_numbering::reuse::reuse_values;
 use vcode::function::{LFunc, VFunc};
 
 /// By this certificate where it is right, else with every register in a slot of its own.
@@ -80,12 +81,23 @@ fn selected(alloc: Global, func: &Func) -> Result<VFunc, AllocError>
     Ok(copied)
 }
 
-/// The passes along blocks: what is known of registers is carried forward, dead lines go, and copies are read in place of what they are copies of.
+/// What is known of registers is carried forward, and values that registers hold are used again.
+fn carried(alloc: Global, function: &VFunc) -> Result<VFunc, AllocError>
+    ensures { IfOk result (λ w. Keeps (virtual_code function.now) (virtual_code w)) }
+{
+    let propagated = propagate(alloc, function)?;
+    let reused = reuse_values(alloc, propagated)?;
+    let again = propagate(alloc, &reused)?;
+    Ok(again)
+}
+
+/// The passes along blocks: what is known of registers is carried forward, values are used again, dead lines go, and copies are read in place of what they are
+/// copies of.
 fn simplified(alloc: Global, function: &VFunc) -> Result<VFunc, AllocError>
     ensures { IfOk result (λ w. Keeps (virtual_code function.now) (virtual_code w)) }
 {
-    let forwarded = propagate(alloc, function)?;
-    let kept = remove_dead_code(alloc, &forwarded)?;
+    let carried = carried(alloc, function)?;
+    let kept = remove_dead_code(alloc, &carried)?;
     let copies = read_copies(alloc, &kept)?;
     Ok(copies)
 }

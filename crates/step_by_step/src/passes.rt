@@ -7,6 +7,7 @@ use propagation::propagate::propagate;
 use read_copies::read::read_copies;
 use sign_extensions::copies::copy_whole_words;
 use std::alloc::{AllocError, Global};
+use value_numbering::reuse::reuse_values;
 use vcode::function::VFunc;
 
 /// The text of what a pass made.
@@ -33,6 +34,12 @@ pub fn with_whole_words(alloc: Global, text: &str) -> Option<String> {
 pub fn forwarded(alloc: Global, text: &str) -> Option<String> {
     let function = virtual_function(alloc, text)?;
     shown(alloc, propagate(alloc, &function))
+}
+
+/// The function with lines as copies that compute what a register holds.
+pub fn with_values_reused(alloc: Global, text: &str) -> Option<String> {
+    let function = virtual_function(alloc, text)?;
+    shown(alloc, reuse_values(alloc, function))
 }
 
 /// The function without its dead lines.

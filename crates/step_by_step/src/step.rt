@@ -18,6 +18,7 @@ pub enum Step {
     Selection,
     SignExtensions,
     Propagation,
+    ValueNumbering,
     DeadCode,
     ReadCopies,
     Loops,
@@ -44,7 +45,7 @@ pub enum Step {
 }
 
 /// All of them, in the order of the compiler.
-pub const STEPS: [Step; 32] = [
+pub const STEPS: [Step; 33] = [
     Step::Tokens,
     Step::Reading,
     Step::Checking,
@@ -54,6 +55,7 @@ pub const STEPS: [Step; 32] = [
     Step::Selection,
     Step::SignExtensions,
     Step::Propagation,
+    Step::ValueNumbering,
     Step::DeadCode,
     Step::ReadCopies,
     Step::Loops,
@@ -92,6 +94,7 @@ impl Step {
             Step::Selection => "selection",
             Step::SignExtensions => "sign_extensions",
             Step::Propagation => "propagation",
+            Step::ValueNumbering => "value_numbering",
             Step::DeadCode => "dead_code",
             Step::ReadCopies => "read_copies",
             Step::Loops => "loops",
@@ -130,6 +133,7 @@ impl Step {
             Step::Selection => phis::selected(alloc, case.given),
             Step::SignExtensions => passes::with_whole_words(alloc, case.given),
             Step::Propagation => passes::forwarded(alloc, case.given),
+            Step::ValueNumbering => passes::with_values_reused(alloc, case.given),
             Step::DeadCode => passes::without_dead_lines(alloc, case.given),
             Step::ReadCopies => passes::with_copies_read(alloc, case.given),
             Step::Loops => nests::nests(alloc, case.given),

@@ -6,8 +6,10 @@ use std::alloc::Global;
 use text_maker::maker::TextMaker;
 
 /// The passes on virtual code, in their order.
-const PASSES: [Step; 6] = [
+const PASSES: [Step; 8] = [
     Step::SignExtensions,
+    Step::Propagation,
+    Step::ValueNumbering,
     Step::Propagation,
     Step::DeadCode,
     Step::ReadCopies,

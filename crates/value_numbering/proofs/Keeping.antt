@@ -112,7 +112,7 @@ lines_low n claims facts (l ∷ lines) (m ∷ new) j h low =
 
 -- ---- the whole
 
-block_serves : (n : ℕ) (claims : List (List Fact)) (k : ℕ) (b d : Block ℕ) → IsReused n claims k b d → Serves n b d
+block_serves : (n : ℕ) (claims : List (List Fact)) (k : ℕ) (b d : Block ℕ) → IsReused n claims k b d → Serves n n b d
 block_serves n claims k b d h =
     record {
       within = within b d (lines_measured n claims (claims_at claims k) b.lines d.lines b.jump h.1) (subst (λ (j : Jump ℕ). jump_cost j ≤ jump_cost b.jump) (sym h.0) (itself_least (jump_cost b.jump)));
@@ -122,11 +122,12 @@ block_serves n claims k b d h =
           and_from (list_all (line_keeps (is_below n)) d.lines) (jump_keeps (is_below n) d.jump) (lines_low n claims (claims_at claims k) b.lines d.lines b.jump h.1 s.0) (ap (jump_keeps (is_below n)) h.0 ∙ s.1);
     }
 
-blocks_serve : (n : ℕ) (claims : List (List Fact)) (k : ℕ) (blocks new : List (Block ℕ)) → AllReused n claims k blocks new → Each (Serves n) blocks new
+blocks_serve : (n : ℕ) (claims : List (List Fact)) (k : ℕ) (blocks new : List (Block ℕ)) → AllReused n claims k blocks new → Each (Serves n n) blocks new
 blocks_serve n claims k [] [] h = NoBlocks
 blocks_serve n claims k [] (d ∷ new) h = absurd h
 blocks_serve n claims k (b ∷ blocks) [] h = absurd h
 blocks_serve n claims k (b ∷ blocks) (d ∷ new) h = OneMore (block_serves n claims k b d h.0) (blocks_serve n claims (k + 1) blocks new h.1)
 
-pub owed : (v : VFunc) (claims : List (List Fact)) (new : List (Block ℕ)) → claims_at claims 0 ≡ [] → AllReused v.registers claims 0 v.code.blocks new → Owed v new
-owed v claims new nothing all = owed_each v new (blocks_serve v.registers claims 0 v.code.blocks new all) (runs v.registers claims v.code (with_these v.code new) nothing all refl refl)
+pub owed : (v : VFunc) (claims : List (List Fact)) (new : List (Block ℕ)) → claims_at claims 0 ≡ [] → AllReused v.registers claims 0 v.code.blocks new → Owed v v.registers new
+owed v claims new nothing all =
+    owed_each v v.registers new (itself_least v.registers) (blocks_serve v.registers claims 0 v.code.blocks new all) (runs v.registers claims v.code (with_these v.code new) nothing all refl refl)

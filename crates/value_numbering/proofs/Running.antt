@@ -414,8 +414,8 @@ module _ (n : ℕ) (claims : List (List Fact)) (v w : Code ℕ) where
         (
           refl,
           subst (λ (i : ℕ). Follows (claimed (known claims)) v w (claims_at claims i) b.lines b.jump c.lines c.jump) (let z : from ≡ from + 0 = omega arith in z)
-          (subst (λ (x : Block ℕ). Follows (claimed (known claims)) v w (claims_at claims from) x.lines x.jump c.lines c.jump) same
-          (subst (λ (x : Jump ℕ). Follows (claimed (known claims)) v w (claims_at claims from) d.lines d.jump c.lines x) (sym all.0.0) (lines_follow (claims_at claims from) d.lines c.lines d.jump all.0.1))),
+              (subst (λ (x : Block ℕ). Follows (claimed (known claims)) v w (claims_at claims from) x.lines x.jump c.lines c.jump) same
+              (subst (λ (x : Jump ℕ). Follows (claimed (known claims)) v w (claims_at claims from) d.lines d.jump c.lines x) (sym all.0.0) (lines_follow (claims_at claims from) d.lines c.lines d.jump all.0.1))),
         ),
       )
   block_follows from (d ∷ blocks) (c ∷ new) all (suc k) b e =

@@ -5,6 +5,6 @@ use Rattle.qbec.proofs.pipeline.simplified.Goals as goal
 pub returns : goal.returns
 returns c =
     let v = virtual_code c.args.function.now in
-    let w = virtual_code c.in_ok-forwarded.forwarded in
+    let w = virtual_code c.in_ok-carried.carried in
     let x = virtual_code c.in_ok-kept.kept in
-    keeps_compose v x (virtual_code c.in_ok-copies.copies) (keeps_compose v w x c.in_ok-forwarded.ensures.kept c.in_ok-kept.ensures.kept) c.in_ok-copies.ensures.kept
+    keeps_compose v x (virtual_code c.in_ok-copies.copies) (keeps_compose v w x c.in_ok-carried.ensures c.in_ok-kept.ensures.kept) c.in_ok-copies.ensures.kept

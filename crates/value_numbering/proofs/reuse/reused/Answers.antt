@@ -14,8 +14,8 @@ nothing_in [] h = refl
 nothing_in (f ∷ facts) h = absurd (let no : ⊥ = cc in no)
 
 result : (v : VFunc) (claims : List (List Fact)) (params : List (Destination ℕ)) (blocks items : List (Block ℕ)) → length (claims_at claims 0) ≡ 0 → AllReused v.registers claims 0 v.code.blocks items → params ≡ v.code.params → blocks ≡ items
-    → Result v (record { result = v.code.result; params = params; blocks = blocks })
-result v claims params blocks items nothing all same is = result_of v items (owed v claims items (nothing_in (claims_at claims 0) nothing) all) params blocks same is
+    → Result v v.registers (record { result = v.code.result; params = params; blocks = blocks })
+result v claims params blocks items nothing all same is = result_of v v.registers items (owed v claims items (nothing_in (claims_at claims 0) nothing) all) params blocks same is
 
 pub invariant_of-result : goal.invariant_of-result
 invariant_of-result c =
