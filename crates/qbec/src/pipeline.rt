@@ -21,6 +21,7 @@ use cfg_live::live::live;
 use constant_hoisting::constants::hoist_constants;
 use dead_code::remove::remove_dead_code;
 use flat_code::function::{FlatFunc, flat};
+use hoisting::hoist::hoist;
 use il_ast::function::Func;
 use il_types::cost::capped_need;
 use phi_copies::lower::lower;
@@ -81,12 +82,13 @@ fn selected(alloc: Global, func: &Func) -> Result<VFunc, AllocError>
     Ok(copied)
 }
 
-/// What is known of registers is carried forward, and values that registers hold are used again.
+/// What is known of registers is carried forward, computations of loops are done in front of them, and values that registers hold are used again.
 fn carried(alloc: Global, function: &VFunc) -> Result<VFunc, AllocError>
     ensures { IfOk result (λ w. Keeps (virtual_code function.now) (virtual_code w)) }
 {
     let propagated = propagate(alloc, function)?;
-    let reused = reuse_values(alloc, propagated)?;
+    let hoisted = hoist(alloc, propagated)?;
+    let reused = reuse_values(alloc, hoisted)?;
     let again = propagate(alloc, &reused)?;
     Ok(again)
 }

@@ -3,6 +3,7 @@ use block_order::order::order_blocks;
 use code_text::function::{virtual_function, virtual_text};
 use constant_hoisting::constants::hoist_constants;
 use dead_code::remove::remove_dead_code;
+use hoisting::hoist::hoist;
 use propagation::propagate::propagate;
 use read_copies::read::read_copies;
 use sign_extensions::copies::copy_whole_words;
@@ -34,6 +35,12 @@ pub fn with_whole_words(alloc: Global, text: &str) -> Option<String> {
 pub fn forwarded(alloc: Global, text: &str) -> Option<String> {
     let function = virtual_function(alloc, text)?;
     shown(alloc, propagate(alloc, &function))
+}
+
+/// The function with computations of its loops done in front of them too.
+pub fn with_computations_hoisted(alloc: Global, text: &str) -> Option<String> {
+    let function = virtual_function(alloc, text)?;
+    shown(alloc, hoist(alloc, function))
 }
 
 /// The function with lines as copies that compute what a register holds.

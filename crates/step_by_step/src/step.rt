@@ -18,6 +18,7 @@ pub enum Step {
     Selection,
     SignExtensions,
     Propagation,
+    Hoisting,
     ValueNumbering,
     DeadCode,
     ReadCopies,
@@ -45,7 +46,7 @@ pub enum Step {
 }
 
 /// All of them, in the order of the compiler.
-pub const STEPS: [Step; 33] = [
+pub const STEPS: [Step; 34] = [
     Step::Tokens,
     Step::Reading,
     Step::Checking,
@@ -55,6 +56,7 @@ pub const STEPS: [Step; 33] = [
     Step::Selection,
     Step::SignExtensions,
     Step::Propagation,
+    Step::Hoisting,
     Step::ValueNumbering,
     Step::DeadCode,
     Step::ReadCopies,
@@ -94,6 +96,7 @@ impl Step {
             Step::Selection => "selection",
             Step::SignExtensions => "sign_extensions",
             Step::Propagation => "propagation",
+            Step::Hoisting => "hoisting",
             Step::ValueNumbering => "value_numbering",
             Step::DeadCode => "dead_code",
             Step::ReadCopies => "read_copies",
@@ -133,6 +136,7 @@ impl Step {
             Step::Selection => phis::selected(alloc, case.given),
             Step::SignExtensions => passes::with_whole_words(alloc, case.given),
             Step::Propagation => passes::forwarded(alloc, case.given),
+            Step::Hoisting => passes::with_computations_hoisted(alloc, case.given),
             Step::ValueNumbering => passes::with_values_reused(alloc, case.given),
             Step::DeadCode => passes::without_dead_lines(alloc, case.given),
             Step::ReadCopies => passes::with_copies_read(alloc, case.given),

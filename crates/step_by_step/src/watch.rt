@@ -6,9 +6,10 @@ use std::alloc::Global;
 use text_maker::maker::TextMaker;
 
 /// The passes on virtual code, in their order.
-const PASSES: [Step; 8] = [
+const PASSES: [Step; 9] = [
     Step::SignExtensions,
     Step::Propagation,
+    Step::Hoisting,
     Step::ValueNumbering,
     Step::Propagation,
     Step::DeadCode,

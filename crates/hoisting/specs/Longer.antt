@@ -1,0 +1,28 @@
+-- Blocks with more operations at their ends, in registers that the function doesn't have.
+use Rattle.std.specs.Prelude.{◌≡◌, ℕ, ◌≤◌, Bool, true, false, ◌&&◌, nat_le, List, [], ◌∷◌, ◌++◌}
+use Rattle.std.specs.List.{list_all}
+use Rattle.vcode.specs.declared.line.Line.{Line}
+use Rattle.vcode.specs.declared.line.Line.TheVariants.{Operate}
+use Rattle.vcode.specs.declared.code.Block.{Block}
+use Rattle.vcode.specs.Cost.{is_paid}
+use Rattle.vcode.specs.Named.{line_keeps, is_below}
+
+-- an operation into a register from `before` on, and below `after` as all that it names
+abbrev pub is_extra : (before after : ℕ) → Line ℕ → Bool
+is_extra before after (Operate to op a b) =
+    nat_le before to && line_keeps (is_below after) (let l : Line ℕ = Operate to op a b in l)
+is_extra before after l = false
+
+pub record IsLonger (before after : ℕ) (b d : Block ℕ) : Type 0 where
+  pub extra : List (Line ℕ)
+  pub lines : d.lines ≡ b.lines ++ extra
+  pub fits : list_all (is_extra before after) extra ≡ true
+  pub jump : d.jump ≡ b.jump
+  pub paid : is_paid b ≡ true → is_paid d ≡ true
+
+abbrev pub AllLonger : (before after : ℕ) → (blocks new : List (Block ℕ)) → Type 0
+AllLonger before after [] [] = Unit {0}
+AllLonger before after [] (d ∷ new) = ⊥
+AllLonger before after (b ∷ blocks) [] = ⊥
+AllLonger before after (b ∷ blocks) (d ∷ new) =
+    IsLonger before after b d × AllLonger before after blocks new

@@ -1,0 +1,65 @@
+//! Functions with computations in front of their loops.
+ghost use Rattle.std.specs.Prelude.{◌≡◌, ◌≤◌, ◌<◌, IfOk};
+ghost use Rattle.vcode.specs.declared.limits.TheConstants.{PLACES};
+ghost use Rattle.il_ast.specs.Passes.{Keeps};
+ghost use Rattle.vcode.specs.Coded.{virtual_code};
+
+use crate::longer::{Registers, all_longer};
+use hoisting_choice::choose::{Choice, choose_plans};
+use il_ast::list::Seq;
+use std::alloc::{AllocError, Global};
+use vcode::code::Code;
+use vcode::function::VFunc;
+use vcode::limits::PLACES;
+
+/// How many registers there are with those that are chosen, as far as a function may have them.
+fn more(registers: u32, chosen: u32) -> u32
+    requires { registers < PLACES }
+    ensures least { registers ≤ result }
+    ensures few { result < PLACES }
+{
+    if registers <= chosen && chosen < PLACES {
+        chosen
+    } else {
+        registers
+    }
+}
+
+/// The function with these computations at the ends of blocks, as far as they fit.
+fn with_plans(alloc: Global, function: &VFunc, choice: &Choice) -> Result<VFunc, AllocError>
+    ensures { IfOk result (λ w. Keeps (virtual_code function.now) (virtual_code w)) }
+{
+    let registers = Registers {
+        before: function.registers,
+        after: more(function.registers, choice.registers),
+    };
+    let params = function.code.params.try_clone(alloc)?;
+    let blocks = all_longer(
+        alloc,
+        registers,
+        choice.blocks.as_slice(),
+        function.code.blocks.as_slice(),
+    )?;
+    Ok(VFunc {
+        code: Code {
+            result: function.code.result,
+            params,
+            blocks: Seq::from_vec(blocks),
+        },
+        registers: registers.after,
+    })
+}
+
+/// The function with computations whose operands its loops don't write done in front of them too, in registers of their own.
+///
+/// # Errors
+///
+/// Only where memory was refused.
+pub fn hoist(alloc: Global, function: VFunc) -> Result<VFunc, AllocError>
+    ensures { IfOk result (λ w. Keeps (virtual_code function) (virtual_code w)) }
+{
+    match choose_plans(alloc, &function)? {
+        Some(choice) => with_plans(alloc, &function, &choice),
+        None => Ok(function),
+    }
+}

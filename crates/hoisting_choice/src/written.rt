@@ -1,0 +1,107 @@
+//! What a loop writes, and what stands in front of it for that.
+use cfg_live::uses::line_writes;
+use std::alloc::{AllocError, Global};
+use vcode::line::Line;
+use vcode::place::Operand;
+
+/// Of a register: the last loop that was looked at, how often that writes it, and the register in front of it that holds the same.
+#[derive(Clone, Copy)]
+struct Writes {
+    nest: usize,
+    count: u32,
+    instead: Option<u32>,
+}
+
+/// What loops write, register by register, for one loop after another.
+#[derive(Drop)]
+pub(crate) struct Written {
+    writes: Vec<Writes>,
+    nest: usize,
+}
+
+impl Written {
+    /// Of so many registers.
+    ///
+    /// # Errors
+    ///
+    /// Only where memory was refused.
+    pub(crate) fn new(alloc: Global, registers: u32) -> Result<Written, AllocError> {
+        let mut writes = Vec::new(alloc);
+        let none = Writes {
+            nest: 0,
+            count: 0,
+            instead: None,
+        };
+        writes.resize(registers as usize, none)?;
+        Ok(Written { writes, nest: 0 })
+    }
+
+    /// The next loop is looked at.
+    pub(crate) fn begin(&mut self) {
+        self.nest = self.nest.saturating_add(1);
+    }
+
+    fn of(&self, register: u32) -> Writes {
+        match self.writes.get(register as usize) {
+            Some(writes) if writes.nest == self.nest => *writes,
+            _ => Writes {
+                nest: self.nest,
+                count: 0,
+                instead: None,
+            },
+        }
+    }
+
+    fn set(&mut self, register: u32, writes: Writes) {
+        if let Some(at) = self.writes.get_mut(register as usize) {
+            *at = writes;
+        }
+    }
+
+    /// Counts what the lines write.
+    pub(crate) fn count(&mut self, lines: &[Line<u32>]) {
+        for line in lines {
+            if let Some(register) = line_writes(line) {
+                let writes = self.of(register);
+                self.set(
+                    register,
+                    Writes {
+                        count: writes.count.saturating_add(1),
+                        ..writes
+                    },
+                );
+            }
+        }
+    }
+
+    /// The register that the loop writes once holds what another does that is set in front of it.
+    pub(crate) fn stand(&mut self, register: u32, instead: u32) {
+        let writes = self.of(register);
+        if writes.count == 1 {
+            self.set(
+                register,
+                Writes {
+                    instead: Some(instead),
+                    ..writes
+                },
+            );
+        }
+    }
+
+    /// An operand that has the same value in front of the loop, if there is one.
+    pub(crate) fn in_front(&self, operand: Operand<u32>) -> Option<Operand<u32>> {
+        match operand {
+            Operand::At(register) => {
+                let writes = self.of(register);
+                if writes.count == 0 {
+                    return Some(operand);
+                }
+                match writes.instead {
+                    Some(instead) => Some(Operand::At(instead)),
+                    None => None,
+                }
+            }
+            _ => Some(operand),
+        }
+    }
+}
