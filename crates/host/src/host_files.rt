@@ -7,19 +7,28 @@ ghost use Rattle.host.specs.Faults.{fault_of};
 use crate::stream::Stream;
 use shell::disk::{Disk, Faults, FileFault, counted};
 use shell::write_exe::write_exe;
-use std::io::{Error, ErrorKind, Write};
-use std::os::unix::fs::PermissionsExt;
+use std::alloc::Global;
+use std::io::{Error, ErrorKind, Read, Write};
+use std::os::unix::fs::{MetadataExt, PermissionsExt};
 use std::rt::Files;
 use std::{fs, io};
 
-/// The files of the system, and how many calls failed.
+/// What stands for standard input in the place of a file that is read.
+const STANDARD_INPUT: &str = "-";
+
+/// How many bytes are read of what is no plain file, and may have no end: more than any text has, and any executable that is built.
+const LONGEST_STREAM: u64 = 0x400_0000;
+
+/// The files of the system, and how many calls failed. A file that was read isn't written.
 #[derive(Drop)]
 pub struct HostFiles<'r, R> {
     rt: &'r R,
     faults: Faults,
+    /// the plain files that were read, by their devices and numbers
+    inputs: Vec<(u64, u64)>,
 }
 
-impl<'r, R> HostFiles<'r, R> {
+impl<'r, R: Files + Input + AllocGlobal> HostFiles<'r, R> {
     /// Those of this process, of which no call has failed so far.
     pub fn new(rt: &'r R) -> HostFiles<'r, R>
         ensures { result.faults ≡ record { device = 0; memory = 0 } }
@@ -30,8 +39,45 @@ impl<'r, R> HostFiles<'r, R> {
                 device: 0,
                 memory: 0,
             },
+            inputs: Vec::new(rt.alloc()),
         }
     }
+
+    /// All bytes of a file, or of standard input.
+    fn read_input(&mut self, path: &str) -> io::Result<Vec<u8>>
+        ensures { self.new.faults ≡ self.old.faults }
+    {
+        if path == STANDARD_INPUT {
+            return read_stream(self.rt.alloc(), self.rt.reader());
+        }
+        let metadata = fs::metadata(self.rt, path)?;
+        if !metadata.is_file() {
+            return read_stream(self.rt.alloc(), fs::open(self.rt, path)?);
+        }
+        if self.inputs.push((metadata.dev(), metadata.ino())).is_err() {
+            return Err(Error::from(ErrorKind::OutOfMemory));
+        }
+        fs::read(self.rt, path)
+    }
+
+    /// Whether a path leads to a file that was read.
+    fn is_input(&self, path: &str) -> bool {
+        match fs::metadata(self.rt, path) {
+            Ok(metadata) => self.inputs.contains(&(metadata.dev(), metadata.ino())),
+            Err(_) => false,
+        }
+    }
+}
+
+/// All bytes of a stream. One with too many is an error, since it may have no end.
+fn read_stream<S: Read + Drop>(alloc: Global, stream: S) -> io::Result<Vec<u8>> {
+    let mut bytes = Vec::new(alloc);
+    let mut start = stream.take(LONGEST_STREAM + 1);
+    start.read_to_end(&mut bytes)?;
+    if bytes.len() as u64 > LONGEST_STREAM {
+        return Err(Error::from(ErrorKind::FileTooLarge));
+    }
+    Ok(bytes)
 }
 
 /// Memory or the device, by the kind of an error.
@@ -56,9 +102,10 @@ fn make_executable<R: Files>(rt: &R, path: &str) -> io::Result<()> {
     Ok(())
 }
 
-fn read_file<R: Files + AllocGlobal>(rt: &R, path: &str) -> Result<Vec<u8>, FileFault> {
-    match fs::read(rt, path) {
-        Ok(bytes) => Ok(bytes),
+/// The answer of a disk, from that of the system.
+fn answered<T>(answer: io::Result<T>) -> Result<T, FileFault> {
+    match answer {
+        Ok(value) => Ok(value),
         Err(error) => Err(fault_of(&error)),
     }
 }
@@ -86,19 +133,23 @@ fn write_file<R: Files + AllocGlobal>(rt: &R, path: &str, bytes: &[u8]) -> Resul
     }
 }
 
-impl<R: Files + AllocGlobal> Disk for HostFiles<'_, R> {
+impl<R: Files + Input + AllocGlobal> Disk for HostFiles<'_, R> {
     ghost use Rattle.std.specs.Prelude.{None};
 
     ghost told = { λ s. record { files = None; faults = s.faults } };
 
     fn read(&mut self, path: &str) -> Result<Vec<u8>, FileFault> {
-        let answer = read_file(self.rt, path);
+        let answer = answered(self.read_input(path));
         self.faults = counted(self.faults, &answer);
         answer
     }
 
     fn write(&mut self, path: &str, bytes: &[u8]) -> Result<(), FileFault> {
-        let answer = write_file(self.rt, path, bytes);
+        let answer = if self.is_input(path) {
+            Err(FileFault::Device)
+        } else {
+            write_file(self.rt, path, bytes)
+        };
         self.faults = counted(self.faults, &answer);
         answer
     }

@@ -35,6 +35,18 @@ pub fn read(alloc: Global, text: &[u8]) -> Result<Text, ReadError>
     }
 }
 
+/// Where the reading of a text that isn't in the grammar stops: how many bytes stand before the token, or
+/// what is no token, that it stops at.
+pub fn stop(alloc: Global, text: &[u8]) -> usize
+    ensures { result ≤ length text.now }
+{
+    let mut left = 0;
+    match found_in(alloc, text, &mut left) {
+        Ok(_) => text.len(),
+        Err(_) => text.len().saturating_sub(left),
+    }
+}
+
 /// Reads a text, and sets `left` to how many bytes were left before the token at which the reading stopped.
 fn found_in(alloc: Global, text: &[u8], left: &mut usize) -> Result<Text, Unread>
     ensures { IsFound text.now result }

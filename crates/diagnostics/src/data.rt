@@ -1,0 +1,78 @@
+//! What is wrong with global names and with data.
+use crate::definition::{definition_at, line_of, symbol_of};
+use crate::name::{add_count, add_global, add_line};
+use il_ast::datum::{Field, Item};
+use il_ast::operation::Size;
+use il_ast::symbol::Symbol;
+use il_ast::text::{Definition, Text};
+use text_maker::maker::TextMaker;
+
+/// A name that is defined twice in a text.
+pub fn add_repeated_global(words: &mut TextMaker, text: &Text, line: usize) {
+    if let Some(definition) = definition_at(text, line) {
+        let symbol = symbol_of(definition);
+        add_global(words, text, symbol);
+        words.add(" is defined here and at ");
+        add_line(words, other_line(text, symbol, line));
+    }
+}
+
+/// The line of another definition of the name.
+fn other_line(text: &Text, symbol: Symbol, line: usize) -> usize {
+    for definition in text.definitions.as_slice() {
+        if symbol_of(definition) == symbol && line_of(definition) != line {
+            return line_of(definition);
+        }
+    }
+    line
+}
+
+/// A datum with an item that doesn't fit its field, or without a byte.
+pub fn add_wrong_fields(words: &mut TextMaker, text: &Text, line: usize) {
+    if let Some(Definition::Object(object)) = definition_at(text, line) {
+        add_global(words, text, object.name);
+        for field in object.fields.as_slice() {
+            if add_misfit(words, text, field) {
+                return;
+            }
+        }
+        words.add(" has no byte");
+    }
+}
+
+/// Says of the first item of a field that doesn't fit it what it is. Answers whether there is one.
+fn add_misfit(words: &mut TextMaker, text: &Text, field: &Field) -> bool {
+    if let Field::Items { size, items } = field {
+        for item in items.as_slice() {
+            if add_wrong_item(words, text, *size, item) {
+                return true;
+            }
+        }
+    }
+    false
+}
+
+fn add_wrong_item(words: &mut TextMaker, text: &Text, size: Size, item: &Item) -> bool {
+    match item {
+        Item::Bytes(_) if size != Size::Byte => {
+            words.add(" has a string in a field that isn't of b");
+            true
+        }
+        Item::Address { symbol, .. } if size != Size::Long => {
+            words.add(" has the name ");
+            add_global(words, text, *symbol);
+            words.add(" in a field that isn't of l");
+            true
+        }
+        _ => false,
+    }
+}
+
+pub fn add_wrong_alignment(words: &mut TextMaker, text: &Text, line: usize) {
+    if let Some(Definition::Object(object)) = definition_at(text, line) {
+        add_global(words, text, object.name);
+        words.add(" is aligned to ");
+        add_count(words, object.alignment);
+        words.add(", and not to 1, 2, 4, 8 or 16");
+    }
+}

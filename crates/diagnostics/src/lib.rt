@@ -1,0 +1,31 @@
+//! # What is wrong with texts, in words
+//!
+//! For whoever wrote a text that is refused: what stands where the reading of it ended, which names break which rule, which limit is passed and by how much, and which
+//! definitions stand in each other's way. Why a text is refused, and at which line, is decided by `il_reader`, `il_types` and `obj_link`; here it is only explained.
+//!
+//! - [`text::syntax`], [`text::rule`] and [`text::limit`] explain why one text is refused.
+//! - [`linking::link`] explains why texts that keep the rules are no program.
+//! - [`warning::warnings`] finds what is likely a mistake in a program.
+//!
+//! No function has a contract: the words are for people, and nothing that is proved rests on them. Each is safe and ends.
+#![tactic(auto)]
+
+mod call;
+mod data;
+mod definition;
+mod flow;
+mod label;
+mod limit;
+pub mod linking;
+mod mention;
+mod name;
+pub mod note;
+mod phi;
+mod place;
+mod read_first;
+mod size;
+mod syntax;
+mod temporary;
+pub mod text;
+mod unassigned;
+pub mod warning;

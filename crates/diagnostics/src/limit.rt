@@ -1,0 +1,156 @@
+//! Which limit a text, or a program, passes.
+use crate::name::{add_count, add_global, add_limit};
+use crate::note::{Note, make_note};
+use il_ast::block::Block;
+use il_ast::function::Func;
+use il_ast::instruction::Inst;
+use il_ast::limits::{
+    ALLOC_BYTES, ARGUMENTS, DATA_BYTES, FUNCTION_WEIGHT, FUNCTIONS, PROGRAM_WEIGHT, TEMPORARIES,
+    TEXT_BYTES, TEXTS,
+};
+use il_ast::text::{Definition, Text};
+use il_types::checked::Checked;
+use il_types::cost::{alloc_area, weight};
+use obj_link::linking::limits::object_size;
+use std::alloc::{AllocError, Global};
+use text_maker::maker::TextMaker;
+
+/// Which limit of one text the text passes.
+pub(crate) fn text_limit(alloc: Global, number: usize, text: &Text) -> Result<Note, AllocError> {
+    let mut words = TextMaker::new(alloc);
+    for definition in text.definitions.as_slice() {
+        if let Definition::Function(function) = definition {
+            let line = add_function_limit(&mut words, text, function);
+            if let Some(line) = line {
+                return make_note(number, line, words);
+            }
+        }
+    }
+    add_limit(
+        &mut words,
+        text.bytes as u64,
+        " bytes in the text",
+        TEXT_BYTES as u64,
+    );
+    make_note(number, 1, words)
+}
+
+/// Says which limit a function passes. Answers the line, where it passes one.
+fn add_function_limit(words: &mut TextMaker, text: &Text, function: &Func) -> Option<usize> {
+    let temps = function.temps.len();
+    let params = function.params.len();
+    let area = alloc_area(function);
+    let heavy = weight(function);
+    if temps > TEMPORARIES {
+        add_passed(
+            words,
+            text,
+            function,
+            temps as u64,
+            "temporaries",
+            TEMPORARIES as u64,
+        );
+    } else if params > ARGUMENTS {
+        add_passed(
+            words,
+            text,
+            function,
+            params as u64,
+            "parameters",
+            ARGUMENTS as u64,
+        );
+    } else if area > ALLOC_BYTES {
+        add_passed(words, text, function, area, "bytes of alloc", ALLOC_BYTES);
+    } else if heavy > FUNCTION_WEIGHT {
+        add_passed(words, text, function, heavy, "of weight", FUNCTION_WEIGHT);
+    } else {
+        return add_long_call(words, function.blocks.as_slice());
+    }
+    Some(function.line)
+}
+
+/// That a function has so many of something, and how many a function has at most.
+fn add_passed(
+    words: &mut TextMaker,
+    text: &Text,
+    function: &Func,
+    count: u64,
+    what: &str,
+    most: u64,
+) {
+    add_count(words, count);
+    words.add(" ");
+    words.add(what);
+    words.add(" in ");
+    add_global(words, text, function.name);
+    words.add(", at most ");
+    add_count(words, most);
+}
+
+/// Says how many arguments a call has that has too many. Answers its line, where there is one.
+fn add_long_call(words: &mut TextMaker, blocks: &[Block]) -> Option<usize> {
+    for block in blocks {
+        for inst in block.insts.as_slice() {
+            if let Inst::Call { args, .. } = &inst.item {
+                if args.len() > ARGUMENTS {
+                    add_limit(words, args.len() as u64, " arguments", ARGUMENTS as u64);
+                    return Some(inst.line);
+                }
+            }
+        }
+    }
+    None
+}
+
+/// Which limit over all texts a program passes.
+pub(crate) fn program_limit(alloc: Global, texts: &[Checked]) -> Result<Note, AllocError> {
+    let mut words = TextMaker::new(alloc);
+    let mut sums = Sums {
+        functions: 0,
+        weight: 0,
+        bytes: 0,
+    };
+    for checked in texts {
+        sums.add(&checked.text);
+    }
+    if texts.len() > TEXTS {
+        add_limit(&mut words, texts.len() as u64, " texts", TEXTS as u64);
+    } else if sums.functions > FUNCTIONS as u64 {
+        add_limit(
+            &mut words,
+            sums.functions,
+            " functions in all",
+            FUNCTIONS as u64,
+        );
+    } else if sums.weight > PROGRAM_WEIGHT {
+        add_limit(&mut words, sums.weight, " of weight in all", PROGRAM_WEIGHT);
+    } else {
+        add_limit(&mut words, sums.bytes, " bytes of data in all", DATA_BYTES);
+    }
+    make_note(0, 1, words)
+}
+
+/// What all texts have together.
+#[derive(Drop)]
+struct Sums {
+    functions: u64,
+    weight: u64,
+    bytes: u64,
+}
+
+impl Sums {
+    fn add(&mut self, text: &Text) {
+        for definition in text.definitions.as_slice() {
+            match definition {
+                Definition::Function(function) => {
+                    self.functions = self.functions.saturating_add(1);
+                    self.weight = self.weight.saturating_add(weight(function));
+                }
+                Definition::Object(object) => {
+                    let size = object_size(object).div_ceil(16).saturating_mul(16);
+                    self.bytes = self.bytes.saturating_add(size);
+                }
+            }
+        }
+    }
+}

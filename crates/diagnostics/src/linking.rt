@@ -1,0 +1,140 @@
+//! Why texts that keep the rules are no program.
+use crate::definition::{is_exported, line_of, symbol_of};
+use crate::limit::program_limit;
+use crate::mention::{line_in, symbol_in};
+use crate::name::{add_class, add_line, add_name};
+use crate::note::{Note, make_note};
+use il_ast::function::{Func, Param};
+use il_ast::text::{Definition, Text};
+use il_types::checked::Checked;
+use obj_link::linking::error::LinkError;
+use std::alloc::{AllocError, Global};
+use text_maker::maker::TextMaker;
+
+/// Why the texts are no program, and where. The paths are those of the texts, in order.
+pub fn link(
+    alloc: Global,
+    paths: &[&str],
+    texts: &[Checked],
+    error: LinkError<'_>,
+) -> Result<Note, AllocError> {
+    match error {
+        LinkError::UnknownName(name) => unknown(alloc, texts, name),
+        LinkError::ExportedTwice(name) => exported_twice(alloc, paths, texts, name),
+        LinkError::NoMain => no_main(alloc, texts),
+        LinkError::Limit => program_limit(alloc, texts),
+        LinkError::Memory => Err(AllocError),
+    }
+}
+
+/// The definition of a name in a text.
+fn defined<'a>(text: &'a Text, name: &[u8]) -> Option<&'a Definition> {
+    let symbol = symbol_in(text, name)?;
+    for definition in text.definitions.as_slice() {
+        if symbol_of(definition) == symbol {
+            return Some(definition);
+        }
+    }
+    None
+}
+
+/// A name that means nothing in a text that mentions it.
+fn unknown(alloc: Global, texts: &[Checked], name: &[u8]) -> Result<Note, AllocError> {
+    let mut words = TextMaker::new(alloc);
+    add_name(&mut words, name);
+    words.add(" is defined nowhere that this text sees");
+    for (number, checked) in texts.iter().enumerate() {
+        if defined(&checked.text, name).is_none() {
+            if let Some(symbol) = symbol_in(&checked.text, name) {
+                let line = line_in(alloc, &checked.text, symbol)?.unwrap_or(1);
+                return make_note(number, line, words);
+            }
+        }
+    }
+    make_note(0, 1, words)
+}
+
+/// The last text that exports a name, and the line.
+fn exported(texts: &[Checked], name: &[u8], below: usize) -> Option<(usize, usize)> {
+    let mut found = None;
+    for (number, checked) in texts.iter().enumerate() {
+        if number < below {
+            if let Some(definition) = defined(&checked.text, name) {
+                if is_exported(definition) {
+                    found = Some((number, line_of(definition)));
+                }
+            }
+        }
+    }
+    found
+}
+
+/// A name that two texts export, or that is predefined.
+fn exported_twice(
+    alloc: Global,
+    paths: &[&str],
+    texts: &[Checked],
+    name: &[u8],
+) -> Result<Note, AllocError> {
+    let mut words = TextMaker::new(alloc);
+    add_name(&mut words, name);
+    let (text, line) = exported(texts, name, texts.len()).unwrap_or((0, 1));
+    match exported(texts, name, text) {
+        Some((other, at)) => {
+            words.add(" is exported here and at ");
+            words.add(paths.get(other).copied().unwrap_or("?"));
+            words.add(":");
+            words.add_number(at as u64);
+        }
+        None => words.add(" is predefined, and exported here too"),
+    }
+    make_note(text, line, words)
+}
+
+/// No `main` of either form is exported.
+fn no_main(alloc: Global, texts: &[Checked]) -> Result<Note, AllocError> {
+    let mut words = TextMaker::new(alloc);
+    for (number, checked) in texts.iter().enumerate() {
+        if let Some(definition) = defined(&checked.text, b"main") {
+            if is_exported(definition) || exported(texts, b"main", texts.len()).is_none() {
+                add_no_main(&mut words, definition);
+                return make_note(number, line_of(definition), words);
+            }
+        }
+    }
+    words.add("no function $main is exported");
+    make_note(0, 1, words)
+}
+
+/// Why this definition of `main` is none that a program begins with.
+fn add_no_main(words: &mut TextMaker, definition: &Definition) {
+    match definition {
+        Definition::Function(function) if function.exported => {
+            words.add("$main is ");
+            add_form(words, function);
+            words.add(", and not w () or w (w, l)");
+        }
+        Definition::Function(_) => words.add("$main isn't exported"),
+        Definition::Object(_) => words.add("$main is data, and no function"),
+    }
+}
+
+/// The classes of a function.
+fn add_form(words: &mut TextMaker, function: &Func) {
+    if let Some(class) = function.result {
+        add_class(words, class);
+        words.add(" ");
+    }
+    words.add("(");
+    add_params(words, function.params.as_slice());
+    words.add(")");
+}
+
+fn add_params(words: &mut TextMaker, params: &[Param]) {
+    for (number, param) in params.iter().enumerate() {
+        if number > 0 {
+            words.add(", ");
+        }
+        add_class(words, param.class);
+    }
+}

@@ -1,0 +1,39 @@
+//! What is wrong with the sizes that instructions name.
+use crate::name::{add_count, add_limit};
+use il_ast::block::Block;
+use il_ast::function::Func;
+use il_ast::instruction::Inst;
+use il_ast::limits::{ALLOC_BYTES, BLIT_BYTES};
+use text_maker::maker::TextMaker;
+
+/// The instruction at a line, and whether it stands in the first block.
+fn instruction_at(blocks: &[Block], line: usize) -> Option<(&Inst, bool)> {
+    for (number, block) in blocks.iter().enumerate() {
+        for inst in block.insts.as_slice() {
+            if inst.line == line {
+                return Some((&inst.item, number == 0));
+            }
+        }
+    }
+    None
+}
+
+/// An `alloc` outside the first block, or of a size that it may not have.
+pub fn add_wrong_alloc(words: &mut TextMaker, function: &Func, line: usize) {
+    match instruction_at(function.blocks.as_slice(), line) {
+        Some((Inst::Alloc { size, .. }, true)) => {
+            words.add("an alloc of ");
+            add_count(words, *size);
+            words.add(" bytes: it takes from 1 to ");
+            add_count(words, ALLOC_BYTES);
+        }
+        _ => words.add("an alloc outside the first block"),
+    }
+}
+
+/// A `blit` of too many bytes.
+pub fn add_long_blit(words: &mut TextMaker, function: &Func, line: usize) {
+    if let Some((Inst::Blit { count, .. }, _)) = instruction_at(function.blocks.as_slice(), line) {
+        add_limit(words, *count, " bytes in a blit", BLIT_BYTES);
+    }
+}

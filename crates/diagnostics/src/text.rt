@@ -1,0 +1,87 @@
+//! Why one text is refused.
+use crate::data::{add_repeated_global, add_wrong_alignment, add_wrong_fields};
+use crate::definition::function_at;
+use crate::label::{add_jump_to_entry, add_open_end, add_repeated_local, add_unknown_label};
+use crate::limit::text_limit;
+use crate::note::{Note, make_note};
+use crate::phi::add_uncovered;
+use crate::size::{add_long_blit, add_wrong_alloc};
+use crate::syntax::add_unexpected;
+use crate::temporary::{add_misfit, add_two_classes, add_undefined, add_wrong_return};
+use il_ast::function::Func;
+use il_ast::text::Text;
+use il_reader::read::{read, stop};
+use il_types::rule::{BrokenRule, Rule};
+use std::alloc::{AllocError, Global};
+use text_maker::maker::TextMaker;
+
+/// What stands at the line where the reading of a text ended.
+pub fn syntax(alloc: Global, bytes: &[u8]) -> Result<String, AllocError> {
+    let mut words = TextMaker::new(alloc);
+    let at = stop(alloc, bytes);
+    add_unexpected(&mut words, bytes.get(at..).unwrap_or(&[]));
+    words.finish()
+}
+
+/// Which names break a rule at a line.
+pub fn rule(alloc: Global, bytes: &[u8], fault: BrokenRule) -> Result<String, AllocError> {
+    let mut words = TextMaker::new(alloc);
+    match read(alloc, bytes) {
+        Ok(text) => add_rule(alloc, &mut words, &text, fault)?,
+        Err(_) => return Err(AllocError),
+    }
+    words.finish()
+}
+
+/// Which limit the text with this number passes, and where.
+pub fn limit(alloc: Global, number: usize, bytes: &[u8]) -> Result<Note, AllocError> {
+    match read(alloc, bytes) {
+        Ok(text) => text_limit(alloc, number, &text),
+        Err(_) => Err(AllocError),
+    }
+}
+
+fn add_rule(
+    alloc: Global,
+    words: &mut TextMaker,
+    text: &Text,
+    fault: BrokenRule,
+) -> Result<(), AllocError> {
+    let line = fault.line;
+    match fault.rule {
+        Rule::DistinctGlobals => add_repeated_global(words, text, line),
+        Rule::DataFields => add_wrong_fields(words, text, line),
+        Rule::Alignment => add_wrong_alignment(words, text, line),
+        _ => match function_at(text, line) {
+            Some(function) => add_local_rule(alloc, words, text, function, fault)?,
+            None => {}
+        },
+    }
+    Ok(())
+}
+
+/// Which names of a function break a rule.
+fn add_local_rule(
+    alloc: Global,
+    words: &mut TextMaker,
+    text: &Text,
+    function: &Func,
+    fault: BrokenRule,
+) -> Result<(), AllocError> {
+    let line = fault.line;
+    match fault.rule {
+        Rule::DistinctLocals => add_repeated_local(words, function, line),
+        Rule::KnownLabels => add_unknown_label(words, function, line),
+        Rule::EntryNotTarget => add_jump_to_entry(words, function),
+        Rule::LastBlockEnds => add_open_end(words, function, line),
+        Rule::OneType => return add_two_classes(alloc, words, function, line),
+        Rule::OperandFits => return add_misfit(alloc, words, text, function, line),
+        Rule::PhiCoversPredecessors => add_uncovered(words, function, line),
+        Rule::AllocInEntry => add_wrong_alloc(words, function, line),
+        Rule::ReturnFits => add_wrong_return(words, function),
+        Rule::DefinedTemporaries => return add_undefined(alloc, words, function, line),
+        Rule::BlitSize => add_long_blit(words, function, line),
+        Rule::DistinctGlobals | Rule::DataFields | Rule::Alignment => {}
+    }
+    Ok(())
+}
