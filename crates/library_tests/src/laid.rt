@@ -32,6 +32,13 @@ const BRANCH: Item = Item::Branch {
     label: 0,
 };
 
+const BRANCH_UNEQUAL: Item = Item::Branch {
+    op: BranchOp::Bne,
+    rs1: X10,
+    rs2: X0,
+    label: 0,
+};
+
 const BRANCH_BELOW: Item = Item::Branch {
     op: BranchOp::Bltu,
     rs1: X10,
@@ -262,6 +269,45 @@ fn branches_back_grow_at_the_ends_of_their_ranges(rt: HostRuntime) -> Result<(),
         262_147,
         nop,
         &[0x0005_1663, 0xfff0_0f97, 0xffcf_8067],
+    )
+}
+
+// One word further than each form reaches.
+#[test]
+fn branches_and_jumps_past_the_ends_of_their_ranges(rt: HostRuntime) -> Result<(), AllocError> {
+    let alloc = rt.alloc();
+    let nop = &[NOP_WORD];
+    is_laid(
+        &rt,
+        alloc,
+        ahead(alloc, BRANCH, 1024)?,
+        1025,
+        &[0x0005_1463, 0x0000_106f],
+        nop,
+    )?;
+    is_laid(
+        &rt,
+        alloc,
+        ahead(alloc, JUMP, 262_144)?,
+        262_145,
+        &[0x0010_0f97, 0x004f_8067],
+        nop,
+    )?;
+    is_laid(
+        &rt,
+        alloc,
+        ahead(alloc, BRANCH_UNEQUAL, 262_143)?,
+        262_145,
+        &[0x0005_0663, 0x0010_0f97, 0x000f_8067],
+        nop,
+    )?;
+    is_laid(
+        &rt,
+        alloc,
+        ahead(alloc, BRANCH_UNEQUAL, 262_144)?,
+        262_146,
+        &[0x0005_0663, 0x0010_0f97, 0x004f_8067],
+        nop,
     )
 }
 
