@@ -14,7 +14,7 @@ fn add_instruction(out: &mut TextMaker, alloc: Global, instruction: Instr) {
 }
 
 /// Adds the instruction of a word, which has to be encoded as that word.
-pub fn add_word(out: &mut TextMaker, alloc: Global, word: u32) {
+fn add_word(out: &mut TextMaker, alloc: Global, word: u32) {
     match decode(word) {
         Some(instruction) if encode(instruction) == word => {
             add_instruction(out, alloc, instruction)

@@ -2,12 +2,9 @@
 //!
 //! Instructions are written as a disassembly has them. A label is `@N:`, a branch or a jump to it has `@N` in the place of an offset, and an instruction with a part of an
 //! address has ` + $N + OFFSET` behind it.
-use crate::back_end::add_word;
 use abi_frames::frame::frame;
-use asm_layout::layout::layout;
 use code_text::function::{located_function, located_text};
 use flat_code::function::flat;
-use rv_isa::code::MachineCode;
 use rv_isa::instruction::{BranchOp, Instr};
 use rv_isa::labelled::Item;
 use rv_isa::ranges::{BranchOffset, Register};
@@ -75,25 +72,6 @@ fn code_of(alloc: Global, text: &str) -> Option<String> {
     let function = located_function(alloc, text)?;
     let code = frame(alloc, &flat(function)).ok()?;
     items_text(alloc, code.items()).ok()
-}
-
-fn add_words(out: &mut TextMaker, alloc: Global, code: &MachineCode) -> Result<(), AllocError> {
-    for word in code.words() {
-        let digits = format!(in alloc; "{word:08x} ")?;
-        out.add(digits.as_str());
-        add_word(out, alloc, *word);
-    }
-    Ok(())
-}
-
-/// The words of a function once its code is laid out, in hexadecimal, each with its instruction.
-pub fn words(alloc: Global, text: &str) -> Option<String> {
-    let function = located_function(alloc, text)?;
-    let labelled = frame(alloc, &flat(function)).ok()?;
-    let code = layout(alloc, labelled).ok()?;
-    let mut out = TextMaker::new(alloc);
-    add_words(&mut out, alloc, &code).ok()?;
-    out.finish().ok()
 }
 
 /// How often a line stands there, and the line: `times N LINE` is a line that stands there N times.

@@ -1,7 +1,7 @@
 //! Each step by itself: texts, and what a step of the compiler makes of them as texts.
 //!
 //! A step has its table of cases, `data/STEP.cases`. The program prints a line for each case that fails, a line for each step, and how many cases there are. Without words
-//! it goes through all steps; with words those that are named. With the words `watch FILE` it shows instead what becomes of the first function of the text in a file, step by step.
+//! it goes through all steps; with words those that are named.
 #![tactic(auto)]
 
 mod allocation;
@@ -24,11 +24,9 @@ mod plans;
 mod show;
 mod step;
 mod tokens;
-mod watch;
 
 use crate::case::{Case, case_of};
 use crate::step::{STEPS, Step};
-use crate::watch::watched;
 use code_text::function::is_same;
 use std::alloc::AllocError;
 use std::rt::Files;
@@ -68,23 +66,8 @@ fn check_step<R: Files + AllocGlobal>(rt: &R, step: Step, report: &mut Report) -
     Ok(())
 }
 
-/// Shows what becomes of the first function of the text in a file.
-fn watch_file<R: Files + Print + AllocGlobal>(rt: &R, path: &str) -> io::Result<()> {
-    let bytes = fs::read(rt, path)?;
-    let text = str::from_utf8(bytes.as_slice()).unwrap_or("");
-    match watched(rt.alloc(), text) {
-        Some(shown) => print!(rt; "{}", shown.as_str()),
-        None => print!(rt; "{path}: refused\n"),
-    }
-}
-
 fn main(rt: HostRuntime) -> io::Result<()> {
     let words: Vec<String> = env::args(&rt)?.skip(1).collect(rt.alloc())?;
-    if let [command, path] = words.as_slice() {
-        if command.as_str() == "watch" {
-            return watch_file(&rt, path.as_str());
-        }
-    }
     let mut report = Report::new(rt.alloc());
     for step in STEPS {
         if words.is_empty() || words.iter().any(|word| word.as_str() == step.name()) {

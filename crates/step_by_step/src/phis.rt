@@ -12,7 +12,6 @@ use il_reader::read::read;
 use il_types::check::check;
 use phi_copies::ending::Assignment;
 use phi_copies::lower::lower;
-use promote::promote::promote;
 use select::select::select;
 use std::alloc::{AllocError, Global};
 use text_maker::maker::TextMaker;
@@ -93,20 +92,11 @@ fn code_of(alloc: Global, function: &Func) -> Option<String>
     virtual_text(alloc, &code).ok()
 }
 
-/// The same, once the function's locals are taken out of memory.
-fn promoted_code(alloc: Global, function: &Func) -> Option<String>
-    requires { IsGoodFunction function.now }
-{
-    let promoted = promote(alloc, function).ok()?;
-    code_of(alloc, &promoted)
-}
-
 /// What is to be shown of a function.
 #[derive(Clone, Copy)]
 enum Part {
     Copies,
     Code,
-    PromotedCode,
 }
 
 fn part_of(alloc: Global, function: &Func, part: Part) -> Option<String>
@@ -115,7 +105,6 @@ fn part_of(alloc: Global, function: &Func, part: Part) -> Option<String>
     match part {
         Part::Copies => first_copies(alloc, function),
         Part::Code => code_of(alloc, function),
-        Part::PromotedCode => promoted_code(alloc, function),
     }
 }
 
@@ -164,9 +153,4 @@ pub fn copies(alloc: Global, text: &str) -> Option<String> {
 /// The virtual code that is selected for a text's first function.
 pub fn selected(alloc: Global, text: &str) -> Option<String> {
     text_part(alloc, text, Part::Code)
-}
-
-/// The virtual code that is selected for a text's first function once its locals are taken out of memory.
-pub fn promoted_and_selected(alloc: Global, text: &str) -> Option<String> {
-    text_part(alloc, text, Part::PromotedCode)
 }
