@@ -1,7 +1,7 @@
 -- What each instruction of a frame's code does, and a few together: sums, constants, eight bytes of the stack.
-use Rattle.std.proofs.Common.{◌≡◌, ◌≢◌, ℕ, ◌+◌, ◌-◌, ◌*◌, ◌/◌, ◌%◌, ◌^◌, ◌<◌, ◌≤◌, Bool, true, false, [], ◌∷◌, refl, sym, ◌∙◌, ap, subst, arith, lit<, mod-lt}
-use Rattle.std.specs.Prelude.{nat_eq, nat_le, nat_lt, if◌then◌else◌, Ok}
-use Rattle.std.proofs.lemmas.Bool.{and_from}
+use Rattle.std.proofs.Common.{◌≡◌, ◌≢◌, ℕ, zero, suc, ◌+◌, ◌-◌, ◌*◌, ◌/◌, ◌%◌, ◌^◌, ◌<◌, ◌≤◌, Bool, true, false, [], ◌∷◌, ◌++◌, refl, sym, ◌∙◌, ap, subst, arith, lit<, mod-lt}
+use Rattle.std.specs.Prelude.{◌&&◌, ◌||◌, nat_eq, nat_le, nat_lt, if◌then◌else◌, Ok}
+use Rattle.std.proofs.lemmas.Bool.{and_parts, and_from}
 use Rattle.std.proofs.lemmas.Bool.Decides.{nat_tests}
 use Rattle.bits.specs.Words.{sign_extended}
 use Rattle.rv_isa.specs.State.{State, register, put}
@@ -33,9 +33,10 @@ use Rattle.rv_isa.proofs.MemoryLemmas.{each_from, stored_avoids}
 use Rattle.vcode.specs.Cost.{is_immediate}
 use Rattle.abi_frames.specs.Calls.{IsUsable}
 use Rattle.vcode.specs.Addresses.{low}
-use Rattle.abi_frames.specs.Fields.{reg, field, high, amount, word_amount, add_low, extend, sum_to, load_8, store_8, shift_11, long_constant, word, is_word, lower_part, word_constant, constant}
+use Rattle.abi_frames.specs.Fields.{reg, field, high, amount, word_amount, add_low, extend, sum_to, load_8, store_8, shift_11, parted_constant, without_low, zeros_of, has_zeros, before_zeros, left_of, is_shifted, is_near_number, near_constant, is_made, added, shifted_by, made_constant, long_constant, word, is_word, lower_part, word_constant, constant}
 use Rattle.abi_frames.specs.Emission.{with_name, name_into, far_load, load_slot, far_store, store_slot}
-use Rattle.abi_frames.proofs.ConstantNumbers.{immediate_is, near_moves, far_moves, top_bits, part_1, part_2, part_3, part_4, word_made, upper_made, parts_made}
+use Rattle.rv_isa.specs.Formats.{signed}
+use Rattle.abi_frames.proofs.ConstantNumbers.{low_moves, immediate_is, near_moves, far_moves, top_bits, part_1, part_2, part_3, part_4, word_made, upper_made, parts_made}
 use Rattle.abi_frames.proofs.Leading.{Site, Leads, leads_nowhere, leads_then, leads_so, leads_by, leads_set, leads_again, Sets, IsReg, register_reg, in_register, same_in_register}
 
 -- ---- registers alone
@@ -114,8 +115,8 @@ shift_and_part c s d n v is h held =
     leads_again c (shift_11 d ∷ []) (add_low d d n ∷ []) s d ((v * 2 ^ 11) % 2 ^ 64) (((v * 2 ^ 11) % 2 ^ 64 + n) % 2 ^ 64)
     (leads_shift_11 c s d v is held) (λ u fixed one. leads_part c u d n ((v * 2 ^ 11) % 2 ^ 64) is h one.value)
 
-pub leads_long_constant : (c : Site) (s : State) (d m : ℕ) → IsReg d → m < 2 ^ 64 → Leads c (long_constant d m) s (Sets s d m)
-leads_long_constant c s d m is h =
+leads_parted_constant : (c : Site) (s : State) (d m : ℕ) → IsReg d → m < 2 ^ 64 → Leads c (parted_constant d m) s (Sets s d m)
+leads_parted_constant c s d m is h =
     let v0 : ℕ = upper_value (field (m / 2 ^ 44)) in
     let c1 : ℕ = m / 2 ^ 33 % 2 ^ 11 in
     let c2 : ℕ = m / 2 ^ 22 % 2 ^ 11 in
@@ -166,6 +167,93 @@ leads_word_constant c s d m is h =
     by_test u held false e =
         leads_set c u (Addiw (reg d) (reg d) (low m)) d (addiw_value (in_register u d) (low m).value) (sign_extended m) is refl
         (ap (λ x. addiw_value x (low m).value) (register_reg u d is ∙ held) ∙ word_made m h)
+
+-- a number that one or two instructions make
+leads_near_constant : (c : Site) (s : State) (d m : ℕ) → IsReg d → is_near_number m ≡ true → Leads c (near_constant d m) s (Sets s d (m % 2 ^ 64))
+leads_near_constant c s d m is near = by_test (is_immediate m) refl (is_word m) refl near
+  where
+    by_test : (b : Bool) → is_immediate m ≡ b → (t : Bool) → is_word m ≡ t → (b || t) ≡ true
+        → Leads c (if b then add_low d 0 m ∷ [] else word_constant d (m % 2 ^ 32)) s (Sets s d (m % 2 ^ 64))
+    by_test true e t k h = leads_add_low c s d 0 m 0 (m % 2 ^ 64) is refl (immediate_is m e)
+    by_test false e true k h =
+        subst (λ v. Leads c (word_constant d (m % 2 ^ 32)) s (Sets s d v)) (eq_is (word m) (m % 2 ^ 64) k)
+        (leads_word_constant c s d (m % 2 ^ 32) is (mod-lt m (lit< tt)))
+    by_test false e false k h = absurd (let no : ⊥ = cc in no)
+
+left_small : (m : ℕ) → left_of m < 2 ^ 64
+left_small m = by_zeros (has_zeros m)
+  where
+    by_sign : (t : Bool)
+        → (if t then without_low m / 2 ^ zeros_of m % 2 ^ 64
+        else (without_low m / 2 ^ zeros_of m + (2 ^ 64 - (1 * 2 ^ (64 - zeros_of m)) % 2 ^ 64)) % 2 ^ 64) < 2 ^ 64
+    by_sign true = mod-lt (without_low m / 2 ^ zeros_of m) (lit< tt)
+    by_sign false = mod-lt (without_low m / 2 ^ zeros_of m + (2 ^ 64 - (1 * 2 ^ (64 - zeros_of m)) % 2 ^ 64)) (lit< tt)
+
+    before_small : before_zeros m < 2 ^ 64
+    before_small = by_sign (nat_lt (without_low m) (2 ^ 63))
+
+    by_zeros : (t : Bool) → (if t then before_zeros m else 0) < 2 ^ 64
+    by_zeros true = before_small
+    by_zeros false = lit< tt
+
+nothing_taken : (m : ℕ) → m < 2 ^ 64 → nat_eq (m % 4096) 0 ≡ true → without_low m ≡ m % 2 ^ 64
+nothing_taken m h e = grind (arith, nat_tests)
+
+low_added : (m : ℕ) → m < 2 ^ 64 → moved (without_low m) (signed 12 (m % 4096)) ≡ m % 2 ^ 64
+low_added m h = let is = low_moves (without_low m) m in grind (arith, nat_tests)
+
+-- the shift and the low 12 bits, behind what was shifted out
+leads_shifted : (c : Site) (s : State) (d m : ℕ) → IsReg d → m < 2 ^ 64 → is_shifted m ≡ true → s.registers d ≡ left_of m % 2 ^ 64
+    → Leads c (shifted_by d (zeros_of m) ∷ added d m) s (Sets s d (m % 2 ^ 64))
+leads_shifted c s d m is h shifted held =
+    leads_again c (shifted_by d (zeros_of m) ∷ []) (added d m) s d (without_low m) (m % 2 ^ 64)
+    (leads_set c s (Shift Slli (reg d) (reg d) (amount (zeros_of m))) d (shift_value Slli (register s (reg d)) (zeros_of m % 64)) (without_low m) is refl
+    (ap (λ x. shift_value Slli x (zeros_of m % 64)) (register_reg s d is ∙ held) ∙ made))
+    (λ u f one. by_test u one.value (nat_eq (m % 4096) 0) refl)
+  where
+    parts : (has_zeros m ≡ true) × (nat_eq ((left_of m * 2 ^ zeros_of m) % 2 ^ 64) (without_low m) ≡ true)
+    parts = and_parts (has_zeros m) (nat_eq ((left_of m * 2 ^ zeros_of m) % 2 ^ 64) (without_low m)) shifted
+
+    few : zeros_of m < 64
+    few = let h = (and_parts (nat_lt 0 (zeros_of m)) (nat_lt (zeros_of m) 64) parts.0).1 in grind (arith, nat_tests)
+
+    shift_is : (x y k z : ℕ) → x ≡ y → k ≡ z → (x * 2 ^ k) % 2 ^ 64 ≡ (y * 2 ^ z) % 2 ^ 64
+    shift_is x y k z e d = ap (λ q. (q * 2 ^ k) % 2 ^ 64) e ∙ ap (λ q. (y * 2 ^ q) % 2 ^ 64) d
+
+    made : shift_value Slli (left_of m % 2 ^ 64) (zeros_of m % 64) ≡ without_low m
+    made =
+        shift_is (left_of m % 2 ^ 64) (left_of m) (zeros_of m % 64 % 64) (zeros_of m) (let e : left_of m % 2 ^ 64 ≡ left_of m = (let small = left_small m in omega (arith, small)) in e)
+        (let e : zeros_of m % 64 % 64 ≡ zeros_of m = omega (arith, few) in e)
+        ∙ eq_is ((left_of m * 2 ^ zeros_of m) % 2 ^ 64) (without_low m) parts.1
+
+    by_test : (u : State) → u.registers d ≡ without_low m → (b : Bool) → nat_eq (m % 4096) 0 ≡ b
+        → Leads c (if b then [] else add_low d d m ∷ []) u (Sets u d (m % 2 ^ 64))
+    by_test u at true e =
+        leads_nowhere c u (Sets u d (m % 2 ^ 64)) (record { value = at ∙ nothing_taken m h e; others = λ n other. refl; bytes = refl; output = refl })
+    by_test u at false e = leads_add_low c u d d m (without_low m) (m % 2 ^ 64) is (register_reg u d is ∙ at) (low_added m h)
+
+leads_made_constant : (c : Site) (s : State) (d k m : ℕ) → IsReg d → m < 2 ^ 64 → is_made k m ≡ true → Leads c (made_constant k d m) s (Sets s d (m % 2 ^ 64))
+leads_made_constant c s d zero m is h made = leads_near_constant c s d m is made
+leads_made_constant c s d (suc k) m is h made =
+    by_test (λ left. leads_made_constant c s d k (left_of m) is (left_small m) left) (is_near_number m) refl made
+  where
+    by_test : (is_made k (left_of m) ≡ true → Leads c (made_constant k d (left_of m)) s (Sets s d (left_of m % 2 ^ 64)))
+        → (b : Bool) → is_near_number m ≡ b → (b || (is_shifted m && is_made k (left_of m))) ≡ true
+        → Leads c (if b then near_constant d m else made_constant k d (left_of m) ++ (shifted_by d (zeros_of m) ∷ added d m)) s (Sets s d (m % 2 ^ 64))
+    by_test rest true e g = leads_near_constant c s d m is e
+    by_test rest false e g =
+        let parts = and_parts (is_shifted m) (is_made k (left_of m)) g in
+        leads_again c (made_constant k d (left_of m)) (shifted_by d (zeros_of m) ∷ added d m) s d (left_of m % 2 ^ 64) (m % 2 ^ 64) (rest parts.1)
+        (λ u f one. leads_shifted c u d m is h parts.0 one.value)
+
+pub leads_long_constant : (c : Site) (s : State) (d m : ℕ) → IsReg d → m < 2 ^ 64 → Leads c (long_constant d m) s (Sets s d m)
+unfolding long_constant
+leads_long_constant c s d m is h = by_test (is_made 3 m) refl
+  where
+    by_test : (b : Bool) → is_made 3 m ≡ b → Leads c (if b then made_constant 3 d m else parted_constant d m) s (Sets s d m)
+    by_test true e =
+        subst (λ v. Leads c (made_constant 3 d m) s (Sets s d v)) (let same : m % 2 ^ 64 ≡ m = omega (arith, h) in same) (leads_made_constant c s d 3 m is h e)
+    by_test false e = leads_parted_constant c s d m is h
 
 pub leads_constant : (c : Site) (s : State) (d n : ℕ) → IsReg d → Leads c (constant d n) s (Sets s d (n % 2 ^ 64))
 leads_constant c s d n is = by_test (is_immediate n) refl (is_word n) refl

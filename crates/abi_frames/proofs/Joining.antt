@@ -1,12 +1,13 @@
 -- Items that were put one after another.
 use Rattle.std.proofs.Common.{◌≡◌, ℕ, ◌%◌, ◌^◌, ◌<◌, Bool, false, List, [], ◌++◌, sym, ◌∙◌, ap, arith, append_assoc}
-use Rattle.std.specs.Prelude.{if◌then◌else◌}
+use Rattle.std.specs.Prelude.{if◌then◌else◌, Option}
 use Rattle.rv_isa.specs.declared.labelled.Item.{Item}
 use Rattle.vcode.specs.declared.place.Location.{Location}
 use Rattle.vcode.specs.declared.place.Destination.{Destination}
 use Rattle.vcode.specs.declared.code.Block.{Block}
 use Rattle.abi_frames.specs.declared.layout.Layout.{Layout}
-use Rattle.abi_frames.specs.Functions.{function_items}
+use Rattle.abi_frames.specs.declared.early.EarlyReturn.{EarlyReturn}
+use Rattle.abi_frames.specs.EarlyReturns.{items_by}
 use Rattle.abi_frames.specs.Fields.{long_constant, is_word, word_constant}
 
 pub joined_2 : (o p q a b : List Item) → p ≡ o ++ a → q ≡ p ++ b → q ≡ o ++ (a ++ b)
@@ -31,9 +32,9 @@ pub joined_as : (o p a b : List Item) → p ≡ o ++ a → a ≡ b → p ≡ o +
 joined_as o p a b e f = e ∙ ap (λ l. o ++ l) f
 
 -- what was put behind nothing
-pub items_are : (p o : List Item) (y z : Layout) (rs ss : List ℕ) (ps qs : List (Destination Location)) (bs cs : List (Block Location))
-    → p ≡ o ++ function_items y rs ps bs → o ≡ [] → y ≡ z → rs ≡ ss → ps ≡ qs → bs ≡ cs → p ≡ function_items z ss qs cs
-items_are p o y z rs ss ps qs bs cs e f g i k h =
-    e ∙ (ap (λ l. l ++ function_items y rs ps bs) f
-    ∙ (ap (λ x. function_items x rs ps bs) g
-    ∙ (ap (λ x. function_items z x ps bs) i ∙ (ap (λ x. function_items z ss x bs) k ∙ ap (λ x. function_items z ss qs x) h))))
+pub items_are : (p o : List Item) (y z : Layout) (rs ss : List ℕ) (ps qs : List (Destination Location)) (bs cs : List (Block Location)) (e d : Option EarlyReturn)
+    → p ≡ o ++ items_by y rs ps bs e → o ≡ [] → y ≡ z → rs ≡ ss → ps ≡ qs → bs ≡ cs → e ≡ d → p ≡ items_by z ss qs cs d
+items_are p o y z rs ss ps qs bs cs e d h f g i k m n =
+    h ∙ (ap (λ l. l ++ items_by y rs ps bs e) f
+    ∙ (ap (λ x. items_by x rs ps bs e) g
+    ∙ (ap (λ x. items_by z x ps bs e) i ∙ (ap (λ x. items_by z ss x bs e) k ∙ (ap (λ x. items_by z ss qs x e) m ∙ ap (λ x. items_by z ss qs cs x) n)))))

@@ -38,13 +38,14 @@ use Rattle.vcode.specs.declared.line.Line.TheVariants.{Tick, Set, Operate, Load,
 use Rattle.vcode.specs.declared.line.Jump.{Jump}
 use Rattle.vcode.specs.declared.line.Jump.TheVariants.{Goto, Branch, Return, Halt}
 use Rattle.vcode.specs.declared.code.Block.{Block}
+use Rattle.vcode.specs.declared.code.Code.{Code}
 use Rattle.vcode.specs.Cost.{is_immediate}
 use Rattle.vcode.specs.Named.{is_place, operand_keeps, line_keeps, jump_keeps, block_keeps, wanted_keeps}
 use Rattle.vcode.specs.Regular.{leads_inside, is_target, alloc_bytes, code_weight}
 use Rattle.abi_frames.specs.Layout.{layout, saved_registers}
 use Rattle.abi_frames.specs.declared.layout.Layout.{Layout}
 use Rattle.vcode.specs.Addresses.{low}
-use Rattle.abi_frames.specs.Fields.{reg, high, amount, word_amount, add_low, extend, sum_to, load_8, store_8, long_constant, word, is_word, word_constant, constant, negate, is_zero, is_not_zero}
+use Rattle.abi_frames.specs.Fields.{reg, high, amount, word_amount, add_low, extend, sum_to, load_8, store_8, parted_constant, zeros_of, left_of, is_near_number, near_constant, is_made, added, shifted_by, made_constant, long_constant, word, is_word, word_constant, constant, negate, is_zero, is_not_zero}
 use Rattle.abi_frames.specs.Immediates.{opposite, next, right_form, left_form, compare_number, form_items}
 use Rattle.abi_frames.specs.declared.immediate.Form.{Form}
 use Rattle.abi_frames.specs.declared.immediate.Form.TheVariants.{Immediate as ByImmediate, AddWord, Shift as ByShift, ShiftWord, Compare as ByComparison}
@@ -53,14 +54,17 @@ use Rattle.abi_frames.specs.Moves.{is_read, earlier_at, move_up, moves_up, moved
 use Rattle.abi_frames.proofs.Passing.{in_place}
 use Rattle.abi_frames.proofs.Arranging.{is_earlier, all_stand}
 use Rattle.abi_frames.proofs.Sources.{sources_stand}
-use Rattle.abi_frames.specs.Functions.{caller_pointer, from_register, from_stack, argument_items, arguments_items, goes_away, is_on_stack, sources, pointer_items, entry_items}
-use Rattle.abi_frames.specs.Laws.{FramesAreLabelled}
+use Rattle.abi_frames.specs.Functions.{caller_pointer, from_register, from_stack, argument_items, arguments_items, goes_away, is_on_stack, sources, pointer_items, entry_items, function_items}
+use Rattle.abi_frames.specs.declared.early.EarlyReturn.{EarlyReturn}
+use Rattle.abi_frames.specs.EarlyReturns.{is_bare, no_frame, quick_label, begin_label, test_items, quick_items, early_items}
+use Rattle.abi_frames.proofs.EarlyFacts.{around}
+use Rattle.abi_frames.specs.Laws.{IsCode}
 use Rattle.abi_frames.proofs.Leading.{longest-append}
 use Rattle.abi_frames.proofs.Activations.{place_is, can_save}
 use Rattle.abi_frames.proofs.FrameEnds.{savable}
 use Rattle.abi_frames.proofs.Saving.{can_save_all, few_saved_registers}
 use Rattle.abi_frames.proofs.Outgoing.{slots_near}
-use Rattle.abi_frames.proofs.Sizes.{function_size, le_is}
+use Rattle.abi_frames.proofs.Sizes.{function_size, le_is, ValueShort}
 
 -- ---- code without a label of its own, whose jumps go to labels below n
 
@@ -135,8 +139,8 @@ store_plainly : (n v a o : ℕ) → Nameable v → Nameable a → Plainly n (sto
 store_plainly n v a o h k = one_of_two n (store_8 v a o) a v k h refl (λ l. refl) refl
 
 -- code that names one register besides fixed ones
-long_plainly : (n d m : ℕ) → Nameable d → Plainly n (long_constant d m)
-long_plainly n d m h = record { labels = refl; none = λ l. refl; registers = (let is = h.is in rw is refl) }
+parted_plainly : (n d m : ℕ) → Nameable d → Plainly n (parted_constant d m)
+parted_plainly n d m h = record { labels = refl; none = λ l. refl; registers = (let is = h.is in rw is refl) }
 
 far_load_plainly : (n d o : ℕ) → Nameable d → Plainly n (far_load d o)
 far_load_plainly n d o h = record { labels = refl; none = λ l. refl; registers = (let is = h.is in rw is refl) }
@@ -150,6 +154,39 @@ word_plainly n d m h = by_test (nat_eq (m % 4096) 0)
     by_test : (b : Bool) → Plainly n (Plain (Lui (reg d) (high m)) ∷ (if b then [] else Plain (Addiw (reg d) (reg d) (low m)) ∷ []))
     by_test true = record { labels = refl; none = λ l. refl; registers = (let is = h.is in rw is refl) }
     by_test false = record { labels = refl; none = λ l. refl; registers = (let is = h.is in rw is refl) }
+
+near_plainly : (n d m : ℕ) → Nameable d → Plainly n (near_constant d m)
+near_plainly n d m h = by_test (is_immediate m)
+  where
+    by_test : (b : Bool) → Plainly n (if b then add_low d 0 m ∷ [] else word_constant d (m % 2 ^ 32))
+    by_test true = add_plainly n d 0 m h (nameable 0 (lit< tt))
+    by_test false = word_plainly n d (m % 2 ^ 32) h
+
+added_plainly : (n d m : ℕ) → Nameable d → Plainly n (added d m)
+added_plainly n d m h = by_test (nat_eq (m % 4096) 0)
+  where
+    by_test : (b : Bool) → Plainly n (if b then [] else add_low d d m ∷ [])
+    by_test true = plainly_nothing n
+    by_test false = add_plainly n d d m h h
+
+made_plainly : (n k d m : ℕ) → Nameable d → Plainly n (made_constant k d m)
+made_plainly n zero d m h = near_plainly n d m h
+made_plainly n (suc k) d m h = by_test (made_plainly n k d (left_of m) h) (is_near_number m)
+  where
+    by_test : Plainly n (made_constant k d (left_of m)) → (b : Bool)
+        → Plainly n (if b then near_constant d m else made_constant k d (left_of m) ++ (shifted_by d (zeros_of m) ∷ added d m))
+    by_test rest true = near_plainly n d m h
+    by_test rest false =
+        plainly_then n (made_constant k d (left_of m)) (shifted_by d (zeros_of m) ∷ added d m) rest
+        (plainly_then n (shifted_by d (zeros_of m) ∷ []) (added d m) (one_of_two n (shifted_by d (zeros_of m)) d d h h refl (λ l. refl) refl) (added_plainly n d m h))
+
+long_plainly : (n d m : ℕ) → Nameable d → Plainly n (long_constant d m)
+unfolding long_constant
+long_plainly n d m h = by_test (is_made 3 m)
+  where
+    by_test : (b : Bool) → Plainly n (if b then made_constant 3 d m else parted_constant d m)
+    by_test true = made_plainly n 3 d m h
+    by_test false = parted_plainly n d m h
 
 constant_plainly : (n d m : ℕ) → Nameable d → Plainly n (constant d m)
 constant_plainly n d m h = by_test (is_immediate m) (is_word m)
@@ -797,8 +834,9 @@ some_size y rs =
     let more = longest-append (raise_pointer y.size) (go_back ∷ []) in
     omega (arith, all, more)
 
-pub frames_are_labelled : FramesAreLabelled
-frames_are_labelled f slots is =
+pub function_labelled : (f : Code Location) (slots : ℕ) → IsCode f slots
+    → IsLabelled (record { items = function_items (layout f slots) (saved_registers f) f.params f.blocks; labels = length f.blocks + 1 })
+function_labelled f slots is =
     let y : Layout = layout f slots in
     let n : ℕ = length f.blocks in
     let known = and_parts (list_all (λ (d : Destination Location). is_place slots d.place) f.params) (list_all (block_keeps (is_place slots)) f.blocks) is.known in
@@ -839,3 +877,122 @@ frames_are_labelled f slots is =
   where
     total : (s p t m x e k : ℕ) → s ≡ p + t → t ≡ m + (x + e) → p ≡ 0 → m ≡ k → e ≡ 0 → k + x ≡ 1 → s ≡ 1
     total s p t m x e k h1 h2 h3 h4 h5 h6 = omega (arith, h1, h2, h3, h4, h5, h6)
+
+-- ---- functions that return early
+
+test_plainly : (n : ℕ) (y : Layout) (e : EarlyReturn) → y.leave + 2 < n → is_bare e.on.left ≡ true → is_bare e.on.right ≡ true → Plainly n (test_items y e)
+test_plainly n y e few left right =
+    let c = e.on in
+    let z = no_frame y in
+    let op : Operation = Compare c.condition c.class in
+    let met : ℕ = if e.when_met then quick_label y else begin_label y in
+    let otherwise : ℕ = if e.when_met then begin_label y else quick_label y in
+    let ways = ways_items z (begin_label y) c.condition (compared_source c 28 c.left) (compared_source c 29 c.right) met otherwise in
+    plainly_then n (compared_into z c 28 c.left) (compared_into z c 29 c.right ++ ways) (read_plainly n z 0 op 28 c.left (lit< tt) (lit< tt) left)
+    (plainly_then n (compared_into z c 29 c.right) ways (read_plainly n z 0 op 29 c.right (lit< tt) (lit< tt) right)
+    (ways_plainly n z (begin_label y) c.condition (compared_source c 28 c.left) (compared_source c 29 c.right) met otherwise
+    (read_nameable 0 op 28 c.left (lit< tt) left) (read_nameable 0 op 29 c.right (lit< tt) right) (one_of e.when_met) (other_of e.when_met)))
+  where
+    quick_below : nat_lt (quick_label y) n ≡ true
+    quick_below = lt_from (quick_label y) n (omega (arith, few))
+
+    begin_below : nat_lt (begin_label y) n ≡ true
+    begin_below = lt_from (begin_label y) n (omega (arith, few))
+
+    one_of : (t : Bool) → nat_lt (if t then quick_label y else begin_label y) n ≡ true
+    one_of true = quick_below
+    one_of false = begin_below
+
+    other_of : (t : Bool) → nat_lt (if t then begin_label y else quick_label y) n ≡ true
+    other_of true = begin_below
+    other_of false = quick_below
+
+go_back_plainly : (n : ℕ) → Plainly n (go_back ∷ [])
+go_back_plainly n = record { labels = refl; none = λ l. refl; registers = refl }
+
+quick_plainly : (n : ℕ) (y : Layout) (v : Option (ReturnValue Location)) → ValueShort v → Plainly n (quick_items y v)
+quick_plainly n y None short = go_back_plainly n
+quick_plainly n y (Some a) short =
+    plainly_then n (result_items (no_frame y) y.result a) (go_back ∷ []) (result_plainly n (no_frame y) 0 y.result a short.0) (go_back_plainly n)
+
+-- a label with nothing of its own
+record Once (n l : ℕ) (is : List Item) : Type 0 where
+  labels : list_all (has_label_below n) is ≡ true
+  once : (k : ℕ) → times_labelled k is ≡ (if nat_eq l k then 1 else 0)
+  registers : list_all has_good_registers is ≡ true
+
+label_then : (n l : ℕ) (is : List Item) → l < n → Plainly n is → Once n l (Label l ∷ is)
+label_then n l is few plain = record {
+  labels = and_from (nat_lt l n) (list_all (has_label_below n) is) (lt_from l n few) plain.labels;
+  once = λ k. let none = plain.none k in omega (arith, none);
+  registers = plain.registers;
+}
+
+all_once : (n l : ℕ) → l < n + 3
+    → (if nat_eq (n + 2) l then 1 else 0) + (numbered 0 n l + ((if nat_eq n l then 1 else 0) + (if nat_eq (n + 1) l then 1 else 0))) ≡ 1
+all_once n l h = grind (arith, nat_tests)
+
+pub early_labelled : (f : Code Location) (slots : ℕ) (e : EarlyReturn) → IsCode f slots → is_bare e.on.left ≡ true → is_bare e.on.right ≡ true → ValueShort e.value
+    → longest_size (early_items (layout f slots) (saved_registers f) f.params f.blocks e) < 2 ^ 28
+    → IsLabelled (record { items = early_items (layout f slots) (saved_registers f) f.params f.blocks e; labels = length f.blocks + 3 })
+early_labelled f slots e is left right short near =
+    let y : Layout = layout f slots in
+    let n : ℕ = length f.blocks in
+    let all : ℕ = n + 3 in
+    let rs : List ℕ = saved_registers f in
+    let known = and_parts (list_all (λ (d : Destination Location). is_place slots d.place) f.params) (list_all (block_keeps (is_place slots)) f.blocks) is.known in
+    let test = test_plainly all y e (omega arith) left right in
+    let begin = begin_plainly all y rs slots f.params (can_save_all f) known.0 in
+    let blocks = blocks_labelled all y slots n 0 f.blocks (omega arith) (omega arith) (omega arith) known.1 is.regular.inside in
+    let p_begin = prologue y rs in
+    let p_entry = entry_items y f.params in
+    let p_blocks = blocks_items y 0 f.blocks in
+    let p_end : List Item = Label n ∷ epilogue y rs in
+    let p_quick : List Item = Label (n + 1) ∷ quick_items y e.value in
+    let end = label_then all n (epilogue y rs) (omega arith) (epilogue_plainly all y rs (can_save_all f)) in
+    let quick = label_then all (n + 1) (quick_items y e.value) (omega arith) (quick_plainly all y e.value short) in
+    let start = label_then all (n + 2) (p_begin ++ p_entry) (omega arith) begin in
+    let four : List Item = p_end ++ p_quick in
+    let three : List Item = p_blocks ++ four in
+    let two : List Item = (Label (n + 2) ∷ (p_begin ++ p_entry)) ++ three in
+    let one : List Item = test_items y e ++ two in
+    let whole : one ≡ early_items y rs f.params f.blocks e =
+    ap (λ (q : List Item). test_items y e ++ (Label (n + 2) ∷ q)) (append_assoc p_begin p_entry three ∙ sym (around p_begin p_entry p_blocks p_end p_quick)) in
+    let some = some_size y rs in
+    let size_one = longest-append (test_items y e) two in
+    let size_two = longest-append (Label (n + 2) ∷ (p_begin ++ p_entry)) three in
+    let size_three = longest-append p_blocks four in
+    let size_four = longest-append p_end p_quick in
+    let fits : longest_size one < 2 ^ 28 = subst (λ (q : List Item). longest_size q < 2 ^ 28) (sym whole) near in
+    subst (λ (q : List Item). IsLabelled (record { items = q; labels = all })) whole
+    (record {
+      labels = all_both (has_label_below all) (test_items y e) two test.labels
+          (all_both (has_label_below all) (Label (n + 2) ∷ (p_begin ++ p_entry)) three start.labels
+          (all_both (has_label_below all) p_blocks four blocks.labels (all_both (has_label_below all) p_end p_quick end.labels quick.labels)));
+      once = λ l h.
+          let t1 = times-append l (test_items y e) two in
+          let t2 = times-append l (Label (n + 2) ∷ (p_begin ++ p_entry)) three in
+          let t3 = times-append l p_blocks four in
+          let t4 = times-append l p_end p_quick in
+          let c1 = test.none l in
+          let c2 = start.once l in
+          let c3 = blocks.once l in
+          let c4 = end.once l in
+          let c5 = quick.once l in
+          let sum = all_once n l h in
+          total (times_labelled l one) (times_labelled l two) (times_labelled l three) (times_labelled l four)
+          (times_labelled l (test_items y e)) (times_labelled l (Label (n + 2) ∷ (p_begin ++ p_entry)))
+          (times_labelled l p_blocks) (times_labelled l p_end) (times_labelled l p_quick)
+          (if nat_eq (n + 2) l then 1 else 0) (numbered 0 n l) (if nat_eq n l then 1 else 0) (if nat_eq (n + 1) l then 1 else 0)
+          t1 t2 t3 t4 c1 c2 c3 c4 c5 sum;
+      registers = all_both has_good_registers (test_items y e) two test.registers
+          (all_both has_good_registers (Label (n + 2) ∷ (p_begin ++ p_entry)) three start.registers
+          (all_both has_good_registers p_blocks four blocks.registers (all_both has_good_registers p_end p_quick end.registers quick.registers)));
+      not_empty = omega (arith, some, size_one, size_two, size_three, size_four);
+      near = fits;
+    })
+  where
+    total : (s1 s2 s3 s4 a b d g h : ℕ) (x1 x2 x3 x4 : ℕ) → s1 ≡ a + s2 → s2 ≡ b + s3 → s3 ≡ d + s4 → s4 ≡ g + h → a ≡ 0 → b ≡ x1 → d ≡ x2
+        → g ≡ x3 → h ≡ x4 → x1 + (x2 + (x3 + x4)) ≡ 1 → s1 ≡ 1
+    total s1 s2 s3 s4 a b d g h x1 x2 x3 x4 e1 e2 e3 e4 e5 e6 e7 e8 e9 e10 =
+        omega (arith, e1, e2, e3, e4, e5, e6, e7, e8, e9, e10)

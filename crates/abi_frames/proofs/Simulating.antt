@@ -364,14 +364,14 @@ enter c f is j r n go i fs k u a new log goes all = by_block (slice_get f.blocks
 
 -- ---- the return
 
-closed_known : (f : Spots) (at n x k : ℕ) → closed f at n x ≡ ThisByte k → f x ≡ ThisByte k
+pub closed_known : (f : Spots) (at n x k : ℕ) → closed f at n x ≡ ThisByte k → f x ≡ ThisByte k
 closed_known f at n x k h = by_test (is_in at n x) h
   where
     by_test : (b : Bool) → (if b then NoAccess else f x) ≡ ThisByte k → f x ≡ ThisByte k
     by_test true e = absurd (let no : ⊥ = cc in no)
     by_test false e = e
 
-closed_there : (f : Spots) (at n x : ℕ) → closed f at n x ≢ NoAccess → f x ≢ NoAccess
+pub closed_there : (f : Spots) (at n x : ℕ) → closed f at n x ≢ NoAccess → f x ≢ NoAccess
 closed_there f at n x h e = h (by_test (is_in at n x))
   where
     by_test : (b : Bool) → (if b then NoAccess else f x) ≡ NoAccess

@@ -1,5 +1,5 @@
 -- The code of a line is no longer than the line's cost, and so that of a function within its price.
-use Rattle.std.proofs.Common.{suc, zero, ◌/◌, ◌≡◌, ℕ, ◌+◌, ◌-◌, ◌*◌, ◌%◌, ◌^◌, ◌<◌, ◌≤◌, Bool, true, false, List, [], ◌∷◌, ◌++◌, refl, ◌∙◌, ap, arith, lit≤}
+use Rattle.std.proofs.Common.{suc, zero, ◌/◌, ◌≡◌, ℕ, ◌+◌, ◌-◌, ◌*◌, ◌%◌, ◌^◌, ◌<◌, ◌≤◌, Bool, true, false, List, [], ◌∷◌, ◌++◌, refl, ◌∙◌, ap, subst, arith, lit≤}
 use Rattle.bits.specs.Words.{sign_extended}
 use Rattle.std.specs.Prelude.{◌&&◌, not, nat_eq, nat_le, nat_lt, if◌then◌else◌, length, Option, Some, None}
 use Rattle.std.specs.List.{list_all, sum_by}
@@ -36,20 +36,24 @@ use Rattle.vcode.specs.declared.line.Line.TheVariants.{Tick, Set, Operate, Load,
 use Rattle.vcode.specs.declared.line.Jump.{Jump}
 use Rattle.vcode.specs.declared.line.Jump.TheVariants.{Goto, Branch, Return, Halt}
 use Rattle.vcode.specs.declared.code.Block.{Block}
+use Rattle.vcode.specs.declared.code.Code.{Code}
 use Rattle.il_ast.specs.Cost.{round_16}
 use Rattle.vcode.specs.Cost.{branch_cost, is_immediate, operand_cost, operation_cost, line_cost, jump_cost, affords, is_paid}
-use Rattle.vcode.specs.Regular.{weight_of, alloc_bytes}
+use Rattle.vcode.specs.Regular.{weight_of, alloc_bytes, code_weight}
 use Rattle.vcode.specs.Named.{is_near, are_near}
 use Rattle.abi_frames.specs.Layout.{layout, saved_registers}
 use Rattle.abi_frames.proofs.Saving.{few_saved_registers}
-use Rattle.abi_frames.specs.Laws.{FramesAreSmall}
+use Rattle.abi_frames.specs.Laws.{IsCode}
+use Rattle.abi_frames.specs.declared.early.EarlyReturn.{EarlyReturn}
+use Rattle.abi_frames.specs.EarlyReturns.{is_bare, is_short, no_frame, quick_label, begin_label, test_items, quick_items, early_items}
 use Rattle.abi_frames.specs.declared.layout.Layout.{Layout}
 use Rattle.vcode.specs.Addresses.{low}
-use Rattle.abi_frames.specs.Fields.{reg, high, add_low, extend, sum_to, load_8, store_8, long_constant, word, is_word, word_constant, constant, is_zero, is_not_zero}
+use Rattle.abi_frames.specs.Fields.{reg, high, add_low, extend, sum_to, load_8, store_8, parted_constant, zeros_of, left_of, is_near_number, near_constant, is_made, added, shifted_by, made_constant, long_constant, word, is_word, word_constant, constant, is_zero, is_not_zero}
 use Rattle.abi_frames.specs.Immediates.{opposite, right_form, left_form, compare_number, form_items}
 use Rattle.abi_frames.specs.declared.immediate.Form.{Form}
 use Rattle.abi_frames.specs.declared.immediate.Form.TheVariants.{Immediate as ByImmediate, AddWord, Shift as ByShift, ShiftWord, Compare as ByComparison}
 use Rattle.abi_frames.proofs.FormNumbers.{word_low, word_is_small}
+use Rattle.abi_frames.proofs.ConstantNumbers.{word_by_bits}
 use Rattle.abi_frames.proofs.Branching.{branch_size}
 use Rattle.abi_frames.specs.Emission.{far_load, far_store, load_slot, store_slot, slot_offset, into, fetch, source, word_into, target, deliver, set_items, compare_items, operation_items, operand_into, operand_source, on_registers, by_form, operate_by, operate_items, base_items, load_by, load_items, store_by, store_op, store_items, line_items, lines_items, move_pointer, lower_pointer, raise_pointer, save_all, restore_all, go_back, prologue, epilogue, result_items, goto_items, branch_when, inverted, ways_items, compared_into, compared_source, jump_items, block_items, blocks_items, passed_class, pass_into, stack_items, stack_all, register_items, register_all, passed_items, callee_items, prepare_items, call_through, receive_items, call_items, copy_at, copy_eight, copy_eights, copy_rest, blit_items, address_at, alloc_items}
 use Rattle.abi_frames.specs.Moves.{operand_exchanged, argument_exchanged, exchange, is_read, settled, arrived, earlier_at, move_up, moves_up, moved_up, all_move_up, all_moved_up}
@@ -68,6 +72,41 @@ word_size d m = by_test (nat_eq (m % 4096) 0)
     by_test true = lit≤ tt
     by_test false = lit≤ tt
 
+near_size : (d m : ℕ) → longest_size (near_constant d m) ≤ 2
+near_size d m = by_test (is_immediate m)
+  where
+    by_test : (b : Bool) → longest_size (if b then add_low d 0 m ∷ [] else word_constant d (m % 2 ^ 32)) ≤ 2
+    by_test true = lit≤ tt
+    by_test false = word_size d (m % 2 ^ 32)
+
+added_size : (d m : ℕ) → longest_size (added d m) ≤ 1
+added_size d m = by_test (nat_eq (m % 4096) 0)
+  where
+    by_test : (b : Bool) → longest_size (if b then [] else add_low d d m ∷ []) ≤ 1
+    by_test true = lit≤ tt
+    by_test false = lit≤ tt
+
+-- two for each shift, and two
+made_size : (k d m : ℕ) → longest_size (made_constant k d m) ≤ 2 * k + 2
+made_size zero d m = let near = near_size d m in omega (arith, near)
+made_size (suc k) d m = by_test (made_size k d (left_of m)) (is_near_number m)
+  where
+    by_test : longest_size (made_constant k d (left_of m)) ≤ 2 * k + 2 → (b : Bool)
+        → longest_size (if b then near_constant d m else made_constant k d (left_of m) ++ (shifted_by d (zeros_of m) ∷ added d m)) ≤ 2 * suc k + 2
+    by_test rest true = let near = near_size d m in omega (arith, near)
+    by_test rest false =
+        let all = longest-append (made_constant k d (left_of m)) (shifted_by d (zeros_of m) ∷ added d m) in
+        let low = added_size d m in
+        omega (arith, rest, all, low)
+
+long_constant_size : (d m : ℕ) → longest_size (long_constant d m) ≤ 9
+unfolding long_constant
+long_constant_size d m = by_test (is_made 3 m)
+  where
+    by_test : (b : Bool) → longest_size (if b then made_constant 3 d m else parted_constant d m) ≤ 9
+    by_test true = let size = made_size 3 d m in omega (arith, size)
+    by_test false = lit≤ tt
+
 constant_size : (d n : ℕ) → longest_size (constant d n) ≤ (if is_immediate n then 1 else 9)
 constant_size d n = by_test (is_immediate n) (is_word n)
   where
@@ -75,7 +114,7 @@ constant_size d n = by_test (is_immediate n) (is_word n)
         → longest_size (if b then add_low d 0 n ∷ [] else if t then word_constant d (n % 2 ^ 32) else long_constant d (n % 2 ^ 64)) ≤ (if b then 1 else 9)
     by_test true t = lit≤ tt
     by_test false true = let h = word_size d (n % 2 ^ 32) in omega (arith, h)
-    by_test false false = lit≤ tt
+    by_test false false = long_constant_size d (n % 2 ^ 64)
 
 load_size : (d o : ℕ) → longest_size (load_slot d o) ≤ 3
 load_size d o = by_test (nat_lt o 2048)
@@ -847,8 +886,122 @@ function_size y rs params blocks saved few at_most near good =
     let three = blocks_size y 0 blocks good in
     omega (arith, all, entry, more, one, between, two, three)
 
-pub frames_are_small : FramesAreSmall
-frames_are_small f slots is =
+-- ---- an early return
+
+small_number : (n : ℕ) → nat_lt n 2048 ≡ true → is_immediate n ≡ true
+small_number n h = grind (arith, nat_tests)
+
+number_word : (n : ℕ) → nat_lt n 2048 ≡ true → is_immediate (word n) ≡ true
+number_word n h =
+    let few : n < 2048 = grind (arith, nat_tests) in
+    let same : n % 2 ^ 32 ≡ n = omega (arith, few) in
+    let is = word_by_bits n (omega (arith, few)) in
+    ap (λ m. is_immediate (sign_extended m)) same ∙ grind (arith, nat_tests)
+
+immediate_size : (d n : ℕ) → is_immediate n ≡ true → longest_size (constant d n) ≤ 1
+immediate_size d n h = subst (λ (t : Bool). longest_size (constant d n) ≤ (if t then 1 else 9)) h (constant_size d n)
+
+-- an operand that is short takes one at most
+short_fetch : (y : Layout) (d : ℕ) (a : Operand Location) → is_bare a ≡ true → is_short a ≡ true → longest_size (fetch y d a) ≤ 1
+short_fetch y d (At (InRegister r)) bare short = lit≤ tt
+short_fetch y d (At (Slot i)) bare short = let below : i < 0 = grind (arith, nat_tests) in absurd (omega (arith, below))
+short_fetch y d (Number n) bare short = by_test (nat_eq n 0)
+  where
+    by_test : (t : Bool) → longest_size (if t then [] else constant d n) ≤ 1
+    by_test true = lit≤ tt
+    by_test false = immediate_size d n (small_number n short)
+short_fetch y d (Name g) bare short = absurd (let no : ⊥ = cc in no)
+
+short_into : (y : Layout) (d : ℕ) (a : Operand Location) → is_bare a ≡ true → is_short a ≡ true → longest_size (into y d a) ≤ 1
+short_into y d (At (InRegister r)) bare short = by_test (nat_eq d r)
+  where
+    by_test : (b : Bool) → longest_size (if b then [] else add_low d r 0 ∷ []) ≤ 1
+    by_test true = lit≤ tt
+    by_test false = lit≤ tt
+short_into y d (At (Slot i)) bare short = let below : i < 0 = grind (arith, nat_tests) in absurd (omega (arith, below))
+short_into y d (Number n) bare short = immediate_size d n (small_number n short)
+short_into y d (Name g) bare short = absurd (let no : ⊥ = cc in no)
+
+short_word : (y : Layout) (d : ℕ) (a : Operand Location) → is_bare a ≡ true → is_short a ≡ true → longest_size (word_into y d a) ≤ 1
+short_word y d (At (InRegister r)) bare short = lit≤ tt
+short_word y d (At (Slot i)) bare short = let below : i < 0 = grind (arith, nat_tests) in absurd (omega (arith, below))
+short_word y d (Number n) bare short = immediate_size d (word n) (number_word n short)
+short_word y d (Name g) bare short = absurd (let no : ⊥ = cc in no)
+
+short_compared : (y : Layout) (on : Condition) (k : Class) (d : ℕ) (a : Operand Location) → is_bare a ≡ true → is_short a ≡ true
+    → longest_size (operand_into y (Compare on k) d a) ≤ 1
+short_compared y on W d a bare short = short_word y d a bare short
+short_compared y on L d a bare short = short_fetch y d a bare short
+
+short_passed : (y : Layout) (k : Class) (a : Operand Location) → is_bare a ≡ true → is_short a ≡ true → longest_size (pass_into y 10 k a) ≤ 1
+short_passed y L a bare short = short_into y 10 a bare short
+short_passed y W a bare short = short_word y 10 a bare short
+
+short_result : (y : Layout) (k : Option Class) (a : ReturnValue Location) → is_bare a.value ≡ true → is_short a.value ≡ true → longest_size (result_items y k a) ≤ 1
+short_result y None a bare short = lit≤ tt
+short_result y (Some k) a bare short = short_passed y (passed_class a.extension k) a.value bare short
+
+-- a value that one instruction has in a register
+abbrev pub ValueShort : Option (ReturnValue Location) → Type 0
+ValueShort None = Unit {0}
+ValueShort (Some a) = (is_bare a.value ≡ true) × (is_short a.value ≡ true)
+
+pub quick_size : (y : Layout) (v : Option (ReturnValue Location)) → ValueShort v → longest_size (quick_items y v) ≤ 2
+quick_size y None short = lit≤ tt
+quick_size y (Some a) short =
+    let one = short_result (no_frame y) y.result a short.0 short.1 in
+    let all = longest-append (result_items (no_frame y) y.result a) (go_back ∷ []) in
+    omega (arith, one, all)
+
+equal_self : (b : ℕ) → nat_eq b b ≡ false → ⊥
+equal_self b h = let no : ⊥ = grind (arith, nat_tests) in no
+
+-- one of the two labels stands next
+test_ways : (y : Layout) (on : Condition) (v w q b : ℕ) (met : Bool)
+    → longest_size (ways_items (no_frame y) b on v w (if met then q else b) (if met then b else q)) ≤ 3
+test_ways y on v w q b true = by_test (nat_eq q b) (nat_eq b b) refl
+  where
+    by_test : (s t : Bool) → nat_eq b b ≡ t
+        → longest_size (if s then branch_when (inverted on) v w b ∷ [] else branch_when on v w q ∷ (if t then [] else GoTo b ∷ [])) ≤ 3
+    by_test true t e = let size = branch_size (inverted on) v w b [] in omega (arith, size)
+    by_test false true e = let size = branch_size on v w q [] in omega (arith, size)
+    by_test false false e = absurd (equal_self b e)
+test_ways y on v w q b false = by_test (nat_eq b b) refl
+  where
+    by_test : (t : Bool) → nat_eq b b ≡ t
+        → longest_size (if t then branch_when (inverted on) v w q ∷ [] else branch_when on v w b ∷ goto_items (no_frame y) b q) ≤ 3
+    by_test true e = let size = branch_size (inverted on) v w q [] in omega (arith, size)
+    by_test false e = absurd (equal_self b e)
+
+pub test_size : (y : Layout) (e : EarlyReturn) → is_bare e.on.left ≡ true → is_short e.on.left ≡ true → is_bare e.on.right ≡ true → is_short e.on.right ≡ true
+    → longest_size (test_items y e) ≤ 5
+test_size y e bare_a short_a bare_b short_b =
+    let z = no_frame y in
+    let a : List Item = compared_into z e.on 28 e.on.left in
+    let b : List Item = compared_into z e.on 29 e.on.right in
+    let ways : List Item = ways_items z (begin_label y) e.on.condition (compared_source e.on 28 e.on.left) (compared_source e.on 29 e.on.right)
+    (if e.when_met then quick_label y else begin_label y) (if e.when_met then begin_label y else quick_label y) in
+    let all = longest-append a (b ++ ways) in
+    let more = longest-append b ways in
+    let one = short_compared z e.on.condition e.on.class 28 e.on.left bare_a short_a in
+    let two = short_compared z e.on.condition e.on.class 29 e.on.right bare_b short_b in
+    let three = test_ways y e.on.condition (compared_source e.on 28 e.on.left) (compared_source e.on 29 e.on.right) (quick_label y) (begin_label y) e.when_met in
+    omega (arith, all, more, one, two, three)
+
+pub function_small : (f : Code Location) (slots : ℕ) → IsCode f slots
+    → longest_size (function_items (layout f slots) (saved_registers f) f.params f.blocks) ≤ 32 * code_weight f + 249
+function_small f slots is =
     let at_most = le_is (length f.params) 64 is.regular.few_params in
-    let size = function_size (layout f slots) (saved_registers f) f.params f.blocks (few_saved_registers f) (slots_near f is.regular) at_most is.near is.regular.paid in
-    omega (arith, size)
+    function_size (layout f slots) (saved_registers f) f.params f.blocks (few_saved_registers f) (slots_near f is.regular) at_most is.near is.regular.paid
+
+pub early_size : (f : Code Location) (slots : ℕ) (e : EarlyReturn) → IsCode f slots → longest_size (test_items (layout f slots) e) ≤ 5 → ValueShort e.value
+    → longest_size (early_items (layout f slots) (saved_registers f) f.params f.blocks e) ≤ 32 * code_weight f + 256
+early_size f slots e is test short =
+    let y : Layout = layout f slots in
+    let whole : List Item = function_items y (saved_registers f) f.params f.blocks in
+    let p_quick : List Item = Label (quick_label y) ∷ quick_items y e.value in
+    let all = longest-append (test_items y e) (Label (begin_label y) ∷ (whole ++ p_quick)) in
+    let more = longest-append whole p_quick in
+    let size = function_small f slots is in
+    let quick = quick_size y e.value short in
+    omega (arith, all, more, size, quick, test)

@@ -30,8 +30,8 @@ use Rattle.abi_frames.specs.Layout.{layout, outgoing, saved_registers, frame_siz
 use Rattle.abi_frames.proofs.Saving.{can_save_all, few_saved_registers, AllMayWrite, all_params_may}
 use Rattle.abi_frames.specs.declared.layout.Layout.{Layout}
 use Rattle.abi_frames.specs.Emission.{lines_items, jump_items, blocks_items, prologue, epilogue, lower_pointer, save_all}
-use Rattle.abi_frames.specs.Functions.{entry_items, frame_items}
-use Rattle.abi_frames.specs.Laws.{IsCode, FramesPerform}
+use Rattle.abi_frames.specs.Functions.{entry_items, function_items}
+use Rattle.abi_frames.specs.Laws.{IsCode}
 use Rattle.abi_frames.proofs.Leading.{Site, StandAt, Leads, leads_then, leads_so, longest-append}
 use Rattle.abi_frames.proofs.Activations.{Setting, IsSetting, site, bottom, can_save, held_below}
 use Rattle.abi_frames.proofs.FrameEnds.{savable, PointerMoved, leads_lower, AllSaved, leads_save_all}
@@ -74,7 +74,7 @@ begins_next y k (b ∷ blocks) tail e = record {
   same = refl;
 }
 
-blocks_stand : (c : Site) (y : Layout) (k : ℕ) (blocks : List (Block Location)) (tail : List Item) (a : ℕ) → y.leave ≡ k + length blocks
+pub blocks_stand : (c : Site) (y : Layout) (k : ℕ) (blocks : List (Block Location)) (tail : List Item) (a : ℕ) → y.leave ≡ k + length blocks
     → StandAt c (blocks_items y k blocks ++ (Label y.leave ∷ tail)) a
     → (i : ℕ) (b : Block Location) → slice_get blocks i ≡ Some b → BlockCode c y b (k + i)
 unfolding Stand Stands
@@ -108,13 +108,13 @@ blocks_stand c y k (d ∷ blocks) tail a leave stands (suc i) b e =
     later h = omega (arith, h)
 
 -- the first label, also where there is no block
-first_label : (c : Site) (y : Layout) (blocks : List (Block Location)) (rest : List Item) (a : ℕ) → y.leave ≡ length blocks
+pub first_label : (c : Site) (y : Layout) (blocks : List (Block Location)) (rest : List Item) (a : ℕ) → y.leave ≡ length blocks
     → StandAt c (blocks_items y 0 blocks ++ (Label y.leave ∷ rest)) a → a ≡ c.label 0
 unfolding Stand Stands
 first_label c y [] rest a e stands = sym stands.1.0 ∙ ap c.label e
 first_label c y (b ∷ blocks) rest a e stands = sym stands.1.0
 
-leave_stands : (c : Site) (l : ℕ) (is : List Item) (a : ℕ) → StandAt c (Label l ∷ is) a → StandAt c (is ++ []) (c.label l)
+pub leave_stands : (c : Site) (l : ℕ) (is : List Item) (a : ℕ) → StandAt c (Label l ∷ is) a → StandAt c (is ++ []) (c.label l)
 unfolding Stand Stands
 leave_stands c l is a stands =
     subst (λ js. StandAt c js (c.label l)) (sym (append-nil is)) (subst (λ x. StandAt c is x) (stands.1.1 ∙ sym stands.1.0) stands.2)
@@ -198,7 +198,7 @@ begun c is pointer clear holds =
 -- ---- what the caller passed
 
 -- the classes of the parameters that are left
-abbrev classes : List (Destination Location) → List Class
+abbrev pub classes : List (Destination Location) → List Class
 classes ds = map (λ (d : Destination Location). d.class) ds
 
 same_held : (k : Class) (n : ℕ) → passed k n ≡ held k n
@@ -209,7 +209,7 @@ length-classes : (ds : List (Destination Location)) → length (classes ds) ≡ 
 length-classes [] = refl
 length-classes (d ∷ ds) = let rest = length-classes ds in omega (arith, rest)
 
-are_passed : (c : Setting) (k : ℕ) (ds : List (Destination Location)) (xs : List ℕ)
+pub are_passed : (c : Setting) (k : ℕ) (ds : List (Destination Location)) (xs : List ℕ)
     → ((i n : ℕ) (a : Class) → slice_get (classes ds) i ≡ Some a → slice_get xs i ≡ Some n → argument_in c c.start (k + i) ≡ passed a n) → ArePassed c k ds xs
 are_passed c k [] xs all = tt
 are_passed c k (d ∷ ds) [] all = tt
@@ -224,7 +224,7 @@ are_passed c k (d ∷ ds) (x ∷ xs) all = (
     one_more : (n i : ℕ) → n + 1 + i ≡ n + suc i
     one_more n i = omega arith
 
-ready_passes : (c : Setting) (at : ℕ) (ks : List Class) (j : FlatGiven) → Ready c.world at c.sp ks j c.start
+pub ready_passes : (c : Setting) (at : ℕ) (ks : List Class) (j : FlatGiven) → Ready c.world at c.sp ks j c.start
     → (i n : ℕ) (a : Class) → slice_get ks i ≡ Some a → slice_get j.args i ≡ Some n → argument_in c c.start i ≡ passed a n
 ready_passes c at ks j ready i n a e f = by_test (nat_lt i 8) refl
   where
@@ -235,7 +235,7 @@ ready_passes c at ks j ready i n a e f = by_test (nat_lt i 8) refl
 
 -- ---- the promise
 
-abbrev setting : World → (label global : ℕ → ℕ) → List ℕ → Code Location → (slots sp : ℕ) → Spots → State → Setting
+abbrev pub setting : World → (label global : ℕ → ℕ) → List ℕ → Code Location → (slots sp : ℕ) → Spots → State → Setting
 setting w label global addresses f slots sp before s =
     record {
       world = w;
@@ -264,7 +264,7 @@ frame_fits f slots is = record {
   fits = let saved = few_saved_registers f in omega (arith, saved);
 }
 
-is_setting : (w : World) (label global : ℕ → ℕ) (addresses : List ℕ) (f : Code Location) (slots sp room : ℕ) (before : Spots) (s : State) → IsCode f slots
+pub is_setting : (w : World) (label global : ℕ → ℕ) (addresses : List ℕ) (f : Code Location) (slots sp room : ℕ) (before : Spots) (s : State) → IsCode f slots
     → IsWorld w → ((n a : ℕ) → slice_get addresses n ≡ Some a → global n ≡ a) → ((n : ℕ) → global n < 2 ^ 30) → GoodStack w sp (frame_bound f slots + room)
     → IsSetting (setting w label global addresses f slots sp before s)
 is_setting w label global addresses f slots sp room before s is world globals near stack =
@@ -316,7 +316,7 @@ made_first (d ∷ blocks) zero b h e some = absurd (omega (arith, some))
 made_first (d ∷ blocks) (suc i) b h e some =
     not_true (list_any is_alloc b.lines) (each (λ (x : Block Location). not (list_any is_alloc x.lines)) blocks i b h e)
 
-block_stands : (c : Setting) (f : Code Location) (slots : ℕ) → c.slots ≡ slots → c.area ≡ area f → c.layout.saves ≡ 8 * outgoing f → IsCode f slots → (b : Block Location) (i : ℕ) → slice_get f.blocks i ≡ Some b
+pub block_stands : (c : Setting) (f : Code Location) (slots : ℕ) → c.slots ≡ slots → c.area ≡ area f → c.layout.saves ≡ 8 * outgoing f → IsCode f slots → (b : Block Location) (i : ℕ) → slice_get f.blocks i ≡ Some b
     → BlockCode (site c) c.layout b i → BlockStands c b i
 block_stands c f slots same same_area same_saves is b i e code =
     let known = and_parts (list_all (λ (d : Destination Location). is_place slots d.place) f.params) (list_all (block_keeps (is_place slots)) f.blocks) is.known in
@@ -343,7 +343,7 @@ block_stands c f slots same same_area same_saves is b i e code =
     }
 
 -- from the call to the first block
-begins : (c : Setting) (f : Code Location) (slots at : ℕ) (j : FlatGiven) → IsSetting c → c.slots ≡ slots → c.saved ≡ saved_registers f → IsCode f slots → Clear c.world.bottom c.sp c.before
+pub begins : (c : Setting) (f : Code Location) (slots at : ℕ) (j : FlatGiven) → IsSetting c → c.slots ≡ slots → c.saved ≡ saved_registers f → IsCode f slots → Clear c.world.bottom c.sp c.before
     → Ready c.world at c.sp (classes f.params) (record j { memory = c.before }) c.start
     → Leads (site c) (prologue c.layout c.saved ++ entry_items c.layout f.params) c.start (Entering c (length f.params) 8 (bound (λ p. None) f.params j.args))
 begins c f slots at j good same same_saved is clear ready =
@@ -363,7 +363,7 @@ begins c f slots at j good same same_saved is clear ready =
     leads_entry c good f.params j.args u can is.apart
     (are_passed c 0 f.params j.args (λ i n a e k. ap (argument_in c c.start) (zero-add i) ∙ ready_passes c at (classes f.params) (record j { memory = c.before }) ready i n a e k)) now)
 
-begin_size : (f : Code Location) (slots : ℕ) → IsCode f slots → longest_size (prologue (layout f slots) (saved_registers f) ++ entry_items (layout f slots) f.params) ≤ 225
+pub begin_size : (f : Code Location) (slots : ℕ) → IsCode f slots → longest_size (prologue (layout f slots) (saved_registers f) ++ entry_items (layout f slots) f.params) ≤ 225
 begin_size f slots is =
     let y : Layout = layout f slots in
     let frame = frame_fits f slots is in
@@ -375,9 +375,9 @@ begin_size f slots is =
     omega (arith, all, one, two)
 
 -- from the call on
-performs : (w : World) (at : ℕ) (label global : ℕ → ℕ) (addresses : List ℕ) (f : Code Location) (slots : ℕ) → IsCode f slots → IsWorld w
+pub performs : (w : World) (at : ℕ) (label global : ℕ → ℕ) (addresses : List ℕ) (f : Code Location) (slots : ℕ) → IsCode f slots → IsWorld w
     → ((n a : ℕ) → slice_get addresses n ≡ Some a → global n ≡ a) → ((n : ℕ) → global n < 2 ^ 30)
-    → Stand w.memory_map label global (frame_items f slots) at
+    → Stand w.memory_map label global (function_items (layout f slots) (saved_registers f) f.params f.blocks) at
     → KeepsFrame w at (frame_bound f slots) (frame_size f slots) (area f) (map (λ d. d.class) f.params) f.result (flat_begin f) (flat_step f addresses)
 performs w at label global addresses f slots is world globals near stands sp j stack clear log r n goes all s ready =
     let c : Setting = setting w label global addresses f slots sp j.memory s in
@@ -421,14 +421,3 @@ performs w at label global addresses f slots is world globals near stands sp j s
       price = omega (arith, few, size);
       pace = omega arith;
     }) (λ e. refl) log goes all
-
-pub frames_perform : FramesPerform
-frames_perform f slots is =
-    let frame = frame_fits f slots is in
-    record {
-      fits = frame.fits;
-      area_fits = omega arith;
-      some = omega arith;
-      aligned = omega arith;
-      keeps = λ w at label global addresses world globals near aligned stands. performs w at label global addresses f slots is world globals near stands;
-    }

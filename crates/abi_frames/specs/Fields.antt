@@ -1,5 +1,6 @@
 -- Instructions by numbers of registers, and numbers in registers.
-use Rattle.std.specs.Prelude.{ℕ, ◌+◌, ◌/◌, ◌%◌, ◌^◌, Bool, nat_eq, if◌then◌else◌, List, [], ◌∷◌, ◌++◌}
+use Rattle.std.specs.Prelude.{ℕ, zero, suc, ◌+◌, ◌-◌, ◌*◌, ◌/◌, ◌%◌, ◌^◌, Bool, ◌&&◌, ◌||◌, nat_eq, nat_lt, if◌then◌else◌, List, [], ◌∷◌, ◌++◌}
+use Rattle.std.specs.Int.{trailing_zeros, w64}
 use Rattle.std.proofs.Common.{lit<, mod-lt}
 use Rattle.bits.specs.Words.{sign_extended}
 use Rattle.rv_isa.specs.declared.abi.TheConstants.{ZERO}
@@ -68,7 +69,7 @@ is_zero d a = Plain (Imm Sltiu (reg d) (reg a) (low 1))
 abbrev pub is_not_zero : (d a : ℕ) → Item
 is_not_zero d a = Plain (Reg Sltu (reg d) (reg ZERO) (reg a))
 
--- ---- numbers of 64 bits, as 20 bits and four times 11, none of which is read with a sign
+-- ---- numbers of 64 bits, one way: as 20 bits and four times 11, none of which is read with a sign
 
 -- the top 31 bits
 abbrev pub top_part : (d m : ℕ) → List Item
@@ -80,8 +81,8 @@ top_part d m =
 abbrev pub next_part : (d bits : ℕ) → List Item
 next_part d bits = shift_11 d ∷ add_low d d bits ∷ []
 
-abbrev pub long_constant : (d m : ℕ) → List Item
-long_constant d m =
+abbrev pub parted_constant : (d m : ℕ) → List Item
+parted_constant d m =
     top_part d m ++ (next_part d (m / 2 ^ 22 % 2 ^ 11)
     ++ (next_part d (m / 2 ^ 11 % 2 ^ 11) ++ next_part d (m % 2 ^ 11)))
 
@@ -101,6 +102,63 @@ lower_part d m = if nat_eq (m % 4096) 0 then [] else Plain (Addiw (reg d) (reg d
 
 abbrev pub word_constant : (d m : ℕ) → List Item
 word_constant d m = Plain (Lui (reg d) (high m)) ∷ lower_part d m
+
+-- ---- numbers of 64 bits, the other way: by a shift, and a sum with their low 12 bits, read with a
+-- sign
+
+-- a number that these bits are taken from, modulo 2^64
+abbrev pub without_low : ℕ → ℕ
+without_low m =
+    if nat_lt (m % 4096) 2048 then m - m % 4096 else (m + (4096 - m % 4096)) % 2 ^ 64
+
+-- by how much it is shifted: by the zeros at its end
+abbrev pub zeros_of : ℕ → ℕ
+zeros_of m = trailing_zeros w64 (without_low m)
+
+abbrev pub has_zeros : ℕ → Bool
+has_zeros m = nat_lt 0 (zeros_of m) && nat_lt (zeros_of m) 64
+
+-- what is shifted: what stands before the zeros, read with a sign
+abbrev pub before_zeros : ℕ → ℕ
+before_zeros m =
+    if nat_lt (without_low m) (2 ^ 63) then without_low m / 2 ^ zeros_of m % 2 ^ 64
+    else (without_low m / 2 ^ zeros_of m + (2 ^ 64 - (1 * 2 ^ (64 - zeros_of m)) % 2 ^ 64)) % 2 ^ 64
+
+abbrev pub left_of : ℕ → ℕ
+left_of m = if has_zeros m then before_zeros m else 0
+
+-- the shift makes it, and it is one
+abbrev pub is_shifted : ℕ → Bool
+is_shifted m =
+    has_zeros m && nat_eq ((left_of m * 2 ^ zeros_of m) % 2 ^ 64) (without_low m)
+
+-- that one or two instructions make
+abbrev pub is_near_number : ℕ → Bool
+is_near_number m = is_immediate m || is_word m
+
+abbrev pub near_constant : (d m : ℕ) → List Item
+near_constant d m =
+    if is_immediate m then add_low d ZERO m ∷ [] else word_constant d (m % 2 ^ 32)
+
+-- that so many shifts make
+abbrev pub is_made : (shifts m : ℕ) → Bool
+is_made zero m = is_near_number m
+is_made (suc k) m = is_near_number m || (is_shifted m && is_made k (left_of m))
+
+abbrev pub added : (d m : ℕ) → List Item
+added d m = if nat_eq (m % 4096) 0 then [] else add_low d d m ∷ []
+
+abbrev pub shifted_by : (d bits : ℕ) → Item
+shifted_by d bits = Plain (Shift Slli (reg d) (reg d) (amount bits))
+
+abbrev pub made_constant : (shifts d m : ℕ) → List Item
+made_constant zero d m = near_constant d m
+made_constant (suc k) d m =
+    if is_near_number m then near_constant d m
+    else made_constant k d (left_of m) ++ (shifted_by d (zeros_of m) ∷ added d m)
+
+unfoldable pub long_constant : (d m : ℕ) → List Item
+long_constant d m = if is_made 3 m then made_constant 3 d m else parted_constant d m
 
 -- the number into the register d
 abbrev pub constant : (d n : ℕ) → List Item

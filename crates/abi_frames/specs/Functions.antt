@@ -12,8 +12,7 @@ use Rattle.vcode.specs.declared.place.Extension.TheVariants.{Made}
 use Rattle.vcode.specs.declared.place.Operand.TheVariants.{At}
 use Rattle.il_ast.specs.declared.operation.Class.TheVariants.{L}
 use Rattle.vcode.specs.declared.code.Block.{Block}
-use Rattle.vcode.specs.declared.code.Code.{Code}
-use Rattle.abi_frames.specs.Layout.{layout, saved_registers, is_register}
+use Rattle.abi_frames.specs.Layout.{is_register}
 use Rattle.abi_frames.specs.declared.layout.Layout.{Layout}
 use Rattle.abi_frames.specs.Fields.{add_low, sum_to, load_8, constant}
 use Rattle.abi_frames.specs.Emission.{passed_items, store_slot, slot_offset, prologue, epilogue, blocks_items}
@@ -92,6 +91,3 @@ abbrev pub function_items : Layout → (saved : List ℕ) → List (Destination 
 function_items y rs params blocks =
     prologue y rs ++ (entry_items y params ++ (blocks_items y 0 blocks
     ++ (Label y.leave ∷ epilogue y rs)))
-
-abbrev pub frame_items : Code Location → (slots : ℕ) → List Item
-frame_items f slots = function_items (layout f slots) (saved_registers f) f.params f.blocks

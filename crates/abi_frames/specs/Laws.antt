@@ -9,7 +9,7 @@ use Rattle.vcode.specs.Places.{located}
 use Rattle.vcode.specs.Named.{keeps_places, is_place, are_near, are_distinct}
 use Rattle.vcode.specs.Regular.{IsRegular, code_weight}
 use Rattle.abi_frames.specs.Frames.{IsFrameOf}
-use Rattle.abi_frames.specs.Functions.{frame_items}
+use Rattle.abi_frames.specs.EarlyReturns.{early_return, frame_items, labels_with}
 
 -- the code of a function, with places as location code has them
 pub record IsCode (f : Code Location) (slots : ℕ) : Type 0 where
@@ -24,7 +24,11 @@ pub record IsCode (f : Code Location) (slots : ℕ) : Type 0 where
 abbrev pub FramesAreLabelled : Type 0
 FramesAreLabelled =
     (f : Code Location) (slots : ℕ) → IsCode f slots
-    → IsLabelled (record { items = frame_items f slots; labels = length f.blocks + 1 })
+    → IsLabelled
+    (record {
+      items = frame_items f slots;
+      labels = labels_with (length f.blocks) (early_return f slots);
+    })
 
 abbrev pub FramesAreSmall : Type 0
 FramesAreSmall =

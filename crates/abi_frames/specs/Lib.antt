@@ -10,3 +10,4 @@ pub mod Functions
 pub mod Laws
 pub mod Examples
 pub mod Frames
+pub mod EarlyReturns

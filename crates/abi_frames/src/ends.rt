@@ -96,7 +96,7 @@ pub(crate) fn push_prologue(
     push_saves(items, u64::from(layout.saves), saved)
 }
 
-fn push_way_back(items: &mut Vec<Item>, size: u64) -> Result<(), AllocError>
+pub(crate) fn push_way_back(items: &mut Vec<Item>, size: u64) -> Result<(), AllocError>
     ensures { OnOk result (items.new.items ≡ items.old.items ++ (raise_pointer size ++ (go_back ∷ []))) }
 {
     push_raising(items, size)?;

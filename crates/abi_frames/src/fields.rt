@@ -4,7 +4,7 @@ ghost use Rattle.rv_isa.specs.declared.labelled.Item.TheVariants.{Plain};
 ghost use Rattle.rv_isa.specs.declared.instruction.Instr.TheVariants.{Lui, Load, Shift, Addiw};
 ghost use Rattle.rv_isa.specs.declared.instruction.ShiftOp.TheVariants.{Srli};
 ghost use Rattle.vcode.specs.Addresses.{low};
-ghost use Rattle.abi_frames.specs.Fields.{reg, field, high, amount, word_amount, add_low, extend, sum_to, load_8, store_8, shift_11};
+ghost use Rattle.abi_frames.specs.Fields.{reg, field, high, amount, word_amount, add_low, extend, sum_to, load_8, store_8, shift_11, shifted_by};
 ghost use Rattle.abi_frames.specs.Emission.{load_to, store_from, store_at};
 
 use rv_isa::instruction::{ImmOp, Instr, LoadOp, RegOp, ShiftOp, StoreOp};
@@ -171,6 +171,18 @@ pub(crate) fn shift_by_11(to: u8) -> Item
         rd: register(to),
         rs1: register(to),
         amount: amount(11),
+    })
+}
+
+/// `slli` by so many bits.
+pub(crate) fn shift_by(to: u8, bits: u64) -> Item
+    ensures { result ≡ shifted_by to bits }
+{
+    Item::Plain(Instr::Shift {
+        op: ShiftOp::Slli,
+        rd: register(to),
+        rs1: register(to),
+        amount: amount(bits),
     })
 }
 

@@ -7,10 +7,12 @@ ghost use Rattle.vcode.specs.Regular.{area, alloc_bytes, passes_few, code_weight
 ghost use Rattle.flat_code.specs.Step.{flat_begin, flat_step};
 ghost use Rattle.abi_frames.specs.Layout.{layout, saved_registers, frame_bound, frame_size};
 ghost use Rattle.abi_frames.specs.Emission.{lines_items, jump_items, epilogue, block_items, blocks_items};
-ghost use Rattle.abi_frames.specs.Functions.{entry_items, function_items, frame_items};
+ghost use Rattle.abi_frames.specs.Functions.{entry_items, function_items};
+ghost use Rattle.abi_frames.specs.EarlyReturns.{test_items, quick_items, early_items, items_by, labels_with};
 ghost use Rattle.rv_isa.specs.declared.labelled.Item.TheVariants.{Label};
 ghost use Rattle.abi_frames.specs.Frames.{IsFrameOf};
 
+use crate::early::{EarlyReturn, early_return, push_quick, push_test};
 use crate::ends::{push_epilogue, push_prologue};
 use crate::entry::push_entry;
 use crate::jump::push_jump;
@@ -98,6 +100,88 @@ fn push_function(
     Ok(())
 }
 
+/// The test of a function that returns early, and the label of its frame's begin.
+fn push_test_and_label(
+    items: &mut Vec<Item>,
+    layout: &Layout,
+    early: &EarlyReturn,
+) -> Result<(), AllocError>
+    requires small { layout.now.leave < 2 ^ 63 }
+    ensures { OnOk result (items.new.items ≡ items.old.items ++ (test_items layout.now early.now ++ (Label (layout.now.leave + 2) ∷ []))) }
+{
+    push_test(items, layout, early)?;
+    items.push(Item::Label(layout.leave + 2))?;
+    Ok(())
+}
+
+/// An early return, behind its label.
+fn push_early_end(
+    items: &mut Vec<Item>,
+    layout: &Layout,
+    early: &EarlyReturn,
+) -> Result<(), AllocError>
+    requires small { layout.now.leave < 2 ^ 63 }
+    ensures { OnOk result (items.new.items ≡ items.old.items ++ (Label (layout.now.leave + 1) ∷ quick_items layout.now early.now.value)) }
+{
+    items.push(Item::Label(layout.leave + 1))?;
+    push_quick(items, layout, &early.value)
+}
+
+/// The code of a function that returns early on one way.
+fn push_early(
+    items: &mut Vec<Item>,
+    layout: &Layout,
+    saved: &[u8],
+    params: &[Destination<Location>],
+    blocks: &[Block<Location>],
+    early: &EarlyReturn,
+) -> Result<(), AllocError>
+    requires room { sum_by (λ b. sum_by alloc_bytes b.lines) blocks.now ≤ ALLOC_BYTES }
+    requires calls { IsTrue (list_all (λ b. list_all passes_few b.lines) blocks.now) }
+    requires few { length params.now ≤ 64 }
+    requires few_saved { length saved.now ≤ 13 }
+    requires small { layout.now.leave < 2 ^ 63 }
+    ensures { OnOk result (items.new.items ≡ items.old.items ++ early_items layout.now saved.now params.now blocks.now early.now) }
+{
+    push_test_and_label(items, layout, early)?;
+    push_function(items, layout, saved, params, blocks)?;
+    push_early_end(items, layout, early)?;
+    Ok(())
+}
+
+/// The code of a function, which returns early on one way or on none.
+fn push_frame(
+    items: &mut Vec<Item>,
+    layout: &Layout,
+    saved: &[u8],
+    params: &[Destination<Location>],
+    blocks: &[Block<Location>],
+    early: &Option<EarlyReturn>,
+) -> Result<(), AllocError>
+    requires room { sum_by (λ b. sum_by alloc_bytes b.lines) blocks.now ≤ ALLOC_BYTES }
+    requires calls { IsTrue (list_all (λ b. list_all passes_few b.lines) blocks.now) }
+    requires few { length params.now ≤ 64 }
+    requires few_saved { length saved.now ≤ 13 }
+    requires small { layout.now.leave < 2 ^ 63 }
+    ensures { OnOk result (items.new.items ≡ items.old.items ++ items_by layout.now saved.now params.now blocks.now early.now) }
+{
+    match early {
+        Some(early) => push_early(items, layout, saved, params, blocks, early),
+        None => push_function(items, layout, saved, params, blocks),
+    }
+}
+
+/// How many labels the code has.
+fn labels(blocks: usize, early: &Option<EarlyReturn>) -> usize
+    requires { blocks < 2 ^ 63 }
+    ensures { result ≡ labels_with blocks early.now }
+{
+    match early {
+        None => blocks + 1,
+        Some(_) => blocks + 3,
+    }
+}
+
 #[tactic(auto, using(crate::proofs::Outgoing::few_outgoing, crate::proofs::Saving::few_saved_registers))]
 fn layout_of(function: &FlatFunc, saved: &[u8]) -> Layout
     requires { saved.now ≡ saved_registers function.now.located.code }
@@ -142,13 +226,15 @@ pub fn frame(alloc: Global, function: &FlatFunc) -> Result<LabelledCode, AllocEr
 {
     let saved = saved_registers(alloc, &function.located.code)?;
     let layout = layout_of(function, saved.as_slice());
+    let early = early_return(&function.located.code, layout.size);
     let mut items = Vec::new(alloc);
-    push_function(
+    push_frame(
         &mut items,
         &layout,
         saved.as_slice(),
         function.located.code.params.as_slice(),
         function.located.code.blocks.as_slice(),
+        &early,
     )?;
-    Ok(LabelledCode::new(items, function.located.code.blocks.len() + 1))
+    Ok(LabelledCode::new(items, labels(function.located.code.blocks.len(), &early)))
 }

@@ -110,7 +110,7 @@ fn push_ways(
     Ok(())
 }
 
-fn push_branch(
+pub(crate) fn push_branch(
     items: &mut Vec<Item>,
     layout: &Layout,
     next: usize,
@@ -131,7 +131,7 @@ fn push_branch(
     push_ways(items, layout, next, test, met, otherwise)
 }
 
-fn push_result(
+pub(crate) fn push_result(
     items: &mut Vec<Item>,
     layout: &Layout,
     returned: &ReturnValue<Location>,

@@ -12,6 +12,11 @@
 //! from block to block all of its turns may begin between two instructions: it does only if these are at most 40,000 (`turns`). A return goes to the one end of
 //! the frame, behind the last block, which may fall into it.
 //!
+//! Where the first block does nothing but test what was passed, and copy, and one of its ways does nothing but return, that way needs no frame (`early`,
+//! `specs/EarlyReturns.antt`): the test stands once more before the frame's begin and reads registers of arguments, and the early return behind the frame's end.
+//!
+//! A number of 64 bits is made from its upper part, shifted by the zeros at its end, and its low 12 bits, in at most eight instructions (`specs/Fields.antt`).
+//!
 //! What the code owes is `FramePromise` (`specs/Promise.antt`): in every world and wherever it stands, from every state that is ready for the call
 //! (`specs/Calls.antt`, by the integer calling convention of the RISC-V ELF psABI), the machine performs what the code on bytes runs (`specs/Performs.antt`), in
 //! at most 32 instructions for each unit of weight and 256 for each call, with at most 40,000 turns between two instructions; and it takes no more stack than the
@@ -29,6 +34,7 @@
 mod call;
 mod compare;
 mod copy;
+mod early;
 mod ends;
 mod entry;
 mod fields;

@@ -1,12 +1,12 @@
 //! Operands of lines: numbers, eight bytes of the frame, addresses.
 ghost use Rattle.std.specs.Prelude.{◌≡◌, ◌+◌, ◌-◌, ◌*◌, ◌%◌, ◌^◌, ◌<◌, nat_eq, if◌then◌else◌, [], ◌∷◌, ◌++◌, OnOk};
 ghost use Rattle.vcode.specs.Cost.{is_immediate};
-ghost use Rattle.abi_frames.specs.Fields.{top_part, next_part, long_constant, constant, high, reg, add_low, extend, word, is_word, word_constant};
+ghost use Rattle.abi_frames.specs.Fields.{top_part, next_part, parted_constant, without_low, zeros_of, has_zeros, before_zeros, left_of, is_shifted, is_near_number, near_constant, is_made, made_constant, shifted_by, added, long_constant, constant, high, reg, add_low, extend, word, is_word, word_constant};
 ghost use Rattle.abi_frames.specs.Emission.{far_load, load_slot, far_store, store_slot, address_at, slot_offset, with_name, name_into, into, fetch, source, word_into, target, deliver};
 
 use crate::fields::{
-    add, add_immediate, add_word, extend_word, halve, load, load_upper, register, shift_by_11,
-    store, upper_field,
+    add, add_immediate, add_word, extend_word, halve, load, load_upper, register, shift_by,
+    shift_by_11, store, upper_field,
 };
 use crate::layout::Layout;
 use rv_isa::abi;
@@ -35,8 +35,8 @@ fn push_part(items: &mut Vec<Item>, to: u8, bits: u64) -> Result<(), AllocError>
     Ok(())
 }
 
-fn push_long_constant(items: &mut Vec<Item>, to: u8, number: u64) -> Result<(), AllocError>
-    ensures { OnOk result (items.new.items ≡ items.old.items ++ long_constant to number) }
+fn push_parted_constant(items: &mut Vec<Item>, to: u8, number: u64) -> Result<(), AllocError>
+    ensures { OnOk result (items.new.items ≡ items.old.items ++ parted_constant to number) }
 {
     push_top(items, to, number)?;
     push_part(items, to, number / 0x40_0000 % 0x800)?;
@@ -75,6 +75,130 @@ fn is_word(number: u64) -> bool
     ensures { result ≡ is_word number }
 {
     word(number) == number
+}
+
+/// The number without its low 12 bits, read with a sign.
+fn without_low(number: u64) -> u64
+    ensures { result ≡ without_low number }
+{
+    let low = number % 4096;
+    if low < 2048 {
+        number - low
+    } else {
+        number.wrapping_add(4096 - low)
+    }
+}
+
+/// How many zeros stand at its end.
+fn zeros_of(number: u64) -> u32
+    ensures { result ≡ zeros_of number }
+{
+    without_low(number).trailing_zeros()
+}
+
+/// Is it a number with zeros at its end that are shifted in?
+fn has_zeros(number: u64) -> bool
+    ensures { result ≡ has_zeros number }
+{
+    let zeros = zeros_of(number);
+    0 < zeros && zeros < 64
+}
+
+/// What stands before the zeros, read with a sign.
+fn before_zeros(number: u64) -> u64
+    requires some { 0 < zeros_of number }
+    requires few { zeros_of number < 64 }
+    ensures { result ≡ before_zeros number }
+{
+    let rest = without_low(number);
+    let zeros = zeros_of(number);
+    if rest < 0x8000_0000_0000_0000 {
+        rest >> zeros
+    } else {
+        (rest >> zeros).wrapping_sub(1_u64 << (64 - zeros))
+    }
+}
+
+fn left_of(number: u64) -> u64
+    ensures { result ≡ left_of number }
+{
+    if has_zeros(number) {
+        before_zeros(number)
+    } else {
+        0
+    }
+}
+
+/// Does the shift of what is left make it?
+fn is_shifted(number: u64) -> bool
+    ensures { result ≡ is_shifted number }
+{
+    has_zeros(number) && left_of(number) << zeros_of(number) == without_low(number)
+}
+
+/// Do one or two instructions make it?
+fn is_near_number(number: u64) -> bool
+    ensures { result ≡ is_near_number number }
+{
+    has_12_bits(number) || is_word(number)
+}
+
+fn push_near(items: &mut Vec<Item>, to: u8, number: u64) -> Result<(), AllocError>
+    ensures { OnOk result (items.new.items ≡ items.old.items ++ near_constant to number) }
+{
+    if has_12_bits(number) {
+        items.push(add_immediate(to, abi::ZERO, number))?;
+    } else {
+        push_word_constant(items, to, number % 0x1_0000_0000)?;
+    }
+    Ok(())
+}
+
+/// Do so many shifts make it?
+fn is_made(number: u64, shifts: u32) -> bool
+    ensures { result ≡ is_made shifts number }
+{
+    if is_near_number(number) {
+        return true;
+    }
+    if shifts == 0 || !is_shifted(number) {
+        return false;
+    }
+    is_made(left_of(number), shifts - 1)
+}
+
+/// The shift, and the low 12 bits.
+fn push_shift(items: &mut Vec<Item>, to: u8, number: u64) -> Result<(), AllocError>
+    ensures { OnOk result (items.new.items ≡ items.old.items ++ (shifted_by to (zeros_of number) ∷ added to number)) }
+{
+    items.push(shift_by(to, u64::from(zeros_of(number))))?;
+    if number % 4096 != 0 {
+        items.push(add_immediate(to, to, number))?;
+    }
+    Ok(())
+}
+
+fn push_made(items: &mut Vec<Item>, to: u8, number: u64, shifts: u32) -> Result<(), AllocError>
+    ensures { OnOk result (items.new.items ≡ items.old.items ++ made_constant shifts to number) }
+{
+    if shifts == 0 || is_near_number(number) {
+        push_near(items, to, number)?;
+    } else {
+        push_made(items, to, left_of(number), shifts - 1)?;
+        push_shift(items, to, number)?;
+    }
+    Ok(())
+}
+
+#[tactic(auto, unfolding(crate::specs::Fields::long_constant))]
+fn push_long_constant(items: &mut Vec<Item>, to: u8, number: u64) -> Result<(), AllocError>
+    ensures { OnOk result (items.new.items ≡ items.old.items ++ long_constant to number) }
+{
+    if is_made(number, 3) {
+        push_made(items, to, number, 3)
+    } else {
+        push_parted_constant(items, to, number)
+    }
 }
 
 /// A number that has no 12 bits.

@@ -26,7 +26,7 @@ fn turns_of(line: &Line<Location>) -> u64
     }
 }
 
-fn lines_turns(lines: &[Line<Location>]) -> u64
+pub(crate) fn lines_turns(lines: &[Line<Location>]) -> u64
     requires { sum_by turns_of lines.now ≤ TURN_BOUND }
     ensures { result ≡ sum_by turns_of lines.now }
 {

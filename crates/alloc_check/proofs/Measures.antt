@@ -1,5 +1,5 @@
--- Location code that a certificate makes, and code with every register in a slot, keeps the virtual code: it has the same parameters and result, weighs and takes the
--- same, and runs alike.
+-- Location code that a certificate makes, and code with every register in a slot, keeps the virtual code: it has the same parameters and result, and runs alike.
+-- With every register in a slot it also weighs and takes the same.
 use Rattle.std.proofs.Common.{◌≡◌, ℕ, ◌+◌, ◌*◌, ◌-◌, Bool, true, false, ◌&&◌, List, [], ◌∷◌, map, refl, ◌∙◌, ap, arith}
 use Rattle.std.specs.Prelude.{max}
 use Rattle.std.specs.List.{sum_by}
@@ -20,7 +20,7 @@ use Rattle.vcode.specs.Regular.{area, weight_of, code_weight}
 use Rattle.certificates.specs.declared.certificate.Certificate.{Certificate}
 use Rattle.alloc_check.specs.Placed.{Layout, placed_argument, placed_destination, placed_line, placed_block, in_slots}
 use Rattle.alloc_check.specs.Certified.{certified_params, placed_by, params_placed, is_sound}
-use Rattle.alloc_check.proofs.Certifies.{weight_same, weighs_same}
+use Rattle.alloc_check.proofs.Certifies.{weight_same}
 use Rattle.alloc_check.proofs.InSlots.{slots_keep}
 use Rattle.alloc_check.proofs.Regular.{map_length, sum_map, area_same}
 use Rattle.alloc_check.proofs.Sound.{sound_keeps}
@@ -48,11 +48,9 @@ first_true false b h = absurd (let no : ⊥ = cc in no)
 
 pub certified_keeps : (v : Code ℕ) (c : Certificate) → is_sound v c ≡ true → Keeps (coded virtual v) (coded located (placed_by v c))
 certified_keeps v c sound =
-    let weight = weighs_same v c in
     record {
       params = certified_classes v.params c.params (first_true (params_placed v.params c.params) _ sound);
       result = refl;
-      weight = omega (arith, weight);
       runs = sound_keeps v c sound;
     }
 
@@ -79,11 +77,9 @@ slots_weigh_same v =
 
 pub in_slots_keeps : (v : Code ℕ) → Keeps (coded virtual v) (coded located (in_slots v))
 in_slots_keeps v =
-    let weight = slots_weigh_same v in
     record {
       params = slot_classes v.params;
       result = refl;
-      weight = omega (arith, weight);
       runs = slots_keep v;
     }
 

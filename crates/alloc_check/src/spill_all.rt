@@ -5,6 +5,7 @@ ghost use Rattle.alloc_check.specs.Placed.{placed_line, placed_block, placed_des
 ghost use Rattle.il_ast.specs.Passes.{Keeps};
 ghost use Rattle.vcode.specs.Coded.{virtual_code, location_code};
 ghost use Rattle.vcode.specs.Outgoing.{frame_bound};
+ghost use Rattle.vcode.specs.Regular.{code_weight};
 
 use crate::placing::{SlotForEach, destination, jump, line};
 use il_ast::list::Seq;
@@ -77,8 +78,8 @@ fn code_in_slots(alloc: Global, code: &Code<u32>) -> Result<Code<Location>, Allo
     })
 }
 
-/// The function with virtual register i in slot i, everywhere. It has as many slots as the function has registers, goes as the virtual code does, and takes as
-/// much of the stack.
+/// The function with virtual register i in slot i, everywhere. It has as many slots as the function has registers, goes as the virtual code does, takes as
+/// much of the stack, and weighs as much.
 ///
 /// # Errors
 ///
@@ -88,6 +89,7 @@ pub fn spill_all(alloc: Global, function: &VFunc) -> Result<LFunc, AllocError>
     ensures slots { IfOk result (λ l. l.slots ≡ function.now.registers) }
     ensures kept { IfOk result (λ l. Keeps (virtual_code function.now) (location_code l)) }
     ensures takes { IfOk result (λ l. frame_bound l.code l.slots ≡ frame_bound function.now.code function.now.registers) }
+    ensures light { IfOk result (λ l. code_weight l.code ≡ code_weight function.now.code) }
 {
     let code = code_in_slots(alloc, &function.code)?;
     Ok(LFunc {

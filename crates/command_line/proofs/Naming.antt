@@ -7,10 +7,10 @@ use Rattle.clap.specs.Facts.{explicit_source}
 use Rattle.clap.specs.Takes.{is_given}
 use Rattle.clap.specs.Faults.{built_fault, check_fault, defaults_fault, entered_fault, fault_of, settle_fault, walk_fault}
 use Rattle.clap.specs.Kinds.{Kinds, check_kinds, or_else}
-use Rattle.clap.specs.Simple.{App, Shape, argument_words, built, built_leaf, entered, inherited, label_of, marked_built, names_of, with_leaf_noted, rows_at, subcommand_of}
+use Rattle.clap.specs.Simple.{App, Shape, argument_words, built, entered, label_of, names_of, rows_at, subcommand_of}
 use Rattle.clap.specs.Walk.{Row, Text, answers_to, finished, nothing_held, settled, stop_after, walk, walk_from}
 use Rattle.command_line.specs.Asked.{AsksFor, AsksIn}
-use Rattle.command_line.specs.Grammar.{build_app, dis_app, interp_app, qbec_app, run_app}
+use Rattle.command_line.specs.Grammar.{qbec_app}
 
 -- ---- where a command has to be named, words without a fault name one
 
@@ -42,42 +42,39 @@ unnamed a words wants clean none =
     unmet a.top (finished rules held) _ (ap is_some none) wants
     (rest_is_none defaults checked (rest_is_none settles _ (rest_is_none below _ (rest_is_none walks _ clean))))
 
--- ---- the name is one of the four
+-- ---- the name is that of a command
 
 pick : (found : Bool) (x : Shape) (rest : Option Shape) (words : List Text) (p : Text × List Row) → option_map (λ s. rows_at s words) (if found then Some x else rest) ≡ Some p
     → (p.0 ≡ x.name) ⊎ (option_map (λ s. rows_at s words) rest ≡ Some p)
 pick true x rest words p e = inl (sym (ap (λ (o : Option (Text × List Row)). option_map_or (λ r. r.0) o []) e))
 pick false x rest words p e = inr e
 
-one_of_four : (test : Shape → Bool) (a b c d : Shape) (words : List Text) (p : Text × List Row) → option_map (λ s. rows_at s words) (find test (a ∷ b ∷ c ∷ d ∷ [])) ≡ Some p
-    → (p.0 ≡ a.name) ⊎ ((p.0 ≡ b.name) ⊎ ((p.0 ≡ c.name) ⊎ (p.0 ≡ d.name)))
-one_of_four test a b c d words p e = elim (pick (test a) a (find test (b ∷ c ∷ d ∷ [])) words p e) [
-  | inl is ↦ inl is
-  | inr e1 ↦ elim (pick (test b) b (find test (c ∷ d ∷ [])) words p e1) [
-    | inl is ↦ inr (inl is)
-    | inr e2 ↦ elim (pick (test c) c (find test (d ∷ [])) words p e2) [
-      | inl is ↦ inr (inr (inl is))
-      | inr e3 ↦ elim (pick (test d) d None words p e3) [
-        | inl is ↦ inr (inr (inr is))
-        | inr e4 ↦ cc
-      ]
-    ]
-  ]
-]
+abbrev NamesOneOf : List Shape → Text → Type 0
+NamesOneOf [] name = ⊥
+NamesOneOf (s ∷ rest) name = (name ≡ s.name) ⊎ NamesOneOf rest name
 
--- a command below the program, as it is built
-abbrev leaf : Shape → Shape
-leaf s = built_leaf (inherited (with_leaf_noted (marked_built qbec_app.top)) s)
+one_of : (test : Shape → Bool) (shapes : List Shape) (words : List Text) (p : Text × List Row) → option_map (λ s. rows_at s words) (find test shapes) ≡ Some p → NamesOneOf shapes p.0
+one_of test [] words p e = cc
+one_of test (x ∷ rest) words p e = elim (pick (test x) x (find test rest) words p e) [
+  | inl is ↦ inl is
+  | inr later ↦ inr (one_of test rest words p later)
+]
 
 named : (stop : Option (Text × List Text)) (p : Text × List Row) → entered (built qbec_app) stop ≡ Some p → AsksFor p.0 p.1 None → ⊥
 named None p e h = cc
-named (Some q) p e h = elim (one_of_four (λ s. answers_to q.0 (label_of s)) (leaf build_app.top) (leaf run_app.top) (leaf interp_app.top) (leaf dis_app.top) q.1 p e) [
+named (Some q) p e h = elim (one_of (λ s. answers_to q.0 (label_of s)) (built qbec_app).subs q.1 p e) [
   | inl is ↦ h.0 is
-  | inr rest ↦ elim rest [
+  | inr run ↦ elim run [
     | inl is ↦ h.1 is
-    | inr rest2 ↦ elim rest2 [
+    | inr interp ↦ elim interp [
       | inl is ↦ h.2 is
-      | inr is ↦ h.3 is
+      | inr dis ↦ elim dis [
+        | inl is ↦ h.3 is
+        | inr check ↦ elim check [
+          | inl is ↦ h.4 is
+          | inr none ↦ absurd none
+        ]
+      ]
     ]
   ]
 ]

@@ -66,6 +66,13 @@ fn interpret_of<'a>(alloc: Global, found: &ArgMatches<'a>) -> Result<Command<'a>
     })
 }
 
+fn check_of<'a>(alloc: Global, found: &ArgMatches<'a>) -> Result<Command<'a>, AllocError>
+    ensures { IfOk result (Asks (codes "check") (rows_of (found_of found.now))) }
+{
+    let files = words_of(alloc, found, FILES)?;
+    Ok(Command::Check { files })
+}
+
 /// What the subcommand of this name asks for, with the values of its arguments; none where no command has the name.
 ///
 /// # Errors
@@ -85,6 +92,7 @@ pub fn asked<'a>(
         "dis" => Ok(Some(Command::Disassemble {
             file: word_of(found, EXECUTABLE),
         })),
+        "check" => Ok(Some(check_of(alloc, found)?)),
         _ => Ok(None),
     }
 }

@@ -1,6 +1,6 @@
 //! The grammar of the command line.
 ghost use Rattle.std.specs.Prelude.{IfOk};
-ghost use Rattle.command_line.specs.Grammar.{IsRead, IsRuled, build_app, dis_app, executables_app, files_rule, interp_app, limit_rule, out_rule, path_rule, program_app, qbec_app, run_app, running_app, words_rule};
+ghost use Rattle.command_line.specs.Grammar.{IsRead, IsRuled, build_app, check_app, dis_app, executables_app, files_rule, interp_app, limit_rule, out_rule, path_rule, program_app, qbec_app, run_app, running_app, words_rule, working_app};
 
 use clap::{Arg, Command, value_parser};
 use std::alloc::{AllocError, Global};
@@ -20,7 +20,7 @@ pub(crate) const WORDS: &str = "WORDS";
 
 /// What stands below the help of the program and of its commands.
 const STATUSES: &str =
-    "Exit status: the program's own of run and interp, 0 of build and dis; 134 where the program halts, 124 at the limit, 125 where it faults, is undefined or runs out of stack, 126 where qbec refuses or can't go on. Each but the program's own comes with a line on standard error that says why.
+    "Exit status: the program's own of run and interp, 0 of build, dis and check; 134 where the program halts, 124 at the limit, 125 where it faults, is undefined or runs out of stack, 126 where qbec refuses or can't go on. Each but the program's own comes with a line on standard error that says why.
 
 Example: qbec build -o hello examples/hello.ssa && qbec run hello";
 
@@ -43,9 +43,21 @@ const DISASSEMBLE: &str = "Exit status: 0, or 126 where EXE is refused.
 
 Example: qbec dis hello";
 
+const CHECK: &str =
+    "Exit status: 0 where the texts are a program, 126 where they are none or a file can't be read. Standard error has a line for each refusal and each warning, with its file and its line; docs/LANGUAGE.md explains the codes at their ends.
+
+Example: qbec check examples/hello.ssa";
+
 /// What the program takes.
 pub(crate) fn grammar<'a>(alloc: Global) -> Result<Command<'a>, AllocError>
     ensures { IfOk result (λ c. IsRead c qbec_app) }
+{
+    working(alloc)?.subcommand(check(alloc)?)
+}
+
+/// The program, with the commands that make, run and show programs.
+fn working<'a>(alloc: Global) -> Result<Command<'a>, AllocError>
+    ensures { IfOk result (λ c. IsRead c working_app) }
 {
     executables(alloc)?
         .subcommand(interp(alloc)?)?
@@ -126,6 +138,15 @@ fn dis<'a>(alloc: Global) -> Result<Command<'a>, AllocError>
         .about("Shows the instructions of an executable file")
         .after_help(DISASSEMBLE)
         .arg(path(alloc, EXECUTABLE, "The executable file"))
+}
+
+fn check<'a>(alloc: Global) -> Result<Command<'a>, AllocError>
+    ensures { IfOk result (λ c. IsRead c check_app) }
+{
+    Command::new(alloc, "check")
+        .about("Says what is wrong with texts, and where")
+        .after_help(CHECK)
+        .arg(files(alloc))
 }
 
 fn out<'a>(alloc: Global) -> Arg<'a>

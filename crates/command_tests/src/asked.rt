@@ -19,6 +19,10 @@ fn shown(alloc: Global, command: &Command<'_>) -> Result<String, AllocError> {
             format!(in alloc; "interp {limit} {file} {count}")
         }
         Command::Disassemble { file } => format!(in alloc; "dis {file}"),
+        Command::Check { files } => {
+            let count = files.len();
+            format!(in alloc; "check {count}")
+        }
     }
 }
 
@@ -47,6 +51,8 @@ fn words_ask_for_commands(rt: HostRuntime) -> Result<(), Fail> {
         ("interp --limit 1000000000001 m.ssa", "mistake"),
         ("dis a", "dis a"),
         ("dis a b", "mistake"),
+        ("check x.ssa y.ssa", "check 2"),
+        ("check", "mistake"),
         ("--version", "help"),
         ("run --help", "help"),
         ("go", "mistake"),

@@ -43,6 +43,11 @@ fn commands_want_memory_or_answer(rt: HostRuntime) -> Result<(), Fail> {
         ("interp seven", "7||"),
         ("interp cut", "126||qbec: refused E1 text 1 line 4\n"),
         ("dis seven", "126||qbec: refused L1\n"),
+        ("check seven", "0||"),
+        (
+            "check seven cut",
+            "126||cut:4: error: the text ends here, and isn't whole [E1]\n",
+        ),
     ] {
         let text = shown(rt.alloc(), &mut files, words)?;
         let refusals = [

@@ -2,3 +2,4 @@ pub mod Refusing
 pub mod Telling
 pub mod Holding
 pub mod Making
+pub mod Judging

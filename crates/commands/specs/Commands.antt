@@ -3,7 +3,7 @@
 use Rattle.std.specs.Prelude.{◌≡◌, ◌⊎◌, ℕ, List, map}
 use Rattle.command_line.specs.Words.{AskFor, SaysWhy}
 use Rattle.command_line.specs.declared.Command.{Command}
-use Rattle.command_line.specs.declared.Command.TheVariants.{Build, Run, Interpret, Disassemble}
+use Rattle.command_line.specs.declared.Command.TheVariants.{Build, Run, Interpret, Disassemble, Check}
 use Rattle.command_line.specs.declared.refusal.Refusal.{Refusal as CommandRefusal}
 use Rattle.command_line.specs.declared.refusal.Refusal.TheVariants.{Help, Mistake, Memory as NoRoom}
 use Rattle.shell.specs.Disk.{DiskState}
@@ -11,19 +11,33 @@ use Rattle.shell.specs.Sink.{SinkState, Sends, Breaks, Tells}
 use Rattle.commands.specs.declared.failure.Failure.{Failure}
 use Rattle.commands.specs.declared.failure.Failure.TheVariants.{Memory, Output}
 use Rattle.commands.specs.Messages.{line_of}
-use Rattle.commands.specs.Parts.{IsBuilt, BuildFails, RunsTo, RunFails, MeansTo, InterpretFails, IsDisassembled, DisassemblyFails}
+use Rattle.commands.specs.Parts.{IsBuilt, BuildFails, RunsTo, RunFails, MeansTo, InterpretFails, IsDisassembled, DisassemblyFails, IsChecked, CheckFails}
 use Rattle.commands.specs.Statuses.{status_of}
 
--- it was done, with this status, and no call of the disk or of standard output failed
-abbrev pub Done : Command → (disk after : DiskState) (old new : SinkState) (status : ℕ) → Type 0
-Done (Build out files) disk after old new status =
-    (status ≡ 0) × IsBuilt disk after (map (λ p. p.now) files.items) out.now × (new ≡ old)
-Done (Run limit file words) disk after old new status =
-    RunsTo disk file.now (map (λ w. w.now) words.items) limit old new status × (after ≡ disk)
-Done (Interpret limit file words) disk after old new status =
-    MeansTo disk file.now (map (λ w. w.now) words.items) limit old new status × (after ≡ disk)
-Done (Disassemble file) disk after old new status =
-    (status ≡ 0) × IsDisassembled disk file.now old new × (after ≡ disk)
+-- what a disk and the two streams tell at one time
+pub record World : Type 0 where
+  pub disk : DiskState
+  pub out : SinkState
+  pub err : SinkState
+
+-- it was done, with this status, and no call of the disk or of standard output failed; but for
+-- what is found by a check, nothing went to standard error
+abbrev pub Done : Command → (old new : World) → (status : ℕ) → Type 0
+Done (Build out files) old new status =
+    (status ≡ 0) × IsBuilt old.disk new.disk (map (λ p. p.now) files.items) out.now
+    × (new.out ≡ old.out) × (new.err ≡ old.err)
+Done (Run limit file words) old new status =
+    RunsTo old.disk file.now (map (λ w. w.now) words.items) limit old.out new.out status
+    × (new.disk ≡ old.disk) × (new.err ≡ old.err)
+Done (Interpret limit file words) old new status =
+    MeansTo old.disk file.now (map (λ w. w.now) words.items) limit old.out new.out status
+    × (new.disk ≡ old.disk) × (new.err ≡ old.err)
+Done (Disassemble file) old new status =
+    (status ≡ 0) × IsDisassembled old.disk file.now old.out new.out
+    × (new.disk ≡ old.disk) × (new.err ≡ old.err)
+Done (Check files) old new status =
+    IsChecked old.disk (map (λ p. p.now) files.items) old.err new.err status
+    × (new.disk ≡ old.disk) × (new.out ≡ old.out)
 
 -- it failed so
 abbrev pub Fails : Command → (disk after : DiskState) (old new : SinkState) → Failure → Type 0
@@ -34,6 +48,8 @@ Fails (Run limit file words) disk after old new f =
 Fails (Interpret limit file words) disk after old new f =
     InterpretFails disk after file (map (λ w. w.now) words.items) limit old new f
 Fails (Disassemble file) disk after old new f = DisassemblyFails disk after file old new f
+Fails (Check files) disk after old new f =
+    CheckFails disk after (map (λ p. p.now) files.items) f × (new ≡ old)
 
 -- the line of this failure went to standard error, or a beginning of it where that failed; and the
 -- status is the failure's
@@ -61,19 +77,11 @@ IsShown (Help text) old new before after status = IsHelp old new before after st
 IsShown (Mistake text) old new before after status = IsMistake before after status × (new ≡ old)
 IsShown NoRoom old new before after status = Reported Memory before after status × (new ≡ old)
 
--- what a disk and the two streams tell at one time
-pub record World : Type 0 where
-  pub disk : DiskState
-  pub out : SinkState
-  pub err : SinkState
-
--- the command that the words ask for was done, with its status, and nothing went to standard error;
--- or it failed, and that is reported; or the words ask for none, a text that says so was shown, and
+-- the command that the words ask for was done, with its status; or it failed, and that is reported; or the words ask for none, a text that says so was shown, and
 -- no call of the disk failed and no file changed
 unfoldable pub Ends : (words : List (List ℕ)) (old new : World) → (status : ℕ) → Type 0
 Ends words old new status =
-    ((c : Command) × AskFor words c × Done c old.disk new.disk old.out new.out status
-    × (new.err ≡ old.err))
+    ((c : Command) × AskFor words c × Done c old new status)
     ⊎ ((c : Command) × (f : Failure) × AskFor words c × Fails c old.disk new.disk old.out new.out f
     × Reported f old.err new.err status)
     ⊎ ((r : CommandRefusal) × SaysWhy words r × IsShown r old.out new.out old.err new.err status

@@ -3,5 +3,6 @@ pub mod Messages
 pub mod Examples
 pub mod Runs
 pub mod Refusals
+pub mod Verdicts
 pub mod Parts
 pub mod Commands

@@ -10,7 +10,7 @@ use Rattle.elf_file.specs.Loaded.{Executable}
 use Rattle.elf_file.specs.Conditions.{Loads, Refuses as RefusesFile}
 use Rattle.shell.specs.declared.disk.FileFault.TheVariants.{Device, Memory as NoRoom}
 use Rattle.shell.specs.Disk.{DiskState, Files, Holds, Spares, failed, with_fault}
-use Rattle.shell.specs.Sink.{SinkState, Sends, Breaks}
+use Rattle.shell.specs.Sink.{SinkState, Sends, Breaks, Tells}
 use Rattle.shell.specs.Lines.{dis_lines}
 use Rattle.qbec.specs.declared.error.CompileError.{CompileError}
 use Rattle.qbec.specs.Compile.{IsCompiled}
@@ -21,6 +21,8 @@ use Rattle.commands.specs.declared.failure.Failure.TheVariants.{Memory, Refused,
 use Rattle.commands.specs.Runs.{RunsFile, MeansText}
 use Rattle.commands.specs.Refusals.{compile_refusal, FileIsRefused, TextIsRefused}
 use Rattle.commands.specs.Statuses.{stop_status, end_status}
+use Rattle.commands.specs.declared.verdict.Verdict.{Verdict}
+use Rattle.commands.specs.Verdicts.{IsVerdict, verdict_status, verdict_lines}
 
 -- ---- files
 
@@ -181,3 +183,23 @@ DisassemblyFails disk after path old new f =
     × Holds disk.files path.now bytes × RefusesFile e bytes × (f ≡ Refused (File e))
     × (after ≡ disk) × (new ≡ old))
     ⊎ (IsCutShort disk path.now old new × (f ≡ Output) × (after ≡ disk))
+
+-- ---- check
+
+-- what is found of texts went to standard error, as far as that took it, and the status tells it
+pub record ShowsVerdict (paths texts : List (List ℕ)) (old new : SinkState) (status : ℕ) : Type 0 where
+  pub verdict : Verdict
+  pub is : IsVerdict texts verdict
+  pub told : Tells old new (concat (verdict_lines paths verdict))
+  pub tells : status ≡ verdict_status verdict
+
+-- the same of the texts in files
+pub record IsChecked (disk : DiskState) (paths : List (List ℕ)) (old new : SinkState)
+    (status : ℕ) : Type 0 where
+  pub texts : List (List ℕ)
+  pub held : AllHold disk.files paths texts
+  pub shows : ShowsVerdict paths texts old new status
+
+-- or a file is unread, or there was no memory, and no file changed
+unfoldable pub CheckFails : (old new : DiskState) → (paths : List (List ℕ)) → Failure → Type 0
+CheckFails old new paths f = MissesFile old new paths f ⊎ ((f ≡ Memory) × (new ≡ old))

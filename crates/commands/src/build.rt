@@ -1,44 +1,16 @@
 //! `qbec build`.
-ghost use Rattle.std.specs.Prelude.{◌≡◌, ◌⊎◌, map, Err, IfOk, OnOk, IfErr};
-ghost use Rattle.commands.specs.declared.failure.Failure.TheVariants.{Memory, Refused};
-ghost use Rattle.commands.specs.Parts.{AllHold, MissesFile, IsUnwritten, IsWritten, IsMade, MakingFails, IsBuilt, BuildFails};
+ghost use Rattle.std.specs.Prelude.{◌≡◌, map, Err, IfOk, OnOk, IfErr};
+ghost use Rattle.commands.specs.declared.failure.Failure.TheVariants.{Refused};
+ghost use Rattle.commands.specs.Parts.{IsUnwritten, IsWritten, IsMade, MakingFails, IsBuilt, BuildFails};
 ghost use Rattle.commands.specs.Refusals.{compile_refusal};
 
 use crate::failure::Failure;
-use crate::files::{read, write};
+use crate::files::{read_all, slices, write};
 use qbec::compile::compile;
 use qbec::error::CompileError;
 use regalloc::strategy::Strategy;
 use shell::disk::Disk;
-use std::alloc::{AllocError, Global};
-
-/// The bytes of all files, in order.
-fn read_all<'a, D: Disk>(
-    alloc: Global,
-    disk: &mut D,
-    paths: &[&'a str],
-) -> Result<Vec<Vec<u8>>, Failure<'a>>
-    ensures held { IfOk result (λ v. AllHold (D.told disk.old).files (map (λ p. p.now) paths.now) (map (λ t. t.items) v.items)) }
-    ensures same { OnOk result (D.told disk.new ≡ D.told disk.old) }
-    ensures fails { IfErr result (λ e. MissesFile (D.told disk.old) (D.told disk.new) (map (λ p. p.now) paths.now) e ⊎ ((e ≡ Memory) × (D.told disk.new ≡ D.told disk.old))) }
-{
-    let mut texts = Vec::new(alloc);
-    for path in paths {
-        let bytes = read(disk, *path)?;
-        texts.push(bytes)?;
-    }
-    Ok(texts)
-}
-
-fn slices(alloc: Global, texts: &[Vec<u8>]) -> Result<Vec<&[u8]>, AllocError>
-    ensures { IfOk result (λ v. map (λ t. t.now) v.items ≡ map (λ t. t.items) texts.now) }
-{
-    let mut slices = Vec::new(alloc);
-    for text in texts {
-        slices.push(text.as_slice())?;
-    }
-    Ok(slices)
-}
+use std::alloc::Global;
 
 /// Writes what was compiled to the file `out`. Where nothing was compiled, nothing is written.
 fn put_compiled<'a, D: Disk>(

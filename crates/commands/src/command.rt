@@ -1,11 +1,12 @@
 //! What the user asks for, done.
-ghost use Rattle.std.specs.Prelude.{◌≡◌, map, IfOk, IfErr};
+ghost use Rattle.std.specs.Prelude.{◌≡◌, map, IfOk, IfErr, OnErr};
 ghost use Rattle.shell.specs.Sink.{Tells};
 ghost use Rattle.commands.specs.Commands.{Done, Fails, Ends, IsHelp, IsMistake, IsShown};
 ghost use Rattle.commands.specs.Messages.{line_of};
 ghost use Rattle.commands.specs.Statuses.{status_of};
 
 use crate::build::build;
+use crate::check::check;
 use crate::disassemble::disassemble;
 use crate::failure::Failure;
 use crate::files::put_out;
@@ -66,14 +67,18 @@ fn show<O: Sink, E: Sink>(alloc: Global, refusal: Refusal, out: &mut O, err: &mu
     }
 }
 
-fn perform<'a, D: Disk, O: Sink>(
+fn perform<'a, D: Disk, O: Sink, E: Sink>(
     alloc: Global,
     command: &Command<'a>,
     allocator: &mut dyn Strategy,
     disk: &mut D,
     out: &mut O,
+    err: &mut E,
 ) -> Result<u8, Failure<'a>>
-    ensures done { IfOk result (Done command.now (D.told disk.old) (D.told disk.new) (O.told out.old) (O.told out.new)) }
+    ensures done { IfOk result (Done command.now
+        (record { disk = D.told disk.old; out = O.told out.old; err = E.told err.old })
+        (record { disk = D.told disk.new; out = O.told out.new; err = E.told err.new })) }
+    ensures silent { OnErr result (E.told err.new ≡ E.told err.old) }
     ensures fails { IfErr result (Fails command.now (D.told disk.old) (D.told disk.new) (O.told out.old) (O.told out.new)) }
 {
     match command {
@@ -87,6 +92,7 @@ fn perform<'a, D: Disk, O: Sink>(
             interpret(alloc, disk, out, *limit, *file, words.as_slice())
         }
         Command::Disassemble { file } => disassemble(alloc, disk, out, *file),
+        Command::Check { files } => check(alloc, disk, err, files.as_slice()),
     }
 }
 
@@ -98,8 +104,9 @@ fn perform<'a, D: Disk, O: Sink>(
 /// | `run [--limit N] EXE WORD...` | runs the executable file for at most N instructions |
 /// | `interp [--limit N] FILE WORD...` | interprets one text for at most N turns |
 /// | `dis EXE` | shows the instructions of the executable file |
+/// | `check FILE...` | says on `err` what is wrong with the files as texts, in order, each with its line |
 ///
-/// A program's output goes to `out`. The status is the program's own, or 0 of `build` and `dis`. Where something ends otherwise, the line of the [`Failure`] goes
+/// A program's output goes to `out`. The status is the program's own, or 0 of `build`, of `dis`, and of `check` where the texts are a program, else 126. Where something ends otherwise, the line of the [`Failure`] goes
 /// to `err`, and its status is answered; that `err` fails changes nothing. Where `out` fails, that is the failure. Help goes to `out`, with status 0; other texts of
 /// the command line go to `err`, with status 126. What these texts say is shown by tests.
 ///
@@ -120,7 +127,7 @@ pub fn command<D: Disk, O: Sink, E: Sink>(
         result }
 {
     match command_of(alloc, words) {
-        Ok(command) => match perform(alloc, &command, allocator, disk, out) {
+        Ok(command) => match perform(alloc, &command, allocator, disk, out, err) {
             Ok(status) => status,
             Err(failure) => report(failure, err),
         },

@@ -1,30 +1,17 @@
 //! `qbec dis`.
-ghost use Rattle.std.specs.Prelude.{◌≡◌, map, IfOk, OnOk, OnErr, IfErr};
+ghost use Rattle.std.specs.Prelude.{◌≡◌, IfOk, OnOk, IfErr};
 ghost use Rattle.std.specs.List.{concat};
-ghost use Rattle.std.specs.String.{string_bytes};
 ghost use Rattle.shell.specs.Lines.{dis_lines};
-ghost use Rattle.shell.specs.Sink.{Sends, Breaks};
-ghost use Rattle.commands.specs.declared.failure.Failure.TheVariants.{Output};
+ghost use Rattle.shell.specs.Sink.{Sends};
 ghost use Rattle.commands.specs.Parts.{ShowingFails, IsDisassembled, DisassemblyFails};
 
 use crate::failure::Failure;
-use crate::files::{put_out, read};
+use crate::files::{put_lines, read};
 use elf_file::{Loaded, read_image};
 use shell::dis_lines::dis_lines;
 use shell::disk::Disk;
 use shell::sink::Sink;
 use std::alloc::Global;
-
-fn put_lines<'a, O: Sink>(out: &mut O, lines: &[String]) -> Result<(), Failure<'a>>
-    ensures all { OnOk result (Sends (O.told out.old) (O.told out.new) (concat (map string_bytes lines.now))) }
-    ensures fault { IfErr result (λ e. e ≡ Output) }
-    ensures some { OnErr result (Breaks (O.told out.old) (O.told out.new) (concat (map string_bytes lines.now))) }
-{
-    for line in lines {
-        put_out(out, line.as_bytes())?;
-    }
-    Ok(())
-}
 
 /// Puts out the lines of a loaded file.
 fn show_lines<'a, O: Sink>(alloc: Global, file: &Loaded, out: &mut O) -> Result<(), Failure<'a>>

@@ -1,12 +1,13 @@
 //! # The commands of qbec
 //!
-//! [`command::command`] does what the words after the program's name ask for, over any files and streams, and answers the exit status: `build`, `run`, `interp`
-//! and `dis`, or help. It writes one line to standard error where something ends otherwise than well.
+//! [`command::command`] does what the words after the program's name ask for, over any files and streams, and answers the exit status: `build`, `run`, `interp`,
+//! `dis` and `check`, or help. It writes one line to standard error where something ends otherwise than well.
 //!
 //! - [`runs::run_file`] runs the executable file of some bytes, exactly as the machine of the definitions does.
 //! - [`runs::interpret_text`] interprets one text, exactly as its program means.
 //! - [`failure::Failure`] says why a command did not end well; its status is that of `specs/Statuses.antt`, and which failure a refusal becomes, and what
 //!   it says of the file or of the text, is that of `specs/Refusals.antt`.
+//! - [`verdict::judge`] finds what is wrong with texts, and where; what it says of them, and the lines that show it, is that of `specs/Verdicts.antt`.
 //! - [`tell::tell`] writes the line of a failure, byte by byte that of `specs/Messages.antt`.
 //!
 //! `specs/Parts.antt` says what each command does with what files hold, down to the bytes that go to standard output, and with which statuses and failures it ends;
@@ -15,6 +16,7 @@
 #![tactic(auto)]
 
 mod build;
+mod check;
 pub mod command;
 mod disassemble;
 pub mod failure;
@@ -24,3 +26,5 @@ pub mod refusal;
 mod run;
 pub mod runs;
 pub mod tell;
+pub mod verdict;
+mod verdict_lines;

@@ -109,7 +109,8 @@ impl Uses {
                 self.push_two(from, to, (where_read(from), where_read(to)))
             }
             Line::Call { callee, args, .. } => {
-                self.push(callee, where_read(callee))?;
+                // a call of a name jumps to its lower part
+                self.push(callee, where_copied(callee))?;
                 self.push_arguments(args.as_slice())
             }
         }

@@ -8,7 +8,7 @@ use test_report::report::Report;
 use vcode::place::Location;
 
 /// What the strategies answer.
-const ANSWERS: [Answer; 39] = [
+const ANSWERS: [Answer; 40] = [
     Answer::Nothing,
     Answer::Blank,
     Answer::Everywhere(Location::Register(0)),
@@ -36,6 +36,7 @@ const ANSWERS: [Answer; 39] = [
     Answer::OneList(List::Places, Cut::Empty),
     Answer::OtherSlots,
     Answer::EverySecondTime,
+    Answer::WrongEverySecondTime,
     Answer::OneInX5(0),
     Answer::OneInX5(1),
     Answer::OneInX5(2),

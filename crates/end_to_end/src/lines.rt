@@ -1,7 +1,8 @@
 //! Words of the command line, and what is shown for them.
 //!
 //! In `lines.cases` a line `$ WORDS` begins a case, the next one is the status, and the lines up to one that is a dot are what goes to standard output and then to
-//! standard error. Five files are there: the texts `seven` and `halts`, `made`, which the second is built to, `faults`, an executable whose one word is no instruction, and `exits`, one of three instructions.
+//! standard error. Lines behind `file PATH`, up to one that is a dot, are a file for the next case. Five files are there for each: the texts `seven` and `halts`, `made`, which the second is built to, `faults`, an executable whose one word is no instruction, and `exits`, one of three instructions.
+use crate::broken_disk::BrokenDisk;
 use crate::commanded::{Done, perform};
 use crate::devices::disk_of;
 use std::alloc::{AllocError, Global};
@@ -9,11 +10,12 @@ use std::rt::Files;
 use std::{fs, io, str};
 use test_report::report::Report;
 
-/// A case that is read: its words, and then its lines.
+/// The lines that are read: those of a case, or of a file for the next one.
 #[derive(Drop)]
-struct Shown {
-    words: String,
-    wanted: String,
+struct Lines {
+    disk: BrokenDisk,
+    first: String,
+    rest: String,
     is_open: bool,
 }
 
@@ -24,32 +26,53 @@ fn all_of(alloc: Global, done: &Done) -> Result<String, AllocError> {
     format!(in alloc; "{status}\n{output}{message}")
 }
 
-fn check_shown(shown: &Shown, report: &mut Report) -> Result<(), AllocError> {
+fn check_shown(
+    disk: &mut BrokenDisk,
+    words: &str,
+    wanted: &str,
+    report: &mut Report,
+) -> Result<(), AllocError> {
     let alloc = report.alloc;
-    report.begin(shown.words.as_str())?;
-    let mut disk = disk_of(alloc)?;
-    let words: Vec<&str> = shown.words.as_str().split_whitespace().collect(alloc)?;
-    let done = perform(alloc, &mut disk, words.as_slice())?;
+    report.begin(words)?;
+    let words: Vec<&str> = words.split_whitespace().collect(alloc)?;
+    let done = perform(alloc, disk, words.as_slice())?;
     let said = all_of(alloc, &done)?;
-    report.compare("shown", shown.wanted.as_str(), said.as_str())
+    report.compare("shown", wanted, said.as_str())
 }
 
-impl Shown {
+impl Lines {
     fn take(&mut self, line: &str, report: &mut Report) -> Result<(), AllocError> {
         if !self.is_open {
-            if let Some(words) = line.strip_prefix("$ ") {
-                self.words = String::from_str(report.alloc, words)?;
-                self.wanted = String::new(report.alloc);
-                self.is_open = true;
-            }
-            return Ok(());
+            return self.open(line, report.alloc);
         }
         if line == "." {
             self.is_open = false;
-            return check_shown(self, report);
+            return self.close(report);
         }
-        self.wanted.push_str(line)?;
-        self.wanted.push('\n')
+        self.rest.push_str(line)?;
+        self.rest.push('\n')
+    }
+
+    /// Begins a case or a file, where the line is the first of one.
+    fn open(&mut self, line: &str, alloc: Global) -> Result<(), AllocError> {
+        if line.starts_with("$ ") || line.starts_with("file ") {
+            self.first = String::from_str(alloc, line)?;
+            self.rest = String::new(alloc);
+            self.is_open = true;
+        }
+        Ok(())
+    }
+
+    /// Checks a case, or keeps a file.
+    fn close(&mut self, report: &mut Report) -> Result<(), AllocError> {
+        if let Some(path) = self.first.as_str().strip_prefix("file ") {
+            self.disk.store(path, self.rest.as_bytes())?;
+        }
+        if let Some(words) = self.first.as_str().strip_prefix("$ ") {
+            check_shown(&mut self.disk, words, self.rest.as_str(), report)?;
+            self.disk = disk_of(report.alloc)?;
+        }
+        Ok(())
     }
 }
 
@@ -57,13 +80,14 @@ impl Shown {
 pub fn check<R: Files + AllocGlobal>(rt: &R, report: &mut Report) -> io::Result<()> {
     let bytes = fs::read(rt, "lines.cases")?;
     let text = str::from_utf8(bytes.as_slice()).unwrap_or("");
-    let mut shown = Shown {
-        words: String::new(rt.alloc()),
-        wanted: String::new(rt.alloc()),
+    let mut lines = Lines {
+        disk: disk_of(rt.alloc())?,
+        first: String::new(rt.alloc()),
+        rest: String::new(rt.alloc()),
         is_open: false,
     };
     for line in text.lines() {
-        shown.take(line, report)?;
+        lines.take(line, report)?;
     }
     Ok(())
 }

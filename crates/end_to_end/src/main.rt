@@ -2,7 +2,7 @@
 //!
 //! The programs stand in `data/programs.cases`, with what is known of each from outside; `data/files.cases` has changes of an executable file, with their
 //! refusals, and `data/lines.cases` what is shown for words of the command line. The program prints a line for each case that fails, a line for each group, and how many cases there are. Without words it runs all groups; with
-//! words those that are named, of the table's and of these: `strategies`, `prefixes`, `files`, `lines`, `devices`, `random`. `random N SEED` runs N random programs.
+//! words those that are named, of the table's and of these: `strategies`, `prefixes`, `files`, `lines`, `devices`, `sizes`, `random`. `random N SEED` runs N random programs.
 #![tactic(auto)]
 
 mod branches;
@@ -22,6 +22,7 @@ mod programs;
 mod random;
 mod random_body;
 mod random_text;
+mod sizes;
 mod strategies;
 mod table;
 mod told;
@@ -106,6 +107,10 @@ fn check_rest(table: &CaseTable, asked: &Asked, report: &mut Report) -> Result<(
     if asked.has("devices") {
         report.enter("devices")?;
         devices::check(report)?;
+    }
+    if asked.has("sizes") {
+        report.enter("sizes")?;
+        sizes::check(report)?;
     }
     if asked.has("random") {
         report.enter("random")?;

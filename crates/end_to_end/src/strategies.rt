@@ -44,6 +44,8 @@ pub enum Answer {
     OtherSlots,
     /// the right slots, every second time; else nothing
     EverySecondTime,
+    /// the right slots, every second time; else, where a register is read, another slot than where it was written
+    WrongEverySecondTime,
     /// x5 for this register, over calls too, and slots for the others
     OneInX5(u32),
     /// x5 to x27, in turn by the register's number
@@ -299,14 +301,15 @@ fn certificate(
 impl Strategy for Fixed {
     fn choose(&mut self, function: &VFunc, live: &Live) -> Option<Certificate> {
         self.asked = self.asked.wrapping_add(1);
-        let is_nothing = match self.answer {
-            Answer::Nothing => true,
-            Answer::EverySecondTime => self.asked % 2 == 0,
-            _ => false,
+        let is_second = self.asked % 2 == 0;
+        let answer = match self.answer {
+            Answer::EverySecondTime if is_second => Answer::Nothing,
+            Answer::WrongEverySecondTime if is_second => Answer::OtherSlots,
+            answer => answer,
         };
-        if is_nothing {
-            return None;
+        match answer {
+            Answer::Nothing => None,
+            _ => certificate(self.alloc, answer, function, live).ok(),
         }
-        certificate(self.alloc, self.answer, function, live).ok()
     }
 }

@@ -1,20 +1,16 @@
 -- Passes compose: what keeps a function's code is the function's code.
-use Rattle.std.proofs.Common.{ℕ, ◌≤◌, List, ◌∙◌, subst, arith}
+use Rattle.std.proofs.Common.{List, ◌∙◌, subst}
 use Rattle.il_ast.specs.declared.operation.Class.{Class}
 use Rattle.il_ast.specs.declared.function.Func.{Func}
 use Rattle.il_ast.specs.Keeps.{KeepsCode}
 use Rattle.il_ast.specs.Passes.{Coded, Keeps, IsCodeOf, classes_of, body_of}
 use Rattle.il_ast.proofs.Simulated.{codes_compose, meaning_composes}
 
-least : (a b c : ℕ) → a ≤ b → b ≤ c → a ≤ c
-least a b c h k = omega (arith, h, k)
-
 pub keeps_compose : (a b c : Coded) → Keeps a b → Keeps b c → Keeps a c
 keeps_compose a b c h k =
     record {
       params = k.params ∙ h.params;
       result = k.result ∙ h.result;
-      weight = least c.weight b.weight a.weight k.weight h.weight;
       runs = λ globals.
           codes_compose a.params a.start (a.step globals) b.start (b.step globals) c.start (c.step globals) (h.runs globals)
           (subst (λ (cs : List Class). KeepsCode cs b.start (b.step globals) c.start (c.step globals)) h.params (k.runs globals));
@@ -25,7 +21,6 @@ passes_stay f a b is k =
     record {
       params = k.params ∙ is.params;
       result = k.result ∙ is.result;
-      weight = least b.weight a.weight _ k.weight is.weight;
       runs = λ globals.
           meaning_composes (classes_of f.params) (body_of f globals) a.start (a.step globals) b.start (b.step globals) (is.runs globals)
           (subst (λ (cs : List Class). KeepsCode cs a.start (a.step globals) b.start (b.step globals)) is.params (k.runs globals));

@@ -1,32 +1,29 @@
 -- The promise of every pass on code: what it makes keeps what it was given.
-use Rattle.std.specs.Prelude.{◌≡◌, ℕ, ◌≤◌, List, map, Option}
+use Rattle.std.specs.Prelude.{◌≡◌, List, map, Option}
 use Rattle.il_ast.specs.declared.operation.Class.{Class}
 use Rattle.il_ast.specs.declared.function.Param.{Param}
 use Rattle.il_ast.specs.declared.function.Func.{Func}
 use Rattle.il_ast.specs.declared.value.Value.{Value}
-use Rattle.il_ast.specs.Cost.{weight}
 use Rattle.il_ast.specs.Run.{Outcome, body}
 use Rattle.il_ast.specs.Logged.{Event}
 use Rattle.il_ast.specs.Keeps.{Asked, Given, Body, KeepsMeaning, KeepsCode}
 
--- A function's code, as passes see it: the classes of its parameters and of its result; the weight
--- of all that its text marks, each counted once; and how it runs, given its text's global names.
--- Nothing here bounds what it takes of the stack: that is tested once it has a frame.
+-- A function's code, as passes see it: the classes of its parameters and of its result, and how it
+-- runs, given its text's global names. Nothing here bounds what it takes of the stack, nor how long
+-- it is: that is tested once it has a frame and words.
 pub record Coded : Type 1 where
   pub State : Type 0
   pub params : List Class
   pub result : Option Class
-  pub weight : ℕ
   pub start : Given → State
   pub step : List Value → Given → State → Event State Asked Outcome
 
--- The second code keeps the first: it has the same parameters and result, weighs no more, and where
--- the first runs as an outcome that is not undefined, so does the second, with the same calls,
--- whatever the global names mean and however the calls go.
+-- The second code keeps the first: it has the same parameters and result, and where the first runs
+-- as an outcome that is not undefined, so does the second, with the same calls, whatever the global
+-- names mean and however the calls go.
 pub record Keeps (before after : Coded) : Type 0 where
   pub params : after.params ≡ before.params
   pub result : after.result ≡ before.result
-  pub weight : after.weight ≤ before.weight
   pub runs : (globals : List Value) → KeepsCode before.params before.start (before.step globals)
       after.start (after.step globals)
 
@@ -39,10 +36,9 @@ body_of f globals callees i =
     body (record { func = f; globals = globals }) callees i.turns i.room i.args i.memory
 
 -- The code is a function's: given arguments of its parameters' classes it runs as the function's
--- body, and it weighs no more than the function.
+-- body.
 pub record IsCodeOf (f : Func) (c : Coded) : Type 0 where
   pub params : c.params ≡ classes_of f.params
   pub result : c.result ≡ f.result
-  pub weight : c.weight ≤ weight f
   pub runs : (globals : List Value) → KeepsMeaning (classes_of f.params) c.start (c.step globals)
       (body_of f globals)

@@ -2,6 +2,7 @@ pub mod TextLemmas
 pub mod ProgramLemmas
 pub mod CodeLemmas
 pub mod PromotedFunctions
+pub mod Standing
 pub mod ExecutableBytes
 pub mod PromotedRuns
 pub mod FileLemmas

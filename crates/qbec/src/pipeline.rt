@@ -1,14 +1,15 @@
 //! The words of one function.
-ghost use Rattle.std.specs.Prelude.{◌≡◌, true, false, ◌+◌, ◌*◌, ◌≤◌, IfOk, length};
+ghost use Rattle.std.specs.Prelude.{◌≡◌, true, false, ◌+◌, ◌*◌, ◌≤◌, IfOk, IfSome, length};
 ghost use Rattle.alloc_check.specs.Accepted.{is_accepted};
 ghost use Rattle.alloc_check.specs.Certified.{placed_by};
 ghost use Rattle.alloc_check.specs.Placed.{in_slots};
-ghost use Rattle.il_ast.specs.Cost.{weight};
+ghost use Rattle.il_ast.specs.Cost.{need, weight};
 ghost use Rattle.il_ast.specs.Passes.{Keeps, IsCodeOf};
 ghost use Rattle.phi_copies.specs.Good.{IsGoodFunction};
+ghost use Rattle.abi_frames.specs.Layout.{frame_bound};
 ghost use Rattle.vcode.specs.Coded.{virtual_code, location_code};
 ghost use Rattle.qbec.specs.Promoted.{StandPromoted};
-ghost use Rattle.qbec.specs.Pipeline.{FitsIn, IsLocated, IsLaidOut};
+ghost use Rattle.qbec.specs.Pipeline.{IsLaidOut, StandWithin};
 
 use abi_frames::frame::{frame, frame_bound};
 use alloc_check::accept::{Refused, accept};
@@ -23,7 +24,7 @@ use dead_code::remove::remove_dead_code;
 use flat_code::function::{FlatFunc, flat};
 use hoisting::hoist::hoist;
 use il_ast::function::Func;
-use il_types::cost::capped_need;
+use il_types::cost::{capped_need, weight};
 use phi_copies::lower::lower;
 use promote::promote::promote;
 use propagation::propagate::propagate;
@@ -71,49 +72,7 @@ pub fn allocated(
     }
 }
 
-/// The function in virtual code as it is selected, with extensions of whole words as copies.
-fn selected(alloc: Global, func: &Func) -> Result<VFunc, AllocError>
-    requires { IsGoodFunction func.now }
-    ensures { IfOk result (λ v. IsCodeOf func.now (virtual_code v)) }
-{
-    let lowered = lower(alloc, func)?;
-    let selected = select(alloc, &lowered)?;
-    let copied = copy_whole_words(alloc, &selected)?;
-    Ok(copied)
-}
-
-/// What is known of registers is carried forward, computations of loops are done in front of them, and values that registers hold are used again.
-fn carried(alloc: Global, function: &VFunc) -> Result<VFunc, AllocError>
-    ensures { IfOk result (λ w. Keeps (virtual_code function.now) (virtual_code w)) }
-{
-    let propagated = propagate(alloc, function)?;
-    let hoisted = hoist(alloc, propagated)?;
-    let reused = reuse_values(alloc, hoisted)?;
-    let again = propagate(alloc, &reused)?;
-    Ok(again)
-}
-
-/// The passes along blocks: what is known of registers is carried forward, values are used again, dead lines go, and copies are read in place of what they are
-/// copies of.
-fn simplified(alloc: Global, function: &VFunc) -> Result<VFunc, AllocError>
-    ensures { IfOk result (λ w. Keeps (virtual_code function.now) (virtual_code w)) }
-{
-    let carried = carried(alloc, function)?;
-    let kept = remove_dead_code(alloc, &carried)?;
-    let copies = read_copies(alloc, &kept)?;
-    Ok(copies)
-}
-
-/// The passes over loops: their constants come into registers, and the blocks into an order that saves jumps.
-fn arranged(alloc: Global, function: &VFunc) -> Result<VFunc, AllocError>
-    ensures { IfOk result (λ w. Keeps (virtual_code function.now) (virtual_code w)) }
-{
-    let held = hoist_constants(alloc, function)?;
-    let ordered = order_blocks(alloc, &held)?;
-    Ok(ordered)
-}
-
-/// The function in virtual code: selected, simplified along its blocks, and arranged by its loops. A pass on virtual code has its place in one of these three.
+/// The function in virtual code, by all passes in their order. A pass on virtual code has its place here.
 ///
 /// # Errors
 ///
@@ -122,59 +81,18 @@ pub fn virtual_code_of(alloc: Global, func: &Func) -> Result<VFunc, AllocError>
     requires { IsGoodFunction func.now }
     ensures { IfOk result (λ v. IsCodeOf func.now (virtual_code v)) }
 {
-    let selected = selected(alloc, func)?;
-    let simplified = simplified(alloc, &selected)?;
-    let arranged = arranged(alloc, &simplified)?;
-    Ok(arranged)
-}
-
-/// By all passes, and as the strategy has it.
-fn optimized(
-    alloc: Global,
-    func: &Func,
-    allocator: &mut dyn Strategy,
-) -> Result<FlatFunc, AllocError>
-    requires { IsGoodFunction func.now }
-    ensures { IfOk result (λ f. IsLocated func.now f.located) }
-{
-    let function = virtual_code_of(alloc, func)?;
-    let placed = allocated(alloc, &function, allocator)?;
-    Ok(flat(placed))
-}
-
-/// As it is selected, with every register in a slot of its own: this takes no more of the stack than a call of the function is counted for.
-fn unoptimized(alloc: Global, func: &Func) -> Result<FlatFunc, AllocError>
-    requires { IsGoodFunction func.now }
-    ensures located { IfOk result (λ f. IsLocated func.now f.located) }
-    ensures fits { IfOk result (λ f. FitsIn func.now f.located) }
-{
     let lowered = lower(alloc, func)?;
     let selected = select(alloc, &lowered)?;
-    let placed = spill_all(alloc, &selected)?;
-    Ok(flat(placed))
-}
-
-/// The function in location code, to be read on bytes: by all passes and as the strategy has it, if its frame then takes at most the stack that a call of the
-/// function is counted for, else as it is selected, with every register in a slot of its own.
-///
-/// # Errors
-///
-/// Only where memory was refused.
-pub fn located(
-    alloc: Global,
-    func: &Func,
-    allocator: &mut dyn Strategy,
-) -> Result<FlatFunc, AllocError>
-    requires { IsGoodFunction func.now }
-    ensures located { IfOk result (λ f. IsLocated func.now f.located) }
-    ensures fits { IfOk result (λ f. FitsIn func.now f.located) }
-{
-    let optimized = optimized(alloc, func, allocator)?;
-    if frame_bound(&optimized) <= capped_need(func) {
-        Ok(optimized)
-    } else {
-        unoptimized(alloc, func)
-    }
+    let extended = copy_whole_words(alloc, &selected)?;
+    let propagated = propagate(alloc, &extended)?;
+    let hoisted = hoist(alloc, propagated)?;
+    let reused = reuse_values(alloc, hoisted)?;
+    let again = propagate(alloc, &reused)?;
+    let live = remove_dead_code(alloc, &again)?;
+    let read = read_copies(alloc, &live)?;
+    let held = hoist_constants(alloc, &read)?;
+    let ordered = order_blocks(alloc, &held)?;
+    Ok(ordered)
 }
 
 /// The words of a function's machine code.
@@ -186,7 +104,57 @@ pub fn laid_out(alloc: Global, function: &FlatFunc) -> Result<MachineCode, Alloc
     Ok(code)
 }
 
-/// The words of a function, whose locals are taken out of memory first.
+/// Whether a frame takes at most the stack that a call of the function is counted for.
+fn is_small(func: &Func, function: &FlatFunc) -> bool
+    ensures { result ≡ true → frame_bound function.now.located.code function.now.located.slots ≤ need func.now }
+{
+    frame_bound(function) <= capped_need(func)
+}
+
+/// Whether a function's words are as few as its weight allows: 32 for each unit, and 256.
+fn is_short(func: &Func, code: &MachineCode) -> bool
+    ensures { result ≡ true → length code.now.words ≤ 32 * weight func.now + 256 }
+{
+    let most = weight(func).saturating_mul(32).saturating_add(256);
+    code.words().len() as u64 <= most
+}
+
+/// By all passes, and as the strategy has it. None where its frame takes more of the stack than a call of the function is counted for, or where its words are
+/// more than its weight allows: passes may add registers and copy lines, and nothing else bounds how many.
+fn optimized(
+    alloc: Global,
+    func: &Func,
+    allocator: &mut dyn Strategy,
+) -> Result<Option<MachineCode>, AllocError>
+    requires { IsGoodFunction func.now }
+    ensures { IfOk result (λ o. IfSome o (λ c. StandWithin func.now c)) }
+{
+    let function = virtual_code_of(alloc, func)?;
+    let located = allocated(alloc, &function, allocator)?;
+    let placed = flat(located);
+    let code = laid_out(alloc, &placed)?;
+    if is_small(func, &placed) && is_short(func, &code) {
+        Ok(Some(code))
+    } else {
+        Ok(None)
+    }
+}
+
+/// As it is selected, with every register in a slot of its own: its frame takes no more of the stack than a call of the function is counted for, and its words
+/// are as few as its weight allows.
+fn unoptimized(alloc: Global, func: &Func) -> Result<MachineCode, AllocError>
+    requires { IsGoodFunction func.now }
+    ensures { IfOk result (λ c. StandWithin func.now c) }
+{
+    let lowered = lower(alloc, func)?;
+    let selected = select(alloc, &lowered)?;
+    let located = spill_all(alloc, &selected)?;
+    let placed = flat(located);
+    let code = laid_out(alloc, &placed)?;
+    Ok(code)
+}
+
+/// The words of a function, whose locals are taken out of memory first: by all passes where that fits, else as it is selected.
 ///
 /// # Errors
 ///
@@ -200,7 +168,11 @@ pub fn function_words(
     ensures { IfOk result (λ c. StandPromoted func.now c × (length c.words ≤ 32 * weight func.now + 256)) }
 {
     let promoted = promote(alloc, func)?;
-    let function = located(alloc, &promoted, allocator)?;
-    let code = laid_out(alloc, &function)?;
-    Ok(code)
+    match optimized(alloc, &promoted, allocator)? {
+        Some(code) => Ok(code),
+        None => {
+            let code = unoptimized(alloc, &promoted)?;
+            Ok(code)
+        }
+    }
 }

@@ -37,7 +37,13 @@ fn check_refusal(number: usize, error: CheckError) -> CompileError
     }
 }
 
-fn checked_text(alloc: Global, number: usize, bytes: &[u8]) -> Result<Checked, CompileError>
+/// Reads and checks the text with this number.
+///
+/// # Errors
+///
+/// `CompileError::Syntax`, `CompileError::Rule` or `CompileError::Limit` says why the text is refused. `CompileError::Memory` is answered only where memory was
+/// refused.
+pub fn checked_text(alloc: Global, number: usize, bytes: &[u8]) -> Result<Checked, CompileError>
     ensures found { IfOk result (λ c. Reads bytes.now c.text) }
     ensures only { (c : CheckedText) → Reads bytes.now c.text → MatchResult result (λ d. d.text ≡ c.text) (λ e. e ≡ Memory) }
     ensures says { IfErr result (λ e. RefusesText e number bytes.now) }

@@ -17,7 +17,6 @@ use Rattle.select.specs.Typed.{Classes}
 use Rattle.select.specs.Classes.{classes_in as temp_classes}
 use Rattle.select.proofs.Ending.{selected_keeps}
 use Rattle.select.proofs.LoweredTyping.{lowered_is_typed}
-use Rattle.select.proofs.Weights.{weighs_no_more}
 
 classes_are : (ps : List Param) → classes_in (map parameter_of ps) ≡ classes_of ps
 classes_are [] = refl
@@ -38,7 +37,6 @@ is_code f code good is =
     record {
       params = selected_classes classes f code;
       result = selected_result classes f code;
-      weight = weighs_no_more classes f code good is;
       runs = λ globals.
           meaning_composes (classes_of f.params) (body_of f globals) (begin_source f) (step_source globals f code) (begin virtual v) (step virtual globals v)
           (lowered_keeps f code is globals) (selected_keeps classes f code (lowered_is_typed f code good is) globals);

@@ -1,7 +1,7 @@
 -- What is proved of selected code.
 use Rattle.std.specs.Prelude.{◌+◌, ◌≤◌, length}
 use Rattle.il_ast.specs.declared.function.Func.{Func}
-use Rattle.il_ast.specs.Cost.{phi_count, need}
+use Rattle.il_ast.specs.Cost.{phi_count, need, weight}
 use Rattle.il_ast.specs.Passes.{IsCodeOf}
 use Rattle.phi_copies.specs.Endings.{Endings}
 use Rattle.phi_copies.specs.Good.{IsGoodFunction}
@@ -9,6 +9,7 @@ use Rattle.phi_copies.specs.Lowered.{IsLowered}
 use Rattle.vcode.specs.Coded.{coded}
 use Rattle.vcode.specs.Outgoing.{frame_bound}
 use Rattle.vcode.specs.Places.{virtual}
+use Rattle.vcode.specs.Regular.{code_weight}
 use Rattle.select.specs.Selected.{selected}
 use Rattle.select.specs.Typed.{Classes, IsTyped}
 use Rattle.select.specs.Classes.{classes_in}
@@ -30,10 +31,11 @@ SelectedIsVirtual =
     (f : Func) (code : Endings) → IsGoodFunction f → IsLowered f code
     → IsVirtual (selected (classes_in f) f code) (length f.temps + phi_count f)
 
--- the virtual code is the function's, whatever its text's global names mean, and it takes no more of
--- the stack than a call of the function is counted for
+-- the virtual code is the function's, whatever its text's global names mean, it takes no more of the
+-- stack than a call of the function is counted for, and its text weighs no more than the function's
 abbrev pub SelectedIsCode : Type 0
 SelectedIsCode =
     (f : Func) (code : Endings) → IsGoodFunction f → IsLowered f code
     → IsCodeOf f (coded virtual (selected (classes_in f) f code))
     × (frame_bound (selected (classes_in f) f code) (length f.temps + phi_count f) ≤ need f)
+    × (code_weight (selected (classes_in f) f code) ≤ weight f)

@@ -1,7 +1,7 @@
 //! Virtual code, made from functions without phis.
 ghost use Rattle.std.specs.Prelude.{◌≡◌, ◌≤◌, ◌+◌, ◌++◌, length, map, IfOk, OnOk};
 ghost use Rattle.il_ast.specs.declared.limits.TheConstants.{FUNCTION_WEIGHT, TEMPORARIES};
-ghost use Rattle.il_ast.specs.Cost.{phi_count, need};
+ghost use Rattle.il_ast.specs.Cost.{phi_count, need, weight};
 ghost use Rattle.select.specs.Classes.{classes_in};
 ghost use Rattle.select.specs.Tables.{listed};
 ghost use Rattle.select.specs.Selected.{selected};
@@ -9,6 +9,7 @@ ghost use Rattle.select.specs.Narrow.{narrow_block, narrow_edge, narrow_blocks, 
 ghost use Rattle.il_ast.specs.Passes.{IsCodeOf};
 ghost use Rattle.vcode.specs.Coded.{virtual_code};
 ghost use Rattle.vcode.specs.Outgoing.{frame_bound};
+ghost use Rattle.vcode.specs.Regular.{code_weight};
 
 use crate::classes::classes;
 use crate::instruction::push_turns;
@@ -120,7 +121,8 @@ fn count_registers(func: &Func) -> usize
 }
 
 /// The virtual code of a function without phis. It has a register for each temporary of the function and each phi, and does what the function means, turn for
-/// turn and for the same weight. With a slot for each register it takes no more of the stack than a call of the function is counted for.
+/// turn and for the same weight. With a slot for each register it takes no more of the stack than a call of the function is counted for,
+/// and its ticks together weigh no more than the function.
 ///
 /// # Errors
 ///
@@ -130,6 +132,7 @@ pub fn select(alloc: Global, source: &NoPhi<'_>) -> Result<VFunc, AllocError>
     ensures registers { IfOk result (λ v. v.registers ≡ length source.now.func.now.temps + phi_count source.now.func.now) }
     ensures is { IfOk result (λ v. IsCodeOf source.now.func.now (virtual_code v)) }
     ensures takes { IfOk result (λ v. frame_bound v.code v.registers ≤ need source.now.func.now) }
+    ensures light { IfOk result (λ v. code_weight v.code ≤ weight source.now.func.now) }
 {
     let classes = classes(alloc, source.func)?;
     let code = code_of(alloc, classes.as_slice(), source)?;

@@ -8,6 +8,7 @@ use cfg_live::live::live;
 use code_text::function::{located_text, virtual_function};
 use regalloc::linear_scan::LinearScan;
 use std::alloc::Global;
+use vcode::function::{LFunc, VFunc};
 use vcode::place::Location;
 
 /// What a certificate makes of a function, or the line `refused`.
@@ -44,6 +45,23 @@ pub fn slotted(alloc: Global, text: &str) -> Option<String> {
 /// The certificate that linear scan has for a function.
 pub fn scanned(alloc: Global, text: &str) -> Option<String> {
     chosen(alloc, &mut LinearScan::new(alloc), text)
+}
+
+/// A function in the places that linear scan has for it, else with each register in its slot.
+fn placed(alloc: Global, function: &VFunc) -> Option<LFunc> {
+    let live = live(alloc, function).ok()?;
+    let chosen = LinearScan::new(alloc).choose(function, &live)?;
+    match accept(alloc, function, &chosen) {
+        Ok(placed) => Some(placed),
+        Err(_) => alloc_check::spill_all::spill_all(alloc, function).ok(),
+    }
+}
+
+/// A function in location code, as the compiler makes it by linear scan.
+pub fn allocated(alloc: Global, text: &str) -> Option<String> {
+    let function = virtual_function(alloc, text)?;
+    let placed = placed(alloc, &function)?;
+    located_text(alloc, &placed).ok()
 }
 
 fn listed_in(alloc: Global, text: &str, places: &[Location]) -> Option<String> {

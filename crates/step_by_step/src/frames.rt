@@ -3,8 +3,11 @@
 //! Instructions are written as a disassembly has them. A label is `@N:`, a branch or a jump to it has `@N` in the place of an offset, and an instruction with a part of an
 //! address has ` + $N + OFFSET` behind it.
 use abi_frames::frame::frame;
+use asm_layout::layout::layout;
 use code_text::function::{located_function, located_text};
 use flat_code::function::flat;
+use rv_isa::code::MachineCode;
+use rv_isa::decode::decode;
 use rv_isa::instruction::{BranchOp, Instr};
 use rv_isa::labelled::Item;
 use rv_isa::ranges::{BranchOffset, Register};
@@ -72,6 +75,30 @@ fn code_of(alloc: Global, text: &str) -> Option<String> {
     let function = located_function(alloc, text)?;
     let code = frame(alloc, &flat(function)).ok()?;
     items_text(alloc, code.items()).ok()
+}
+
+fn push_word(to: &mut String, alloc: Global, at: usize, word: u32) -> Result<(), AllocError> {
+    to.push_str(format!(in alloc; "{:4} {:08x} ", at.wrapping_mul(4), word)?.as_str())?;
+    if let Some(instruction) = decode(word) {
+        to.push_str(text(alloc, instruction)?.as_str())?;
+    }
+    to.push_str("\n")
+}
+
+fn words_text(alloc: Global, code: &MachineCode) -> Result<String, AllocError> {
+    let mut text = String::new(alloc);
+    for (at, word) in code.words().iter().enumerate() {
+        push_word(&mut text, alloc, at, *word)?;
+    }
+    Ok(text)
+}
+
+/// The words of a function: each with its offset from the first and its instruction.
+pub fn words(alloc: Global, text: &str) -> Option<String> {
+    let function = located_function(alloc, text)?;
+    let labelled = frame(alloc, &flat(function)).ok()?;
+    let code = layout(alloc, labelled).ok()?;
+    words_text(alloc, &code).ok()
 }
 
 /// How often a line stands there, and the line: `times N LINE` is a line that stands there N times.

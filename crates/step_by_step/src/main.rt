@@ -1,7 +1,7 @@
 //! Each step by itself: texts, and what a step of the compiler makes of them as texts.
 //!
 //! A step has its table of cases, `data/STEP.cases`. The program prints a line for each case that fails, a line for each step, and how many cases there are. Without words
-//! it goes through all steps; with words those that are named.
+//! it goes through all steps; with words those that are named. With the words `watch FILE` it prints instead what each step makes of the only function of a text.
 #![tactic(auto)]
 
 mod allocation;
@@ -24,9 +24,11 @@ mod plans;
 mod show;
 mod step;
 mod tokens;
+mod watch;
 
 use crate::case::{Case, case_of};
 use crate::step::{STEPS, Step};
+use crate::watch::watched;
 use code_text::function::is_same;
 use std::alloc::AllocError;
 use std::rt::Files;
@@ -66,14 +68,33 @@ fn check_step<R: Files + AllocGlobal>(rt: &R, step: Step, report: &mut Report) -
     Ok(())
 }
 
-fn main(rt: HostRuntime) -> io::Result<()> {
-    let words: Vec<String> = env::args(&rt)?.skip(1).collect(rt.alloc())?;
+/// What each step makes of a text's only function.
+fn watched_file<R: Files + AllocGlobal>(rt: &R, path: &str) -> io::Result<String> {
+    let bytes = fs::read(rt, path)?;
+    let source = str::from_utf8(bytes.as_slice()).unwrap_or("");
+    match watched(rt.alloc(), source) {
+        Some(shown) => Ok(shown),
+        None => Err(io::Error::from(io::ErrorKind::InvalidData)),
+    }
+}
+
+/// Checks the tables of the steps that are named, or of all where none is. The lines of the report are answered.
+fn checked_steps<R: Files + AllocGlobal>(rt: &R, names: &[String]) -> io::Result<String> {
     let mut report = Report::new(rt.alloc());
     for step in STEPS {
-        if words.is_empty() || words.iter().any(|word| word.as_str() == step.name()) {
-            check_step(&rt, step, &mut report)?;
+        if names.is_empty() || names.iter().any(|name| name.as_str() == step.name()) {
+            check_step(rt, step, &mut report)?;
         }
     }
     report.finish()?;
-    print!(rt; "{}", report.text.as_str())
+    Ok(report.text)
+}
+
+fn main(rt: HostRuntime) -> io::Result<()> {
+    let words: Vec<String> = env::args(&rt)?.skip(1).collect(rt.alloc())?;
+    let shown = match words.as_slice() {
+        [command, path] if command.as_str() == "watch" => watched_file(&rt, path.as_str())?,
+        names => checked_steps(&rt, names)?,
+    };
+    print!(rt; "{}", shown.as_str())
 }

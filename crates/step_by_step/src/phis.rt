@@ -12,6 +12,7 @@ use il_reader::read::read;
 use il_types::check::check;
 use phi_copies::ending::Assignment;
 use phi_copies::lower::lower;
+use promote::promote::promote;
 use select::select::select;
 use std::alloc::{AllocError, Global};
 use text_maker::maker::TextMaker;
@@ -92,11 +93,22 @@ fn code_of(alloc: Global, function: &Func) -> Option<String>
     virtual_text(alloc, &code).ok()
 }
 
+/// The virtual code that is selected for a function whose locals were taken out of memory.
+fn promoted_code(alloc: Global, function: &Func) -> Option<String>
+    requires { IsGoodFunction function.now }
+{
+    match promote(alloc, function) {
+        Ok(promoted) => code_of(alloc, &promoted),
+        Err(_) => None,
+    }
+}
+
 /// What is to be shown of a function.
 #[derive(Clone, Copy)]
 enum Part {
     Copies,
     Code,
+    PromotedCode,
 }
 
 fn part_of(alloc: Global, function: &Func, part: Part) -> Option<String>
@@ -105,6 +117,7 @@ fn part_of(alloc: Global, function: &Func, part: Part) -> Option<String>
     match part {
         Part::Copies => first_copies(alloc, function),
         Part::Code => code_of(alloc, function),
+        Part::PromotedCode => promoted_code(alloc, function),
     }
 }
 
@@ -148,6 +161,11 @@ fn text_part(alloc: Global, text: &str, part: Part) -> Option<String> {
 /// How many copies the phis of a text's first function become at the end of its first block, and what these leave in its temporaries.
 pub fn copies(alloc: Global, text: &str) -> Option<String> {
     text_part(alloc, text, Part::Copies)
+}
+
+/// The virtual code that is selected for a text's first function once its locals are taken out of memory.
+pub fn promoted_and_selected(alloc: Global, text: &str) -> Option<String> {
+    text_part(alloc, text, Part::PromotedCode)
 }
 
 /// The virtual code that is selected for a text's first function.

@@ -1,5 +1,5 @@
 -- Code that uses values again takes what the code took, and names the registers of the function.
-use Rattle.std.proofs.Common.{◌≡◌, ℕ, ◌+◌, ◌<◌, ◌≤◌, Bool, true, false, nat_lt, if◌then◌else◌, List, [], ◌∷◌, Option, Some, None, refl, sym, ◌∙◌, ap, subst, arith}
+use Rattle.std.proofs.Common.{◌≡◌, ℕ, ◌+◌, ◌<◌, ◌≤◌, Bool, true, false, nat_lt, if◌then◌else◌, List, [], ◌∷◌, Some, refl, sym, ◌∙◌, ap, subst, arith}
 use Rattle.std.specs.List.{list_all}
 use Rattle.std.proofs.lemmas.Bool.{and_parts, and_from}
 use Rattle.std.proofs.lemmas.Bool.Decides.{nat_tests}
@@ -13,22 +13,25 @@ use Rattle.vcode.specs.declared.line.Jump.{Jump}
 use Rattle.vcode.specs.declared.code.Block.{Block}
 use Rattle.vcode.specs.declared.function.VFunc.{VFunc}
 use Rattle.vcode.specs.Cost.{operand_cost, operation_cost, line_cost, jump_cost, is_immediate}
-use Rattle.vcode.specs.Named.{line_keeps, jump_keeps, block_keeps, is_below}
+use Rattle.vcode.specs.Named.{operand_keeps, line_keeps, jump_keeps, is_below}
 use Rattle.vcode.specs.Addresses.{distance}
 use Rattle.vcode.specs.Regular.{leads_inside}
 use Rattle.vcode.proofs.Measuring.{Measured, Empty, Put, measure, within, Each, NoBlocks, OneMore}
 use Rattle.vcode.proofs.Results.{Serves, Owed, owed_each, with_these}
-use Rattle.value_numbering.specs.declared.fact.Expression.{Expression}
-use Rattle.value_numbering.specs.declared.fact.Expression.TheVariants.{Same, Operated, Loaded}
+use Rattle.value_numbering.specs.declared.fact.Expression.TheVariants.{Same, Loaded}
 use Rattle.value_numbering.specs.declared.fact.Fact.{Fact}
 use Rattle.value_numbering.specs.Known.{computed, after}
-use Rattle.value_numbering.specs.Reused.{Made, Itself, Copy, is_dear, is_no_number, claims_at, AreReused, IsReused, AllReused}
+use Rattle.il_ast.specs.declared.operation.Size.{Size}
+use Rattle.vcode.specs.declared.place.Address.{Address}
+use Rattle.value_numbering.specs.Narrow.{IsNarrow}
+use Rattle.value_numbering.specs.Reused.{Made, Itself, Copy, Narrow, is_dear, is_no_number, claims_at, AreReused, IsReused, AllReused}
 use Rattle.value_numbering.proofs.Running.{runs}
 
 -- ---- what lines take
 
 measure_same : (n : ℕ) (facts : List Fact) (l m : Line ℕ) → Made n facts l m → measure m ≡ measure l
 measure_same n facts l m Itself = refl
+measure_same n facts l m (Narrow is low) = refl
 measure_same n facts (Set to a) m (Copy is dear low known) = refl
 measure_same n facts (Operate to op a b) m (Copy is dear low known) = refl
 measure_same n facts (Load to op at) m (Copy is dear low known) = refl
@@ -72,8 +75,14 @@ dear_of (Call to callee args) f is dear = absurd (let no : ⊥ = cc in no)
 itself_least : (k : ℕ) → k ≤ k
 itself_least k = omega arith
 
+narrow_cost : (facts : List Fact) (size : Size) (a : Operand ℕ) (at : Address ℕ) (q : ℕ) → IsNarrow facts size a q → line_cost (Store size (At q) at) ≤ line_cost (Store size a at)
+narrow_cost facts size (At r) at q is = itself_least (line_cost (Store size (At r) at))
+narrow_cost facts size (Number k) at q is = absurd is
+narrow_cost facts size (Name g) at q is = absurd is
+
 cost_less : (n : ℕ) (facts : List Fact) (l m : Line ℕ) → Made n facts l m → line_cost m ≤ line_cost l
 cost_less n facts l m Itself = itself_least (line_cost l)
+cost_less n facts l m (Narrow {size = size} {a = a} {at = at} {q = q} is low) = narrow_cost facts size a at q is
 cost_less n facts l m (Copy {f = f} is dear low known) = let x = dear_of l f is dear in omega (arith, x)
 
 lines_measured : (n : ℕ) (claims : List (List Fact)) (facts : List Fact) (lines new : List (Line ℕ)) (j : Jump ℕ) → AreReused n claims facts lines new j → Measured false lines new
@@ -100,6 +109,7 @@ below r n h = grind (arith, nat_tests)
 
 made_low : (n : ℕ) (facts : List Fact) (l m : Line ℕ) → Made n facts l m → line_keeps (is_below n) l ≡ true → line_keeps (is_below n) m ≡ true
 made_low n facts l m Itself h = h
+made_low n facts l m (Narrow {size = size} {a = a} {at = at} {q = q} is low) h = and_from (is_below n q) (operand_keeps (is_below n) at.base) (below q n low) (and_parts (operand_keeps (is_below n) a) (operand_keeps (is_below n) at.base) h).1
 made_low n facts l m (Copy {f = f} {r = r} is dear low known) h = and_from (is_below n f.register) (is_below n r) (writes_low n l f is h) (below r n low)
 
 lines_low : (n : ℕ) (claims : List (List Fact)) (facts : List Fact) (lines new : List (Line ℕ)) (j : Jump ℕ) → AreReused n claims facts lines new j → list_all (line_keeps (is_below n)) lines ≡ true → list_all (line_keeps (is_below n)) new ≡ true

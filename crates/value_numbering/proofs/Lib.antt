@@ -1,3 +1,4 @@
 pub mod Making
+pub mod Narrowing
 pub mod Running
 pub mod Keeping

@@ -1,6 +1,6 @@
 -- Code that uses values again does what the code did: at each line both are in one state, of which what is known is true.
 use Rattle.std.proofs.Common.{◌≡◌, ℕ, zero, suc, ◌+◌, Bool, true, false, not, ◌&&◌, ◌||◌, nat_eq, nat_lt, if◌then◌else◌, List, [], ◌∷◌, ◌++◌, filter, length, Option, Some, None, slice_get, refl, sym, ◌∙◌, ap, subst, arith}
-use Rattle.std.specs.Option.{option_map_or, option_and_then}
+use Rattle.std.specs.Option.{option_and_then}
 use Rattle.std.proofs.lemmas.Bool.{and_parts}
 use Rattle.std.proofs.lemmas.Bool.Decides.{nat_tests}
 use Rattle.il_ast.specs.declared.value.Value.{Value}
@@ -28,18 +28,20 @@ use Rattle.vcode.specs.Places.{Values, virtual, unknown}
 use Rattle.vcode.specs.Coded.{classes_in}
 use Rattle.vcode.specs.Step.{begin, step, bound, value_of, operated, address_of, read_result}
 use Rattle.vcode.specs.Writes.{line_writes}
-use Rattle.vcode.specs.Acts.{Act, Gives, Fails, given, act, written, Way, Lost, Enters, Answers, Halts, way, entering, answering}
-use Rattle.vcode.specs.Follows.{Alike, LeadAlike, Follows, Jumps, Both}
+use Rattle.vcode.specs.Acts.{Act, Gives, given, act, written, way, entering, answering}
+use Rattle.vcode.specs.Follows.{Alike, Follows, Jumps, Both}
 use Rattle.vcode.specs.Facts.{Facts as About, claimed}
-use Rattle.vcode.proofs.Alike.{Works, MayLeave}
+use Rattle.vcode.proofs.Alike.{MayLeave}
 use Rattle.vcode.proofs.Factual.{fact_line, fact_jump, facts_rewrite, Claimed}
 use Rattle.vcode.proofs.Rewriting.{rewrites_keep}
-use Rattle.vcode.proofs.Writing.{is_written, turned, unwritten, now_holds}
+use Rattle.vcode.proofs.Writing.{turned, same_number, unwritten, now_holds}
 use Rattle.value_numbering.specs.declared.fact.Expression.{Expression}
-use Rattle.value_numbering.specs.declared.fact.Expression.TheVariants.{Same, Operated, Loaded}
+use Rattle.value_numbering.specs.declared.fact.Expression.TheVariants.{Same, Operated, Extended, Loaded}
 use Rattle.value_numbering.specs.declared.fact.Fact.{Fact}
-use Rattle.value_numbering.specs.Known.{reached, gives, IsTrueOf, computed, names, reads, asks_memory, changes_memory, spares, stays, copied_from, source_by, source, copied, canonical, kept_fact, known_by, with_fact, after}
-use Rattle.value_numbering.specs.Reused.{IsIn, Made, Itself, Copy, claims_at, AllIn, LeadsWell, AreReused, IsReused, AllReused}
+use Rattle.value_numbering.specs.Known.{reached, gives, IsTrueOf, computed, names, reads, asks_memory, changes_memory, spares, stays, copied_from, source_by, source, copied, shifted_in, first_of, shifted, is_back, extended_by, joined, canonical, kept_fact, known_by, with_fact, after}
+use Rattle.value_numbering.proofs.Narrowing.{narrow_same, itself_same}
+use Rattle.value_numbering.specs.Narrow.{IsNarrow}
+use Rattle.value_numbering.specs.Reused.{Holds, Found, Small, Made, Itself, Copy, Narrow, claims_at, AllIn, LeadsWell, AreReused, AllReused}
 
 -- ---- all facts are true
 
@@ -65,11 +67,13 @@ SameIn globals values other f a = value_of globals other (f a) ≡ value_of glob
 abbrev put : (Operand ℕ → Operand ℕ) → Expression → Expression
 put f (Same a) = Same (f a)
 put f (Operated op a b) = Operated op (f a) (f b)
+put f (Extended back a n) = Extended back (f a) n
 put f (Loaded op a d) = Loaded op (f a) d
 
 abbrev AllOf : (Operand ℕ → Type 0) → Expression → Type 0
 AllOf holds (Same a) = holds a
 AllOf holds (Operated op a b) = holds a × holds b
+AllOf holds (Extended back a n) = holds a
 AllOf holds (Loaded op a d) = holds a
 
 number_same : (globals : List Value) (values other : Values ℕ) (d : ℕ) → value_of globals other (Number d) ≡ value_of globals values (Number d)
@@ -79,18 +83,16 @@ gives_same : (globals : List Value) (m : Memory) (values other : Values ℕ) (f 
 gives_same globals m values other f (Same a) h = ap Gives h
 gives_same globals m values other f (Operated op a b) h =
     ap (λ (x : Option Value). Gives (operated m op x (value_of globals other (f b)))) h.0 ∙ ap (λ (x : Option Value). Gives (operated m op (value_of globals values a) x)) h.1
+gives_same globals m values other f (Extended back a n) h =
+    ap (λ (x : Option Value). Gives (operated m (Reg back) (operated m (Reg Sll) x (value_of globals values (Number n))) (value_of globals values (Number n)))) h
 gives_same globals m values other f (Loaded op a d) h =
     ap (λ (x : Option Value). given (option_and_then (loaded m op) (if nat_eq d 0 then x else operated m (Reg Add) x (value_of globals values (Number d))))) h
 
 put_nothing : (e : Expression) → put (λ a. a) e ≡ e
 put_nothing (Same a) = refl
 put_nothing (Operated op a b) = refl
+put_nothing (Extended back a n) = refl
 put_nothing (Loaded op a d) = refl
-
-put_copied : (facts : List Fact) (e : Expression) → put (copied facts) e ≡ canonical facts e
-put_copied facts (Same a) = refl
-put_copied facts (Operated op a b) = refl
-put_copied facts (Loaded op a d) = refl
 
 -- ---- copies
 
@@ -105,6 +107,7 @@ copy_same globals m values f r q is e = by (nat_eq f.register r) refl e
     from (Same (Number n)) h = absurd (let no : ⊥ = cc in no)
     from (Same (Name g)) h = absurd (let no : ⊥ = cc in no)
     from (Operated op a b) h = absurd (let no : ⊥ = cc in no)
+    from (Extended back a n) h = absurd (let no : ⊥ = cc in no)
     from (Loaded op a d) h = absurd (let no : ⊥ = cc in no)
 
     by : (b : Bool) → nat_eq f.register r ≡ b → (if b then copied_from f.value else None) ≡ Some q → values q ≡ values r
@@ -126,14 +129,85 @@ copied_same globals m values facts all (At r) = source_same globals m values fac
 copied_same globals m values facts all (Number n) = refl
 copied_same globals m values facts all (Name g) = refl
 
-every : (holds : Operand ℕ → Type 0) → ((a : Operand ℕ) → holds a) → (e : Expression) → AllOf holds e
-every holds all (Same a) = all a
-every holds all (Operated op a b) = (all a, all b)
-every holds all (Loaded op a d) = all a
+-- ---- extensions
+
+shift_here : (globals : List Value) (m : Memory) (values : Values ℕ) (f : Fact) (r n : ℕ) (a : Operand ℕ) → IsTrueOf globals m values f → (if nat_eq f.register r then shifted_in f.value n else None) ≡ Some a
+    → values r ≡ operated m (Reg Sll) (value_of globals values a) (value_of globals values (Number n))
+shift_here globals m values f r n a is e = by (nat_eq f.register r) refl e
+  where
+    here : (b : Operand ℕ) (k : ℕ) (t : Bool) → nat_eq k n ≡ t → (if t then Some b else None) ≡ Some a
+        → gives globals m values (Operated (Reg Sll) b (Number k)) ≡ Gives (operated m (Reg Sll) (value_of globals values a) (value_of globals values (Number n)))
+    here b k true t h =
+        let same : b ≡ a = cc in
+        ap (λ (x : Operand ℕ). Gives (operated m (Reg Sll) (value_of globals values x) (value_of globals values (Number k)))) same ∙ ap (λ (j : ℕ). Gives (operated m (Reg Sll) (value_of globals values a) (value_of globals values (Number j)))) (same_number k n t)
+    here b k false t h = absurd (let no : ⊥ = cc in no)
+
+    from : (x : Expression) → shifted_in x n ≡ Some a → gives globals m values x ≡ Gives (operated m (Reg Sll) (value_of globals values a) (value_of globals values (Number n)))
+    from (Same b) h = absurd (let no : ⊥ = cc in no)
+    from (Operated (Reg Sll) b (Number k)) h = here b k (nat_eq k n) refl h
+    from (Operated (Reg Sll) b (At q)) h = absurd (let no : ⊥ = cc in no)
+    from (Operated (Reg Sll) b (Name g)) h = absurd (let no : ⊥ = cc in no)
+    from (Operated (Reg Add) b c) h = absurd (let no : ⊥ = cc in no)
+    from (Operated (Reg Sub) b c) h = absurd (let no : ⊥ = cc in no)
+    from (Operated (Reg Slt) b c) h = absurd (let no : ⊥ = cc in no)
+    from (Operated (Reg Sltu) b c) h = absurd (let no : ⊥ = cc in no)
+    from (Operated (Reg Xor) b c) h = absurd (let no : ⊥ = cc in no)
+    from (Operated (Reg Srl) b c) h = absurd (let no : ⊥ = cc in no)
+    from (Operated (Reg Sra) b c) h = absurd (let no : ⊥ = cc in no)
+    from (Operated (Reg Or) b c) h = absurd (let no : ⊥ = cc in no)
+    from (Operated (Reg And) b c) h = absurd (let no : ⊥ = cc in no)
+    from (Operated (Reg Mul) b c) h = absurd (let no : ⊥ = cc in no)
+    from (Operated (Reg Mulh) b c) h = absurd (let no : ⊥ = cc in no)
+    from (Operated (Reg Mulhsu) b c) h = absurd (let no : ⊥ = cc in no)
+    from (Operated (Reg Mulhu) b c) h = absurd (let no : ⊥ = cc in no)
+    from (Operated (Reg Div) b c) h = absurd (let no : ⊥ = cc in no)
+    from (Operated (Reg Divu) b c) h = absurd (let no : ⊥ = cc in no)
+    from (Operated (Reg Rem) b c) h = absurd (let no : ⊥ = cc in no)
+    from (Operated (Reg Remu) b c) h = absurd (let no : ⊥ = cc in no)
+    from (Operated (RegW op) b c) h = absurd (let no : ⊥ = cc in no)
+    from (Operated (Compare on k) b c) h = absurd (let no : ⊥ = cc in no)
+    from (Extended back b k) h = absurd (let no : ⊥ = cc in no)
+    from (Loaded op b d) h = absurd (let no : ⊥ = cc in no)
+
+    by : (b : Bool) → nat_eq f.register r ≡ b → (if b then shifted_in f.value n else None) ≡ Some a → values r ≡ operated m (Reg Sll) (value_of globals values a) (value_of globals values (Number n))
+    by true t h =
+        let same : f.register ≡ r = same_number f.register r t in
+        gives_one (values r) (operated m (Reg Sll) (value_of globals values a) (value_of globals values (Number n))) (ap (λ (k : ℕ). Gives (values k)) (sym same) ∙ sym is ∙ from f.value h)
+    by false t h = absurd (let no : ⊥ = cc in no)
+
+shifted_true : (globals : List Value) (m : Memory) (values : Values ℕ) (facts : List Fact) → AreTrue globals m values facts → (r n : ℕ) (a : Operand ℕ) → shifted facts r n ≡ Some a
+    → values r ≡ operated m (Reg Sll) (value_of globals values a) (value_of globals values (Number n))
+shifted_true globals m values [] all r n a h = absurd (let no : ⊥ = cc in no)
+shifted_true globals m values (f ∷ facts) all r n a h = by (if nat_eq f.register r then shifted_in f.value n else None) refl (shifted_true globals m values facts all.1 r n a) h
+  where
+    by : (o : Option (Operand ℕ)) → (if nat_eq f.register r then shifted_in f.value n else None) ≡ o → (shifted facts r n ≡ Some a → values r ≡ operated m (Reg Sll) (value_of globals values a) (value_of globals values (Number n))) → first_of o (shifted facts r n) ≡ Some a
+        → values r ≡ operated m (Reg Sll) (value_of globals values a) (value_of globals values (Number n))
+    by (Some b) e rest h = shift_here globals m values f r n a all.0 (e ∙ h)
+    by None e rest h = rest h
+
+joined_same : (globals : List Value) (m : Memory) (values : Values ℕ) (facts : List Fact) → AreTrue globals m values facts → (op : Operation) (a b : Operand ℕ) → gives globals m values (joined facts op a b) ≡ gives globals m values (Operated op a b)
+joined_same globals m values facts all (Reg op) (At r) (Number n) = by (is_back op)
+  where
+    found : (o : Option (Operand ℕ)) → shifted facts r n ≡ o → gives globals m values (extended_by op r n o) ≡ gives globals m values (Operated (Reg op) (At r) (Number n))
+    found (Some a) e = ap (λ (x : Option Value). Gives (operated m (Reg op) x (value_of globals values (Number n)))) (sym (shifted_true globals m values facts all r n a e))
+    found None e = refl
+
+    by : (b : Bool) → gives globals m values (if b then extended_by op r n (shifted facts r n) else Operated (Reg op) (At r) (Number n)) ≡ gives globals m values (Operated (Reg op) (At r) (Number n))
+    by true = found (shifted facts r n) refl
+    by false = refl
+joined_same globals m values facts all (Reg op) (At r) (At q) = refl
+joined_same globals m values facts all (Reg op) (At r) (Name g) = refl
+joined_same globals m values facts all (Reg op) (Number k) b = refl
+joined_same globals m values facts all (Reg op) (Name g) b = refl
+joined_same globals m values facts all (RegW op) a b = refl
+joined_same globals m values facts all (Compare on k) a b = refl
 
 canonical_same : (globals : List Value) (m : Memory) (values : Values ℕ) (facts : List Fact) → AreTrue globals m values facts → (e : Expression) → gives globals m values (canonical facts e) ≡ gives globals m values e
-canonical_same globals m values facts all e =
-    ap (gives globals m values) (sym (put_copied facts e)) ∙ gives_same globals m values values (copied facts) e (every (SameIn globals values values (copied facts)) (copied_same globals m values facts all) e)
+canonical_same globals m values facts all (Same a) = gives_same globals m values values (copied facts) (Same a) (copied_same globals m values facts all a)
+canonical_same globals m values facts all (Operated op a b) =
+    joined_same globals m values facts all op (copied facts a) (copied facts b) ∙ gives_same globals m values values (copied facts) (Operated op a b) (copied_same globals m values facts all a, copied_same globals m values facts all b)
+canonical_same globals m values facts all (Extended back a n) = gives_same globals m values values (copied facts) (Extended back a n) (copied_same globals m values facts all a)
+canonical_same globals m values facts all (Loaded op a d) = gives_same globals m values values (copied facts) (Loaded op a d) (copied_same globals m values facts all a)
 
 -- ---- lines
 
@@ -152,14 +226,26 @@ computes globals m values (Call to callee args) f h = absurd (let no : ⊥ = cc 
 
 -- ---- a line that is made
 
+holds_true : (globals : List Value) (m : Memory) (values : Values ℕ) (facts : List Fact) (r : ℕ) (e : Expression) → AreTrue globals m values facts → Holds facts r e → gives globals m values e ≡ Gives (values r)
+holds_true globals m values facts r e all (Found is) = true_at globals m values facts is.0 (record { register = r; value = e }) all is.1
+holds_true globals m values facts r e all (Small is) =
+    let known = is.1 in
+    ap (gives globals m values) is.0 ∙ itself_same globals m values known.1 r known.2.1 (true_at globals m values facts known.0 (record { register = r; value = known.1 }) all known.2.0)
+
 made_same : (globals : List Value) (m : Memory) (values : Values ℕ) (n : ℕ) (facts : List Fact) (l k : Line ℕ) → AreTrue globals m values facts → Made n facts l k
     → (act globals m values k ≡ act globals m values l) × (line_writes k ≡ line_writes l)
 made_same globals m values n facts l k all Itself = (refl, refl)
 made_same globals m values n facts l k all (Copy {f = f} {r = r} is dear low known) =
     let does = computes globals m values l f is in (
-      sym (true_at globals m values facts known.0 (record { register = r; value = canonical facts f.value }) all known.1) ∙ canonical_same globals m values facts all f.value ∙ sym does.0,
+      sym (holds_true globals m values facts r (canonical facts f.value) all known) ∙ canonical_same globals m values facts all f.value ∙ sym does.0,
       sym does.1,
     )
+made_same globals m values n facts l k all (Narrow {size = size} {a = a} {at = at} {q = q} is low) = (by a is, refl)
+  where
+    by : (b : Operand ℕ) → IsNarrow facts size b q → act globals m values (Store size (At q) at) ≡ act globals m values (Store size b at)
+    by (At r) here = narrow_same globals m values size here.1 q r at here.2.1 (true_at globals m values facts here.0 (record { register = r; value = here.1 }) all here.2.0)
+    by (Number k) here = absurd here
+    by (Name g) here = absurd here
 
 -- ---- what a line leaves
 
@@ -180,6 +266,7 @@ operand_spared globals values r o (Name g) h = refl
 expression_spared : (globals : List Value) (values : Values ℕ) (r : ℕ) (o : Option Value) (e : Expression) → reads r e ≡ false → AllOf (SameIn globals values (written (Some r) o values) (λ x. x)) e
 expression_spared globals values r o (Same a) h = operand_spared globals values r o a h
 expression_spared globals values r o (Operated op a b) h = let s = no_or (names r a) (names r b) h in (operand_spared globals values r o a s.0, operand_spared globals values r o b s.1)
+expression_spared globals values r o (Extended back a n) h = operand_spared globals values r o a h
 expression_spared globals values r o (Loaded op a d) h = operand_spared globals values r o a h
 
 gives_spared : (globals : List Value) (m : Memory) (values : Values ℕ) (r : ℕ) (o : Option Value) (e : Expression) → reads r e ≡ false → gives globals m (written (Some r) o values) e ≡ gives globals m values e
@@ -265,6 +352,14 @@ memory_spared globals m n values f h is = from f.value h is
     from : (e : Expression) → asks_memory e ≡ false → gives globals m values e ≡ Gives (values f.register) → gives globals n values e ≡ Gives (values f.register)
     from (Same a) h is = is
     from (Operated op a b) h is = ap Gives (sym (operated_any m n op (value_of globals values a) (value_of globals values b) (sym (asks_as op a b) ∙ h))) ∙ is
+    from (Extended back a k) h is = ap Gives (sym twice) ∙ is
+      where
+        by : Option Value
+        by = value_of globals values (Number k)
+
+        twice : operated m (Reg back) (operated m (Reg Sll) (value_of globals values a) by) by ≡ operated n (Reg back) (operated n (Reg Sll) (value_of globals values a) by) by
+        twice =
+            operated_any m n (Reg back) (operated m (Reg Sll) (value_of globals values a) by) by refl ∙ ap (λ (x : Option Value). operated n (Reg back) x by) (operated_any m n (Reg Sll) (value_of globals values a) by refl)
     from (Loaded op a d) h is = absurd (let no : ⊥ = cc in no)
 
 -- a line that changes no memory leaves what was there
@@ -309,6 +404,7 @@ given_leaves m e o next f globals values is may = from f.value (subst (λ (a : A
     from : (x : Expression) → MayLeave m (gives globals m values x) o next → (gives globals m values x ≡ Gives o) × (next ≡ m)
     from (Same a) h = (ap Gives (sym h.0), h.1)
     from (Operated op a b) h = (ap Gives (sym h.0), h.1)
+    from (Extended back a n) h = (ap Gives (sym h.0), h.1)
     from (Loaded op a d) h = loads (option_and_then (loaded m op) (reached globals m values a d)) h
       where
         loads : (x : Option Value) → MayLeave m (given x) o next → (given x ≡ Gives o) × (next ≡ m)
@@ -362,6 +458,7 @@ known claims = record { Known = List Fact; hold = λ facts globals memory values
 
 writes_same : (n : ℕ) (facts : List Fact) (l k : Line ℕ) → Made n facts l k → line_writes k ≡ line_writes l
 writes_same n facts l k Itself = refl
+writes_same n facts l k (Narrow is low) = refl
 writes_same n facts l k (Copy {f = f} is dear low known) = sym (computes [] [] (λ r. None) l f is).1
 
 line_follows : (claims : List (List Fact)) (n : ℕ) (facts : List Fact) (l k : Line ℕ) → Made n facts l k → Alike (claimed (known claims)) facts (after k facts) l k

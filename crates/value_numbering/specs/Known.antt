@@ -1,14 +1,16 @@
 -- What registers are known to hold before a line, and behind it.
 use Rattle.std.specs.Prelude.{◌≡◌, ℕ, Bool, true, false, not, ◌&&◌, ◌||◌, nat_eq, nat_lt, if◌then◌else◌, List, [], ◌∷◌, ◌++◌, filter, length, Option, Some, None}
-use Rattle.std.specs.Option.{option_map_or, option_and_then}
+use Rattle.std.specs.Option.{option_and_then}
 use Rattle.il_ast.specs.declared.value.Value.{Value}
 use Rattle.il_ast.specs.Memory.{Memory}
 use Rattle.vcode.specs.declared.place.Operand.{Operand}
 use Rattle.vcode.specs.declared.place.Operand.TheVariants.{At, Number}
 use Rattle.vcode.specs.declared.line.Line.{Line}
 use Rattle.vcode.specs.declared.line.Line.TheVariants.{Set, Operate, Load, Store, Alloc, Blit, Call}
+use Rattle.vcode.specs.declared.line.Operation.{Operation}
 use Rattle.vcode.specs.declared.line.Operation.TheVariants.{Reg, Compare}
-use Rattle.rv_isa.specs.declared.instruction.RegOp.TheVariants.{Add}
+use Rattle.rv_isa.specs.declared.instruction.RegOp.{RegOp}
+use Rattle.rv_isa.specs.declared.instruction.RegOp.TheVariants.{Add, Sll, Srl, Sra}
 use Rattle.vcode.specs.Addresses.{distance}
 use Rattle.vcode.specs.Operations.{loaded}
 use Rattle.vcode.specs.Step.{value_of, operated}
@@ -16,7 +18,7 @@ use Rattle.vcode.specs.Places.{Values}
 use Rattle.vcode.specs.Writes.{line_writes}
 use Rattle.vcode.specs.Acts.{Act, Gives, given}
 use Rattle.value_numbering.specs.declared.fact.Expression.{Expression}
-use Rattle.value_numbering.specs.declared.fact.Expression.TheVariants.{Same, Operated, Loaded}
+use Rattle.value_numbering.specs.declared.fact.Expression.TheVariants.{Same, Operated, Extended, Loaded}
 use Rattle.value_numbering.specs.declared.fact.Fact.{Fact}
 
 -- ---- what expressions give
@@ -31,6 +33,11 @@ abbrev pub gives : List Value → Memory → Values ℕ → Expression → Act
 gives globals m values (Same a) = Gives (value_of globals values a)
 gives globals m values (Operated op a b) =
     Gives (operated m op (value_of globals values a) (value_of globals values b))
+gives globals m values (Extended back a n) =
+    Gives
+    (operated m (Reg back)
+    (operated m (Reg Sll) (value_of globals values a) (value_of globals values (Number n)))
+    (value_of globals values (Number n)))
 gives globals m values (Loaded op a d) =
     given (option_and_then (loaded m op) (reached globals m values a d))
 
@@ -54,6 +61,7 @@ names r a = false
 abbrev pub reads : ℕ → Expression → Bool
 reads r (Same a) = names r a
 reads r (Operated op a b) = names r a || names r b
+reads r (Extended back a n) = names r a
 reads r (Loaded op a d) = names r a
 
 -- a comparison asks which blocks of memory live
@@ -96,9 +104,44 @@ abbrev pub copied : List Fact → Operand ℕ → Operand ℕ
 copied facts (At r) = At (source facts r)
 copied facts a = a
 
+-- what a value is, shifted to the left by so many bits
+abbrev pub shifted_in : Expression → (bits : ℕ) → Option (Operand ℕ)
+shifted_in (Operated (Reg Sll) a (Number k)) n = if nat_eq k n then Some a else None
+shifted_in e n = None
+
+abbrev pub first_of : {X : Type 0} → Option X → Option X → Option X
+first_of (Some x) o = Some x
+first_of None o = o
+
+-- what the register is first known to hold, shifted to the left by so many bits
+abbrev pub shifted : List Fact → ℕ → (bits : ℕ) → Option (Operand ℕ)
+shifted [] r n = None
+shifted (f ∷ facts) r n =
+    first_of (if nat_eq f.register r then shifted_in f.value n else None) (shifted facts r n)
+
+abbrev pub is_back : RegOp → Bool
+is_back Srl = true
+is_back Sra = true
+is_back op = false
+
+abbrev pub extended_by : RegOp → ℕ → ℕ → Option (Operand ℕ) → Expression
+extended_by op r n (Some a) = Extended op a n
+extended_by op r n None = Operated (Reg op) (At r) (Number n)
+
+-- an extension where it shifts back what was shifted to the left by as many bits
+abbrev pub extended : List Fact → RegOp → ℕ → ℕ → Expression
+extended facts op r n =
+    if is_back op then extended_by op r n (shifted facts r n)
+    else Operated (Reg op) (At r) (Number n)
+
+abbrev pub joined : List Fact → Operation → (left right : Operand ℕ) → Expression
+joined facts (Reg op) (At r) (Number n) = extended facts op r n
+joined facts op a b = Operated op a b
+
 abbrev pub canonical : List Fact → Expression → Expression
 canonical facts (Same a) = Same (copied facts a)
-canonical facts (Operated op a b) = Operated op (copied facts a) (copied facts b)
+canonical facts (Operated op a b) = joined facts op (copied facts a) (copied facts b)
+canonical facts (Extended back a n) = Extended back (copied facts a) n
 canonical facts (Loaded op a d) = Loaded op (copied facts a) d
 
 -- ---- what is known behind a line

@@ -1,17 +1,20 @@
 -- Code in which lines that compute what a register holds are copies of it.
-use Rattle.std.specs.Prelude.{◌≡◌, ℕ, ◌+◌, ◌<◌, Bool, true, false, List, [], ◌∷◌, slice_get, Option, Some, None}
+use Rattle.std.specs.Prelude.{◌≡◌, ℕ, ◌+◌, ◌<◌, Bool, true, false, List, [], ◌∷◌, slice_get, Some}
 use Rattle.std.specs.Option.{option_map_or}
 use Rattle.vcode.specs.declared.place.Operand.{Operand}
 use Rattle.vcode.specs.declared.place.Operand.TheVariants.{At, Number}
 use Rattle.vcode.specs.declared.line.Line.{Line}
-use Rattle.vcode.specs.declared.line.Line.TheVariants.{Set}
+use Rattle.vcode.specs.declared.line.Line.TheVariants.{Set, Store}
 use Rattle.vcode.specs.declared.line.Jump.{Jump}
 use Rattle.vcode.specs.declared.line.Jump.TheVariants.{Goto, Branch, Return, Halt}
 use Rattle.vcode.specs.declared.code.Block.{Block}
 use Rattle.value_numbering.specs.declared.fact.Expression.{Expression}
-use Rattle.value_numbering.specs.declared.fact.Expression.TheVariants.{Same, Operated, Loaded}
+use Rattle.value_numbering.specs.declared.fact.Expression.TheVariants.{Same, Operated, Extended, Loaded}
 use Rattle.value_numbering.specs.declared.fact.Fact.{Fact}
+use Rattle.il_ast.specs.declared.operation.Size.{Size}
+use Rattle.vcode.specs.declared.place.Address.{Address}
 use Rattle.value_numbering.specs.Known.{computed, canonical, after}
+use Rattle.value_numbering.specs.Narrow.{IsNarrow, IsItself}
 
 abbrev pub IsIn : Fact → List Fact → Type 0
 IsIn f facts = (k : ℕ) × (slice_get facts k ≡ Some f)
@@ -24,12 +27,20 @@ is_no_number a = true
 abbrev pub is_dear : Expression → Bool
 is_dear (Same a) = false
 is_dear (Operated op a b) = true
+is_dear (Extended op a n) = true
 is_dear (Loaded op a d) = is_no_number a
 
--- a line itself, or a copy of a register of the function that holds what the line computes
+-- the register holds what the expression gives
+pub data Holds (facts : List Fact) (r : ℕ) (e : Expression) : Type 0 where
+  Found : IsIn (record { register = r; value = e }) facts → Holds facts r e
+  Small : IsItself facts r e → Holds facts r e
+
+-- a line itself; or a copy of a register of the function that holds what the line computes; or a
+-- store of a register that has the bits that are stored
 pub data Made (registers : ℕ) (facts : List Fact) : Line ℕ → Line ℕ → Type 0 where
   Itself : {l : Line ℕ} → Made registers facts l l
-  Copy : {l : Line ℕ} {f : Fact} {r : ℕ} → computed l ≡ Some f → is_dear f.value ≡ true → r < registers → IsIn (record { register = r; value = canonical facts f.value }) facts → Made registers facts l (Set f.register (At r))
+  Copy : {l : Line ℕ} {f : Fact} {r : ℕ} → computed l ≡ Some f → is_dear f.value ≡ true → r < registers → Holds facts r (canonical facts f.value) → Made registers facts l (Set f.register (At r))
+  Narrow : {size : Size} {a : Operand ℕ} {at : Address ℕ} {q : ℕ} → IsNarrow facts size a q → q < registers → Made registers facts (Store size a at) (Store size (At q) at)
 
 -- the facts claimed where a block begins
 abbrev pub claims_at : List (List Fact) → ℕ → List Fact

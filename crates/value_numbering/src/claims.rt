@@ -9,10 +9,10 @@ use vcode::code::Block;
 use vcode::line::{Jump, Line};
 
 /// How many facts are claimed of a block, at most.
-const CLAIMS: usize = 16;
+const CLAIMS: usize = 32;
 
-/// How often the blocks are gone through.
-const ROUNDS: usize = 4;
+/// How often the blocks are gone through, at most: until nothing changes.
+const ROUNDS: usize = 8;
 
 /// The facts that are known on all ways to a block that were gone so far; none where no way was.
 #[derive(Drop)]
@@ -38,17 +38,21 @@ fn has(facts: &[Fact], wanted: &Fact) -> bool {
     facts.iter().any(|fact| same_fact(fact, wanted))
 }
 
-/// One more way leads to the block, on which these facts are known.
-fn meet(alloc: Global, claim: &mut Claim, facts: &[Fact]) -> Result<(), AllocError> {
+/// One more way leads to the block, on which these facts are known; says whether that changes what is claimed.
+fn meet(alloc: Global, claim: &mut Claim, facts: &[Fact]) -> Result<bool, AllocError> {
     match &mut claim.facts {
-        Some(known) => known.retain(|fact| has(facts, fact)),
+        Some(known) => {
+            let before = known.len();
+            known.retain(|fact| has(facts, fact));
+            Ok(known.len() != before)
+        }
         None => {
             let mut known = Vec::new(alloc);
             known.extend_from_slice(&facts[..facts.len().min(CLAIMS)])?;
             claim.facts = Some(known);
+            Ok(true)
         }
     }
-    Ok(())
 }
 
 fn meet_at(
@@ -56,10 +60,10 @@ fn meet_at(
     claims: &mut [Claim],
     block: usize,
     facts: &[Fact],
-) -> Result<(), AllocError> {
+) -> Result<bool, AllocError> {
     match claims.get_mut(block) {
         Some(claim) => meet(alloc, claim, facts),
-        None => Ok(()),
+        None => Ok(false),
     }
 }
 
@@ -68,14 +72,15 @@ fn lead(
     claims: &mut [Claim],
     jump: &Jump<u32>,
     facts: &[Fact],
-) -> Result<(), AllocError> {
+) -> Result<bool, AllocError> {
     match jump {
         Jump::Goto(block) => meet_at(alloc, claims, *block, facts),
         Jump::Branch { met, otherwise, .. } => {
-            meet_at(alloc, claims, *met, facts)?;
-            meet_at(alloc, claims, *otherwise, facts)
+            let first = meet_at(alloc, claims, *met, facts)?;
+            let second = meet_at(alloc, claims, *otherwise, facts)?;
+            Ok(first || second)
         }
-        Jump::Return(_) | Jump::Halt => Ok(()),
+        Jump::Return(_) | Jump::Halt => Ok(false),
     }
 }
 
@@ -95,31 +100,36 @@ fn known_at(
     }
 }
 
-/// Goes through a block, from what is known where it begins to the blocks that it leads to.
+/// Goes through a block, from what is known where it begins to the blocks that it leads to; says whether that changes what is claimed of them.
 fn spread(
     alloc: Global,
     claims: &mut [Claim],
     registers: u32,
     number: usize,
     block: &Block<u32>,
-) -> Result<(), AllocError> {
-    if let Some(mut facts) = known_at(alloc, claims, number)? {
-        pass_lines(&mut facts, registers, block.lines.as_slice())?;
-        lead(alloc, claims, &block.jump, facts.as_slice())?;
+) -> Result<bool, AllocError> {
+    match known_at(alloc, claims, number)? {
+        Some(facts) => {
+            let mut facts = facts;
+            pass_lines(&mut facts, registers, block.lines.as_slice())?;
+            lead(alloc, claims, &block.jump, facts.as_slice())
+        }
+        None => Ok(false),
     }
-    Ok(())
 }
 
+/// Goes through all blocks; says whether that changes what is claimed.
 fn spread_all(
     alloc: Global,
     claims: &mut [Claim],
     registers: u32,
     blocks: &[Block<u32>],
-) -> Result<(), AllocError> {
+) -> Result<bool, AllocError> {
+    let mut changes = false;
     for (number, block) in blocks.iter().enumerate() {
-        spread(alloc, claims, registers, number, block)?;
+        changes = spread(alloc, claims, registers, number, block)? || changes;
     }
-    Ok(())
+    Ok(changes)
 }
 
 /// Nothing is known where the code begins, and no way leads to another block so far.
@@ -159,7 +169,9 @@ pub(crate) fn claims(
 ) -> Result<Vec<Seq<Fact>>, AllocError> {
     let mut claims = first_claims(alloc, blocks.len())?;
     for _ in 0..ROUNDS {
-        spread_all(alloc, claims.as_mut_slice(), registers, blocks)?;
+        if !spread_all(alloc, claims.as_mut_slice(), registers, blocks)? {
+            break;
+        }
     }
     listed(alloc, claims)
 }

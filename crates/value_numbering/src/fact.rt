@@ -4,7 +4,7 @@ ghost use Rattle.vcode.specs.Addresses.{distance};
 ghost use Rattle.value_numbering.specs.Known.{computed, names, reads, asks_memory, changes_memory, spares, stays};
 
 use cfg_live::uses::line_writes;
-use rv_isa::instruction::LoadOp;
+use rv_isa::instruction::{LoadOp, RegOp};
 use vcode::line::{Line, Operation};
 use vcode::place::{Address, Operand};
 
@@ -15,6 +15,8 @@ pub(crate) enum Expression {
     Same(Operand<u32>),
     /// what an operation gives
     Operated(Operation, Operand<u32>, Operand<u32>),
+    /// what the operand does, shifted to the left by so many bits and back by the operation
+    Extended(RegOp, Operand<u32>, u64),
     /// what memory has, so many bytes beyond what the operand holds
     Loaded(LoadOp, Operand<u32>, u64),
 }
@@ -74,6 +76,7 @@ pub(crate) fn reads(register: u32, value: Expression) -> bool
     match value {
         Expression::Same(operand) => names(register, operand),
         Expression::Operated(_, left, right) => names(register, left) || names(register, right),
+        Expression::Extended(_, operand, _) => names(register, operand),
         Expression::Loaded(_, base, _) => names(register, base),
     }
 }

@@ -1,12 +1,13 @@
 //! The facts that are known at a place of a block.
 ghost use Rattle.std.specs.Prelude.{◌≡◌, ◌<◌, ℕ, true, [], filter, OnOk, IfOk, IfSome, slice_get, None, if◌then◌else◌, nat_eq};
-ghost use Rattle.value_numbering.specs.Known.{copied_from, source, copied, canonical, known_by, kept_fact, with_fact, stays, after};
+ghost use Rattle.value_numbering.specs.Known.{copied_from, source, copied, shifted_in, shifted, is_back, extended, joined, canonical, known_by, kept_fact, with_fact, stays, after};
 ghost use Rattle.value_numbering.specs.Reused.{IsIn, AllIn, claims_at};
 
 use crate::fact::{Expression, Fact, computed, reads, stays};
 use crate::same::{same_expression, same_fact};
+use rv_isa::instruction::RegOp;
 use std::alloc::AllocError;
-use vcode::line::Line;
+use vcode::line::{Line, Operation};
 use vcode::place::Operand;
 
 /// The register that a fact says this one is a copy of.
@@ -44,6 +45,90 @@ fn copied(facts: &[Fact], operand: Operand<u32>) -> Operand<u32>
     }
 }
 
+/// What a value is, shifted to the left by so many bits.
+fn shifted_in(value: Expression, bits: u64) -> Option<Operand<u32>>
+    ensures { result ≡ shifted_in value bits }
+{
+    match value {
+        Expression::Operated(Operation::Reg(RegOp::Sll), operand, Operand::Number(by)) => {
+            if by == bits { Some(operand) } else { None }
+        }
+        _ => None,
+    }
+}
+
+/// What a fact says that the register holds, shifted to the left by so many bits.
+fn shifted_by(fact: Fact, register: u32, bits: u64) -> Option<Operand<u32>>
+    ensures { result ≡ if nat_eq fact.register register then shifted_in fact.value bits else None }
+{
+    if fact.register == register {
+        shifted_in(fact.value, bits)
+    } else {
+        None
+    }
+}
+
+/// What the register is first known to hold, shifted to the left by so many bits.
+fn shifted(facts: &[Fact], register: u32, bits: u64) -> Option<Operand<u32>>
+    ensures { result ≡ shifted facts.now register bits }
+{
+    for fact in facts {
+        if let Some(operand) = shifted_by(*fact, register, bits) {
+            return Some(operand);
+        }
+    }
+    None
+}
+
+/// Whether the operation shifts to the right.
+pub(crate) fn is_back(op: RegOp) -> bool
+    ensures { result ≡ is_back op }
+{
+    match op {
+        RegOp::Srl | RegOp::Sra => true,
+        _ => false,
+    }
+}
+
+/// An operation on a register and a number: an extension where it shifts back what was shifted to the left by as many bits.
+fn extended(facts: &[Fact], op: RegOp, register: u32, bits: u64) -> Expression
+    ensures { result ≡ extended facts.now op register bits }
+{
+    let whole = Expression::Operated(
+        Operation::Reg(op),
+        Operand::At(register),
+        Operand::Number(bits),
+    );
+    if is_back(op) {
+        match shifted(facts, register, bits) {
+            Some(operand) => Expression::Extended(op, operand, bits),
+            None => whole,
+        }
+    } else {
+        whole
+    }
+}
+
+fn joined(
+    facts: &[Fact],
+    operation: Operation,
+    left: Operand<u32>,
+    right: Operand<u32>,
+) -> Expression
+    ensures { result ≡ joined facts.now operation left right }
+{
+    match operation {
+        Operation::Reg(op) => match left {
+            Operand::At(register) => match right {
+                Operand::Number(bits) => extended(facts, op, register, bits),
+                _ => Expression::Operated(operation, left, right),
+            },
+            _ => Expression::Operated(operation, left, right),
+        },
+        _ => Expression::Operated(operation, left, right),
+    }
+}
+
 /// The expression of registers that are no copies.
 pub(crate) fn canonical(facts: &[Fact], value: Expression) -> Expression
     ensures { result ≡ canonical facts.now value }
@@ -51,7 +136,10 @@ pub(crate) fn canonical(facts: &[Fact], value: Expression) -> Expression
     match value {
         Expression::Same(operand) => Expression::Same(copied(facts, operand)),
         Expression::Operated(op, left, right) => {
-            Expression::Operated(op, copied(facts, left), copied(facts, right))
+            joined(facts, op, copied(facts, left), copied(facts, right))
+        }
+        Expression::Extended(op, operand, bits) => {
+            Expression::Extended(op, copied(facts, operand), bits)
         }
         Expression::Loaded(op, base, distance) => {
             Expression::Loaded(op, copied(facts, base), distance)

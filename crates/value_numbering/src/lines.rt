@@ -3,10 +3,11 @@ ghost use Rattle.std.specs.Prelude.{◌≡◌, ◌<◌, ℕ, List, true, IfOk, I
 ghost use Rattle.vcode.specs.declared.line.Jump.{Jump as AJump};
 ghost use Rattle.value_numbering.specs.declared.fact.Fact.{Fact as AFact};
 ghost use Rattle.value_numbering.specs.Known.{canonical};
-ghost use Rattle.value_numbering.specs.Reused.{is_dear, is_no_number, IsIn, Made, LeadsWell, AreReused};
+ghost use Rattle.value_numbering.specs.Reused.{is_dear, is_no_number, Holds, Made, LeadsWell, AreReused};
 
 use crate::fact::{Expression, Fact, computed};
 use crate::known::{canonical, holder, pass};
+use crate::narrow::{itself, narrow};
 use rv_isa::instruction::RegOp;
 use std::alloc::{AllocError, Global};
 use vcode::line::{Line, Operation};
@@ -27,7 +28,7 @@ fn is_dear(value: Expression) -> bool
 {
     match value {
         Expression::Same(_) => false,
-        Expression::Operated(_, _, _) => true,
+        Expression::Operated(_, _, _) | Expression::Extended(_, _, _) => true,
         Expression::Loaded(_, base, _) => is_no_number(base),
     }
 }
@@ -40,14 +41,25 @@ fn is_worth(value: Expression) -> bool {
     }
 }
 
+/// A register of the function that holds a value.
+fn held(facts: &[Fact], registers: u32, value: &Expression) -> Option<u32>
+    ensures low { IfSome result (λ r. r < registers) }
+    ensures holds { IfSome result (λ r. Holds facts.now r value.now) }
+{
+    match holder(facts, registers, value) {
+        Some(register) => Some(register),
+        None => itself(facts, registers, value),
+    }
+}
+
 /// The register that holds what a line computes, if it is to be copied.
 fn reused(facts: &[Fact], registers: u32, fact: &Fact) -> Option<u32>
     ensures dear { IfSome result (λ r. is_dear fact.now.value ≡ true) }
     ensures low { IfSome result (λ r. r < registers) }
-    ensures holds { IfSome result (λ r. IsIn (record { register = r; value = canonical facts.now fact.now.value }) facts.now) }
+    ensures holds { IfSome result (λ r. Holds facts.now r (canonical facts.now fact.now.value)) }
 {
     if is_dear(fact.value) && is_worth(fact.value) {
-        holder(facts, registers, &canonical(facts, fact.value))
+        held(facts, registers, &canonical(facts, fact.value))
     } else {
         None
     }
@@ -69,7 +81,24 @@ pub(crate) fn copy(facts: &[Fact], registers: u32, line: &Line<u32>) -> Option<L
     }
 }
 
-/// A line, or a copy in its place.
+/// The line with another register in the place of one, where that does as well.
+fn narrower(facts: &[Fact], registers: u32, line: &Line<u32>) -> Option<Line<u32>>
+    ensures { IfSome result (λ m. Made registers facts.now line.now m) }
+{
+    match line {
+        Line::Store { size, value, at } => match narrow(facts, registers, *size, *value) {
+            Some(register) => Some(Line::Store {
+                size: *size,
+                value: Operand::At(register),
+                at: *at,
+            }),
+            None => None,
+        },
+        _ => None,
+    }
+}
+
+/// A line, or one in its place that does the same.
 fn made(
     alloc: Global,
     facts: &[Fact],
@@ -80,7 +109,10 @@ fn made(
 {
     match copy(facts, registers, line) {
         Some(copy) => Ok(copy),
-        None => line.try_clone(alloc),
+        None => match narrower(facts, registers, line) {
+            Some(narrower) => Ok(narrower),
+            None => line.try_clone(alloc),
+        },
     }
 }
 

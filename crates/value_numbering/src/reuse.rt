@@ -111,7 +111,8 @@ fn reused(
     }
 }
 
-/// The function in which lines that compute what a register holds are copies of it, within blocks and, where the claims are right, across them.
+/// The function in which lines that compute what a register holds are copies of it, and stores of what was extended or masked write what it was made of, within
+/// blocks and, where the claims are right, across them.
 ///
 /// # Errors
 ///

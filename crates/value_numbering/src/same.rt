@@ -53,6 +53,9 @@ pub(crate) fn same_expression(left: &Expression, right: &Expression) -> bool
         (Expression::Operated(op, a, b), Expression::Operated(other, c, d)) => {
             same_operation(op, other) && same_operand(a, c) && same_operand(b, d)
         }
+        (Expression::Extended(op, a, bits), Expression::Extended(other, b, by)) => {
+            op == other && bits == by && same_operand(a, b)
+        }
         (Expression::Loaded(op, a, distance), Expression::Loaded(other, b, far)) => {
             op == other && distance == far && same_operand(a, b)
         }

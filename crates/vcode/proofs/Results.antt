@@ -97,7 +97,7 @@ owed_result v registers blocks owed =
           (params_below v.registers registers owed.more v.code.params named.0) (owed.names named.1);
       low = v.low;
       distinct = v.distinct;
-      keeps = record { params = refl; result = refl; weight = owed.fits.weight; runs = owed.runs };
+      keeps = record { params = refl; result = refl; runs = owed.runs };
     }
 
 -- code of a function's parameters and of these blocks
@@ -115,7 +115,7 @@ result_of v registers these owed params blocks same is =
 -- ---- a function that stays as it is
 
 pub keeps_itself : (c : Coded) → Keeps c c
-keeps_itself c = record { params = refl; result = refl; weight = omega arith; runs = λ globals log i o args fine n logged. (n, logged) }
+keeps_itself c = record { params = refl; result = refl; runs = λ globals log i o args fine n logged. (n, logged) }
 
 -- the code is made of the function's own parameters and blocks
 pub own_result : (v : VFunc) (params : List (Destination ℕ)) (blocks : List (Block ℕ)) → params ≡ v.code.params → blocks ≡ v.code.blocks

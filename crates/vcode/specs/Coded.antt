@@ -7,7 +7,6 @@ use Rattle.vcode.specs.declared.code.Code.{Code}
 use Rattle.vcode.specs.declared.function.VFunc.{VFunc}
 use Rattle.vcode.specs.declared.function.LFunc.{LFunc}
 use Rattle.vcode.specs.Places.{Places, virtual, located}
-use Rattle.vcode.specs.Regular.{code_weight}
 use Rattle.vcode.specs.Step.{State, begin, step}
 
 -- the classes of the values that parameters take
@@ -21,7 +20,6 @@ coded {P} c f =
       State = State P;
       params = classes_in f.params;
       result = f.result;
-      weight = code_weight f;
       start = begin c f;
       step = λ globals. step c globals f;
     }

@@ -1,4 +1,4 @@
-use Rattle.abi_frames.proofs.Labelling.{frames_are_labelled}
+use Rattle.abi_frames.proofs.Promising.{frames_are_labelled}
 use Rattle.abi_frames.proofs.laws.frames_are_labelled.Goals as goal
 
 pub returns : goal.returns

@@ -1,4 +1,4 @@
-use Rattle.abi_frames.proofs.Starting.{frames_perform}
+use Rattle.abi_frames.proofs.Promising.{frames_perform}
 use Rattle.abi_frames.proofs.laws.frames_perform.Goals as goal
 
 pub returns : goal.returns

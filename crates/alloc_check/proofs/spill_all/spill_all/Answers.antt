@@ -30,6 +30,9 @@ returns-clause-kept c =
     let v = c.args.function.now in
     subst (λ (l : Code Location). Keeps (virtual_code v) (coded located l)) (sym c.in_ok-code.ensures) (in_slots_keeps v.code)
 
+pub returns-clause-light : goal.returns-clause-light
+returns-clause-light c = ap (λ (l : Code Location). code_weight l) c.in_ok-code.ensures ∙ slots_weigh_same c.args.function.now.code
+
 pub returns-clause-takes : goal.returns-clause-takes
 returns-clause-takes c =
     let v = c.args.function.now in

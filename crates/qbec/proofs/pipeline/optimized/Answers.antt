@@ -3,14 +3,13 @@ use Rattle.il_ast.specs.Passes.{Keeps}
 use Rattle.il_ast.proofs.Passing.{passes_stay}
 use Rattle.vcode.specs.declared.function.LFunc.{LFunc}
 use Rattle.vcode.specs.Coded.{virtual_code, location_code}
+use Rattle.qbec.proofs.Standing.{stands}
 use Rattle.qbec.proofs.pipeline.optimized.Goals as goal
 
-pub returns : goal.returns
-returns g c =
+pub returns-then-is_short : goal.returns-then-is_short
+returns-then-is_short g c =
+    let f = c.args.func.now in
     let v = c.in_ok-function.function in
-    record {
-      is =
-          passes_stay c.args.func.now (virtual_code v) (location_code c.flat.result.located) c.in_ok-function.ensures
-          (subst (λ (l : LFunc). Keeps (virtual_code v) (location_code l)) (sym c.flat.ensures.same) c.in_ok-placed.ensures);
-      bytes = c.flat.ensures.keeps;
-    }
+    let l = c.flat-placed.result.located in
+    let kept = subst (λ (x : LFunc). Keeps (virtual_code v) (location_code x)) (sym c.flat-placed.ensures.same) c.in_ok-located.ensures in
+    (stands f l c.in_ok-code.code (passes_stay f (virtual_code v) (location_code l) c.in_ok-function.ensures kept) c.flat-placed.ensures.keeps (c.is_small.ensures c.if-is_small.true) c.in_ok-code.ensures, c.is_short.ensures c.if-is_short.true)

@@ -1,3 +1,6 @@
+use Rattle.std.proofs.Common.{subst}
+use Rattle.il_ast.specs.declared.function.Func.{Func}
+use Rattle.il_ast.specs.Passes.{IsCodeOf}
 use Rattle.il_ast.proofs.Passing.{passes_stay}
 use Rattle.vcode.specs.Coded.{virtual_code}
 use Rattle.qbec.proofs.pipeline.virtual_code_of.Goals as goal
@@ -5,7 +8,23 @@ use Rattle.qbec.proofs.pipeline.virtual_code_of.Goals as goal
 pub returns : goal.returns
 returns c =
     let f = c.args.func.now in
-    let v = virtual_code c.in_ok-selected.selected in
-    let w = virtual_code c.in_ok-simplified.simplified in
-    let kept = passes_stay f v w c.in_ok-selected.ensures c.in_ok-simplified.ensures in
-    passes_stay f w (virtual_code c.in_ok-arranged.arranged) kept c.in_ok-arranged.ensures
+    let a = virtual_code c.in_ok-selected.selected in
+    let b = virtual_code c.in_ok-extended.extended in
+    let d = virtual_code c.in_ok-propagated.propagated in
+    let e = virtual_code c.in_ok-hoisted.hoisted in
+    let h = virtual_code c.in_ok-reused.reused in
+    let i = virtual_code c.in_ok-again.again in
+    let j = virtual_code c.in_ok-live.live in
+    let k = virtual_code c.in_ok-read.read in
+    let l = virtual_code c.in_ok-held.held in
+    let m = virtual_code c.in_ok-ordered.ordered in
+    let is_a = subst (λ (f : Func). IsCodeOf f a) c.in_ok-lowered.ensures.same c.in_ok-selected.ensures.is in
+    let is_b = passes_stay f a b is_a c.in_ok-extended.ensures.kept in
+    let is_d = passes_stay f b d is_b c.in_ok-propagated.ensures.kept in
+    let is_e = passes_stay f d e is_d c.in_ok-hoisted.ensures in
+    let is_h = passes_stay f e h is_e c.in_ok-reused.ensures in
+    let is_i = passes_stay f h i is_h c.in_ok-again.ensures.kept in
+    let is_j = passes_stay f i j is_i c.in_ok-live.ensures.kept in
+    let is_k = passes_stay f j k is_j c.in_ok-read.ensures.kept in
+    let is_l = passes_stay f k l is_k c.in_ok-held.ensures in
+    passes_stay f l m is_l c.in_ok-ordered.ensures.kept

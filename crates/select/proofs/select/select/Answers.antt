@@ -1,5 +1,5 @@
 use Rattle.std.proofs.Common.{ℕ, ◌+◌, ◌≤◌, length, sym, ◌∙◌, ap, subst, arith}
-use Rattle.il_ast.specs.Cost.{phi_count, need}
+use Rattle.il_ast.specs.Cost.{phi_count, need, weight}
 use Rattle.phi_copies.specs.Endings.{Endings}
 use Rattle.phi_copies.proofs.Counting.{is_small}
 use Rattle.il_ast.specs.Passes.{IsCodeOf}
@@ -51,6 +51,14 @@ returns-clause-takes c =
     let many = c.low_bits.ensures ∙ small c.count_registers-registers.result (omega (arith, all, few)) ∙ all in
     subst (λ n. frame_bound c.in_ok-code.code n ≤ need f) (sym many)
     (subst (λ (v : Code ℕ). frame_bound v (length f.temps + phi_count f) ≤ need f) (sym is) (takes_no_more (classes_in f) f code s.lowered))
+
+pub returns-clause-light : goal.returns-clause-light
+returns-clause-light c =
+    let s = c.args.source.now in
+    let f = s.func.now in
+    let code : Endings = record { endings = s.endings; edges = s.edges } in
+    let is = c.in_ok-code.ensures ∙ is_selected_by f code s.good s.lowered c.as_slice.result.now c.in_ok-classes.classes c.as_slice.ensures c.in_ok-classes.ensures.entries in
+    subst (λ (v : Code ℕ). code_weight v ≤ weight f) (sym is) (weighs_no_more (classes_in f) f code s.good s.lowered)
 
 pub invariant_of-result : goal.invariant_of-result
 invariant_of-result c =

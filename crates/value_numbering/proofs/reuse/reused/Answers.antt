@@ -1,6 +1,5 @@
 use Rattle.std.proofs.Common.{◌≡◌, ℕ, Option, IfSome, Vec, Global, List, [], ◌∷◌, length, refl, sym, ◌∙◌, ap, subst}
 use Rattle.vcode.specs.declared.code.Block.{Block}
-use Rattle.vcode.specs.declared.code.Code.{Code}
 use Rattle.vcode.specs.declared.function.VFunc.{VFunc}
 use Rattle.vcode.specs.declared.place.Destination.{Destination}
 use Rattle.vcode.proofs.Results.{Result, result_of}

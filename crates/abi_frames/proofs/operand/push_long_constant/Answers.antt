@@ -1,6 +1,0 @@
-use Rattle.abi_frames.proofs.Joining.{joined_4}
-use Rattle.abi_frames.proofs.operand.push_long_constant.Goals as goal
-
-pub returns : goal.returns
-returns c =
-    joined_4 _ _ _ _ _ _ _ _ _ c.in_ok-push_top.ensures c.in_ok-push_part.ensures c.in_ok-push_part-2.ensures c.in_ok-push_part-3.ensures

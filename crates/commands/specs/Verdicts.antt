@@ -1,0 +1,79 @@
+-- What is found of texts, and the lines that show it.
+use Rattle.std.specs.Prelude.{◌≡◌, ◌≢◌, ℕ, ◌+◌, ◌++◌, List, [], ◌∷◌, codes, map, slice_get, unwrap_or}
+use Rattle.std.specs.Fmt.{decimal}
+use Rattle.std.specs.String.{string_bytes}
+use Rattle.il_ast.specs.declared.program.Program.{Program}
+use Rattle.il_types.specs.RuleNumber.{rule_number}
+use Rattle.diagnostics.specs.declared.note.Note.{Note}
+use Rattle.qbec.specs.declared.error.CompileError.{CompileError}
+use Rattle.qbec.specs.declared.error.CompileError.TheVariants.{Syntax, Rule, UnknownName, ExportedTwice, NoMain, Limit, Memory}
+use Rattle.qbec.specs.Texts.{AreProgram}
+use Rattle.qbec.specs.Refusals.{Refuses}
+use Rattle.commands.specs.declared.verdict.Finding.{Finding}
+use Rattle.commands.specs.declared.verdict.Verdict.{Verdict}
+use Rattle.commands.specs.declared.verdict.Verdict.TheVariants.{Sound, Refused}
+
+-- ---- what is true of texts
+
+-- the note stands at the line that the refusal names, if it names one; notes number texts from 0
+abbrev pub StandsAt : CompileError → Note → Type 0
+StandsAt (Syntax text line) note = (text ≡ note.text + 1) × (line ≡ note.line)
+StandsAt (Rule text fault) note = (text ≡ note.text + 1) × (fault.line ≡ note.line)
+StandsAt e note = Unit {0}
+
+-- the texts are refused so, and not for want of memory; and the note stands there
+pub record IsTrue (texts : List (List ℕ)) (f : Finding) : Type 0 where
+  pub says : Refuses f.refusal texts
+  pub known : f.refusal ≢ Memory
+  pub place : StandsAt f.refusal f.note
+
+abbrev pub AreTrue : (texts : List (List ℕ)) → List Finding → Type 0
+AreTrue texts [] = Unit {0}
+AreTrue texts (f ∷ findings) = IsTrue texts f × AreTrue texts findings
+
+-- the texts are a program; or they are refused, for these reasons
+abbrev pub IsVerdict : (texts : List (List ℕ)) → Verdict → Type 0
+IsVerdict texts (Sound warnings) = (p : Program) × AreProgram texts p
+IsVerdict texts (Refused findings) = (findings.items ≢ []) × AreTrue texts findings.items
+
+-- the status that tells it
+abbrev pub verdict_status : Verdict → ℕ
+verdict_status (Sound warnings) = 0
+verdict_status (Refused findings) = 126
+
+-- of texts that are a program no verdict is that they are refused
+abbrev pub ProgramsAreSound : Type 0
+ProgramsAreSound =
+    (texts : List (List ℕ)) (p : Program) (v : Verdict) → AreProgram texts p →
+    IsVerdict texts v → verdict_status v ≡ 0
+
+-- ---- lines, each with its line end
+
+-- the code of a refusal
+abbrev pub code_of : CompileError → List ℕ
+code_of (Syntax text line) = codes "E1"
+code_of (Rule text fault) = codes "E2 C" ++ decimal (rule_number fault.rule)
+code_of (UnknownName name) = codes "E3"
+code_of (ExportedTwice name) = codes "E4"
+code_of NoMain = codes "E5"
+code_of Limit = codes "E6"
+code_of Memory = codes "E7"
+
+-- the path of a text
+abbrev pub path_of : (paths : List (List ℕ)) (text : ℕ) → List ℕ
+path_of paths text = unwrap_or (slice_get paths text) (codes "?")
+
+unfoldable pub error_line : (paths : List (List ℕ)) → Finding → List ℕ
+error_line paths f =
+    path_of paths f.note.text ++ codes ":" ++ decimal f.note.line ++ codes ": error: "
+    ++ string_bytes f.note.words ++ codes " [" ++ code_of f.refusal ++ codes "]\n"
+
+unfoldable pub warning_line : (paths : List (List ℕ)) → Note → List ℕ
+warning_line paths note =
+    path_of paths note.text ++ codes ":" ++ decimal note.line ++ codes ": warning: "
+    ++ string_bytes note.words ++ codes "\n"
+
+-- a line for each reason, or for each warning
+abbrev pub verdict_lines : (paths : List (List ℕ)) → Verdict → List (List ℕ)
+verdict_lines paths (Sound warnings) = map (warning_line paths) warnings.items
+verdict_lines paths (Refused findings) = map (error_line paths) findings.items
