@@ -4,6 +4,7 @@ use Rattle.std.specs.Prelude.{◌&&◌, nat_eq, nat_le, if◌then◌else◌, map
 use Rattle.std.specs.Option.{option_map, option_and_then}
 use Rattle.std.specs.List.{list_all, sum_by}
 use Rattle.std.proofs.lemmas.Bool.{and_parts}
+use Rattle.il_ast.specs.declared.limits.TheConstants.{FUNCTION_WEIGHT}
 use Rattle.il_ast.specs.declared.operation.Class.{Class}
 use Rattle.il_ast.specs.Operations.{holds, truth}
 use Rattle.il_ast.specs.declared.value.End.TheVariants.{Turns}
@@ -93,7 +94,7 @@ quick_state j i next numbers t = record { block = i; next = next; numbers = numb
 came_back : (c : Setting) (f : Code Location) (j : FlatGiven) (e : EarlyReturn) (most : ℕ) (a : CameTo c most (quick_label c.layout)) (t : Spent) (x wanted : Option ℕ)
     → (z : Ends (site c) (quick_items c.layout e.value) a.after (QuickBack c wanted))
     → StandAt (site c) (quick_items c.layout e.value ++ []) (c.label (quick_label c.layout)) → HoldsSpots c.world.memory_map j.memory c.start
-    → most + longest_size (quick_items c.layout e.value) ≤ 32 * t.weight + 256 → t.turns ≤ 40000 → t.output ≡ []
+    → most + longest_size (quick_items c.layout e.value) ≤ 32 * t.weight + 256 → t.turns ≤ FUNCTION_WEIGHT → t.output ≡ []
     → ((u : State) → QuickBack c wanted u → ResultIn f.result x u)
     → Performed c f (FlatReturned t x (closed j.memory (c.sp - c.area) (area f)))
 came_back c f j e most a t x wanted z stands memory price turns output result =
@@ -166,7 +167,7 @@ found c f slots j e r log call u same a v known good =
     ∙ operand_origin_known c call.stands.code.setting f.params j.args a v (passed_args c f slots j e r log call) call.is.apart known good
 
 -- turns run out with nothing done
-ran_out : (c : Setting) (f : Code Location) (r : FlatOutcome) (t : Spent) → t.turns ≤ 40000 → t.output ≡ [] → FlatEnded t Turns ≡ r → Performed c f r
+ran_out : (c : Setting) (f : Code Location) (r : FlatOutcome) (t : Spent) → t.turns ≤ FUNCTION_WEIGHT → t.output ≡ [] → FlatEnded t Turns ≡ r → Performed c f r
 ran_out c f r t turns output e =
     let stop : Performed c f (FlatEnded t Turns) = record {
       steps = 0;
@@ -240,7 +241,7 @@ quick_way c f slots j e r log call a m before t same_before turns output goes =
     size = quick_size c.layout e.value (value_short f e early)
 
     -- with a value
-    returned : (u : Spent) → u.turns ≤ 40000 → u.output ≡ [] → (x : ReturnValue Location) → e.value ≡ Some (value_origin f.params x)
+    returned : (u : Spent) → u.turns ≤ FUNCTION_WEIGHT → u.output ≡ [] → (x : ReturnValue Location) → e.value ≡ Some (value_origin f.params x)
         → is_bare (operand_origin f.params x.value) ≡ true
         → (q : Class) → f.result ≡ Some q → (v z : ℕ) → number_of c.addresses (passed_numbers f j) x.value ≡ Some v → PassedSo x.extension q v z
         → FlatReturned u (Some z) (closed j.memory base (area f)) ≡ r → Performed c f r
@@ -261,7 +262,7 @@ quick_way c f slots j e r log call a m before t same_before turns output goes =
         (back.result n refl
         ∙ (ap (λ y. passed (passed_class x.extension q) (taken (passed_class x.extension q) y)) value ∙ (so.stands ∙ ap (passed q) so.is)))))
 
-    by_value : (n next : ℕ) (now : Numbers) (u : Spent) → AllSame c early.end.lines before now → u.turns ≤ 40000 → u.output ≡ [] → (v : Option (ReturnValue Location))
+    by_value : (n next : ℕ) (now : Numbers) (u : Spent) → AllSame c early.end.lines before now → u.turns ≤ FUNCTION_WEIGHT → u.output ≡ [] → (v : Option (ReturnValue Location))
         → e.value ≡ option_map (value_origin f.params) v → value_is_passed f.params early.block.lines v ≡ true
         → Then c f j r n log (flat_jump f c.addresses base (quick_state j early.quick next now u) (Return v)) → Performed c f r
     by_value n next now u known turns output None is_v was d =

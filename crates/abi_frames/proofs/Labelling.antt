@@ -5,6 +5,7 @@ use Rattle.std.specs.List.{list_all}
 use Rattle.std.proofs.lemmas.Bool.{and_parts, and_from}
 use Rattle.std.proofs.lemmas.Bool.Decides.{nat_tests}
 use Rattle.std.proofs.lemmas.List.Folds.{list_all-append}
+use Rattle.il_ast.specs.declared.limits.TheConstants.{FUNCTION_WEIGHT}
 use Rattle.rv_isa.specs.declared.instruction.RegOp.{RegOp}
 use Rattle.rv_isa.specs.declared.instruction.RegOp.TheVariants.{Sub, Slt, Sltu}
 use Rattle.il_ast.specs.declared.operation.Condition.{Condition}
@@ -850,7 +851,7 @@ function_labelled f slots is =
     let blocks = blocks_labelled (n + 1) y slots n 0 f.blocks (omega arith) (omega arith) (omega arith) known.1 is.regular.inside in
     let at_most = le_is (length f.params) 64 is.regular.few_params in
     let size = function_size y rs f.params f.blocks (few_saved_registers f) (slots_near f is.regular) at_most is.near is.regular.paid in
-    let light = le_is (code_weight f) 40000 is.light in
+    let light = le_is (code_weight f) FUNCTION_WEIGHT is.light in
     let some = some_size y rs in
     let whole = append_assoc (prologue y rs) (entry_items y f.params) tail in
     let sum_whole = ap longest_size whole in

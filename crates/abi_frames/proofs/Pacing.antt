@@ -4,6 +4,7 @@ use Rattle.std.specs.Prelude.{if◌then◌else◌, slice_get, Some}
 use Rattle.std.specs.List.{sum_by}
 use Rattle.std.proofs.lemmas.List.Sums.{sum_by-cons}
 use Rattle.std.proofs.lemmas.Bool.Decides.{nat_tests}
+use Rattle.il_ast.specs.declared.limits.TheConstants.{FUNCTION_WEIGHT}
 use Rattle.vcode.specs.declared.place.Location.{Location}
 use Rattle.vcode.specs.declared.code.Block.{Block}
 use Rattle.vcode.specs.declared.code.Code.{Code}
@@ -42,7 +43,7 @@ abbrev pub landing_if : Bool → Code Location → (i : ℕ) → ℕ
 landing_if falls f i = if falls then turns_before f.blocks i else 0
 
 abbrev pub standing_if : Bool → Code Location → (i : ℕ) → ℕ
-standing_if falls f i = if falls then turns_before f.blocks (suc i) else 40000
+standing_if falls f i = if falls then turns_before f.blocks (suc i) else FUNCTION_WEIGHT
 
 -- at the label of the block i, and at a line of it with those of the lines that are left
 abbrev pub landing : Code Location → (i : ℕ) → ℕ
@@ -51,17 +52,17 @@ landing f i = landing_if (falls_through f) f i
 abbrev pub standing : Code Location → (i : ℕ) → ℕ
 standing f i = standing_if (falls_through f) f i
 
-pub few_standing : (f : Code Location) (i : ℕ) → standing f i ≤ 40000
+pub few_standing : (f : Code Location) (i : ℕ) → standing f i ≤ FUNCTION_WEIGHT
 few_standing f i = by_test (falls_through f) refl
   where
-    by_test : (b : Bool) → falls_through f ≡ b → standing_if b f i ≤ 40000
+    by_test : (b : Bool) → falls_through f ≡ b → standing_if b f i ≤ FUNCTION_WEIGHT
     by_test true e =
         let all = at_most_all f.blocks (suc i) in
-        let few : turns_in f ≤ 40000 = grind (arith, nat_tests) in
+        let few : turns_in f ≤ FUNCTION_WEIGHT = grind (arith, nat_tests) in
         omega (arith, all, few)
     by_test false e = omega arith
 
-pub lands_on : (f : Code Location) (i : ℕ) (b : Block Location) → slice_get f.blocks i ≡ Some b → block_turns b ≤ 40000
+pub lands_on : (f : Code Location) (i : ℕ) (b : Block Location) → slice_get f.blocks i ≡ Some b → block_turns b ≤ FUNCTION_WEIGHT
     → landing f i + block_turns b ≤ standing f i
 lands_on f i b e few = by_test (falls_through f)
   where

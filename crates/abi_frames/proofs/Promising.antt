@@ -1,6 +1,7 @@
 -- The laws of the code of frames.
 use Rattle.std.proofs.Common.{◌≡◌, ℕ, ◌+◌, ◌*◌, ◌^◌, ◌<◌, ◌≤◌, List, refl, arith}
 use Rattle.std.specs.Prelude.{length, slice_get, Option, Some, None}
+use Rattle.il_ast.specs.declared.limits.TheConstants.{FUNCTION_WEIGHT}
 use Rattle.rv_isa.specs.Labels.{IsLabelled, longest_size}
 use Rattle.rv_isa.specs.Labelled.{Stand}
 use Rattle.vcode.specs.declared.place.Location.{Location}
@@ -41,7 +42,7 @@ labelled_by f slots is None h = function_labelled f slots is
 labelled_by f slots is (Some e) h =
     let early = early_is f slots e h in
     let size = early_small f slots e early is in
-    let light = le_is (code_weight f) 40000 is.light in
+    let light = le_is (code_weight f) FUNCTION_WEIGHT is.light in
     early_labelled f slots e is (left_short f e early).0 (right_short f e early).0 (value_short f e early) (omega (arith, size, light))
 
 pub frames_are_labelled : FramesAreLabelled

@@ -6,6 +6,7 @@ use Rattle.std.specs.List.{list_all, list_any}
 use Rattle.std.proofs.lemmas.Bool.{and_parts}
 use Rattle.std.proofs.lemmas.Bool.Decides.{nat_tests}
 use Rattle.std.proofs.lemmas.List.Sums.{sum_by-cons}
+use Rattle.il_ast.specs.declared.limits.TheConstants.{FUNCTION_WEIGHT}
 use Rattle.il_ast.specs.declared.operation.Class.{Class}
 use Rattle.il_ast.specs.Operations.{holds, truth}
 use Rattle.il_ast.specs.declared.value.End.TheVariants.{Halt as Halted, Turns}
@@ -257,7 +258,7 @@ line_case c f is j r n go b (Call to callee args) lines fs k u a log goes all = 
 -- after the code of a jump
 landed : (c : Setting) (f : Code Location) (j : Jump Location) (fs : FlatState) (k : ℕ) (u : State) (l extra : ℕ) (a : AtJump c f j fs k u)
     → (m : Arrives (site c) c.layout.falls (fs.block + 1) (longest_size (jump_items c.layout (fs.block + 1) j)) u l (Scratched u))
-    → fs.spent.turns ≤ 40000 * (k + m.steps) + extra → Landed c (c.label l) extra fs (k + m.steps) m.after
+    → fs.spent.turns ≤ FUNCTION_WEIGHT * (k + m.steps) + extra → Landed c (c.label l) extra fs (k + m.steps) m.after
 landed c f j fs k u l extra a m pace =
     let few = m.few in
     let size = jump_size c.layout (fs.block + 1) j in
@@ -274,11 +275,11 @@ landed c f j fs k u l extra a m pace =
     }
 
 -- a jump is an instruction, which pays for all that stands before its target; where there is none, the code goes on with the next block
-keeps_pace : (c : Setting) (f : Code Location) → CodeStands c f → (i l turns k steps : ℕ) → turns ≤ 40000 * k + standing f i
-    → (steps ≡ 0 → (c.layout.falls ≡ true) × (l ≡ i + 1)) → turns ≤ 40000 * (k + steps) + landing f l
+keeps_pace : (c : Setting) (f : Code Location) → CodeStands c f → (i l turns k steps : ℕ) → turns ≤ FUNCTION_WEIGHT * k + standing f i
+    → (steps ≡ 0 → (c.layout.falls ≡ true) × (l ≡ i + 1)) → turns ≤ FUNCTION_WEIGHT * (k + steps) + landing f l
 keeps_pace c f is i l turns k steps pace fell = by_test (nat_eq steps 0) refl
   where
-    by_test : (b : Bool) → nat_eq steps 0 ≡ b → turns ≤ 40000 * (k + steps) + landing f l
+    by_test : (b : Bool) → nat_eq steps 0 ≡ b → turns ≤ FUNCTION_WEIGHT * (k + steps) + landing f l
     by_test true e =
         let none : steps ≡ 0 = grind (arith, nat_tests) in
         let both = fell none in
@@ -379,7 +380,7 @@ closed_there f at n x h e = h (by_test (is_in at n x))
     by_test false = e
 
 -- from the label of the frame's end
-leave_case : (c : Setting) (f : Code Location) → CodeStands c f → (fs : FlatState) (k : ℕ) (w : State) (x : Option ℕ) → Landed c (c.label c.layout.leave) 40000 fs k w
+leave_case : (c : Setting) (f : Code Location) → CodeStands c f → (fs : FlatState) (k : ℕ) (w : State) (x : Option ℕ) → Landed c (c.label c.layout.leave) FUNCTION_WEIGHT fs k w
     → ((t : State) → t.registers 10 ≡ w.registers 10 → ResultIn f.result x t)
     → Performed c f (FlatReturned fs.spent x (closed fs.memory (c.sp - c.area) (area f)))
 leave_case c f is fs k w x a held =
@@ -500,7 +501,7 @@ return_nothing c f is r fs k u a e =
     let bound = few_standing f fs.block in
     let pace = a.pace in
     subst (λ o. Performed c f o) e
-    (leave_case c f is fs (k + m.steps) m.after None (landed c f (Return None) fs k u c.layout.leave 40000 a m (omega (arith, bound, pace)))
+    (leave_case c f is fs (k + m.steps) m.after None (landed c f (Return None) fs k u c.layout.leave FUNCTION_WEIGHT a m (omega (arith, bound, pace)))
     (λ t same. no_result f.result t))
 
 return_case : (c : Setting) (f : Code Location) → CodeStands c f → (j : FlatGiven) (r : FlatOutcome) (n : ℕ) (y : ReturnValue Location) (fs : FlatState) (k : ℕ) (u : State)

@@ -4,6 +4,7 @@ use Rattle.std.specs.Prelude.{◌&&◌, ◌||◌, nat_le, slice_get, Some, max}
 use Rattle.std.specs.List.{list_all, list_any, sum_by}
 use Rattle.std.proofs.lemmas.Bool.{and_parts}
 use Rattle.std.proofs.lemmas.List.Sums.{sum_by-cons}
+use Rattle.il_ast.specs.declared.limits.TheConstants.{FUNCTION_WEIGHT}
 use Rattle.il_ast.specs.declared.value.End.TheVariants.{Undefined}
 use Rattle.il_ast.specs.Run.{Spent, one_call}
 use Rattle.il_ast.specs.Logged.{Entry, LoggedEvent, Logged}
@@ -45,7 +46,7 @@ pub record BlockStands (c : Setting) (b : Block Location) (i : ℕ) : Type 0 whe
   pub known : list_all (line_keeps (is_place c.slots)) b.lines ≡ true
   pub jump_known : jump_keeps (is_place c.slots) b.jump ≡ true
   pub paid : affords 0 b.jump b.lines ≡ true
-  pub paced : sum_by turns_of b.lines ≤ 40000
+  pub paced : sum_by turns_of b.lines ≤ FUNCTION_WEIGHT
   pub blocks : ℕ
   pub inside : leads_inside blocks b.jump ≡ true
   pub room : sum_by alloc_bytes b.lines ≤ c.area
@@ -85,7 +86,7 @@ pub record At (c : Setting) (f : Code Location) (b : Block Location) (lines : Li
   pub credit : ℕ
   pub paid : affords credit b.jump lines ≡ true
   pub price : k + credit + 24 ≤ allowed fs
-  pub pace : fs.spent.turns + sum_by turns_of lines ≤ 40000 * k + standing f fs.block
+  pub pace : fs.spent.turns + sum_by turns_of lines ≤ FUNCTION_WEIGHT * k + standing f fs.block
   pub blocks : ℕ
   pub inside : leads_inside blocks b.jump ≡ true
   pub room : used + sum_by alloc_bytes lines ≤ c.area
@@ -105,7 +106,7 @@ pub record AtJump (c : Setting) (f : Code Location) (j : Jump Location) (fs : Fl
   pub blocks : ℕ
   pub inside : leads_inside blocks j ≡ true
   pub price : k + credit + 24 ≤ allowed fs
-  pub pace : fs.spent.turns ≤ 40000 * k + standing f fs.block
+  pub pace : fs.spent.turns ≤ FUNCTION_WEIGHT * k + standing f fs.block
 
 -- the machine is where it goes on after a jump; so many turns may have begun beside those that instructions pay for
 pub record Landed (c : Setting) (to extra : ℕ) (fs : FlatState) (k : ℕ) (u : State) : Type 0 where
@@ -115,7 +116,7 @@ pub record Landed (c : Setting) (to extra : ℕ) (fs : FlatState) (k : ℕ) (u :
   pub comes : Comes c.start k u
   pub output : u.output ≡ c.start.output ++ fs.spent.output
   pub price : k + 24 ≤ allowed fs
-  pub pace : fs.spent.turns ≤ 40000 * k + extra
+  pub pace : fs.spent.turns ≤ FUNCTION_WEIGHT * k + extra
 
 -- ---- what is to be shown
 

@@ -1,5 +1,5 @@
 -- From the call of a function to its first line: where its code stands, what the begin of its frame leaves, and that it keeps its promise.
-use Rattle.il_ast.specs.declared.limits.TheConstants.{ALLOC_BYTES}
+use Rattle.il_ast.specs.declared.limits.TheConstants.{FUNCTION_WEIGHT, ALLOC_BYTES}
 use Rattle.std.proofs.Common.{◌≡◌, ℕ, zero, suc, ◌+◌, ◌-◌, ◌*◌, ◌%◌, ◌^◌, ◌<◌, ◌≤◌, Bool, true, false, List, [], ◌∷◌, ◌++◌, refl, sym, ◌∙◌, ap, subst, arith, lit<, zero-add, append_assoc, append-nil}
 use Rattle.std.specs.Prelude.{not, nat_le, nat_lt, if◌then◌else◌, map, length, slice_get, Some, None}
 use Rattle.std.specs.List.{list_all, list_any, sum_by}
@@ -327,14 +327,14 @@ block_stands c f slots same same_area same_saves is b i e code =
     let inside = each (λ (d : Block Location). leads_inside (length f.blocks) d.jump) f.blocks i b is.regular.inside e in
     let within = block_within f.blocks i b e in
     let passes = block_passes f.blocks i b e in
-    let paced = each (λ (d : Block Location). nat_le (sum_by turns_of d.lines) 40000) f.blocks i b is.regular.paced e in
+    let paced = each (λ (d : Block Location). nat_le (sum_by turns_of d.lines) FUNCTION_WEIGHT) f.blocks i b is.regular.paced e in
     record {
       rest = code.rest;
       stands = code.stands;
       known = parts.0;
       jump_known = parts.1;
       paid = pays;
-      paced = le_is (sum_by turns_of b.lines) 40000 paced;
+      paced = le_is (sum_by turns_of b.lines) FUNCTION_WEIGHT paced;
       blocks = length f.blocks;
       inside = inside;
       room = omega (arith, within, same_area);

@@ -1,6 +1,7 @@
 -- The checker's tests, taken together, are what makes a certificate accepted.
 use Rattle.std.proofs.Common.{◌≡◌, ℕ, Bool, true, false, ◌&&◌, refl, sym, ◌∙◌, ap}
 use Rattle.std.specs.List.{list_all}
+use Rattle.std.proofs.lemmas.Bool.{and_parts}
 use Rattle.vcode.specs.declared.place.Location.{Location}
 use Rattle.vcode.specs.declared.code.Code.{Code}
 use Rattle.vcode.specs.declared.function.VFunc.{VFunc}
@@ -12,7 +13,6 @@ use Rattle.alloc_check.specs.Certified.{placed_by, is_sound}
 use Rattle.alloc_check.specs.Owners.{are_apart}
 use Rattle.alloc_check.specs.Accepted.{exists_in, equalities_exist, names_once, has_lengths, is_whole, is_placed, is_accepted}
 use Rattle.alloc_check.specs.Walk.{sound_in}
-use Rattle.alloc_check.proofs.Agreeing.{both_true}
 use Rattle.alloc_check.proofs.Certifies.{from_true}
 use Rattle.alloc_check.proofs.Walks.{sound_is}
 
@@ -25,9 +25,9 @@ pub record Parts (slots : ℕ) (l : Code Location) : Type 0 where
 
 pub parts : (slots : ℕ) (l : Code Location) → is_placed slots l ≡ true → Parts slots l
 parts slots l h =
-    let first = both_true (keeps_places (is_place slots) l) (are_near l.params && (are_distinct located l.params && list_all is_paid l.blocks)) h in
-    let second = both_true (are_near l.params) (are_distinct located l.params && list_all is_paid l.blocks) first.1 in
-    let third = both_true (are_distinct located l.params) (list_all is_paid l.blocks) second.1 in
+    let first = and_parts (keeps_places (is_place slots) l) (are_near l.params && (are_distinct located l.params && list_all is_paid l.blocks)) h in
+    let second = and_parts (are_near l.params) (are_distinct located l.params && list_all is_paid l.blocks) first.1 in
+    let third = and_parts (are_distinct located l.params) (list_all is_paid l.blocks) second.1 in
     record { places = first.0; near = second.0; apart = third.0; paid = third.1 }
 
 -- the tests before code is made
@@ -51,9 +51,9 @@ and_three false b d = refl
 pub starts_there : (v : VFunc) (c : Certificate) → is_whole v c ≡ true → (list_all (exists_in v.registers) c.everywhere ≡ true) × (equalities_exist v.registers c.starts ≡ true)
 starts_there v c h =
     let places : Bool = equalities_exist v.registers c.places && list_all names_once c.places in
-    let rest = both_true (has_lengths v.code c) (list_all (exists_in v.registers) c.everywhere && (equalities_exist v.registers c.starts && places)) h in
-    let every = both_true (list_all (exists_in v.registers) c.everywhere) (equalities_exist v.registers c.starts && places) rest.1 in
-    (every.0, (both_true (equalities_exist v.registers c.starts) places every.1).0)
+    let rest = and_parts (has_lengths v.code c) (list_all (exists_in v.registers) c.everywhere && (equalities_exist v.registers c.starts && places)) h in
+    let every = and_parts (list_all (exists_in v.registers) c.everywhere) (equalities_exist v.registers c.starts && places) rest.1 in
+    (every.0, (and_parts (equalities_exist v.registers c.starts) places every.1).0)
 
 pub tests_accept : (v : VFunc) (c : Certificate) → (right_in v c && is_placed v.registers (placed_by v.code c)) ≡ is_accepted v c
 tests_accept v c =
@@ -70,12 +70,12 @@ accepted v c h d = sym (tests_accept v c) ∙ ap (λ b. b && is_placed v.registe
 -- that it is whole, and that it is sound and placed
 pub accepted_parts : (v : VFunc) (c : Certificate) → is_accepted v c ≡ true → (is_whole v c ≡ true) × ((is_sound v.code c && is_placed v.registers (placed_by v.code c)) ≡ true)
 accepted_parts v c h =
-    let first = both_true (is_whole v c) (are_apart c.everywhere && (is_sound v.code c && is_placed v.registers (placed_by v.code c))) h in
-    (first.0, (both_true (are_apart c.everywhere) (is_sound v.code c && is_placed v.registers (placed_by v.code c)) first.1).1)
+    let first = and_parts (is_whole v c) (are_apart c.everywhere && (is_sound v.code c && is_placed v.registers (placed_by v.code c))) h in
+    (first.0, (and_parts (are_apart c.everywhere) (is_sound v.code c && is_placed v.registers (placed_by v.code c)) first.1).1)
 
 pub accepted_sound : (v : VFunc) (c : Certificate) → is_accepted v c ≡ true → is_sound v.code c ≡ true
 accepted_sound v c h =
-    (both_true (is_sound v.code c) (is_placed v.registers (placed_by v.code c)) (accepted_parts v c h).1).0
+    (and_parts (is_sound v.code c) (is_placed v.registers (placed_by v.code c)) (accepted_parts v c h).1).0
 
 pub unplaced : (v : VFunc) (c : Certificate) → is_placed v.registers (placed_by v.code c) ≡ false → is_accepted v c ≡ false
 unplaced v c h = ap (λ b. is_whole v c && (are_apart c.everywhere && (is_sound v.code c && b))) h ∙ never (is_whole v c) (are_apart c.everywhere) (is_sound v.code c)

@@ -1,8 +1,9 @@
 -- What keeps the owners of places and their values in agreement.
-use Rattle.std.proofs.Common.{◌≡◌, ℕ, Bool, true, false, not, ◌&&◌, ◌||◌, nat_eq, if◌then◌else◌, List, [], ◌∷◌, map, Option, Some, None, refl, sym, ◌∙◌, ap, arith, inl, inr}
+use Rattle.std.proofs.Common.{◌≡◌, ℕ, Bool, true, false, not, ◌&&◌, ◌||◌, nat_eq, if◌then◌else◌, List, [], ◌∷◌, map, Option, Some, None, refl, sym, ◌∙◌, ap, arith}
 use Rattle.std.specs.Prelude.{◌⊎◌}
 use Rattle.std.specs.Option.{option_map, option_map_or}
 use Rattle.std.proofs.lemmas.Bool.Decides.{nat_tests}
+use Rattle.std.proofs.lemmas.Bool.{and_parts}
 use Rattle.il_ast.specs.declared.operation.Class.{Class}
 use Rattle.il_ast.specs.declared.value.Value.{Value}
 use Rattle.il_ast.specs.Values.{in_place}
@@ -25,14 +26,6 @@ use Rattle.alloc_check.specs.Owners.{Owners, nobody, Agrees, other_than, own_put
 use Rattle.alloc_check.specs.Certified.{certified_params, own_params, is_param, params_placed}
 
 -- ---- tests
-
-pub both_true : (a b : Bool) → (a && b) ≡ true → (a ≡ true) × (b ≡ true)
-both_true true b h = (refl, h)
-both_true false b h = cc
-
-pub either_true : (a b : Bool) → (a || b) ≡ true → (a ≡ true) ⊎ (b ≡ true)
-either_true true b h = inl refl
-either_true false b h = inr h
 
 -- ---- what the second code finds where the first finds something
 
@@ -72,7 +65,7 @@ pub args_follow : (globals : List Value) (own : Owners) (ev : Values ℕ) (el : 
     → Follows (read_all globals el (map (placed_argument f) args)) (read_all globals ev args)
 args_follow globals own ev el f [] h agrees = λ v e. e
 args_follow globals own ev el f (a ∷ args) h agrees =
-    let both = both_true (operand_held own f a.value) (args_held own f args) h in
+    let both = and_parts (operand_held own f a.value) (args_held own f args) h in
     follows_then (read_argument globals el (placed_argument f a)) (read_argument globals ev a)
     (λ v. option_map (λ vs. v ∷ vs) (read_all globals ev args)) (λ v. option_map (λ vs. v ∷ vs) (read_all globals el (map (placed_argument f) args)))
     (argument_follows globals own ev el f a both.0 agrees)
@@ -147,7 +140,7 @@ known_agrees ev el (e ∷ es) own all agrees =
 pub all_follow : (own : Owners) (ev : Values ℕ) (el : Values Location) (es : List Equality) → all_hold own es ≡ true → Agrees own ev el → AllFollow ev el es
 all_follow own ev el [] h agrees = tt
 all_follow own ev el (e ∷ es) h agrees =
-    let both = both_true (owns own e.place e.register) (all_hold own es) h in
+    let both = and_parts (owns own e.place e.register) (all_hold own es) h in
     (owned_follows own ev el e.place e.register both.0 agrees, all_follow own ev el es both.1 agrees)
 
 pub nobody_agrees : (ev : Values ℕ) (el : Values Location) → Agrees nobody ev el

@@ -3,6 +3,7 @@ use Rattle.std.proofs.Common.{◌≡◌, ℕ, suc, ◌+◌, ◌≤◌, Bool, tru
 use Rattle.std.specs.Prelude.{IsTrue}
 use Rattle.std.specs.List.{list_all, list_any, sum_by}
 use Rattle.std.proofs.lemmas.Bool.Decides.{nat_tests}
+use Rattle.il_ast.specs.declared.limits.TheConstants.{FUNCTION_WEIGHT}
 use Rattle.vcode.specs.declared.place.Location.{Location}
 use Rattle.vcode.specs.declared.place.Operand.{Operand}
 use Rattle.vcode.specs.declared.place.Operand.TheVariants.{At}
@@ -166,8 +167,8 @@ certified_regular v c r paid =
       paced =
           subst IsTrue
           (sym
-          (blocks_pass (λ (b : Block ℕ). nat_le (sum_by turns_of b.lines) 40000) (λ (b : Block Location). nat_le (sum_by turns_of b.lines) 40000) c
-          (λ p b. ap (λ n. nat_le n 40000) (lines_sum turns_of turns_of (λ q a. refl) turns_same c p b.lines)) 0 v.blocks))
+          (blocks_pass (λ (b : Block ℕ). nat_le (sum_by turns_of b.lines) FUNCTION_WEIGHT) (λ (b : Block Location). nat_le (sum_by turns_of b.lines) FUNCTION_WEIGHT) c
+          (λ p b. ap (λ n. nat_le n FUNCTION_WEIGHT) (lines_sum turns_of turns_of (λ q a. refl) turns_same c p b.lines)) 0 v.blocks))
           r.paced;
       few_args =
           subst IsTrue

@@ -3,6 +3,7 @@ use Rattle.std.proofs.Common.{◌≡◌, ℕ, zero, suc, ◌+◌, ◌<◌, ◌�
 use Rattle.std.specs.Option.{option_map_or}
 use Rattle.std.proofs.Math.Path.{fun_ext}
 use Rattle.std.proofs.lemmas.Bool.Decides.{nat_tests}
+use Rattle.std.proofs.lemmas.Option.{slice_get_past}
 use Rattle.rv_isa.specs.declared.abi.TheConstants.{LAST_SAVED}
 use Rattle.vcode.specs.declared.place.Location.{Location}
 use Rattle.vcode.specs.declared.place.Location.TheVariants.{Register, Slot}
@@ -28,11 +29,6 @@ get_set_other (y ∷ ys) zero zero x h = cc
 get_set_other (y ∷ ys) zero (suc j) x h = refl
 get_set_other (y ∷ ys) (suc i) zero x h = refl
 get_set_other (y ∷ ys) (suc i) (suc j) x h = get_set_other ys i j x (let e : nat_eq j i ≡ false = grind (arith, nat_tests) in e)
-
-none_past : {X : Type 0} (xs : List X) (i : ℕ) → length xs ≤ i → slice_get xs i ≡ None
-none_past [] i h = refl
-none_past (x ∷ xs) zero h = absurd (omega arith)
-none_past (x ∷ xs) (suc i) h = none_past xs i (omega arith)
 
 some_below : {X : Type 0} (xs : List X) (i : ℕ) (x : X) → slice_get xs i ≡ Some x → i < length xs
 some_below [] i x h = cc
@@ -248,7 +244,7 @@ item_from : (cells : List (Option Held)) (k : ℕ) (x : Option Held) → slice_g
 item_from cells k x e = ap (λ (o : Option (Option Held)). option_map_or (λ (h : Option Held). h) o None) e
 
 item_past : {X : Type 0} (cells : List (Option X)) (k : ℕ) → length cells ≤ k → item cells k ≡ None
-item_past {X} cells k h = ap (λ (o : Option (Option X)). option_map_or (λ (x : Option X). x) o None) (none_past cells k h)
+item_past {X} cells k h = ap (λ (o : Option (Option X)). option_map_or (λ (x : Option X). x) o None) (slice_get_past cells k h)
 
 pub forget_step : (time : ℕ) (cells old : List (Option Held)) (k : ℕ) (x y : Option Held)
     → ((j : ℕ) → item cells j ≡ (if nat_lt j k then forgets time j (item old j) else item old j))

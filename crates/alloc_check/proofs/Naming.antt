@@ -2,6 +2,7 @@
 use Rattle.std.proofs.Common.{◌≡◌, ℕ, ◌+◌, ◌≤◌, Bool, true, false, ◌&&◌, ◌||◌, nat_eq, if◌then◌else◌, List, [], ◌∷◌, ◌++◌, map, Option, Some, None, refl, sym, ◌∙◌, ap, arith}
 use Rattle.std.specs.List.{list_all}
 use Rattle.std.specs.Option.{option_map}
+use Rattle.std.proofs.lemmas.Bool.{and_parts}
 use Rattle.il_ast.specs.declared.operation.Class.{Class}
 use Rattle.il_ast.specs.declared.operation.Class.TheVariants.{W, L}
 use Rattle.vcode.specs.declared.place.Location.{Location}
@@ -27,7 +28,6 @@ use Rattle.alloc_check.specs.Accepted.{exists_in, equalities_exist, names_once, 
 use Rattle.alloc_check.specs.Laws.{lines_named, blocks_named}
 use Rattle.alloc_check.specs.Walk.{moves_before}
 use Rattle.alloc_check.proofs.Accepts.{accepted_parts, parts}
-use Rattle.alloc_check.proofs.Agreeing.{both_true}
 use Rattle.alloc_check.proofs.Certifies.{line_on}
 
 place_named : (n : ℕ) (es : List Equality) (r : ℕ) → is_place n (place_by es r) ≡ true → has es r ≡ true
@@ -48,7 +48,7 @@ two_named : (n : ℕ) (es : List Equality) (a b : Operand ℕ)
     → (operand_keeps (is_place n) (placed_operand (place_by es) a) && operand_keeps (is_place n) (placed_operand (place_by es) b)) ≡ true
     → (operand_keeps (has es) a && operand_keeps (has es) b) ≡ true
 two_named n es a b h =
-    let s = both_true (operand_keeps (is_place n) (placed_operand (place_by es) a)) (operand_keeps (is_place n) (placed_operand (place_by es) b)) h in
+    let s = and_parts (operand_keeps (is_place n) (placed_operand (place_by es) a)) (operand_keeps (is_place n) (placed_operand (place_by es) b)) h in
     ap (λ x. x && operand_keeps (has es) b) (operand_named n es a s.0) ∙ operand_named n es b s.1
 
 wanted_named : (n : ℕ) (es : List Equality) (to : Option (Destination ℕ)) → wanted_keeps (is_place n) (option_map (placed_destination (place_by es)) to) ≡ true → wanted_keeps (has es) to ≡ true
@@ -60,28 +60,28 @@ args_named : (n : ℕ) (es : List Equality) (args : List (Argument ℕ))
     → list_all (λ (a : Argument ℕ). operand_keeps (has es) a.value) args ≡ true
 args_named n es [] h = refl
 args_named n es (a ∷ args) h =
-    let s = both_true (operand_keeps (is_place n) (placed_operand (place_by es) a.value)) (list_all (λ (x : Argument Location). operand_keeps (is_place n) x.value) (map (placed_argument (place_by es)) args)) h in
+    let s = and_parts (operand_keeps (is_place n) (placed_operand (place_by es) a.value)) (list_all (λ (x : Argument Location). operand_keeps (is_place n) x.value) (map (placed_argument (place_by es)) args)) h in
     ap (λ b. b && list_all (λ (x : Argument ℕ). operand_keeps (has es) x.value) args) (operand_named n es a.value s.0) ∙ args_named n es args s.1
 
 line_named : (n : ℕ) (es : List Equality) (l : Line ℕ) → line_keeps (is_place n) (placed_line (place_by es) l) ≡ true → line_keeps (has es) l ≡ true
 line_named n es (Tick turn w) h = refl
 line_named n es (Set to a) h =
-    let s = both_true (is_place n (place_by es to)) (operand_keeps (is_place n) (placed_operand (place_by es) a)) h in
+    let s = and_parts (is_place n (place_by es to)) (operand_keeps (is_place n) (placed_operand (place_by es) a)) h in
     ap (λ b. b && operand_keeps (has es) a) (place_named n es to s.0) ∙ operand_named n es a s.1
 line_named n es (Operate to op a b) h =
-    let s = both_true (is_place n (place_by es to)) (operand_keeps (is_place n) (placed_operand (place_by es) a) && operand_keeps (is_place n) (placed_operand (place_by es) b)) h in
+    let s = and_parts (is_place n (place_by es to)) (operand_keeps (is_place n) (placed_operand (place_by es) a) && operand_keeps (is_place n) (placed_operand (place_by es) b)) h in
     ap (λ x. x && (operand_keeps (has es) a && operand_keeps (has es) b)) (place_named n es to s.0) ∙ two_named n es a b s.1
 line_named n es (Load to op at) h =
-    let s = both_true (is_place n (place_by es to)) (operand_keeps (is_place n) (placed_operand (place_by es) at.base)) h in
+    let s = and_parts (is_place n (place_by es to)) (operand_keeps (is_place n) (placed_operand (place_by es) at.base)) h in
     ap (λ b. b && operand_keeps (has es) at.base) (place_named n es to s.0) ∙ operand_named n es at.base s.1
 line_named n es (Store size a at) h = two_named n es a at.base h
 line_named n es (Alloc None size) h = refl
 line_named n es (Alloc (Some r) size) h = place_named n es r h
 line_named n es (Blit from to count) h = two_named n es from to h
 line_named n es (Call to callee args) h =
-    let s = both_true (wanted_keeps (is_place n) (option_map (placed_destination (place_by es)) to))
+    let s = and_parts (wanted_keeps (is_place n) (option_map (placed_destination (place_by es)) to))
     (operand_keeps (is_place n) (placed_operand (place_by es) callee) && list_all (λ (a : Argument Location). operand_keeps (is_place n) a.value) (map (placed_argument (place_by es)) args)) h in
-    let t = both_true (operand_keeps (is_place n) (placed_operand (place_by es) callee)) (list_all (λ (a : Argument Location). operand_keeps (is_place n) a.value) (map (placed_argument (place_by es)) args)) s.1 in
+    let t = and_parts (operand_keeps (is_place n) (placed_operand (place_by es) callee)) (list_all (λ (a : Argument Location). operand_keeps (is_place n) a.value) (map (placed_argument (place_by es)) args)) s.1 in
     ap (λ b. b && (operand_keeps (has es) callee && list_all (λ (a : Argument ℕ). operand_keeps (has es) a.value) args)) (wanted_named n es to s.0)
     ∙ ap (λ b. b && list_all (λ (a : Argument ℕ). operand_keeps (has es) a.value) args) (operand_named n es callee t.0)
     ∙ args_named n es args t.1
@@ -96,7 +96,7 @@ jump_named n es Halt h = refl
 -- without the moves before them
 past_moves : (n : ℕ) (ms : List Transfer) (rest : List (Line Location)) → list_all (line_keeps (is_place n)) (transfers ms ++ rest) ≡ true → list_all (line_keeps (is_place n)) rest ≡ true
 past_moves n [] rest h = h
-past_moves n (m ∷ ms) rest h = past_moves n ms rest (both_true (is_place n m.to && is_place n m.from) (list_all (line_keeps (is_place n)) (transfers ms ++ rest)) h).1
+past_moves n (m ∷ ms) rest h = past_moves n ms rest (and_parts (is_place n m.to && is_place n m.from) (list_all (line_keeps (is_place n)) (transfers ms ++ rest)) h).1
 
 lines_have : (n : ℕ) (c : Certificate) (p : ℕ) (j : Jump ℕ) (lines : List (Line ℕ)) → list_all (line_keeps (is_place n)) (certified_lines c p lines) ≡ true
     → jump_keeps (is_place n) (placed_jump (layout_at c (jump_point p lines)) j) ≡ true → lines_named c p j lines ≡ true
@@ -104,27 +104,27 @@ lines_have n c p j [] h e = jump_named n (places_at c p) j e
 lines_have n c p j (l ∷ lines) h e =
     let after = past_moves n (moves_before c p l) (placed_line (layout_at c p) l ∷ certified_lines c (next_point p l) lines)
     (sym (ap (list_all (line_keeps (is_place n))) (line_on c p l lines)) ∙ h) in
-    let s = both_true (line_keeps (is_place n) (placed_line (layout_at c p) l)) (list_all (line_keeps (is_place n)) (certified_lines c (next_point p l) lines)) after in
+    let s = and_parts (line_keeps (is_place n) (placed_line (layout_at c p) l)) (list_all (line_keeps (is_place n)) (certified_lines c (next_point p l) lines)) after in
     ap (λ b. b && lines_named c (next_point p l) j lines) (line_named n (places_at c p) l s.0) ∙ lines_have n c (next_point p l) j lines s.1 e
 
 blocks_have : (n : ℕ) (c : Certificate) (p : ℕ) (blocks : List (Block ℕ)) → list_all (block_keeps (is_place n)) (certified_blocks c p blocks) ≡ true → blocks_named c p blocks ≡ true
 blocks_have n c p [] h = refl
 blocks_have n c p (b ∷ blocks) h =
-    let s = both_true (block_keeps (is_place n) (certified_block c p b)) (list_all (block_keeps (is_place n)) (certified_blocks c (jump_point p b.lines + 1) blocks)) h in
-    let t = both_true (list_all (line_keeps (is_place n)) (certified_lines c p b.lines)) (jump_keeps (is_place n) (placed_jump (layout_at c (jump_point p b.lines)) b.jump)) s.0 in
+    let s = and_parts (block_keeps (is_place n) (certified_block c p b)) (list_all (block_keeps (is_place n)) (certified_blocks c (jump_point p b.lines + 1) blocks)) h in
+    let t = and_parts (list_all (line_keeps (is_place n)) (certified_lines c p b.lines)) (jump_keeps (is_place n) (placed_jump (layout_at c (jump_point p b.lines)) b.jump)) s.0 in
     ap (λ x. x && blocks_named c (jump_point p b.lines + 1) blocks) (lines_have n c p b.jump b.lines t.0 t.1) ∙ blocks_have n c (jump_point p b.lines + 1) blocks s.1
 
 pub each_named : (v : VFunc) (c : Certificate) → is_accepted v c ≡ true → (blocks_named c 0 v.code.blocks ≡ true) × (list_all names_once c.places ≡ true)
 each_named v c h =
     let l = placed_by v.code c in
     let first = accepted_parts v c h in
-    let placed = parts v.registers l (both_true (is_sound v.code c) (is_placed v.registers l) first.1).1 in
+    let placed = parts v.registers l (and_parts (is_sound v.code c) (is_placed v.registers l) first.1).1 in
     let places : Bool = equalities_exist v.registers c.places && list_all names_once c.places in
-    let lengths = both_true (has_lengths v.code c) (list_all (exists_in v.registers) c.everywhere && (equalities_exist v.registers c.starts && places)) first.0 in
-    let every = both_true (list_all (exists_in v.registers) c.everywhere) (equalities_exist v.registers c.starts && places) lengths.1 in
-    let starts = both_true (equalities_exist v.registers c.starts) places every.1 in (
-      blocks_have v.registers c 0 v.code.blocks (both_true (list_all (λ (d : Destination Location). is_place v.registers d.place) l.params) (list_all (block_keeps (is_place v.registers)) l.blocks) placed.places).1,
-      (both_true (equalities_exist v.registers c.places) (list_all names_once c.places) starts.1).1,
+    let lengths = and_parts (has_lengths v.code c) (list_all (exists_in v.registers) c.everywhere && (equalities_exist v.registers c.starts && places)) first.0 in
+    let every = and_parts (list_all (exists_in v.registers) c.everywhere) (equalities_exist v.registers c.starts && places) lengths.1 in
+    let starts = and_parts (equalities_exist v.registers c.starts) places every.1 in (
+      blocks_have v.registers c 0 v.code.blocks (and_parts (list_all (λ (d : Destination Location). is_place v.registers d.place) l.params) (list_all (block_keeps (is_place v.registers)) l.blocks) placed.places).1,
+      (and_parts (equalities_exist v.registers c.places) (list_all names_once c.places) starts.1).1,
     )
 
 -- ---- what it costs

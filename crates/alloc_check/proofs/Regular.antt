@@ -3,6 +3,7 @@ use Rattle.std.proofs.Common.{◌≡◌, ℕ, suc, ◌+◌, ◌-◌, ◌*◌, Bo
 use Rattle.std.specs.Prelude.{IsTrue}
 use Rattle.std.specs.Option.{option_map}
 use Rattle.std.specs.List.{list_all, list_any, sum_by}
+use Rattle.il_ast.specs.declared.limits.TheConstants.{FUNCTION_WEIGHT}
 use Rattle.vcode.specs.declared.place.Location.{Location}
 use Rattle.vcode.specs.declared.place.Location.TheVariants.{Slot}
 use Rattle.vcode.specs.declared.place.Operand.{Operand}
@@ -165,8 +166,8 @@ slots_regular v r =
       paced =
           subst IsTrue
           (sym
-          (all_map (λ (b : Block ℕ). nat_le (sum_by turns_of b.lines) 40000) (λ (b : Block Location). nat_le (sum_by turns_of b.lines) 40000) (placed_block Slot)
-          (λ b. ap (λ n. nat_le n 40000) (sum_map turns_of turns_of (placed_line Slot) (turns_same Slot) b.lines)) v.blocks))
+          (all_map (λ (b : Block ℕ). nat_le (sum_by turns_of b.lines) FUNCTION_WEIGHT) (λ (b : Block Location). nat_le (sum_by turns_of b.lines) FUNCTION_WEIGHT) (placed_block Slot)
+          (λ b. ap (λ n. nat_le n FUNCTION_WEIGHT) (sum_map turns_of turns_of (placed_line Slot) (turns_same Slot) b.lines)) v.blocks))
           r.paced;
       few_args =
           subst IsTrue

@@ -4,6 +4,7 @@ use Rattle.std.specs.List.{list_all}
 use Rattle.std.specs.Prelude.{◌⊎◌}
 use Rattle.std.specs.Option.{option_map, option_map_or}
 use Rattle.std.proofs.lemmas.Bool.Decides.{nat_tests}
+use Rattle.std.proofs.lemmas.Bool.{and_parts, or_cases}
 use Rattle.vcode.specs.declared.place.Location.{Location}
 use Rattle.vcode.specs.declared.place.Location.TheVariants.{Slot}
 use Rattle.vcode.specs.declared.place.Operand.{Operand}
@@ -30,7 +31,7 @@ use Rattle.alloc_check.specs.Certified.{moves_at, begins_at, starts_at, layout_a
 use Rattle.alloc_check.specs.Accepted.{exists_in, equalities_exist, names_once, is_whole, is_placed, is_accepted}
 use Rattle.alloc_check.specs.Slotted.{is_empty, is_own, own_at, lines_own, blocks_own, Wanted, start_wanted, targets_wanted, writes_to, LinesWant, names, BlocksWant, IsSlotted}
 use Rattle.alloc_check.specs.Walk.{moves_before}
-use Rattle.alloc_check.proofs.Agreeing.{both_true, either_true, same_is}
+use Rattle.alloc_check.proofs.Agreeing.{same_is}
 use Rattle.alloc_check.proofs.Certifies.{line_on}
 use Rattle.alloc_check.proofs.Regular.{slots_regular, slots_known, slots_near, slots_apart}
 
@@ -52,7 +53,7 @@ args_slot : (c : Certificate) (p : ℕ) (args : List (Argument ℕ)) → list_al
     → map (placed_argument (layout_at c p)) args ≡ map (placed_argument Slot) args
 args_slot c p [] h = refl
 args_slot c p (a ∷ args) h =
-    let s = both_true (operand_keeps (own_at c p) a.value) (list_all (λ (x : Argument ℕ). operand_keeps (own_at c p) x.value) args) h in
+    let s = and_parts (operand_keeps (own_at c p) a.value) (list_all (λ (x : Argument ℕ). operand_keeps (own_at c p) x.value) args) h in
     ap (λ (v : Operand Location). record { class = a.class; value = v; extension = a.extension } ∷ map (placed_argument (layout_at c p)) args) (operand_slot c p a.value s.0)
     ∙ ap (λ xs. placed_argument Slot a ∷ xs) (args_slot c p args s.1)
 
@@ -62,28 +63,28 @@ address_slot c p at h = ap (λ (a : Operand Location). record { base = a; offset
 line_slot : (c : Certificate) (p : ℕ) (l : Line ℕ) → line_keeps (own_at c p) l ≡ true → placed_line (layout_at c p) l ≡ placed_line Slot l
 line_slot c p (Tick turn w) h = refl
 line_slot c p (Set to a) h =
-    let s = both_true (own_at c p to) (operand_keeps (own_at c p) a) h in
+    let s = and_parts (own_at c p to) (operand_keeps (own_at c p) a) h in
     ap (λ (q : Location). Set q (placed_operand (layout_at c p) a)) (own_is c p to s.0) ∙ ap (λ x. Set (Slot to) x) (operand_slot c p a s.1)
 line_slot c p (Operate to op a b) h =
-    let s = both_true (own_at c p to) (operand_keeps (own_at c p) a && operand_keeps (own_at c p) b) h in
-    let t = both_true (operand_keeps (own_at c p) a) (operand_keeps (own_at c p) b) s.1 in
+    let s = and_parts (own_at c p to) (operand_keeps (own_at c p) a && operand_keeps (own_at c p) b) h in
+    let t = and_parts (operand_keeps (own_at c p) a) (operand_keeps (own_at c p) b) s.1 in
     ap (λ (q : Location). Operate q op (placed_operand (layout_at c p) a) (placed_operand (layout_at c p) b)) (own_is c p to s.0)
     ∙ ap (λ x. Operate (Slot to) op x (placed_operand (layout_at c p) b)) (operand_slot c p a t.0)
     ∙ ap (λ x. Operate (Slot to) op (placed_operand Slot a) x) (operand_slot c p b t.1)
 line_slot c p (Load to op at) h =
-    let s = both_true (own_at c p to) (operand_keeps (own_at c p) at.base) h in
+    let s = and_parts (own_at c p to) (operand_keeps (own_at c p) at.base) h in
     ap (λ (q : Location). Load q op (placed_address (layout_at c p) at)) (own_is c p to s.0) ∙ ap (λ x. Load (Slot to) op x) (address_slot c p at s.1)
 line_slot c p (Store size a at) h =
-    let t = both_true (operand_keeps (own_at c p) a) (operand_keeps (own_at c p) at.base) h in
+    let t = and_parts (operand_keeps (own_at c p) a) (operand_keeps (own_at c p) at.base) h in
     ap (λ x. Store size x (placed_address (layout_at c p) at)) (operand_slot c p a t.0) ∙ ap (λ x. Store size (placed_operand Slot a) x) (address_slot c p at t.1)
 line_slot c p (Alloc None size) h = refl
 line_slot c p (Alloc (Some r) size) h = ap (λ (q : Location). Alloc (Some q) size) (own_is c p r h)
 line_slot c p (Blit from to count) h =
-    let t = both_true (operand_keeps (own_at c p) from) (operand_keeps (own_at c p) to) h in
+    let t = and_parts (operand_keeps (own_at c p) from) (operand_keeps (own_at c p) to) h in
     ap (λ x. Blit x (placed_operand (layout_at c p) to) count) (operand_slot c p from t.0) ∙ ap (λ x. Blit (placed_operand Slot from) x count) (operand_slot c p to t.1)
 line_slot c p (Call to callee args) h =
-    let s = both_true (wanted_keeps (own_at c p) to) (operand_keeps (own_at c p) callee && list_all (λ (a : Argument ℕ). operand_keeps (own_at c p) a.value) args) h in
-    let t = both_true (operand_keeps (own_at c p) callee) (list_all (λ (a : Argument ℕ). operand_keeps (own_at c p) a.value) args) s.1 in
+    let s = and_parts (wanted_keeps (own_at c p) to) (operand_keeps (own_at c p) callee && list_all (λ (a : Argument ℕ). operand_keeps (own_at c p) a.value) args) h in
+    let t = and_parts (operand_keeps (own_at c p) callee) (list_all (λ (a : Argument ℕ). operand_keeps (own_at c p) a.value) args) s.1 in
     ap (λ x. Call x (placed_operand (layout_at c p) callee) (map (placed_argument (layout_at c p)) args)) (to_slot c p to s.0)
     ∙ ap (λ x. Call (option_map (placed_destination Slot) to) x (map (placed_argument (layout_at c p)) args)) (operand_slot c p callee t.0)
     ∙ ap (λ x. Call (option_map (placed_destination Slot) to) (placed_operand Slot callee) x) (args_slot c p args t.1)
@@ -91,7 +92,7 @@ line_slot c p (Call to callee args) h =
 jump_slot : (c : Certificate) (p : ℕ) (j : Jump ℕ) → jump_keeps (own_at c p) j ≡ true → placed_jump (layout_at c p) j ≡ placed_jump Slot j
 jump_slot c p (Goto k) h = refl
 jump_slot c p (Branch on met otherwise) h =
-    let t = both_true (operand_keeps (own_at c p) on.left) (operand_keeps (own_at c p) on.right) h in
+    let t = and_parts (operand_keeps (own_at c p) on.left) (operand_keeps (own_at c p) on.right) h in
     ap (λ x. Branch (record { condition = on.condition; class = on.class; left = x; right = placed_operand (layout_at c p) on.right }) met otherwise) (operand_slot c p on.left t.0)
     ∙ ap (λ x. Branch (record { condition = on.condition; class = on.class; left = placed_operand Slot on.left; right = x }) met otherwise) (operand_slot c p on.right t.1)
 jump_slot c p (Return None) h = refl
@@ -102,7 +103,7 @@ no_moves : (moves : List (List Transfer)) (p : ℕ) → list_all is_empty moves 
 no_moves [] p h = refl
 no_moves ([] ∷ moves) zero h = refl
 no_moves ((m ∷ ms) ∷ moves) zero h = cc
-no_moves (ms ∷ moves) (suc p) h = no_moves moves p (both_true (is_empty ms) (list_all is_empty moves) h).1
+no_moves (ms ∷ moves) (suc p) h = no_moves moves p (and_parts (is_empty ms) (list_all is_empty moves) h).1
 
 none_before : (c : Certificate) (p : ℕ) (l : Line ℕ) → moves_at c p ≡ [] → moves_before c p l ≡ []
 none_before c p (Tick turn w) h = refl
@@ -118,7 +119,7 @@ lines_slot : (c : Certificate) (p : ℕ) (j : Jump ℕ) (lines : List (Line ℕ)
     → (certified_lines c p lines ≡ map (placed_line Slot) lines) × (placed_jump (layout_at c (jump_point p lines)) j ≡ placed_jump Slot j)
 lines_slot c p j [] still h = (ap transfers (no_moves c.moves p still), jump_slot c p j h)
 lines_slot c p j (l ∷ lines) still h =
-    let s = both_true (line_keeps (own_at c p) l) (lines_own c (next_point p l) j lines) h in
+    let s = and_parts (line_keeps (own_at c p) l) (lines_own c (next_point p l) j lines) h in
     let rest = lines_slot c (next_point p l) j lines still s.1 in (
       line_on c p l lines
           ∙ ap (λ ms. transfers ms ++ placed_line (layout_at c p) l ∷ certified_lines c (next_point p l) lines) (none_before c p l (no_moves c.moves p still))
@@ -131,7 +132,7 @@ blocks_slot : (c : Certificate) (p : ℕ) (blocks : List (Block ℕ)) → list_a
     → certified_blocks c p blocks ≡ map (placed_block Slot) blocks
 blocks_slot c p [] still h = refl
 blocks_slot c p (b ∷ blocks) still h =
-    let s = both_true (lines_own c p b.jump b.lines) (blocks_own c (jump_point p b.lines + 1) blocks) h in
+    let s = and_parts (lines_own c p b.jump b.lines) (blocks_own c (jump_point p b.lines + 1) blocks) h in
     let made = lines_slot c p b.jump b.lines still s.0 in
     ap (λ (ls : List (Line Location)). record { lines = ls; jump = placed_jump (layout_at c (jump_point p b.lines)) b.jump } ∷ certified_blocks c (jump_point p b.lines + 1) blocks) made.0
     ∙ ap (λ (j : Jump Location). record { lines = map (placed_line Slot) b.lines; jump = j } ∷ certified_blocks c (jump_point p b.lines + 1) blocks) made.1
@@ -164,26 +165,26 @@ slotted_placed wanted v c is =
 
 own_exists : (n : ℕ) (e : Equality) → is_own n e ≡ true → exists_in n e ≡ true
 own_exists n e h =
-    let s = both_true (same_location e.place (Slot e.register)) (nat_lt e.register n) h in
+    let s = and_parts (same_location e.place (Slot e.register)) (nat_lt e.register n) h in
     ap (λ (q : Location). is_place n q && nat_lt e.register n) (same_is e.place (Slot e.register) s.0) ∙ ap (λ b. b && nat_lt e.register n) s.1 ∙ s.1
 
 all_exist : (n : ℕ) (es : List Equality) → list_all (is_own n) es ≡ true → list_all (exists_in n) es ≡ true
 all_exist n [] h = refl
 all_exist n (e ∷ es) h =
-    let s = both_true (is_own n e) (list_all (is_own n) es) h in
+    let s = and_parts (is_own n e) (list_all (is_own n) es) h in
     ap (λ b. b && list_all (exists_in n) es) (own_exists n e s.0) ∙ all_exist n es s.1
 
 own_all_exist : (n : ℕ) (starts : List (List Equality)) → list_all (λ (es : List Equality). list_all (is_own n) es) starts ≡ true → equalities_exist n starts ≡ true
 own_all_exist n [] h = refl
 own_all_exist n (es ∷ starts) h =
-    let s = both_true (list_all (is_own n) es) (list_all (λ (xs : List Equality). list_all (is_own n) xs) starts) h in
+    let s = and_parts (list_all (is_own n) es) (list_all (λ (xs : List Equality). list_all (is_own n) xs) starts) h in
     ap (λ b. b && equalities_exist n starts) (all_exist n es s.0) ∙ own_all_exist n starts s.1
 
 start_own : (n : ℕ) (starts : List (List Equality)) (k : ℕ) → list_all (λ (es : List Equality). list_all (is_own n) es) starts ≡ true
     → list_all (is_own n) (option_map_or (λ (es : List Equality). es) (slice_get starts k) []) ≡ true
 start_own n [] k h = refl
-start_own n (es ∷ starts) zero h = (both_true (list_all (is_own n) es) (list_all (λ (xs : List Equality). list_all (is_own n) xs) starts) h).0
-start_own n (es ∷ starts) (suc k) h = start_own n starts k (both_true (list_all (is_own n) es) (list_all (λ (xs : List Equality). list_all (is_own n) xs) starts) h).1
+start_own n (es ∷ starts) zero h = (and_parts (list_all (is_own n) es) (list_all (λ (xs : List Equality). list_all (is_own n) xs) starts) h).0
+start_own n (es ∷ starts) (suc k) h = start_own n starts k (and_parts (list_all (is_own n) es) (list_all (λ (xs : List Equality). list_all (is_own n) xs) starts) h).1
 
 starts_own : (n : ℕ) (c : Certificate) (k : ℕ) → c.everywhere ≡ [] → list_all (λ (es : List Equality). list_all (is_own n) es) c.starts ≡ true → list_all (is_own n) (starts_at c k) ≡ true
 starts_own n c k none h = ap (λ (es : List Equality). list_all (is_own n) (es ++ begins_at c k)) none ∙ start_own n c.starts k h
@@ -238,8 +239,8 @@ args_found : (wanted : Wanted) (c : Certificate) (p : ℕ) (own : Owners) (args 
     → args_held own (layout_at c p) args ≡ true
 args_found wanted c p own [] full at h = refl
 args_found wanted c p own (a ∷ args) full at h =
-    let s = both_true (operand_keeps (own_at c p) a.value) (list_all (λ (x : Argument ℕ). operand_keeps (own_at c p) x.value) args) at in
-    let t = both_true (operand_keeps (wanted p) a.value) (list_all (λ (x : Argument ℕ). operand_keeps (wanted p) x.value) args) h in
+    let s = and_parts (operand_keeps (own_at c p) a.value) (list_all (λ (x : Argument ℕ). operand_keeps (own_at c p) x.value) args) at in
+    let t = and_parts (operand_keeps (wanted p) a.value) (list_all (λ (x : Argument ℕ). operand_keeps (wanted p) x.value) args) h in
     ap (λ b. b && args_held own (layout_at c p) args) (operand_found wanted c p own a.value full s.0 t.0) ∙ args_found wanted c p own args full s.1 t.1
 
 put_slot : (own : Owners) (d : Location) (to r : ℕ) → d ≡ Slot to → (nat_eq to r ≡ true) ⊎ (own (Slot r) ≡ Some r) → own_put d to own (Slot r) ≡ Some r
@@ -257,7 +258,7 @@ after_put : (wanted : Wanted) (c : Certificate) (p q to : ℕ) (own : Owners) �
     → ((r : ℕ) → wanted q r ≡ true → (wanted p r || nat_eq to r) ≡ true) → Full wanted q (own_put (layout_at c p to) to own)
 after_put wanted c p q to own at full flow r h =
     put_slot own (layout_at c p to) to r (own_is c p to at)
-    (elim (either_true (wanted p r) (nat_eq to r) (flow r h)) [
+    (elim (or_cases (wanted p r) (nat_eq to r) (flow r h)) [
       | inl w ↦ inr (full r w)
       | inr e ↦ inl e
     ])
@@ -282,26 +283,26 @@ line_goes : (wanted : Wanted) (c : Certificate) (p : ℕ) (own : Owners) (l : Li
     → ((r : ℕ) → wanted (next_point p l) r ≡ true → (wanted p r || writes_to l r) ≡ true) → Goes wanted c p own l
 line_goes wanted c p own (Tick turn w) at full reads flow = record { owners = own; finds = refl; full = full }
 line_goes wanted c p own (Set to a) at full reads flow =
-    let s = both_true (own_at c p to) (operand_keeps (own_at c p) a) at in
+    let s = and_parts (own_at c p to) (operand_keeps (own_at c p) a) at in
     let found = operand_found wanted c p own a full s.1 (sym (operand_in (wanted p) [] a) ∙ reads) in
     let o = goes_put wanted c p to own (operand_held own (layout_at c p) a) found s.0 full flow in
     record { owners = o.0; finds = o.1.0; full = o.1.1 }
 line_goes wanted c p own (Operate to op a b) at full reads flow =
-    let s = both_true (own_at c p to) (operand_keeps (own_at c p) a && operand_keeps (own_at c p) b) at in
-    let t = both_true (operand_keeps (own_at c p) a) (operand_keeps (own_at c p) b) s.1 in
-    let h = both_true (operand_keeps (wanted p) a) (operand_keeps (wanted p) b) (sym (two_in (wanted p) a b) ∙ reads) in
+    let s = and_parts (own_at c p to) (operand_keeps (own_at c p) a && operand_keeps (own_at c p) b) at in
+    let t = and_parts (operand_keeps (own_at c p) a) (operand_keeps (own_at c p) b) s.1 in
+    let h = and_parts (operand_keeps (wanted p) a) (operand_keeps (wanted p) b) (sym (two_in (wanted p) a b) ∙ reads) in
     let found : (operand_held own (layout_at c p) a && operand_held own (layout_at c p) b) ≡ true =
     ap (λ x. x && operand_held own (layout_at c p) b) (operand_found wanted c p own a full t.0 h.0) ∙ operand_found wanted c p own b full t.1 h.1 in
     let o = goes_put wanted c p to own (operand_held own (layout_at c p) a && operand_held own (layout_at c p) b) found s.0 full flow in
     record { owners = o.0; finds = o.1.0; full = o.1.1 }
 line_goes wanted c p own (Load to op x) at full reads flow =
-    let s = both_true (own_at c p to) (operand_keeps (own_at c p) x.base) at in
+    let s = and_parts (own_at c p to) (operand_keeps (own_at c p) x.base) at in
     let found = operand_found wanted c p own x.base full s.1 (sym (operand_in (wanted p) [] x.base) ∙ reads) in
     let o = goes_put wanted c p to own (operand_held own (layout_at c p) x.base) found s.0 full flow in
     record { owners = o.0; finds = o.1.0; full = o.1.1 }
 line_goes wanted c p own (Store size a x) at full reads flow =
-    let t = both_true (operand_keeps (own_at c p) a) (operand_keeps (own_at c p) x.base) at in
-    let h = both_true (operand_keeps (wanted p) a) (operand_keeps (wanted p) x.base) (sym (two_in (wanted p) a x.base) ∙ reads) in
+    let t = and_parts (operand_keeps (own_at c p) a) (operand_keeps (own_at c p) x.base) at in
+    let h = and_parts (operand_keeps (wanted p) a) (operand_keeps (wanted p) x.base) (sym (two_in (wanted p) a x.base) ∙ reads) in
     let found : (operand_held own (layout_at c p) a && operand_held own (layout_at c p) x.base) ≡ true =
     ap (λ b. b && operand_held own (layout_at c p) x.base) (operand_found wanted c p own a full t.0 h.0) ∙ operand_found wanted c p own x.base full t.1 h.1 in
     record { owners = own; finds = ap (λ x. where_held x own) found; full = λ r w. full r (or_false (wanted p r) (flow r w)) }
@@ -310,15 +311,15 @@ line_goes wanted c p own (Alloc None size) at full reads flow =
 line_goes wanted c p own (Alloc (Some to) size) at full reads flow =
     record { owners = own_put (layout_at c p to) to own; finds = refl; full = after_put wanted c p (p + 1) to own at full flow }
 line_goes wanted c p own (Blit a b count) at full reads flow =
-    let t = both_true (operand_keeps (own_at c p) a) (operand_keeps (own_at c p) b) at in
-    let h = both_true (operand_keeps (wanted p) a) (operand_keeps (wanted p) b) (sym (two_in (wanted p) a b) ∙ reads) in
+    let t = and_parts (operand_keeps (own_at c p) a) (operand_keeps (own_at c p) b) at in
+    let h = and_parts (operand_keeps (wanted p) a) (operand_keeps (wanted p) b) (sym (two_in (wanted p) a b) ∙ reads) in
     let found : (operand_held own (layout_at c p) a && operand_held own (layout_at c p) b) ≡ true =
     ap (λ x. x && operand_held own (layout_at c p) b) (operand_found wanted c p own a full t.0 h.0) ∙ operand_found wanted c p own b full t.1 h.1 in
     record { owners = own; finds = ap (λ x. where_held x own) found; full = λ r w. full r (or_false (wanted p r) (flow r w)) }
 line_goes wanted c p own (Call to callee args) at full reads flow =
-    let s = both_true (wanted_keeps (own_at c p) to) (operand_keeps (own_at c p) callee && list_all (λ (a : Argument ℕ). operand_keeps (own_at c p) a.value) args) at in
-    let t = both_true (operand_keeps (own_at c p) callee) (list_all (λ (a : Argument ℕ). operand_keeps (own_at c p) a.value) args) s.1 in
-    let h = both_true (operand_keeps (wanted p) callee) (list_all (λ (a : Argument ℕ). operand_keeps (wanted p) a.value) args)
+    let s = and_parts (wanted_keeps (own_at c p) to) (operand_keeps (own_at c p) callee && list_all (λ (a : Argument ℕ). operand_keeps (own_at c p) a.value) args) at in
+    let t = and_parts (operand_keeps (own_at c p) callee) (list_all (λ (a : Argument ℕ). operand_keeps (own_at c p) a.value) args) s.1 in
+    let h = and_parts (operand_keeps (wanted p) callee) (list_all (λ (a : Argument ℕ). operand_keeps (wanted p) a.value) args)
     (sym (args_in (wanted p) (with_operand [] callee) args ∙ ap (λ x. x && list_all (λ (a : Argument ℕ). operand_keeps (wanted p) a.value) args) (operand_in (wanted p) [] callee)) ∙ reads) in
     let found : (operand_held own (layout_at c p) callee && args_held own (layout_at c p) args) ≡ true =
     ap (λ x. x && args_held own (layout_at c p) args) (operand_found wanted c p own callee full t.0 h.0) ∙ args_found wanted c p own args full t.1 h.1 in
@@ -337,18 +338,18 @@ all_held : (wanted : Wanted) (p n : ℕ) (own : Owners) (es : List Equality) →
     → all_hold own es ≡ true
 all_held wanted p n own [] full at h = refl
 all_held wanted p n own (e ∷ es) full at h =
-    let s = both_true (is_own n e) (list_all (is_own n) es) at in
-    let t = both_true (wanted p e.register) (list_all (λ (x : Equality). wanted p x.register) es) h in
-    let is = same_is e.place (Slot e.register) (both_true (same_location e.place (Slot e.register)) (nat_lt e.register n) s.0).0 in
+    let s = and_parts (is_own n e) (list_all (is_own n) es) at in
+    let t = and_parts (wanted p e.register) (list_all (λ (x : Equality). wanted p x.register) es) h in
+    let is = same_is e.place (Slot e.register) (and_parts (same_location e.place (Slot e.register)) (nat_lt e.register n) s.0).0 in
     ap (λ b. b && all_hold own es) (owned own e.place e.register (ap own is ∙ full e.register t.0)) ∙ all_held wanted p n own es full s.1 t.1
 
 jump_goes : (wanted : Wanted) (n : ℕ) (c : Certificate) (p : ℕ) (own : Owners) (j : Jump ℕ) → ((i : ℕ) → list_all (is_own n) (starts_at c i) ≡ true)
     → jump_keeps (own_at c p) j ≡ true → Full wanted p own → list_all (wanted p) (jump_reads j) ≡ true → targets_wanted wanted c p j ≡ true → jump_right c own (layout_at c p) j ≡ true
 jump_goes wanted n c p own (Goto k) starts at full reads targets = all_held wanted p n own (starts_at c k) full (starts k) targets
 jump_goes wanted n c p own (Branch on met otherwise) starts at full reads targets =
-    let t = both_true (start_wanted wanted c p met) (start_wanted wanted c p otherwise) targets in
-    let s = both_true (operand_keeps (own_at c p) on.left) (operand_keeps (own_at c p) on.right) at in
-    let h = both_true (operand_keeps (wanted p) on.left) (operand_keeps (wanted p) on.right) (sym (two_in (wanted p) on.left on.right) ∙ reads) in
+    let t = and_parts (start_wanted wanted c p met) (start_wanted wanted c p otherwise) targets in
+    let s = and_parts (operand_keeps (own_at c p) on.left) (operand_keeps (own_at c p) on.right) at in
+    let h = and_parts (operand_keeps (wanted p) on.left) (operand_keeps (wanted p) on.right) (sym (two_in (wanted p) on.left on.right) ∙ reads) in
     ap (λ b. (b && operand_held own (layout_at c p) on.right) && (all_hold own (starts_at c met) && all_hold own (starts_at c otherwise))) (operand_found wanted c p own on.left full s.0 h.0)
     ∙ ap (λ b. b && (all_hold own (starts_at c met) && all_hold own (starts_at c otherwise))) (operand_found wanted c p own on.right full s.1 h.1)
     ∙ ap (λ b. b && all_hold own (starts_at c otherwise)) (all_held wanted p n own (starts_at c met) full (starts met) t.0)
@@ -373,31 +374,31 @@ lines_go wanted n c p own j (Tick turn w ∷ lines) starts still at full wants =
     let g = line_goes wanted c p own (Tick turn w) refl full wants.0 wants.1.0 in
     lines_go wanted n c p own j lines starts still at full wants.1.1
 lines_go wanted n c p own j (Set to a ∷ lines) starts still at full wants =
-    let s = both_true (line_keeps (own_at c p) (Set to a)) (lines_own c (p + 1) j lines) at in
+    let s = and_parts (line_keeps (own_at c p) (Set to a)) (lines_own c (p + 1) j lines) at in
     let g = line_goes wanted c p own (Set to a) s.0 full wants.0 wants.1.0 in
     point_goes wanted c p (p + 1) own j (Set to a) lines still g (lines_go wanted n c (p + 1) g.owners j lines starts still s.1 g.full wants.1.1)
 lines_go wanted n c p own j (Operate to op a b ∷ lines) starts still at full wants =
-    let s = both_true (line_keeps (own_at c p) (Operate to op a b)) (lines_own c (p + 1) j lines) at in
+    let s = and_parts (line_keeps (own_at c p) (Operate to op a b)) (lines_own c (p + 1) j lines) at in
     let g = line_goes wanted c p own (Operate to op a b) s.0 full wants.0 wants.1.0 in
     point_goes wanted c p (p + 1) own j (Operate to op a b) lines still g (lines_go wanted n c (p + 1) g.owners j lines starts still s.1 g.full wants.1.1)
 lines_go wanted n c p own j (Load to op a ∷ lines) starts still at full wants =
-    let s = both_true (line_keeps (own_at c p) (Load to op a)) (lines_own c (p + 1) j lines) at in
+    let s = and_parts (line_keeps (own_at c p) (Load to op a)) (lines_own c (p + 1) j lines) at in
     let g = line_goes wanted c p own (Load to op a) s.0 full wants.0 wants.1.0 in
     point_goes wanted c p (p + 1) own j (Load to op a) lines still g (lines_go wanted n c (p + 1) g.owners j lines starts still s.1 g.full wants.1.1)
 lines_go wanted n c p own j (Store size a b ∷ lines) starts still at full wants =
-    let s = both_true (line_keeps (own_at c p) (Store size a b)) (lines_own c (p + 1) j lines) at in
+    let s = and_parts (line_keeps (own_at c p) (Store size a b)) (lines_own c (p + 1) j lines) at in
     let g = line_goes wanted c p own (Store size a b) s.0 full wants.0 wants.1.0 in
     point_goes wanted c p (p + 1) own j (Store size a b) lines still g (lines_go wanted n c (p + 1) g.owners j lines starts still s.1 g.full wants.1.1)
 lines_go wanted n c p own j (Alloc to size ∷ lines) starts still at full wants =
-    let s = both_true (line_keeps (own_at c p) (Alloc to size)) (lines_own c (p + 1) j lines) at in
+    let s = and_parts (line_keeps (own_at c p) (Alloc to size)) (lines_own c (p + 1) j lines) at in
     let g = line_goes wanted c p own (Alloc to size) s.0 full wants.0 wants.1.0 in
     point_goes wanted c p (p + 1) own j (Alloc to size) lines still g (lines_go wanted n c (p + 1) g.owners j lines starts still s.1 g.full wants.1.1)
 lines_go wanted n c p own j (Blit a b count ∷ lines) starts still at full wants =
-    let s = both_true (line_keeps (own_at c p) (Blit a b count)) (lines_own c (p + 1) j lines) at in
+    let s = and_parts (line_keeps (own_at c p) (Blit a b count)) (lines_own c (p + 1) j lines) at in
     let g = line_goes wanted c p own (Blit a b count) s.0 full wants.0 wants.1.0 in
     point_goes wanted c p (p + 1) own j (Blit a b count) lines still g (lines_go wanted n c (p + 1) g.owners j lines starts still s.1 g.full wants.1.1)
 lines_go wanted n c p own j (Call to callee args ∷ lines) starts still at full wants =
-    let s = both_true (line_keeps (own_at c p) (Call to callee args)) (lines_own c (p + 1) j lines) at in
+    let s = and_parts (line_keeps (own_at c p) (Call to callee args)) (lines_own c (p + 1) j lines) at in
     let g = line_goes wanted c p own (Call to callee args) s.0 full wants.0 wants.1.0 in
     point_goes wanted c p (p + 1) own j (Call to callee args) lines still g (lines_go wanted n c (p + 1) g.owners j lines starts still s.1 g.full wants.1.1)
 
@@ -407,8 +408,8 @@ known_slot : (n : ℕ) (es : List Equality) (own : Owners) (r : ℕ) → list_al
 known_slot n [] own r at (inl h) = cc
 known_slot n [] own r at (inr h) = h
 known_slot n (e ∷ es) own r at either =
-    let s = both_true (is_own n e) (list_all (is_own n) es) at in
-    let is = same_is e.place (Slot e.register) (both_true (same_location e.place (Slot e.register)) (nat_lt e.register n) s.0).0 in
+    let s = and_parts (is_own n e) (list_all (is_own n) es) at in
+    let is = same_is e.place (Slot e.register) (and_parts (same_location e.place (Slot e.register)) (nat_lt e.register n) s.0).0 in
     known_slot n es (own_also e own) r s.1 (by is (nat_eq r e.register) refl either)
   where
     by : e.place ≡ Slot e.register → (b : Bool) → nat_eq r e.register ≡ b → (names (e ∷ es) r ≡ true) ⊎ (own (Slot r) ≡ Some r) → (names es r ≡ true) ⊎ (own_also e own (Slot r) ≡ Some r)
@@ -425,7 +426,7 @@ blocks_go : (wanted : Wanted) (n : ℕ) (c : Certificate) (p k : ℕ) (blocks : 
     → list_all is_empty c.moves ≡ true → blocks_own c p blocks ≡ true → BlocksWant wanted c p k blocks → blocks_right c p k blocks ≡ true
 blocks_go wanted n c p k [] starts still at wants = refl
 blocks_go wanted n c p k (b ∷ blocks) starts still at wants =
-    let s = both_true (lines_own c p b.jump b.lines) (blocks_own c (jump_point p b.lines + 1) blocks) at in
+    let s = and_parts (lines_own c p b.jump b.lines) (blocks_own c (jump_point p b.lines + 1) blocks) at in
     ap (λ x. x && blocks_right c (jump_point p b.lines + 1) (k + 1) blocks)
     (lines_go wanted n c p (known (starts_at c k) nobody) b.jump b.lines starts still s.0
     (λ r w. known_slot n (starts_at c k) nobody r (starts k) (inl (wants.0 r w))) wants.1.0)
@@ -445,7 +446,7 @@ params_own [] own r (inl h) = cc
 params_own [] own r (inr h) = h
 params_own (d ∷ ds) own r (inl h) =
     params_own ds (own_put (Slot d.place) d.place own) r
-    (elim (either_true (nat_eq r d.place) (is_param ds r) h) [
+    (elim (or_cases (nat_eq r d.place) (is_param ds r) h) [
       | inl e ↦ inr (put_slot own (Slot d.place) d.place r refl (inl (let f : nat_eq d.place r ≡ true = grind (arith, nat_tests) in f)))
       | inr e ↦ inl e
     ])
@@ -455,7 +456,7 @@ entry_one : (n : ℕ) (ds : List (Destination ℕ)) (e : Equality) → is_own n 
 entry_one n ds e at = by (is_param ds e.register) refl
   where
     is : e.place ≡ Slot e.register
-    is = same_is e.place (Slot e.register) (both_true (same_location e.place (Slot e.register)) (nat_lt e.register n) at).0
+    is = same_is e.place (Slot e.register) (and_parts (same_location e.place (Slot e.register)) (nat_lt e.register n) at).0
 
     or_true : (b : Bool) → (b || true) ≡ true
     or_true true = refl
@@ -471,7 +472,7 @@ entry_so : (n : ℕ) (ds : List (Destination ℕ)) (es : List Equality) → list
     → list_all (λ (e : Equality). owns (own_params ds (slots_of ds) nobody) e.place e.register || not (is_param ds e.register)) es ≡ true
 entry_so n ds [] at = refl
 entry_so n ds (e ∷ es) at =
-    let s = both_true (is_own n e) (list_all (is_own n) es) at in
+    let s = and_parts (is_own n e) (list_all (is_own n) es) at in
     ap (λ b. b && list_all (λ (x : Equality). owns (own_params ds (slots_of ds) nobody) x.place x.register || not (is_param ds x.register)) es) (entry_one n ds e s.0) ∙ entry_so n ds es s.1
 
 -- ---- all of it

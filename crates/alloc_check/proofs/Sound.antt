@@ -2,6 +2,7 @@
 use Rattle.std.proofs.Common.{◌≡◌, ℕ, zero, suc, ◌+◌, ◌-◌, Bool, true, false, not, ◌&&◌, ◌||◌, nat_eq, nat_lt, if◌then◌else◌, List, [], ◌∷◌, ◌++◌, map, drop, length, Option, Some, None, slice_get, refl, sym, ◌∙◌, ap, subst, arith, inl, inr}
 use Rattle.std.specs.Option.{option_map, option_and_then, option_map_or}
 use Rattle.std.specs.List.{list_all}
+use Rattle.std.proofs.lemmas.Bool.{and_parts, or_cases}
 use Rattle.il_ast.specs.declared.operation.Class.{Class}
 use Rattle.il_ast.specs.declared.value.Value.{Value}
 use Rattle.il_ast.specs.declared.value.Value.TheVariants.{Integer, Pointer, Function}
@@ -42,7 +43,7 @@ use Rattle.alloc_check.specs.Placed.{Layout, placed_operand, placed_address, pla
 use Rattle.alloc_check.specs.Kept.{RunsAlike}
 use Rattle.alloc_check.specs.Owners.{Owners, nobody, Agrees, own_put, own_move, own_kept, moved, known, owns, operand_held, args_held, all_hold, where_held, received, after_line}
 use Rattle.alloc_check.specs.Certified.{moves_at, starts_at, layout_at, transfers, certified_lines, jump_point, certified_block, certified_blocks, certified_params, placed_by, jump_right, lines_right, blocks_right, own_params, is_param, entry_right, params_placed, is_sound}
-use Rattle.alloc_check.proofs.Agreeing.{both_true, either_true, operand_follows, read_follows, args_follow, put_agrees, move_agrees, kept_agrees, AllFollow, known_agrees, all_follow, nobody_agrees, params_agree, other_unknown, owned_follows, result_follows}
+use Rattle.alloc_check.proofs.Agreeing.{operand_follows, read_follows, args_follow, put_agrees, move_agrees, kept_agrees, AllFollow, known_agrees, all_follow, nobody_agrees, params_agree, other_unknown, owned_follows, result_follows}
 
 -- ---- a state with the next line and the values of the other code
 
@@ -196,7 +197,7 @@ two_follow : {R : Type 0} (globals : List Value) (own : Owners) (ev : Values ℕ
     → Follows (option_and_then (λ u. option_and_then (λ v. act u v) (value_of globals el (placed_operand f b))) (value_of globals el (placed_operand f a)))
     (option_and_then (λ u. option_and_then (λ v. act u v) (value_of globals ev b)) (value_of globals ev a))
 two_follow {R} globals own ev el f a b act h agrees =
-    let both = both_true (operand_held own f a) (operand_held own f b) h in
+    let both = and_parts (operand_held own f a) (operand_held own f b) h in
     follows_then (value_of globals el (placed_operand f a)) (value_of globals ev a)
     (λ u. option_and_then (λ v. act u v) (value_of globals ev b)) (λ u. option_and_then (λ v. act u v) (value_of globals el (placed_operand f b)))
     (operand_follows globals own ev el f a both.0 agrees)
@@ -239,7 +240,7 @@ line_beside related globals i s n el own o f (Load to op at) agrees h on =
     (onward_by related s n (own_put (f to) to own) o found.1 on)
 line_beside related globals i s n el own o f (Store size a at) agrees h on =
     let found = held_is (operand_held own f a && operand_held own f at.base) own o h in
-    let held_both = both_true (operand_held own f a) (operand_held own f at.base) found.0 in
+    let held_both = and_parts (operand_held own f a) (operand_held own f at.base) found.0 in
     changes_beside related s n el own
     (option_and_then (λ v. option_and_then (λ p. store s.memory (byte_count size) p v) (address_of globals s.memory s.values at)) (read globals s.values (stored_class size) a))
     (option_and_then (λ v. option_and_then (λ p. store s.memory (byte_count size) p v) (address_of globals s.memory el (placed_address f at))) (read globals el (stored_class size) (placed_operand f a)))
@@ -273,7 +274,7 @@ line_beside related globals i s n el own o f (Blit from to count) agrees h on =
     (onward_by related s n own o found.1 on)
 line_beside related globals i s n el own o f (Call to callee args) agrees h on =
     let found = held_is (operand_held own f callee && args_held own f args) (received f to (own_kept own)) o h in
-    let held_both = both_true (operand_held own f callee) (args_held own f args) found.0 in
+    let held_both = and_parts (operand_held own f callee) (args_held own f args) found.0 in
     calls_beside related i s n el own f to args (value_of globals s.values callee) (value_of globals el (placed_operand f callee)) (read_all globals s.values args)
     (read_all globals el (map (placed_argument f) args))
     (operand_follows globals own s.values el f callee held_both.0 agrees)
@@ -315,8 +316,8 @@ jump_beside : (related : Relation) (c : Certificate) (globals : List Value) (res
 unfolding jump_step
 jump_beside related c globals result s n el own f (Goto k) h agrees enter = (carry (record s { block = k; next = 0 }) 0 el, refl, enter k h)
 jump_beside related c globals result s n el own f (Branch on met otherwise) h agrees enter =
-    let first = both_true (operand_held own f on.left && operand_held own f on.right) (all_hold own (starts_at c met) && all_hold own (starts_at c otherwise)) h in
-    let targets = both_true (all_hold own (starts_at c met)) (all_hold own (starts_at c otherwise)) first.1 in
+    let first = and_parts (operand_held own f on.left && operand_held own f on.right) (all_hold own (starts_at c met) && all_hold own (starts_at c otherwise)) h in
+    let targets = and_parts (all_hold own (starts_at c met)) (all_hold own (starts_at c otherwise)) first.1 in
     branch_beside related c s n own el met otherwise (compared globals s on) (compared globals (carry s n el) (placed_comparison f on))
     (two_follow globals own s.values el f on.left on.right (operate s.memory (Compare on.condition on.class)) first.0 agrees) targets.0 targets.1 enter
 jump_beside related c globals result s n el own f (Return None) h agrees enter = λ fine. refl
@@ -439,7 +440,7 @@ block_found v c p k [] h j b e = let f : None ≡ Some b = e in absurd (none_is_
     none_is_some b f = cc
 block_found v c p k (d ∷ blocks) h zero b e =
     let same : d ≡ b = some_is_some d b e in
-    let first = both_true (lines_right c p (known (starts_at c k) nobody) d.jump d.lines) (blocks_right c (jump_point p d.lines + 1) (k + 1) blocks) h in
+    let first = and_parts (lines_right c p (known (starts_at c k) nobody) d.jump d.lines) (blocks_right c (jump_point p d.lines + 1) (k + 1) blocks) h in
     record {
       point = p;
       found = ap (λ (x : Block ℕ). Some (certified_block c p x)) same;
@@ -451,7 +452,7 @@ block_found v c p k (d ∷ blocks) h zero b e =
     some_is_some : (x y : Block ℕ) → Some x ≡ Some y → x ≡ y
     some_is_some x y f = cc
 block_found v c p k (d ∷ blocks) h (suc j) b e =
-    let first = both_true (lines_right c p (known (starts_at c k) nobody) d.jump d.lines) (blocks_right c (jump_point p d.lines + 1) (k + 1) blocks) h in
+    let first = and_parts (lines_right c p (known (starts_at c k) nobody) d.jump d.lines) (blocks_right c (jump_point p d.lines + 1) (k + 1) blocks) h in
     let rest = block_found v c (jump_point p d.lines + 1) (k + 1) blocks first.1 j b e in
     record {
       point = rest.point;
@@ -609,8 +610,8 @@ entry_follows : (ds : List (Destination ℕ)) (qs : List Location) (vs : List Va
     → AllFollow (bound virtual unknown ds vs) (bound located unknown (certified_params ds qs) vs) es
 entry_follows ds qs vs own [] agrees h = tt
 entry_follows ds qs vs own (e ∷ es) agrees h =
-    let first = both_true (owns own e.place e.register || not (is_param ds e.register)) (list_all (λ (d : Equality). owns own d.place d.register || not (is_param ds d.register)) es) h in (
-      elim (either_true (owns own e.place e.register) (not (is_param ds e.register)) first.0) [
+    let first = and_parts (owns own e.place e.register || not (is_param ds e.register)) (list_all (λ (d : Equality). owns own d.place d.register || not (is_param ds d.register)) es) h in (
+      elim (or_cases (owns own e.place e.register) (not (is_param ds e.register)) first.0) [
         | inl here ↦ owned_follows own (bound virtual unknown ds vs) (bound located unknown (certified_params ds qs) vs) e.place e.register here agrees
         | inr other ↦ (λ x is. let none : bound virtual unknown ds vs e.register ≡ None = other_unknown unknown ds vs e.register other in cc)
       ],
@@ -619,16 +620,16 @@ entry_follows ds qs vs own (e ∷ es) agrees h =
 
 begins : (v : Code ℕ) (c : Certificate) (i : Given) → is_sound v c ≡ true → AreArgs (map (λ d. d.class) v.params) i.args → Related v c (begin virtual v i) (begin located (placed_by v c) i)
 begins v c i sound args =
-    let first = both_true (params_placed v.params c.params) (entry_right v c && blocks_right c 0 0 v.blocks) sound in
-    let second = both_true (entry_right v c) (blocks_right c 0 0 v.blocks) first.1 in
+    let first = and_parts (params_placed v.params c.params) (entry_right v c && blocks_right c 0 0 v.blocks) sound in
+    let second = and_parts (entry_right v c) (blocks_right c 0 0 v.blocks) first.1 in
     at_start v c (begin virtual v i) 0 (bound located unknown (certified_params v.params c.params) i.args) second.1
     (entry_follows v.params c.params i.args (own_params v.params c.params nobody) (starts_at c 0)
     (params_agree nobody unknown unknown v.params c.params i.args first.0 args (nobody_agrees unknown unknown)) second.0)
 
 pub sound_keeps : (v : Code ℕ) (c : Certificate) → is_sound v c ≡ true → RunsAlike v (placed_by v c)
 sound_keeps v c sound globals =
-    let first = both_true (params_placed v.params c.params) (entry_right v c && blocks_right c 0 0 v.blocks) sound in
-    let second = both_true (entry_right v c) (blocks_right c 0 0 v.blocks) first.1 in
+    let first = and_parts (params_placed v.params c.params) (entry_right v c && blocks_right c 0 0 v.blocks) sound in
+    let second = and_parts (entry_right v c) (blocks_right c 0 0 v.blocks) first.1 in
     simulation_keeps (map (λ d. d.class) v.params) (begin virtual v) (step virtual globals v) (begin located (placed_by v c)) (step located globals (placed_by v c)) (λ i. Related v c)
     (λ i args. begins v c i sound args)
     (λ i. simulates v c globals i second.1)

@@ -5,6 +5,8 @@ use Rattle.std.specs.Prelude.{◌⊎◌}
 use Rattle.std.specs.Option.{option_map, option_map_or}
 use Rattle.std.proofs.lemmas.Bool.Decides.{nat_tests}
 use Rattle.std.proofs.lemmas.Option.{slice_get-map}
+use Rattle.std.proofs.lemmas.Bool.{and_parts, or_cases, or_right, or_left, eq-eqb}
+use Rattle.std.proofs.lemmas.List.Folds.{list_any-append}
 use Rattle.bitset.specs.Bits.{Bits}
 use Rattle.vcode.specs.declared.place.Location.{Location}
 use Rattle.vcode.specs.declared.place.Location.TheVariants.{Slot}
@@ -35,7 +37,7 @@ use Rattle.alloc_check.specs.Accepted.{end_point, names_once, has_lengths}
 use Rattle.alloc_check.specs.Slotted.{is_empty, is_own, own_at, lines_own, blocks_own, start_wanted, targets_wanted, writes_to, LinesWant, names, BlocksWant, IsSlotted}
 use Rattle.alloc_check.proofs.Certifies.{from_true}
 use Rattle.alloc_check.proofs.Regular.{map_length}
-use Rattle.alloc_check.proofs.Agreeing.{both_true, either_true, same_is}
+use Rattle.alloc_check.proofs.Agreeing.{same_is}
 use Rattle.alloc_check.proofs.Slots.{operand_in, two_in, args_in}
 
 -- ---- tests
@@ -43,13 +45,6 @@ use Rattle.alloc_check.proofs.Slots.{operand_in, two_in, args_in}
 pub is_same : (r : ℕ) → nat_eq r r ≡ true
 is_same r = grind (arith, nat_tests)
 
-or_right : (a : Bool) (b : Bool) → b ≡ true → (a || b) ≡ true
-or_right true b h = refl
-or_right false b h = h
-
-any_append : {X : Type 0} (test : X → Bool) (xs ys : List X) → list_any test (xs ++ ys) ≡ (list_any test xs || list_any test ys)
-any_append test [] ys = refl
-any_append test (x ∷ xs) ys = ap (λ b. test x || b) (any_append test xs ys) ∙ or_three (test x) (list_any test xs) (list_any test ys)
   where
     or_three : (a b d : Bool) → (a || (b || d)) ≡ ((a || b) || d)
     or_three true b d = refl
@@ -58,7 +53,7 @@ any_append test (x ∷ xs) ys = ap (λ b. test x || b) (any_append test xs ys) �
 every_append : {X : Type 0} (test : X → Bool) (xs ys : List X) → list_all test xs ≡ true → list_all test ys ≡ true → list_all test (xs ++ ys) ≡ true
 every_append test [] ys a b = b
 every_append test (x ∷ xs) ys a b =
-    let s = both_true (test x) (list_all test xs) a in
+    let s = and_parts (test x) (list_all test xs) a in
     ap (λ t. t && list_all test (xs ++ ys)) s.0 ∙ every_append test xs ys s.1 b
 
 abbrev pub is_in : List ℕ → ℕ → Bool
@@ -73,8 +68,8 @@ every_in test (k ∷ rs) h =
 pub one_in : (test : ℕ → Bool) (rs : List ℕ) (r : ℕ) → list_all test rs ≡ true → is_in rs r ≡ true → test r ≡ true
 one_in test [] r all h = cc
 one_in test (k ∷ rs) r all h =
-    let s = both_true (test k) (list_all test rs) all in
-    elim (either_true (nat_eq k r) (is_in rs r) h) [
+    let s = and_parts (test k) (list_all test rs) all in
+    elim (or_cases (nat_eq k r) (is_in rs r) h) [
       | inl e ↦ (let same : k ≡ r = grind (arith, nat_tests) in ap test (sym same) ∙ s.0)
       | inr e ↦ one_in test rs r s.1 e
     ]
@@ -127,7 +122,7 @@ own_own n r low = ap (λ b. b && nat_lt r n) (is_same r) ∙ (let e : nat_lt r n
 pub params_listed : (n : ℕ) (ds : List (Destination ℕ)) → list_all (λ (d : Destination ℕ). is_below n d.place) ds ≡ true → listed_params (slots n) ds ≡ map (λ (d : Destination ℕ). Slot d.place) ds
 params_listed n [] h = refl
 params_listed n (d ∷ ds) h =
-    let s = both_true (is_below n d.place) (list_all (λ (x : Destination ℕ). is_below n x.place) ds) h in
+    let s = and_parts (is_below n d.place) (list_all (λ (x : Destination ℕ). is_below n x.place) ds) h in
     let low : d.place < n = grind (arith, nat_tests) in
     ap (λ (o : Option Location). option_map_or (λ (q : Location). q ∷ []) o [] ++ listed_params (slots n) ds) (slot_at n d.place low)
     ∙ ap (λ qs. Slot d.place ∷ qs) (params_listed n ds s.1)
@@ -144,8 +139,8 @@ record Owned (n : ℕ) (es : List Equality) : Type 0 where
 place_of_own : (n : ℕ) (es : List Equality) (r : ℕ) → list_all (is_own n) es ≡ true → has es r ≡ true → place_by es r ≡ Slot r
 place_of_own n [] r all h = cc
 place_of_own n (e ∷ es) r all h =
-    let s = both_true (is_own n e) (list_all (is_own n) es) all in
-    by (nat_eq e.register r) refl (both_true (same_location e.place (Slot e.register)) (nat_lt e.register n) s.0).0 h (place_of_own n es r s.1)
+    let s = and_parts (is_own n e) (list_all (is_own n) es) all in
+    by (nat_eq e.register r) refl (and_parts (same_location e.place (Slot e.register)) (nat_lt e.register n) s.0).0 h (place_of_own n es r s.1)
   where
     by : (b : Bool) → nat_eq e.register r ≡ b → same_location e.place (Slot e.register) ≡ true → has (e ∷ es) r ≡ true → (has es r ≡ true → place_by es r ≡ Slot r) → place_by (e ∷ es) r ≡ Slot r
     by true f is g rest =
@@ -169,8 +164,8 @@ with_own n es r low all = by (has es r) refl
         let is : with_place (slots n) es r ≡ es ++ own r ∷ [] = ap (λ b. if b then es else es ++ place_in (slots n) r) f ∙ ap (λ xs. es ++ xs) (place_slot n r low) in (
           ap (list_all (is_own n)) is ∙ every_append (is_own n) es (own r ∷ []) all (ap (λ b. b && true) (own_own n r low)),
           (
-            ap (λ xs. has xs r) is ∙ any_append (λ (e : Equality). nat_eq e.register r) es (own r ∷ []) ∙ or_right (has es r) (nat_eq r r || false) (ap (λ b. b || false) (is_same r)),
-            λ k h. ap (λ xs. has xs k) is ∙ any_append (λ (e : Equality). nat_eq e.register k) es (own r ∷ []) ∙ ap (λ b. b || (nat_eq r k || false)) h,
+            ap (λ xs. has xs r) is ∙ list_any-append (λ (e : Equality). nat_eq e.register r) es (own r ∷ []) ∙ or_right (has es r) (nat_eq r r || false) (ap (λ b. b || false) (is_same r)),
+            λ k h. ap (λ xs. has xs k) is ∙ list_any-append (λ (e : Equality). nat_eq e.register k) es (own r ∷ []) ∙ ap (λ b. b || (nat_eq r k || false)) h,
           ),
         )
 
@@ -179,13 +174,13 @@ withs_own : (n : ℕ) (es : List Equality) (rs : List ℕ) → list_all (is_belo
     × (((r : ℕ) → is_in rs r ≡ true → has (with_places (slots n) es rs) r ≡ true) × ((k : ℕ) → has es k ≡ true → has (with_places (slots n) es rs) k ≡ true))
 withs_own n es [] below all = (all, (λ r h. cc, λ k h. h))
 withs_own n es (x ∷ rs) below all =
-    let s = both_true (is_below n x) (list_all (is_below n) rs) below in
+    let s = and_parts (is_below n x) (list_all (is_below n) rs) below in
     let low : x < n = grind (arith, nat_tests) in
     let one = with_own n es x low all in
     let rest = withs_own n (with_place (slots n) es x) rs s.1 one.0 in (
       rest.0,
       (
-        λ r h. elim (either_true (nat_eq x r) (is_in rs r) h) [
+        λ r h. elim (or_cases (nat_eq x r) (is_in rs r) h) [
           | inl e ↦ rest.1.1 r (let same : x ≡ r = grind (arith, nat_tests) in ap (has (with_place (slots n) es x)) (sym same) ∙ one.1.0)
           | inr e ↦ rest.1.0 r e
         ],
@@ -210,12 +205,12 @@ written_own n es (Some x) below all =
 once_more : (es : List Equality) (e : Equality) → names_once es ≡ true → has es e.register ≡ false → names_once (es ++ e ∷ []) ≡ true
 once_more [] e h f = refl
 once_more (x ∷ es) e h f =
-    let s = both_true (not (has es x.register)) (names_once es) h in
+    let s = and_parts (not (has es x.register)) (names_once es) h in
     let t = neither (nat_eq x.register e.register) (has es e.register) f in
     let other : nat_eq e.register x.register ≡ false = grind (arith, nat_tests) in
     let before : has es x.register ≡ false = is_not (has es x.register) s.0 in
     let after : has (es ++ e ∷ []) x.register ≡ false =
-    any_append (λ (k : Equality). nat_eq k.register x.register) es (e ∷ []) ∙ ap (λ b. b || (nat_eq e.register x.register || false)) before ∙ ap (λ b. b || false) other in
+    list_any-append (λ (k : Equality). nat_eq k.register x.register) es (e ∷ []) ∙ ap (λ b. b || (nat_eq e.register x.register || false)) before ∙ ap (λ b. b || false) other in
     ap (λ b. not b && names_once (es ++ e ∷ [])) after ∙ once_more es e s.1 t.1
   where
     neither : (a b : Bool) → (a || b) ≡ false → (a ≡ false) × (b ≡ false)
@@ -237,7 +232,7 @@ with_once n es r low once = by (has es r) refl
 withs_once : (n : ℕ) (es : List Equality) (rs : List ℕ) → list_all (is_below n) rs ≡ true → names_once es ≡ true → names_once (with_places (slots n) es rs) ≡ true
 withs_once n es [] below once = once
 withs_once n es (x ∷ rs) below once =
-    let s = both_true (is_below n x) (list_all (is_below n) rs) below in
+    let s = and_parts (is_below n x) (list_all (is_below n) rs) below in
     let low : x < n = grind (arith, nat_tests) in
     withs_once n (with_place (slots n) es x) rs s.1 (with_once n es x low once)
 
@@ -255,8 +250,8 @@ points_own : (n : ℕ) (us : List Uses) → list_all (use_below n) us ≡ true
     → (list_all (λ (es : List Equality). list_all (is_own n) es) (map (point_places (slots n)) us) ≡ true) × (list_all names_once (map (point_places (slots n)) us) ≡ true)
 points_own n [] h = (refl, refl)
 points_own n (u ∷ us) h =
-    let s = both_true (use_below n u) (list_all (use_below n) us) h in
-    let t = both_true (list_all (is_below n) u.reads) (below_wanted n u.writes) s.0 in
+    let s = and_parts (use_below n u) (list_all (use_below n) us) h in
+    let t = and_parts (list_all (is_below n) u.reads) (below_wanted n u.writes) s.0 in
     let reads = withs_own n [] u.reads t.0 refl in
     let all = written_own n (with_places (slots n) [] u.reads) u.writes t.1 reads.0 in
     let once = written_once n (with_places (slots n) [] u.reads) u.writes t.1 (withs_once n [] u.reads t.0 refl) in
@@ -279,9 +274,9 @@ point_own n u below under =
 
 pub names_below : (test : ℕ → Bool) (l : Line ℕ) → line_keeps test l ≡ true → (list_all test (line_reads l) ≡ true) × (option_map_or test (line_writes l) true ≡ true)
 names_below test (Tick turn w) h = (refl, refl)
-names_below test (Set to a) h = let s = both_true (test to) (operand_keeps test a) h in (operand_in test [] a ∙ s.1, s.0)
-names_below test (Operate to op a b) h = let s = both_true (test to) (operand_keeps test a && operand_keeps test b) h in (two_in test a b ∙ s.1, s.0)
-names_below test (Load to op at) h = let s = both_true (test to) (operand_keeps test at.base) h in (operand_in test [] at.base ∙ s.1, s.0)
+names_below test (Set to a) h = let s = and_parts (test to) (operand_keeps test a) h in (operand_in test [] a ∙ s.1, s.0)
+names_below test (Operate to op a b) h = let s = and_parts (test to) (operand_keeps test a && operand_keeps test b) h in (two_in test a b ∙ s.1, s.0)
+names_below test (Load to op at) h = let s = and_parts (test to) (operand_keeps test at.base) h in (operand_in test [] at.base ∙ s.1, s.0)
 names_below test (Store size a at) h = (two_in test a at.base ∙ h, refl)
 names_below test (Alloc None size) h = (refl, refl)
 names_below test (Alloc (Some r) size) h = (refl, h)
@@ -289,7 +284,7 @@ names_below test (Blit a b count) h = (two_in test a b ∙ h, refl)
 names_below test (Call None callee args) h =
     (args_in test (with_operand [] callee) args ∙ ap (λ b. b && list_all (λ (a : Argument ℕ). operand_keeps test a.value) args) (operand_in test [] callee) ∙ h, refl)
 names_below test (Call (Some d) callee args) h =
-    let s = both_true (test d.place) (operand_keeps test callee && list_all (λ (a : Argument ℕ). operand_keeps test a.value) args) h in
+    let s = and_parts (test d.place) (operand_keeps test callee && list_all (λ (a : Argument ℕ). operand_keeps test a.value) args) h in
     (args_in test (with_operand [] callee) args ∙ ap (λ b. b && list_all (λ (a : Argument ℕ). operand_keeps test a.value) args) (operand_in test [] callee) ∙ s.1, s.0)
 
 pub names_all : (test : ℕ → Bool) (l : Line ℕ) → list_all test (line_reads l) ≡ true → option_map_or test (line_writes l) true ≡ true → line_keeps test l ≡ true
@@ -370,7 +365,7 @@ one_below n us u h reads writes =
 lines_below : (n : ℕ) (us : List Uses) (lines : List (Line ℕ)) → list_all (use_below n) us ≡ true → list_all (line_keeps (is_below n)) lines ≡ true → list_all (use_below n) (with_lines us lines) ≡ true
 lines_below n us [] h below = h
 lines_below n us (l ∷ lines) h below =
-    let s = both_true (line_keeps (is_below n) l) (list_all (line_keeps (is_below n)) lines) below in
+    let s = and_parts (line_keeps (is_below n) l) (list_all (line_keeps (is_below n)) lines) below in
     let low = names_below (is_below n) l s.0 in
     lines_below n (with_line us l) lines
     (elim (kind l) [
@@ -382,8 +377,8 @@ lines_below n us (l ∷ lines) h below =
 blocks_below : (n : ℕ) (us : List Uses) (blocks : List (Block ℕ)) → list_all (use_below n) us ≡ true → list_all (block_keeps (is_below n)) blocks ≡ true → list_all (use_below n) (with_blocks us blocks) ≡ true
 blocks_below n us [] h below = h
 blocks_below n us (b ∷ blocks) h below =
-    let s = both_true (block_keeps (is_below n) b) (list_all (block_keeps (is_below n)) blocks) below in
-    let t = both_true (list_all (line_keeps (is_below n)) b.lines) (jump_keeps (is_below n) b.jump) s.0 in
+    let s = and_parts (block_keeps (is_below n) b) (list_all (block_keeps (is_below n)) blocks) below in
+    let t = and_parts (list_all (line_keeps (is_below n)) b.lines) (jump_keeps (is_below n) b.jump) s.0 in
     blocks_below n (with_block us b) blocks
     (one_below n (with_lines us b.lines) (jump_uses b.jump) (lines_below n us b.lines h t.0) (sym (jump_below (is_below n) b.jump) ∙ t.1) refl) s.1
 
@@ -420,7 +415,7 @@ live_every n rows q (suc m) pass low h =
 
 pub live_named : (n : ℕ) (rows : List Bits) (q m r : ℕ) → m ≤ n → r < m → holds rows q r ≡ true → has (live_places (slots n) rows q m) r ≡ true
 live_named n rows q zero r low in_m h = absurd (omega arith)
-live_named n rows q (suc m) r low in_m h = any_append (λ (e : Equality). nat_eq e.register r) (live_places (slots n) rows q m) (if holds rows q m then place_in (slots n) m else [])
+live_named n rows q (suc m) r low in_m h = list_any-append (λ (e : Equality). nat_eq e.register r) (live_places (slots n) rows q m) (if holds rows q m then place_in (slots n) m else [])
     ∙ by (nat_eq r m) refl (λ less. live_named n rows q m r (omega arith) less h)
   where
     by : (b : Bool) → nat_eq r m ≡ b → (r < m → has (live_places (slots n) rows q m) r ≡ true) → (has (live_places (slots n) rows q m) r || has (if holds rows q m then place_in (slots n) m else []) r) ≡ true
@@ -441,9 +436,6 @@ starts_listed n rows p (b ∷ blocks) =
     ∙ starts_listed n rows (jump_point p b.lines + 1) blocks
 
 -- ---- liveness along the code
-
-left_or : (a b : Bool) → a ≡ true → (a || b) ≡ true
-left_or a b h = ap (λ x. x || b) h
 
 -- what stands at a point of the graph
 record At (g : Graph) (p : ℕ) (u : Uses) (ns : List ℕ) : Type 0 where
@@ -505,10 +497,10 @@ target_so v n rows p k goes = by (slice_get (firsts_from 0 v.blocks) k) refl
 
 start_kept : (ks : List ℕ) (o : Option ℕ) (q : ℕ) → is_in ks q ≡ true → is_in (with_start ks o) q ≡ true
 start_kept ks None q h = h
-start_kept ks (Some k) q h = any_append (λ j. nat_eq j q) ks (k ∷ []) ∙ left_or (is_in ks q) (is_in (k ∷ []) q) h
+start_kept ks (Some k) q h = list_any-append (λ j. nat_eq j q) ks (k ∷ []) ∙ or_left (is_in ks q) (is_in (k ∷ []) q) h
 
 start_in : (ks : List ℕ) (o : Option ℕ) (q : ℕ) → o ≡ Some q → is_in (with_start ks o) q ≡ true
-start_in ks o q e = ap (λ x. is_in (with_start ks x) q) e ∙ any_append (λ j. nat_eq j q) ks (q ∷ []) ∙ or_right (is_in ks q) (is_in (q ∷ []) q) (ap (λ b. b || false) (is_same q))
+start_in ks o q e = ap (λ x. is_in (with_start ks x) q) e ∙ list_any-append (λ j. nat_eq j q) ks (q ∷ []) ∙ or_right (is_in ks q) (is_in (q ∷ []) q) (ap (λ b. b || false) (is_same q))
 
 targets_so : (v : Code ℕ) (n : ℕ) (rows : List Bits) → AreLive (graph_of v) n rows → (p : ℕ) (j : Jump ℕ) → At (graph_of v) p (jump_uses j) (jump_next (firsts_from 0 v.blocks) j)
     → targets_wanted (holds rows) (slotted v n rows) p j ≡ true
@@ -549,7 +541,7 @@ point_flows v n rows live p q r l ns at is h = by (writes_to l r) refl
     by : (b : Bool) → writes_to l r ≡ b → (holds rows p r || writes_to l r) ≡ true
     by true e = or_right (holds rows p r) (writes_to l r) e
     by false e =
-        left_or (holds rows p r) (writes_to l r)
+        or_left (holds rows p r) (writes_to l r)
         (flow_at (graph_of v) n rows live p (length ns + 1) r (line_uses l) (after_point (length ns)) at (ap (λ b. b || false) (is_same (length ns + 1))) e (ap (λ k. holds rows k r) (sym is) ∙ h))
 
 lines_so : (v : Code ℕ) (n : ℕ) (rows : List Bits) → AreLive (graph_of v) n rows → (p : ℕ) (j : Jump ℕ) (lines : List (Line ℕ)) (us : List Uses) (ns : List (List ℕ))
@@ -562,13 +554,13 @@ lines_so v n rows live p j [] us ns cu cn bu bn below under =
       jump_below (own_at (slotted v n rows) p) j ∙ (named_at v n rows p (jump_uses j) at.uses low refl).0,
     )
 lines_so v n rows live p j (l ∷ lines) us ns cu cn bu bn below under =
-    let s = both_true (line_keeps (is_below n) l) (list_all (line_keeps (is_below n)) lines) below in
+    let s = and_parts (line_keeps (is_below n) l) (list_all (line_keeps (is_below n)) lines) below in
     elim (kind l) [
       | inl t ↦ (
           let rest = lines_so v n rows live (next_point p l) j lines (with_line us l) (next_line ns l) (ap length (t.uses us) ∙ cu ∙ sym (t.next p)) (ap length (t.nexts ns) ∙ cn ∙ sym (t.next p)) bu bn s.1 under in (
             (
               ap (list_all (holds rows p)) t.reads,
-              (λ r h. left_or (holds rows p r) (writes_to l r) (ap (λ k. holds rows k r) (sym (t.next p)) ∙ h), rest.0),
+              (λ r h. or_left (holds rows p r) (writes_to l r) (ap (λ k. holds rows k r) (sym (t.next p)) ∙ h), rest.0),
             ),
             ap (λ b. b && lines_own (slotted v n rows) (next_point p l) j lines) (t.keeps (own_at (slotted v n rows) p)) ∙ rest.1,
           )
@@ -611,8 +603,8 @@ blocks_so : (v : Code ℕ) (n : ℕ) (rows : List Bits) → AreLive (graph_of v)
     → BlocksWant (holds rows) (slotted v n rows) p k blocks × (blocks_own (slotted v n rows) p blocks ≡ true)
 blocks_so v n rows live p k [] us ns cu cn bu bn firsts below = (tt, refl)
 blocks_so v n rows live p k (b ∷ blocks) us ns cu cn bu bn firsts below =
-    let s = both_true (block_keeps (is_below n) b) (list_all (block_keeps (is_below n)) blocks) below in
-    let t = both_true (list_all (line_keeps (is_below n)) b.lines) (jump_keeps (is_below n) b.jump) s.0 in
+    let s = and_parts (block_keeps (is_below n) b) (list_all (block_keeps (is_below n)) blocks) below in
+    let t = and_parts (list_all (line_keeps (is_below n)) b.lines) (jump_keeps (is_below n) b.jump) s.0 in
     let here = lines_so v n rows live p b.jump b.lines us ns cu cn (λ q x h. bu q x (blocks_begin (with_block us b) blocks q x h))
     (λ q x h. bn q x (next_blocks_begin (firsts_from 0 v.blocks) (next_block (firsts_from 0 v.blocks) ns b) blocks q x h)) t.0 t.1 in
     let count_u : length (with_block us b) ≡ jump_point p b.lines + 1 = block_count us b ∙ ap (λ i. jump_point i b.lines + 1) cu in
@@ -634,17 +626,14 @@ starts_count : (n : ℕ) (rows : List Bits) (p : ℕ) (blocks : List (Block ℕ)
 starts_count n rows p [] = refl
 starts_count n rows p (b ∷ blocks) = ap suc (starts_count n rows (jump_point p b.lines + 1) blocks)
 
-equal : (a b : ℕ) → a ≡ b → nat_eq a b ≡ true
-equal a b h = grind (arith, nat_tests)
-
 lengths_listed : (v : Code ℕ) (n : ℕ) (rows : List Bits) → list_all (λ (d : Destination ℕ). is_below n d.place) v.params ≡ true → has_lengths v (slotted v n rows) ≡ true
 lengths_listed v n rows low =
     let c = slotted v n rows in
     let points : end_point 0 v.blocks ≡ length (uses v.blocks) = sym (uses_count v.blocks) in
-    let params = equal (length c.params) (length v.params) (ap length (params_listed n v.params low) ∙ map_length (λ (d : Destination ℕ). Slot d.place) v.params) in
-    let starts = equal (length c.starts) (length v.blocks) (starts_count n rows 0 v.blocks) in
-    let moves = equal (end_point 0 v.blocks) (length c.moves) (points ∙ sym (map_length no_moves (uses v.blocks))) in
-    let places = equal (end_point 0 v.blocks) (length c.places) (points ∙ sym (map_length (point_places (slots n)) (uses v.blocks))) in
+    let params = eq-eqb (length c.params) (length v.params) (ap length (params_listed n v.params low) ∙ map_length (λ (d : Destination ℕ). Slot d.place) v.params) in
+    let starts = eq-eqb (length c.starts) (length v.blocks) (starts_count n rows 0 v.blocks) in
+    let moves = eq-eqb (end_point 0 v.blocks) (length c.moves) (points ∙ sym (map_length no_moves (uses v.blocks))) in
+    let places = eq-eqb (end_point 0 v.blocks) (length c.places) (points ∙ sym (map_length (point_places (slots n)) (uses v.blocks))) in
     ap (λ b. b && (nat_eq (length c.starts) (length v.blocks) && (nat_eq (end_point 0 v.blocks) (length c.moves) && nat_eq (end_point 0 v.blocks) (length c.places)))) params
     ∙ ap (λ b. b && (nat_eq (end_point 0 v.blocks) (length c.moves) && nat_eq (end_point 0 v.blocks) (length c.places))) starts
     ∙ ap (λ b. b && nat_eq (end_point 0 v.blocks) (length c.places)) moves
@@ -652,7 +641,7 @@ lengths_listed v n rows low =
 
 pub spilled : (v : VFunc) (rows : List Bits) → AreLive (graph_of v.code) v.registers rows → IsSlotted (holds rows) v (slotted v.code v.registers rows)
 spilled v rows live =
-    let s = both_true (list_all (λ (d : Destination ℕ). is_below v.registers d.place) v.code.params) (list_all (block_keeps (is_below v.registers)) v.code.blocks)
+    let s = and_parts (list_all (λ (d : Destination ℕ). is_below v.registers d.place) v.code.params) (list_all (block_keeps (is_below v.registers)) v.code.blocks)
     (from_true (keeps_places (is_below v.registers) v.code) v.known) in
     let firsts : starts v.code.blocks ≡ firsts_from 0 v.code.blocks = starts_same [] v.code.blocks in
     let owned = points_own v.registers (uses v.code.blocks) (blocks_below v.registers [] v.code.blocks refl s.1) in

@@ -3,6 +3,8 @@ use Rattle.std.proofs.Common.{◌≡◌, ℕ, zero, suc, ◌+◌, ◌<◌, Bool,
 use Rattle.std.specs.List.{list_all}
 use Rattle.std.specs.Option.{option_map_or}
 use Rattle.std.proofs.lemmas.Bool.Decides.{nat_tests}
+use Rattle.std.proofs.lemmas.Bool.{and_parts}
+use Rattle.std.proofs.lemmas.List.Folds.{list_all-append}
 use Rattle.alloc_check.specs.Owners.{Owners, own_also, known, stand_also, standing, all_hold, owns}
 use Rattle.alloc_check.specs.Certified.{is_param}
 use Rattle.alloc_check.specs.Walk.{entry_holds}
@@ -11,30 +13,25 @@ use Rattle.vcode.specs.declared.place.Location.{Location}
 use Rattle.vcode.specs.Named.{is_place}
 use Rattle.vcode.specs.Places.{same_location}
 use Rattle.alloc_check.specs.Accepted.{exists_in}
-use Rattle.alloc_check.proofs.Agreeing.{both_true}
 use Rattle.certificates.specs.declared.certificate.Equality.{Equality}
 
 and_three : (a b c : Bool) → ((a && b) && c) ≡ (a && (b && c))
 and_three true b c = refl
 and_three false b c = refl
 
-pub every_append : {X : Type 0} (test : X → Bool) (xs ys : List X) → list_all test (xs ++ ys) ≡ (list_all test xs && list_all test ys)
-every_append test [] ys = refl
-every_append test (x ∷ xs) ys = ap (λ b. test x && b) (every_append test xs ys) ∙ sym (and_three (test x) (list_all test xs) (list_all test ys))
-
 pub both_hold : (own : Owners) (xs ys : List Equality) → all_hold own (xs ++ ys) ≡ (all_hold own xs && all_hold own ys)
-both_hold own xs ys = every_append (λ (e : Equality). owns own e.place e.register) xs ys
+both_hold own xs ys = list_all-append (λ (e : Equality). owns own e.place e.register) xs ys
 
 pub both_enter : (ds : List (Destination ℕ)) (xs ys : List Equality) (own : Owners) → entry_holds ds (xs ++ ys) own ≡ (entry_holds ds xs own && entry_holds ds ys own)
-both_enter ds xs ys own = every_append (λ (e : Equality). owns own e.place e.register || not (is_param ds e.register)) xs ys
+both_enter ds xs ys own = list_all-append (λ (e : Equality). owns own e.place e.register || not (is_param ds e.register)) xs ys
 
 -- what is known of registers that there are is of such
 pub known_low : (n : ℕ) (es : List Equality) (own : Owners) → list_all (exists_in n) es ≡ true → ((q : Location) (r : ℕ) → own q ≡ Some r → r < n)
     → (q : Location) (r : ℕ) → known es own q ≡ Some r → r < n
 known_low n [] own exist low q r is = low q r is
 known_low n (e ∷ es) own exist low q r is =
-    let s = both_true (exists_in n e) (list_all (exists_in n) es) exist in
-    let t = both_true (is_place n e.place) (nat_lt e.register n) s.0 in
+    let s = and_parts (exists_in n e) (list_all (exists_in n) es) exist in
+    let t = and_parts (is_place n e.place) (nat_lt e.register n) s.0 in
     known_low n es (own_also e own) s.1 (λ p k h. by t.1 p k (same_location p e.place) h) q r is
   where
     by : nat_lt e.register n ≡ true → (p : Location) (k : ℕ) (b : Bool) → (if b then Some e.register else own p) ≡ Some k → k < n
@@ -59,5 +56,5 @@ standing_next es i d old new whole low is before = ap (standing (drop (i + 1) es
 
 pub every_next : {X : Type 0} (test : X → Bool) (xs : List X) (i : ℕ) → i < length xs → list_all test (drop i xs) ≡ true → list_all test (drop (i + 1) xs) ≡ true
 every_next test [] i low h = absurd (omega arith)
-every_next test (y ∷ ys) zero low h = (both_true (test y) (list_all test ys) h).1
+every_next test (y ∷ ys) zero low h = (and_parts (test y) (list_all test ys) h).1
 every_next test (y ∷ ys) (suc i) low h = ap (λ k. list_all test (drop k (y ∷ ys))) (let f : suc i + 1 ≡ suc (i + 1) = omega arith in f) ∙ every_next test ys i (omega arith) h

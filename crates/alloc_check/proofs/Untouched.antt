@@ -4,6 +4,7 @@ use Rattle.std.specs.Prelude.{◌⊎◌}
 use Rattle.std.specs.List.{list_all}
 use Rattle.std.specs.Option.{option_map_or, option_and_then}
 use Rattle.std.proofs.lemmas.Bool.Decides.{nat_tests}
+use Rattle.std.proofs.lemmas.Bool.{and_parts}
 use Rattle.rv_isa.specs.declared.abi.TheConstants.{LAST_SAVED}
 use Rattle.vcode.specs.declared.place.Location.{Location}
 use Rattle.vcode.specs.declared.place.Location.TheVariants.{Register, Slot}
@@ -21,7 +22,7 @@ use Rattle.alloc_check.specs.Certified.{moves_at, begins_at, layout_at, next_poi
 use Rattle.alloc_check.specs.Accepted.{exists_in}
 use Rattle.alloc_check.specs.OwnerTable.{in_table}
 use Rattle.alloc_check.specs.Walk.{put_in, moves_before, moved_in, known_in, after_reads, line_in, point_in, lines_in, place_stays, register_stays, moves_stay, starts_stay, write_stays, line_stays, lines_stay, machine_stays, block_stays}
-use Rattle.alloc_check.proofs.Agreeing.{both_true, same_is}
+use Rattle.alloc_check.proofs.Agreeing.{same_is}
 
 -- ---- tests
 
@@ -74,7 +75,7 @@ stood d (Some q) h = ap (λ x. Some x) (same_is q d h)
 every_from : {X : Type 0} (test other : X → Bool) (xs : List X) → list_all test xs ≡ true → ((x : X) → test x ≡ true → other x ≡ true) → list_all other xs ≡ true
 every_from test other [] h on = refl
 every_from test other (x ∷ xs) h on =
-    let s = both_true (test x) (list_all test xs) h in
+    let s = and_parts (test x) (list_all test xs) h in
     ap (λ b. b && list_all other xs) (on x s.0) ∙ every_from test other xs s.1 on
 
 every_so : {X : Type 0} (test : X → Bool) (xs : List X) → ((x : X) → test x ≡ true) → list_all test xs ≡ true
@@ -84,8 +85,8 @@ every_so test (x ∷ xs) on = ap (λ b. b && list_all test xs) (on x) ∙ every_
 every_two : {X : Type 0} (test other : X → Bool) (xs : List X) → list_all test xs ≡ true → list_all other xs ≡ true → list_all (λ x. test x && other x) xs ≡ true
 every_two test other [] h g = refl
 every_two test other (x ∷ xs) h g =
-    let s = both_true (test x) (list_all test xs) h in
-    let t = both_true (other x) (list_all other xs) g in
+    let s = and_parts (test x) (list_all test xs) h in
+    let t = and_parts (other x) (list_all other xs) g in
     ap (λ b. (b && other x) && list_all (λ y. test y && other y) xs) s.0
     ∙ ap (λ b. b && list_all (λ y. test y && other y) xs) t.0
     ∙ every_two test other xs s.1 t.1
@@ -126,7 +127,7 @@ moves_safe : (es : List Equality) (last : Owners) (q : Location) (r n : ℕ) (ms
     → Safe last q r own → Safe last q r o
 moves_safe es last q r n [] own o w is stays safe = subst (λ (x : Owners). Safe last q r x) (same_owners own o is) safe
 moves_safe es last q r n (m ∷ ms) own o w is stays safe =
-    let s = both_true (place_stays es last m.to) (moves_stay es last ms) stays in
+    let s = and_parts (place_stays es last m.to) (moves_stay es last ms) stays in
     moves_safe es last q r n ms (own_move m own) o w (where_then (in_table n m.to) (own_move m own) o (moved_in n ms) is) s.1 (move_safe es last q r m own w s.0 safe)
 
 also_safe : (es : List Equality) (last : Owners) (q : Location) (r : ℕ) (e : Equality) (own : Owners) → Watched es last q r → place_stays es last e.place ≡ true → Safe last q r own → Safe last q r (own_also e own)
@@ -141,7 +142,7 @@ starts_safe : (es : List Equality) (last : Owners) (q : Location) (r n : ℕ) (b
     → Safe last q r own → Safe last q r o
 starts_safe es last q r n [] own o w is stays safe = subst (λ (x : Owners). Safe last q r x) (same_owners own o is) safe
 starts_safe es last q r n (e ∷ bs) own o w is stays safe =
-    let s = both_true (place_stays es last e.place) (starts_stay es last bs) stays in
+    let s = and_parts (place_stays es last e.place) (starts_stay es last bs) stays in
     starts_safe es last q r n bs (own_also e own) o w (where_then (in_table n e.place && nat_lt e.register n) (own_also e own) o (known_in n bs) is) s.1 (also_safe es last q r e own w s.0 safe)
 
 put_safe : (es : List Equality) (last : Owners) (q : Location) (r : ℕ) (d : Location) (k : ℕ) (own : Owners) → Watched es last q r → (place_stays es last d && register_stays es last k) ≡ true
@@ -150,7 +151,7 @@ put_safe es last q r d k own w stays (inr h) = inr h
 put_safe es last q r d k own w stays (inl h) = by (same_location q d) refl (nat_eq r k) refl
   where
     s : (place_stays es last d ≡ true) × (register_stays es last k ≡ true)
-    s = both_true (place_stays es last d) (register_stays es last k) stays
+    s = and_parts (place_stays es last d) (register_stays es last k) stays
 
     by : (b : Bool) → same_location q d ≡ b → (c : Bool) → nat_eq r k ≡ c → Safe last q r (own_put d k own)
     by true e c f = inr (looked_at es last q d r w e s.0)
@@ -202,7 +203,7 @@ point_safe : (es : List Equality) (c : Certificate) (p : ℕ) (last : Owners) (q
     → (moves_stay es last (moves_at c p) && write_stays es last (layout_at c p) (line_writes l)) ≡ true
     → Safe last q r own → Safe last q r o
 point_safe es c p last q r n l own o w is stays safe =
-    let s = both_true (moves_stay es last (moves_at c p)) (write_stays es last (layout_at c p) (line_writes l)) stays in
+    let s = and_parts (moves_stay es last (moves_at c p)) (write_stays es last (layout_at c p) (line_writes l)) stays in
     let t = then_some (λ x. line_in n x (layout_at c p) l) (moved_in n (moves_at c p) own) o is in
     line_safe es last q r n (layout_at c p) l t.0 o w t.2 s.1 (moves_safe es last q r n (moves_at c p) own t.0 w t.1 s.0 safe)
 
@@ -223,7 +224,7 @@ lines_safe : (es : List Equality) (c : Certificate) (p : ℕ) (last : Owners) (q
 lines_safe es c p last q r n [] own o end w is goes stays safe =
     moves_safe es last q r n (moves_at c p) o end w goes stays (same_safe last q r own o (same_owners own o is) safe)
 lines_safe es c p last q r n (l ∷ lines) own o end w is goes stays safe =
-    let s = both_true (line_stays es c p last l) (lines_stay es c (next_point p l) last lines) stays in
+    let s = and_parts (line_stays es c p last l) (lines_stay es c (next_point p l) last lines) stays in
     let t = then_some (λ x. lines_in n c (next_point p l) x lines) (point_in n c p own l) o is in
     lines_safe es c (next_point p l) last q r n lines t.0 o end w t.2 goes s.1 (line_or_tick es c p last q r n l own t.0 w t.1 s.0 safe)
 
@@ -232,7 +233,7 @@ lines_safe es c p last q r n (l ∷ lines) own o end w is goes stays safe =
 machine_at : (es : List Equality) (last : Owners) (k m : ℕ) → k < m → machine_stays es last m ≡ true → place_stays es last (Register k) ≡ true
 machine_at es last k zero low h = absurd (omega arith)
 machine_at es last k (suc m) low h =
-    let s = both_true (machine_stays es last m) (place_stays es last (Register m)) h in
+    let s = and_parts (machine_stays es last m) (place_stays es last (Register m)) h in
     by (nat_eq k m) refl s.1 (λ below. machine_at es last k m below s.0)
   where
     by : (b : Bool) → nat_eq k m ≡ b → place_stays es last (Register m) ≡ true → (k < m → place_stays es last (Register k) ≡ true) → place_stays es last (Register k) ≡ true
@@ -241,7 +242,7 @@ machine_at es last k (suc m) low h =
 
 kept_over : (es : List Equality) (last : Owners) (n : ℕ) (q : Location) (r : ℕ) → known es nobody q ≡ Some r → is_place n q ≡ true → machine_stays es last (LAST_SAVED + 1) ≡ true → is_callers q ≡ true → owns last q r ≡ true
 kept_over es last n (Register k) r there h machine callers =
-    let e : nat_le k 27 ≡ true = (both_true (nat_le 5 k) (nat_le k 27) h).1 in
+    let e : nat_le k 27 ≡ true = (and_parts (nat_le 5 k) (nat_le k 27) h).1 in
     let low : k < LAST_SAVED + 1 = grind (arith, nat_tests) in
     ap (λ o. option_map_or (λ i. owns last (Register k) i) o true) (sym there) ∙ machine_at es last k (LAST_SAVED + 1) low machine
 kept_over es last n (Slot s) r there h machine callers = cc
@@ -255,10 +256,10 @@ one_holds : (n : ℕ) (c : Certificate) (p k : ℕ) (es : List Equality) (lines 
     → machine_stays es last (LAST_SAVED + 1) ≡ true → starts_stay es last (begins_at c k) ≡ true → lines_stay es c p last lines ≡ true
     → Stands n es e ≡ true → owns last e.place e.register ≡ true
 one_holds n c p k es lines first o last e begins goes moves machine starts stays stands =
-    let s = both_true (exists_in n e) (owns (known es nobody) e.place e.register && is_at e.place (standing es nowhere e.register)) stands in
-    let t = both_true (owns (known es nobody) e.place e.register) (is_at e.place (standing es nowhere e.register)) s.1 in
+    let s = and_parts (exists_in n e) (owns (known es nobody) e.place e.register && is_at e.place (standing es nowhere e.register)) stands in
+    let t = and_parts (owns (known es nobody) e.place e.register) (is_at e.place (standing es nowhere e.register)) s.1 in
     let there : known es nobody e.place ≡ Some e.register = owner_is (known es nobody) e.place e.register t.0 in
-    let place : is_place n e.place ≡ true = (both_true (is_place n e.place) (nat_lt e.register n) s.0).0 in
+    let place : is_place n e.place ≡ true = (and_parts (is_place n e.place) (nat_lt e.register n) s.0).0 in
     let w : Watched es last e.place e.register =
     record { there = there; stands = stood e.place (standing es nowhere e.register) t.1; over_calls = kept_over es last n e.place e.register there place machine }
     in
@@ -274,7 +275,7 @@ one_holds n c p k es lines first o last e begins goes moves machine starts stays
 known_holds : (last : Owners) (es : List Equality) (own : Owners) (q : Location) (r : ℕ) → all_hold last es ≡ true → (own q ≡ Some r → owns last q r ≡ true) → known es own q ≡ Some r → owns last q r ≡ true
 known_holds last [] own q r h before is = before is
 known_holds last (e ∷ es) own q r h before is =
-    let s = both_true (owns last e.place e.register) (all_hold last es) h in
+    let s = and_parts (owns last e.place e.register) (all_hold last es) h in
     known_holds last es (own_also e own) q r s.1 (by s.0 (same_location q e.place) refl) is
   where
     by : owns last e.place e.register ≡ true → (b : Bool) → same_location q e.place ≡ b → own_also e own q ≡ Some r → owns last q r ≡ true
@@ -287,7 +288,7 @@ known_holds last (e ∷ es) own q r h before is =
 standing_holds : (last : Owners) (es : List Equality) (at : ℕ → Option Location) (q : Location) (r : ℕ) → all_hold last es ≡ true → (at r ≡ Some q → owns last q r ≡ true) → standing es at r ≡ Some q → owns last q r ≡ true
 standing_holds last [] at q r h before is = before is
 standing_holds last (e ∷ es) at q r h before is =
-    let s = both_true (owns last e.place e.register) (all_hold last es) h in
+    let s = and_parts (owns last e.place e.register) (all_hold last es) h in
     standing_holds last es (stand_also e at) q r s.1 (by s.0 (nat_eq r e.register) refl) is
   where
     by : owns last e.place e.register ≡ true → (b : Bool) → nat_eq r e.register ≡ b → stand_also e at r ≡ Some q → owns last q r ≡ true
@@ -340,8 +341,8 @@ stays_is n c p k (d ∷ ds) lines first o last exist apart begins goes moves = s
 
     holds : block_stays es c p k last lines ≡ true → all_hold last es ≡ true
     holds h =
-        let s = both_true (machine_stays es last (LAST_SAVED + 1)) (starts_stay es last (begins_at c k) && lines_stay es c p last lines) h in
-        let t = both_true (starts_stay es last (begins_at c k)) (lines_stay es c p last lines) s.1 in
+        let s = and_parts (machine_stays es last (LAST_SAVED + 1)) (starts_stay es last (begins_at c k) && lines_stay es c p last lines) h in
+        let t = and_parts (starts_stay es last (begins_at c k)) (lines_stay es c p last lines) s.1 in
         every_from (Stands n es) (λ (e : Equality). owns last e.place e.register) es
         (every_two (exists_in n) (λ (e : Equality). owns (known es nobody) e.place e.register && is_at e.place (standing es nowhere e.register)) es exist apart)
         (λ e stands. one_holds n c p k es lines first o last e begins goes moves s.0 t.0 t.1 stands)

@@ -3,6 +3,7 @@ use Rattle.std.proofs.Common.{◌≡◌, ℕ, zero, suc, ◌+◌, ◌<◌, ◌�
 use Rattle.std.specs.List.{list_all}
 use Rattle.std.specs.Option.{option_map, option_map_or, option_and_then}
 use Rattle.std.proofs.lemmas.Bool.Decides.{nat_tests}
+use Rattle.std.proofs.lemmas.Bool.{and_parts}
 use Rattle.vcode.specs.declared.place.Location.{Location}
 use Rattle.vcode.specs.declared.place.Location.TheVariants.{Register, Slot}
 use Rattle.vcode.specs.declared.place.Destination.{Destination}
@@ -22,7 +23,6 @@ use Rattle.alloc_check.specs.Certified.{moves_at, begins_at, starts_at, layout_a
 use Rattle.alloc_check.specs.Accepted.{exists_in, equalities_exist}
 use Rattle.alloc_check.specs.OwnerTable.{in_table}
 use Rattle.alloc_check.specs.Walk.{put_in, moved_in, known_in, after_reads, receives_in, line_in, lines_in, block_stays, targets_in, jump_in, block_in, blocks_in, params_in, entry_holds, entry_in, sound_in, certified_line}
-use Rattle.alloc_check.proofs.Agreeing.{both_true}
 use Rattle.alloc_check.proofs.Starting.{both_hold}
 use Rattle.alloc_check.proofs.Untouched.{stays_is}
 use Rattle.vcode.proofs.Lists.{item_next}
@@ -47,7 +47,7 @@ lines_on c p (Call to callee args) lines = append_one (transfers (moves_at c p))
 
 pub has_room : (n : ℕ) (q : Location) → is_place n q ≡ true → in_table n q ≡ true
 has_room n (Register k) h =
-    let e : nat_le k 27 ≡ true = (both_true (nat_le 5 k) (nat_le k 27) h).1 in
+    let e : nat_le k 27 ≡ true = (and_parts (nat_le 5 k) (nat_le k 27) h).1 in
     let low : k ≤ 27 = grind (arith, nat_tests) in
     grind (arith, nat_tests)
 has_room n (Slot s) h = h
@@ -70,14 +70,14 @@ receives_is n f (Some d) own e h = put_is n (f d.place) d.place own h e
 line_is : (n : ℕ) (own : Owners) (f : Layout) (l : Line ℕ) → line_keeps (is_below n) l ≡ true → line_keeps (is_place n) (placed_line f l) ≡ true → line_in n own f l ≡ after_line own f l
 line_is n own f (Tick turn w) e h = refl
 line_is n own f (Set to a) e h =
-    reads_put n (f to) to own (operand_held own f a) (both_true (is_place n (f to)) (operand_keeps (is_place n) (placed_operand f a)) h).0 (both_true (nat_lt to n) (operand_keeps (is_below n) a) e).0
+    reads_put n (f to) to own (operand_held own f a) (and_parts (is_place n (f to)) (operand_keeps (is_place n) (placed_operand f a)) h).0 (and_parts (nat_lt to n) (operand_keeps (is_below n) a) e).0
 line_is n own f (Operate to op a b) e h =
     reads_put n (f to) to own (operand_held own f a && operand_held own f b)
-    (both_true (is_place n (f to)) (operand_keeps (is_place n) (placed_operand f a) && operand_keeps (is_place n) (placed_operand f b)) h).0
-    (both_true (nat_lt to n) (operand_keeps (is_below n) a && operand_keeps (is_below n) b) e).0
+    (and_parts (is_place n (f to)) (operand_keeps (is_place n) (placed_operand f a) && operand_keeps (is_place n) (placed_operand f b)) h).0
+    (and_parts (nat_lt to n) (operand_keeps (is_below n) a && operand_keeps (is_below n) b) e).0
 line_is n own f (Load to op at) e h =
-    reads_put n (f to) to own (operand_held own f at.base) (both_true (is_place n (f to)) (operand_keeps (is_place n) (placed_operand f at.base)) h).0
-    (both_true (nat_lt to n) (operand_keeps (is_below n) at.base) e).0
+    reads_put n (f to) to own (operand_held own f at.base) (and_parts (is_place n (f to)) (operand_keeps (is_place n) (placed_operand f at.base)) h).0
+    (and_parts (nat_lt to n) (operand_keeps (is_below n) at.base) e).0
 line_is n own f (Store size a at) e h = refl
 line_is n own f (Alloc None size) e h = refl
 line_is n own f (Alloc (Some r) size) e h = put_is n (f r) r own h e
@@ -85,8 +85,8 @@ line_is n own f (Blit from to count) e h = refl
 line_is n own f (Call to callee args) e h =
     ap (after_reads (operand_held own f callee && args_held own f args))
     (receives_is n f to (own_kept own)
-    (both_true (wanted_keeps (is_below n) to) (operand_keeps (is_below n) callee && list_all (λ a. operand_keeps (is_below n) a.value) args) e).0
-    (both_true (wanted_keeps (is_place n) (option_map (placed_destination f) to))
+    (and_parts (wanted_keeps (is_below n) to) (operand_keeps (is_below n) callee && list_all (λ a. operand_keeps (is_below n) a.value) args) e).0
+    (and_parts (wanted_keeps (is_place n) (option_map (placed_destination f) to))
     (operand_keeps (is_place n) (placed_operand f callee) && list_all (λ a. operand_keeps (is_place n) a.value) (map (placed_argument f) args)) h).0)
     ∙ reads_some (operand_held own f callee && args_held own f args) (received f to (own_kept own))
 
@@ -96,8 +96,8 @@ moves_are : (n : ℕ) (ms : List Transfer) (rest : List (Line Location)) (own : 
     → (moved_in n ms own ≡ Some (moved ms own)) × (list_all (line_keeps (is_place n)) rest ≡ true)
 moves_are n [] rest own h = (refl, h)
 moves_are n (m ∷ ms) rest own h =
-    let first = both_true (is_place n m.to && is_place n m.from) (list_all (line_keeps (is_place n)) (transfers ms ++ rest)) h in
-    let room : in_table n m.to ≡ true = has_room n m.to (both_true (is_place n m.to) (is_place n m.from) first.0).0 in
+    let first = and_parts (is_place n m.to && is_place n m.from) (list_all (line_keeps (is_place n)) (transfers ms ++ rest)) h in
+    let room : in_table n m.to ≡ true = has_room n m.to (and_parts (is_place n m.to) (is_place n m.from) first.0).0 in
     let after = moves_are n ms rest (own_move m own) first.1 in
     (ap (λ b. option_and_then (moved_in n ms) (where_held b (own_move m own))) room ∙ after.0, after.1)
 
@@ -128,7 +128,7 @@ point_right : (n : ℕ) (c : Certificate) (p : ℕ) (own : Owners) (j : Jump ℕ
     ≡ option_map_or (λ (o : Owners). lines_right c (p + 1) o j lines) (after_line (moved (moves_at c p) own) (layout_at c p) l) false
 point_right n c p own j l lines e h on =
     let m = moves_are n (moves_at c p) (placed_line (layout_at c p) l ∷ certified_lines c (p + 1) lines) own h in
-    let first = both_true (line_keeps (is_place n) (placed_line (layout_at c p) l)) (list_all (line_keeps (is_place n)) (certified_lines c (p + 1) lines)) m.1 in
+    let first = and_parts (line_keeps (is_place n) (placed_line (layout_at c p) l)) (list_all (line_keeps (is_place n)) (certified_lines c (p + 1) lines)) m.1 in
     then_or n c (p + 1) j lines p (option_and_then (λ o. line_in n o (layout_at c p) l) (moved_in n (moves_at c p) own))
     ∙ ap (λ o. option_map_or (λ w. rest_in n c (p + 1) w j lines) (option_and_then (λ w. line_in n w (layout_at c p) l) o) false) m.0
     ∙ ap (λ o. option_map_or (λ w. rest_in n c (p + 1) w j lines) o false) (line_is n (moved (moves_at c p) own) (layout_at c p) l e first.0)
@@ -144,29 +144,29 @@ lines_are n c p own j [] e h =
     append_none [] = refl
     append_none (x ∷ xs) = ap (λ zs. x ∷ zs) (append_none xs)
 lines_are n c p own j (Tick turn w ∷ lines) e h = lines_are n c p own j lines e h
-lines_are n c p own j (Set to a ∷ lines) e h = let s = both_true (line_keeps (is_below n) (Set to a)) (list_all (line_keeps (is_below n)) lines) e in point_right n c p own j (Set to a) lines s.0 h (λ o g. lines_are n c (p + 1) o j lines s.1 g)
-lines_are n c p own j (Operate to op a b ∷ lines) e h = let s = both_true (line_keeps (is_below n) (Operate to op a b)) (list_all (line_keeps (is_below n)) lines) e in point_right n c p own j (Operate to op a b) lines s.0 h (λ o g. lines_are n c (p + 1) o j lines s.1 g)
-lines_are n c p own j (Load to op at ∷ lines) e h = let s = both_true (line_keeps (is_below n) (Load to op at)) (list_all (line_keeps (is_below n)) lines) e in point_right n c p own j (Load to op at) lines s.0 h (λ o g. lines_are n c (p + 1) o j lines s.1 g)
-lines_are n c p own j (Store size a at ∷ lines) e h = let s = both_true (line_keeps (is_below n) (Store size a at)) (list_all (line_keeps (is_below n)) lines) e in point_right n c p own j (Store size a at) lines s.0 h (λ o g. lines_are n c (p + 1) o j lines s.1 g)
-lines_are n c p own j (Alloc to size ∷ lines) e h = let s = both_true (line_keeps (is_below n) (Alloc to size)) (list_all (line_keeps (is_below n)) lines) e in point_right n c p own j (Alloc to size) lines s.0 h (λ o g. lines_are n c (p + 1) o j lines s.1 g)
-lines_are n c p own j (Blit from to count ∷ lines) e h = let s = both_true (line_keeps (is_below n) (Blit from to count)) (list_all (line_keeps (is_below n)) lines) e in point_right n c p own j (Blit from to count) lines s.0 h (λ o g. lines_are n c (p + 1) o j lines s.1 g)
-lines_are n c p own j (Call to callee args ∷ lines) e h = let s = both_true (line_keeps (is_below n) (Call to callee args)) (list_all (line_keeps (is_below n)) lines) e in point_right n c p own j (Call to callee args) lines s.0 h (λ o g. lines_are n c (p + 1) o j lines s.1 g)
+lines_are n c p own j (Set to a ∷ lines) e h = let s = and_parts (line_keeps (is_below n) (Set to a)) (list_all (line_keeps (is_below n)) lines) e in point_right n c p own j (Set to a) lines s.0 h (λ o g. lines_are n c (p + 1) o j lines s.1 g)
+lines_are n c p own j (Operate to op a b ∷ lines) e h = let s = and_parts (line_keeps (is_below n) (Operate to op a b)) (list_all (line_keeps (is_below n)) lines) e in point_right n c p own j (Operate to op a b) lines s.0 h (λ o g. lines_are n c (p + 1) o j lines s.1 g)
+lines_are n c p own j (Load to op at ∷ lines) e h = let s = and_parts (line_keeps (is_below n) (Load to op at)) (list_all (line_keeps (is_below n)) lines) e in point_right n c p own j (Load to op at) lines s.0 h (λ o g. lines_are n c (p + 1) o j lines s.1 g)
+lines_are n c p own j (Store size a at ∷ lines) e h = let s = and_parts (line_keeps (is_below n) (Store size a at)) (list_all (line_keeps (is_below n)) lines) e in point_right n c p own j (Store size a at) lines s.0 h (λ o g. lines_are n c (p + 1) o j lines s.1 g)
+lines_are n c p own j (Alloc to size ∷ lines) e h = let s = and_parts (line_keeps (is_below n) (Alloc to size)) (list_all (line_keeps (is_below n)) lines) e in point_right n c p own j (Alloc to size) lines s.0 h (λ o g. lines_are n c (p + 1) o j lines s.1 g)
+lines_are n c p own j (Blit from to count ∷ lines) e h = let s = and_parts (line_keeps (is_below n) (Blit from to count)) (list_all (line_keeps (is_below n)) lines) e in point_right n c p own j (Blit from to count) lines s.0 h (λ o g. lines_are n c (p + 1) o j lines s.1 g)
+lines_are n c p own j (Call to callee args ∷ lines) e h = let s = and_parts (line_keeps (is_below n) (Call to callee args)) (list_all (line_keeps (is_below n)) lines) e in point_right n c p own j (Call to callee args) lines s.0 h (λ o g. lines_are n c (p + 1) o j lines s.1 g)
 
 -- ---- blocks
 
 known_is : (n : ℕ) (es : List Equality) (own : Owners) → list_all (exists_in n) es ≡ true → known_in n es own ≡ Some (known es own)
 known_is n [] own h = refl
 known_is n (e ∷ es) own h =
-    let first = both_true (exists_in n e) (list_all (exists_in n) es) h in
-    let here = both_true (is_place n e.place) (nat_lt e.register n) first.0 in
+    let first = and_parts (exists_in n e) (list_all (exists_in n) es) h in
+    let here = and_parts (is_place n e.place) (nat_lt e.register n) first.0 in
     ap (λ b. option_and_then (known_in n es) (where_held (b && nat_lt e.register n) (own_also e own))) (has_room n e.place here.0)
     ∙ ap (λ b. option_and_then (known_in n es) (where_held b (own_also e own))) here.1
     ∙ known_is n es (own_also e own) first.1
 
 start_exists : (n : ℕ) (starts : List (List Equality)) (k : ℕ) → equalities_exist n starts ≡ true → list_all (exists_in n) (option_map_or (λ (es : List Equality). es) (slice_get starts k) []) ≡ true
 start_exists n [] k h = refl
-start_exists n (es ∷ starts) zero h = (both_true (list_all (exists_in n) es) (equalities_exist n starts) h).0
-start_exists n (es ∷ starts) (suc k) h = start_exists n starts k (both_true (list_all (exists_in n) es) (equalities_exist n starts) h).1
+start_exists n (es ∷ starts) zero h = (and_parts (list_all (exists_in n) es) (equalities_exist n starts) h).0
+start_exists n (es ∷ starts) (suc k) h = start_exists n starts k (and_parts (list_all (exists_in n) es) (equalities_exist n starts) h).1
 
 known_append : (xs ys : List Equality) (own : Owners) → known (xs ++ ys) own ≡ known ys (known xs own)
 known_append [] ys own = refl
@@ -214,11 +214,11 @@ pub blocks_are : (n : ℕ) (c : Certificate) (p k : ℕ) (blocks : List (Block �
     → list_all (block_keeps (is_place n)) (certified_blocks c p blocks) ≡ true → blocks_in n c.everywhere c p k blocks ≡ blocks_right c p k blocks
 blocks_are n c p k [] every apart starts e h = refl
 blocks_are n c p k (b ∷ blocks) every apart starts e h =
-    let below = both_true (block_keeps (is_below n) b) (list_all (block_keeps (is_below n)) blocks) e in
-    let placed = both_true (block_keeps (is_place n) (certified_block c p b)) (list_all (block_keeps (is_place n)) (certified_blocks c (jump_point p b.lines + 1) blocks)) h in
-    let lines : list_all (line_keeps (is_below n)) b.lines ≡ true = (both_true (list_all (line_keeps (is_below n)) b.lines) (jump_keeps (is_below n) b.jump) below.0).0 in
+    let below = and_parts (block_keeps (is_below n) b) (list_all (block_keeps (is_below n)) blocks) e in
+    let placed = and_parts (block_keeps (is_place n) (certified_block c p b)) (list_all (block_keeps (is_place n)) (certified_blocks c (jump_point p b.lines + 1) blocks)) h in
+    let lines : list_all (line_keeps (is_below n)) b.lines ≡ true = (and_parts (list_all (line_keeps (is_below n)) b.lines) (jump_keeps (is_below n) b.jump) below.0).0 in
     let made : list_all (line_keeps (is_place n)) (certified_lines c p b.lines) ≡ true =
-    (both_true (list_all (line_keeps (is_place n)) (certified_lines c p b.lines)) (jump_keeps (is_place n) (placed_jump (layout_at c (jump_point p b.lines)) b.jump)) placed.0).0 in
+    (and_parts (list_all (line_keeps (is_place n)) (certified_lines c p b.lines)) (jump_keeps (is_place n) (placed_jump (layout_at c (jump_point p b.lines)) b.jump)) placed.0).0 in
     ap (λ t. t && blocks_in n c.everywhere c (jump_point p b.lines + 1) (k + 1) blocks) (block_is n c p k b every apart starts lines made)
     ∙ ap (λ t. lines_right c p (known (starts_at c k) nobody) b.jump b.lines && t) (blocks_are n c (jump_point p b.lines + 1) (k + 1) blocks every apart starts below.1 placed.1)
 
@@ -230,8 +230,8 @@ params_are : (n : ℕ) (ds : List (Destination ℕ)) (qs : List Location) (own :
 params_are n [] qs own t e h = refl
 params_are n (d ∷ ds) [] own t e h = refl
 params_are n (d ∷ ds) (q ∷ qs) own t e h =
-    let below = both_true (nat_lt d.place n) (list_all (λ (x : Destination ℕ). is_below n x.place) ds) e in
-    let placed = both_true (is_place n q) (list_all (λ (x : Destination Location). is_place n x.place) (certified_params ds qs)) h in
+    let below = and_parts (nat_lt d.place n) (list_all (λ (x : Destination ℕ). is_below n x.place) ds) e in
+    let placed = and_parts (is_place n q) (list_all (λ (x : Destination Location). is_place n x.place) (certified_params ds qs)) h in
     ap (λ o. option_map_or t (option_and_then (params_in n ds qs) o) false) (put_is n q d.place own placed.0 below.0)
     ∙ params_are n ds qs (own_put q d.place own) t below.1 placed.1
 
@@ -242,8 +242,8 @@ and_assoc false b c = refl
 apart_sound : (n : ℕ) (v : Code ℕ) (c : Certificate) → keeps_places (is_below n) v ≡ true → list_all (exists_in n) c.everywhere ≡ true → equalities_exist n c.starts ≡ true
     → keeps_places (is_place n) (placed_by v c) ≡ true → are_apart c.everywhere ≡ true → (entry_in n v c && blocks_in n c.everywhere c 0 0 v.blocks) ≡ is_sound v c
 apart_sound n v c e every starts h apart =
-    let below = both_true (list_all (λ (d : Destination ℕ). is_below n d.place) v.params) (list_all (block_keeps (is_below n)) v.blocks) e in
-    let placed = both_true (list_all (λ (d : Destination Location). is_place n d.place) (certified_params v.params c.params)) (list_all (block_keeps (is_place n)) (certified_blocks c 0 v.blocks)) h in
+    let below = and_parts (list_all (λ (d : Destination ℕ). is_below n d.place) v.params) (list_all (block_keeps (is_below n)) v.blocks) e in
+    let placed = and_parts (list_all (λ (d : Destination Location). is_place n d.place) (certified_params v.params c.params)) (list_all (block_keeps (is_place n)) (certified_blocks c 0 v.blocks)) h in
     ap (λ t. t && blocks_in n c.everywhere c 0 0 v.blocks) (params_are n v.params c.params nobody (entry_holds v.params (starts_at c 0)) below.0 placed.0)
     ∙ ap (λ t. (params_placed v.params c.params && entry_right v c) && t) (blocks_are n c 0 0 v.blocks every apart starts below.1 placed.1)
     ∙ and_assoc (params_placed v.params c.params) (entry_right v c) (blocks_right c 0 0 v.blocks)

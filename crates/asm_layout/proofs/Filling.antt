@@ -1,8 +1,7 @@
 -- Words with their holes filled in are the words for those addresses.
 use Rattle.std.proofs.Common.{◌≡◌, ℕ, ◌+◌, ◌≤◌, true, List, [], ◌∷◌, ◌++◌, length, refl, sym, ◌∙◌, ap, subst, arith, append-nil}
 use Rattle.std.specs.Prelude.{nat_le, slice_set}
-use Rattle.std.proofs.lemmas.Bool.{and_parts, and_from}
-use Rattle.std.proofs.lemmas.Bool.Decides.{nat_tests}
+use Rattle.std.proofs.lemmas.Bool.{and_parts, and_from, leb-true, le-leb}
 use Rattle.std.proofs.lemmas.List.{length-set, set-append_left}
 use Rattle.std.proofs.Math.Seq.{set-append_seam}
 use Rattle.rv_isa.specs.Encoding.{word}
@@ -19,30 +18,24 @@ use Rattle.asm_layout.proofs.Standing.{more_length}
 
 -- ---- holes in order
 
-le_of : (a b : ℕ) → nat_le a b ≡ true → a ≤ b
-le_of a b h = grind (arith, nat_tests)
-
-of_le : (a b : ℕ) → a ≤ b → nat_le a b ≡ true
-of_le a b h = grind (arith, nat_tests)
-
 pub in_order : (from end : ℕ) (hs : List Hole) → lie_between from end hs ≡ true → from ≤ end
-in_order from end [] h = le_of from end h
+in_order from end [] h = leb-true from end h
 in_order from end (x ∷ hs) h =
     let both = and_parts (nat_le from x.word) (lie_between (x.word + 1) end hs) h in
-    let first = le_of from x.word both.0 in
+    let first = leb-true from x.word both.0 in
     let rest = in_order (x.word + 1) end hs both.1 in
     omega arith
 
 pub lie_further : (from end further : ℕ) (hs : List Hole) → end ≤ further → lie_between from end hs ≡ true → lie_between from further hs ≡ true
-lie_further from end further [] le h = let first = le_of from end h in of_le from further (omega arith)
+lie_further from end further [] le h = let first = leb-true from end h in le-leb from further (omega arith)
 lie_further from end further (x ∷ hs) le h =
     let both = and_parts (nat_le from x.word) (lie_between (x.word + 1) end hs) h in
     and_from (nat_le from x.word) (lie_between (x.word + 1) further hs) both.0 (lie_further (x.word + 1) end further hs le both.1)
 
 pub lie_with : (from end : ℕ) (hs : List Hole) (x : Hole) → lie_between from end hs ≡ true → end ≤ x.word → lie_between from (x.word + 1) (hs ++ x ∷ []) ≡ true
 lie_with from end [] x h le =
-    let first = le_of from end h in
-    and_from (nat_le from x.word) (nat_le (x.word + 1) (x.word + 1)) (of_le from x.word (omega arith)) (of_le (x.word + 1) (x.word + 1) (omega arith))
+    let first = leb-true from end h in
+    and_from (nat_le from x.word) (nat_le (x.word + 1) (x.word + 1)) (le-leb from x.word (omega arith)) (le-leb (x.word + 1) (x.word + 1) (omega arith))
 lie_with from end (y ∷ hs) x h le =
     let both = and_parts (nat_le from y.word) (lie_between (y.word + 1) end hs) h in
     and_from (nat_le from y.word) (lie_between (y.word + 1) (x.word + 1) (hs ++ x ∷ [])) both.0 (lie_with (y.word + 1) end hs x both.1 le)

@@ -4,6 +4,8 @@ use Rattle.std.specs.List.{list_all, list_any, sum_by}
 use Rattle.std.proofs.lemmas.Bool.Decides.{nat_tests}
 use Rattle.std.proofs.lemmas.List.{length-map}
 use Rattle.std.proofs.lemmas.List.Folds.{list_all-map}
+use Rattle.std.proofs.lemmas.Bool.{and_parts, and_from, lt-ltb}
+use Rattle.il_ast.specs.declared.limits.TheConstants.{FUNCTION_WEIGHT}
 use Rattle.vcode.specs.declared.line.Jump.{Jump}
 use Rattle.vcode.specs.declared.line.Jump.TheVariants.{Goto, Branch, Return, Halt}
 use Rattle.vcode.specs.declared.code.Block.{Block}
@@ -15,7 +17,7 @@ use Rattle.vcode.specs.Regular.{is_target, leads_inside, is_alloc, allocs_first,
 use Rattle.vcode.proofs.Measuring.{measured_itself, within}
 use Rattle.vcode.proofs.Results.{Owed}
 use Rattle.block_order.specs.Ordered.{Order, place_in, is_named, block_at, led, placed, in_order, begins, names_once, leads_within, is_order}
-use Rattle.block_order.proofs.Placing.{both_true, both_are, below_is, one_more_below, named_place}
+use Rattle.block_order.proofs.Placing.{one_more_below, named_place}
 use Rattle.block_order.proofs.Summing.{sum_in_order}
 use Rattle.block_order.proofs.Running.{runs}
 
@@ -31,9 +33,9 @@ pub holds : (order : Order) (f : Code ℕ) → is_order order f ≡ true → Hol
 holds order f h =
     let there : Bool = list_all (λ k. nat_lt k (length f.blocks)) order in
     let closed : Bool = list_all (λ k. leads_within order (block_at f.blocks k).jump) order in
-    let s = both_true (begins (length f.blocks) order) ((names_once order && there) && closed) h in
-    let t = both_true (names_once order && there) closed s.1 in
-    let u = both_true (names_once order) there t.0 in
+    let s = and_parts (begins (length f.blocks) order) ((names_once order && there) && closed) h in
+    let t = and_parts (names_once order && there) closed s.1 in
+    let u = and_parts (names_once order) there t.0 in
     record { first = s.0; once = u.0; there = u.1; closed = t.1 }
 
 -- ---- tests of blocks
@@ -46,21 +48,21 @@ one_less k n h = one_more_below k n ∙ h
 
 pub passes_at : (test : Block ℕ → Bool) (blocks : List (Block ℕ)) (k : ℕ) → list_all test blocks ≡ true → nat_lt k (length blocks) ≡ true → test (block_at blocks k) ≡ true
 passes_at test [] k all low = absurd (none_below k low)
-passes_at test (b ∷ blocks) zero all low = (both_true (test b) (list_all test blocks) all).0
+passes_at test (b ∷ blocks) zero all low = (and_parts (test b) (list_all test blocks) all).0
 passes_at test (b ∷ blocks) (suc k) all low =
-    passes_at test blocks k (both_true (test b) (list_all test blocks) all).1 (one_less k (length blocks) low)
+    passes_at test blocks k (and_parts (test b) (list_all test blocks) all).1 (one_less k (length blocks) low)
 
 pub all_from : (p q : ℕ → Bool) → ((k : ℕ) → p k ≡ true → q k ≡ true) → (order : Order) → list_all p order ≡ true → list_all q order ≡ true
 all_from p q gives [] h = refl
 all_from p q gives (k ∷ order) h =
-    let s = both_true (p k) (list_all p order) h in both_are (q k) (list_all q order) (gives k s.0) (all_from p q gives order s.1)
+    let s = and_parts (p k) (list_all p order) h in and_from (q k) (list_all q order) (gives k s.0) (all_from p q gives order s.1)
 
 all_from_two : (p q r : ℕ → Bool) → ((k : ℕ) → p k ≡ true → q k ≡ true → r k ≡ true) → (order : Order) → list_all p order ≡ true → list_all q order ≡ true → list_all r order ≡ true
 all_from_two p q r gives [] g h = refl
 all_from_two p q r gives (k ∷ order) g h =
-    let s = both_true (p k) (list_all p order) g in
-    let t = both_true (q k) (list_all q order) h in
-    both_are (r k) (list_all r order) (gives k s.0 t.0) (all_from_two p q r gives order s.1 t.1)
+    let s = and_parts (p k) (list_all p order) g in
+    let t = and_parts (q k) (list_all q order) h in
+    and_from (r k) (list_all r order) (gives k s.0 t.0) (all_from_two p q r gives order s.1 t.1)
 
 -- a test of all blocks that a block in its place passes too
 blocks_pass : (test : Block ℕ → Bool) (order : Order) (f : Code ℕ) → Holds order f → ((b : Block ℕ) → test b ≡ true → test (placed order b) ≡ true) → list_all test f.blocks ≡ true
@@ -76,22 +78,22 @@ not_first : (z k : ℕ) → nat_eq z 0 ≡ true → nat_lt 0 k ≡ true → nat_
 not_first z k e h = grind (arith, nat_tests)
 
 past_first : (n : ℕ) → nat_lt 0 (suc n) ≡ true
-past_first n = below_is 0 (suc n) (omega arith)
+past_first n = lt-ltb 0 (suc n) (omega arith)
 
 target_inside : (n : ℕ) (order : Order) (k : ℕ) → begins n order ≡ true → is_target n k ≡ true → is_named order k ≡ true → is_target (length order) (place_in order k) ≡ true
 target_inside n [] k first target named = absurd (let no : ⊥ = cc in no)
 target_inside n (z ∷ order) k first target named =
-    let s = both_true (nat_lt 0 k) (nat_lt k n) target in
-    both_are (nat_lt 0 (place_in (z ∷ order) k)) (nat_lt (place_in (z ∷ order) k) (length (z ∷ order)))
+    let s = and_parts (nat_lt 0 k) (nat_lt k n) target in
+    and_from (nat_lt 0 (place_in (z ∷ order) k)) (nat_lt (place_in (z ∷ order) k) (length (z ∷ order)))
     (ap (λ (b : Bool). nat_lt 0 (if b then 0 else suc (place_in order k))) (not_first z k first s.0) ∙ past_first (place_in order k))
     (sym (named_place (z ∷ order) k) ∙ named)
 
 jump_inside : (n : ℕ) (order : Order) (j : Jump ℕ) → begins n order ≡ true → leads_inside n j ≡ true → leads_within order j ≡ true → leads_inside (length order) (led order j) ≡ true
 jump_inside n order (Goto k) first inside named = target_inside n order k first inside named
 jump_inside n order (Branch on met otherwise) first inside named =
-    let s = both_true (is_target n met) (is_target n otherwise) inside in
-    let t = both_true (is_named order met) (is_named order otherwise) named in
-    both_are (is_target (length order) (place_in order met)) (is_target (length order) (place_in order otherwise))
+    let s = and_parts (is_target n met) (is_target n otherwise) inside in
+    let t = and_parts (is_named order met) (is_named order otherwise) named in
+    and_from (is_target (length order) (place_in order met)) (is_target (length order) (place_in order otherwise))
     (target_inside n order met first s.0 t.0) (target_inside n order otherwise first s.1 t.1)
 jump_inside n order (Return a) first inside named = refl
 jump_inside n order Halt first inside named = refl
@@ -126,8 +128,8 @@ rest_none : (b : Block ℕ) (blocks : List (Block ℕ)) (all : Order) (z : ℕ) 
 rest_none b blocks all z [] none first once there = refl
 rest_none b blocks all z (k ∷ order) none first once there =
     let s = neither (nat_eq k z) (is_named order z) once in
-    let t = both_true (nat_lt k (length (b ∷ blocks))) (list_all (λ j. nat_lt j (length (b ∷ blocks))) order) there in
-    both_are (makes_none (block_at (b ∷ blocks) k)) (list_all makes_none (map (λ j. placed all (block_at (b ∷ blocks) j)) order))
+    let t = and_parts (nat_lt k (length (b ∷ blocks))) (list_all (λ j. nat_lt j (length (b ∷ blocks))) order) there in
+    and_from (makes_none (block_at (b ∷ blocks) k)) (list_all makes_none (map (λ j. placed all (block_at (b ∷ blocks) j)) order))
     (later_none b blocks k none (unlike k z s.0 first) t.0)
     (rest_none b blocks all z order none first s.1 t.1)
 
@@ -135,10 +137,10 @@ first_makes : (blocks : List (Block ℕ)) (all order : Order) → allocs_first b
     → list_all (λ k. nat_lt k (length blocks)) order ≡ true → allocs_first (map (λ k. placed all (block_at blocks k)) order) ≡ true
 first_makes blocks all [] none first once there = refl
 first_makes [] all (z ∷ order) none first once there =
-    absurd (none_below z (both_true (nat_lt z 0) (list_all (λ k. nat_lt k 0) order) there).0)
+    absurd (none_below z (and_parts (nat_lt z 0) (list_all (λ k. nat_lt k 0) order) there).0)
 first_makes (b ∷ blocks) all (z ∷ order) none first once there =
-    rest_none b blocks all z order none first (both_true (not (is_named order z)) (names_once order) once).0
-    (both_true (nat_lt z (length (b ∷ blocks))) (list_all (λ k. nat_lt k (length (b ∷ blocks))) order) there).1
+    rest_none b blocks all z order none first (and_parts (not (is_named order z)) (names_once order) once).0
+    (and_parts (nat_lt z (length (b ∷ blocks))) (list_all (λ k. nat_lt k (length (b ∷ blocks))) order) there).1
 
 -- ---- what pays, and the registers that it names
 
@@ -168,7 +170,7 @@ owed order v h =
             area = sum_in_order (λ (b : Block ℕ). sum_by alloc_bytes b.lines) place f.blocks order (λ k. refl) h.once h.there;
             makes = λ first. first_makes f.blocks order order first h.first h.once h.there;
             paid = blocks_pass is_paid order f h (λ b. (within b (placed order b) (measured_itself b.lines) (led_cost order b.jump)).paid);
-            paced = blocks_pass (λ (b : Block ℕ). nat_le (sum_by turns_of b.lines) 40000) order f h (λ b e. e);
+            paced = blocks_pass (λ (b : Block ℕ). nat_le (sum_by turns_of b.lines) FUNCTION_WEIGHT) order f h (λ b e. e);
             few = blocks_pass (λ (b : Block ℕ). list_all passes_few b.lines) order f h (λ b e. e);
           };
       inside = all_inside order f h;

@@ -6,30 +6,15 @@ use Rattle.std.proofs.lemmas.Bool.Decides.{nat_tests}
 use Rattle.std.proofs.lemmas.List.{get_or-set_other, get_or-replicate, get_or_past, length-replicate, get_or_default}
 use Rattle.std.proofs.lemmas.Grind.{get_or-set_at}
 use Rattle.std.proofs.lemmas.Option.{unwrap_or-slice_get}
+use Rattle.std.proofs.lemmas.Bool.{and_parts, and_from, eqb-true, ltb-true, lt-ltb}
 use Rattle.vcode.proofs.Lists.{item_next}
 use Rattle.block_order.specs.Ordered.{Order, place_in, is_named, names_once}
 use Rattle.block_order.specs.Placed.{kept_place, AreUnset, names_blocks}
 
 -- ---- tests
 
-pub both_true : (a b : Bool) → (a && b) ≡ true → (a ≡ true) × (b ≡ true)
-both_true true b h = (refl, h)
-both_true false b h = absurd (let no : ⊥ = cc in no)
-
-pub both_are : (a b : Bool) → a ≡ true → b ≡ true → (a && b) ≡ true
-both_are a b h k = ap (λ x. x && b) h ∙ k
-
-pub same_number : (j k : ℕ) → nat_eq j k ≡ true → j ≡ k
-same_number j k h = grind (arith, nat_tests)
-
 other_number : (j k : ℕ) → nat_eq j k ≡ false → k ≢ j
 other_number j k h = grind (arith, nat_tests)
-
-pub is_below : (j k : ℕ) → nat_lt j k ≡ true → j < k
-is_below j k h = grind (arith, nat_tests)
-
-pub below_is : (j k : ℕ) → j < k → nat_lt j k ≡ true
-below_is j k h = grind (arith, nat_tests)
 
 not_below : (j k : ℕ) → nat_lt j k ≡ false → k ≤ j
 not_below j k h = grind (arith, nat_tests)
@@ -55,7 +40,7 @@ named_place [] k = refl
 named_place (j ∷ order) k = by (nat_eq j k) (named_place order k)
   where
     by : (b : Bool) → is_named order k ≡ nat_lt (place_in order k) (length order) → (b || is_named order k) ≡ nat_lt (if b then 0 else suc (place_in order k)) (suc (length order))
-    by true rest = sym (below_is 0 (suc (length order)) (omega arith))
+    by true rest = sym (lt-ltb 0 (suc (length order)) (omega arith))
     by false rest = rest ∙ one_more_below (place_in order k) (length order)
 
 pub at_place : (order : Order) (k : ℕ) → is_named order k ≡ true → slice_get order (place_in order k) ≡ Some k
@@ -64,17 +49,17 @@ at_place (j ∷ order) k h = by (nat_eq j k) refl h (at_place order k)
   where
     by : (b : Bool) → nat_eq j k ≡ b → (b || is_named order k) ≡ true → (is_named order k ≡ true → slice_get order (place_in order k) ≡ Some k)
         → slice_get (j ∷ order) (if b then 0 else suc (place_in order k)) ≡ Some k
-    by true e named rest = ap (λ i. Some i) (same_number j k e)
+    by true e named rest = ap (λ i. Some i) (eqb-true j k e)
     by false e named rest = rest named
 
 -- a test that each number of the order passes
 pub all_named : (test : ℕ → Bool) (order : Order) (k : ℕ) → list_all test order ≡ true → is_named order k ≡ true → test k ≡ true
 all_named test [] k all h = absurd (let no : ⊥ = cc in no)
 all_named test (j ∷ order) k all h =
-    let s = both_true (test j) (list_all test order) all in by (nat_eq j k) refl h s.0 (all_named test order k s.1)
+    let s = and_parts (test j) (list_all test order) all in by (nat_eq j k) refl h s.0 (all_named test order k s.1)
   where
     by : (b : Bool) → nat_eq j k ≡ b → (b || is_named order k) ≡ true → test j ≡ true → (is_named order k ≡ true → test k ≡ true) → test k ≡ true
-    by true e named first rest = ap test (sym (same_number j k e)) ∙ first
+    by true e named first rest = ap test (sym (eqb-true j k e)) ∙ first
     by false e named first rest = rest named
 
 -- ---- places as they are kept
@@ -83,14 +68,14 @@ pub all_unset : (order : Order) (n : ℕ) → AreUnset order (replicate n (lengt
 all_unset order n k = unwrap_or-slice_get (replicate n (length order)) k (length order) ∙ by (nat_lt k n) refl
   where
     by : (b : Bool) → nat_lt k n ≡ b → get_or (replicate n (length order)) k (length order) ≡ length order
-    by true e = get_or-replicate n k (length order) (length order) (is_below k n e)
+    by true e = get_or-replicate n k (length order) (length order) (ltb-true k n e)
     by false e = get_or_past (replicate n (length order)) k (length order) (let m = length-replicate n (length order) in let high = not_below k n e in omega arith)
 
 after_set : (old : List ℕ) (j v k n : ℕ) → j < length old → unwrap_or (slice_get (set old j v) k) n ≡ (if nat_eq j k then v else unwrap_or (slice_get old k) n)
 after_set old j v k n low = unwrap_or-slice_get (set old j v) k n ∙ by (nat_eq j k) refl
   where
     by : (b : Bool) → nat_eq j k ≡ b → get_or (set old j v) k n ≡ (if b then v else unwrap_or (slice_get old k) n)
-    by true e = get_or-set_at old j k v n (sym (same_number j k e)) low
+    by true e = get_or-set_at old j k v n (sym (eqb-true j k e)) low
     by false e = get_or-set_other old j k v n (other_number j k e) ∙ sym (unwrap_or-slice_get old k n)
 
 -- the items from one further up on
@@ -122,17 +107,17 @@ unnamed_below order old i j high is none =
 named_below : (order : Order) (old : List ℕ) (i j : ℕ) → i ≤ length order → kept_place order old j ≡ i + place_in (drop i order) j → kept_place order old j < length order → is_named (drop i order) j ≡ true
 named_below order old i j high is some =
     let short = length-drop i order in
-    named_place (drop i order) j ∙ below_is (place_in (drop i order) j) (length (drop i order)) (omega arith)
+    named_place (drop i order) j ∙ lt-ltb (place_in (drop i order) j) (length (drop i order)) (omega arith)
 
 pub names_above : (order : Order) (old : List ℕ) (n i j : ℕ) → 0 < i → i ≤ length order → j ≡ get_or order (i - 1) j → j < n → kept_place order old j ≡ i + place_in (drop i order) j
     → length order ≤ kept_place order old j → names_blocks (drop i order) n ≡ true → names_blocks (drop (i - 1) order) n ≡ true
 names_above order old n i j low high at there is none before =
     let rest = drop i order in
-    let s = both_true (names_once rest) (list_all (λ k. nat_lt k n) rest) before in
+    let s = and_parts (names_once rest) (list_all (λ k. nat_lt k n) rest) before in
     ap (λ xs. names_blocks xs n) (item_above order i j low high at)
-    ∙ both_are (not (is_named rest j) && names_once rest) (nat_lt j n && list_all (λ k. nat_lt k n) rest)
-    (both_are (not (is_named rest j)) (names_once rest) (ap not (unnamed_below order old i j high is none)) s.0)
-    (both_are (nat_lt j n) (list_all (λ k. nat_lt k n) rest) (below_is j n there) s.1)
+    ∙ and_from (not (is_named rest j) && names_once rest) (nat_lt j n && list_all (λ k. nat_lt k n) rest)
+    (and_from (not (is_named rest j)) (names_once rest) (ap not (unnamed_below order old i j high is none)) s.0)
+    (and_from (nat_lt j n) (list_all (λ k. nat_lt k n) rest) (lt-ltb j n there) s.1)
 
 drop_two : (a b c d : Bool) → (b && d) ≡ false → ((a && b) && (c && d)) ≡ false
 drop_two false b c d h = refl

@@ -5,6 +5,7 @@ use Rattle.std.specs.List.{list_all}
 use Rattle.std.specs.Option.{option_map}
 use Rattle.std.proofs.lemmas.Bool.Decides.{nat_tests}
 use Rattle.std.proofs.lemmas.Option.{slice_get-map, slice_get_within}
+use Rattle.std.proofs.lemmas.Bool.{and_parts}
 use Rattle.il_ast.specs.declared.value.Value.{Value}
 use Rattle.il_ast.specs.Keeps.{KeepsCode}
 use Rattle.vcode.specs.declared.place.Operand.{Operand}
@@ -27,7 +28,7 @@ use Rattle.vcode.proofs.Alike.{lines_alike}
 use Rattle.vcode.proofs.Leading.{LeadsTo, Arriving, led_to, jump_alike}
 use Rattle.vcode.proofs.Rewriting.{rewrites_keep}
 use Rattle.block_order.specs.Ordered.{Order, place_in, is_named, block_at, led, placed, in_order, begins, leads_within}
-use Rattle.block_order.proofs.Placing.{both_true, at_place, all_named}
+use Rattle.block_order.proofs.Placing.{at_place, all_named}
 
 -- registers hold the same; a block is entered where it stands in the order, which names it if it is there
 abbrev claims : Order → Code ℕ → Claims
@@ -53,7 +54,7 @@ led_is order Halt = refl
 each_named : (order : Order) (holds : ℕ → Type 0) → ((k : ℕ) → is_named order k ≡ true → holds k) → (j : Jump ℕ) → leads_within order j ≡ true → LeadsTo holds j
 each_named order holds named (Goto k) h = named k h
 each_named order holds named (Branch on met otherwise) h =
-    let s = both_true (is_named order met) (is_named order otherwise) h in (named met s.0, named otherwise s.1)
+    let s = and_parts (is_named order met) (is_named order otherwise) h in (named met s.0, named otherwise s.1)
 each_named order holds named (Return a) h = tt
 each_named order holds named Halt h = tt
 

@@ -2,13 +2,13 @@
 use Rattle.std.proofs.Common.{◌≡◌, ℕ, zero, suc, ◌+◌, ◌<◌, ◌≤◌, Bool, true, false, not, ◌&&◌, ◌||◌, nat_eq, nat_lt, [], ◌∷◌, ◌++◌, length, refl, ap, ◌∙◌, arith}
 use Rattle.std.specs.List.{list_all, range_with_len}
 use Rattle.std.proofs.lemmas.Bool.Decides.{nat_tests}
+use Rattle.std.proofs.lemmas.Bool.{and_parts, and_from, ltb-true, lt-ltb}
 use Rattle.vcode.specs.declared.line.Jump.{Jump}
 use Rattle.vcode.specs.declared.line.Jump.TheVariants.{Goto, Branch, Return, Halt}
 use Rattle.vcode.specs.declared.code.Block.{Block}
 use Rattle.vcode.specs.declared.code.Code.{Code}
 use Rattle.vcode.specs.Regular.{is_target, leads_inside}
 use Rattle.block_order.specs.Ordered.{is_named, block_at, begins, names_once, leads_within, is_order}
-use Rattle.block_order.proofs.Placing.{both_true, both_are, is_below, below_is}
 use Rattle.block_order.proofs.Keeping.{passes_at, all_from}
 
 past : (a k : ℕ) → a ≤ k → nat_eq a k ≡ false → a + 1 ≤ k
@@ -33,12 +33,12 @@ unnamed_before (suc n) a k low =
 once : (n a : ℕ) → names_once (range_with_len a n) ≡ true
 once zero a = refl
 once (suc n) a =
-    both_are (not (is_named (range_with_len (a + 1) n) a)) (names_once (range_with_len (a + 1) n)) (ap not (unnamed_before n (a + 1) a (omega arith))) (once n (a + 1))
+    and_from (not (is_named (range_with_len (a + 1) n) a)) (names_once (range_with_len (a + 1) n)) (ap not (unnamed_before n (a + 1) a (omega arith))) (once n (a + 1))
 
 there : (m n a : ℕ) → a + n ≤ m → list_all (λ k. nat_lt k m) (range_with_len a n) ≡ true
 there m zero a h = refl
 there m (suc n) a h =
-    both_are (nat_lt a m) (list_all (λ k. nat_lt k m) (range_with_len (a + 1) n)) (below_is a m (omega arith)) (there m n (a + 1) (omega arith))
+    and_from (nat_lt a m) (list_all (λ k. nat_lt k m) (range_with_len (a + 1) n)) (lt-ltb a m (omega arith)) (there m n (a + 1) (omega arith))
 
 first : (n : ℕ) → begins n (range_with_len 0 n) ≡ true
 first zero = refl
@@ -46,13 +46,13 @@ first (suc n) = refl
 
 target_named : (n k : ℕ) → is_target n k ≡ true → is_named (range_with_len 0 n) k ≡ true
 target_named n k h =
-    let low = is_below k n (both_true (nat_lt 0 k) (nat_lt k n) h).1 in named_within n 0 k (omega arith) (omega arith)
+    let low = ltb-true k n (and_parts (nat_lt 0 k) (nat_lt k n) h).1 in named_within n 0 k (omega arith) (omega arith)
 
 jump_named : (n : ℕ) (j : Jump ℕ) → leads_inside n j ≡ true → leads_within (range_with_len 0 n) j ≡ true
 jump_named n (Goto k) h = target_named n k h
 jump_named n (Branch on met otherwise) h =
-    let s = both_true (is_target n met) (is_target n otherwise) h in
-    both_are (is_named (range_with_len 0 n) met) (is_named (range_with_len 0 n) otherwise) (target_named n met s.0) (target_named n otherwise s.1)
+    let s = and_parts (is_target n met) (is_target n otherwise) h in
+    and_from (is_named (range_with_len 0 n) met) (is_named (range_with_len 0 n) otherwise) (target_named n met s.0) (target_named n otherwise s.1)
 jump_named n (Return a) h = refl
 jump_named n Halt h = refl
 
@@ -61,9 +61,9 @@ as_they_stand f inside =
     let n = length f.blocks in
     let order = range_with_len 0 n in
     let all = there n n 0 (omega arith) in
-    both_are (begins n order) ((names_once order && list_all (λ k. nat_lt k n) order) && list_all (λ k. leads_within order (block_at f.blocks k).jump) order) (first n)
-    (both_are (names_once order && list_all (λ k. nat_lt k n) order) (list_all (λ k. leads_within order (block_at f.blocks k).jump) order)
-    (both_are (names_once order) (list_all (λ k. nat_lt k n) order) (once n 0) all)
+    and_from (begins n order) ((names_once order && list_all (λ k. nat_lt k n) order) && list_all (λ k. leads_within order (block_at f.blocks k).jump) order) (first n)
+    (and_from (names_once order && list_all (λ k. nat_lt k n) order) (list_all (λ k. leads_within order (block_at f.blocks k).jump) order)
+    (and_from (names_once order) (list_all (λ k. nat_lt k n) order) (once n 0) all)
     (all_from (λ k. nat_lt k n) (λ k. leads_within order (block_at f.blocks k).jump)
     (λ k low. jump_named n (block_at f.blocks k).jump (passes_at (λ (b : Block ℕ). leads_inside n b.jump) f.blocks k inside low)) order all))
 

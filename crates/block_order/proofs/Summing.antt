@@ -3,9 +3,9 @@ use Rattle.std.proofs.Common.{◌≡◌, ℕ, zero, suc, ◌+◌, ◌<◌, ◌�
 use Rattle.std.specs.List.{list_all, sum_by}
 use Rattle.std.proofs.lemmas.Bool.Decides.{nat_tests}
 use Rattle.std.proofs.lemmas.List.Sums.{sum_by-cons}
+use Rattle.std.proofs.lemmas.Bool.{and_parts, ltb-true, or_parts, not-true}
 use Rattle.vcode.specs.declared.code.Block.{Block}
 use Rattle.block_order.specs.Ordered.{Order, is_named, block_at, names_once}
-use Rattle.block_order.proofs.Placing.{both_true, is_below}
 
 -- the sum of a number for each below n
 abbrev total : (ℕ → ℕ) → ℕ → ℕ
@@ -40,30 +40,22 @@ without_less j f k = by (nat_eq k j)
 same_is : (j : ℕ) → nat_eq j j ≡ true
 same_is j = grind (arith, nat_tests)
 
-neither : (a b : Bool) → (a || b) ≡ false → (a ≡ false) × (b ≡ false)
-neither true b h = absurd (let no : ⊥ = cc in no)
-neither false b h = (refl, h)
-
 sum_unnamed : (f : ℕ → ℕ) (j : ℕ) (order : Order) → is_named order j ≡ false → sum_by f order ≡ sum_by (without j f) order
 sum_unnamed f j [] h = refl
 sum_unnamed f j (k ∷ order) h =
-    let s = neither (nat_eq k j) (is_named order j) h in
+    let s = or_parts (nat_eq k j) (is_named order j) h in
     sum_by-cons f k order ∙ ap (λ n. f k + n) (sum_unnamed f j order s.1)
     ∙ ap (λ (b : Bool). (if b then 0 else f k) + sum_by (without j f) order) (sym s.0) ∙ sym (sum_by-cons (without j f) k order)
-
-not_true : (b : Bool) → not b ≡ true → b ≡ false
-not_true true h = absurd (let no : ⊥ = cc in no)
-not_true false h = refl
 
 sum_named : (n : ℕ) (order : Order) (f : ℕ → ℕ) → names_once order ≡ true → list_all (λ k. nat_lt k n) order ≡ true → sum_by f order ≤ total f n
 sum_named n [] f once low = omega arith
 sum_named n (j ∷ order) f once low =
-    let s = both_true (not (is_named order j)) (names_once order) once in
-    let t = both_true (nat_lt j n) (list_all (λ k. nat_lt k n) order) low in
+    let s = and_parts (not (is_named order j)) (names_once order) once in
+    let t = and_parts (nat_lt j n) (list_all (λ k. nat_lt k n) order) low in
     let first = sum_by-cons f j order in
-    let unnamed = sum_unnamed f j order (not_true (is_named order j) s.0) in
+    let unnamed = sum_unnamed f j order (not-true (is_named order j) s.0) in
     let rest = sum_named n order (without j f) s.1 t.1 in
-    let apart = total_apart f (without j f) (without_less j f) n j (ap (λ (b : Bool). if b then 0 else f j) (same_is j)) (is_below j n t.0) in
+    let apart = total_apart f (without j f) (without_less j f) n j (ap (λ (b : Bool). if b then 0 else f j) (same_is j)) (ltb-true j n t.0) in
     omega arith
 
 total_blocks : (g : Block ℕ → ℕ) (blocks : List (Block ℕ)) → total (λ k. g (block_at blocks k)) (length blocks) ≡ sum_by g blocks

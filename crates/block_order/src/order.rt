@@ -10,7 +10,6 @@ use crate::blocks::blocks_in_order;
 use crate::places::{begins, is_closed, places};
 use block_chains::chains::chained;
 use std::alloc::{AllocError, Global};
-use vcode::code::Code;
 use vcode::function::VFunc;
 
 /// The function in an order, of which these are the places.
@@ -26,16 +25,9 @@ fn ordered(
     ensures code { IfOk result (λ w. w.code ≡ in_order order.now function.now.code) }
     ensures registers { IfOk result (λ w. w.registers ≡ function.now.registers) }
 {
-    let params = function.code.params.try_clone(alloc)?;
     let blocks = blocks_in_order(alloc, order, places, function.code.blocks.as_slice())?;
-    Ok(VFunc {
-        code: Code {
-            result: function.code.result,
-            params,
-            blocks,
-        },
-        registers: function.registers,
-    })
+    let made = function.with_blocks(alloc, function.registers, blocks)?;
+    Ok(made)
 }
 
 /// Where blocks stand in the order, if it is one of the code.

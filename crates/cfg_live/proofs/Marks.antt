@@ -5,6 +5,7 @@ use Rattle.std.proofs.Math.Nat.{eq-or-lt_of_le}
 use Rattle.std.specs.List.{list_any}
 use Rattle.std.specs.Option.{option_map_or}
 use Rattle.std.proofs.lemmas.Bool.Decides.{nat_tests}
+use Rattle.std.proofs.lemmas.Bool.{or_cases, and_parts, not-true, or_left, or_right}
 use Rattle.bitset.specs.Bits.{Bits, is_member}
 use Rattle.cfg_live.specs.declared.graph.Graph.{Graph}
 use Rattle.cfg_live.specs.Paths.{reads, writes, leads, IsLive}
@@ -35,31 +36,11 @@ lengths-set n (x ∷ rows) (suc p) s e all (suc q) t h = lengths-set n rows p s 
 
 -- ---- tests
 
-or_true : (a b : Bool) → (a || b) ≡ true → (a ≡ true) ⊎ (b ≡ true)
-or_true true b h = inl refl
-or_true false b h = inr h
-
-and_true : (a b : Bool) → (a && b) ≡ true → (a ≡ true) × (b ≡ true)
-and_true true b h = (refl, h)
-and_true false b h = cc
-
-not_true : (a : Bool) → not a ≡ true → a ≡ false
-not_true true h = cc
-not_true false h = refl
-
-or_left : (a b : Bool) → a ≡ true → (a || b) ≡ true
-or_left true b h = refl
-or_left false b h = cc
-
-or_right : (a b : Bool) → b ≡ true → (a || b) ≡ true
-or_right true b h = refl
-or_right false b h = h
-
 -- ---- what flows into a point
 
 pub some_holds : (rows : List Bits) (r : ℕ) (ps : List ℕ) → any_holds rows r ps ≡ true → (q : ℕ) × (list_any (λ k. nat_eq k q) ps ≡ true) × (holds rows q r ≡ true)
 some_holds rows r [] h = cc
-some_holds rows r (p ∷ ps) h = elim (or_true (holds rows p r) (any_holds rows r ps) h) [
+some_holds rows r (p ∷ ps) h = elim (or_cases (holds rows p r) (any_holds rows r ps) h) [
   | inl here ↦ (p, or_left (nat_eq p p) (list_any (λ k. nat_eq k p) ps) (grind (arith, nat_tests)), here)
   | inr later ↦ (
       let found = some_holds rows r ps later in
@@ -69,7 +50,7 @@ some_holds rows r (p ∷ ps) h = elim (or_true (holds rows p r) (any_holds rows 
 
 pub any_of : (rows : List Bits) (r : ℕ) (ps : List ℕ) (q : ℕ) → list_any (λ k. nat_eq k q) ps ≡ true → holds rows q r ≡ true → any_holds rows r ps ≡ true
 any_of rows r [] q h here = cc
-any_of rows r (p ∷ ps) q h here = elim (or_true (nat_eq p q) (list_any (λ k. nat_eq k q) ps) h) [
+any_of rows r (p ∷ ps) q h here = elim (or_cases (nat_eq p q) (list_any (λ k. nat_eq k q) ps) h) [
   | inl same ↦ (
       let e : p ≡ q = grind (arith, nat_tests) in
       or_left (holds rows p r) (any_holds rows r ps) (ap (λ k. holds rows k r) e ∙ here)
@@ -87,22 +68,22 @@ leads-is g p q = leads_by (slice_get g.nexts p) q
 -- what flows in has a path
 pub flow_is_live : (g : Graph) (registers : ℕ) (rows : List Bits) → Justified g rows → (p r : ℕ) → flows g registers rows p r ≡ true → IsLive g p r
 flow_is_live g registers rows justified p r h =
-    elim (or_true (nat_lt r registers && reads g p r) (any_holds rows r (next_of g p) && not (writes g p r)) h) [
-      | inl read ↦ (zero, (and_true (nat_lt r registers) (reads g p r) read).1)
+    elim (or_cases (nat_lt r registers && reads g p r) (any_holds rows r (next_of g p) && not (writes g p r)) h) [
+      | inl read ↦ (zero, (and_parts (nat_lt r registers) (reads g p r) read).1)
       | inr behind ↦ (
-          let both = and_true (any_holds rows r (next_of g p)) (not (writes g p r)) behind in
+          let both = and_parts (any_holds rows r (next_of g p)) (not (writes g p r)) behind in
           let found = some_holds rows r (next_of g p) both.0 in
           let path : IsLive g found.0 r = justified found.0 r found.2 in
-          (suc path.0, (not_true (writes g p r) both.1, (found.0, sym (leads-is g p found.0) ∙ found.1, path.1)))
+          (suc path.0, (not-true (writes g p r) both.1, (found.0, sym (leads-is g p found.0) ∙ found.1, path.1)))
           )
     ]
 
 pub flow_is_known : (g : Graph) (registers : ℕ) (rows : List Bits) → AreSized registers rows → (p r : ℕ) → flows g registers rows p r ≡ true → r < registers
 flow_is_known g registers rows sized p r h =
-    elim (or_true (nat_lt r registers && reads g p r) (any_holds rows r (next_of g p) && not (writes g p r)) h) [
-      | inl read ↦ (let low = (and_true (nat_lt r registers) (reads g p r) read).0 in grind (arith, nat_tests))
+    elim (or_cases (nat_lt r registers && reads g p r) (any_holds rows r (next_of g p) && not (writes g p r)) h) [
+      | inl read ↦ (let low = (and_parts (nat_lt r registers) (reads g p r) read).0 in grind (arith, nat_tests))
       | inr behind ↦ (
-          let both = and_true (any_holds rows r (next_of g p)) (not (writes g p r)) behind in
+          let both = and_parts (any_holds rows r (next_of g p)) (not (writes g p r)) behind in
           let found = some_holds rows r (next_of g p) both.0 in
           sized.known found.0 r found.2
           )
@@ -124,10 +105,10 @@ pub record Joined (set : ℕ → Bool) (point : ℕ) (old new : List Bits) : Typ
   pub members : (q r : ℕ) → holds new q r ≡ (holds old q r || (nat_eq q point && set r))
 
 came_from : (set : ℕ → Bool) (point : ℕ) (old new : List Bits) → Joined set point old new → (q r : ℕ) → holds new q r ≡ true → (holds old q r ≡ true) ⊎ ((q ≡ point) × (set r ≡ true))
-came_from set point old new j q r h = elim (or_true (holds old q r) (nat_eq q point && set r) (sym (j.members q r) ∙ h)) [
+came_from set point old new j q r h = elim (or_cases (holds old q r) (nat_eq q point && set r) (sym (j.members q r) ∙ h)) [
   | inl was ↦ inl was
   | inr new ↦ (
-      let both = and_true (nat_eq q point) (set r) new in
+      let both = and_parts (nat_eq q point) (set r) new in
       let at = both.0 in
       inr (grind (arith, nat_tests), both.1)
       )

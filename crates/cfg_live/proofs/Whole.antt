@@ -3,8 +3,8 @@ use Rattle.std.proofs.Common.{◌≡◌, ℕ, zero, suc, ◌<◌, ◌≤◌, Boo
 use Rattle.std.specs.Prelude.{◌⊎◌}
 use Rattle.std.specs.Option.{option_map_or}
 use Rattle.std.specs.List.{list_any}
-use Rattle.std.proofs.lemmas.Bool.{cases_lt}
-use Rattle.std.proofs.lemmas.Bool.Decides.{nat_tests}
+use Rattle.std.proofs.lemmas.Bool.{cases_lt, lt-ltb}
+use Rattle.std.proofs.lemmas.Option.{slice_get_past}
 use Rattle.bitset.specs.Bits.{Bits, is_member}
 use Rattle.cfg_live.specs.declared.uses.Uses.{Uses}
 use Rattle.cfg_live.specs.declared.graph.Graph.{Graph}
@@ -42,11 +42,6 @@ blank-sized registers rows blank = record { lengths = blank.lengths; known = λ 
 
 -- ---- stable sets are closed
 
-past : {A : Type 0} (xs : List A) (p : ℕ) → length xs ≤ p → slice_get xs p ≡ None
-past [] p h = refl
-past (x ∷ xs) zero h = absurd (omega arith)
-past (x ∷ xs) (suc p) h = past xs p (omega arith)
-
 no_reads : (g : Graph) (p r : ℕ) → slice_get g.uses p ≡ None → reads g p r ≡ false
 no_reads g p r e = ap (λ (o : Option Uses). option_map_or (λ (u : Uses). list_any (λ k. nat_eq k r) u.reads) o false) e
 
@@ -64,23 +59,20 @@ behind_flows false true false e f = refl
 behind_flows false true true e f = cc
 behind_flows false false c e f = cc
 
-below_true : (r n : ℕ) → r < n → nat_lt r n ≡ true
-below_true r n h = grind (arith, nat_tests)
-
 pub closed_when_stable : (g : Graph) (registers : ℕ) (rows : List Bits) → length g.uses ≤ length rows → length g.nexts ≤ length rows
     → ((p : ℕ) → p < length rows → Stable g registers rows p) → Closed g registers rows
 closed_when_stable g registers rows e f stable =
     record {
       read = λ p r below h. elim (cases_lt p (length rows)) [
-        | inl inside ↦ stable p inside r (read_flows (nat_lt r registers) (reads g p r) (any_holds rows r (next_of g p) && not (writes g p r)) (below_true r registers below) h)
-        | inr outside ↦ (let none = no_reads g p r (past g.uses p (omega (arith, e, outside))) in cc)
+        | inl inside ↦ stable p inside r (read_flows (nat_lt r registers) (reads g p r) (any_holds rows r (next_of g p) && not (writes g p r)) (lt-ltb r registers below) h)
+        | inr outside ↦ (let none = no_reads g p r (slice_get_past g.uses p (omega (arith, e, outside))) in cc)
       ];
       behind = λ p q r below w l h. elim (cases_lt p (length rows)) [
         | inl inside ↦ (
             stable p inside r
             (behind_flows (nat_lt r registers && reads g p r) (any_holds rows r (next_of g p)) (writes g p r) (any_of rows r (next_of g p) q (leads-is g p q ∙ l) h) w)
             )
-        | inr outside ↦ (let none = no_leads g p q (past g.nexts p (omega (arith, f, outside))) in cc)
+        | inr outside ↦ (let none = no_leads g p q (slice_get_past g.nexts p (omega (arith, f, outside))) in cc)
       ];
     }
 

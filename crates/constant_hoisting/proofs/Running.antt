@@ -1,7 +1,7 @@
 -- Code that holds a constant follows the code: all other registers agree, and where the constant is held its register has its value. The line that sets it is one more.
 use Rattle.std.proofs.Common.{◌≡◌, ℕ, zero, suc, ◌+◌, Bool, true, false, not, ◌&&◌, ◌||◌, nat_eq, if◌then◌else◌, List, [], ◌∷◌, ◌++◌, map, Option, Some, None, slice_get, refl, sym, ◌∙◌, ap, subst, arith}
 use Rattle.std.specs.List.{list_all}
-use Rattle.std.proofs.lemmas.Bool.{and_parts}
+use Rattle.std.proofs.lemmas.Bool.{and_parts, not-true, or_right}
 use Rattle.std.proofs.lemmas.Bool.Decides.{nat_tests}
 use Rattle.il_ast.specs.declared.value.Value.{Value}
 use Rattle.il_ast.specs.Keeps.{KeepsCode}
@@ -75,10 +75,6 @@ replaced_same globals p h ev el agrees has a keeps = by (h && is_it p.constant a
         has s.0 ∙ sym (constant_same globals ev p.constant) ∙ ap (value_of globals ev) (sym (it_is p.constant a s.1))
     by false e = value_same globals p.register ev el agrees a keeps
 
-not_true : (b : Bool) → not b ≡ true → b ≡ false
-not_true true h = absurd (let no : ⊥ = cc in no)
-not_true false h = refl
-
 record Held (globals : List Value) (p : Plan) (has : Bool) (before after : Values ℕ) : Type 0 where
   agrees : Agree (is_other p.register) before after
   value : Has globals p has after
@@ -128,7 +124,7 @@ safe : (p : Plan) (v : Code ℕ) → is_safe p v ≡ true → Safe p v
 safe p v h =
     let s = and_parts _ (not (is_held p 0) && leads_well p 0 v.blocks) h in
     let t = and_parts (not (is_held p 0)) (leads_well p 0 v.blocks) s.1 in
-    record { spared = (and_parts _ (list_all (block_keeps (is_other p.register)) v.blocks) s.0).1; start = not_true (is_held p 0) t.0; leads = t.1 }
+    record { spared = (and_parts _ (list_all (block_keeps (is_other p.register)) v.blocks) s.0).1; start = not-true (is_held p 0) t.0; leads = t.1 }
 
 -- ---- lines and jumps
 
@@ -185,13 +181,6 @@ jump_follows p v held has j more spares leads globals memory ev el h =
 
 -- ---- the code follows
 
-either_first : (a b : Bool) → a ≡ true → (a || b) ≡ true
-either_first a b h = ap (λ x. x || b) h
-
-either_second : (a b : Bool) → b ≡ true → (a || b) ≡ true
-either_second true b h = refl
-either_second false b h = h
-
 module _ (p : Plan) (v : Code ℕ) (held : Bool) where
   end_follows : (set : Bool) (j : Jump ℕ) → jump_keeps (is_other p.register) j ≡ true → list_all (may_lead p (held || set)) (targets j) ≡ true
       → Follows (claims p) v (with_constant p v) held [] j (setting p set) (with_jump (replaced p held) j)
@@ -204,7 +193,7 @@ module _ (p : Plan) (v : Code ℕ) (held : Bool) where
       or_false false = refl
   end_follows true j spares leads =
       Come (set_comes p held)
-      (Jumps (jump_follows p v held true j (λ is. refl) spares (ap (λ b. list_all (may_lead p b) (targets j)) (sym (either_second held true refl)) ∙ leads)))
+      (Jumps (jump_follows p v held true j (λ is. refl) spares (ap (λ b. list_all (may_lead p b) (targets j)) (sym (or_right held true refl)) ∙ leads)))
 
   lines_follow : (set : Bool) (lines : List (Line ℕ)) (j : Jump ℕ) → list_all (line_keeps (is_other p.register)) lines ≡ true → jump_keeps (is_other p.register) j ≡ true
       → list_all (may_lead p (held || set)) (targets j) ≡ true

@@ -4,7 +4,6 @@ ghost use Rattle.il_ast.specs.Passes.{Keeps};
 ghost use Rattle.vcode.specs.Coded.{virtual_code};
 
 use crate::chosen::plans;
-use crate::copy::copy;
 use crate::hold::with_constant;
 use crate::plan::Plan;
 use std::alloc::{AllocError, Global};
@@ -26,11 +25,11 @@ fn by_plan(alloc: Global, function: VFunc, plan: &Plan) -> Result<VFunc, AllocEr
 /// # Errors
 ///
 /// Only where memory was refused.
-pub fn hoist_constants(alloc: Global, function: &VFunc) -> Result<VFunc, AllocError>
-    ensures { IfOk result (λ w. Keeps (virtual_code function.now) (virtual_code w)) }
+pub fn hoist_constants(alloc: Global, function: VFunc) -> Result<VFunc, AllocError>
+    ensures { IfOk result (λ w. Keeps (virtual_code function) (virtual_code w)) }
 {
-    let plans = plans(alloc, function)?;
-    let mut held = copy(alloc, function)?;
+    let plans = plans(alloc, &function)?;
+    let mut held = function;
     for plan in plans.as_slice() {
         let made = by_plan(alloc, held, plan)?;
         held = made;

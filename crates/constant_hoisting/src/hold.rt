@@ -11,7 +11,7 @@ use crate::replace::with_blocks;
 use crate::right::{are_paid, fits};
 use il_ast::list::Seq;
 use std::alloc::{AllocError, Global};
-use vcode::code::{Block, Code};
+use vcode::code::Block;
 use vcode::function::VFunc;
 
 /// The function with these blocks, which are its own by the plan.
@@ -29,15 +29,8 @@ fn with_these(
     ensures code { IfOk result (λ w. w.code ≡ with_constant plan.now function.now.code) }
     ensures registers { IfOk result (λ w. w.registers ≡ function.now.registers) }
 {
-    let params = function.code.params.try_clone(alloc)?;
-    Ok(VFunc {
-        code: Code {
-            result: function.code.result,
-            params,
-            blocks: Seq::from_vec(blocks),
-        },
-        registers: function.registers,
-    })
+    let made = function.with_blocks(alloc, function.registers, Seq::from_vec(blocks))?;
+    Ok(made)
 }
 
 /// The function by a plan: the plan's register is set in front of the blocks that hold its constant, and read there in its place. None where the plan isn't right:

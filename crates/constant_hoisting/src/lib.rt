@@ -16,7 +16,6 @@
 
 mod chosen;
 pub mod constants;
-mod copy;
 pub mod hold;
 pub mod plan;
 mod replace;

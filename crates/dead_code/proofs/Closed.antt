@@ -4,6 +4,7 @@ use Rattle.std.specs.Prelude.{◌⊎◌, IsTrue}
 use Rattle.std.specs.List.{list_all, list_any}
 use Rattle.std.specs.Option.{option_map_or}
 use Rattle.std.proofs.lemmas.Bool.Decides.{nat_tests}
+use Rattle.std.proofs.lemmas.Bool.{and_parts, or_cases, not-true}
 use Rattle.bitset.specs.Bits.{Bits}
 use Rattle.vcode.specs.declared.place.Operand.{Operand}
 use Rattle.vcode.specs.declared.place.Operand.TheVariants.{At, Number, Name}
@@ -31,21 +32,6 @@ use Rattle.dead_code.proofs.Reading.{is_in, is_same, operand_in, two_in, call_in
 
 -- ---- tests
 
-pub both_true : (a b : Bool) → (a && b) ≡ true → (a ≡ true) × (b ≡ true)
-both_true true b h = (refl, h)
-both_true false b h = cc
-
-pub either_true : (a b : Bool) → (a || b) ≡ true → (a ≡ true) ⊎ (b ≡ true)
-either_true true b h = inl refl
-either_true false b h = inr h
-
-pub left_or : (a b : Bool) → a ≡ true → (a || b) ≡ true
-left_or a b h = ap (λ x. x || b) h
-
-pub or_right : (a b : Bool) → b ≡ true → (a || b) ≡ true
-or_right true b h = refl
-or_right false b h = h
-
 -- ---- what is read is below what the places are
 
 operand_low : (test : ℕ → Bool) (a : Operand ℕ) (r : ℕ) → operand_keeps test a ≡ true → names_it a r ≡ true → test r ≡ true
@@ -58,8 +44,8 @@ one_low test a r keeps h = operand_low test a r keeps (sym (operand_in [] a r) �
 
 two_low : (test : ℕ → Bool) (a b : Operand ℕ) (r : ℕ) → (operand_keeps test a && operand_keeps test b) ≡ true → is_in (with_operand (with_operand [] a) b) r ≡ true → test r ≡ true
 two_low test a b r keeps h =
-    let s = both_true (operand_keeps test a) (operand_keeps test b) keeps in
-    elim (either_true (names_it a r) (names_it b r) (sym (two_in a b r) ∙ h)) [
+    let s = and_parts (operand_keeps test a) (operand_keeps test b) keeps in
+    elim (or_cases (names_it a r) (names_it b r) (sym (two_in a b r) ∙ h)) [
       | inl e ↦ operand_low test a r s.0 e
       | inr e ↦ operand_low test b r s.1 e
     ]
@@ -68,8 +54,8 @@ args_low : (test : ℕ → Bool) (args : List (Argument ℕ)) (r : ℕ) → list
     → test r ≡ true
 args_low test [] r keeps h = cc
 args_low test (a ∷ args) r keeps h =
-    let s = both_true (operand_keeps test a.value) (list_all (λ (b : Argument ℕ). operand_keeps test b.value) args) keeps in
-    elim (either_true (names_it a.value r) (list_any (λ (b : Argument ℕ). names_it b.value r) args) h) [
+    let s = and_parts (operand_keeps test a.value) (list_all (λ (b : Argument ℕ). operand_keeps test b.value) args) keeps in
+    elim (or_cases (names_it a.value r) (list_any (λ (b : Argument ℕ). names_it b.value r) args) h) [
       | inl e ↦ operand_low test a.value r s.0 e
       | inr e ↦ args_low test args r s.1 e
     ]
@@ -77,23 +63,23 @@ args_low test (a ∷ args) r keeps h =
 call_low : (test : ℕ → Bool) (callee : Operand ℕ) (args : List (Argument ℕ)) (r : ℕ) → (operand_keeps test callee && list_all (λ (a : Argument ℕ). operand_keeps test a.value) args) ≡ true
     → is_in (line_reads (Call None callee args)) r ≡ true → test r ≡ true
 call_low test callee args r keeps h =
-    let s = both_true (operand_keeps test callee) (list_all (λ (a : Argument ℕ). operand_keeps test a.value) args) keeps in
-    elim (either_true (names_it callee r) (list_any (λ (a : Argument ℕ). names_it a.value r) args) (sym (call_in callee args r) ∙ h)) [
+    let s = and_parts (operand_keeps test callee) (list_all (λ (a : Argument ℕ). operand_keeps test a.value) args) keeps in
+    elim (or_cases (names_it callee r) (list_any (λ (a : Argument ℕ). names_it a.value r) args) (sym (call_in callee args r) ∙ h)) [
       | inl e ↦ operand_low test callee r s.0 e
       | inr e ↦ args_low test args r s.1 e
     ]
 
 line_low : (test : ℕ → Bool) (l : Line ℕ) (r : ℕ) → line_keeps test l ≡ true → reads_it l r ≡ true → test r ≡ true
 line_low test (Tick turn w) r keeps h = cc
-line_low test (Set to a) r keeps h = one_low test a r (both_true (test to) (operand_keeps test a) keeps).1 h
-line_low test (Operate to op a b) r keeps h = two_low test a b r (both_true (test to) (operand_keeps test a && operand_keeps test b) keeps).1 h
-line_low test (Load to op at) r keeps h = one_low test at.base r (both_true (test to) (operand_keeps test at.base) keeps).1 h
+line_low test (Set to a) r keeps h = one_low test a r (and_parts (test to) (operand_keeps test a) keeps).1 h
+line_low test (Operate to op a b) r keeps h = two_low test a b r (and_parts (test to) (operand_keeps test a && operand_keeps test b) keeps).1 h
+line_low test (Load to op at) r keeps h = one_low test at.base r (and_parts (test to) (operand_keeps test at.base) keeps).1 h
 line_low test (Store size a at) r keeps h = two_low test a at.base r keeps h
 line_low test (Alloc to size) r keeps h = cc
 line_low test (Blit a b count) r keeps h = two_low test a b r keeps h
 line_low test (Call None callee args) r keeps h = call_low test callee args r keeps h
 line_low test (Call (Some d) callee args) r keeps h =
-    call_low test callee args r (both_true (test d.place) (operand_keeps test callee && list_all (λ (a : Argument ℕ). operand_keeps test a.value) args) keeps).1 h
+    call_low test callee args r (and_parts (test d.place) (operand_keeps test callee && list_all (λ (a : Argument ℕ). operand_keeps test a.value) args) keeps).1 h
 
 jump_low : (test : ℕ → Bool) (j : Jump ℕ) (r : ℕ) → jump_keeps test j ≡ true → is_in (jump_reads j) r ≡ true → test r ≡ true
 jump_low test (Goto k) r keeps h = cc
@@ -213,18 +199,14 @@ dead_unwritten w (Alloc to size) r dead h = cc
 dead_unwritten w (Blit a b count) r dead h = cc
 dead_unwritten w (Call to callee args) r dead h = cc
 
-not_false : (b : Bool) → not b ≡ true → b ≡ false
-not_false true h = let z : false ≡ true = h in cc
-not_false false h = refl
-
 -- of what is wanted right before a line, by whether that is dead
 wanted_by : (w : Wanted) (l : Line ℕ) (r : ℕ) → (if is_dead w l then w else wanted_above w l) r ≡ true → ((w r ≡ true) × (writes_it l r ≡ false)) ⊎ (reads_it l r ≡ true)
 wanted_by w l r h = by (is_dead w l) refl h
   where
     by : (b : Bool) → is_dead w l ≡ b → (if b then w else wanted_above w l) r ≡ true → ((w r ≡ true) × (writes_it l r ≡ false)) ⊎ (reads_it l r ≡ true)
     by true e f = inl (f, dead_unwritten w l r e f)
-    by false e f = elim (either_true (w r && not (writes_it l r)) (reads_it l r) f) [
-      | inl x ↦ inl ((both_true (w r) (not (writes_it l r)) x).0, not_false (writes_it l r) (both_true (w r) (not (writes_it l r)) x).1)
+    by false e f = elim (or_cases (w r && not (writes_it l r)) (reads_it l r) f) [
+      | inl x ↦ inl ((and_parts (w r) (not (writes_it l r)) x).0, not-true (writes_it l r) (and_parts (w r) (not (writes_it l r)) x).1)
       | inr x ↦ inr x
     ]
 
@@ -233,7 +215,7 @@ lines_flow : (g : Graph) (n : ℕ) (rows : List Bits) → AreLive g n rows → (
     → (r : ℕ) → wanted_at (holds rows (jump_point p lines)) lines r ≡ true → holds rows p r ≡ true
 lines_flow g n rows live p [] us ns cu cn bu bn below r h = h
 lines_flow g n rows live p (l ∷ lines) us ns cu cn bu bn below r h =
-    let s = both_true (line_keeps (is_below n) l) (list_all (line_keeps (is_below n)) lines) below in
+    let s = and_parts (line_keeps (is_below n) l) (list_all (line_keeps (is_below n)) lines) below in
     let out : Wanted = holds rows (jump_point (next_point p l) lines) in
     elim (kind l) [
       | inl t ↦ (
@@ -307,8 +289,8 @@ blocks_flow : (v : Code ℕ) (n : ℕ) (rows : List Bits) → AreLive (graph_of 
     → list_all (block_keeps (is_below n)) blocks ≡ true → (j : ℕ) (b : Block ℕ) → slice_get blocks j ≡ Some b → Stands v rows p k j blocks b
 blocks_flow v n rows live p k [] us ns cu cn bu bn firsts below j b found = let f : None ≡ Some b = found in absurd (let no : ⊥ = cc in no)
 blocks_flow v n rows live p k (d ∷ blocks) us ns cu cn bu bn firsts below zero b found =
-    let s = both_true (block_keeps (is_below n) d) (list_all (block_keeps (is_below n)) blocks) below in
-    let t = both_true (list_all (line_keeps (is_below n)) d.lines) (jump_keeps (is_below n) d.jump) s.0 in
+    let s = and_parts (block_keeps (is_below n) d) (list_all (block_keeps (is_below n)) blocks) below in
+    let t = and_parts (list_all (line_keeps (is_below n)) d.lines) (jump_keeps (is_below n) d.jump) s.0 in
     let bu_block : Begins (with_block us d) (uses v.blocks) = λ q x e. bu q x (blocks_begin (with_block us d) blocks q x e) in
     let bn_block : Begins (next_block (firsts_from 0 v.blocks) ns d) (graph_of v).nexts = λ q x e. bn q x (next_blocks_begin (firsts_from 0 v.blocks) (next_block (firsts_from 0 v.blocks) ns d) blocks q x e) in
     let at : Here (graph_of v) (jump_point p d.lines) (jump_uses d.jump) (jump_next (firsts_from 0 v.blocks) d.jump) =
@@ -332,7 +314,7 @@ blocks_flow v n rows live p k (d ∷ blocks) us ns cu cn bu bn firsts below zero
       found = refl;
     })
 blocks_flow v n rows live p k (d ∷ blocks) us ns cu cn bu bn firsts below (suc j) b found =
-    let s = both_true (block_keeps (is_below n) d) (list_all (block_keeps (is_below n)) blocks) below in
+    let s = and_parts (block_keeps (is_below n) d) (list_all (block_keeps (is_below n)) blocks) below in
     let count_u : length (with_block us d) ≡ jump_point p d.lines + 1 = block_count us d ∙ ap (λ i. jump_point i d.lines + 1) cu in
     let count_n : length (next_block (firsts_from 0 v.blocks) ns d) ≡ jump_point p d.lines + 1 =
     one_more (next_lines ns d.lines) (jump_next (firsts_from 0 v.blocks) d.jump) ∙ ap (λ i. i + 1) (count_next ns d.lines ∙ ap (λ i. jump_point i d.lines) cn) in
@@ -357,7 +339,7 @@ from_true b h = h
 -- every block of the function
 pub stands : (v : VFunc) (rows : List Bits) → AreLive (graph_of v.code) v.registers rows → (k : ℕ) (b : Block ℕ) → slice_get v.code.blocks k ≡ Some b → Stands v.code rows 0 0 k v.code.blocks b
 stands v rows live k b found =
-    let s = both_true (list_all (λ (d : Destination ℕ). is_below v.registers d.place) v.code.params) (list_all (block_keeps (is_below v.registers)) v.code.blocks)
+    let s = and_parts (list_all (λ (d : Destination ℕ). is_below v.registers d.place) v.code.params) (list_all (block_keeps (is_below v.registers)) v.code.blocks)
     (from_true (keeps_places (is_below v.registers) v.code) v.known) in
     let firsts : starts v.code.blocks ≡ firsts_from 0 v.code.blocks = starts_same [] v.code.blocks in
     blocks_flow v.code v.registers rows live 0 0 v.code.blocks [] [] refl refl (λ q x h. h)

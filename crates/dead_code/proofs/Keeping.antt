@@ -1,6 +1,7 @@
 -- Code without dead lines takes no more than the code did.
 use Rattle.std.proofs.Common.{◌≡◌, ℕ, ◌+◌, Bool, true, false, ◌&&◌, if◌then◌else◌, List, [], ◌∷◌, ◌++◌, Some, None, refl, ◌∙◌, ap, arith}
 use Rattle.std.specs.List.{list_all}
+use Rattle.std.proofs.lemmas.Bool.{and_parts}
 use Rattle.bitset.specs.Bits.{Bits}
 use Rattle.vcode.specs.declared.line.Line.{Line}
 use Rattle.vcode.specs.declared.line.Line.TheVariants.{Tick, Set, Operate, Load, Store, Alloc, Blit, Call}
@@ -13,7 +14,6 @@ use Rattle.vcode.proofs.Results.{Serves, Owed, owed_each}
 use Rattle.cfg_live.specs.Points.{graph_of}
 use Rattle.cfg_live.specs.Rows.{holds, AreLive}
 use Rattle.dead_code.specs.Without.{Wanted, is_dead, wanted_at, as_wanted, kept_lines, jump_point, kept_block, kept_blocks}
-use Rattle.dead_code.proofs.Closed.{both_true}
 use Rattle.dead_code.proofs.Running.{same_as_wanted, runs}
 
 -- ---- what lines take
@@ -54,7 +54,7 @@ Bears test = (w : Wanted) (l : Line ℕ) → test l ≡ true → test (as_wanted
 lines_all : (test : Line ℕ → Bool) → Bears test → (out : Wanted) (lines : List (Line ℕ)) → list_all test lines ≡ true → list_all test (kept_lines out lines) ≡ true
 lines_all test bears out [] h = refl
 lines_all test bears out (l ∷ lines) h =
-    let s = both_true (test l) (list_all test lines) h in
+    let s = and_parts (test l) (list_all test lines) h in
     let w : Wanted = wanted_at out lines in
     all_by_kind test (as_wanted w l) (kept_lines out lines) (is_dead w l) (bears w l s.0) (lines_all test bears out lines s.1)
 
@@ -75,7 +75,7 @@ keeps_as_wanted test w (Call to callee args) h = h
 
 lines_named : (test : ℕ → Bool) (out : Wanted) (b : Block ℕ) → block_keeps test b ≡ true → block_keeps test (record { lines = kept_lines out b.lines; jump = b.jump }) ≡ true
 lines_named test out b h =
-    let t = both_true (list_all (line_keeps test) b.lines) (jump_keeps test b.jump) h in
+    let t = and_parts (list_all (line_keeps test) b.lines) (jump_keeps test b.jump) h in
     ap (λ x. x && jump_keeps test b.jump) (lines_all (line_keeps test) (keeps_as_wanted test) out b.lines t.0) ∙ t.1
 
 -- ---- the whole

@@ -2,6 +2,7 @@
 use Rattle.std.proofs.Common.{◌≡◌, ℕ, Bool, true, false, ◌||◌, nat_eq, List, [], ◌∷◌, ◌++◌, refl, sym, ◌∙◌, ap, arith}
 use Rattle.std.specs.List.{list_any}
 use Rattle.std.proofs.lemmas.Bool.Decides.{nat_tests}
+use Rattle.std.proofs.lemmas.List.Folds.{list_any-append}
 use Rattle.vcode.specs.declared.place.Operand.{Operand}
 use Rattle.vcode.specs.declared.place.Operand.TheVariants.{At, Number, Name}
 use Rattle.vcode.specs.declared.place.Argument.{Argument}
@@ -22,12 +23,8 @@ pub or_none : (a : Bool) → (a || false) ≡ a
 or_none true = refl
 or_none false = refl
 
-pub any_append : {X : Type 0} (test : X → Bool) (xs ys : List X) → list_any test (xs ++ ys) ≡ (list_any test xs || list_any test ys)
-any_append test [] ys = refl
-any_append test (x ∷ xs) ys = ap (λ b. test x || b) (any_append test xs ys) ∙ or_three (test x) (list_any test xs) (list_any test ys)
-
 pub operand_in : (rs : List ℕ) (a : Operand ℕ) (r : ℕ) → is_in (with_operand rs a) r ≡ (is_in rs r || names_it a r)
-operand_in rs (At k) r = any_append (λ j. nat_eq j r) rs (k ∷ []) ∙ ap (λ b. is_in rs r || b) (or_none (nat_eq k r))
+operand_in rs (At k) r = list_any-append (λ j. nat_eq j r) rs (k ∷ []) ∙ ap (λ b. is_in rs r || b) (or_none (nat_eq k r))
 operand_in rs (Number n) r = sym (or_none (is_in rs r))
 operand_in rs (Name g) r = sym (or_none (is_in rs r))
 

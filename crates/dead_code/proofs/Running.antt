@@ -2,7 +2,8 @@
 use Rattle.std.proofs.Common.{◌≡◌, ℕ, ◌+◌, Bool, true, false, not, ◌&&◌, ◌||◌, nat_eq, if◌then◌else◌, List, [], ◌∷◌, Option, Some, None, slice_get, refl, sym, ◌∙◌, ap, arith}
 use Rattle.std.specs.Option.{option_and_then}
 use Rattle.std.specs.List.{list_any}
-use Rattle.std.proofs.lemmas.Bool.{and_from}
+use Rattle.std.proofs.lemmas.Bool.{and_from, not-true, or_left, or_right}
+use Rattle.std.proofs.lemmas.List.Folds.{list_any-append}
 use Rattle.bitset.specs.Bits.{Bits}
 use Rattle.il_ast.specs.declared.value.Value.{Value}
 use Rattle.il_ast.specs.Keeps.{KeepsCode}
@@ -34,8 +35,8 @@ use Rattle.cfg_live.specs.Points.{with_start, jump_next, graph_of}
 use Rattle.cfg_live.specs.Rows.{holds, AreLive}
 use Rattle.dead_code.specs.Without.{Wanted, is_dead, reads_it, writes_it, wanted_above, wanted_at, as_wanted, kept_lines, jump_point, kept_block, kept_blocks, without_dead}
 use Rattle.dead_code.specs.Overlaid.{names_it}
-use Rattle.dead_code.proofs.Reading.{is_in, is_same, any_append, operand_in, two_in, call_in}
-use Rattle.dead_code.proofs.Closed.{left_or, or_right, firsts_from, Stands, stands}
+use Rattle.dead_code.proofs.Reading.{is_in, is_same, operand_in, two_in, call_in}
+use Rattle.dead_code.proofs.Closed.{firsts_from, Stands, stands}
 
 -- what is wanted has the same values; at the start of a block that is what is live there
 abbrev claims : Code ℕ → List Bits → Claims
@@ -62,14 +63,14 @@ one_read globals ev el a h = value_same globals ev el a (λ r e. h r (operand_in
 
 two_read : (globals : List Value) (ev el : Values ℕ) (a b : Operand ℕ) → Agree (is_in (with_operand (with_operand [] a) b)) ev el → HasSame globals ev el a × HasSame globals ev el b
 two_read globals ev el a b h = (
-  value_same globals ev el a (λ r e. h r (two_in a b r ∙ left_or (names_it a r) (names_it b r) e)),
+  value_same globals ev el a (λ r e. h r (two_in a b r ∙ or_left (names_it a r) (names_it b r) e)),
   value_same globals ev el b (λ r e. h r (two_in a b r ∙ or_right (names_it a r) (names_it b r) e)),
 )
 
 args_read : (globals : List Value) (ev el : Values ℕ) (args : List (Argument ℕ)) → Agree (λ r. list_any (λ (a : Argument ℕ). names_it a.value r) args) ev el → ArgumentsRead (HasSame globals ev el) args
 args_read globals ev el [] h = tt
 args_read globals ev el (a ∷ args) h = (
-  value_same globals ev el a.value (λ r e. h r (left_or (names_it a.value r) (list_any (λ (b : Argument ℕ). names_it b.value r) args) e)),
+  value_same globals ev el a.value (λ r e. h r (or_left (names_it a.value r) (list_any (λ (b : Argument ℕ). names_it b.value r) args) e)),
   args_read globals ev el args (λ r e. h r (or_right (names_it a.value r) (list_any (λ (b : Argument ℕ). names_it b.value r) args) e)),
 )
 
@@ -82,7 +83,7 @@ line_read globals ev el (Store size a at) h = two_read globals ev el a at.base h
 line_read globals ev el (Alloc to size) h = tt
 line_read globals ev el (Blit from to count) h = two_read globals ev el from to h
 line_read globals ev el (Call to callee args) h = (
-  value_same globals ev el callee (λ r e. h r (call_in callee args r ∙ left_or (names_it callee r) (list_any (λ (a : Argument ℕ). names_it a.value r) args) e)),
+  value_same globals ev el callee (λ r e. h r (call_in callee args r ∙ or_left (names_it callee r) (list_any (λ (a : Argument ℕ). names_it a.value r) args) e)),
   args_read globals ev el args (λ r e. h r (call_in callee args r ∙ or_right (names_it callee r) (list_any (λ (a : Argument ℕ). names_it a.value r) args) e)),
 )
 
@@ -132,7 +133,7 @@ reads_agree : (w : Wanted) (l : Line ℕ) (ev el : Values ℕ) → Agree (wanted
 reads_agree w l ev el h r e = h r (or_right (w r && not (writes_it l r)) (reads_it l r) e)
 
 above_agrees : (w : Wanted) (l : Line ℕ) (ev el : Values ℕ) → Agree (wanted_above w l) ev el → Agree (λ r. w r && not (writes_it l r)) ev el
-above_agrees w l ev el h r e = h r (left_or (w r && not (writes_it l r)) (reads_it l r) e)
+above_agrees w l ev el h r e = h r (or_left (w r && not (writes_it l r)) (reads_it l r) e)
 
 line_stays : (v : Code ℕ) (rows : List Bits) (w : Wanted) (l : Line ℕ) → Alike (claims v rows) (wanted_above w l) w l (as_wanted w l)
 line_stays v rows w l globals memory ev el agrees =
@@ -142,20 +143,16 @@ line_stays v rows w l globals memory ev el agrees =
 
 -- ---- a dead line
 
-not_wanted : (b : Bool) → not b ≡ true → b ≡ false
-not_wanted true h = absurd (let no : ⊥ = cc in no)
-not_wanted false h = refl
-
 given_only : (holds : Option Value → Type 0) → ((o : Option Value) → holds o) → (o : Option Value) → OnlyGives holds (given o)
 given_only holds all None = tt
 given_only holds all (Some v) = all (Some v)
 
 line_goes : (v : Code ℕ) (rows : List Bits) (w : Wanted) (l : Line ℕ) → is_dead w l ≡ true → MayGo (claims v rows) w w l
-line_goes v rows w (Set to a) dead globals memory ev el agrees = first_writes w to (value_of globals ev a) ev el (not_wanted (w to) dead) agrees
+line_goes v rows w (Set to a) dead globals memory ev el agrees = first_writes w to (value_of globals ev a) ev el (not-true (w to) dead) agrees
 line_goes v rows w (Operate to op a b) dead globals memory ev el agrees =
-    first_writes w to (operated memory op (value_of globals ev a) (value_of globals ev b)) ev el (not_wanted (w to) dead) agrees
+    first_writes w to (operated memory op (value_of globals ev a) (value_of globals ev b)) ev el (not-true (w to) dead) agrees
 line_goes v rows w (Load to op at) dead globals memory ev el agrees =
-    given_only (λ o. Agree w (written (Some to) o ev) el) (λ o. first_writes w to o ev el (not_wanted (w to) dead) agrees) (option_and_then (loaded memory op) (address_of globals memory ev at))
+    given_only (λ o. Agree w (written (Some to) o ev) el) (λ o. first_writes w to o ev el (not-true (w to) dead) agrees) (option_and_then (loaded memory op) (address_of globals memory ev at))
 line_goes v rows w (Tick turn x) dead globals memory ev el agrees = absurd (let no : ⊥ = cc in no)
 line_goes v rows w (Store size a at) dead globals memory ev el agrees = absurd (let no : ⊥ = cc in no)
 line_goes v rows w (Alloc to size) dead globals memory ev el agrees = absurd (let no : ⊥ = cc in no)
@@ -165,11 +162,11 @@ line_goes v rows w (Call to callee args) dead globals memory ev el agrees = absu
 -- ---- where the jump leads
 
 start_in : (ks : List ℕ) (o : Option ℕ) (q : ℕ) → o ≡ Some q → is_in (with_start ks o) q ≡ true
-start_in ks o q e = ap (λ x. is_in (with_start ks x) q) e ∙ any_append (λ j. nat_eq j q) ks (q ∷ []) ∙ or_right (is_in ks q) (is_in (q ∷ []) q) (ap (λ b. b || false) (is_same q))
+start_in ks o q e = ap (λ x. is_in (with_start ks x) q) e ∙ list_any-append (λ j. nat_eq j q) ks (q ∷ []) ∙ or_right (is_in ks q) (is_in (q ∷ []) q) (ap (λ b. b || false) (is_same q))
 
 start_kept : (ks : List ℕ) (o : Option ℕ) (q : ℕ) → is_in ks q ≡ true → is_in (with_start ks o) q ≡ true
 start_kept ks None q h = h
-start_kept ks (Some k) q h = any_append (λ j. nat_eq j q) ks (k ∷ []) ∙ left_or (is_in ks q) (is_in (k ∷ []) q) h
+start_kept ks (Some k) q h = list_any-append (λ j. nat_eq j q) ks (k ∷ []) ∙ or_left (is_in ks q) (is_in (k ∷ []) q) h
 
 targets_next : (firsts : List ℕ) (j : Jump ℕ) → LeadsTo (λ k. (q : ℕ) → slice_get firsts k ≡ Some q → is_in (jump_next firsts j) q ≡ true) j
 targets_next firsts (Goto k) = λ q e. start_in [] (slice_get firsts k) q e

@@ -15,7 +15,7 @@ use cfg_live::points::graph;
 use cfg_live::sets::Live;
 use il_ast::list::Seq;
 use std::alloc::{AllocError, Global};
-use vcode::code::{Block, Code};
+use vcode::code::Block;
 use vcode::function::VFunc;
 use vcode::line::Line;
 
@@ -91,7 +91,6 @@ fn without_dead(alloc: Global, function: &VFunc, live: &Live) -> Result<VFunc, A
     ensures code { IfOk result (λ w. w.code ≡ without_dead live.now function.now.code) }
     ensures registers { IfOk result (λ w. w.registers ≡ function.now.registers) }
 {
-    let params = function.code.params.try_clone(alloc)?;
     let mut overlay = Overlay::new(alloc, function.registers)?;
     let mut blocks = Seq::new(alloc);
     push_blocks(
@@ -101,14 +100,8 @@ fn without_dead(alloc: Global, function: &VFunc, live: &Live) -> Result<VFunc, A
         live,
         function.code.blocks.as_slice(),
     )?;
-    Ok(VFunc {
-        code: Code {
-            result: function.code.result,
-            params,
-            blocks,
-        },
-        registers: function.registers,
-    })
+    let made = function.with_blocks(alloc, function.registers, blocks)?;
+    Ok(made)
 }
 
 /// The function without its dead lines: those that do nothing but write a register whose value isn't used any more. Blocks of memory stay, but have no register

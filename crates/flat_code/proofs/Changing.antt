@@ -4,6 +4,7 @@ use Rattle.std.specs.Prelude.{nat_eq, nat_le, nat_lt, slice_set}
 use Rattle.std.specs.Option.{option_map, option_and_then, option_flatten}
 use Rattle.std.proofs.lemmas.Bool.Decides.{nat_tests}
 use Rattle.std.proofs.lemmas.Option.{slice_get_within}
+use Rattle.std.proofs.lemmas.Bool.{eqb-true}
 use Rattle.il_ast.specs.declared.value.Cell.{Cell}
 use Rattle.il_ast.specs.Memory.{Memory, block_at, size_at, put, write_at}
 use Rattle.flat_code.specs.Spots.{NoAccess, ThisByte, Spots, Bases, Entries, ShowsCell, ShowsMemory, IsPlaced, SameBlocks, SameReach}
@@ -79,9 +80,6 @@ block_other m b c x differ = ap option_flatten (set_other m b c x differ)
 
 pub set_made : (m : Memory) (b : ℕ) (x : Option (List Cell)) → length (slice_set m b x) ≡ length m
 set_made m b x = set_length m b x
-
-pub is_same : (a b : ℕ) → nat_eq a b ≡ true → a ≡ b
-is_same a b h = grind (arith, nat_tests)
 
 pub is_other : (a b : ℕ) → nat_eq a b ≡ false → a ≢ b
 is_other a b h = grind (arith, nat_tests)
@@ -203,7 +201,7 @@ written_block m b mid old live c cells h = by_test (nat_eq c b) refl
   where
     by_test : (t : Bool) → nat_eq c b ≡ t → ((c ≡ b) × (cells ≡ mid)) ⊎ ((c ≢ b) × (block_at m c ≡ Some cells))
     by_test true e =
-        let same : c ≡ b = is_same c b e in
+        let same : c ≡ b = eqb-true c b e in
         inl (same, some_is cells mid (sym h ∙ (ap (block_at (slice_set m b (Some mid))) same ∙ block_set m b (Some mid) (live_made m b old live))))
     by_test false e = inr (is_other c b e, sym (block_other m b c (Some mid) (is_other c b e)) ∙ h)
 
@@ -212,7 +210,7 @@ written_sizes m b mid old live long c = by_test (nat_eq c b) refl
   where
     by_test : (t : Bool) → nat_eq c b ≡ t → size_at (slice_set m b (Some mid)) c ≡ size_at m c
     by_test true e =
-        let same : c ≡ b = is_same c b e in
+        let same : c ≡ b = eqb-true c b e in
         ap (λ i. size_at (slice_set m b (Some mid)) i) same
         ∙ (ap (option_map length) (block_set m b (Some mid) (live_made m b old live))
         ∙ (ap Some long ∙ (sym (ap (option_map length) live) ∙ ap (λ i. size_at m i) (sym same))))

@@ -4,6 +4,7 @@ use Rattle.std.specs.Prelude.{nat_eq, nat_le}
 use Rattle.std.specs.Option.{option_and_then}
 use Rattle.std.proofs.lemmas.Bool.Decides.{nat_tests}
 use Rattle.std.proofs.lemmas.Option.{slice_get_within}
+use Rattle.std.proofs.lemmas.Bool.{eqb-true}
 use Rattle.il_ast.specs.declared.value.Value.{Value}
 use Rattle.il_ast.specs.declared.value.Value.TheVariants.{Integer, Pointer, Function}
 use Rattle.il_ast.specs.declared.value.Cell.{Cell}
@@ -13,7 +14,7 @@ use Rattle.flat_code.specs.Step.{is_in, all_there, apart_or_same, with_copy, cop
 use Rattle.flat_code.proofs.Shown.{some_is, none_is}
 use Rattle.flat_code.proofs.Standing.{Stands, stands}
 use Rattle.flat_code.proofs.Runs.{IsSpan, is_span, span_shown}
-use Rattle.flat_code.proofs.Changing.{Changed, MemoryFollows, IsWritten, is_written, IsCovered, written_shown, written_there, in_range, out_of_range, is_same, is_other}
+use Rattle.flat_code.proofs.Changing.{Changed, MemoryFollows, IsWritten, is_written, IsCovered, written_shown, written_there, in_range, out_of_range, is_other}
 
 -- ---- ranges
 
@@ -53,7 +54,7 @@ clear_offsets n o q h = by_tests (nat_eq o q) (nat_le (o + n) q) (nat_le (q + n)
     below i j h = grind (arith, nat_tests)
 
     by_tests : (s t u : Bool) → nat_eq o q ≡ s → nat_le (o + n) q ≡ t → nat_le (q + n) o ≡ u → s || (t || u) ≡ true → AreApart n o q
-    by_tests true t u a b c h = inl (is_same o q a)
+    by_tests true t u a b c h = inl (eqb-true o q a)
     by_tests false true u a b c h = inr (inl (below (o + n) q b))
     by_tests false false true a b c h = inr (inr (below (q + n) o c))
     by_tests false false false a b c h = cc
@@ -74,7 +75,7 @@ clear_addresses e p m f n a o b q x y source old memory s t from to some within 
 
     by_test : (r : Bool) → nat_eq a b ≡ r → not r || (nat_eq o q || (nat_le (o + n) q || nat_le (q + n) o)) ≡ true → AreApart n x y
     by_test true e2 h =
-        shifted (some_is s.base t.base (sym s.is ∙ (ap p (is_same a b e2) ∙ t.is))) (clear_offsets n o q h)
+        shifted (some_is s.base t.base (sym s.is ∙ (ap p (eqb-true a b e2) ∙ t.is))) (clear_offsets n o q h)
     by_test false e2 h =
         sides (length source) (length old) within within2 (memory.apart a b s.base t.base source old (is_other a b e2) from to s.is t.is (omega arith) (omega arith))
 

@@ -5,6 +5,7 @@ use Rattle.std.specs.Option.{option_map, option_flatten}
 use Rattle.std.proofs.lemmas.Bool.Decides.{nat_tests}
 use Rattle.std.proofs.lemmas.List.{length-replicate}
 use Rattle.std.proofs.lemmas.Option.{slice_get_past, slice_get_within}
+use Rattle.std.proofs.lemmas.Bool.{eqb-true}
 use Rattle.il_ast.specs.declared.value.Cell.{Cell}
 use Rattle.il_ast.specs.declared.value.Cell.TheVariants.{Plain, Part, Blank}
 use Rattle.il_ast.specs.Memory.{Memory, block_at, size_at, fresh}
@@ -13,7 +14,7 @@ use Rattle.flat_code.specs.Spots.{Spot, NoAccess, AnyByte, ThisByte, Spots, Base
 use Rattle.flat_code.specs.Step.{is_in, opened}
 use Rattle.flat_code.proofs.Shown.{some_is, none_is, shows_grown}
 use Rattle.flat_code.proofs.Runs.{not_away}
-use Rattle.flat_code.proofs.Changing.{append_get, get_some, in_range, out_of_range, outside_or_in, is_same, is_other}
+use Rattle.flat_code.proofs.Changing.{append_get, get_some, in_range, out_of_range, outside_or_in, is_other}
 use Rattle.flat_code.proofs.Owning.{Ground, IsGround, is_among, among_last, IsHeld}
 
 -- ---- opened bytes
@@ -56,7 +57,7 @@ more_grown : (p : Bases) (b a : ℕ) → p b ≡ None → Grown p (more p b a)
 more_grown p b a none c d h = by_test (nat_eq c b) refl
   where
     by_test : (t : Bool) → nat_eq c b ≡ t → (if t then Some a else p c) ≡ Some d
-    by_test true e = absurd (none_is d (sym none ∙ (ap p (sym (is_same c b e)) ∙ h)))
+    by_test true e = absurd (none_is d (sym none ∙ (ap p (sym (eqb-true c b e)) ∙ h)))
     by_test false e = h
 
 cell_grown : (e : Entries) (p q : Bases) → Grown p q → (c : Cell) (s : Spot) → ShowsCell e p c s → ShowsCell e q c s
@@ -289,7 +290,7 @@ makes g ground p m owned f used n held fits =
 
     own : (b : ℕ) (s : Bool) → is_among b owned ≡ s → is_among b owned || nat_eq b (length m) ≡ true → size_at g.made b ≡ None
     own b true a e = held.mine b a
-    own b false a e = sym (held.others b a) ∙ unmade_size m b (is_same b (length m) (last (is_among b owned) (nat_eq b (length m)) a e))
+    own b false a e = sym (held.others b a) ∙ unmade_size m b (eqb-true b (length m) (last (is_among b owned) (nat_eq b (length m)) a e))
       where
         last : (s t : Bool) → s ≡ false → s || t ≡ true → t ≡ true
         last false t x e = e

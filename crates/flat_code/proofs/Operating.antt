@@ -4,6 +4,7 @@ use Rattle.std.specs.Prelude.{nat_eq, nat_le, nat_lt}
 use Rattle.std.proofs.Math.Nat.{mod-add-mod, add-mod-mod}
 use Rattle.std.proofs.lemmas.Bool.Decides.{nat_tests}
 use Rattle.std.specs.Option.{option_map, option_and_then}
+use Rattle.std.proofs.lemmas.Bool.{eqb-true}
 use Rattle.il_ast.specs.declared.operation.Class.{Class}
 use Rattle.il_ast.specs.declared.operation.Class.TheVariants.{W}
 use Rattle.il_ast.specs.declared.operation.Condition.{Condition}
@@ -113,14 +114,11 @@ functions_compared Equal k x y same t e is = e ∙ some_is same t is
 functions_compared NotEqual k x y same t e is = ap not e ∙ some_is (not same) t is
 functions_compared on k x y same t e is = absurd (none_is t is)
 
-pub same_number : (n m : ℕ) → nat_eq n m ≡ true → n ≡ m
-same_number n m h = grind (arith, nat_tests)
-
 number_itself : (n : ℕ) → nat_eq n n ≡ true
 number_itself n = grind (arith, nat_tests)
 
 pub callee_is : (f g : Callee) → same_callee f g ≡ true → f ≡ g
-callee_is (Defined n) (Defined m) h = ap Defined (same_number n m h)
+callee_is (Defined n) (Defined m) h = ap Defined (eqb-true n m h)
 callee_is SystemWrite SystemWrite h = refl
 callee_is SystemExit SystemExit h = refl
 callee_is (Defined n) SystemWrite h = cc
@@ -149,7 +147,7 @@ entries_compared e entries f g x y h k = by_test (same_callee f g) (nat_eq x y) 
         let one : y ≡ x = some_is y x (sym k ∙ (ap e (sym (callee_is f g a)) ∙ h)) in
         absurd (true_false (sym (number_itself x) ∙ (ap (nat_eq x) (sym one) ∙ b)))
     by_test false true a b =
-        let one : f ≡ g = entries.distinct f g x h (k ∙ ap (λ (n : ℕ). Some n) (sym (same_number x y b))) in
+        let one : f ≡ g = entries.distinct f g x h (k ∙ ap (λ (n : ℕ). Some n) (sym (eqb-true x y b))) in
         absurd (true_false (sym (callee_itself f) ∙ (ap (same_callee f) one ∙ a)))
 
 -- what holds where two tests pass
@@ -167,7 +165,7 @@ pointers_compared e p m f memory on k a o b q x y t true h g test is =
     let two = reached m b q pass.1 in
     let first : Stands p a o x one.0 = stands e p m f a o x one.0 memory one.1 one.2 h in
     let second : Stands p b q y two.0 = stands e p m f b q y two.0 memory two.1 two.2 g in
-    let same : second.base ≡ first.base = some_is second.base first.base (sym second.is ∙ (ap p (sym (same_number a b test)) ∙ first.is)) in
+    let same : second.base ≡ first.base = some_is second.base first.base (sym second.is ∙ (ap p (sym (eqb-true a b test)) ∙ first.is)) in
     ap (λ z. holds on k z y) first.at
     ∙ (ap (λ z. holds on k (first.base + o) z) (second.at ∙ ap (λ c. c + q) same) ∙ offsets_compared on k first.base o q t pass.2)
 pointers_compared e p m f memory on k a o b q x y t false h g test is =
@@ -194,7 +192,7 @@ zero_compared e p m f memory on n b o x y t h g is =
     let pass = both_pass (nat_eq n 0) (reaches m b o) (where_different on) t is in
     let one = reached m b o pass.1 in
     let at : Stands p b o x one.0 = stands e p m f b o x one.0 memory one.1 one.2 h in
-    let zero_is : n ≡ 0 = same_number n 0 pass.0 in
+    let zero_is : n ≡ 0 = eqb-true n 0 pass.0 in
     (not_zero x at.base o y at.above_zero at.at (g ∙ zero_is), pass.2)
   where
     not_zero : (x a o y : ℕ) → 0 < a → x ≡ a + o → y ≡ 0 → x ≢ y

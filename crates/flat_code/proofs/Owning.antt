@@ -3,11 +3,12 @@ use Rattle.std.proofs.Common.{◌≡◌, ℕ, zero, suc, ◌+◌, ◌^◌, ◌<�
 use Rattle.std.specs.Prelude.{nat_eq}
 use Rattle.std.specs.Option.{option_map, option_flatten}
 use Rattle.std.proofs.lemmas.Option.{slice_get_past}
+use Rattle.std.proofs.lemmas.Bool.{eqb-true}
 use Rattle.il_ast.specs.declared.value.Cell.{Cell}
 use Rattle.il_ast.specs.Memory.{Memory, block_at, size_at, free, free_all}
 use Rattle.flat_code.specs.Spots.{NoAccess, Spots, Bases, Entries, Grown, ShowsMemory, AreEntries, Clear, SameReach, SameBlocks}
 use Rattle.flat_code.proofs.Shown.{none_is}
-use Rattle.flat_code.proofs.Changing.{block_other, set_made, is_same, is_other}
+use Rattle.flat_code.proofs.Changing.{block_other, set_made, is_other}
 
 -- what stays during the run: functions' addresses, the bytes for blocks, and the addresses, blocks and bytes that the body found
 pub record Ground : Type 0 where
@@ -83,7 +84,7 @@ freed_size m (b ∷ bs) c = freed_size (free m b) bs c ∙ by_test (nat_eq c b) 
     by_test : (s t : Bool) → nat_eq c b ≡ s → (if t then None else size_at (free m b) c) ≡ (if s || t then None else size_at m c)
     by_test true true e = refl
     by_test false true e = refl
-    by_test true false e = ap (λ i. size_at (free m b) i) (is_same c b e) ∙ ap (option_map length) (free_here m b)
+    by_test true false e = ap (λ i. size_at (free m b) i) (eqb-true c b e) ∙ ap (option_map length) (free_here m b)
     by_test false false e = ap (option_map length) (block_other m b c None (is_other c b e))
 
 -- a block that is live afterwards was not freed, and is as it was
@@ -92,5 +93,5 @@ freed_live m [] c cells h = (refl, h)
 freed_live m (b ∷ bs) c cells h = by_test (nat_eq c b) refl (freed_live (free m b) bs c cells h)
   where
     by_test : (s : Bool) → nat_eq c b ≡ s → (is_among c bs ≡ false) × (block_at (free m b) c ≡ Some cells) → (s || is_among c bs ≡ false) × (block_at m c ≡ Some cells)
-    by_test true e rest = absurd (none_is cells (sym (ap (λ i. block_at (free m b) i) (is_same c b e) ∙ free_here m b) ∙ rest.1))
+    by_test true e rest = absurd (none_is cells (sym (ap (λ i. block_at (free m b) i) (eqb-true c b e) ∙ free_here m b) ∙ rest.1))
     by_test false e rest = (rest.0, sym (block_other m b c None (is_other c b e)) ∙ rest.1)

@@ -6,6 +6,7 @@ use Rattle.std.specs.Option.{option_map, option_and_then}
 use Rattle.std.proofs.Math.Nat.{pow-suc, div-div-eq-div-mul}
 use Rattle.std.proofs.lemmas.Bool.Decides.{nat_tests}
 use Rattle.std.proofs.lemmas.Option.{slice_get_past}
+use Rattle.std.proofs.lemmas.Bool.{eqb-true}
 use Rattle.il_ast.specs.declared.value.Value.{Value}
 use Rattle.il_ast.specs.declared.value.Value.TheVariants.{Integer, Pointer, Function}
 use Rattle.il_ast.specs.declared.value.Cell.{Cell}
@@ -15,7 +16,7 @@ use Rattle.il_ast.specs.Memory.{Memory, block_at, cells_at, span, plain_bytes, a
 use Rattle.flat_code.specs.Spots.{Spot, NoAccess, AnyByte, ThisByte, Spots, Bases, Entries, Shows, ShowsCell, ShowsMemory}
 use Rattle.flat_code.specs.Step.{read_spot, known_number, is_there, all_there}
 use Rattle.flat_code.proofs.Shown.{some_is, none_is, shown_by_one}
-use Rattle.flat_code.proofs.Operating.{callee_is, same_number}
+use Rattle.flat_code.proofs.Operating.{callee_is}
 
 -- the cells are shown by the bytes from an address upward
 abbrev pub RunShows : Entries → Bases → Spots → ℕ → List Cell → Type 0
@@ -80,9 +81,9 @@ both_true true b h = (refl, h)
 both_true false b h = cc
 
 value_is : (u v : Value) → same_value u v ≡ true → u ≡ v
-value_is (Integer a) (Integer b) h = ap Integer (same_number a b h)
+value_is (Integer a) (Integer b) h = ap Integer (eqb-true a b h)
 value_is (Pointer a o) (Pointer b q) h =
-    let two = both_true (nat_eq a b) (nat_eq o q) h in ap (λ c. Pointer c o) (same_number a b two.0) ∙ ap (Pointer b) (same_number o q two.1)
+    let two = both_true (nat_eq a b) (nat_eq o q) h in ap (λ c. Pointer c o) (eqb-true a b two.0) ∙ ap (Pointer b) (eqb-true o q two.1)
 value_is (Function f) (Function g) h = ap Function (callee_is f g h)
 value_is (Integer a) (Pointer b q) h = cc
 value_is (Integer a) (Function g) h = cc
@@ -106,7 +107,7 @@ parts_known : (e : Entries) (p : Bases) (f : Spots) (v : Value) (x : ℕ) → Sh
     → known_number f at (length cells) ≡ Some (x / 256 ^ k)
 unfolding known_number
 parts_known e p f v x shown small at k [] run is =
-    ap Some (sym (ap (λ n. x / 256 ^ n) (same_number k 8 is) ∙ none x small))
+    ap Some (sym (ap (λ n. x / 256 ^ n) (eqb-true k 8 is) ∙ none x small))
   where
     none : (n : ℕ) → n < 2 ^ 64 → n / 256 ^ 8 ≡ 0
     none n h = omega arith
@@ -117,7 +118,7 @@ parts_known e p f v x shown small at k (Part u i ∷ cells) run is =
     let second = both_true (nat_eq i k) (are_parts_from (k + 1) v cells) first.1 in
     let here : Shows e p v run.0.0 = subst (λ (w : Value). Shows e p w run.0.0) (value_is u v first.0) run.0.1 in
     let byte : f at ≡ ThisByte (byte_at k x) =
-    run.0.3 ∙ (ap (λ n. ThisByte (byte_at i n)) (shown_by_one e p v run.0.0 x here shown) ∙ ap (λ n. ThisByte (byte_at n x)) (same_number i k second.0)) in
+    run.0.3 ∙ (ap (λ n. ThisByte (byte_at i n)) (shown_by_one e p v run.0.0 x here shown) ∙ ap (λ n. ThisByte (byte_at n x)) (eqb-true i k second.0)) in
     ap (λ (s : Spot). read_spot s (known_number f (at + 1) (length cells))) byte
     ∙ (ap (option_map (λ n. byte_at k x + 256 * n)) (parts_known e p f v x shown small (at + 1) (k + 1) cells run.1 second.1)
     ∙ ap (λ (n : ℕ). Some n) (digit k x))

@@ -5,6 +5,7 @@ use Rattle.std.specs.Int.{byte_at}
 use Rattle.std.specs.Option.{option_and_then}
 use Rattle.std.proofs.Math.Nat.{pow-suc, div-div-eq-div-mul}
 use Rattle.std.proofs.lemmas.Option.{slice_get_past, slice_get_within}
+use Rattle.std.proofs.lemmas.Bool.{eqb-true}
 use Rattle.il_ast.specs.declared.value.Value.{Value}
 use Rattle.il_ast.specs.declared.value.Value.TheVariants.{Integer, Pointer, Function}
 use Rattle.il_ast.specs.declared.value.Cell.{Cell}
@@ -15,7 +16,6 @@ use Rattle.flat_code.specs.Spots.{Spot, ThisByte, Spots, Bases, Entries, Shows, 
 use Rattle.flat_code.specs.Step.{is_in, all_there, with_number, stored}
 use Rattle.flat_code.proofs.Shown.{some_is, none_is}
 use Rattle.flat_code.proofs.Standing.{Stands, stands}
-use Rattle.flat_code.proofs.Operating.{same_number}
 use Rattle.flat_code.proofs.Changing.{Changed, MemoryFollows, IsWritten, is_written, IsCovered, written_shown, written_there, in_range, out_of_range}
 
 -- ---- the cells of a value are shown by the bytes of its number
@@ -56,7 +56,7 @@ parts_shown e p n z v new h small false test is = absurd (none_is new is)
 parts_shown e p n z v new h small true test is =
     let same : parts v ≡ new = some_is (parts v) new is in
     record {
-      long = ap length (sym same) ∙ sym (same_number n 8 test);
+      long = ap length (sym same) ∙ sym (eqb-true n 8 test);
       shown = λ k c got. subst (λ (d : Cell). ShowsCell e p d (ThisByte (byte_at k z))) (parts_get v k c (ap (λ (xs : List Cell). slice_get xs k) same ∙ got)) (z, h, small, refl);
     }
 

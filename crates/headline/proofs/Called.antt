@@ -1,7 +1,8 @@
 -- A call of a function of the program is kept where its body is.
-use Rattle.std.proofs.Common.{◌≡◌, ℕ, ◌+◌, ◌-◌, ◌≤◌, Bool, true, false, List, [], ◌∷◌, map, refl, sym, ◌∙◌, subst, ap, ap₂, arith}
+use Rattle.std.proofs.Common.{◌≡◌, ℕ, ◌+◌, ◌-◌, ◌≤◌, true, false, List, [], ◌∷◌, map, refl, sym, ◌∙◌, subst, ap, ap₂, arith}
 use Rattle.std.proofs.lemmas.Bool.Decides.{nat_tests}
 use Rattle.std.specs.Prelude.{nat_lt, ◌&&◌, Option, Some, None}
+use Rattle.std.proofs.lemmas.Bool.{and_parts}
 use Rattle.il_ast.specs.declared.operation.Class.{Class}
 use Rattle.il_ast.specs.declared.operation.Class.TheVariants.{W, L}
 use Rattle.il_ast.specs.declared.function.Param.{Param}
@@ -35,16 +36,12 @@ same_class_is W L h = cc
 same_class_is L W h = cc
 same_class_is L L h = refl
 
-pub both_true : (a b : Bool) → (a && b) ≡ true → (a ≡ true) × (b ≡ true)
-both_true true b h = (refl, h)
-both_true false b h = cc
-
 pub same_classes_are : (cs ds : List Class) → same_classes cs ds ≡ true → cs ≡ ds
 same_classes_are [] [] h = refl
 same_classes_are [] (d ∷ ds) h = cc
 same_classes_are (c ∷ cs) [] h = cc
 same_classes_are (c ∷ cs) (d ∷ ds) h =
-    let t = both_true (same_class c d) (same_classes cs ds) h in ap₂ (λ x xs. x ∷ xs) (same_class_is c d t.0) (same_classes_are cs ds t.1)
+    let t = and_parts (same_class c d) (same_classes cs ds) h in ap₂ (λ x xs. x ∷ xs) (same_class_is c d t.0) (same_classes_are cs ds t.1)
 
 pub suits_wanted : (wants has : Option Class) → result_fits wants has ≡ true → (v : Option Value) → Suits has v → Suits wants v
 suits_wanted None has h v s = tt
@@ -156,5 +153,5 @@ function_call_kept c p turns all sp i low (Some f) keeps =
     let params = map (λ (x : Param). x.class) f.item.params in
     by_test (call_fits i.call params f.item.result) (KeepsCall c sp i) _ _
     (λ fits. by_test (nat_lt i.room (need f.item)) (KeepsCall c sp i) _ _ (λ small. stack_kept c sp i nothing)
-    (λ roomy. enters c p turns all sp i low f (keeps f refl) (both_true (same_classes i.call.classes params) (result_fits i.call.wants f.item.result) fits) roomy))
+    (λ roomy. enters c p turns all sp i low f (keeps f refl) (and_parts (same_classes i.call.classes params) (result_fits i.call.wants f.item.result) fits) roomy))
     (λ misfit. undefined_kept c sp i nothing)

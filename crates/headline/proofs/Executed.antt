@@ -1,6 +1,7 @@
 -- The machine executes the program: from the call of `main` to the end.
 use Rattle.std.proofs.Common.{◌≡◌, ◌⊎◌, inl, inr, ℕ, ◌+◌, ◌*◌, ◌%◌, ◌≤◌, List, [], ◌++◌, refl, sym, ◌∙◌, subst, ap, arith}
 use Rattle.std.specs.Prelude.{Option, Some, None}
+use Rattle.il_ast.specs.declared.limits.TheConstants.{FUNCTION_WEIGHT}
 use Rattle.il_ast.specs.declared.operation.Class.TheVariants.{W}
 use Rattle.il_ast.specs.declared.program.Program.{Program}
 use Rattle.il_ast.specs.declared.value.Value.TheVariants.{Integer, Pointer, Function}
@@ -48,7 +49,7 @@ record Going_on (s : State) (turns : ℕ) (output : List ℕ) (most : ℕ) : Typ
   going : runs steps s ≡ Going now
   output_is : now.output ≡ output
   few : steps ≤ most
-  pace : turns ≤ 40000 * (steps + 1)
+  pace : turns ≤ FUNCTION_WEIGHT * (steps + 1)
 
 -- ---- what `main` does
 
@@ -94,7 +95,7 @@ stop_in c p words s start q t stop same st =
 -- the machine goes on in `main`
 going_in : (c : Setting) (p : Program) (words : List (List ℕ)) (s : State) (start : CallsMain c p words s) (q t : Spent) → t ≡ q → KeepsOn start.called t → Going_on s q.turns q.output (price q)
 going_in c p words s start q t same on =
-    let pace : q.turns ≤ 40000 * (on.steps + 1) = subst (λ y. y.turns ≤ 40000 * (on.steps + 1)) same on.pace in
+    let pace : q.turns ≤ FUNCTION_WEIGHT * (on.steps + 1) = subst (λ y. y.turns ≤ FUNCTION_WEIGHT * (on.steps + 1)) same on.pace in
     record {
       steps = start.steps + (on.steps + 0);
       now = on.after;
@@ -220,7 +221,7 @@ program_is_executed c p words s setting functions natives few silent start =
           going = on.going;
           output = on.output_is;
           price = on.few;
-          pace = subst (λ t. t ≤ 40000 * (on.steps + 1)) all on.pace;
+          pace = subst (λ t. t ≤ FUNCTION_WEIGHT * (on.steps + 1)) all on.pace;
         }
 
     fails : (n : ℕ) (e : End) → IsFailure e → (behaviour_of (outcome p words n)).ending ≡ e → PutsOut s (behaviour_of (outcome p words n)).output

@@ -3,6 +3,7 @@ use Rattle.std.proofs.Common.{◌≡◌, ◌⊎◌, inl, inr, ℕ, zero, suc, �
 use Rattle.std.proofs.lemmas.Bool.Decides.{nat_tests}
 use Rattle.std.specs.Prelude.{if◌then◌else◌, nat_eq, nat_le, slice_get, Option, Some, None}
 use Rattle.std.specs.Option.{option_map, option_and_then}
+use Rattle.std.proofs.lemmas.Bool.{and_parts}
 use Rattle.il_ast.specs.declared.operation.Class.{Class}
 use Rattle.il_ast.specs.declared.operation.Class.TheVariants.{W, L}
 use Rattle.il_ast.specs.declared.program.Program.{Program}
@@ -24,7 +25,7 @@ use Rattle.headline.specs.Knot.{Setting, KeepsCall}
 use Rattle.headline.specs.Natives.{known_byte, known_bytes, flat_answered, flat_put_out, flat_write, flat_exit, NativesPerform}
 use Rattle.headline.proofs.Answer.{grown_same}
 use Rattle.headline.proofs.Trivial.{undefined_kept, by_test}
-use Rattle.headline.proofs.Called.{both_true, suits_wanted, performs_wanted, same_classes_are}
+use Rattle.headline.proofs.Called.{suits_wanted, performs_wanted, same_classes_are}
 
 -- ---- bytes
 
@@ -202,7 +203,7 @@ pub write_kept : (c : Setting) (p : Program) → NativesPerform c → (calls : C
 write_kept c p natives calls sp i is =
     by_test (call_fits i.call (W ∷ L ∷ L ∷ []) (Some L)) (KeepsCall c sp i) _ _
     (λ fits q j grown shows good.
-    let both = both_true (same_classes i.call.classes (W ∷ L ∷ L ∷ [])) (result_fits i.call.wants (Some L)) fits in
+    let both = and_parts (same_classes i.call.classes (W ∷ L ∷ L ∷ [])) (result_fits i.call.wants (Some L)) fits in
     let f = j.given.memory in
     let classes = same_classes_are i.call.classes (W ∷ L ∷ L ∷ []) both.0 in
     let typed : AreArgs (W ∷ L ∷ L ∷ []) i.call.args = subst (λ cs. AreArgs cs i.call.args) classes shows.typed in
@@ -225,7 +226,7 @@ pub exit_kept : (c : Setting) (p : Program) → NativesPerform c → (calls : Ca
 exit_kept c p natives calls sp i is =
     by_test (call_fits i.call (W ∷ []) None) (KeepsCall c sp i) _ _
     (λ fits q j grown shows good.
-    let both = both_true (same_classes i.call.classes (W ∷ [])) (result_fits i.call.wants None) fits in
+    let both = and_parts (same_classes i.call.classes (W ∷ [])) (result_fits i.call.wants None) fits in
     let goes = goes_exit c.entries q i.call.wants j.given.memory i.memory i.call.args j.given.args shows.given.args in
     let here : c.entries SystemExit ≡ Some j.at = subst (λ g. c.entries g ≡ Some j.at) is shows.at in
     let wanted : result_fits j.wants None ≡ true = subst (λ w. result_fits w None ≡ true) (sym shows.wants) both.1 in

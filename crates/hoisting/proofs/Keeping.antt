@@ -16,7 +16,8 @@ use Rattle.vcode.specs.declared.function.VFunc.{VFunc}
 use Rattle.vcode.specs.Named.{operand_keeps, wanted_keeps, made_keeps, line_keeps, jump_keeps, block_keeps, is_below}
 use Rattle.vcode.specs.Regular.{leads_inside}
 use Rattle.vcode.proofs.Measuring.{Measured, Empty, Put, SetIn, measure, nothing_taken, within_tested, Each, NoBlocks, OneMore}
-use Rattle.vcode.proofs.Results.{Serves, Owed, owed_each, with_these}
+use Rattle.vcode.specs.Becomes.{with_these}
+use Rattle.vcode.proofs.Results.{Serves, Owed, owed_each}
 use Rattle.hoisting.specs.Longer.{is_extra, IsLonger, AllLonger}
 use Rattle.hoisting.proofs.Running.{runs}
 

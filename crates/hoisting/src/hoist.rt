@@ -8,7 +8,6 @@ use crate::longer::{Registers, all_longer};
 use hoisting_choice::choose::{Choice, choose_plans};
 use il_ast::list::Seq;
 use std::alloc::{AllocError, Global};
-use vcode::code::Code;
 use vcode::function::VFunc;
 use vcode::limits::PLACES;
 
@@ -33,21 +32,14 @@ fn with_plans(alloc: Global, function: &VFunc, choice: &Choice) -> Result<VFunc,
         before: function.registers,
         after: more(function.registers, choice.registers),
     };
-    let params = function.code.params.try_clone(alloc)?;
     let blocks = all_longer(
         alloc,
         registers,
         choice.blocks.as_slice(),
         function.code.blocks.as_slice(),
     )?;
-    Ok(VFunc {
-        code: Code {
-            result: function.code.result,
-            params,
-            blocks: Seq::from_vec(blocks),
-        },
-        registers: registers.after,
-    })
+    let made = function.with_blocks(alloc, registers.after, Seq::from_vec(blocks))?;
+    Ok(made)
 }
 
 /// The function with computations whose operands its loops don't write done in front of them too, in registers of their own.

@@ -1,8 +1,9 @@
 -- Room that is measured up to the largest number of 64 bits.
-use Rattle.std.proofs.Common.{◌≡◌, ℕ, ◌-◌, ◌^◌, ◌<◌, ◌≤◌, true, false, nat_lt, arith}
+use Rattle.std.proofs.Common.{◌≡◌, ℕ, ◌-◌, ◌^◌, ◌<◌, ◌≤◌, false, nat_lt, arith}
 use Rattle.std.specs.Prelude.{Option, Some, None}
 use Rattle.std.specs.Option.{option_map}
 use Rattle.std.proofs.lemmas.Bool.Decides.{nat_tests}
+use Rattle.std.proofs.lemmas.Bool.{lt-ltb}
 use Rattle.il_ast.specs.declared.function.Func.{Func}
 use Rattle.il_ast.specs.declared.program.InText.{InText}
 use Rattle.il_ast.specs.Cost.{need}
@@ -15,9 +16,6 @@ fits_below room n small le = omega (arith, le)
 less_false : (room n : ℕ) → n ≤ room → nat_lt room n ≡ false
 less_false room n le = grind (arith, nat_tests)
 
-less_true : (room n : ℕ) → room < n → nat_lt room n ≡ true
-less_true room n lt = grind (arith, nat_tests)
-
 pub enough : (o : Option (InText Func)) (room c left : ℕ) → room < 2 ^ 32 → Some c ≡ option_map (λ (f : InText Func). capped (need f.item)) o → c ≤ room → left ≡ room - c → LeavesRoom o room (Some left)
 enough None room c left small e le is = tt
 enough (Some f) room c left small e le is =
@@ -29,7 +27,7 @@ pub too_little : (o : Option (InText Func)) (room c : ℕ) → Some c ≡ option
 too_little None room c e lt = tt
 too_little (Some f) room c e lt =
     let same : c ≡ capped (need f.item) = cc in
-    less_true room (need f.item) (omega (arith, same))
+    lt-ltb room (need f.item) (omega (arith, same))
 
 pub no_need : (o : Option (InText Func)) (room : ℕ) → None ≡ option_map (λ (f : InText Func). capped (need f.item)) o → LeavesRoom o room None
 no_need None room e = tt

@@ -3,6 +3,7 @@ use Rattle.std.proofs.Common.{◌≡◌, ℕ, zero, suc, ◌+◌, ◌<◌, ◌�
 use Rattle.std.specs.Prelude.{nat_eq, nat_le, ◌||◌, Option, Some, None}
 use Rattle.std.proofs.lemmas.Bool.Decides.{nat_tests}
 use Rattle.std.specs.Option.{option_and_then}
+use Rattle.std.proofs.lemmas.Bool.{le-leb, eq-eqb}
 use Rattle.il_ast.specs.declared.value.Value.{Value}
 use Rattle.il_ast.specs.declared.value.Value.TheVariants.{Integer, Pointer, Function}
 use Rattle.il_ast.specs.declared.value.Cell.{Cell}
@@ -12,9 +13,6 @@ use Rattle.il_ast.specs.Memory.{parts, put, span}
 use Rattle.il_mem.specs.Written.{written}
 use Rattle.il_mem.specs.Changed.{integer_in, value_put, cells_put, within_put, ChangesBlock}
 use Rattle.il_mem.proofs.Spans.{written_is, length_span}
-
-pub le_true : (m n : ℕ) → m ≤ n → nat_le m n ≡ true
-le_true m n h = grind (arith, nat_tests)
 
 pub le_false : (m n : ℕ) → n < m → nat_le m n ≡ false
 le_false m n h = grind (arith, nat_tests)
@@ -27,7 +25,7 @@ outside_of m n t e h = let gt : nat_le m n ≡ false = sym e ∙ h in grind (ari
 
 pub put_inside : (o : ℕ) (new cells : List Cell) → o + length new ≤ length cells → put o new cells ≡ Some (written o new cells)
 put_inside o new cells h =
-    ap (λ b. cond b (Some (take o cells ++ (new ++ drop (o + length new) cells))) None) (le_true (o + length new) (length cells) h)
+    ap (λ b. cond b (Some (take o cells ++ (new ++ drop (o + length new) cells))) None) (le-leb (o + length new) (length cells) h)
     ∙ ap (λ xs. Some xs) (sym (written_is o new cells h))
 
 pub put_outside : (o : ℕ) (new cells : List Cell) → length cells < o + length new → put o new cells ≡ None
@@ -83,7 +81,7 @@ value_outside o n (Function f) cells h = parts_outside o n (parts (Function f)) 
 -- ---- copies
 
 span_inside : (o n : ℕ) (cells : List Cell) → o + n ≤ length cells → span o n cells ≡ Some (take n (drop o cells))
-span_inside o n cells h = ap (λ b. cond b (Some (take n (drop o cells))) None) (le_true (o + n) (length cells) h)
+span_inside o n cells h = ap (λ b. cond b (Some (take n (drop o cells))) None) (le-leb (o + n) (length cells) h)
 
 span_outside : (o n : ℕ) (cells : List Cell) → length cells < o + n → span o n cells ≡ None
 span_outside o n cells h = ap (λ b. cond b (Some (take n (drop o cells))) None) (le_false (o + n) (length cells) h)
@@ -111,9 +109,6 @@ within_not_read q o n cells h = cond_none _ _ (not_read q o n cells cells h)
 pub within_not_written : (q o n : ℕ) (cells : List Cell) → o + n ≤ length cells → length cells < q + n → within_put q o n cells ≡ None
 within_not_written q o n cells h k = cond_none _ _ (not_written q o n cells cells h k)
 
-same_true : (o q : ℕ) → o ≡ q → nat_eq o q ≡ true
-same_true o q e = grind (arith, nat_tests)
-
 same_false : (o q : ℕ) → (o ≡ q → ⊥) → nat_eq o q ≡ false
 same_false o q h = grind (arith, nat_tests)
 
@@ -133,7 +128,7 @@ written_same (suc o) n (c ∷ cells) h =
 pub within_same : (q o n : ℕ) (cells : List Cell) → o ≡ q → o + n ≤ length cells → within_put q o n cells ≡ Some cells
 within_same q o n cells e h =
     let long : length (take n (drop o cells)) ≡ n = length_span cells o n h in
-    ap (λ b. cond (b || (nat_le (o + n) q || nat_le (q + n) o)) (cells_put q (span o n cells) cells) None) (same_true o q e)
+    ap (λ b. cond (b || (nat_le (o + n) q || nat_le (q + n) o)) (cells_put q (span o n cells) cells) None) (eq-eqb o q e)
     ∙ (ap (λ j. cells_put j (span o n cells) cells) (sym e)
     ∙ (pasted o o n cells cells h h
     ∙ ap (λ xs. Some xs)

@@ -1,8 +1,9 @@
 -- A function that the grammar reads has a block, and each of its phis an argument.
-use Rattle.std.proofs.Common.{◌≡◌, ℕ, Bool, true, false, ◌&&◌, nat_lt, List, [], ◌∷◌, length, refl, ◌∙◌, ap, arith}
+use Rattle.std.proofs.Common.{◌≡◌, ℕ, Bool, true, ◌&&◌, nat_lt, List, [], ◌∷◌, length, refl, ◌∙◌, ap, arith}
 use Rattle.std.specs.Prelude.{IsTrue}
 use Rattle.std.proofs.lemmas.Bool.Decides.{nat_tests}
 use Rattle.std.specs.List.{list_all}
+use Rattle.std.proofs.lemmas.Bool.{and_from}
 use Rattle.il_ast.specs.declared.block.Phi.{Phi}
 use Rattle.il_ast.specs.declared.block.Block.{Block}
 use Rattle.il_ast.specs.Written.{has_block, has_argument, have_arguments}
@@ -15,10 +16,6 @@ use Rattle.il_reader.proofs.ExactFunctions.{Functions}
 
 abbrev has_arguments : Block → Bool
 has_arguments b = list_all has_argument b.phis
-
-both : (a b : Bool) → a ≡ true → b ≡ true → (a && b) ≡ true
-both true b h k = k
-both false b h k = h
 
 -- ---- phis
 
@@ -34,7 +31,7 @@ phi_written s s' p h =
 phis_written : (s s' : State) (ps : List Phi) → many (on_line phi) s ps s' → list_all has_argument ps ≡ true
 phis_written s s' [] h = refl
 phis_written s s' (p ∷ ps) h =
-    both (has_argument p) (list_all has_argument ps)
+    and_from (has_argument p) (list_all has_argument ps)
     (ap has_argument h.1.3.3.0 ∙ phi_written s h.1.1 h.1.0 h.1.2)
     (phis_written h.0 s' ps h.2)
 
@@ -47,7 +44,7 @@ block_written s s' b h =
 
 blocks_written : (s s' : State) (bs : List Block) → many block s bs s' → list_all has_arguments bs ≡ true
 blocks_written s s' [] h = refl
-blocks_written s s' (b ∷ bs) h = both (has_arguments b) (list_all has_arguments bs) (block_written s h.0 b h.1) (blocks_written h.0 s' bs h.2)
+blocks_written s s' (b ∷ bs) h = and_from (has_arguments b) (list_all has_arguments bs) (block_written s h.0 b h.1) (blocks_written h.0 s' bs h.2)
 
 falling_written : (bs : List Block) → list_all has_arguments (falling bs) ≡ list_all has_arguments bs
 falling_written [] = refl
@@ -65,7 +62,7 @@ AreWritten bs = IsTrue (has_block bs) × IsTrue (have_arguments bs)
 blocks_are : (xs bs : List Block) (s s' : State) → xs ≡ falling bs → some block s bs s' → AreWritten xs
 blocks_are xs bs s s' e h =
     let is = h.3.3.0 in
-    let all = ap (list_all has_arguments) is ∙ both (has_arguments h.0) (list_all has_arguments h.3.0) (block_written s h.1 h.0 h.2) (blocks_written h.1 h.3.1 h.3.0 h.3.2) in (
+    let all = ap (list_all has_arguments) is ∙ and_from (has_arguments h.0) (list_all has_arguments h.3.0) (block_written s h.1 h.0 h.2) (blocks_written h.1 h.3.1 h.3.0 h.3.2) in (
       ap has_block (e ∙ ap falling is) ∙ some_fall h.0 h.3.0,
       ap (list_all has_arguments) e ∙ falling_written bs ∙ all,
     )

@@ -6,6 +6,7 @@ use Rattle.std.specs.Option.{option_map, option_or}
 use Rattle.std.specs.Str.{bytes_eq}
 use Rattle.std.proofs.lemmas.List.Sums.{sum_by-append}
 use Rattle.std.proofs.lemmas.Slice.Eq.{bytes_eq-Decides}
+use Rattle.std.proofs.lemmas.Bool.{and_parts}
 use Rattle.il_ast.specs.declared.function.Func.{Func}
 use Rattle.il_ast.specs.declared.datum.DataDef.{DataDef}
 use Rattle.il_ast.specs.declared.program.InText.{InText}
@@ -88,10 +89,6 @@ exported_main texts once none h =
 
 -- ---- what is found is there
 
-both : (a b : Bool) → (a && b) ≡ true → (a ≡ true) × (b ≡ true)
-both true b h = (refl, h)
-both false b h = cc
-
 is_there : (p : GlobalName → Bool) (n : ℕ) (fs : List (InText Func)) (ds : List (InText DataDef)) (m : ℕ) (g : GlobalName) (k : ℕ) → find p (names_of_functions n fs ++ names_of_objects m ds) ≡ Some g → g.target ≡ Code (Defined k)
     → (j : ℕ) × (f : InText Func) × (k ≡ n + j) × (slice_get fs j ≡ Some f) × (p (named k f) ≡ true)
 is_there p n [] [] m g k found is = cc
@@ -157,7 +154,7 @@ main_is texts k is = by_name (find p (names_of texts)) refl
         by_form true form =
             let one : Some n ≡ Some k = sym (main ∙ ap (λ b. cond b (Some n) None) form) ∙ is in
             let same : n ≡ k = cc in
-            let parts = both there.1.item.exported (bytes_eq (symbol_name texts there.1.text there.1.item.name) (codes "main")) there.4 in (
+            let parts = and_parts there.1.item.exported (bytes_eq (symbol_name texts there.1.text there.1.item.name) (codes "main")) there.4 in (
               there.1,
               ap (slice_get fs) (sym same) ∙ here,
               record { exported = parts.0; name = (bytes_eq-Decides (symbol_name texts there.1.text there.1.item.name) (codes "main")).0 parts.1; form = form },

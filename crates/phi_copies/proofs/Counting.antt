@@ -3,6 +3,7 @@ use Rattle.std.proofs.Common.{◌≡◌, ◌+◌, ◌<◌, ◌≤◌, Bool, true
 use Rattle.std.specs.List.{sum_by, list_all}
 use Rattle.std.proofs.lemmas.Bool.Decides.{nat_tests}
 use Rattle.std.proofs.lemmas.List.Sums.{sum_by-cons}
+use Rattle.il_ast.specs.declared.limits.TheConstants.{FUNCTION_WEIGHT}
 use Rattle.il_ast.specs.declared.block.Phi.{Phi}
 use Rattle.il_ast.specs.declared.block.Block.{Block}
 use Rattle.il_ast.specs.declared.function.Func.{Func}
@@ -45,14 +46,14 @@ blocks_weigh (b ∷ blocks) h =
 -- ---- a good function
 
 pub record IsSmall (f : Func) : Type 0 where
-  pub blocks : length f.blocks ≤ 40000
+  pub blocks : length f.blocks ≤ FUNCTION_WEIGHT
   pub temporaries : length f.temps + phi_count f ≤ 44000
 
 pub is_small : (f : Func) → IsGoodFunction f → IsSmall f
 is_small f good =
-    let heavy = and_first (nat_le (weight f) 40000) _ good.limits in
-    let many = and_first (nat_le (length f.temps) 4000) _ (and_second (nat_le (weight f) 40000) _ good.limits) in
-    let light : weight f ≤ 40000 = grind (arith, nat_tests) in
+    let heavy = and_first (nat_le (weight f) FUNCTION_WEIGHT) _ good.limits in
+    let many = and_first (nat_le (length f.temps) 4000) _ (and_second (nat_le (weight f) FUNCTION_WEIGHT) _ good.limits) in
+    let light : weight f ≤ FUNCTION_WEIGHT = grind (arith, nat_tests) in
     let few : length f.temps ≤ 4000 = grind (arith, nat_tests) in
     let weigh = blocks_weigh f.blocks f.some_argument in
     record { blocks = omega (arith, light, weigh); temporaries = omega (arith, light, few, weigh) }

@@ -1,7 +1,8 @@
 -- A function of a good text is such as can be lowered.
-use Rattle.std.proofs.Common.{◌≡◌, ℕ, ◌*◌, ◌^◌, Bool, true, false, ◌&&◌, nat_le, List, [], ◌∷◌, refl, sym, ◌∙◌, ap}
+use Rattle.std.proofs.Common.{◌≡◌, ℕ, ◌*◌, ◌^◌, Bool, true, ◌&&◌, nat_le, List, [], ◌∷◌, refl, sym, ◌∙◌, ap}
 use Rattle.std.specs.Prelude.{zero, suc, slice_get, Option, Some, None}
 use Rattle.std.specs.List.{list_all}
+use Rattle.std.proofs.lemmas.Bool.{and_parts}
 use Rattle.il_ast.specs.declared.function.Func.{Func}
 use Rattle.il_ast.specs.declared.text.Definition.{Definition}
 use Rattle.il_ast.specs.declared.text.Definition.TheVariants.{Function}
@@ -22,14 +23,10 @@ none_at g [] k d h at = absurd (let no : ⊥ = cc in no)
 none_at g (x ∷ ds) zero d h at = let same : x ≡ d = cc in ap g (sym same) ∙ (none_first (g x) (first g ds) h).0
 none_at g (x ∷ ds) (suc k) d h at = none_at g ds k d (none_first (g x) (first g ds) h).1 at
 
-both_true : (a b : Bool) → (a && b) ≡ true → (a ≡ true) × (b ≡ true)
-both_true true b h = (refl, h)
-both_true false b h = absurd (let no : ⊥ = cc in no)
-
 all_at : (g : Definition → Bool) (ds : List Definition) (k : ℕ) (d : Definition) → list_all g ds ≡ true → slice_get ds k ≡ Some d → g d ≡ true
 all_at g [] k d h at = absurd (let no : ⊥ = cc in no)
-all_at g (x ∷ ds) zero d h at = let same : x ≡ d = cc in ap g (sym same) ∙ (both_true (g x) (list_all g ds) h).0
-all_at g (x ∷ ds) (suc k) d h at = all_at g ds k d (both_true (g x) (list_all g ds) h).1 at
+all_at g (x ∷ ds) zero d h at = let same : x ≡ d = cc in ap g (sym same) ∙ (and_parts (g x) (list_all g ds) h).0
+all_at g (x ∷ ds) (suc k) d h at = all_at g ds k d (and_parts (g x) (list_all g ds) h).1 at
 
 no_rule_broken : (t : Text) → IsGood t → (k : ℕ) (f : Func) → slice_get t.definitions k ≡ Some (Function f) → (rule : Rule) → broken_in_function rule f ≡ None
 no_rule_broken t good k f at DistinctGlobals = refl
@@ -51,5 +48,5 @@ pub good_function : (t : Text) → IsGood t → (k : ℕ) (f : Func) → slice_g
 good_function t good k f at =
     record {
       rules = no_rule_broken t good k f at;
-      limits = all_at definition_within t.definitions k (Function f) (both_true (nat_le t.bytes (16 * 2 ^ 20)) (list_all definition_within t.definitions) good.limits).1 at;
+      limits = all_at definition_within t.definitions k (Function f) (and_parts (nat_le t.bytes (16 * 2 ^ 20)) (list_all definition_within t.definitions) good.limits).1 at;
     }

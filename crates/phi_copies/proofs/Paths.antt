@@ -1,6 +1,6 @@
 -- The way from a move along the moves that write what is read, as far as none of them is placed.
 use Rattle.std.proofs.Common.{◌≡◌, ◌≢◌, ◌⊎◌, inl, inr, ℕ, ◌+◌, ◌<◌, Bool, true, false, List, [], ◌∷◌, ◌++◌, length, set, Some, refl, sym, ap, ◌∙◌, arith, ⊎_elim, length-append}
-use Rattle.std.proofs.lemmas.Bool.{false≢true}
+use Rattle.std.proofs.lemmas.Bool.{false≢true, false_from_ne_true}
 use Rattle.std.proofs.lemmas.List.{get_or_push, get_or_append_left}
 use Rattle.phi_copies.specs.declared.moves.Move.{Move}
 use Rattle.phi_copies.specs.Order.{to_of, from_of, is_placed, at, Way, Seen, Leads, Settled}
@@ -27,10 +27,6 @@ place_cases path i t l =
     (λ n. let less : t < length path = omega (arith, longer path i) in inl (less, at_left path i t less))
     (cases_eq t (length path))
 
-not_so : (x : Bool) → (x ≡ true → ⊥) → x ≡ false
-not_so true h = absurd (h refl)
-not_so false h = refl
-
 pub step : (ms : List Move) (visited placed : List Bool) (path : List ℕ) (i : ℕ)
     → Way ms placed path → Seen ms visited placed path → Leads ms path (Some i) → i < length ms → is_placed visited i ≡ false
     → Way ms placed (path ++ i ∷ [])
@@ -50,7 +46,7 @@ step ms visited placed path i p v leads l new = record {
 }
   where
     not_placed : is_placed placed i ≡ false
-    not_placed = not_so (is_placed placed i) (λ t. false≢true (sym new ∙ v.placed_seen i l t))
+    not_placed = false_from_ne_true (is_placed placed i) (λ t. false≢true (sym new ∙ v.placed_seen i l t))
 
 pub step_seen : (ms : List Move) (visited placed : List Bool) (path : List ℕ) (i : ℕ)
     → Seen ms visited placed path → i < length visited → is_placed visited i ≡ false

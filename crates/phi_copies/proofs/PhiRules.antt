@@ -4,6 +4,7 @@ use Rattle.std.specs.Prelude.{Option, Some, None}
 use Rattle.std.specs.List.{flat_map, find, list_any}
 use Rattle.std.proofs.lemmas.Bool.Decides.{nat_tests}
 use Rattle.std.proofs.lemmas.List.Sums.{sum_by-cons}
+use Rattle.std.proofs.lemmas.Bool.{and_from, not-false}
 use Rattle.il_ast.specs.declared.operation.Class.TheVariants.{W, L}
 use Rattle.il_ast.specs.declared.operand.Val.TheVariants.{Temp}
 use Rattle.il_ast.specs.declared.block.Phi.{Phi}
@@ -147,23 +148,14 @@ any_among g (y ∷ xs) x h (inr a) = by (g y) (any_among g xs x h a)
     by true e = refl
     by false e = e
 
-both_true : (a b : Bool) → a ≡ true → b ≡ true → (a && b) ≡ true
-both_true true true h k = refl
-both_true true false h k = k
-both_true false b h k = h
-
 given_word : (f : Func) (b : Block) (q : Phi) → Among b f.blocks → Among q b.phis → q.to.class ≡ W → is_given W q.to.temp (definers_of f) ≡ true
 given_word f b q a h w =
     let d : Definer = definer q.line q.to in
     let yes1 : nat_eq q.to.temp q.to.temp ≡ true = grind (arith, nat_tests) in
     any_among (λ (e : Definer). nat_eq e.temp q.to.temp && same_class e.class W) (definers_of f) d
-    (both_true (nat_eq q.to.temp q.to.temp) (same_class q.to.class W) yes1 (ap (λ c. same_class c W) w))
+    (and_from (nat_eq q.to.temp q.to.temp) (same_class q.to.class W) yes1 (ap (λ c. same_class c W) w))
     (among_right d (flat_map param_definers f.params) (flat_map block_definers f.blocks)
     (flat_among block_definers f.blocks b d a (among_left d (flat_map phi_definers b.phis) (flat_map inst_definers b.insts) (flat_among phi_definers b.phis q d h (inl refl)))))
-
-not_false : (b : Bool) → not b ≡ false → b ≡ true
-not_false true h = refl
-not_false false h = sym h
 
 pub reads_long : (f : Func) → IsGoodFunction f → (b : Block) (from : ℕ) (p q : Phi) (t : ℕ) → Among b f.blocks → Among p b.phis → Among q b.phis → p.to.class ≡ L → source from p ≡ Temp t → q.to.class ≡ W → t ≢ q.to.temp
 reads_long f good b from p q t a h i long s word same =
@@ -174,7 +166,7 @@ reads_long f good b from p q t a h i long s word same =
     (among_left o (flat_map phi_operands b.phis) (flat_map inst_operands b.insts ++ end_operands b.jump)
     (flat_among phi_operands b.phis p o h (flat_among (λ (x : PhiArg). operand_at p.line p.to.class x.value ∷ []) p.args r.arg o r.there (inl refl)))) in
     let fit = neither_first (first (λ (x : Operand). when (not (fits (definers_of f) x.class x.value)) x.line) (operands_of f)) (in_insts has_wrong_result f.blocks) (good.rules OperandFits) in
-    let fitting : fits (definers_of f) p.to.class r.arg.value ≡ true = not_false _ (not_broken _ o.line (none_among (λ (x : Operand). when (not (fits (definers_of f) x.class x.value)) x.line) (operands_of f) o fit there)) in
+    let fitting : fits (definers_of f) p.to.class r.arg.value ≡ true = not-false _ (not_broken _ o.line (none_among (λ (x : Operand). when (not (fits (definers_of f) x.class x.value)) x.line) (operands_of f) o fit there)) in
     let no_word : not (is_given W t (definers_of f)) ≡ true = ap (λ v. fits (definers_of f) L v) (sym r.value) ∙ ap (λ c. fits (definers_of f) c r.arg.value) (sym long) ∙ fitting in
     let given : is_given W t (definers_of f) ≡ true = ap (λ u. is_given W u (definers_of f)) same ∙ given_word f b q a i word in
     let none : not true ≡ true = ap not (sym given) ∙ no_word in

@@ -3,6 +3,7 @@ use Rattle.std.proofs.Common.{◌≡◌, ℕ, Bool, true, false, ◌&&◌, cond,
 use Rattle.std.specs.Prelude.{Option, Some}
 use Rattle.std.specs.List.{list_all, find}
 use Rattle.std.proofs.Math.Path.{fun_ext}
+use Rattle.std.proofs.lemmas.Bool.{and_parts}
 use Rattle.il_ast.specs.declared.operation.Size.{Size}
 use Rattle.il_ast.specs.declared.operation.Size.TheVariants.{Byte, Half, Word, Long}
 use Rattle.promote.specs.declared.mention.Role.{Role}
@@ -114,10 +115,6 @@ widths_known table ms h = fun_ext (λ t. ap width (h t) ∙ width_known ms t)
 
 -- ---- what a width says
 
-both_true : (a b : Bool) → (a && b) ≡ true → (a ≡ true) × (b ≡ true)
-both_true true b h = (refl, h)
-both_true false b h = absurd (let no : ⊥ = cc in no)
-
 find_here : (p : Size → Bool) (x s : Size) (r : Option Size) (b : Bool) → p x ≡ b → (r ≡ Some s → p s ≡ true) → cond b (Some x) r ≡ Some s → p s ≡ true
 find_here p x s r true e h is = let same : x ≡ s = cc in ap p (sym same) ∙ e
 find_here p x s r false e h is = h is
@@ -128,5 +125,5 @@ find_true p (x ∷ xs) s e = find_here p x s (find p xs) (p x) refl (find_true p
 
 pub width_promotable : (ms : List Mention) (t : ℕ) (s : Size) → width_in ms t ≡ Some s → (begins_made (roles t ms) ≡ true) × (list_all (suits s) (roles t ms) ≡ true)
 width_promotable ms t s e =
-    both_true (begins_made (roles t ms)) (list_all (suits s) (roles t ms))
+    and_parts (begins_made (roles t ms)) (list_all (suits s) (roles t ms))
     (find_true (λ r. is_promotable r (roles t ms)) (Byte ∷ Half ∷ Word ∷ Long ∷ []) s e)

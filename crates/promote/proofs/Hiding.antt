@@ -6,13 +6,13 @@ use Rattle.std.proofs.lemmas.Bool.Decides.{nat_tests}
 use Rattle.std.proofs.lemmas.List.{length-set, length-replicate}
 use Rattle.std.proofs.Math.Nat.{pow-succ'}
 use Rattle.std.proofs.lemmas.Option.{slice_get_within}
+use Rattle.std.proofs.lemmas.Bool.{eqb-true}
 use Rattle.il_ast.specs.declared.value.Value.{Value}
 use Rattle.il_ast.specs.declared.value.Value.TheVariants.{Integer, Pointer, Function}
 use Rattle.il_ast.specs.declared.value.Cell.{Cell}
 use Rattle.il_ast.specs.declared.value.Cell.TheVariants.{Plain, Part, Blank}
 use Rattle.il_ast.specs.Values.{bytes_of, number_of}
 use Rattle.il_ast.specs.Memory.{Memory, block_at, parts, cells_for, plain_bytes, are_parts_from, value_of, span, put, cells_at, write_at, load, store, apart_or_same, copy, fresh, free, free_all}
-use Rattle.promote.proofs.Respect.{same_number}
 
 -- for each block ever made whether it is hidden
 abbrev pub Marks : Type 0
@@ -323,7 +323,7 @@ IfChanged hs m (Some now) = Changed hs m now
 differ_by : (hs : Marks) (a b : ℕ) (t : Bool) → nat_eq a b ≡ t → slice_get hs a ≡ Some true → slice_get hs b ≡ Some false → t ≡ false
 differ_by hs a b false e h k = refl
 differ_by hs a b true e h k =
-    let same : a ≡ b = same_number a b e in let both : slice_get hs a ≡ slice_get hs b = ap (slice_get hs) same in absurd (let no : ⊥ = cc in no)
+    let same : a ≡ b = eqb-true a b e in let both : slice_get hs a ≡ slice_get hs b = ap (slice_get hs) same in absurd (let no : ⊥ = cc in no)
 
 pub marks_differ : (hs : Marks) (a b : ℕ) → slice_get hs a ≡ Some true → slice_get hs b ≡ Some false → nat_eq a b ≡ false
 marks_differ hs a b h k = differ_by hs a b (nat_eq a b) refl h k

@@ -7,6 +7,7 @@ use Rattle.std.specs.List.{flat_map}
 use Rattle.std.proofs.lemmas.List.{length-set, length-map, length-drop}
 use Rattle.std.proofs.Math.Seq.{take-append_seam}
 use Rattle.std.proofs.lemmas.Option.{slice_get_within}
+use Rattle.std.proofs.lemmas.Bool.{eqb-true}
 use Rattle.il_ast.specs.declared.operation.Class.{Class}
 use Rattle.il_ast.specs.declared.operation.Class.TheVariants.{W, L}
 use Rattle.il_ast.specs.declared.operation.Size.{Size}
@@ -33,7 +34,7 @@ use Rattle.promote.specs.Uses.{value_mentions, operand_role, extension_size, sam
 use Rattle.promote.specs.declared.mention.Mention.{Mention}
 use Rattle.promote.specs.Promoted.{Widths, storing, loading, extending, promoted, stored_in, taken_from}
 use Rattle.promote.proofs.Choosing.{same_true}
-use Rattle.promote.proofs.Respect.{Respected, respected_first, respected_then, same_number}
+use Rattle.promote.proofs.Respect.{Respected, respected_first, respected_then}
 use Rattle.promote.proofs.Rules.{store_class}
 use Rattle.promote.proofs.Hiding.{Marks, hide, blank, get_set_other, set_hidden, length_hide, fresh_hides, Clean, IfClean, CleanMemory, Extends, fresh_clean}
 use Rattle.promote.proofs.Carrying.{Put, put_there, take_long, take_short, extension_count}
@@ -223,7 +224,7 @@ length_bytes (suc k) n = ap suc (length_bytes k (n / 256))
 
 part_count : (n : ℕ) (b : Bool) (v : Value) (new : List Cell) → nat_eq n 8 ≡ b → cond b (Some (parts v)) None ≡ Some new → length new ≡ n
 part_count n true v new t e =
-    let same : parts v ≡ new = cc in let eight : n ≡ 8 = same_number n 8 t in sym (ap length same) ∙ sym eight
+    let same : parts v ≡ new = cc in let eight : n ≡ 8 = eqb-true n 8 t in sym (ap length same) ∙ sym eight
 part_count n false v new t e = absurd (let no : ⊥ = cc in no)
 
 cells_count : (n : ℕ) (v : Value) (new : List Cell) → cells_for n v ≡ Some new → length new ≡ n
@@ -264,7 +265,7 @@ clean_hidden hs m b x e h d y f g = h d y f (sym (get_set_other m b d x (shown_d
   where
     shown_differs : (t : Bool) → nat_eq d b ≡ t → nat_eq d b ≡ false
     shown_differs false k = k
-    shown_differs true k = let same : slice_get hs d ≡ slice_get hs b = ap (slice_get hs) (same_number d b k) in absurd (let no : ⊥ = cc in no)
+    shown_differs true k = let same : slice_get hs d ≡ slice_get hs b = ap (slice_get hs) (eqb-true d b k) in absurd (let no : ⊥ = cc in no)
 
 kept_new : (c : Setting) (m : Memory) (b : ℕ) (x : Option (List Cell)) → length c.memory ≤ b → KeptHidden c.marks c.memory m → KeptHidden c.marks c.memory (slice_set m b x)
 kept_new c m b x le k d e =

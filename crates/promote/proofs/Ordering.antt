@@ -5,6 +5,7 @@ use Rattle.std.specs.Option.{option_and_then}
 use Rattle.std.specs.List.{list_all, flat_map}
 use Rattle.std.proofs.lemmas.Bool.Decides.{nat_tests}
 use Rattle.std.proofs.lemmas.List.{length-map}
+use Rattle.std.proofs.lemmas.Bool.{lt-ltb}
 use Rattle.il_ast.specs.declared.operation.Size.{Size}
 use Rattle.il_ast.specs.declared.operand.Val.{Val}
 use Rattle.il_ast.specs.declared.operand.Val.TheVariants.{Int, Temp, Global}
@@ -200,9 +201,6 @@ alike_all w f g h (x ∷ xs) = alike_both w (f x) (flat_map f xs) (g x) (flat_ma
 
 -- ---- stores
 
-less_true : (p n : ℕ) → p < n → nat_lt p n ≡ true
-less_true p n h = grind (arith, nat_tests)
-
 self : (p : ℕ) → nat_eq p p ≡ true
 self p = grind (arith, nat_tests)
 
@@ -227,9 +225,9 @@ has_come w n p s size a e f =
 swapped : (n p : ℕ) (a : Val) → p < n → come_after n (p ∷ temps_in_value a) ≡ come_after n (temps_in_value a ++ p ∷ [])
 swapped n p (Int k) lt = refl
 swapped n p (Temp t) lt =
-    ap (λ b. cond b (come_after n (t ∷ [])) (cond (nat_eq p n) (come_after (n + 1) (t ∷ [])) None)) (less_true p n lt)
-    ∙ sym (ap (λ b. cond (nat_lt t n) (cond b (Some n) (cond (nat_eq p n) (Some (n + 1)) None)) (cond (nat_eq t n) (come_after (n + 1) (p ∷ [])) None)) (less_true p n lt)
-    ∙ ap (λ b. cond (nat_lt t n) (Some n) (cond (nat_eq t n) (cond b (Some (n + 1)) (cond (nat_eq p (n + 1)) (Some (n + 1 + 1)) None)) None)) (less_true p (n + 1) (omega arith)))
+    ap (λ b. cond b (come_after n (t ∷ [])) (cond (nat_eq p n) (come_after (n + 1) (t ∷ [])) None)) (lt-ltb p n lt)
+    ∙ sym (ap (λ b. cond (nat_lt t n) (cond b (Some n) (cond (nat_eq p n) (Some (n + 1)) None)) (cond (nat_eq t n) (come_after (n + 1) (p ∷ [])) None)) (lt-ltb p n lt)
+    ∙ ap (λ b. cond (nat_lt t n) (Some n) (cond (nat_eq t n) (cond b (Some (n + 1)) (cond (nat_eq p (n + 1)) (Some (n + 1 + 1)) None)) None)) (lt-ltb p (n + 1) (omega arith)))
 swapped n p (Global g) lt = refl
 
 store_alike : (w : Widths) (size : Size) (a : Val) (p : ℕ) (o : Option Size) → w p ≡ o → Alike w (value_mentions Used a ++ mention (Accessed size) p ∷ []) (temps_in_inst (stored_in o size a p))

@@ -1,8 +1,9 @@
 -- Promoted temporaries are made, and accessed at their width, and nothing else.
-use Rattle.std.proofs.Common.{◌≡◌, ℕ, Bool, true, false, ◌&&◌, nat_eq, cond, List, [], ◌∷◌, ◌++◌, refl, subst, arith}
+use Rattle.std.proofs.Common.{◌≡◌, ℕ, Bool, true, false, ◌&&◌, nat_eq, cond, List, [], ◌∷◌, ◌++◌, subst, arith}
 use Rattle.std.specs.Prelude.{slice_get, zero, suc, Option, Some, None}
 use Rattle.std.specs.List.{list_all, flat_map}
 use Rattle.std.proofs.lemmas.Bool.Decides.{nat_tests}
+use Rattle.std.proofs.lemmas.Bool.{and_parts}
 use Rattle.il_ast.specs.declared.operation.Size.{Size}
 use Rattle.promote.specs.declared.mention.Role.{Role}
 use Rattle.promote.specs.declared.mention.Mention.{Mention}
@@ -21,15 +22,8 @@ Respected w (m ∷ ms) = Suited w m × Respected w ms
 pub self : (p : ℕ) → nat_eq p p ≡ true
 self p = grind (arith, nat_tests)
 
-pub same_number : (a b : ℕ) → nat_eq a b ≡ true → a ≡ b
-same_number a b h = grind (arith, nat_tests)
-
 pub other_number : (a b : ℕ) → nat_eq a b ≡ false → a ≡ b → ⊥
 other_number a b h e = let yes : nat_eq a b ≡ true = grind (arith, nat_tests) in let no : ⊥ = cc in no
-
-pub and_parts : (a b : Bool) → (a && b) ≡ true → (a ≡ true) × (b ≡ true)
-and_parts true b h = (refl, h)
-and_parts false b h = absurd (let no : ⊥ = cc in no)
 
 abbrev Suits : Size → List Role → Type 0
 Suits s rs = list_all (suits s) rs ≡ true

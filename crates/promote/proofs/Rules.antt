@@ -3,6 +3,9 @@ use Rattle.std.proofs.Common.{◌≡◌, ℕ, ◌+◌, ◌*◌, Bool, true, fals
 use Rattle.std.specs.Prelude.{max, nat_lt, Option, Some, None, is_none}
 use Rattle.std.specs.List.{list_all, list_any, flat_map, sum_by, fold}
 use Rattle.std.proofs.Math.Path.{fun_ext}
+use Rattle.std.proofs.lemmas.List.Folds.{list_any-append}
+use Rattle.std.proofs.lemmas.Bool.{not-false, not_from_true, eqb-true}
+use Rattle.il_ast.specs.declared.limits.TheConstants.{FUNCTION_WEIGHT}
 use Rattle.il_ast.specs.declared.operation.Class.{Class}
 use Rattle.il_ast.specs.declared.operation.Class.TheVariants.{W, L}
 use Rattle.il_ast.specs.declared.operation.Size.{Size}
@@ -39,7 +42,7 @@ use Rattle.il_types.specs.Rules.{broken_in_function, has_few_args, is_within}
 use Rattle.promote.specs.declared.mention.Role.TheVariants.{Used}
 use Rattle.promote.specs.Uses.{item_mentions, inst_mentions, end_mentions, phi_mentions, block_mentions, param_mentions, mentions_of}
 use Rattle.promote.specs.Promoted.{Widths, Rewrites, promoted, promoted_line, promoted_block, taken_from, stored_in, storing, loading}
-use Rattle.promote.proofs.Respect.{Suited, Respected, respected_first, respected_then, same_number}
+use Rattle.promote.proofs.Respect.{Suited, Respected, respected_first, respected_then}
 
 -- ---- lists of changed items
 
@@ -202,16 +205,12 @@ or_later : (a b c : Bool) → (a || (b || c)) ≡ ((a || b) || c)
 or_later true b c = refl
 or_later false b c = refl
 
-any_both : {X : Type 0} (p : X → Bool) (xs ys : List X) → list_any p (xs ++ ys) ≡ (list_any p xs || list_any p ys)
-any_both p [] ys = refl
-any_both p (x ∷ xs) ys = ap (λ b. p x || b) (any_both p xs ys) ∙ or_later (p x) (list_any p xs) (list_any p ys)
-
 any_all : {X Y : Type 0} (p : Y → Bool) (f g : X → List Y) → ((x : X) → list_any p (f x) ≡ list_any p (g x)) → (xs : List X) → list_any p (flat_map f xs) ≡ list_any p (flat_map g xs)
 any_all p f g h [] = refl
 any_all p f g h (x ∷ xs) =
-    any_both p (f x) (flat_map f xs)
+    list_any-append p (f x) (flat_map f xs)
     ∙ (ap (λ b. b || list_any p (flat_map f xs)) (h x)
-    ∙ (ap (λ b. list_any p (g x) || b) (any_all p f g h xs) ∙ sym (any_both p (g x) (flat_map g xs))))
+    ∙ (ap (λ b. list_any p (g x) || b) (any_all p f g h xs) ∙ sym (list_any-append p (g x) (flat_map g xs))))
 
 -- a test of definers that no store's destination passes stays as it is
 abbrev Misses : Widths → (Definer → Bool) → Type 0
@@ -250,19 +249,19 @@ flat_after f g (x ∷ xs) = ap (λ ys. g (f x) ++ ys) (flat_after f g xs)
 
 block_any : (w : Widths) (p : Definer → Bool) → Misses w p → (b : Block) → list_any p (block_definers (promoted_block w b)) ≡ list_any p (block_definers b)
 block_any w p h b =
-    any_both p (flat_map phi_definers b.phis) (flat_map inst_definers (map (promoted_line w) b.insts))
+    list_any-append p (flat_map phi_definers b.phis) (flat_map inst_definers (map (promoted_line w) b.insts))
     ∙ (ap (λ x. list_any p (flat_map phi_definers b.phis) || x)
     (ap (list_any p) (flat_after (promoted_line w) inst_definers b.insts)
     ∙ any_all p (λ i. inst_definers (promoted_line w i)) inst_definers (λ i. item_any w p h i.line i.item) b.insts)
-    ∙ sym (any_both p (flat_map phi_definers b.phis) (flat_map inst_definers b.insts)))
+    ∙ sym (list_any-append p (flat_map phi_definers b.phis) (flat_map inst_definers b.insts)))
 
 any_stays : (w : Widths) (p : Definer → Bool) → Misses w p → (params : List Param) (blocks : List Block) → list_any p (definers_in params (map (promoted_block w) blocks)) ≡ list_any p (definers_in params blocks)
 any_stays w p h params blocks =
-    any_both p (flat_map param_definers params) (flat_map block_definers (map (promoted_block w) blocks))
+    list_any-append p (flat_map param_definers params) (flat_map block_definers (map (promoted_block w) blocks))
     ∙ (ap (λ x. list_any p (flat_map param_definers params) || x)
     (ap (list_any p) (flat_after (promoted_block w) block_definers blocks)
     ∙ any_all p (λ b. block_definers (promoted_block w b)) block_definers (block_any w p h) blocks)
-    ∙ sym (any_both p (flat_map param_definers params) (flat_map block_definers blocks)))
+    ∙ sym (list_any-append p (flat_map param_definers params) (flat_map block_definers blocks)))
 
 -- ---- which class a temporary has
 
@@ -279,7 +278,7 @@ word_stays w params blocks t = any_stays w (given W t) (λ line p s e. and_false
 unequal : (w : Widths) (p t : ℕ) (s : Size) (b : Bool) → nat_eq p t ≡ b → w p ≡ Some s → w t ≡ None → (b && true) ≡ false
 unequal w p t s false e h k = refl
 unequal w p t s true e h k =
-    let same : p ≡ t = same_number p t e in let both : w p ≡ w t = ap w same in absurd (let no : ⊥ = cc in no)
+    let same : p ≡ t = eqb-true p t e in let both : w p ≡ w t = ap w same in absurd (let no : ⊥ = cc in no)
 
 plain_misses : (w : Widths) (t : ℕ) → w t ≡ None → Misses w (given L t)
 plain_misses w t k line p s e = unequal w p t s (nat_eq p t) refl e k
@@ -300,9 +299,9 @@ or_implies false b false d h k e = k e
 any_implies : {X Y : Type 0} (p : Y → Bool) (f g : X → List Y) → ((x : X) → Implies (list_any p (f x)) (list_any p (g x))) → (xs : List X) → Implies (list_any p (flat_map f xs)) (list_any p (flat_map g xs))
 any_implies p f g h [] e = e
 any_implies p f g h (x ∷ xs) e =
-    any_both p (g x) (flat_map g xs)
+    list_any-append p (g x) (flat_map g xs)
     ∙ or_implies (list_any p (f x)) (list_any p (flat_map f xs)) (list_any p (g x)) (list_any p (flat_map g xs)) (h x) (any_implies p f g h xs)
-    (sym (any_both p (f x) (flat_map f xs)) ∙ e)
+    (sym (list_any-append p (f x) (flat_map f xs)) ∙ e)
 
 item_implies : (w : Widths) (p : Definer → Bool) (line : ℕ) (i : Inst) → Implies (list_any p (item_definers line i)) (list_any p (item_definers line (promoted w i)))
 item_implies w p line (Unary to op (Int n)) e = e
@@ -316,21 +315,21 @@ item_implies w p line (Call to callee args) e = e
 
 block_implies : (w : Widths) (p : Definer → Bool) (b : Block) → Implies (list_any p (block_definers b)) (list_any p (block_definers (promoted_block w b)))
 block_implies w p b e =
-    any_both p (flat_map phi_definers b.phis) (flat_map inst_definers (map (promoted_line w) b.insts))
+    list_any-append p (flat_map phi_definers b.phis) (flat_map inst_definers (map (promoted_line w) b.insts))
     ∙ or_implies (list_any p (flat_map phi_definers b.phis)) (list_any p (flat_map inst_definers b.insts)) (list_any p (flat_map phi_definers b.phis))
     (list_any p (flat_map inst_definers (map (promoted_line w) b.insts))) (λ h. h)
     (λ h. ap (list_any p) (flat_after (promoted_line w) inst_definers b.insts)
     ∙ any_implies p inst_definers (λ i. inst_definers (promoted_line w i)) (λ i. item_implies w p i.line i.item) b.insts h)
-    (sym (any_both p (flat_map phi_definers b.phis) (flat_map inst_definers b.insts)) ∙ e)
+    (sym (list_any-append p (flat_map phi_definers b.phis) (flat_map inst_definers b.insts)) ∙ e)
 
 given_still : (w : Widths) (p : Definer → Bool) (params : List Param) (blocks : List Block) → Implies (list_any p (definers_in params blocks)) (list_any p (definers_in params (map (promoted_block w) blocks)))
 given_still w p params blocks e =
-    any_both p (flat_map param_definers params) (flat_map block_definers (map (promoted_block w) blocks))
+    list_any-append p (flat_map param_definers params) (flat_map block_definers (map (promoted_block w) blocks))
     ∙ or_implies (list_any p (flat_map param_definers params)) (list_any p (flat_map block_definers blocks)) (list_any p (flat_map param_definers params))
     (list_any p (flat_map block_definers (map (promoted_block w) blocks))) (λ h. h)
     (λ h. ap (list_any p) (flat_after (promoted_block w) block_definers blocks)
     ∙ any_implies p block_definers (λ b. block_definers (promoted_block w b)) (block_implies w p) blocks h)
-    (sym (any_both p (flat_map param_definers params) (flat_map block_definers blocks)) ∙ e)
+    (sym (list_any-append p (flat_map param_definers params) (flat_map block_definers blocks)) ∙ e)
 
 -- ---- operands
 
@@ -415,7 +414,7 @@ Right line i = when (has_wrong_result i) line ≡ None
 not_used : (w : Widths) (p t : ℕ) (s : Size) (c : Class) (b : Bool) → w p ≡ Some s → nat_eq t p ≡ b → Suited w (record { temp = t; role = Used }) → (b && same_class c W) ≡ false
 not_used w p t s c false e h k = refl
 not_used w p t s c true e h k =
-    let same : t ≡ p = same_number t p h in let no : false ≡ true = k s (ap w same ∙ e) in absurd (let never : ⊥ = cc in never)
+    let same : t ≡ p = eqb-true t p h in let no : false ≡ true = k s (ap w same ∙ e) in absurd (let never : ⊥ = cc in never)
 
 one_never : (b : Bool) → b ≡ false → (b || false) ≡ false
 one_never b e = ap (λ x. x || false) e
@@ -437,7 +436,7 @@ item_never w p s line (Call None callee args) e h r = refl
 item_never w p s line (Call (Some to) callee args) e h r = used_never w p s line to e h.0
 
 never_both : (p : Definer → Bool) (xs ys : List Definer) → list_any p xs ≡ false → list_any p ys ≡ false → list_any p (xs ++ ys) ≡ false
-never_both p xs ys h k = any_both p xs ys ∙ (ap (λ b. b || list_any p ys) h ∙ k)
+never_both p xs ys h k = list_any-append p xs ys ∙ (ap (λ b. b || list_any p ys) h ∙ k)
 
 insts_never : (w : Widths) (p : ℕ) (s : Size) (is : List (Lined Inst)) → w p ≡ Some s → Respected w (flat_map inst_mentions is) → first (λ (i : Lined Inst). when (has_wrong_result i.item) i.line) is ≡ None → list_any (given W p) (flat_map inst_definers is) ≡ false
 insts_never w p s [] e h r = refl
@@ -483,7 +482,7 @@ never_word w f p s h r e =
 -- what is said of each definer's temporary holds of a temporary that is given
 at_given_one : (bad : ℕ → Bool) (c : Class) (t : ℕ) (d : Definer) (ds : List Definer) (b k : Bool) → nat_eq d.temp t ≡ b → same_class d.class c ≡ k → when (bad d.temp) d.line ≡ None → (is_given c t ds ≡ true → bad t ≡ false) → ((b && k) || is_given c t ds) ≡ true → bad t ≡ false
 at_given_one bad c t d ds true true e f none h is =
-    let same : d.temp ≡ t = same_number d.temp t e in ap bad (sym same) ∙ when_false (bad d.temp) d.line none
+    let same : d.temp ≡ t = eqb-true d.temp t e in ap bad (sym same) ∙ when_false (bad d.temp) d.line none
 at_given_one bad c t d ds true false e f none h is = h is
 at_given_one bad c t d ds false k e f none h is = h is
 
@@ -643,13 +642,6 @@ returns_none w p q h (b ∷ bs) e =
     let parts = none_parts (returned_breaks p b.jump) (in_returns p bs) e in
     none_both (returned_breaks q b.jump) (in_returns q (map (promoted_block w) bs)) (returned_none p q h b.jump parts.0) (returns_none w p q h bs parts.1)
 
-not_not : (b : Bool) → not b ≡ false → b ≡ true
-not_not true e = refl
-not_not false e = absurd (let no : ⊥ = cc in no)
-
-not_true : (b : Bool) → b ≡ true → not b ≡ false
-not_true b e = ap not e
-
 -- ---- each rule
 
 definers_are : (w : Widths) (f g : Func) → Rewrites w f g → definers_of g ≡ definers_in f.params (map (promoted_block w) f.blocks)
@@ -693,8 +685,8 @@ misfit_follows w f g r o e = ap (λ b. when (not b) o.line) (fits_in w f g r o.c
 undefined_follows : (w : Widths) (f g : Func) → Rewrites w f g → Follows (undefined_at (definers_of f)) (undefined_at (definers_of g))
 undefined_follows w f g r o e =
     when_none (not (is_defined (definers_of g) o.value)) o.line
-    (not_true (is_defined (definers_of g) o.value)
-    (defined_still w f g r o.value (not_not (is_defined (definers_of f) o.value) (when_false (not (is_defined (definers_of f) o.value)) o.line e))))
+    (not_from_true (is_defined (definers_of g) o.value)
+    (defined_still w f g r o.value (not-false (is_defined (definers_of f) o.value) (when_false (not (is_defined (definers_of f) o.value)) o.line e))))
 
 in_blocks : (w : Widths) (f g : Func) (p q : Operand → Option ℕ) → Rewrites w f g → Follows p q → Passes q → first p (operands_of f) ≡ None → first q (operands_of g) ≡ None
 in_blocks w f g p q r h k e = ap (λ bs. first q (flat_map block_operands bs)) r.blocks ∙ operands_none w p q h k f.blocks e
@@ -719,7 +711,7 @@ undefined_stays w f g r e =
     (in_blocks w f g (undefined_at (definers_of f)) (undefined_at (definers_of g)) r (undefined_follows w f g r) (undefined_narrow (definers_of g)) parts.0)
     (ap (in_returns (λ a. not (is_defined (definers_of g) a))) r.blocks
     ∙ returns_none w (λ a. not (is_defined (definers_of f) a)) (λ a. not (is_defined (definers_of g) a))
-    (λ a k. not_true (is_defined (definers_of g) a) (defined_still w f g r a (not_not (is_defined (definers_of f) a) k))) f.blocks parts.1)
+    (λ a k. not_from_true (is_defined (definers_of g) a) (defined_still w f g r a (not-false (is_defined (definers_of f) a) k))) f.blocks parts.1)
 
 two_types_stay : (w : Widths) (f g : Func) → Rewrites w f g → Respected w (mentions_of f) → two_types f ≡ None → misplaced f ≡ None → two_types g ≡ None
 two_types_stay w f g r h e mis =
@@ -765,7 +757,7 @@ few_args_stay w =
     (λ i. stays w has_few_args (λ size a at p to op op2. (refl, refl)) i.item) b.insts)
 
 abbrev within : (weight temps params area : ℕ) → Bool → Bool
-within heavy temps params area few = nat_le heavy 40000 && (nat_le temps 4000 && (nat_le params 64 && (nat_le area 1048576 && few)))
+within heavy temps params area few = nat_le heavy FUNCTION_WEIGHT && (nat_le temps 4000 && (nat_le params 64 && (nat_le area 1048576 && few)))
 
 pub limits_stay : (w : Widths) (f g : Func) → Rewrites w f g → is_within g ≡ is_within f
 limits_stay w f g r =

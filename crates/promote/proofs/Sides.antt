@@ -5,6 +5,7 @@ use Rattle.std.specs.Option.{option_and_then}
 use Rattle.std.proofs.lemmas.Bool.Decides.{nat_tests}
 use Rattle.std.proofs.lemmas.List.{length-set}
 use Rattle.std.proofs.lemmas.Option.{slice_get_within}
+use Rattle.std.proofs.lemmas.Bool.{eqb-true}
 use Rattle.il_ast.specs.declared.operation.Size.{Size}
 use Rattle.il_ast.specs.declared.operation.Size.TheVariants.{Byte, Half, Word, Long}
 use Rattle.il_ast.specs.declared.value.Value.{Value}
@@ -14,7 +15,7 @@ use Rattle.il_ast.specs.declared.value.Cell.TheVariants.{Blank}
 use Rattle.il_ast.specs.Values.{byte_count}
 use Rattle.il_ast.specs.Memory.{Memory, cells_for, value_of, span, fresh}
 use Rattle.promote.specs.Promoted.{Widths}
-use Rattle.promote.proofs.Respect.{same_number, other_number, self}
+use Rattle.promote.proofs.Respect.{other_number, self}
 use Rattle.promote.proofs.Hiding.{Marks, Clean, IfClean, Extends, clean_later, get_set_other, get_set_same, get_set}
 
 -- the value was put there, and the block begins with its cells
@@ -98,7 +99,7 @@ set_alike (z ∷ zs) (y ∷ ys) (suc i) (suc j) x n e = set_alike zs ys i j x (o
 
 differs_by : (w : Widths) (r t : ℕ) (s : Size) (b : Bool) → nat_eq r t ≡ b → w r ≡ Some s → w t ≡ None → b ≡ false
 differs_by w r t s false e h k = refl
-differs_by w r t s true e h k = let same : w r ≡ w t = ap w (same_number r t e) in absurd (let no : ⊥ = cc in no)
+differs_by w r t s true e h k = let same : w r ≡ w t = ap w (eqb-true r t e) in absurd (let no : ⊥ = cc in no)
 
 pub differs : (w : Widths) (r t : ℕ) (s : Size) → w r ≡ Some s → w t ≡ None → nat_eq r t ≡ false
 differs w r t s h k = differs_by w r t s (nat_eq r t) refl h k
@@ -180,14 +181,14 @@ number_cases a b = bool_cases (nat_eq a b)
 get_set_new : {X : Type 0} (xs : List X) (i j : ℕ) (x y : X) → nat_eq j i ≡ true → slice_get (slice_set xs i x) j ≡ Some y → (x ≡ y) × (j < length xs)
 get_set_new [] i j x y t e = absurd (let no : ⊥ = cc in no)
 get_set_new (z ∷ zs) zero zero x y t e = (cc, omega arith)
-get_set_new (z ∷ zs) zero (suc j) x y t e = absurd (let same : suc j ≡ zero = same_number (suc j) zero t in omega arith)
-get_set_new (z ∷ zs) (suc i) zero x y t e = absurd (let same : zero ≡ suc i = same_number zero (suc i) t in omega arith)
+get_set_new (z ∷ zs) zero (suc j) x y t e = absurd (let same : suc j ≡ zero = eqb-true (suc j) zero t in omega arith)
+get_set_new (z ∷ zs) (suc i) zero x y t e = absurd (let same : zero ≡ suc i = eqb-true zero (suc i) t in omega arith)
 get_set_new (z ∷ zs) (suc i) (suc j) x y t e =
     let r = get_set_new zs i j x y (let f : nat_eq j i ≡ true = grind (arith, nat_tests) in f) e in let lt = r.1 in (r.0, omega arith)
 
 flipped_by : (w : Widths) (r t : ℕ) (s : Size) (b : Bool) → nat_eq r t ≡ b → w r ≡ None → w t ≡ Some s → b ≡ false
 flipped_by w r t s false e h k = refl
-flipped_by w r t s true e h k = let same : w r ≡ w t = ap w (same_number r t e) in absurd (let no : ⊥ = cc in no)
+flipped_by w r t s true e h k = let same : w r ≡ w t = ap w (eqb-true r t e) in absurd (let no : ⊥ = cc in no)
 
 flipped : (w : Widths) (r t : ℕ) (s : Size) → w r ≡ None → w t ≡ Some s → nat_eq r t ≡ false
 flipped w r t s h k = flipped_by w r t s (nat_eq r t) refl h k
@@ -212,7 +213,7 @@ held_alloc w hs first m ts us t n s q l low y r z p f e (inr other) =
     (y.held r q z f (sym (get_set_other ts t r (Some (Pointer (length m) 0)) other) ∙ e))
 
 apart_alloc : (w : Widths) (ts : List (Option Value)) (t : ℕ) (v : Value) → ((t r : ℕ) (s q : Size) (v : Value) → w t ≡ Some s → w r ≡ Some q → slice_get ts t ≡ Some (Some v) → slice_get ts r ≡ Some (Some v) → t ≡ r) → ((r : ℕ) (q : Size) → w r ≡ Some q → slice_get ts r ≡ Some (Some v) → ⊥) → (a b : ℕ) (q k : Size) (z : Value) → w a ≡ Some q → w b ≡ Some k → slice_get (slice_set ts t (Some v)) a ≡ Some (Some z) → slice_get (slice_set ts t (Some v)) b ≡ Some (Some z) → (nat_eq a t ≡ true) ⊎ (nat_eq a t ≡ false) → (nat_eq b t ≡ true) ⊎ (nat_eq b t ≡ false) → a ≡ b
-apart_alloc w ts t v old none a b q k z f g e h (inl one) (inl two) = same_number a t one ∙ sym (same_number b t two)
+apart_alloc w ts t v old none a b q k z f g e h (inl one) (inl two) = eqb-true a t one ∙ sym (eqb-true b t two)
 apart_alloc w ts t v old none a b q k z f g e h (inl one) (inr two) =
     let is = (get_set_new ts t a (Some v) (Some z) one e).0 in
     absurd (none b k g (sym (get_set_other ts t b (Some v) two) ∙ (h ∙ ap (λ o. Some o) (sym is))))
@@ -242,7 +243,7 @@ sides_alloc w hs first m ts us t n s p l low x =
 held_store : (w : Widths) (hs : Marks) (first : ℕ) (m : Memory) (ts us : List (Option Value)) (p b : ℕ) (s : Size) (cells : List Cell) (x : Value) → w p ≡ Some s → slice_get ts p ≡ Some (Some (Pointer b 0)) → Shows hs s cells (Some (Some x)) → Sides w hs first m ts us → (r : ℕ) (q : Size) (y : Option Value) → w r ≡ Some q → slice_get ts r ≡ Some y → (nat_eq r p ≡ true) ⊎ (nat_eq r p ≡ false) → IfHeld hs first m q y (slice_get us r) → IfHeld hs first (slice_set m b (Some cells)) q y (slice_get (slice_set us p (Some x)) r)
 held_store w hs first m ts us p b s cells x f at shows sides r q None g e which h = tt
 held_store w hs first m ts us p b s cells x f at shows sides r q (Some v) g e (inl one) h =
-    let is : r ≡ p = same_number r p one in
+    let is : r ≡ p = eqb-true r p one in
     let here : slice_get ts r ≡ Some (Some (Pointer b 0)) = ap (slice_get ts) is ∙ at in
     let v_is : v ≡ Pointer b 0 = cc in
     let block_is : Pointer h.block 0 ≡ Pointer b 0 = sym h.is ∙ v_is in
@@ -275,7 +276,7 @@ held_store w hs first m ts us p b s cells x f at shows sides r q (Some v) g e (i
     blocks_apart : (t : Bool) → nat_eq h.block b ≡ t → nat_eq h.block b ≡ false
     blocks_apart false k = k
     blocks_apart true k =
-        let one : h.block ≡ b = same_number h.block b k in
+        let one : h.block ≡ b = eqb-true h.block b k in
         let v_is : v ≡ Pointer b 0 = h.is ∙ ap (λ n. Pointer n 0) one in
         let here : slice_get ts r ≡ Some (Some (Pointer b 0)) = e ∙ ap (λ z. Some (Some z)) v_is in
         absurd (other_number r p other (sides.apart r p q s (Pointer b 0) g f here at))

@@ -26,7 +26,8 @@ use Rattle.vcode.specs.Regular.{is_target, leads_inside}
 use Rattle.vcode.specs.Replaced.{with_base, with_argument, with_returned, with_comparison}
 use Rattle.vcode.proofs.Replacing.{args_count, args_low}
 use Rattle.vcode.proofs.Measuring.{measure, Measured, Empty, Put, still_affords, within_tested, Each, NoBlocks, OneMore}
-use Rattle.vcode.proofs.Results.{with_these, Serves, Owed, owed_each}
+use Rattle.vcode.specs.Becomes.{with_these}
+use Rattle.vcode.proofs.Results.{Serves, Owed, owed_each}
 use Rattle.propagation.specs.declared.fact.Fact.{Fact}
 use Rattle.propagation.specs.declared.fact.Fact.TheVariants.{Same, Sum, Test}
 use Rattle.propagation.specs.Facts.{Facts, operand_below, fact_below, kept_if, AreBelow}

@@ -1,7 +1,7 @@
 -- Code that is put by what is known follows the code, in the same states, in which all that is known is true.
 use Rattle.std.proofs.Common.{◌≡◌, ℕ, zero, suc, ◌+◌, ◌%◌, ◌^◌, ◌<◌, Bool, true, false, not, ◌&&◌, ◌||◌, nat_eq, nat_lt, if◌then◌else◌, List, [], ◌∷◌, Option, Some, None, slice_get, refl, sym, ◌∙◌, ap, subst, arith}
 use Rattle.std.specs.Option.{option_map, option_and_then, option_map_or}
-use Rattle.std.proofs.lemmas.Bool.{and_parts}
+use Rattle.std.proofs.lemmas.Bool.{and_parts, not-true, or_parts}
 use Rattle.std.proofs.lemmas.Bool.Decides.{nat_tests}
 use Rattle.std.proofs.lemmas.Int.{ints}
 use Rattle.il_ast.specs.declared.operation.Class.{Class}
@@ -165,10 +165,6 @@ base_same : (globals : List Value) (s : State ℕ) (f : Replacing) → ((a : Ope
 base_same globals s f same at =
     ap (λ (x : Option Value). if nat_eq (distance at) 0 then x else operated s.memory (Reg Add) x (value_of globals s.values (Number (distance at)))) (same at.base)
 
-not_true_is : (b : Bool) → not b ≡ true → b ≡ false
-not_true_is true h = cc
-not_true_is false h = refl
-
 low_is : (d : ℕ) → d < 2 ^ 64 → is_immediate d ≡ true → widened (low d).value ≡ d
 low_is d small h = grind (arith, ints, nat_tests)
 
@@ -211,7 +207,7 @@ further_same globals s at r e (Some (Sum (At b) n)) h = by (not (nat_eq d 0) && 
     by true g =
         let parts = and_parts (not (nat_eq d 0)) (is_immediate d) g in
         ap (reached s.memory (s.values b)) (low_is d small parts.1)
-        ∙ (reached_by s.memory (s.values b) d (nat_eq d 0) refl (not_true_is (nat_eq d 0) parts.0)
+        ∙ (reached_by s.memory (s.values b) d (nat_eq d 0) refl (not-true (nat_eq d 0) parts.0)
         ∙ (sym (sum_reached s.memory (s.values b) n (distance at))
         ∙ ap (λ (x : Option Value). reached s.memory x (distance at)) (sym (h (Sum (At b) n) refl) ∙ sym (ap (value_of globals s.values) e))))
 
@@ -455,10 +451,6 @@ still globals ev to o (Name g) h = refl
 is_same : (r : ℕ) → nat_eq r r ≡ true
 is_same r = grind (arith, nat_tests)
 
-first_false : (a b : Bool) → (a || b) ≡ false → (a ≡ false) × (b ≡ false)
-first_false true b h = cc
-first_false false b h = (refl, h)
-
 set_true : (globals : List Value) (s : State ℕ) (to : ℕ) (a : Operand ℕ) (r : ℕ) (f : Fact) → nat_eq to r ≡ true → Some (Same a) ≡ Some f → ((k : ℕ) → nat_eq to k ≡ true → fact_names f k ≡ false)
     → Truth globals (record s { values = assign virtual to (value_of globals s.values a) s.values }) r f
 set_true globals s to a r f w h names =
@@ -474,7 +466,7 @@ compared_true : (globals : List Value) (s : State ℕ) (to : ℕ) (c : Compariso
     → ((k : ℕ) → nat_eq to k ≡ true → fact_names f k ≡ false) → Truth globals (record s { values = assign virtual to (compared globals s c) s.values }) r f
 compared_true globals s to c r f w h names =
     let is : Test c ≡ f = some_fact (Test c) f h in
-    let unnamed = first_false (names_it c.left to) (names_it c.right to) (ap (λ (x : Fact). fact_names x to) is ∙ names to (is_same to)) in
+    let unnamed = or_parts (names_it c.left to) (names_it c.right to) (ap (λ (x : Fact). fact_names x to) is ∙ names to (is_same to)) in
     let o = compared globals s c in
     let ev : Values ℕ = assign virtual to o s.values in
     let same : compared globals (record s { values = ev }) c ≡ o =
@@ -575,8 +567,8 @@ truth_kept : (globals : List Value) (m : Line ℕ) (s u : State ℕ) → Moved g
 truth_kept globals m s u moved r (Same a) w names asks h = moved.values r w ∙ h ∙ sym (value_kept globals m s u moved a names)
 truth_kept globals m s u moved r (Sum a n) w names asks h = moved.values r w ∙ (h ∙ sym (ap (λ (x : Option Value). summed x n) (value_kept globals m s u moved a names)))
 truth_kept globals m s u moved r (Test c) w names asks h =
-    let left = value_kept globals m s u moved c.left (λ k e. (first_false (names_it c.left k) (names_it c.right k) (names k e)).0) in
-    let right = value_kept globals m s u moved c.right (λ k e. (first_false (names_it c.left k) (names_it c.right k) (names k e)).1) in
+    let left = value_kept globals m s u moved c.left (λ k e. (or_parts (names_it c.left k) (names_it c.right k) (names k e)).0) in
+    let right = value_kept globals m s u moved c.right (λ k e. (or_parts (names_it c.left k) (names_it c.right k) (names k e)).1) in
     moved.values r w ∙ h
     ∙ sym (ap (λ (x : Memory). option_and_then (λ a. option_and_then (λ b. operate x (Compare c.condition c.class) a b) (value_of globals u.values c.right)) (value_of globals u.values c.left)) (asks refl)
     ∙ ap (λ (x : Option Value). option_and_then (λ a. option_and_then (λ b. operate s.memory (Compare c.condition c.class) a b) x) (value_of globals u.values c.left)) right
@@ -599,14 +591,6 @@ passed_of n l fs r f (Some g) e h = by (nat_lt r n && (fact_below n g && leaves 
 passed : (n : ℕ) (l : Line ℕ) (fs : Facts) (r : ℕ) (f : Fact) → after n l fs r ≡ Some f → Passed n l fs r f
 passed n l fs r f h = passed_of n l fs r f (if writes_it l r then fact_of l else fs r) refl h
 
-both_of : (a b : Bool) → (a && b) ≡ true → (a ≡ true) × (b ≡ true)
-both_of true b h = (refl, h)
-both_of false b h = cc
-
-not_true : (b : Bool) → not b ≡ true → b ≡ false
-not_true true h = cc
-not_true false h = refl
-
 names_none : (o : Option ℕ) (f : Fact) → option_map_or (fact_names f) o false ≡ false → (k : ℕ) → option_map_or (λ q. nat_eq q k) o false ≡ true → fact_names f k ≡ false
 names_none None f h k e = cc
 names_none (Some q) f h k e = let same : q ≡ k = grind (arith, nat_tests) in ap (fact_names f) (sym same) ∙ h
@@ -618,20 +602,20 @@ true_after globals n m s u old moved all r f h = by (writes_it m r) refl p.from
     p = passed n m old r f h
 
     tests : (fact_below n f ≡ true) × (leaves m f ≡ true)
-    tests = both_of (fact_below n f) (leaves m f) (both_of (nat_lt r n) (fact_below n f && leaves m f) p.test).1
+    tests = and_parts (fact_below n f) (leaves m f) (and_parts (nat_lt r n) (fact_below n f && leaves m f) p.test).1
 
     left : (not (option_map_or (fact_names f) (line_writes m) false) ≡ true) × (not (changes_memory m && asks_memory f) ≡ true)
-    left = both_of (not (option_map_or (fact_names f) (line_writes m) false)) (not (changes_memory m && asks_memory f)) tests.1
+    left = and_parts (not (option_map_or (fact_names f) (line_writes m) false)) (not (changes_memory m && asks_memory f)) tests.1
 
     names : (k : ℕ) → writes_it m k ≡ true → fact_names f k ≡ false
-    names = names_none (line_writes m) f (not_true (option_map_or (fact_names f) (line_writes m) false) left.0)
+    names = names_none (line_writes m) f (not-true (option_map_or (fact_names f) (line_writes m) false) left.0)
 
     memory_kept : (b : Bool) → changes_memory m ≡ b → (b && asks_memory f) ≡ false → asks_memory f ≡ true → u.memory ≡ s.memory
     memory_kept true e g asks = cc
     memory_kept false e g asks = moved.memory e
 
     kept : asks_memory f ≡ true → u.memory ≡ s.memory
-    kept = memory_kept (changes_memory m) refl (not_true (changes_memory m && asks_memory f) left.1)
+    kept = memory_kept (changes_memory m) refl (not-true (changes_memory m && asks_memory f) left.1)
 
     by : (b : Bool) → writes_it m r ≡ b → (if b then fact_of m else old r) ≡ Some f → Truth globals u r f
     by true e g = moved.fact r f e g names

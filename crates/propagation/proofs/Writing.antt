@@ -3,6 +3,7 @@ use Rattle.std.proofs.Common.{◌≡◌, ℕ, ◌<◌, ◌≤◌, Bool, true, fa
 use Rattle.std.specs.Option.{option_map, option_map_or}
 use Rattle.std.proofs.lemmas.Bool.{and_parts, and_from}
 use Rattle.std.proofs.lemmas.Bool.Decides.{nat_tests}
+use Rattle.std.proofs.lemmas.Option.{slice_get_past}
 use Rattle.vcode.specs.declared.place.Operand.{Operand}
 use Rattle.vcode.specs.declared.place.Operand.TheVariants.{At, Number, Name}
 use Rattle.propagation.specs.declared.fact.Fact.{Fact}
@@ -31,17 +32,12 @@ get_set [] i x low = absurd (omega (arith, low))
 get_set (y ∷ ys) zero x low = refl
 get_set (y ∷ ys) (suc i) x low = get_set ys i x (omega (arith, low))
 
-get_past : {X : Type 0} (xs : List X) (i : ℕ) → length xs ≤ i → slice_get xs i ≡ None
-get_past [] i h = refl
-get_past (y ∷ ys) zero h = absurd (omega (arith, h))
-get_past (y ∷ ys) (suc i) h = get_past ys i (omega (arith, h))
-
 get_same : {X : Type 0} (xs : List X) (i : ℕ) (x : X) → slice_get (slice_set xs i x) i ≡ (if nat_lt i (length xs) then Some x else None)
 get_same xs i x = by (nat_lt i (length xs)) refl
   where
     by : (b : Bool) → nat_lt i (length xs) ≡ b → slice_get (slice_set xs i x) i ≡ (if b then Some x else None)
     by true e = get_set xs i x (grind (arith, nat_tests))
-    by false e = get_past (slice_set xs i x) i (let many = set_length xs i x in let past : length xs ≤ i = grind (arith, nat_tests) in omega (arith, many, past))
+    by false e = slice_get_past (slice_set xs i x) i (let many = set_length xs i x in let past : length xs ≤ i = grind (arith, nat_tests) in omega (arith, many, past))
 
 get_other : {X : Type 0} (xs : List X) (i j : ℕ) (x : X) → nat_eq j i ≡ false → slice_get (slice_set xs i x) j ≡ slice_get xs j
 get_other [] i j x e = refl

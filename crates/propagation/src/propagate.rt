@@ -14,7 +14,7 @@ use crate::table::FactTable;
 use cfg_live::uses::line_writes;
 use il_ast::list::Seq;
 use std::alloc::{AllocError, Global};
-use vcode::code::{Block, Code};
+use vcode::code::Block;
 use vcode::function::VFunc;
 use vcode::line::{Comparison, Line, Operation};
 use vcode::place::{Destination, Operand};
@@ -159,15 +159,8 @@ pub fn propagate(alloc: Global, function: &VFunc) -> Result<VFunc, AllocError>
     ensures kept { IfOk result (λ w. Keeps (virtual_code function.now) (virtual_code w)) }
     ensures forwarded { IfOk result (λ w. IsForwardedFrom function.now w) }
 {
-    let params = function.code.params.try_clone(alloc)?;
     let mut table = FactTable::new(alloc, function.registers)?;
     let blocks = forwarded_blocks(alloc, &mut table, function.code.blocks.as_slice())?;
-    Ok(VFunc {
-        code: Code {
-            result: function.code.result,
-            params,
-            blocks,
-        },
-        registers: function.registers,
-    })
+    let made = function.with_blocks(alloc, function.registers, blocks)?;
+    Ok(made)
 }

@@ -90,7 +90,7 @@ pub fn virtual_code_of(alloc: Global, func: &Func) -> Result<VFunc, AllocError>
     let again = propagate(alloc, &reused)?;
     let live = remove_dead_code(alloc, &again)?;
     let read = read_copies(alloc, &live)?;
-    let held = hoist_constants(alloc, &read)?;
+    let held = hoist_constants(alloc, read)?;
     let ordered = order_blocks(alloc, &held)?;
     Ok(ordered)
 }

@@ -3,6 +3,7 @@ use Rattle.std.proofs.Common.{◌≡◌, ℕ, Bool, true, false, not, ◌&&◌, 
 use Rattle.std.specs.Prelude.{filter}
 use Rattle.std.specs.Option.{option_map}
 use Rattle.std.proofs.lemmas.Option.{slice_get-map}
+use Rattle.std.proofs.lemmas.Bool.{eqb-true}
 use Rattle.il_ast.specs.declared.value.Value.{Value}
 use Rattle.il_ast.specs.Memory.{Memory}
 use Rattle.il_ast.specs.Keeps.{KeepsCode}
@@ -24,7 +25,7 @@ use Rattle.vcode.specs.Rewrites.{Rewrites}
 use Rattle.vcode.specs.Facts.{Facts, claimed}
 use Rattle.vcode.proofs.SameReads.{SameValue}
 use Rattle.vcode.proofs.SameActs.{reads_every, jump_reads_every, act_same, way_same, writes_stay}
-use Rattle.vcode.proofs.Writing.{is_written, turned, same_number, unwritten, now_holds}
+use Rattle.vcode.proofs.Writing.{is_written, turned, unwritten, now_holds}
 use Rattle.vcode.proofs.Factual.{fact_line, Claimed, fact_jump, facts_rewrite}
 use Rattle.vcode.proofs.Rewriting.{rewrites_keep}
 use Rattle.read_copies.specs.declared.known.KnownCopy.{KnownCopy}
@@ -41,7 +42,7 @@ abbrev known : Facts
 known = record { Known = List KnownCopy; hold = λ copies globals memory ev. AreTrue ev copies; at_start = λ k. [] }
 
 first_same : (ev : Values ℕ) (c : KnownCopy) (r q : ℕ) → ev c.copy ≡ ev c.source → ev q ≡ ev r → (b : Bool) → nat_eq c.source r ≡ b → ev (if b then c.copy else q) ≡ ev r
-first_same ev c r q h rest true e = h ∙ ap ev (same_number c.source r e)
+first_same ev c r q h rest true e = h ∙ ap ev (eqb-true c.source r e)
 first_same ev c r q h rest false e = rest
 
 copy_same : (ev : Values ℕ) (copies : List KnownCopy) → AreTrue ev copies → (r : ℕ) → ev (copy_of copies r) ≡ ev r

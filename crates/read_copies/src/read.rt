@@ -7,7 +7,7 @@ ghost use Rattle.read_copies.specs.Copied.{reading_lines, known_behind, reading_
 use crate::known::KnownCopies;
 use il_ast::list::Seq;
 use std::alloc::{AllocError, Global};
-use vcode::code::{Block, Code};
+use vcode::code::Block;
 use vcode::function::VFunc;
 use vcode::line::Line;
 use vcode::replace::{jump, line};
@@ -59,14 +59,7 @@ pub fn read_copies(alloc: Global, function: &VFunc) -> Result<VFunc, AllocError>
     ensures code { IfOk result (λ w. w.code ≡ reading_copies function.now.code) }
     ensures registers { IfOk result (λ w. w.registers ≡ function.now.registers) }
 {
-    let params = function.code.params.try_clone(alloc)?;
     let blocks = blocks(alloc, function.code.blocks.as_slice())?;
-    Ok(VFunc {
-        code: Code {
-            result: function.code.result,
-            params,
-            blocks,
-        },
-        registers: function.registers,
-    })
+    let made = function.with_blocks(alloc, function.registers, blocks)?;
+    Ok(made)
 }

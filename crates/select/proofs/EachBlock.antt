@@ -4,6 +4,7 @@ use Rattle.std.specs.Prelude.{Option, Some, None}
 use Rattle.std.specs.List.{list_all, list_any, flat_map, position_from}
 use Rattle.std.proofs.lemmas.Iterator.Adapters.{position_from-zero}
 use Rattle.std.proofs.lemmas.List.{length-append}
+use Rattle.std.proofs.lemmas.Bool.{not-false}
 use Rattle.il_ast.specs.declared.operand.Val.{Val}
 use Rattle.il_ast.specs.declared.instruction.Jump.{Jump}
 use Rattle.il_ast.specs.declared.instruction.Jump.TheVariants.{Goto, Branch, Return, Halt}
@@ -24,7 +25,7 @@ use Rattle.phi_copies.specs.Lowered.{target, Edge, edge_with, edge, jump_edges, 
 use Rattle.vcode.specs.declared.code.Block.{Block as VirtualBlock}
 use Rattle.select.specs.Selected.{block_of, edge_of, blocks_of}
 use Rattle.select.specs.Typed.{Classes}
-use Rattle.select.proofs.Typing.{Among, among_left, among_right, neither_first, not_broken, none_among, not_false}
+use Rattle.select.proofs.Typing.{Among, among_left, among_right, neither_first, not_broken, none_among}
 
 -- ---- blocks, and the edges behind them
 
@@ -181,7 +182,7 @@ is_target f good b j l line a jump site =
     let known = none_among (λ (x : Site). when (not (is_label f.blocks x.number)) x.line) (targets_of f) s
     (neither_first (first (λ (x : Site). when (not (is_label f.blocks x.number)) x.line) (targets_of f)) (first (λ (x : Site). when (not (is_label f.blocks x.number)) x.line) (sources_of f)) (good.rules KnownLabels)) here in
     let entry = none_among (λ (x : Site). when (is_entry f.blocks x.number) x.line) (targets_of f) s (good.rules EntryNotTarget) here in
-    target_found f f.blocks l refl (not_false (is_label f.blocks l) (not_broken (not (is_label f.blocks l)) line known)) (not_broken (is_entry f.blocks l) line entry)
+    target_found f f.blocks l refl (not-false (is_label f.blocks l) (not_broken (not (is_label f.blocks l)) line known)) (not_broken (is_entry f.blocks l) line entry)
   where
     flat : (bs : List Block) → Among b bs → Among (record { line = line; number = l }) (flat_map block_targets bs)
     flat [] h = absurd h

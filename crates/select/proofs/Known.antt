@@ -3,6 +3,7 @@ use Rattle.std.proofs.Common.{◌≡◌, ℕ, ◌+◌, ◌<◌, Bool, true, not,
 use Rattle.std.specs.Prelude.{Option, Some, None}
 use Rattle.std.specs.List.{list_all, flat_map}
 use Rattle.std.proofs.lemmas.Bool.Decides.{nat_tests}
+use Rattle.std.proofs.lemmas.Bool.{not-false, or_cases, and_from}
 use Rattle.il_ast.specs.declared.operation.Class.{Class}
 use Rattle.il_ast.specs.declared.operation.Class.TheVariants.{W, L}
 use Rattle.il_ast.specs.declared.operation.Condition.{Condition}
@@ -41,10 +42,10 @@ use Rattle.vcode.specs.declared.line.Comparison.{Comparison}
 use Rattle.vcode.specs.Named.{operand_keeps, line_keeps, jump_keeps, block_keeps, keeps_places, is_below}
 use Rattle.select.specs.Selected.{are_whole, word, words_compared, comparison_of, operand_of, argument_of, inst_lines, turn_lines, all_lines, copy_lines, assignment_lines, ending_lines, jump_of, block_of, edge_of, blocks_of, parameter_of, selected, binary_lines}
 use Rattle.select.specs.Typed.{Classes}
-use Rattle.select.proofs.Typing.{Among, among_left, among_right, neither_first, neither_second, not_broken, none_among, not_false, either_true, assigned_own}
+use Rattle.select.proofs.Typing.{Among, among_left, among_right, neither_first, neither_second, not_broken, none_among, assigned_own}
 use Rattle.select.proofs.LoweredTyping.{own_temps, param_among}
 use Rattle.select.proofs.EachBlock.{blocks_all, edges_all, all_both}
-use Rattle.select.proofs.UsedPlaces.{AllKeep, copy_sets, unary_sets, binary_sets, sets_keep, and_both}
+use Rattle.select.proofs.UsedPlaces.{AllKeep, copy_sets, unary_sets, binary_sets, sets_keep}
 
 -- how many registers there are: one for each temporary, and one for each phi
 abbrev pub registers : Func → ℕ
@@ -64,7 +65,7 @@ own_below f n h = below f n (omega (arith, h))
 defined_keeps : (f : Func) (a : Val) → is_defined (definers_of f) a ≡ true → operand_keeps (Below f) (operand_of a) ≡ true
 defined_keeps f (Int n) h = refl
 defined_keeps f (Global g) h = refl
-defined_keeps f (Temp t) h = by (either_true (is_given W t (definers_of f)) (is_given L t (definers_of f)) h)
+defined_keeps f (Temp t) h = by (or_cases (is_given W t (definers_of f)) (is_given L t (definers_of f)) h)
   where
     by : (is_given W t (definers_of f) ≡ true) ⊎ (is_given L t (definers_of f) ≡ true) → Below f t ≡ true
     by (inl e) = own_below f t (assigned_own f (own_temps f) W t e)
@@ -74,7 +75,7 @@ reading_keeps : (f : Func) → IsGoodFunction f → (o : Reading) → Among o (o
 reading_keeps f good o a =
     let all = neither_first (first (λ (x : Reading). when (not (is_defined (definers_of f) x.value)) x.line) (operands_of f)) (in_returns (λ v. not (is_defined (definers_of f) v)) f.blocks) (good.rules DefinedTemporaries) in
     defined_keeps f o.value
-    (not_false (is_defined (definers_of f) o.value) (not_broken (not (is_defined (definers_of f) o.value)) o.line (none_among (λ (x : Reading). when (not (is_defined (definers_of f) x.value)) x.line) (operands_of f) o all a)))
+    (not-false (is_defined (definers_of f) o.value) (not_broken (not (is_defined (definers_of f) o.value)) o.line (none_among (λ (x : Reading). when (not (is_defined (definers_of f) x.value)) x.line) (operands_of f) o all a)))
 
 -- ---- instructions
 
@@ -95,7 +96,7 @@ two test a c h k b (inr (inr m)) = absurd m
 args_keep : (f : Func) (line : ℕ) (args : List Arg) → ((o : Reading) → Among o (arg_operands line args) → operand_keeps (Below f) (operand_of o.value) ≡ true) → list_all (λ (a : Argument ℕ). operand_keeps (Below f) a.value) (map argument_of args) ≡ true
 args_keep f line [] each = refl
 args_keep f line (a ∷ args) each =
-    and_both (operand_keeps (Below f) (operand_of a.value)) _ (each (operand_at line a.class a.value) (inl refl)) (args_keep f line args (λ o h. each o (inr h)))
+    and_from (operand_keeps (Below f) (operand_of a.value)) _ (each (operand_at line a.class a.value) (inl refl)) (args_keep f line args (λ o h. each o (inr h)))
 
 inst_keeps : (classes : Classes) (f : Func) (line : ℕ) (x : Inst) → Within f line x → list_all (line_keeps (Below f)) (inst_lines classes x) ≡ true
 inst_keeps classes f line (Unary to op a) w =
@@ -107,18 +108,18 @@ inst_keeps classes f line (Binary to op a b) w =
     (binary_sets classes to.temp op to.class (operand_of a) (operand_of b))
 inst_keeps classes f line (AllocInst to alignment size) w = ap (λ b. b && true) (own_below f to.temp (w.defines (definer line to) (inl refl)))
 inst_keeps classes f line (StoreInst size a at) w =
-    and_both (operand_keeps (Below f) (operand_of a) && operand_keeps (Below f) (operand_of at)) true
-    (and_both _ _ (w.reads_all (operand_at line (stored_class size) a) (inl refl)) (w.reads_all (operand_at line L at) (inr (inl refl)))) refl
+    and_from (operand_keeps (Below f) (operand_of a) && operand_keeps (Below f) (operand_of at)) true
+    (and_from _ _ (w.reads_all (operand_at line (stored_class size) a) (inl refl)) (w.reads_all (operand_at line L at) (inr (inl refl)))) refl
 inst_keeps classes f line (BlitInst from to count) w =
-    and_both (operand_keeps (Below f) (operand_of from) && operand_keeps (Below f) (operand_of to)) true
-    (and_both _ _ (w.reads_all (operand_at line L from) (inl refl)) (w.reads_all (operand_at line L to) (inr (inl refl)))) refl
+    and_from (operand_keeps (Below f) (operand_of from) && operand_keeps (Below f) (operand_of to)) true
+    (and_from _ _ (w.reads_all (operand_at line L from) (inl refl)) (w.reads_all (operand_at line L to) (inr (inl refl)))) refl
 inst_keeps classes f line (CallInst None callee args) w =
-    and_both (operand_keeps (Below f) (operand_of callee) && list_all (λ (a : Argument ℕ). operand_keeps (Below f) a.value) (map argument_of args)) true
-    (and_both _ _ (w.reads_all (operand_at line L callee) (inl refl)) (args_keep f line args (λ o h. w.reads_all o (inr h)))) refl
+    and_from (operand_keeps (Below f) (operand_of callee) && list_all (λ (a : Argument ℕ). operand_keeps (Below f) a.value) (map argument_of args)) true
+    (and_from _ _ (w.reads_all (operand_at line L callee) (inl refl)) (args_keep f line args (λ o h. w.reads_all o (inr h)))) refl
 inst_keeps classes f line (CallInst (Some to) callee args) w =
-    and_both (Below f to.temp && (operand_keeps (Below f) (operand_of callee) && list_all (λ (a : Argument ℕ). operand_keeps (Below f) a.value) (map argument_of args))) true
-    (and_both _ _ (own_below f to.temp (w.defines (definer line to) (inl refl)))
-    (and_both _ _ (w.reads_all (operand_at line L callee) (inl refl)) (args_keep f line args (λ o h. w.reads_all o (inr h))))) refl
+    and_from (Below f to.temp && (operand_keeps (Below f) (operand_of callee) && list_all (λ (a : Argument ℕ). operand_keeps (Below f) a.value) (map argument_of args))) true
+    (and_from _ _ (own_below f to.temp (w.defines (definer line to) (inl refl)))
+    (and_from _ _ (w.reads_all (operand_at line L callee) (inl refl)) (args_keep f line args (λ o h. w.reads_all o (inr h))))) refl
 
 -- ---- the instructions of a block
 
@@ -178,7 +179,7 @@ return_keeps : (f : Func) → IsGoodFunction f → (b : Block) (j : Lined Jump) 
 return_keeps f good b j x a jump item =
     let all = neither_second (first (λ (o : Reading). when (not (is_defined (definers_of f) o.value)) o.line) (operands_of f)) (in_returns (λ v. not (is_defined (definers_of f) v)) f.blocks) (good.rules DefinedTemporaries) in
     defined_keeps f x
-    (not_false (is_defined (definers_of f) x)
+    (not-false (is_defined (definers_of f) x)
     (not_broken (not (is_defined (definers_of f) x)) j.line
     (sym (ap (returned_breaks (λ v. not (is_defined (definers_of f) v))) jump ∙ ap (λ y. breaks_in (λ v. not (is_defined (definers_of f) v)) j.line (value_returned y)) item)
     ∙ none_among (λ (c : Block). returned_breaks (λ v. not (is_defined (definers_of f) v)) c.jump) f.blocks b all a)))
@@ -193,12 +194,12 @@ abbrev BothKeep : (ℕ → Bool) → Comparison ℕ → Type 0
 BothKeep test c = (operand_keeps test c.left && operand_keeps test c.right) ≡ true
 
 comparison_keeps : (classes : Classes) (test : ℕ → Bool) (on : Condition) (k : Class) (a b : Operand ℕ) → operand_keeps test a ≡ true → operand_keeps test b ≡ true → BothKeep test (comparison_of classes on k a b)
-comparison_keeps classes test on L a b h j = and_both (operand_keeps test a) (operand_keeps test b) h j
+comparison_keeps classes test on L a b h j = and_from (operand_keeps test a) (operand_keeps test b) h j
 comparison_keeps classes test on W a b h j = by (are_whole classes a b)
   where
     by : (whole : Bool) → BothKeep test (words_compared on a b whole)
-    by true = and_both (operand_keeps test (word a)) (operand_keeps test (word b)) (word_keeps test a h) (word_keeps test b j)
-    by false = and_both (operand_keeps test a) (operand_keeps test b) h j
+    by true = and_from (operand_keeps test (word a)) (operand_keeps test (word b)) (word_keeps test a h) (word_keeps test b j)
+    by false = and_from (operand_keeps test a) (operand_keeps test b) h j
 
 -- the copies and the jump of an ending
 pub record EndingKeeps (classes : Classes) (f : Func) (e : Ending) : Type 0 where
@@ -242,14 +243,14 @@ on_edge_keeps classes f w e is = subst (EndingKeeps classes f) (sym is.0) (recor
 block_of_keeps : (classes : Classes) (f : Func) → IsGoodFunction f → (b : Block) (e : Ending) (m : ℕ) → Among b f.blocks → IsBlockEnding f m b e → block_keeps (Below f) (block_of classes b e) ≡ true
 block_of_keeps classes f good b e m a is =
     let k = end_ending_keeps classes f good b b.jump m e a refl is in
-    and_both (list_all (line_keeps (Below f)) (all_lines classes b.insts ++ ending_lines classes e)) _
+    and_from (list_all (line_keeps (Below f)) (all_lines classes b.insts ++ ending_lines classes e)) _
     (all_both (line_keeps (Below f)) (all_lines classes b.insts) (ending_lines classes e) (insts_keep classes f good b a b.insts (λ i h. h)) (assignments_keep classes f e.copies k.copies))
     k.leaves
 
 edge_of_keeps : (classes : Classes) (f : Func) (w : Edge) (e : Ending) → IsOnEdge f w e → block_keeps (Below f) (edge_of classes e) ≡ true
 edge_of_keeps classes f w e is =
     let k = on_edge_keeps classes f w e is in
-    and_both (list_all (line_keeps (Below f)) (ending_lines classes e)) _ (assignments_keep classes f e.copies k.copies) k.leaves
+    and_from (list_all (line_keeps (Below f)) (ending_lines classes e)) _ (assignments_keep classes f e.copies k.copies) k.leaves
 
 blocks_keep : (classes : Classes) (f : Func) (code : Endings) → IsGoodFunction f → IsLowered f code → list_all (block_keeps (Below f)) (blocks_of classes f.blocks code.endings ++ map (edge_of classes) code.edges) ≡ true
 blocks_keep classes f code good is =
@@ -260,10 +261,10 @@ blocks_keep classes f code good is =
 params_keep : (f : Func) (ps : List Param) → ((p : Param) → Among p ps → Among p f.params) → list_all (λ d. Below f d.place) (map parameter_of ps) ≡ true
 params_keep f [] sub = refl
 params_keep f (p ∷ ps) sub =
-    and_both (Below f p.temp) _
+    and_from (Below f p.temp) _
     (own_below f p.temp (own_temps f (record { line = p.line; temp = p.temp; class = p.class }) (among_left _ (flat_map param_definers f.params) (flat_map block_definers f.blocks) (param_among f.params p (sub p (inl refl))))))
     (params_keep f ps (λ q a. sub q (inr a)))
 
 pub known : (classes : Classes) (f : Func) (code : Endings) → IsGoodFunction f → IsLowered f code → keeps_places (is_below (registers f)) (selected classes f code) ≡ true
 unfolding selected
-known classes f code good is = and_both (list_all (λ d. Below f d.place) (map parameter_of f.params)) _ (params_keep f f.params (λ p a. a)) (blocks_keep classes f code good is)
+known classes f code good is = and_from (list_all (λ d. Below f d.place) (map parameter_of f.params)) _ (params_keep f f.params (λ p a. a)) (blocks_keep classes f code good is)

@@ -3,6 +3,7 @@ use Rattle.std.proofs.Common.{◌≡◌, ℕ, zero, suc, ◌+◌, ◌-◌, ◌<�
 use Rattle.std.specs.Prelude.{slice_get, Option, Some, None}
 use Rattle.std.specs.List.{flat_map, find}
 use Rattle.std.proofs.lemmas.Bool.Decides.{nat_tests}
+use Rattle.std.proofs.lemmas.Bool.{not-false}
 use Rattle.il_ast.specs.declared.operation.Class.{Class}
 use Rattle.il_ast.specs.declared.operation.Class.TheVariants.{W, L}
 use Rattle.il_ast.specs.declared.operation.Extension.TheVariants.{SignedWord, UnsignedWord, SignedHalf, UnsignedHalf, SignedByte, UnsignedByte}
@@ -43,7 +44,7 @@ use Rattle.phi_copies.proofs.MoreKnown.{get_more}
 use Rattle.phi_copies.proofs.Lists.{get_past}
 use Rattle.select.specs.Typed.{Classes, Fits, ArgsFit, HasResult, InstFits, CopiesFit, ReturnFits, EndingFits, ParamsFit, IsTyped}
 use Rattle.select.specs.Classes.{class_given, or_long, all_phis, classes_in}
-use Rattle.select.proofs.Typing.{Among, among_left, among_right, among_at, neither_second, not_broken, none_among, not_false, class_is, OwnTemps, own_class, value_fits, operand_fits}
+use Rattle.select.proofs.Typing.{Among, among_left, among_right, among_at, neither_second, not_broken, none_among, class_is, OwnTemps, own_class, value_fits, operand_fits}
 
 -- ---- where a thing among others comes from
 
@@ -286,8 +287,8 @@ return_fits f good b j x a jump item (Some c) e =
     let defined = unbroken (λ v. not (is_defined (definers_of f) v))
     (neither_second (first (λ (o : Operand). when (not (is_defined (definers_of f) o.value)) o.line) (operands_of f)) (in_returns (λ v. not (is_defined (definers_of f) v)) f.blocks) (good.rules DefinedTemporaries)) in
     value_fits f (own_temps f) c x
-    (ap (λ r. fits_result (definers_of f) r x) (sym e) ∙ not_false (fits_result (definers_of f) f.result x) fit)
-    (not_false (is_defined (definers_of f) x) defined)
+    (ap (λ r. fits_result (definers_of f) r x) (sym e) ∙ not-false (fits_result (definers_of f) f.result x) fit)
+    (not-false (is_defined (definers_of f) x) defined)
   where
     unbroken : (broken : Val → Bool) → in_returns broken f.blocks ≡ None → broken x ≡ false
     unbroken broken h =

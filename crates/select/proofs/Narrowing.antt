@@ -5,6 +5,7 @@ use Rattle.std.specs.List.{sum_by, flat_map}
 use Rattle.std.proofs.Math.Nat.{mod-eq_of_lt}
 use Rattle.std.proofs.lemmas.Bool.Decides.{nat_tests}
 use Rattle.std.proofs.lemmas.List.Sums.{sum_by-cons}
+use Rattle.il_ast.specs.declared.limits.TheConstants.{FUNCTION_WEIGHT}
 use Rattle.il_ast.specs.declared.operation.Class.{Class}
 use Rattle.il_ast.specs.declared.operation.Class.TheVariants.{L}
 use Rattle.il_ast.specs.declared.operation.Condition.TheVariants.{NotEqual}
@@ -116,10 +117,10 @@ and_first : (a b : Bool) → (a && b) ≡ true → a ≡ true
 and_first true b h = refl
 and_first false b h = h
 
-pub light : (f : Func) → IsGoodFunction f → weight f ≤ 40000
+pub light : (f : Func) → IsGoodFunction f → weight f ≤ FUNCTION_WEIGHT
 light f good =
-    let heavy = and_first (nat_le (weight f) 40000) _ good.limits in
-    let le : weight f ≤ 40000 = grind (arith, nat_tests) in
+    let heavy = and_first (nat_le (weight f) FUNCTION_WEIGHT) _ good.limits in
+    let le : weight f ≤ FUNCTION_WEIGHT = grind (arith, nat_tests) in
     le
 
 weight_small : (f : Func) → IsGoodFunction f → (b : Block) (i : Lined Inst) → Among b f.blocks → Among i b.insts → narrow (inst_weight i.item) ≡ inst_weight i.item

@@ -4,6 +4,7 @@ use Rattle.std.specs.Prelude.{Some, None}
 use Rattle.std.specs.List.{list_any, flat_map}
 use Rattle.std.proofs.lemmas.Bool.Decides.{nat_tests}
 use Rattle.std.proofs.lemmas.List.Recursion.{is_count_by}
+use Rattle.std.proofs.lemmas.Bool.{and_from}
 use Rattle.il_ast.specs.declared.function.Param.{Param}
 use Rattle.il_ast.specs.declared.function.Func.{Func}
 use Rattle.il_ast.specs.Mentions.{come_after, temps_in_block}
@@ -22,7 +23,6 @@ use Rattle.select.specs.Selected.{parameter_of, selected}
 use Rattle.select.specs.Classes.{classes_in}
 use Rattle.select.specs.Invariants.{IsVirtual}
 use Rattle.select.proofs.Typing.{Among, neither_first, not_broken, none_among}
-use Rattle.select.proofs.UsedPlaces.{and_both}
 use Rattle.select.proofs.Regular.{few_params, regular}
 use Rattle.select.proofs.Known.{known}
 
@@ -63,7 +63,7 @@ length_temps (p ∷ params) = ap suc (length_temps params)
 low_of : (params : List Param) → AllUnder 128 (temps_in params) → are_low (map parameter_of params) ≡ true
 unfolding temps_in AllUnder
 low_of [] h = refl
-low_of (p ∷ params) h = and_both (nat_lt p.temp 128) _ (let lt = h.0 in let e : nat_lt p.temp 128 ≡ true = grind (arith, nat_tests) in e) (low_of params h.1)
+low_of (p ∷ params) h = and_from (nat_lt p.temp 128) _ (let lt = h.0 in let e : nat_lt p.temp 128 ≡ true = grind (arith, nat_tests) in e) (low_of params h.1)
 
 are_low_all : (f : Func) → IsGoodFunction f → are_low (map parameter_of f.params) ≡ true
 unfolding temps_in
@@ -127,7 +127,7 @@ twice p ps h =
 distinct_of : (ps : List Param) → ((p : Param) → Among p ps → named p.temp ps ≤ 1) → are_distinct virtual (map parameter_of ps) ≡ true
 distinct_of [] each = refl
 distinct_of (p ∷ ps) each =
-    and_both (not (list_any (λ (e : Destination ℕ). nat_eq p.temp e.place) (map parameter_of ps))) _
+    and_from (not (list_any (λ (e : Destination ℕ). nat_eq p.temp e.place) (map parameter_of ps))) _
     (by (list_any (λ (e : Destination ℕ). nat_eq p.temp e.place) (map parameter_of ps)) refl)
     (distinct_of ps (λ q a. let few = each q (inr a) in let more = more_named q.temp p ps in omega (arith, few, more)))
   where

@@ -1,8 +1,8 @@
 -- The weight of ticks pays for the lines behind them.
 use Rattle.std.proofs.Common.{◌≡◌, ℕ, ◌+◌, ◌-◌, ◌*◌, ◌<◌, ◌≤◌, Bool, true, false, cond, nat_le, ◌&&◌, List, [], ◌∷◌, ◌++◌, length, map, refl, sym, ◌∙◌, ap, subst, arith, append_assoc}
 use Rattle.std.specs.Prelude.{Option, Some, None}
-use Rattle.std.proofs.lemmas.Bool.Decides.{nat_tests}
 use Rattle.std.proofs.lemmas.List.{length-map, append-nil}
+use Rattle.std.proofs.lemmas.Bool.{le-leb, leb-true, and_from}
 use Rattle.il_ast.specs.declared.operation.Class.{Class}
 use Rattle.il_ast.specs.declared.operation.Class.TheVariants.{W, L}
 use Rattle.il_ast.specs.declared.operation.Extension.{Extension}
@@ -66,16 +66,6 @@ quiet_pays c jump (Alloc to size) ls q = refl
 quiet_pays c jump (Blit from to count) ls q = refl
 quiet_pays c jump (Call to callee args) ls q = refl
 
-le_true : (a b : ℕ) → a ≤ b → nat_le a b ≡ true
-le_true a b h = grind (arith, nat_tests)
-
-le_of : (a b : ℕ) → nat_le a b ≡ true → a ≤ b
-le_of a b h = grind (arith, nat_tests)
-
-and_true : (a b : Bool) → a ≡ true → b ≡ true → (a && b) ≡ true
-and_true true b h k = k
-and_true false b h k = h
-
 and_left : (a b : Bool) → (a && b) ≡ true → a ≡ true
 and_left true b h = refl
 and_left false b h = h
@@ -89,13 +79,13 @@ quiet_more : (c d : ℕ) (jump : Jump ℕ) (l : Line ℕ) (ls : List (Line ℕ))
 quiet_more c d jump l ls rest q le h =
     let n = line_cost l in
     let paid = sym (quiet_pays c jump l ls q) ∙ h in
-    let first = le_of n c (and_left (nat_le n c) (affords (c - n) jump ls) paid) in
+    let first = leb-true n c (and_left (nat_le n c) (affords (c - n) jump ls) paid) in
     quiet_pays d jump l ls q
-    ∙ and_true (nat_le n d) (affords (d - n) jump ls) (le_true n d (omega (arith, first, le)))
+    ∙ and_from (nat_le n d) (affords (d - n) jump ls) (le-leb n d (omega (arith, first, le)))
     (rest (c - n) (d - n) (omega (arith, le)) (and_right (nat_le n c) (affords (c - n) jump ls) paid))
 
 pub affords_more : (c d : ℕ) (jump : Jump ℕ) (ls : List (Line ℕ)) → c ≤ d → affords c jump ls ≡ true → affords d jump ls ≡ true
-affords_more c d jump [] le h = let cost = le_of (jump_cost jump) c h in le_true (jump_cost jump) d (omega (arith, cost, le))
+affords_more c d jump [] le h = let cost = leb-true (jump_cost jump) c h in le-leb (jump_cost jump) d (omega (arith, cost, le))
 affords_more c d jump (Tick turn w ∷ ls) le h = affords_more (c + 32 * w) (d + 32 * w) jump ls (omega (arith, le)) h
 affords_more c d jump (Set to a ∷ ls) le h = quiet_more c d jump (Set to a) ls (λ x y. affords_more x y jump ls) tt le h
 affords_more c d jump (Operate to op a b ∷ ls) le h = quiet_more c d jump (Operate to op a b) ls (λ x y. affords_more x y jump ls) tt le h
@@ -119,7 +109,7 @@ costs_paid (l ∷ ls) rest n c jump h le paid =
     let few = h.1 in
     let same : c - k - (n - k) ≡ c - n = omega (arith, few, le) in
     quiet_pays c jump l (ls ++ rest) h.0
-    ∙ and_true (nat_le k c) (affords (c - k) jump (ls ++ rest)) (le_true k c (omega (arith, few, le)))
+    ∙ and_from (nat_le k c) (affords (c - k) jump (ls ++ rest)) (le-leb k c (omega (arith, few, le)))
     (costs_paid ls rest (n - k) (c - k) jump h.2 (omega (arith, le)) (ap (λ m. affords m jump rest) same ∙ paid))
 
 pub costs_more : (ls : List (Line ℕ)) (n m : ℕ) → n ≤ m → Costs ls n → Costs ls m
@@ -264,7 +254,7 @@ ending_pays classes e h =
     let enough : jump_cost (jump_of classes e.leave) ≤ 0 + 32 * e.weight - n = omega (arith, h) in
     subst (λ ls. affords (0 + 32 * e.weight) (jump_of classes e.leave) ls ≡ true) (append-nil (assignment_lines classes e.copies))
     (costs_paid (assignment_lines classes e.copies) [] n (0 + 32 * e.weight) (jump_of classes e.leave) (assignments_cost classes e.copies) (omega (arith, h))
-    (le_true (jump_cost (jump_of classes e.leave)) (0 + 32 * e.weight - n) enough))
+    (le-leb (jump_cost (jump_of classes e.leave)) (0 + 32 * e.weight - n) enough))
 
 pub insts_pay : (classes : Classes) (insts : List (Lined Inst)) (jump : Jump ℕ) (rest : List (Line ℕ)) → affords 0 jump rest ≡ true → affords 0 jump (all_lines classes insts ++ rest) ≡ true
 insts_pay classes [] jump rest h = h

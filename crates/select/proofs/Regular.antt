@@ -3,9 +3,10 @@ use Rattle.std.proofs.Common.{◌≡◌, ℕ, suc, ◌+◌, ◌<◌, ◌≤◌, 
 use Rattle.std.specs.Prelude.{Option, Some, None}
 use Rattle.std.specs.Option.{option_map}
 use Rattle.std.specs.List.{list_all, list_any, sum_by}
-use Rattle.std.proofs.lemmas.Bool.Decides.{nat_tests}
 use Rattle.std.proofs.lemmas.List.{length-append, length-map}
 use Rattle.std.proofs.lemmas.List.Sums.{sum_by-cons, sum_by-append}
+use Rattle.std.proofs.lemmas.Bool.{lt-ltb, le-leb, leb-true, and_from}
+use Rattle.il_ast.specs.declared.limits.TheConstants.{FUNCTION_WEIGHT}
 use Rattle.il_ast.specs.declared.instruction.Inst.{Inst}
 use Rattle.il_ast.specs.declared.instruction.Inst.TheVariants.{Unary, Binary, Alloc as AllocInst, Store as StoreInst, Blit as BlitInst, Call as CallInst}
 use Rattle.il_ast.specs.declared.instruction.Jump.{Jump}
@@ -38,18 +39,9 @@ use Rattle.select.specs.Typed.{Classes}
 use Rattle.select.proofs.Typing.{Among, neither_first, neither_second, not_broken, none_among}
 use Rattle.select.proofs.Paying.{ending_pays, insts_pay, end_ending_pays, edge_pays}
 use Rattle.select.proofs.EachBlock.{blocks_all, Branches, Leaves, edges_all, IsTarget, is_target}
-use Rattle.select.proofs.UsedPlaces.{copy_sets, unary_sets, binary_sets, no_alloc, no_area, no_turn, all_few, and_both}
+use Rattle.select.proofs.UsedPlaces.{copy_sets, unary_sets, binary_sets, no_alloc, no_area, no_turn, all_few}
 
 -- ---- tests
-
-lt_true : (a b : ℕ) → a < b → nat_lt a b ≡ true
-lt_true a b h = grind (arith, nat_tests)
-
-pub le_true : (a b : ℕ) → a ≤ b → nat_le a b ≡ true
-le_true a b h = grind (arith, nat_tests)
-
-le_of : (a b : ℕ) → nat_le a b ≡ true → a ≤ b
-le_of a b h = grind (arith, nat_tests)
 
 and_left : (a b : Bool) → (a && b) ≡ true → a ≡ true
 and_left true b h = refl
@@ -93,7 +85,7 @@ total_is classes f code is =
     ∙ ap (λ n. length f.blocks + n) (length-map code.edges (edge_of classes) ∙ on_edges_many f (all_edges f f.blocks) code.edges is.edges)
 
 inside_at : (n k : ℕ) → 0 < k → k < n → is_target_in n k ≡ true
-inside_at n k h j = and_both (nat_lt 0 k) (nat_lt k n) (lt_true 0 k h) (lt_true k n j)
+inside_at n k h j = and_from (nat_lt 0 k) (nat_lt k n) (lt-ltb 0 k h) (lt-ltb k n j)
 
 label_inside : (f : Func) (l : ℕ) → IsTarget f l → is_target_in (total f) (target f.blocks l) ≡ true
 label_inside f l t =
@@ -146,7 +138,7 @@ jump_inside classes f good b j (Branch on nonzero otherwise) m d a e i le is = b
         let edges : block_edges f b ≡ edge f from t1 ++ edge f from t2 = ap (end_edges f from) e ∙ (ap (λ y. jump_edges f from (straight y)) i ∙ ap (λ q. jump_edges f from (straight_if q on nonzero otherwise)) differ) in
         let long : length (block_edges f b) ≡ length (edge f from t1) + length (edge f from t2) = ap length edges ∙ length-append (edge f from t1) (edge f from t2) in
         subst (LeadsInside classes f) (sym h)
-        (and_both (is_target_in (total f) (branch_target f m t1)) (is_target_in (total f) (branch_target f (m + length (edge f from t1)) t2))
+        (and_from (is_target_in (total f) (branch_target f m t1)) (is_target_in (total f) (branch_target f (m + length (edge f from t1)) t2))
         (side_inside f nonzero m (phis_at f.blocks t1) one (λ h. let n = edge_long from t1 (phis_at f.blocks t1) h in omega (arith, n, long, le)))
         (side_inside f otherwise (m + length (edge f from t1)) (phis_at f.blocks t2) two (λ h. let n = edge_long from t2 (phis_at f.blocks t2) h in omega (arith, n, long, le))))
 jump_inside classes f good b j (Return v) m d a e i le is = subst (LeadsInside classes f) (sym is) refl
@@ -360,9 +352,9 @@ block_weighs (c ∷ bs) b (inr a) =
     let rest = block_weighs bs b a in
     omega (arith, all, rest)
 
-few_turns : (classes : Classes) (f : Func) → IsGoodFunction f → (b : Block) (e : Ending) → Among b f.blocks → sum_by turns_of (all_lines classes b.insts ++ ending_lines classes e) ≤ 40000
+few_turns : (classes : Classes) (f : Func) → IsGoodFunction f → (b : Block) (e : Ending) → Among b f.blocks → sum_by turns_of (all_lines classes b.insts ++ ending_lines classes e) ≤ FUNCTION_WEIGHT
 few_turns classes f good b e a =
-    let heavy = le_of (weight f) 40000 (and_left (nat_le (weight f) 40000) _ good.limits) in
+    let heavy = leb-true (weight f) FUNCTION_WEIGHT (and_left (nat_le (weight f) FUNCTION_WEIGHT) _ good.limits) in
     let block = block_weighs f.blocks b a in
     let both = sum_by-append turns_of (all_lines classes b.insts) (ending_lines classes e) in
     let insts = insts_turns classes b.insts in
@@ -370,13 +362,13 @@ few_turns classes f good b e a =
     omega (arith, heavy, block, both, insts, end)
 
 abbrev is_paced : VirtualBlock ℕ → Bool
-is_paced b = nat_le (sum_by turns_of b.lines) 40000
+is_paced b = nat_le (sum_by turns_of b.lines) FUNCTION_WEIGHT
 
 paced_blocks : (classes : Classes) (f : Func) (code : Endings) → IsGoodFunction f → IsLowered f code → list_all is_paced (blocks_of classes f.blocks code.endings ++ map (edge_of classes) code.edges) ≡ true
 paced_blocks classes f code good is =
     blocks_all classes f is_paced (0 + length (all_edges f f.blocks)) 0 f.blocks code.endings (map (edge_of classes) code.edges) is.endings refl
-    (λ b e m a h le. le_true _ 40000 (few_turns classes f good b e a))
-    (edges_all classes f is_paced f.blocks code.edges is.edges (λ w e l h. let one = ending_turns classes e in le_true _ 40000 (omega (arith, one))))
+    (λ b e m a h le. le-leb _ FUNCTION_WEIGHT (few_turns classes f good b e a))
+    (edges_all classes f is_paced f.blocks code.edges is.edges (λ w e l h. let one = ending_turns classes e in le-leb _ FUNCTION_WEIGHT (omega (arith, one))))
 
 -- ---- the arguments of calls
 
@@ -386,11 +378,11 @@ inst_few classes (Binary to op a b) h = all_few to.temp (operand_of a ∷ operan
 inst_few classes (AllocInst to alignment size) h = refl
 inst_few classes (StoreInst size a at) h = refl
 inst_few classes (BlitInst from to count) h = refl
-inst_few classes (CallInst to callee args) h = and_both (nat_le (length (map argument_of args)) 64) true (ap (λ n. nat_le n 64) (length-map args argument_of) ∙ h) refl
+inst_few classes (CallInst to callee args) h = and_from (nat_le (length (map argument_of args)) 64) true (ap (λ n. nat_le n 64) (length-map args argument_of) ∙ h) refl
 
 all_both : (p : Line ℕ → Bool) (xs ys : List (Line ℕ)) → list_all p xs ≡ true → list_all p ys ≡ true → list_all p (xs ++ ys) ≡ true
 all_both p [] ys h k = k
-all_both p (x ∷ xs) ys h k = and_both (p x) (list_all p (xs ++ ys)) (and_left (p x) (list_all p xs) h) (all_both p xs ys (and_right (p x) (list_all p xs) h) k)
+all_both p (x ∷ xs) ys h k = and_from (p x) (list_all p (xs ++ ys)) (and_left (p x) (list_all p xs) h) (all_both p xs ys (and_right (p x) (list_all p xs) h) k)
 
 copies_few : (classes : Classes) (cs : List Assignment) → list_all passes_few (assignment_lines classes cs) ≡ true
 copies_few classes [] = refl
@@ -424,17 +416,17 @@ few_blocks classes f code is h =
 
 calls_within : (f : Func) → IsGoodFunction f → list_all calls_few f.blocks ≡ true
 calls_within f good =
-    let behind_weight = and_right (nat_le (weight f) 40000) _ good.limits in
+    let behind_weight = and_right (nat_le (weight f) FUNCTION_WEIGHT) _ good.limits in
     let behind_temps = and_right (nat_le (length f.temps) 4000) _ behind_weight in
     let behind_params = and_right (nat_le (length f.params) 64) _ behind_temps in
     and_right (nat_le (alloc_area f) 1048576) _ behind_params
 
 limits_of : (f : Func) → IsGoodFunction f → (length f.params ≤ 64) × (alloc_area f ≤ 1048576)
 limits_of f good =
-    let behind_weight = and_right (nat_le (weight f) 40000) _ good.limits in
+    let behind_weight = and_right (nat_le (weight f) FUNCTION_WEIGHT) _ good.limits in
     let behind_temps = and_right (nat_le (length f.temps) 4000) _ behind_weight in
     let behind_params = and_right (nat_le (length f.params) 64) _ behind_temps in
-    (le_of (length f.params) 64 (and_left (nat_le (length f.params) 64) _ behind_temps), le_of (alloc_area f) 1048576 (and_left (nat_le (alloc_area f) 1048576) _ behind_params))
+    (leb-true (length f.params) 64 (and_left (nat_le (length f.params) 64) _ behind_temps), leb-true (alloc_area f) 1048576 (and_left (nat_le (alloc_area f) 1048576) _ behind_params))
 
 pub regular : (classes : Classes) (f : Func) (code : Endings) → IsGoodFunction f → IsLowered f code → IsRegular (selected classes f code)
 unfolding selected
@@ -444,10 +436,10 @@ regular classes f code good is =
     let bytes = (limits_of f good).1 in
     let all = area_is classes f code is in
     record {
-      few_params = le_true (length (map parameter_of f.params)) 64 (omega (arith, few, params));
+      few_params = le-leb (length (map parameter_of f.params)) 64 (omega (arith, few, params));
       inside = ap (λ n. list_all (λ (b : VirtualBlock ℕ). leads_inside n b.jump) (blocks_of classes f.blocks code.endings ++ map (edge_of classes) code.edges)) (total_is classes f code is) ∙ inside_blocks classes f code good is;
       first = allocs_are_first classes f code good is;
-      small = le_true _ 1048576 (omega (arith, bytes, all));
+      small = le-leb _ 1048576 (omega (arith, bytes, all));
       paid = paid_blocks classes f code is;
       paced = paced_blocks classes f code good is;
       few_args = few_blocks classes f code is (calls_within f good);

@@ -3,6 +3,7 @@ use Rattle.std.proofs.Common.{◌≡◌, ℕ, zero, suc, ◌-◌, ◌<◌, Bool,
 use Rattle.std.specs.Prelude.{slice_get, Option, Some, None}
 use Rattle.std.specs.List.{flat_map, list_any}
 use Rattle.std.proofs.lemmas.Bool.Decides.{nat_tests}
+use Rattle.std.proofs.lemmas.Bool.{and_from, not-true, not-false, or_cases}
 use Rattle.il_ast.specs.declared.operation.Class.{Class}
 use Rattle.il_ast.specs.declared.operation.Class.TheVariants.{W, L}
 use Rattle.il_ast.specs.declared.operand.Val.{Val}
@@ -86,15 +87,10 @@ same_self : (c : Class) → same_class c c ≡ true
 same_self W = refl
 same_self L = refl
 
-both_true : (a b : Bool) → a ≡ true → b ≡ true → (a && b) ≡ true
-both_true true true h k = refl
-both_true true false h k = k
-both_true false b h k = h
-
 given : (f : Func) (d : Definer) → Among d (definers_of f) → is_given d.class d.temp (definers_of f) ≡ true
 given f d a =
     any_among (λ (e : Definer). nat_eq e.temp d.temp && same_class e.class d.class) (definers_of f) d
-    (both_true (nat_eq d.temp d.temp) (same_class d.class d.class) (let e : nat_eq d.temp d.temp ≡ true = grind (arith, nat_tests) in e) (same_self d.class)) a
+    (and_from (nat_eq d.temp d.temp) (same_class d.class d.class) (let e : nat_eq d.temp d.temp ≡ true = grind (arith, nat_tests) in e) (same_self d.class)) a
 
 -- a definer's class is its temporary's
 pub class_is : (f : Func) (d : Definer) → two_types f ≡ None → Among d (definers_of f) → class_given f d.temp ≡ d.class
@@ -120,18 +116,6 @@ OwnTemps f = (d : Definer) → Among d (definers_of f) → d.temp < length f.tem
 pub own_class : (f : Func) (t : ℕ) → t < length f.temps → classes_in f t ≡ class_given f t
 own_class f t lt = let e : nat_lt t (length f.temps) ≡ true = grind (arith, nat_tests) in ap (λ b. cond b (class_given f t) (or_long (slice_get (all_phis f.blocks) (t - length f.temps)))) e
 
-pub not_true : (b : Bool) → not b ≡ true → b ≡ false
-not_true true h = sym h
-not_true false h = refl
-
-pub not_false : (b : Bool) → not b ≡ false → b ≡ true
-not_false true h = refl
-not_false false h = sym h
-
-pub either_true : (a b : Bool) → (a || b) ≡ true → (a ≡ true) ⊎ (b ≡ true)
-either_true true b h = inl refl
-either_true false b h = inr h
-
 same_number : (a b : Bool) → (a && b) ≡ true → a ≡ true
 same_number true b h = refl
 same_number false b h = h
@@ -148,10 +132,10 @@ pub value_fits : (f : Func) → OwnTemps f → (c : Class) (a : Val) → fits (d
 value_fits f own W a h d = tt
 value_fits f own L (Int n) h d = tt
 value_fits f own L (Global g) h d = tt
-value_fits f own L (Temp t) h d = by (either_true (is_given W t (definers_of f)) (is_given L t (definers_of f)) d)
+value_fits f own L (Temp t) h d = by (or_cases (is_given W t (definers_of f)) (is_given L t (definers_of f)) d)
   where
     long : t < length f.temps → classes_in f t ≡ L
-    long lt = own_class f t lt ∙ ap (λ b. cond b W L) (not_true (is_given W t (definers_of f)) h)
+    long lt = own_class f t lt ∙ ap (λ b. cond b W L) (not-true (is_given W t (definers_of f)) h)
 
     by : (is_given W t (definers_of f) ≡ true) ⊎ (is_given L t (definers_of f) ≡ true) → classes_in f t ≡ L
     by (inl e) = long (assigned_own f own W t e)
@@ -162,5 +146,5 @@ operand_fits f own placed defined o a =
     let fit = neither_first (first (λ (x : Operand). when (not (fits (definers_of f) x.class x.value)) x.line) (operands_of f)) (in_insts has_wrong_result f.blocks) placed in
     let def = neither_first (first (λ (x : Operand). when (not (is_defined (definers_of f) x.value)) x.line) (operands_of f)) (in_returns (λ v. not (is_defined (definers_of f) v)) f.blocks) defined in
     value_fits f own o.class o.value
-    (not_false (fits (definers_of f) o.class o.value) (not_broken _ o.line (none_among (λ (x : Operand). when (not (fits (definers_of f) x.class x.value)) x.line) (operands_of f) o fit a)))
-    (not_false (is_defined (definers_of f) o.value) (not_broken _ o.line (none_among (λ (x : Operand). when (not (is_defined (definers_of f) x.value)) x.line) (operands_of f) o def a)))
+    (not-false (fits (definers_of f) o.class o.value) (not_broken _ o.line (none_among (λ (x : Operand). when (not (fits (definers_of f) x.class x.value)) x.line) (operands_of f) o fit a)))
+    (not-false (is_defined (definers_of f) o.value) (not_broken _ o.line (none_among (λ (x : Operand). when (not (is_defined (definers_of f) x.value)) x.line) (operands_of f) o def a)))

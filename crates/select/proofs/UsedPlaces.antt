@@ -2,6 +2,7 @@
 use Rattle.std.proofs.Common.{◌≡◌, ℕ, Bool, true, false, ◌&&◌, List, [], ◌∷◌, refl, ◌∙◌, ap, arith, ◌⊎◌, inl, inr}
 use Rattle.std.specs.List.{list_all, list_any, sum_by}
 use Rattle.std.proofs.lemmas.List.Sums.{sum_by-cons}
+use Rattle.std.proofs.lemmas.Bool.{and_from}
 use Rattle.il_ast.specs.declared.operation.Class.{Class}
 use Rattle.il_ast.specs.declared.operation.Class.TheVariants.{W, L}
 use Rattle.il_ast.specs.declared.operation.Extension.{Extension}
@@ -185,21 +186,17 @@ in_keeps test t xs (At q) h all (inr m) = all (At q) m
 in_keeps test t xs (Number n) h all i = refl
 in_keeps test t xs (Name g) h all i = refl
 
-pub and_both : (x y : Bool) → x ≡ true → y ≡ true → (x && y) ≡ true
-and_both true y e g = g
-and_both false y e g = e
-
 pub sets_keep : (test : ℕ → Bool) (t : ℕ) (xs : List (Operand ℕ)) (ls : List (Line ℕ)) → test t ≡ true → AllKeep test xs → Sets t xs ls → list_all (line_keeps test) ls ≡ true
 sets_keep test t xs [] h all s = refl
 sets_keep test t xs (Tick turn w ∷ ls) h all s = absurd s
 sets_keep test t xs (Set p a ∷ ls) h all s =
-    and_both (test p && operand_keeps test a) _ (and_both (test p) (operand_keeps test a) (ap test s.0 ∙ h) (in_keeps test t xs a h all s.1)) (sets_keep test t xs ls h all s.2)
+    and_from (test p && operand_keeps test a) _ (and_from (test p) (operand_keeps test a) (ap test s.0 ∙ h) (in_keeps test t xs a h all s.1)) (sets_keep test t xs ls h all s.2)
 sets_keep test t xs (Operate p op a b ∷ ls) h all s =
-    and_both (test p && (operand_keeps test a && operand_keeps test b)) _
-    (and_both (test p) (operand_keeps test a && operand_keeps test b) (ap test s.0 ∙ h) (and_both (operand_keeps test a) (operand_keeps test b) (in_keeps test t xs a h all s.1) (in_keeps test t xs b h all s.2)))
+    and_from (test p && (operand_keeps test a && operand_keeps test b)) _
+    (and_from (test p) (operand_keeps test a && operand_keeps test b) (ap test s.0 ∙ h) (and_from (operand_keeps test a) (operand_keeps test b) (in_keeps test t xs a h all s.1) (in_keeps test t xs b h all s.2)))
     (sets_keep test t xs ls h all s.3)
 sets_keep test t xs (Load p op at ∷ ls) h all s =
-    and_both (test p && operand_keeps test at.base) _ (and_both (test p) (operand_keeps test at.base) (ap test s.0 ∙ h) (in_keeps test t xs at.base h all s.1)) (sets_keep test t xs ls h all s.2)
+    and_from (test p && operand_keeps test at.base) _ (and_from (test p) (operand_keeps test at.base) (ap test s.0 ∙ h) (in_keeps test t xs at.base h all s.1)) (sets_keep test t xs ls h all s.2)
 sets_keep test t xs (Store size a at ∷ ls) h all s = absurd s
 sets_keep test t xs (Alloc p size ∷ ls) h all s = absurd s
 sets_keep test t xs (Blit from to count ∷ ls) h all s = absurd s

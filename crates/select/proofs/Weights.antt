@@ -5,6 +5,7 @@ use Rattle.std.specs.List.{list_all, sum_by, position_from}
 use Rattle.std.proofs.lemmas.Iterator.Adapters.{position_from-zero}
 use Rattle.std.proofs.lemmas.Bool.Decides.{nat_tests}
 use Rattle.std.proofs.lemmas.List.Sums.{sum_by-cons, sum_by-append}
+use Rattle.std.proofs.lemmas.Bool.{and_parts, not-false}
 use Rattle.il_ast.specs.declared.instruction.Inst.{Inst}
 use Rattle.il_ast.specs.declared.instruction.Inst.TheVariants.{Unary, Binary, Alloc as AllocInst, Store as StoreInst, Blit as BlitInst, Call as CallInst}
 use Rattle.il_ast.specs.declared.instruction.Jump.{Jump}
@@ -34,7 +35,7 @@ use Rattle.vcode.specs.declared.code.Block.{Block as VirtualBlock}
 use Rattle.vcode.specs.Regular.{code_weight, weight_of}
 use Rattle.select.specs.Selected.{operand_of, inst_lines, turn_lines, all_lines, copy_lines, unary_lines, binary_lines, assignment_lines, ending_lines, edge_of, blocks_of, selected}
 use Rattle.select.specs.Typed.{Classes}
-use Rattle.select.proofs.Typing.{Among, neither_second, not_broken, none_among, not_false}
+use Rattle.select.proofs.Typing.{Among, neither_second, not_broken, none_among}
 use Rattle.select.proofs.UsedPlaces.{Sets, copy_sets, unary_sets, binary_sets}
 use Rattle.select.proofs.EachBlock.{IsTarget, is_target}
 use Rattle.select.proofs.Sums.{total, one, sum_total, count_total, total_plus, total_both, total_less, total_ones, exchanged, at_most_once}
@@ -114,19 +115,15 @@ own_label f good l =
 
 -- ---- a block has no more predecessors than a phi of it has arguments
 
-both_true : (a b : Bool) → (a && b) ≡ true → (a ≡ true) × (b ≡ true)
-both_true true b h = (refl, h)
-both_true false b h = absurd (let no : ⊥ = cc in no)
-
 all_among : {A : Type 0} (test : A → Bool) (xs : List A) (x : A) → list_all test xs ≡ true → Among x xs → test x ≡ true
 all_among test [] x h a = absurd a
-all_among test (y ∷ xs) x h (inl e) = ap test e ∙ (both_true (test y) (list_all test xs) h).0
-all_among test (y ∷ xs) x h (inr a) = all_among test xs x (both_true (test y) (list_all test xs) h).1 a
+all_among test (y ∷ xs) x h (inl e) = ap test e ∙ (and_parts (test y) (list_all test xs) h).0
+all_among test (y ∷ xs) x h (inr a) = all_among test xs x (and_parts (test y) (list_all test xs) h).1 a
 
 phi_covers : (f : Func) → IsGoodFunction f → (b : Block) (p : Phi) → Among b f.blocks → Among p b.phis → covers f.blocks b.label p.args ≡ true
 phi_covers f good b p a there =
     let here = none_among (uncovered_in f.blocks) f.blocks b (good.rules PhiCoversPredecessors) a in
-    not_false (covers f.blocks b.label p.args)
+    not-false (covers f.blocks b.label p.args)
     (not_broken (not (covers f.blocks b.label p.args)) p.line
     (none_among (λ (q : Phi). when (not (covers f.blocks b.label q.args)) q.line) b.phis p (neither_second (first_repeated (phi_sites b.phis)) (first (λ (q : Phi). when (not (covers f.blocks b.label q.args)) q.line) b.phis) here) there))
 
@@ -136,7 +133,7 @@ named_once false n h = omega arith
 
 predecessors_few : (f : Func) → IsGoodFunction f → (b : Block) (p : Phi) → Among b f.blocks → Among p b.phis → total (λ (c : Block). one (jumps_to b.label c.jump)) f.blocks ≤ length p.args
 predecessors_few f good b p a there =
-    let all = (both_true (list_all (λ (x : PhiArg). nat_eq (names_from x.from p.args) 1 && is_predecessor f.blocks b.label x.from) p.args) _ (phi_covers f good b p a there)).1 in
+    let all = (and_parts (list_all (λ (x : PhiArg). nat_eq (names_from x.from p.args) 1 && is_predecessor f.blocks b.label x.from) p.args) _ (phi_covers f good b p a there)).1 in
     let named = total_less (λ (c : Block). one (jumps_to b.label c.jump)) (λ (c : Block). total (λ (x : PhiArg). one (nat_eq x.from c.label)) p.args) f.blocks
     (λ c h. subst (λ n. one (jumps_to b.label c.jump) ≤ n) (count_total (λ (x : PhiArg). nat_eq x.from c.label) p.args)
     (named_once (jumps_to b.label c.jump) (names_from c.label p.args) (all_among (λ (k : Block). not (jumps_to b.label k.jump) || nat_lt 0 (names_from k.label p.args)) f.blocks c all h))) in

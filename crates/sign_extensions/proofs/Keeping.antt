@@ -2,6 +2,7 @@
 use Rattle.std.proofs.Common.{◌≡◌, ℕ, ◌≤◌, Bool, true, false, ◌&&◌, nat_le, if◌then◌else◌, List, [], ◌∷◌, map, Option, Some, None, refl, ◌∙◌, ap, arith}
 use Rattle.std.specs.List.{list_all}
 use Rattle.std.proofs.lemmas.List.{length-map}
+use Rattle.std.proofs.lemmas.Bool.{and_from, and_parts}
 use Rattle.vcode.specs.declared.place.Argument.{Argument}
 use Rattle.vcode.specs.declared.place.Destination.{Destination}
 use Rattle.vcode.specs.declared.line.Line.{Line}
@@ -40,20 +41,13 @@ none_keeps (Alloc to size) = refl
 none_keeps (Blit from to count) = refl
 none_keeps (Call to callee args) = none_wants to
 
-both_are : (a b : Bool) → a ≡ true → b ≡ true → (a && b) ≡ true
-both_are a b h k = ap (λ x. x && b) h ∙ k
-
-both_true : (a b : Bool) → (a && b) ≡ true → (a ≡ true) × (b ≡ true)
-both_true true b h = (refl, h)
-both_true false b h = absurd (let no : ⊥ = cc in no)
-
 every : {X : Type 0} (test : X → Bool) → ((x : X) → test x ≡ true) → (xs : List X) → list_all test xs ≡ true
 every test h [] = refl
-every test h (x ∷ xs) = both_are (test x) (list_all test xs) (h x) (every test h xs)
+every test h (x ∷ xs) = and_from (test x) (list_all test xs) (h x) (every test h xs)
 
 pub none_closed : (f : Code ℕ) → are_closed [] f ≡ true
 none_closed f =
-    both_are (list_all (takes_whole []) f.params) (list_all (λ (b : Block ℕ). list_all (keeps_marks []) b.lines) f.blocks) (every (takes_whole []) none_takes f.params)
+    and_from (list_all (takes_whole []) f.params) (list_all (λ (b : Block ℕ). list_all (keeps_marks []) b.lines) f.blocks) (every (takes_whole []) none_takes f.params)
     (every (λ (b : Block ℕ). list_all (keeps_marks []) b.lines) (λ b. every (keeps_marks []) none_keeps b.lines) f.blocks)
 
 -- ---- what lines take
@@ -98,7 +92,7 @@ all_same test f same (x ∷ xs) = ap (λ b. b && list_all test (map f xs)) (same
 all_kept : {X : Type 0} (test : X → Bool) (f : X → X) → ((x : X) → test x ≡ true → test (f x) ≡ true) → (xs : List X) → list_all test xs ≡ true → list_all test (map f xs) ≡ true
 all_kept test f kept [] h = refl
 all_kept test f kept (x ∷ xs) h =
-    let s = both_true (test x) (list_all test xs) h in both_are (test (f x)) (list_all test (map f xs)) (kept x s.0) (all_kept test f kept xs s.1)
+    let s = and_parts (test x) (list_all test xs) h in and_from (test (f x)) (list_all test (map f xs)) (kept x s.0) (all_kept test f kept xs s.1)
 
 -- ---- of a jump
 
@@ -131,8 +125,8 @@ line_low marks n (Operate to op a b) h = by (is_extension marks op a b)
   where
     by : (t : Bool) → line_keeps (is_below n) (if t then Set to a else Operate to op a b) ≡ true
     by true =
-        let s = both_true (is_below n to) (operand_keeps (is_below n) a && operand_keeps (is_below n) b) h in
-        both_are (is_below n to) (operand_keeps (is_below n) a) s.0 (both_true (operand_keeps (is_below n) a) (operand_keeps (is_below n) b) s.1).0
+        let s = and_parts (is_below n to) (operand_keeps (is_below n) a && operand_keeps (is_below n) b) h in
+        and_from (is_below n to) (operand_keeps (is_below n) a) s.0 (and_parts (operand_keeps (is_below n) a) (operand_keeps (is_below n) b) s.1).0
     by false = h
 line_low marks n (Load to op at) h = h
 line_low marks n (Store size a at) h = h
@@ -143,8 +137,8 @@ line_low marks n (Call to callee args) h =
 
 block_low : (marks : List Bool) (n : ℕ) (b : Block ℕ) → block_keeps (is_below n) b ≡ true → block_keeps (is_below n) (with_copies marks b) ≡ true
 block_low marks n b h =
-    let s = both_true (list_all (line_keeps (is_below n)) b.lines) (jump_keeps (is_below n) b.jump) h in
-    both_are (list_all (line_keeps (is_below n)) (map (with_copy marks) b.lines)) (jump_keeps (is_below n) (jump_claim marks b.jump)) (all_kept (line_keeps (is_below n)) (with_copy marks) (line_low marks n) b.lines s.0)
+    let s = and_parts (list_all (line_keeps (is_below n)) b.lines) (jump_keeps (is_below n) b.jump) h in
+    and_from (list_all (line_keeps (is_below n)) (map (with_copy marks) b.lines)) (jump_keeps (is_below n) (jump_claim marks b.jump)) (all_kept (line_keeps (is_below n)) (with_copy marks) (line_low marks n) b.lines s.0)
     (claim_names marks (is_below n) b.jump ∙ s.1)
 
 -- ---- the whole

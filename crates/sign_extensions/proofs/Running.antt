@@ -4,6 +4,7 @@ use Rattle.std.specs.List.{list_all}
 use Rattle.std.specs.Option.{option_map, option_and_then}
 use Rattle.std.proofs.lemmas.Bool.Decides.{nat_tests}
 use Rattle.std.proofs.lemmas.Option.{slice_get-map}
+use Rattle.std.proofs.lemmas.Bool.{and_parts, eq-eqb}
 use Rattle.bits.specs.Words.{sign_extended}
 use Rattle.il_ast.specs.declared.operation.Class.{Class}
 use Rattle.il_ast.specs.declared.operation.Class.TheVariants.{W, L}
@@ -113,13 +114,9 @@ record Extends (marks : List Bool) (op : Operation) (a b : Operand ℕ) : Type 0
   zero_is : number ≡ 0
   marked : is_marked marks register ≡ true
 
-both_true : (a b : Bool) → (a && b) ≡ true → (a ≡ true) × (b ≡ true)
-both_true true b h = (refl, h)
-both_true false b h = absurd (let no : ⊥ = cc in no)
-
 extends : (marks : List Bool) (op : Operation) (a b : Operand ℕ) → is_extension marks op a b ≡ true → Extends marks op a b
 extends marks (RegW Addw) (At r) (Number n) h =
-    let s = both_true (nat_eq n 0) (is_marked marks r) h in
+    let s = and_parts (nat_eq n 0) (is_marked marks r) h in
     record { register = r; number = n; operation = refl; left = refl; right = refl; zero_is = (let e = s.0 in grind (arith, nat_tests)); marked = s.1 }
 extends marks (RegW Addw) (At r) (At q) h = absurd (let no : ⊥ = cc in no)
 extends marks (RegW Addw) (At r) (Name g) h = absurd (let no : ⊥ = cc in no)
@@ -162,13 +159,10 @@ operate_follows marks globals memory ev el to op a b true e all more =
 
 -- ---- a call beside the one with claims
 
-same_number : (m n : ℕ) → m ≡ n → nat_eq m n ≡ true
-same_number m n e = grind (arith, nat_tests)
-
 -- what stands whole may be claimed to
 value_passed : (e : Extension) (k : Class) (v : Value) → Whole v → passed Claimed k v ≡ passed e k v
 value_passed Made W (Integer n) h =
-    ap (λ (b : Bool). if b then in_place W (Integer n) else None) (same_number (sign_extended (n % 2 ^ 32)) n (whole_number n h))
+    ap (λ (b : Bool). if b then in_place W (Integer n) else None) (eq-eqb (sign_extended (n % 2 ^ 32)) n (whole_number n h))
 value_passed Made W (Pointer b k) h = refl
 value_passed Made W (Function g) h = refl
 value_passed Made L v h = refl
@@ -270,26 +264,26 @@ module _ (marks : List Bool) (v w : Code ℕ) where
   block_follows : (lines : List (Line ℕ)) (j : Jump ℕ) → list_all (keeps_marks marks) lines ≡ true → CodeFollows (claims marks) v w tt lines j (map (with_copy marks) lines) (jump_claim marks j)
   block_follows [] j h = Jumps (jump_beside marks v.result j)
   block_follows (l ∷ lines) j h =
-      let s = both_true (keeps_marks marks l) (list_all (keeps_marks marks) lines) h in Both (line_beside marks l s.0) (block_follows lines j s.1)
+      let s = and_parts (keeps_marks marks l) (list_all (keeps_marks marks) lines) h in Both (line_beside marks l s.0) (block_follows lines j s.1)
 
 bound_whole : (marks : List Bool) (values : Values ℕ) (params : List (Destination ℕ)) (args : List Value) → list_all (takes_whole marks) params ≡ true → AreWhole marks values → AreWhole marks (bound virtual values params args)
 bound_whole marks values [] args h all = all
 bound_whole marks values (d ∷ params) [] h all = all
 bound_whole marks values (d ∷ params) (v ∷ args) h all =
-    let s = both_true (takes_whole marks d) (list_all (takes_whole marks) params) h in
+    let s = and_parts (takes_whole marks d) (list_all (takes_whole marks) params) h in
     bound_whole marks (put virtual d.place (held d.class v) values) params args s.1 (assign_whole marks values d.place (Some (held d.class v)) all (taken_whole marks d v s.0))
 
 all_at : {X : Type 0} (test : X → Bool) (xs : List X) (k : ℕ) (x : X) → list_all test xs ≡ true → slice_get xs k ≡ Some x → test x ≡ true
 all_at test [] k x h at = absurd (let no : ⊥ = cc in no)
-all_at test (y ∷ xs) zero x h at = let same : y ≡ x = cc in ap test (sym same) ∙ (both_true (test y) (list_all test xs) h).0
-all_at test (y ∷ xs) (suc k) x h at = all_at test xs k x (both_true (test y) (list_all test xs) h).1 at
+all_at test (y ∷ xs) zero x h at = let same : y ≡ x = cc in ap test (sym same) ∙ (and_parts (test y) (list_all test xs) h).0
+all_at test (y ∷ xs) (suc k) x h at = all_at test xs k x (and_parts (test y) (list_all test xs) h).1 at
 
 abbrev pub copied : List Bool → Code ℕ → Code ℕ
 copied marks v = record { result = v.result; params = v.params; blocks = map (with_copies marks) v.blocks }
 
 rewrites : (marks : List Bool) (v : Code ℕ) → are_closed marks v ≡ true → Rewrites (claims marks) v (copied marks v)
 rewrites marks v closed =
-    let own = both_true (list_all (takes_whole marks) v.params) (list_all (λ (d : Block ℕ). list_all (keeps_marks marks) d.lines) v.blocks) closed in
+    let own = and_parts (list_all (takes_whole marks) v.params) (list_all (λ (d : Block ℕ). list_all (keeps_marks marks) d.lines) v.blocks) closed in
     record {
       result = refl;
       first = tt;

@@ -3,6 +3,7 @@ use Rattle.std.proofs.Common.{◌≡◌, ℕ, ◌+◌, ◌-◌, ◌%◌, ◌^◌
 use Rattle.std.specs.Option.{option_map, option_and_then}
 use Rattle.std.proofs.lemmas.Bool.Decides.{nat_tests}
 use Rattle.std.proofs.lemmas.Int.{ints}
+use Rattle.std.proofs.lemmas.Bool.{and_parts}
 use Rattle.bits.specs.Words.{sign_extended}
 use Rattle.il_ast.specs.declared.operation.Class.{Class}
 use Rattle.il_ast.specs.declared.operation.Class.TheVariants.{W}
@@ -86,10 +87,6 @@ operand_whole marks globals values (Number n) all h = number_whole n h
 operand_whole marks globals values (Name g) all h = absurd (let no : ⊥ = cc in no)
 
 -- ---- operations
-
-both_true : (a b : Bool) → (a && b) ≡ true → (a ≡ true) × (b ≡ true)
-both_true true b h = (refl, h)
-both_true false b h = absurd (let no : ⊥ = cc in no)
 
 word_small : (op : RegWOp) (a b : ℕ) → a < 2 ^ 32 → b < 2 ^ 32 → word_value op a b < 2 ^ 32
 word_small op a b h k = grind (arith, ints)
@@ -199,8 +196,8 @@ pub operate_whole : (marks : List Bool) (globals : List Value) (values : Values 
 operate_whole marks globals values m (RegW op) a b u v all h x y = regw_whole m op u v
 operate_whole marks globals values m (Compare on k) a b u v all h x y = compare_whole m on k u v
 operate_whole marks globals values m (Reg op) a b u v all h x y =
-    let s = both_true (keeps_whole op) (is_whole marks a && is_whole marks b) h in
-    let t = both_true (is_whole marks a) (is_whole marks b) s.1 in
+    let s = and_parts (keeps_whole op) (is_whole marks a && is_whole marks b) h in
+    let t = and_parts (is_whole marks a) (is_whole marks b) s.1 in
     reg_whole m op s.0 u v (some_whole (value_of globals values a) u x (operand_whole marks globals values a all t.0))
     (some_whole (value_of globals values b) v y (operand_whole marks globals values b all t.1))
 

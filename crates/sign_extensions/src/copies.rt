@@ -7,7 +7,6 @@ ghost use Rattle.sign_extensions.specs.Whole.{are_closed, IsCopied};
 use crate::lines::blocks;
 use crate::marks::whole_registers;
 use std::alloc::{AllocError, Global};
-use vcode::code::Code;
 use vcode::function::VFunc;
 
 fn with_copies(alloc: Global, function: &VFunc, marks: &[bool]) -> Result<VFunc, AllocError>
@@ -15,16 +14,9 @@ fn with_copies(alloc: Global, function: &VFunc, marks: &[bool]) -> Result<VFunc,
     ensures kept { IfOk result (λ w. Keeps (virtual_code function.now) (virtual_code w)) }
     ensures copied { IfOk result (λ w. IsCopied function.now w) }
 {
-    let params = function.code.params.try_clone(alloc)?;
     let blocks = blocks(alloc, marks, function.code.blocks.as_slice())?;
-    Ok(VFunc {
-        code: Code {
-            result: function.code.result,
-            params,
-            blocks,
-        },
-        registers: function.registers,
-    })
+    let made = function.with_blocks(alloc, function.registers, blocks)?;
+    Ok(made)
 }
 
 /// The function, in which each extension to a word of a register that holds whole words alone is a copy, and each word that is passed from such a register is claimed to

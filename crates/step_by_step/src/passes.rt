@@ -64,7 +64,7 @@ pub fn with_copies_read(alloc: Global, text: &str) -> Option<String> {
 /// The function with constants of its loops in registers.
 pub fn with_constants_held(alloc: Global, text: &str) -> Option<String> {
     let function = virtual_function(alloc, text)?;
-    shown(alloc, hoist_constants(alloc, &function))
+    shown(alloc, hoist_constants(alloc, function))
 }
 
 /// The function with its blocks in the order that is chosen.

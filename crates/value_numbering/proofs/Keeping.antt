@@ -1,8 +1,7 @@
 -- Code that uses values again takes what the code took, and names the registers of the function.
-use Rattle.std.proofs.Common.{◌≡◌, ℕ, ◌+◌, ◌<◌, ◌≤◌, Bool, true, false, nat_lt, if◌then◌else◌, List, [], ◌∷◌, Some, refl, sym, ◌∙◌, ap, subst, arith}
+use Rattle.std.proofs.Common.{◌≡◌, ℕ, ◌+◌, ◌<◌, ◌≤◌, Bool, true, false, if◌then◌else◌, List, [], ◌∷◌, Some, refl, sym, ◌∙◌, ap, subst, arith}
 use Rattle.std.specs.List.{list_all}
-use Rattle.std.proofs.lemmas.Bool.{and_parts, and_from}
-use Rattle.std.proofs.lemmas.Bool.Decides.{nat_tests}
+use Rattle.std.proofs.lemmas.Bool.{and_parts, and_from, lt-ltb}
 use Rattle.vcode.specs.declared.place.Operand.{Operand}
 use Rattle.vcode.specs.declared.place.Operand.TheVariants.{At, Number, Name}
 use Rattle.vcode.specs.declared.line.Operation.{Operation}
@@ -17,7 +16,8 @@ use Rattle.vcode.specs.Named.{operand_keeps, line_keeps, jump_keeps, is_below}
 use Rattle.vcode.specs.Addresses.{distance}
 use Rattle.vcode.specs.Regular.{leads_inside}
 use Rattle.vcode.proofs.Measuring.{Measured, Empty, Put, measure, within, Each, NoBlocks, OneMore}
-use Rattle.vcode.proofs.Results.{Serves, Owed, owed_each, with_these}
+use Rattle.vcode.specs.Becomes.{with_these}
+use Rattle.vcode.proofs.Results.{Serves, Owed, owed_each}
 use Rattle.value_numbering.specs.declared.fact.Expression.TheVariants.{Same, Loaded}
 use Rattle.value_numbering.specs.declared.fact.Fact.{Fact}
 use Rattle.value_numbering.specs.Known.{computed, after}
@@ -104,13 +104,10 @@ writes_low n (Alloc to size) f is h = absurd (let no : ⊥ = cc in no)
 writes_low n (Blit from to count) f is h = absurd (let no : ⊥ = cc in no)
 writes_low n (Call to callee args) f is h = absurd (let no : ⊥ = cc in no)
 
-below : (r n : ℕ) → r < n → nat_lt r n ≡ true
-below r n h = grind (arith, nat_tests)
-
 made_low : (n : ℕ) (facts : List Fact) (l m : Line ℕ) → Made n facts l m → line_keeps (is_below n) l ≡ true → line_keeps (is_below n) m ≡ true
 made_low n facts l m Itself h = h
-made_low n facts l m (Narrow {size = size} {a = a} {at = at} {q = q} is low) h = and_from (is_below n q) (operand_keeps (is_below n) at.base) (below q n low) (and_parts (operand_keeps (is_below n) a) (operand_keeps (is_below n) at.base) h).1
-made_low n facts l m (Copy {f = f} {r = r} is dear low known) h = and_from (is_below n f.register) (is_below n r) (writes_low n l f is h) (below r n low)
+made_low n facts l m (Narrow {size = size} {a = a} {at = at} {q = q} is low) h = and_from (is_below n q) (operand_keeps (is_below n) at.base) (lt-ltb q n low) (and_parts (operand_keeps (is_below n) a) (operand_keeps (is_below n) at.base) h).1
+made_low n facts l m (Copy {f = f} {r = r} is dear low known) h = and_from (is_below n f.register) (is_below n r) (writes_low n l f is h) (lt-ltb r n low)
 
 lines_low : (n : ℕ) (claims : List (List Fact)) (facts : List Fact) (lines new : List (Line ℕ)) (j : Jump ℕ) → AreReused n claims facts lines new j → list_all (line_keeps (is_below n)) lines ≡ true → list_all (line_keeps (is_below n)) new ≡ true
 lines_low n claims facts [] [] j h low = refl

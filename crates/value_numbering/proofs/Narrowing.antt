@@ -3,7 +3,7 @@ use Rattle.std.proofs.Common.{◌≡◌, ℕ, ◌*◌, ◌/◌, ◌%◌, ◌^◌
 use Rattle.std.specs.Prelude.{bit_and}
 use Rattle.std.specs.Int.{w32, w64, cast_signed, cast_unsigned, int_shr}
 use Rattle.std.specs.Option.{option_and_then}
-use Rattle.std.proofs.lemmas.Bool.{and_parts}
+use Rattle.std.proofs.lemmas.Bool.{and_parts, eqb-true}
 use Rattle.std.proofs.lemmas.Nat.{and_mask, and_le_r, div_below, pow_below}
 use Rattle.std.proofs.lemmas.Bool.Decides.{nat_tests}
 use Rattle.std.proofs.lemmas.Int.{ints}
@@ -33,7 +33,6 @@ use Rattle.vcode.specs.Operations.{operate, loaded, extended}
 use Rattle.vcode.specs.Places.{Values}
 use Rattle.vcode.specs.Step.{value_of, operated, address_of}
 use Rattle.vcode.specs.Acts.{Gives, given, left, act}
-use Rattle.vcode.proofs.Writing.{same_number}
 use Rattle.value_numbering.specs.declared.fact.Expression.{Expression}
 use Rattle.value_numbering.specs.declared.fact.Expression.TheVariants.{Same, Operated, Extended, Loaded}
 use Rattle.value_numbering.specs.Known.{gives, reached, is_back, first_of}
@@ -207,7 +206,7 @@ is_extended globals m values size (Extended op (At p) k) q r h is = by (nat_eq k
     by true true t back h =
         let same : p ≡ q = cc in
         subst (λ (x : ℕ). SameLow (span size) (values x) (values r)) same
-        (subst (λ (o : Option Value). SameLow (span size) (values p) o) (gives_one (twice m op (bits size) (values p)) (values r) (ap (λ (j : ℕ). Gives (twice m op j (values p))) (sym (same_number k (bits size) t)) ∙ is))
+        (subst (λ (o : Option Value). SameLow (span size) (values p) o) (gives_one (twice m op (bits size) (values p)) (values r) (ap (λ (j : ℕ). Gives (twice m op j (values p))) (sym (eqb-true k (bits size) t)) ∙ is))
         (extended_low m size op back (values p)))
     by true false t back h = absurd (let no : ⊥ = cc in no)
     by false c t back h = absurd (let no : ⊥ = cc in no)
@@ -224,7 +223,7 @@ is_masked globals m values (Operated (Reg And) (At p) (Number k)) q r h is = by 
     by true t h =
         let same : p ≡ q = cc in
         subst (λ (x : ℕ). SameLow (2 ^ 8) (values x) (values r)) same
-        (subst (λ (o : Option Value). SameLow (2 ^ 8) (values p) o) (gives_one (operated m (Reg And) (values p) (Some (Integer (255 % 2 ^ 64)))) (values r) (ap (λ (j : ℕ). Gives (operated m (Reg And) (values p) (Some (Integer (j % 2 ^ 64))))) (sym (same_number k 255 t)) ∙ is))
+        (subst (λ (o : Option Value). SameLow (2 ^ 8) (values p) o) (gives_one (operated m (Reg And) (values p) (Some (Integer (255 % 2 ^ 64)))) (values r) (ap (λ (j : ℕ). Gives (operated m (Reg And) (values p) (Some (Integer (j % 2 ^ 64))))) (sym (eqb-true k 255 t)) ∙ is))
         (masked_low m (values p)))
     by false t h = absurd (let no : ⊥ = cc in no)
 is_masked globals m values (Operated (Reg And) (At p) (At k)) q r h is = absurd (let no : ⊥ = cc in no)

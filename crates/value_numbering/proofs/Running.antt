@@ -1,7 +1,7 @@
 -- Code that uses values again does what the code did: at each line both are in one state, of which what is known is true.
 use Rattle.std.proofs.Common.{◌≡◌, ℕ, zero, suc, ◌+◌, Bool, true, false, not, ◌&&◌, ◌||◌, nat_eq, nat_lt, if◌then◌else◌, List, [], ◌∷◌, ◌++◌, filter, length, Option, Some, None, slice_get, refl, sym, ◌∙◌, ap, subst, arith}
 use Rattle.std.specs.Option.{option_and_then}
-use Rattle.std.proofs.lemmas.Bool.{and_parts}
+use Rattle.std.proofs.lemmas.Bool.{and_parts, eqb-true, not-true, or_parts}
 use Rattle.std.proofs.lemmas.Bool.Decides.{nat_tests}
 use Rattle.il_ast.specs.declared.value.Value.{Value}
 use Rattle.il_ast.specs.declared.value.Value.TheVariants.{Integer, Pointer, Function}
@@ -34,7 +34,7 @@ use Rattle.vcode.specs.Facts.{Facts as About, claimed}
 use Rattle.vcode.proofs.Alike.{MayLeave}
 use Rattle.vcode.proofs.Factual.{fact_line, fact_jump, facts_rewrite, Claimed}
 use Rattle.vcode.proofs.Rewriting.{rewrites_keep}
-use Rattle.vcode.proofs.Writing.{turned, same_number, unwritten, now_holds}
+use Rattle.vcode.proofs.Writing.{turned, unwritten, now_holds}
 use Rattle.value_numbering.specs.declared.fact.Expression.{Expression}
 use Rattle.value_numbering.specs.declared.fact.Expression.TheVariants.{Same, Operated, Extended, Loaded}
 use Rattle.value_numbering.specs.declared.fact.Fact.{Fact}
@@ -139,7 +139,7 @@ shift_here globals m values f r n a is e = by (nat_eq f.register r) refl e
         → gives globals m values (Operated (Reg Sll) b (Number k)) ≡ Gives (operated m (Reg Sll) (value_of globals values a) (value_of globals values (Number n)))
     here b k true t h =
         let same : b ≡ a = cc in
-        ap (λ (x : Operand ℕ). Gives (operated m (Reg Sll) (value_of globals values x) (value_of globals values (Number k)))) same ∙ ap (λ (j : ℕ). Gives (operated m (Reg Sll) (value_of globals values a) (value_of globals values (Number j)))) (same_number k n t)
+        ap (λ (x : Operand ℕ). Gives (operated m (Reg Sll) (value_of globals values x) (value_of globals values (Number k)))) same ∙ ap (λ (j : ℕ). Gives (operated m (Reg Sll) (value_of globals values a) (value_of globals values (Number j)))) (eqb-true k n t)
     here b k false t h = absurd (let no : ⊥ = cc in no)
 
     from : (x : Expression) → shifted_in x n ≡ Some a → gives globals m values x ≡ Gives (operated m (Reg Sll) (value_of globals values a) (value_of globals values (Number n)))
@@ -171,7 +171,7 @@ shift_here globals m values f r n a is e = by (nat_eq f.register r) refl e
 
     by : (b : Bool) → nat_eq f.register r ≡ b → (if b then shifted_in f.value n else None) ≡ Some a → values r ≡ operated m (Reg Sll) (value_of globals values a) (value_of globals values (Number n))
     by true t h =
-        let same : f.register ≡ r = same_number f.register r t in
+        let same : f.register ≡ r = eqb-true f.register r t in
         gives_one (values r) (operated m (Reg Sll) (value_of globals values a) (value_of globals values (Number n))) (ap (λ (k : ℕ). Gives (values k)) (sym same) ∙ sym is ∙ from f.value h)
     by false t h = absurd (let no : ⊥ = cc in no)
 
@@ -249,14 +249,6 @@ made_same globals m values n facts l k all (Narrow {size = size} {a = a} {at = a
 
 -- ---- what a line leaves
 
-not_true : (b : Bool) → not b ≡ true → b ≡ false
-not_true true h = cc
-not_true false h = refl
-
-no_or : (a b : Bool) → (a || b) ≡ false → (a ≡ false) × (b ≡ false)
-no_or true b h = cc
-no_or false b h = (refl, h)
-
 -- an operand that doesn't name the register that is written
 operand_spared : (globals : List Value) (values : Values ℕ) (r : ℕ) (o : Option Value) (a : Operand ℕ) → names r a ≡ false → SameIn globals values (written (Some r) o values) (λ x. x) a
 operand_spared globals values r o (At q) h = unwritten (Some r) o values q (turned r q ∙ h)
@@ -265,7 +257,7 @@ operand_spared globals values r o (Name g) h = refl
 
 expression_spared : (globals : List Value) (values : Values ℕ) (r : ℕ) (o : Option Value) (e : Expression) → reads r e ≡ false → AllOf (SameIn globals values (written (Some r) o values) (λ x. x)) e
 expression_spared globals values r o (Same a) h = operand_spared globals values r o a h
-expression_spared globals values r o (Operated op a b) h = let s = no_or (names r a) (names r b) h in (operand_spared globals values r o a s.0, operand_spared globals values r o b s.1)
+expression_spared globals values r o (Operated op a b) h = let s = or_parts (names r a) (names r b) h in (operand_spared globals values r o a s.0, operand_spared globals values r o b s.1)
 expression_spared globals values r o (Extended back a n) h = operand_spared globals values r o a h
 expression_spared globals values r o (Loaded op a d) h = operand_spared globals values r o a h
 
@@ -276,7 +268,7 @@ gives_spared globals m values r o e h =
 fact_spared : (globals : List Value) (m : Memory) (values : Values ℕ) (to : Option ℕ) (o : Option Value) (f : Fact) → spares to f ≡ true → IsTrueOf globals m values f → IsTrueOf globals m (written to o values) f
 fact_spared globals m values None o f h is = is
 fact_spared globals m values (Some r) o f h is =
-    let s = no_or (nat_eq f.register r) (reads r f.value) (not_true (nat_eq f.register r || reads r f.value) h) in
+    let s = or_parts (nat_eq f.register r) (reads r f.value) (not-true (nat_eq f.register r || reads r f.value) h) in
     gives_spared globals m values r o f.value s.1 ∙ is ∙ ap Gives (sym (unwritten (Some r) o values f.register (turned r f.register ∙ s.0)))
 
 add_any : (m n : Memory) (u v : Value) → on_places m SumOf u v ≡ on_places n SumOf u v

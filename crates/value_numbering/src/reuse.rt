@@ -11,7 +11,7 @@ use crate::known::are_known;
 use crate::lines::lines;
 use il_ast::list::Seq;
 use std::alloc::{AllocError, Global};
-use vcode::code::{Block, Code};
+use vcode::code::Block;
 use vcode::function::VFunc;
 use vcode::line::Jump;
 
@@ -97,15 +97,8 @@ fn reused(
         function.code.blocks.as_slice(),
     )? {
         Some(blocks) => {
-            let params = function.code.params.try_clone(alloc)?;
-            Ok(Some(VFunc {
-                code: Code {
-                    result: function.code.result,
-                    params,
-                    blocks: Seq::from_vec(blocks),
-                },
-                registers: function.registers,
-            }))
+            let made = function.with_blocks(alloc, function.registers, Seq::from_vec(blocks))?;
+            Ok(Some(made))
         }
         None => Ok(None),
     }

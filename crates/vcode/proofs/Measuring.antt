@@ -4,6 +4,7 @@ use Rattle.std.specs.List.{list_all, list_any, sum_by}
 use Rattle.std.proofs.lemmas.Bool.{and_parts, and_from}
 use Rattle.std.proofs.lemmas.Bool.Decides.{nat_tests}
 use Rattle.std.proofs.lemmas.List.Sums.{sum_by-cons}
+use Rattle.il_ast.specs.declared.limits.TheConstants.{FUNCTION_WEIGHT}
 use Rattle.vcode.specs.declared.line.Line.{Line}
 use Rattle.vcode.specs.declared.line.Line.TheVariants.{Tick, Set, Operate, Load, Store, Alloc, Blit, Call}
 use Rattle.vcode.specs.declared.line.Jump.{Jump}
@@ -152,7 +153,7 @@ pub record Fit (bs ds : List (Block ℕ)) : Type 0 where
   pub area : sum_by (λ (b : Block ℕ). sum_by alloc_bytes b.lines) ds ≤ sum_by (λ (b : Block ℕ). sum_by alloc_bytes b.lines) bs
   pub makes : allocs_first bs ≡ true → allocs_first ds ≡ true
   pub paid : list_all is_paid bs ≡ true → list_all is_paid ds ≡ true
-  pub paced : list_all (λ (b : Block ℕ). nat_le (sum_by turns_of b.lines) 40000) bs ≡ true → list_all (λ (b : Block ℕ). nat_le (sum_by turns_of b.lines) 40000) ds ≡ true
+  pub paced : list_all (λ (b : Block ℕ). nat_le (sum_by turns_of b.lines) FUNCTION_WEIGHT) bs ≡ true → list_all (λ (b : Block ℕ). nat_le (sum_by turns_of b.lines) FUNCTION_WEIGHT) ds ≡ true
   pub few : list_all (λ (b : Block ℕ). list_all passes_few b.lines) bs ≡ true → list_all (λ (b : Block ℕ). list_all passes_few b.lines) ds ≡ true
 
 -- blocks in one order, one for each
@@ -196,8 +197,8 @@ module _ (R : Block ℕ → Block ℕ → Type 0) where
         makes = each_makes within each;
         paid = each_all is_paid is_paid (λ b d one. (within b d one).paid) each;
         paced =
-            each_all (λ (b : Block ℕ). nat_le (sum_by turns_of b.lines) 40000) (λ (b : Block ℕ). nat_le (sum_by turns_of b.lines) 40000)
-            (λ b d one. still_within (sum_by turns_of d.lines) (sum_by turns_of b.lines) 40000 (within b d one).turns) each;
+            each_all (λ (b : Block ℕ). nat_le (sum_by turns_of b.lines) FUNCTION_WEIGHT) (λ (b : Block ℕ). nat_le (sum_by turns_of b.lines) FUNCTION_WEIGHT)
+            (λ b d one. still_within (sum_by turns_of d.lines) (sum_by turns_of b.lines) FUNCTION_WEIGHT (within b d one).turns) each;
         few =
             each_all (λ (b : Block ℕ). list_all passes_few b.lines) (λ (b : Block ℕ). list_all passes_few b.lines) (λ b d one e. (within b d one).few ∙ e) each;
       }

@@ -4,23 +4,20 @@ use Rattle.std.specs.Prelude.{IsTrue}
 use Rattle.std.specs.List.{list_all}
 use Rattle.std.proofs.lemmas.Bool.{and_parts, and_from}
 use Rattle.std.proofs.lemmas.Bool.Decides.{nat_tests}
+use Rattle.il_ast.specs.declared.limits.TheConstants.{FUNCTION_WEIGHT, ALLOC_BYTES}
 use Rattle.il_ast.specs.declared.value.Value.{Value}
 use Rattle.il_ast.specs.Keeps.{KeepsCode}
 use Rattle.il_ast.specs.Passes.{Coded, Keeps}
 use Rattle.vcode.specs.declared.place.Destination.{Destination}
 use Rattle.vcode.specs.declared.code.Block.{Block}
-use Rattle.vcode.specs.declared.code.Code.{Code}
 use Rattle.vcode.specs.declared.function.VFunc.{VFunc}
-use Rattle.vcode.specs.Coded.{classes_in, coded, virtual_code}
-use Rattle.vcode.specs.Named.{block_keeps, keeps_places, is_below, are_low, are_distinct}
+use Rattle.vcode.specs.Becomes.{with_these, Becomes}
+use Rattle.vcode.specs.Coded.{classes_in, virtual_code}
+use Rattle.vcode.specs.Named.{block_keeps, is_below}
 use Rattle.vcode.specs.Places.{virtual}
 use Rattle.vcode.specs.Regular.{leads_inside, area, code_weight, IsRegular}
 use Rattle.vcode.specs.Step.{begin, step}
 use Rattle.vcode.proofs.Measuring.{Within, Fit, Each, each_count, each_all, each_fits, still_within}
-
--- the code with other blocks
-abbrev pub with_these : Code ℕ → List (Block ℕ) → Code ℕ
-with_these f blocks = record { result = f.result; params = f.params; blocks = blocks }
 
 abbrev pub all_inside : List (Block ℕ) → Bool
 all_inside blocks = list_all (λ (b : Block ℕ). leads_inside (length blocks) b.jump) blocks
@@ -58,15 +55,6 @@ owed_each v registers blocks more each runs =
       runs = runs;
     }
 
--- what holds of the code that was made
-pub record Result (v : VFunc) (registers : ℕ) (w : Code ℕ) : Type 0 where
-  pub regular : IsRegular w
-  pub light : IsTrue (nat_le (code_weight w) 40000)
-  pub known : IsTrue (keeps_places (is_below registers) w)
-  pub low : IsTrue (are_low w.params)
-  pub distinct : IsTrue (are_distinct virtual w.params)
-  pub keeps : Keeps (virtual_code v) (coded virtual w)
-
 still_below : (n m k : ℕ) → n ≤ m → is_below n k ≡ true → is_below m k ≡ true
 still_below n m k more h = grind (arith, nat_tests)
 
@@ -76,8 +64,8 @@ params_below n m more (d ∷ params) h =
     let s = and_parts (is_below n d.place) (list_all (λ (x : Destination ℕ). is_below n x.place) params) h in
     and_from (is_below m d.place) (list_all (λ (x : Destination ℕ). is_below m x.place) params) (still_below n m d.place more s.0) (params_below n m more params s.1)
 
-owed_result : (v : VFunc) (registers : ℕ) (blocks : List (Block ℕ)) → Owed v registers blocks → Result v registers (with_these v.code blocks)
-owed_result v registers blocks owed =
+pub becomes : (v : VFunc) (registers : ℕ) (blocks : List (Block ℕ)) → Owed v registers blocks → Becomes v registers blocks
+becomes v registers blocks owed =
     let is : IsRegular v.code = v.regular in
     let named = and_parts (list_all (λ (d : Destination ℕ). is_below v.registers d.place) v.code.params) (list_all (block_keeps (is_below v.registers)) v.code.blocks) v.known in
     record {
@@ -86,40 +74,28 @@ owed_result v registers blocks owed =
             few_params = is.few_params;
             inside = owed.inside is.inside;
             first = owed.fits.makes is.first;
-            small = still_within (area (with_these v.code blocks)) (area v.code) 1048576 owed.fits.area is.small;
+            small = still_within (area (with_these v.code blocks)) (area v.code) ALLOC_BYTES owed.fits.area is.small;
             paid = owed.fits.paid is.paid;
             paced = owed.fits.paced is.paced;
             few_args = owed.fits.few is.few_args;
           };
-      light = still_within (code_weight (with_these v.code blocks)) (code_weight v.code) 40000 owed.fits.weight v.light;
+      light = still_within (code_weight (with_these v.code blocks)) (code_weight v.code) FUNCTION_WEIGHT owed.fits.weight v.light;
       known =
           and_from (list_all (λ (d : Destination ℕ). is_below registers d.place) v.code.params) (list_all (block_keeps (is_below registers)) blocks)
           (params_below v.registers registers owed.more v.code.params named.0) (owed.names named.1);
-      low = v.low;
-      distinct = v.distinct;
       keeps = record { params = refl; result = refl; runs = owed.runs };
     }
 
--- code of a function's parameters and of these blocks
-pub made : (f : Code ℕ) (params : List (Destination ℕ)) (blocks these : List (Block ℕ)) → params ≡ f.params → blocks ≡ these
-    → with_these f these ≡ record { result = f.result; params = params; blocks = blocks }
-made f params blocks these same is =
-    ap (λ (ps : List (Destination ℕ)). record { result = f.result; params = ps; blocks = these }) (sym same)
-    ∙ ap (λ (bs : List (Block ℕ)). record { result = f.result; params = params; blocks = bs }) (sym is)
-
-pub result_of : (v : VFunc) (registers : ℕ) (these : List (Block ℕ)) → Owed v registers these → (params : List (Destination ℕ)) (blocks : List (Block ℕ)) → params ≡ v.code.params → blocks ≡ these
-    → Result v registers (record { result = v.code.result; params = params; blocks = blocks })
-result_of v registers these owed params blocks same is =
-    subst (λ (w : Code ℕ). Result v registers w) (made v.code params blocks these same is) (owed_result v registers these owed)
+-- ... where the blocks are known under another name
+pub becomes_these : (v : VFunc) (registers : ℕ) (these blocks : List (Block ℕ)) → Owed v registers these → blocks ≡ these → Becomes v registers blocks
+becomes_these v registers these blocks owed is = subst (λ (bs : List (Block ℕ)). Becomes v registers bs) (sym is) (becomes v registers these owed)
 
 -- ---- a function that stays as it is
 
 pub keeps_itself : (c : Coded) → Keeps c c
 keeps_itself c = record { params = refl; result = refl; runs = λ globals log i o args fine n logged. (n, logged) }
 
--- the code is made of the function's own parameters and blocks
-pub own_result : (v : VFunc) (params : List (Destination ℕ)) (blocks : List (Block ℕ)) → params ≡ v.code.params → blocks ≡ v.code.blocks
-    → Result v v.registers (record { result = v.code.result; params = params; blocks = blocks })
-own_result v params blocks same is =
-    subst (λ (w : Code ℕ). Result v v.registers w) (made v.code params blocks v.code.blocks same is)
-    (record { regular = v.regular; light = v.light; known = v.known; low = v.low; distinct = v.distinct; keeps = keeps_itself (virtual_code v) })
+pub becomes_itself : (v : VFunc) (blocks : List (Block ℕ)) → blocks ≡ v.code.blocks → Becomes v v.registers blocks
+becomes_itself v blocks is =
+    subst (λ (bs : List (Block ℕ)). Becomes v v.registers bs) (sym is)
+    (record { regular = v.regular; light = v.light; known = v.known; keeps = keeps_itself (virtual_code v) })

@@ -3,7 +3,7 @@ use Rattle.std.proofs.Common.{◌≡◌, ℕ, Bool, true, false, not, ◌&&◌, 
 use Rattle.std.specs.Option.{option_map_or}
 use Rattle.std.proofs.lemmas.Bool.Decides.{nat_tests}
 use Rattle.std.specs.List.{list_all}
-use Rattle.std.proofs.lemmas.Bool.{and_parts}
+use Rattle.std.proofs.lemmas.Bool.{and_parts, eqb-true}
 use Rattle.il_ast.specs.declared.value.Value.{Value}
 use Rattle.vcode.specs.declared.place.Argument.{Argument}
 use Rattle.vcode.specs.declared.line.Line.{Line}
@@ -21,9 +21,6 @@ turned a b = grind (arith, nat_tests)
 
 pub is_itself : (r : ℕ) → nat_eq r r ≡ true
 is_itself r = grind (arith, nat_tests)
-
-pub same_number : (a b : ℕ) → nat_eq a b ≡ true → a ≡ b
-same_number a b h = grind (arith, nat_tests)
 
 -- a register that isn't written holds what it did
 pub unwritten : (to : Option ℕ) (o : Option Value) (values : Values ℕ) (r : ℕ) → is_written to r ≡ false → written to o values r ≡ values r
@@ -64,7 +61,7 @@ pub unlike : (w : ℕ → Bool) (k r : ℕ) → w k ≡ false → w r ≡ true �
 unlike w k r isnt e = by (nat_eq k r) refl
   where
     by : (b : Bool) → nat_eq k r ≡ b → b ≡ false
-    by true f = sym e ∙ ap w (sym (same_number k r f)) ∙ isnt
+    by true f = sym e ∙ ap w (sym (eqb-true k r f)) ∙ isnt
     by false f = refl
 
 pub first_writes : (w : ℕ → Bool) (k : ℕ) (o : Option Value) (before after : Values ℕ) → w k ≡ false → Agree w before after → Agree w (written (Some k) o before) after

@@ -11,6 +11,7 @@ pub mod Examples
 pub mod Laws
 pub mod Outgoing
 pub mod Coded
+pub mod Becomes
 pub mod Replaced
 pub mod Writes
 pub mod Acts

@@ -16,6 +16,7 @@
 //! The crate stands on `il_ast` for values, memory and calls, and on `rv_isa` for the operations.
 #![tactic(auto)]
 
+mod blocks;
 pub mod code;
 pub mod cost;
 pub mod function;

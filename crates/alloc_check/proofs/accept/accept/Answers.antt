@@ -1,5 +1,6 @@
 use Rattle.std.proofs.Common.{◌≡◌, true, sym, ◌∙◌, ap, subst, arith}
 use Rattle.std.specs.Prelude.{IsTrue, nat_le}
+use Rattle.il_ast.specs.declared.limits.TheConstants.{FUNCTION_WEIGHT}
 use Rattle.il_ast.specs.Passes.{Keeps}
 use Rattle.vcode.specs.declared.place.Location.{Location}
 use Rattle.vcode.specs.declared.code.Code.{Code}
@@ -36,7 +37,7 @@ invariant_of-result c =
     record {
       few = (let most = v.few in let fewer = c.fewest_slots-slots.ensures.few in omega (arith, most, fewer));
       regular = subst (λ (l : Code Location). IsRegular l) e (certified_regular v.code d v.regular p.paid);
-      light = subst (λ n. IsTrue (nat_le n 40000)) (sym (ap (λ (l : Code Location). code_weight l) c.in_ok-code.ensures ∙ weighs_same v.code d)) v.light;
+      light = subst (λ n. IsTrue (nat_le n FUNCTION_WEIGHT)) (sym (ap (λ (l : Code Location). code_weight l) c.in_ok-code.ensures ∙ weighs_same v.code d)) v.light;
       known = to_true (keeps_places (is_place c.fewest_slots-slots.result) c.in_ok-code.code) c.fewest_slots-slots.ensures.enough;
       near = subst (λ (l : Code Location). IsTrue (are_near l.params)) e (to_true (are_near (placed_by v.code d).params) p.near);
       apart = subst (λ (l : Code Location). IsTrue (are_distinct located l.params)) e (to_true (are_distinct located (placed_by v.code d).params) p.apart);

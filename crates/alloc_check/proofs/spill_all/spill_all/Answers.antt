@@ -1,5 +1,6 @@
 use Rattle.std.proofs.Common.{sym, ◌∙◌, ap, subst}
 use Rattle.std.specs.Prelude.{IsTrue, nat_le}
+use Rattle.il_ast.specs.declared.limits.TheConstants.{FUNCTION_WEIGHT}
 use Rattle.il_ast.specs.Passes.{Keeps}
 use Rattle.vcode.specs.declared.place.Location.{Location}
 use Rattle.vcode.specs.declared.code.Code.{Code}
@@ -19,7 +20,7 @@ invariant_of-result c =
     record {
       few = c.args.function.now.few;
       regular = subst (λ (l : Code Location). IsRegular l) e (slots_regular v c.args.function.now.regular);
-      light = subst (λ n. IsTrue (nat_le n 40000)) (sym (ap (λ (l : Code Location). code_weight l) c.in_ok-code.ensures ∙ slots_weigh_same v)) c.args.function.now.light;
+      light = subst (λ n. IsTrue (nat_le n FUNCTION_WEIGHT)) (sym (ap (λ (l : Code Location). code_weight l) c.in_ok-code.ensures ∙ slots_weigh_same v)) c.args.function.now.light;
       known = subst (λ (l : Code Location). IsTrue (keeps_places (is_place c.args.function.now.registers) l)) e (slots_known c.args.function.now.registers v c.args.function.now.known);
       near = subst (λ (l : Code Location). IsTrue (are_near l.params)) e (slots_near v.params c.args.function.now.low);
       apart = subst (λ (l : Code Location). IsTrue (are_distinct located l.params)) e (slots_apart v.params c.args.function.now.distinct);

@@ -1,4 +1,6 @@
 use Rattle.std.proofs.Common.{ℕ, ◌+◌, ◌≤◌, length, sym, ◌∙◌, ap, subst, arith}
+use Rattle.std.proofs.lemmas.Bool.{le-leb}
+use Rattle.il_ast.specs.declared.limits.TheConstants.{FUNCTION_WEIGHT}
 use Rattle.il_ast.specs.Cost.{phi_count, need, weight}
 use Rattle.phi_copies.specs.Endings.{Endings}
 use Rattle.phi_copies.proofs.Counting.{is_small}
@@ -11,7 +13,6 @@ use Rattle.vcode.specs.Regular.{code_weight}
 use Rattle.select.specs.Classes.{classes_in}
 use Rattle.select.specs.Invariants.{IsVirtual}
 use Rattle.select.proofs.Narrowing.{small, light, is_selected_by}
-use Rattle.select.proofs.Regular.{le_true}
 use Rattle.select.proofs.Stack.{takes_no_more}
 use Rattle.select.proofs.Weights.{weighs_no_more}
 use Rattle.select.proofs.Parameters.{is_virtual}
@@ -73,4 +74,4 @@ invariant_of-result c =
     let weighs = ap (λ (x : Code ℕ). code_weight x) is in
     let less = weighs_no_more (classes_in f) f code s.good s.lowered in
     let most = light f s.good in
-    record { few = omega (arith, many, few); regular = v.regular; light = le_true (code_weight c.in_ok-code.code) 40000 (omega (arith, weighs, less, most)); known = v.known; low = v.low; distinct = v.distinct }
+    record { few = omega (arith, many, few); regular = v.regular; light = le-leb (code_weight c.in_ok-code.code) FUNCTION_WEIGHT (omega (arith, weighs, less, most)); known = v.known; low = v.low; distinct = v.distinct }

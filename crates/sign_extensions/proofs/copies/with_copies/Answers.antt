@@ -1,34 +1,24 @@
-use Rattle.std.proofs.Common.{ℕ, ◌∙◌, ap, map, refl}
+use Rattle.std.proofs.Common.{ℕ, ◌∙◌, ap, map}
 use Rattle.vcode.specs.declared.code.Code.{Code}
-use Rattle.vcode.proofs.Results.{Result, result_of}
+use Rattle.vcode.proofs.Results.{becomes_these}
 use Rattle.sign_extensions.specs.Whole.{with_copies}
 use Rattle.sign_extensions.proofs.Keeping.{owed}
 use Rattle.sign_extensions.proofs.copies.with_copies.Goals as goal
 
-pub invariant_of-result : goal.invariant_of-result
-invariant_of-result c =
+pub with_blocks-requires-clause-becomes : goal.with_blocks-requires-clause-becomes
+with_blocks-requires-clause-becomes c =
     let v = c.args.function.now in
     let marks = c.args.marks.now in
-    let new : Code ℕ = record { result = v.code.result; params = c.in_ok-params.params; blocks = c.in_ok-blocks.blocks } in
-    let r : Result v v.registers new =
-    result_of v v.registers (map (with_copies marks) v.code.blocks) (owed marks v c.requires) c.in_ok-params.params c.in_ok-blocks.blocks c.in_ok-params.ensures
-    (c.in_ok-blocks.ensures ∙ ap (map (with_copies marks)) c.as_slice.ensures) in
-    record { few = v.few; regular = r.regular; light = r.light; known = r.known; low = r.low; distinct = r.distinct }
-
-pub returns-clause-kept : goal.returns-clause-kept
-returns-clause-kept c =
-    let v = c.args.function.now in
-    let marks = c.args.marks.now in
-    (result_of v v.registers (map (with_copies marks) v.code.blocks) (owed marks v c.requires) c.in_ok-params.params c.in_ok-blocks.blocks c.in_ok-params.ensures
-    (c.in_ok-blocks.ensures ∙ ap (map (with_copies marks)) c.as_slice.ensures)).keeps
+    becomes_these v v.registers (map (with_copies marks) v.code.blocks) c.in_ok-blocks.blocks (owed marks v c.requires) (c.in_ok-blocks.ensures ∙ ap (map (with_copies marks)) c.as_slice.ensures)
 
 pub returns-clause-copied : goal.returns-clause-copied
 returns-clause-copied c =
+    let code = c.in_ok-made.ensures.code in
     record {
       marks = c.args.marks.now;
       closed = c.requires;
-      result = refl;
-      params = c.in_ok-params.ensures;
-      blocks = c.in_ok-blocks.ensures ∙ ap (map (with_copies c.args.marks.now)) c.as_slice.ensures;
-      registers = refl;
+      result = ap (λ (f : Code ℕ). f.result) code;
+      params = ap (λ (f : Code ℕ). f.params) code;
+      blocks = ap (λ (f : Code ℕ). f.blocks) code ∙ (c.in_ok-blocks.ensures ∙ ap (map (with_copies c.args.marks.now)) c.as_slice.ensures);
+      registers = c.in_ok-made.ensures.registers;
     }
