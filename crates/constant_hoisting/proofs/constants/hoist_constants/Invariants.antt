@@ -3,4 +3,4 @@ use Rattle.vcode.specs.Coded.{virtual_code}
 use Rattle.constant_hoisting.proofs.constants.hoist_constants.Given as goal
 
 abbrev pub invariant-loop-plan : goal.invariant-loop-plan
-invariant-loop-plan l = Keeps (virtual_code l.function) (virtual_code l.held)
+invariant-loop-plan l = Keeps (virtual_code l.fn.function) (virtual_code l.held)
