@@ -107,13 +107,13 @@ fn as_they_stand(alloc: Global, function: &VFunc) -> Result<VFunc, AllocError>
 /// # Errors
 ///
 /// Only where memory was refused.
-pub fn order_blocks(alloc: Global, function: &VFunc) -> Result<VFunc, AllocError>
-    ensures kept { IfOk result (λ w. Keeps (virtual_code function.now) (virtual_code w)) }
-    ensures ordered { IfOk result (λ w. IsOrdered function.now w) }
+pub fn order_blocks(alloc: Global, function: VFunc) -> Result<VFunc, AllocError>
+    ensures kept { IfOk result (λ w. Keeps (virtual_code function) (virtual_code w)) }
+    ensures ordered { IfOk result (λ w. IsOrdered function w) }
 {
     let order = chained(alloc, function.code.blocks.as_slice())?;
-    match in_order(alloc, function, order.as_slice())? {
+    match in_order(alloc, &function, order.as_slice())? {
         Some(made) => Ok(made),
-        None => as_they_stand(alloc, function),
+        None => as_they_stand(alloc, &function),
     }
 }

@@ -110,14 +110,14 @@ fn without_dead(alloc: Global, function: &VFunc, live: &Live) -> Result<VFunc, A
 /// # Errors
 ///
 /// Only where memory was refused.
-pub fn remove_dead_code(alloc: Global, function: &VFunc) -> Result<VFunc, AllocError>
-    ensures kept { IfOk result (λ w. Keeps (virtual_code function.now) (virtual_code w)) }
-    ensures exact { IfOk result (λ w. IsWithoutDead function.now w) }
+pub fn remove_dead_code(alloc: Global, function: VFunc) -> Result<VFunc, AllocError>
+    ensures kept { IfOk result (λ w. Keeps (virtual_code function) (virtual_code w)) }
+    ensures exact { IfOk result (λ w. IsWithoutDead function w) }
 {
-    let graph = graph(alloc, function)?;
+    let graph = graph(alloc, &function)?;
     // the graph has them all, so each has a number
     let _points = graph.uses.len();
     let live = live_in(alloc, &graph, function.registers)?;
-    let kept = without_dead(alloc, function, &live)?;
+    let kept = without_dead(alloc, &function, &live)?;
     Ok(kept)
 }

@@ -155,9 +155,9 @@ fn forwarded_blocks(
 /// # Errors
 ///
 /// Only where memory was refused.
-pub fn propagate(alloc: Global, function: &VFunc) -> Result<VFunc, AllocError>
-    ensures kept { IfOk result (λ w. Keeps (virtual_code function.now) (virtual_code w)) }
-    ensures forwarded { IfOk result (λ w. IsForwardedFrom function.now w) }
+pub fn propagate(alloc: Global, function: VFunc) -> Result<VFunc, AllocError>
+    ensures kept { IfOk result (λ w. Keeps (virtual_code function) (virtual_code w)) }
+    ensures forwarded { IfOk result (λ w. IsForwardedFrom function w) }
 {
     let mut table = FactTable::new(alloc, function.registers)?;
     let blocks = forwarded_blocks(alloc, &mut table, function.code.blocks.as_slice())?;

@@ -83,15 +83,15 @@ pub fn virtual_code_of(alloc: Global, func: &Func) -> Result<VFunc, AllocError>
 {
     let lowered = lower(alloc, func)?;
     let selected = select(alloc, &lowered)?;
-    let extended = copy_whole_words(alloc, &selected)?;
-    let propagated = propagate(alloc, &extended)?;
+    let extended = copy_whole_words(alloc, selected)?;
+    let propagated = propagate(alloc, extended)?;
     let hoisted = hoist(alloc, propagated)?;
     let reused = reuse_values(alloc, hoisted)?;
-    let again = propagate(alloc, &reused)?;
-    let live = remove_dead_code(alloc, &again)?;
-    let read = read_copies(alloc, &live)?;
+    let again = propagate(alloc, reused)?;
+    let live = remove_dead_code(alloc, again)?;
+    let read = read_copies(alloc, live)?;
     let held = hoist_constants(alloc, read)?;
-    let ordered = order_blocks(alloc, &held)?;
+    let ordered = order_blocks(alloc, held)?;
     Ok(ordered)
 }
 

@@ -54,10 +54,10 @@ fn blocks(alloc: Global, from: &[Block<u32>]) -> Result<Seq<Block<u32>>, AllocEr
 /// # Errors
 ///
 /// Only where memory was refused.
-pub fn read_copies(alloc: Global, function: &VFunc) -> Result<VFunc, AllocError>
-    ensures kept { IfOk result (λ w. Keeps (virtual_code function.now) (virtual_code w)) }
-    ensures code { IfOk result (λ w. w.code ≡ reading_copies function.now.code) }
-    ensures registers { IfOk result (λ w. w.registers ≡ function.now.registers) }
+pub fn read_copies(alloc: Global, function: VFunc) -> Result<VFunc, AllocError>
+    ensures kept { IfOk result (λ w. Keeps (virtual_code function) (virtual_code w)) }
+    ensures code { IfOk result (λ w. w.code ≡ reading_copies function.code) }
+    ensures registers { IfOk result (λ w. w.registers ≡ function.registers) }
 {
     let blocks = blocks(alloc, function.code.blocks.as_slice())?;
     let made = function.with_blocks(alloc, function.registers, blocks)?;

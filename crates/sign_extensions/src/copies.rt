@@ -25,11 +25,11 @@ fn with_copies(alloc: Global, function: &VFunc, marks: &[bool]) -> Result<VFunc,
 /// # Errors
 ///
 /// Only where memory was refused.
-pub fn copy_whole_words(alloc: Global, function: &VFunc) -> Result<VFunc, AllocError>
-    ensures kept { IfOk result (λ w. Keeps (virtual_code function.now) (virtual_code w)) }
-    ensures copied { IfOk result (λ w. IsCopied function.now w) }
+pub fn copy_whole_words(alloc: Global, function: VFunc) -> Result<VFunc, AllocError>
+    ensures kept { IfOk result (λ w. Keeps (virtual_code function) (virtual_code w)) }
+    ensures copied { IfOk result (λ w. IsCopied function w) }
 {
     let marks = whole_registers(alloc, &function.code, function.registers)?;
-    let made = with_copies(alloc, function, marks.as_slice())?;
+    let made = with_copies(alloc, &function, marks.as_slice())?;
     Ok(made)
 }

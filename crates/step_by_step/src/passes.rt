@@ -28,13 +28,13 @@ pub fn shown_or_refused(alloc: Global, made: Result<Option<VFunc>, AllocError>) 
 /// The function with extensions of whole words as copies.
 pub fn with_whole_words(alloc: Global, text: &str) -> Option<String> {
     let function = virtual_function(alloc, text)?;
-    shown(alloc, copy_whole_words(alloc, &function))
+    shown(alloc, copy_whole_words(alloc, function))
 }
 
 /// The function with what is known of registers carried forward.
 pub fn forwarded(alloc: Global, text: &str) -> Option<String> {
     let function = virtual_function(alloc, text)?;
-    shown(alloc, propagate(alloc, &function))
+    shown(alloc, propagate(alloc, function))
 }
 
 /// The function with computations of its loops done in front of them too.
@@ -52,13 +52,13 @@ pub fn with_values_reused(alloc: Global, text: &str) -> Option<String> {
 /// The function without its dead lines.
 pub fn without_dead_lines(alloc: Global, text: &str) -> Option<String> {
     let function = virtual_function(alloc, text)?;
-    shown(alloc, remove_dead_code(alloc, &function))
+    shown(alloc, remove_dead_code(alloc, function))
 }
 
 /// The function with copies read in place of what they are copies of.
 pub fn with_copies_read(alloc: Global, text: &str) -> Option<String> {
     let function = virtual_function(alloc, text)?;
-    shown(alloc, read_copies(alloc, &function))
+    shown(alloc, read_copies(alloc, function))
 }
 
 /// The function with constants of its loops in registers.
@@ -70,5 +70,5 @@ pub fn with_constants_held(alloc: Global, text: &str) -> Option<String> {
 /// The function with its blocks in the order that is chosen.
 pub fn with_blocks_ordered(alloc: Global, text: &str) -> Option<String> {
     let function = virtual_function(alloc, text)?;
-    shown(alloc, order_blocks(alloc, &function))
+    shown(alloc, order_blocks(alloc, function))
 }

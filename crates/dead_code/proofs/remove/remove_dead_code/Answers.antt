@@ -6,6 +6,6 @@ use Rattle.dead_code.proofs.remove.remove_dead_code.Goals as goal
 
 pub without_dead-requires-clause-few : goal.without_dead-requires-clause-few
 without_dead-requires-clause-few c =
-    let same : end_point 0 c.args.function.now.code.blocks ≡ c.len-points.result =
-    sym (uses_count c.args.function.now.code.blocks) ∙ sym (ap (λ (g : Graph). length g.uses) c.in_ok-graph.ensures) ∙ sym c.len-points.ensures in
+    let same : end_point 0 c.args.function.code.blocks ≡ c.len-points.result =
+    sym (uses_count c.args.function.code.blocks) ∙ sym (ap (λ (g : Graph). length g.uses) c.in_ok-graph.ensures) ∙ sym c.len-points.ensures in
     omega (arith, same, c.len-points.type_inv)

@@ -7,7 +7,7 @@ use Rattle.propagation.proofs.propagate.propagate.Goals as goal
 
 pub with_blocks-requires-clause-becomes : goal.with_blocks-requires-clause-becomes
 with_blocks-requires-clause-becomes c =
-    let v = c.args.function.now in
+    let v = c.args.function in
     let blocks = c.in_ok-blocks.blocks in
     let all : AllForwarded v.registers v.code.blocks blocks =
     subst (λ n. AllForwarded n v.code.blocks blocks) c.in_ok-table.ensures.count

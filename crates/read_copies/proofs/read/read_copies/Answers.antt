@@ -7,9 +7,9 @@ use Rattle.read_copies.proofs.read.read_copies.Goals as goal
 
 pub with_blocks-requires-clause-becomes : goal.with_blocks-requires-clause-becomes
 with_blocks-requires-clause-becomes c =
-    let v = c.args.function.now in
+    let v = c.args.function in
     becomes_these v v.registers (map reading_block v.code.blocks) c.in_ok-blocks.blocks (owed v) (c.in_ok-blocks.ensures ∙ ap (map reading_block) c.as_slice.ensures)
 
 pub returns-clause-code : goal.returns-clause-code
 returns-clause-code c =
-    c.in_ok-made.ensures.code ∙ ap (with_these c.args.function.now.code) (c.in_ok-blocks.ensures ∙ ap (map reading_block) c.as_slice.ensures)
+    c.in_ok-made.ensures.code ∙ ap (with_these c.args.function.code) (c.in_ok-blocks.ensures ∙ ap (map reading_block) c.as_slice.ensures)
