@@ -15,19 +15,37 @@ fn word(number: u64) -> u64 {
     }
 }
 
-/// The instructions that have a number in a register; x0 has 0.
-fn number_cost(number: u64) -> i64 {
+/// The number without its low 12 bits, read with a sign, which one more instruction adds.
+fn without_low(number: u64) -> u64 {
+    number
+        .wrapping_sub(number.wrapping_add(0x800) % 0x1000)
+        .wrapping_add(0x800)
+}
+
+/// The instructions that have a word in a register; x0 has 0.
+fn word_cost(number: u64) -> i64 {
     if number == 0 {
         0
-    } else if is_immediate(number) {
-        1
-    } else if word(number) != number {
-        9
-    } else if number % 4096 == 0 {
+    } else if is_immediate(number) || number % 4096 == 0 {
         1
     } else {
         2
     }
+}
+
+/// The instructions that have a number in a register; x0 has 0. Of a number that is no word, what stands before its low 12 bits and their zeros is shifted, and
+/// the low bits are added; three times at most.
+fn number_cost(number: u64) -> i64 {
+    let mut rest = number;
+    let mut cost: i64 = 0;
+    for _part in 0..3 {
+        if word(rest) != rest {
+            let high = without_low(rest);
+            cost = cost.saturating_add(if high == rest { 1 } else { 2 });
+            rest = (high.cast_signed() >> high.trailing_zeros().min(63)).cast_unsigned();
+        }
+    }
+    cost.saturating_add(word_cost(rest))
 }
 
 /// What it saves where an operand is read from a register: the instructions that have it in one.
