@@ -63,8 +63,13 @@ fn reach_targets(
     }
 }
 
-/// Marks of the blocks to which a way leads from the first. Each is found once.
-fn reached(alloc: Global, blocks: &[Block<u32>]) -> Result<Vec<bool>, AllocError> {
+/// Marks of the blocks to which a way leads from the first. It takes time and memory as there are blocks.
+///
+/// # Errors
+///
+/// Only where memory was refused.
+pub fn reached(alloc: Global, blocks: &[Block<u32>]) -> Result<Vec<bool>, AllocError> {
+    // each is found once
     let mut reached = vec![in alloc; false; blocks.len()]?;
     let mut found = Vec::new(alloc);
     reach(reached.as_mut_slice(), &mut found, Some(0))?;

@@ -33,6 +33,7 @@ use rv_isa::code::MachineCode;
 use select::select::select;
 use sign_extensions::copies::copy_whole_words;
 use std::alloc::{AllocError, Global};
+use tail_copies::copy::{copy_tails, join_blocks};
 use value_numbering::reuse::reuse_values;
 use vcode::function::{LFunc, VFunc};
 
@@ -84,14 +85,16 @@ pub fn virtual_code_of(alloc: Global, func: &Func) -> Result<VFunc, AllocError>
     let lowered = lower(alloc, func)?;
     let selected = select(alloc, &lowered)?;
     let extended = copy_whole_words(alloc, selected)?;
-    let propagated = propagate(alloc, extended)?;
+    let joined = join_blocks(alloc, extended)?;
+    let propagated = propagate(alloc, joined)?;
     let hoisted = hoist(alloc, propagated)?;
     let reused = reuse_values(alloc, hoisted)?;
     let again = propagate(alloc, reused)?;
     let live = remove_dead_code(alloc, again)?;
     let read = read_copies(alloc, live)?;
     let held = hoist_constants(alloc, read)?;
-    let ordered = order_blocks(alloc, held)?;
+    let tails = copy_tails(alloc, held)?;
+    let ordered = order_blocks(alloc, tails)?;
     Ok(ordered)
 }
 

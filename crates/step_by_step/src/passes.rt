@@ -8,6 +8,7 @@ use propagation::propagate::propagate;
 use read_copies::read::read_copies;
 use sign_extensions::copies::copy_whole_words;
 use std::alloc::{AllocError, Global};
+use tail_copies::copy::{copy_tails, join_blocks};
 use value_numbering::reuse::reuse_values;
 use vcode::function::VFunc;
 
@@ -29,6 +30,12 @@ pub fn shown_or_refused(alloc: Global, made: Result<Option<VFunc>, AllocError>) 
 pub fn with_whole_words(alloc: Global, text: &str) -> Option<String> {
     let function = virtual_function(alloc, text)?;
     shown(alloc, copy_whole_words(alloc, function))
+}
+
+/// The function with blocks as one of which one alone leads to the other.
+pub fn with_blocks_joined(alloc: Global, text: &str) -> Option<String> {
+    let function = virtual_function(alloc, text)?;
+    shown(alloc, join_blocks(alloc, function))
 }
 
 /// The function with what is known of registers carried forward.
@@ -65,6 +72,12 @@ pub fn with_copies_read(alloc: Global, text: &str) -> Option<String> {
 pub fn with_constants_held(alloc: Global, text: &str) -> Option<String> {
     let function = virtual_function(alloc, text)?;
     shown(alloc, hoist_constants(alloc, function))
+}
+
+/// The function with copies of short blocks in the place of jumps to them.
+pub fn with_tails_copied(alloc: Global, text: &str) -> Option<String> {
+    let function = virtual_function(alloc, text)?;
+    shown(alloc, copy_tails(alloc, function))
 }
 
 /// The function with its blocks in the order that is chosen.

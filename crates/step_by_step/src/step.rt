@@ -17,6 +17,7 @@ pub enum Step {
     Phis,
     Selection,
     SignExtensions,
+    Joining,
     Propagation,
     Hoisting,
     ValueNumbering,
@@ -25,6 +26,7 @@ pub enum Step {
     Loops,
     ConstantHoisting,
     ConstantPlans,
+    TailCopies,
     BlockChains,
     BlockOrder,
     GivenOrders,
@@ -46,7 +48,7 @@ pub enum Step {
 }
 
 /// All of them, in the order of the compiler.
-pub const STEPS: [Step; 34] = [
+pub const STEPS: [Step; 36] = [
     Step::Tokens,
     Step::Reading,
     Step::Checking,
@@ -55,6 +57,7 @@ pub const STEPS: [Step; 34] = [
     Step::Phis,
     Step::Selection,
     Step::SignExtensions,
+    Step::Joining,
     Step::Propagation,
     Step::Hoisting,
     Step::ValueNumbering,
@@ -63,6 +66,7 @@ pub const STEPS: [Step; 34] = [
     Step::Loops,
     Step::ConstantHoisting,
     Step::ConstantPlans,
+    Step::TailCopies,
     Step::BlockChains,
     Step::BlockOrder,
     Step::GivenOrders,
@@ -95,6 +99,7 @@ impl Step {
             Step::Phis => "phis",
             Step::Selection => "selection",
             Step::SignExtensions => "sign_extensions",
+            Step::Joining => "joining",
             Step::Propagation => "propagation",
             Step::Hoisting => "hoisting",
             Step::ValueNumbering => "value_numbering",
@@ -103,6 +108,7 @@ impl Step {
             Step::Loops => "loops",
             Step::ConstantHoisting => "constant_hoisting",
             Step::ConstantPlans => "constant_plans",
+            Step::TailCopies => "tail_copies",
             Step::BlockChains => "block_chains",
             Step::BlockOrder => "block_order",
             Step::GivenOrders => "given_orders",
@@ -135,6 +141,7 @@ impl Step {
             Step::Phis => phis::copies(alloc, case.given),
             Step::Selection => phis::selected(alloc, case.given),
             Step::SignExtensions => passes::with_whole_words(alloc, case.given),
+            Step::Joining => passes::with_blocks_joined(alloc, case.given),
             Step::Propagation => passes::forwarded(alloc, case.given),
             Step::Hoisting => passes::with_computations_hoisted(alloc, case.given),
             Step::ValueNumbering => passes::with_values_reused(alloc, case.given),
@@ -143,6 +150,7 @@ impl Step {
             Step::Loops => nests::nests(alloc, case.given),
             Step::ConstantHoisting => passes::with_constants_held(alloc, case.given),
             Step::ConstantPlans => plans::by_plan(alloc, case.given, case.with),
+            Step::TailCopies => passes::with_tails_copied(alloc, case.given),
             Step::BlockChains => orders::chosen(alloc, case.given),
             Step::BlockOrder => passes::with_blocks_ordered(alloc, case.given),
             Step::GivenOrders => orders::in_given_order(alloc, case.given, case.with),

@@ -6,8 +6,9 @@ use std::alloc::Global;
 use text_maker::maker::TextMaker;
 
 /// The passes on virtual code, in the order of the compiler.
-const PASSES: [Step; 9] = [
+const PASSES: [Step; 11] = [
     Step::SignExtensions,
+    Step::Joining,
     Step::Propagation,
     Step::Hoisting,
     Step::ValueNumbering,
@@ -15,6 +16,7 @@ const PASSES: [Step; 9] = [
     Step::DeadCode,
     Step::ReadCopies,
     Step::ConstantHoisting,
+    Step::TailCopies,
     Step::BlockOrder,
 ];
 

@@ -1,0 +1,93 @@
+//! Which blocks are worth copies: a guess that nothing proved rests on.
+use block_chains::chains::reached;
+use loops::depths::sources;
+use std::alloc::{AllocError, Global};
+use vcode::code::Block;
+use vcode::line::{Jump, Line};
+
+/// As many lines as a block that isn't worth a copy has.
+const MANY: u64 = 100;
+
+/// About how many instructions the line becomes.
+fn size(line: &Line<u32>) -> u64 {
+    match line {
+        Line::Tick { .. } => 0,
+        Line::Set { .. } | Line::Operate { .. } | Line::Load { .. } | Line::Store { .. } => 1,
+        Line::Call { .. } | Line::Blit { .. } | Line::Alloc { .. } => MANY,
+    }
+}
+
+fn size_of(lines: &[Line<u32>]) -> u64 {
+    let mut total = 0u64;
+    for line in lines {
+        total = total.saturating_add(size(line));
+    }
+    total
+}
+
+/// Whether the block branches, and has few lines.
+fn is_short(block: &Block<u32>, most: u64) -> bool {
+    match &block.jump {
+        Jump::Branch { .. } => size_of(block.lines.as_slice()) < most,
+        Jump::Goto(_) | Jump::Return(_) | Jump::Halt => false,
+    }
+}
+
+fn is_worth(
+    blocks: &[Block<u32>],
+    sources: &[Vec<usize>],
+    from: usize,
+    to: usize,
+    most: u64,
+) -> bool {
+    if from == to {
+        return false;
+    }
+    match (blocks.get(to), sources.get(to)) {
+        (Some(block), Some(sources)) => sources.len() == 1 || is_short(block, most),
+        _ => false,
+    }
+}
+
+/// For each block whether the block that it goes to is worth a copy; none where no block is.
+///
+/// # Errors
+///
+/// Only where memory was refused.
+pub(crate) fn chosen_tails(
+    alloc: Global,
+    blocks: &[Block<u32>],
+    most: u64,
+) -> Result<Option<Vec<bool>>, AllocError> {
+    let sources = sources(alloc, blocks)?;
+    let mut chosen = Vec::with_capacity(alloc, blocks.len())?;
+    let mut is_any = false;
+    for (number, block) in blocks.iter().enumerate() {
+        let is_chosen = match &block.jump {
+            Jump::Goto(to) => is_worth(blocks, sources.as_slice(), number, *to, most),
+            Jump::Branch { .. } | Jump::Return(_) | Jump::Halt => false,
+        };
+        is_any = is_any || is_chosen;
+        chosen.push(is_chosen)?;
+    }
+    if is_any { Ok(Some(chosen)) } else { Ok(None) }
+}
+
+/// The numbers of the blocks to which a way leads from the first, in their order.
+///
+/// # Errors
+///
+/// Only where memory was refused.
+pub(crate) fn reached_blocks(
+    alloc: Global,
+    blocks: &[Block<u32>],
+) -> Result<Vec<usize>, AllocError> {
+    let marks = reached(alloc, blocks)?;
+    let mut order = Vec::with_capacity(alloc, blocks.len())?;
+    for (number, is_reached) in marks.iter().enumerate() {
+        if *is_reached {
+            order.push(number)?;
+        }
+    }
+    Ok(order)
+}

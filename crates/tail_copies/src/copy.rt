@@ -1,0 +1,184 @@
+//! Functions with copies of blocks in the place of jumps to them.
+ghost use Rattle.std.specs.Prelude.{◌≡◌, ◌++◌, ◌≤◌, true, IfOk, OnOk};
+ghost use Rattle.std.specs.List.{sum_by};
+ghost use Rattle.il_ast.specs.declared.limits.TheConstants.{FUNCTION_WEIGHT};
+ghost use Rattle.il_ast.specs.Passes.{Keeps};
+ghost use Rattle.vcode.specs.Coded.{virtual_code};
+ghost use Rattle.tail_copies.specs.Joined.{joined, longer, AllLonger, block_burden};
+
+use crate::choice::{chosen_tails, reached_blocks};
+use crate::weigh::are_light;
+use block_order::order::in_order;
+use il_ast::list::Seq;
+use std::alloc::{AllocError, Global};
+use vcode::code::Block;
+use vcode::function::VFunc;
+use vcode::line::{Jump, Line};
+
+/// A short block has fewer lines of code.
+const SHORT: u64 = 8;
+
+fn push_lines(alloc: Global, to: &mut Vec<Line<u32>>, lines: &[Line<u32>]) -> Result<(), AllocError>
+    ensures { OnOk result (to.new.items ≡ to.old.items ++ lines.now) }
+{
+    for line in lines {
+        to.push(line.try_clone(alloc)?)?;
+    }
+    Ok(())
+}
+
+fn as_it_is(alloc: Global, block: &Block<u32>) -> Result<Block<u32>, AllocError>
+    ensures { IfOk result (λ d. d ≡ block.now) }
+{
+    let mut lines = Vec::with_capacity(alloc, block.lines.len())?;
+    push_lines(alloc, &mut lines, block.lines.as_slice())?;
+    Ok(Block {
+        lines: Seq::from_vec(lines),
+        jump: block.jump,
+    })
+}
+
+/// The lines of both, and the jump of the second.
+fn joined(alloc: Global, block: &Block<u32>, tail: &Block<u32>) -> Result<Block<u32>, AllocError>
+    ensures { IfOk result (λ d. d ≡ joined block.now tail.now) }
+{
+    let mut lines = Vec::with_capacity(alloc, block.lines.len())?;
+    push_lines(alloc, &mut lines, block.lines.as_slice())?;
+    push_lines(alloc, &mut lines, tail.lines.as_slice())?;
+    Ok(Block {
+        lines: Seq::from_vec(lines),
+        jump: tail.jump,
+    })
+}
+
+fn with_tail(
+    alloc: Global,
+    blocks: &[Block<u32>],
+    block: &Block<u32>,
+) -> Result<Block<u32>, AllocError>
+    ensures { IfOk result (λ d. d ≡ longer blocks.now true block.now) }
+{
+    match &block.jump {
+        Jump::Goto(to) => match blocks.get(*to) {
+            Some(tail) => joined(alloc, block, tail),
+            None => as_it_is(alloc, block),
+        },
+        Jump::Branch { .. } | Jump::Return(_) | Jump::Halt => as_it_is(alloc, block),
+    }
+}
+
+/// The block as it is, or with a copy of the one that it goes to.
+fn longer(
+    alloc: Global,
+    blocks: &[Block<u32>],
+    is_chosen: bool,
+    block: &Block<u32>,
+) -> Result<Block<u32>, AllocError>
+    ensures { IfOk result (λ d. d ≡ longer blocks.now is_chosen block.now) }
+{
+    if is_chosen {
+        with_tail(alloc, blocks, block)
+    } else {
+        as_it_is(alloc, block)
+    }
+}
+
+fn is_marked(marks: &[bool], block: usize) -> bool {
+    match marks.get(block) {
+        Some(mark) => *mark,
+        None => false,
+    }
+}
+
+/// The blocks, those that are chosen with copies of the ones that they go to.
+fn all_longer(
+    alloc: Global,
+    chosen: &[bool],
+    blocks: &[Block<u32>],
+) -> Result<Vec<Block<u32>>, AllocError>
+    ensures { IfOk result (λ v. AllLonger blocks.now blocks.now v.items) }
+{
+    let mut made = Vec::with_capacity(alloc, blocks.len())?;
+    for (number, block) in blocks.iter().enumerate() {
+        made.push(longer(alloc, blocks, is_marked(chosen, number), block)?)?;
+    }
+    Ok(made)
+}
+
+fn with_these(alloc: Global, function: &VFunc, blocks: Vec<Block<u32>>) -> Result<VFunc, AllocError>
+    requires longer { AllLonger function.now.code.blocks function.now.code.blocks blocks.items }
+    requires light { sum_by block_burden blocks.items ≤ FUNCTION_WEIGHT }
+    ensures { IfOk result (λ w. Keeps (virtual_code function.now) (virtual_code w)) }
+{
+    let made = function.with_blocks(alloc, function.registers, Seq::from_vec(blocks))?;
+    Ok(made)
+}
+
+/// The function without the blocks to which no way leads.
+fn without_unreached(alloc: Global, function: VFunc) -> Result<VFunc, AllocError>
+    ensures { IfOk result (λ w. Keeps (virtual_code function) (virtual_code w)) }
+{
+    let order = reached_blocks(alloc, function.code.blocks.as_slice())?;
+    match in_order(alloc, &function, order.as_slice())? {
+        Some(made) => Ok(made),
+        None => Ok(function),
+    }
+}
+
+/// The function with these blocks, and without those to which no way leads then.
+fn made_of(alloc: Global, function: &VFunc, blocks: Vec<Block<u32>>) -> Result<VFunc, AllocError>
+    requires longer { AllLonger function.now.code.blocks function.now.code.blocks blocks.items }
+    requires light { sum_by block_burden blocks.items ≤ FUNCTION_WEIGHT }
+    ensures { IfOk result (λ w. Keeps (virtual_code function.now) (virtual_code w)) }
+{
+    let made = with_these(alloc, function, blocks)?;
+    let reached = without_unreached(alloc, made)?;
+    Ok(reached)
+}
+
+fn copied_once(alloc: Global, function: VFunc, most: u64) -> Result<VFunc, AllocError>
+    ensures { IfOk result (λ w. Keeps (virtual_code function) (virtual_code w)) }
+{
+    let chosen = match chosen_tails(alloc, function.code.blocks.as_slice(), most)? {
+        Some(chosen) => chosen,
+        None => return Ok(function),
+    };
+    let blocks = all_longer(alloc, chosen.as_slice(), function.code.blocks.as_slice())?;
+    if are_light(blocks.as_slice()) {
+        made_of(alloc, &function, blocks)
+    } else {
+        Ok(function)
+    }
+}
+
+/// Copies come to stand where other copies were chosen: so it is done twice.
+fn copied_twice(alloc: Global, function: VFunc, most: u64) -> Result<VFunc, AllocError>
+    ensures { IfOk result (λ w. Keeps (virtual_code function) (virtual_code w)) }
+{
+    let once = copied_once(alloc, function, most)?;
+    let twice = copied_once(alloc, once, most)?;
+    Ok(twice)
+}
+
+/// The function in which blocks that go to one to which nothing else leads are one with it, without those to which no way leads. It takes time and memory as the
+/// text is long.
+///
+/// # Errors
+///
+/// Only where memory was refused.
+pub fn join_blocks(alloc: Global, function: VFunc) -> Result<VFunc, AllocError>
+    ensures { IfOk result (λ w. Keeps (virtual_code function) (virtual_code w)) }
+{
+    copied_twice(alloc, function, 0)
+}
+
+/// The function with copies of short blocks that branch in the place of jumps to them too. It takes time and memory as the text is long.
+///
+/// # Errors
+///
+/// Only where memory was refused.
+pub fn copy_tails(alloc: Global, function: VFunc) -> Result<VFunc, AllocError>
+    ensures { IfOk result (λ w. Keeps (virtual_code function) (virtual_code w)) }
+{
+    copied_twice(alloc, function, SHORT)
+}
