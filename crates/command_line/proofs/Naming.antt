@@ -72,7 +72,10 @@ named (Some q) p e h = elim (one_of (λ s. answers_to q.0 (label_of s)) (built q
         | inl is ↦ h.3 is
         | inr check ↦ elim check [
           | inl is ↦ h.4 is
-          | inr none ↦ absurd none
+          | inr symbols ↦ elim symbols [
+            | inl is ↦ h.5 is
+            | inr none ↦ absurd none
+          ]
         ]
       ]
     ]

@@ -3,7 +3,7 @@ use Rattle.std.specs.Prelude.{◌≡◌, ◌≢◌, ℕ, ◌^◌, ◌<◌, List,
 use Rattle.std.specs.Str.Parse.{IsNumeral, digits_value, without_leading_plus}
 use Rattle.clap.specs.Walk.{Row, first_of, one_of, all_of}
 use Rattle.command_line.specs.declared.Command.{Command}
-use Rattle.command_line.specs.declared.Command.TheVariants.{Build, Run, Interpret, Disassemble, Check}
+use Rattle.command_line.specs.declared.Command.TheVariants.{Build, Run, Interpret, Disassemble, Check, Symbols}
 
 -- the first word of an argument, and all of them
 abbrev pub word_in : List Row → List ℕ → List ℕ
@@ -35,12 +35,14 @@ Asks name rows (Interpret limit file words) =
 Asks name rows (Disassemble file) = (name ≡ codes "dis") × (file.now ≡ word_in rows (codes "EXE"))
 Asks name rows (Check files) =
     (name ≡ codes "check") × (map (λ s. s.now) files.items ≡ words_in rows (codes "FILES"))
+Asks name rows (Symbols files) =
+    (name ≡ codes "symbols") × (map (λ s. s.now) files.items ≡ words_in rows (codes "FILES"))
 
 -- the same where no subcommand may have the name: then there is no command
 abbrev pub AsksFor : (name : List ℕ) → List Row → Option Command → Type 0
 AsksFor name rows None =
     (name ≢ codes "build") × (name ≢ codes "run") × (name ≢ codes "interp") × (name ≢ codes "dis")
-    × (name ≢ codes "check")
+    × (name ≢ codes "check") × (name ≢ codes "symbols")
 AsksFor name rows (Some command) = Asks name rows command
 
 -- the same of the subcommand that words name, where they name one

@@ -64,6 +64,9 @@ dis_app = with_rule (new_app (codes "dis")) (path_rule (codes "EXE"))
 abbrev pub check_app : App
 check_app = with_rule (new_app (codes "check")) files_rule
 
+abbrev pub symbols_app : App
+symbols_app = with_rule (new_app (codes "symbols")) files_rule
+
 -- there is no word for the program before the first one, a command has to be named, and there is a
 -- version, but no command `help`
 abbrev pub program_app : App
@@ -84,7 +87,7 @@ abbrev pub working_app : App
 working_app = with_subcommand (with_subcommand executables_app interp_app.top) dis_app.top
 
 abbrev pub qbec_app : App
-qbec_app = with_subcommand working_app check_app.top
+qbec_app = with_subcommand (with_subcommand working_app check_app.top) symbols_app.top
 
 -- the command is read so, and so are its arguments
 abbrev pub IsRead : Command → App → Type 0

@@ -73,6 +73,13 @@ fn check_of<'a>(alloc: Global, found: &ArgMatches<'a>) -> Result<Command<'a>, Al
     Ok(Command::Check { files })
 }
 
+fn symbols_of<'a>(alloc: Global, found: &ArgMatches<'a>) -> Result<Command<'a>, AllocError>
+    ensures { IfOk result (Asks (codes "symbols") (rows_of (found_of found.now))) }
+{
+    let files = words_of(alloc, found, FILES)?;
+    Ok(Command::Symbols { files })
+}
+
 /// What the subcommand of this name asks for, with the values of its arguments; none where no command has the name.
 ///
 /// # Errors
@@ -93,6 +100,7 @@ pub fn asked<'a>(
             file: word_of(found, EXECUTABLE),
         })),
         "check" => Ok(Some(check_of(alloc, found)?)),
+        "symbols" => Ok(Some(symbols_of(alloc, found)?)),
         _ => Ok(None),
     }
 }

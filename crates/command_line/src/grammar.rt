@@ -1,6 +1,6 @@
 //! The grammar of the command line.
 ghost use Rattle.std.specs.Prelude.{IfOk};
-ghost use Rattle.command_line.specs.Grammar.{IsRead, IsRuled, build_app, check_app, dis_app, executables_app, files_rule, interp_app, limit_rule, out_rule, path_rule, program_app, qbec_app, run_app, running_app, words_rule, working_app};
+ghost use Rattle.command_line.specs.Grammar.{IsRead, IsRuled, build_app, check_app, dis_app, executables_app, files_rule, interp_app, limit_rule, out_rule, path_rule, program_app, qbec_app, run_app, running_app, symbols_app, words_rule, working_app};
 
 use clap::{Arg, Command, value_parser};
 use std::alloc::{AllocError, Global};
@@ -20,7 +20,7 @@ pub(crate) const WORDS: &str = "WORDS";
 
 /// What stands below the help of the program and of its commands.
 const STATUSES: &str =
-    "Exit status: the program's own of run and interp, 0 of build, dis and check; 134 where the program halts, 124 at the limit, 125 where it faults, is undefined or runs out of stack, 126 where qbec refuses or can't go on. Each but the program's own comes with a line on standard error that says why.
+    "Exit status: the program's own of run and interp, 0 of build, dis, check and symbols; 134 where the program halts, 124 at the limit, 125 where it faults, is undefined or runs out of stack, 126 where qbec refuses or can't go on. Each but the program's own comes with a line on standard error that says why.
 
 Example: qbec build -o hello examples/hello.ssa && qbec run hello";
 
@@ -48,11 +48,18 @@ const CHECK: &str =
 
 Example: qbec check examples/hello.ssa";
 
+const SYMBOLS: &str =
+    "Exit status: 0; 126 where the texts are refused or a file can't be read, and a line on standard error says why. Standard output has a line for each function and each datum, in the order of addresses, as nm -S prints them: address and size in hexadecimal, a letter, and the name; the letter is T for a function and D for a datum, t or d where the name isn't exported.
+
+Example: qbec symbols examples/hello.ssa";
+
 /// What the program takes.
 pub(crate) fn grammar<'a>(alloc: Global) -> Result<Command<'a>, AllocError>
     ensures { IfOk result (λ c. IsRead c qbec_app) }
 {
-    working(alloc)?.subcommand(check(alloc)?)
+    working(alloc)?
+        .subcommand(check(alloc)?)?
+        .subcommand(symbols(alloc)?)
 }
 
 /// The program, with the commands that make, run and show programs.
@@ -146,6 +153,15 @@ fn check<'a>(alloc: Global) -> Result<Command<'a>, AllocError>
     Command::new(alloc, "check")
         .about("Says what is wrong with texts, and where")
         .after_help(CHECK)
+        .arg(files(alloc))
+}
+
+fn symbols<'a>(alloc: Global) -> Result<Command<'a>, AllocError>
+    ensures { IfOk result (λ c. IsRead c symbols_app) }
+{
+    Command::new(alloc, "symbols")
+        .about("Shows where the names of texts stand in their executable")
+        .after_help(SYMBOLS)
         .arg(files(alloc))
 }
 

@@ -52,6 +52,10 @@ pub enum Command<'a> {
     Check {
         files: Vec<&'a str>,
     },
+    /// Show where the names of the files, as texts in this order, stand in an executable of them.
+    Symbols {
+        files: Vec<&'a str>,
+    },
 }
 
 /// How many instructions or turns a run has where the words don't say: a thousand million.
@@ -59,7 +63,8 @@ pub const DEFAULT_LIMIT: u64 = 1_000_000_000;
 
 /// What the words after the program's name ask for.
 ///
-/// The words are those of a call such as `build -o OUT FILE...`, `run [--limit N] EXE WORD...`, `interp [--limit N] FILE WORD...`, `dis EXE` or `check FILE...`.
+/// The words are those of a call such as `build -o OUT FILE...`, `run [--limit N] EXE WORD...`, `interp [--limit N] FILE WORD...`, `dis EXE`, `check FILE...` or
+/// `symbols FILE...`.
 /// N is from 0 to 1,000,000,000,000, by default [`DEFAULT_LIMIT`]. A WORD that begins with `-` stands after `--`.
 ///
 /// # Errors

@@ -23,6 +23,10 @@ fn shown(alloc: Global, command: &Command<'_>) -> Result<String, AllocError> {
             let count = files.len();
             format!(in alloc; "check {count}")
         }
+        Command::Symbols { files } => {
+            let count = files.len();
+            format!(in alloc; "symbols {count}")
+        }
     }
 }
 
@@ -53,6 +57,8 @@ fn words_ask_for_commands(rt: HostRuntime) -> Result<(), Fail> {
         ("dis a b", "mistake"),
         ("check x.ssa y.ssa", "check 2"),
         ("check", "mistake"),
+        ("symbols x.ssa y.ssa", "symbols 2"),
+        ("symbols", "mistake"),
         ("--version", "help"),
         ("run --help", "help"),
         ("go", "mistake"),

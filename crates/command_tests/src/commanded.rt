@@ -48,6 +48,11 @@ fn commands_want_memory_or_answer(rt: HostRuntime) -> Result<(), Fail> {
             "check seven cut",
             "126||cut:4: error: the text ends here, and isn't whole [E1]\n",
         ),
+        (
+            "symbols seven",
+            "0|0000000000010030 0000000000000008 T main\n|",
+        ),
+        ("symbols seven cut", "126||qbec: refused E1 text 2 line 4\n"),
     ] {
         let text = shown(rt.alloc(), &mut files, words)?;
         let refusals = [

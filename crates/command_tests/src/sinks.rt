@@ -1,5 +1,5 @@
 //! Sinks that take little, and files in memory.
-use shell::disk::{Disk, Faults};
+use shell::disk::{Access, Disk};
 use shell::memory::MemorySink;
 use shell::memory_disk::MemoryDisk;
 use shell::write_exe::{WriteFault, write_exe, write_parts};
@@ -44,6 +44,14 @@ fn parts_go_out_one_after_another(rt: HostRuntime) -> Result<(), Fail> {
     Ok(())
 }
 
+/// Whether one call of a disk was refused, which was of this path.
+fn is_refused(disk: &MemoryDisk, access: Access, path: &str) -> bool {
+    match disk.faults.device.as_slice() {
+        [call] => call.access == access && call.path.as_str() == path,
+        _ => false,
+    }
+}
+
 fn has(disk: &MemoryDisk, path: &str, bytes: &[u8]) -> bool {
     match disk.find(path) {
         Some(found) => found == bytes,
@@ -60,12 +68,7 @@ fn files_in_memory_hold_what_was_written_last(rt: HostRuntime) -> Result<(), Fai
     assert!(rt; disk.write("text", b"third").is_ok());
     assert!(rt; has(&disk, "text", b"third"));
     assert!(rt; has(&disk, "other", b"second"));
-    assert_eq!(rt;
-        disk.faults,
-        Faults {
-            device: 1,
-            memory: 0
-        }
-    );
+    assert_eq!(rt; disk.faults.memory, 0);
+    assert!(rt; is_refused(&disk, Access::Read, "text"));
     Ok(())
 }

@@ -3,7 +3,7 @@
 use Rattle.std.specs.Prelude.{◌≡◌, ◌⊎◌, ℕ, List, map}
 use Rattle.command_line.specs.Words.{AskFor, SaysWhy}
 use Rattle.command_line.specs.declared.Command.{Command}
-use Rattle.command_line.specs.declared.Command.TheVariants.{Build, Run, Interpret, Disassemble, Check}
+use Rattle.command_line.specs.declared.Command.TheVariants.{Build, Run, Interpret, Disassemble, Check, Symbols}
 use Rattle.command_line.specs.declared.refusal.Refusal.{Refusal as CommandRefusal}
 use Rattle.command_line.specs.declared.refusal.Refusal.TheVariants.{Help, Mistake, Memory as NoRoom}
 use Rattle.shell.specs.Disk.{DiskState}
@@ -11,7 +11,7 @@ use Rattle.shell.specs.Sink.{SinkState, Sends, Breaks, Tells}
 use Rattle.commands.specs.declared.failure.Failure.{Failure}
 use Rattle.commands.specs.declared.failure.Failure.TheVariants.{Memory, Output}
 use Rattle.commands.specs.Messages.{line_of}
-use Rattle.commands.specs.Parts.{IsBuilt, BuildFails, RunsTo, RunFails, MeansTo, InterpretFails, IsDisassembled, DisassemblyFails, IsChecked, CheckFails}
+use Rattle.commands.specs.Parts.{IsBuilt, BuildFails, RunsTo, RunFails, MeansTo, InterpretFails, IsDisassembled, DisassemblyFails, AreShown, SymbolsFail, IsChecked, CheckFails}
 use Rattle.commands.specs.Statuses.{status_of}
 
 -- what a disk and the two streams tell at one time
@@ -38,6 +38,9 @@ Done (Disassemble file) old new status =
 Done (Check files) old new status =
     IsChecked old.disk (map (λ p. p.now) files.items) old.err new.err status
     × (new.disk ≡ old.disk) × (new.out ≡ old.out)
+Done (Symbols files) old new status =
+    (status ≡ 0) × AreShown old.disk (map (λ p. p.now) files.items) old.out new.out
+    × (new.disk ≡ old.disk) × (new.err ≡ old.err)
 
 -- it failed so
 abbrev pub Fails : Command → (disk after : DiskState) (old new : SinkState) → Failure → Type 0
@@ -50,6 +53,8 @@ Fails (Interpret limit file words) disk after old new f =
 Fails (Disassemble file) disk after old new f = DisassemblyFails disk after file old new f
 Fails (Check files) disk after old new f =
     CheckFails disk after (map (λ p. p.now) files.items) f × (new ≡ old)
+Fails (Symbols files) disk after old new f =
+    SymbolsFail disk after (map (λ p. p.now) files.items) old new f
 
 -- the line of this failure went to standard error, or a beginning of it where that failed; and the
 -- status is the failure's

@@ -1,18 +1,14 @@
 -- The lines on standard error, byte by byte.
-use Rattle.std.specs.Prelude.{ℕ, [], ◌∷◌, ◌*◌, ◌-◌, ◌/◌, ◌%◌, ◌^◌, false, List, codes, map}
-use Rattle.std.specs.List.{concat, range_with_len}
-use Rattle.std.specs.Fmt.{decimal, digit_glyph}
+use Rattle.std.specs.Prelude.{ℕ, [], ◌∷◌, List, codes}
+use Rattle.std.specs.List.{concat}
+use Rattle.std.specs.Fmt.{decimal}
 use Rattle.elf_file.specs.declared.error.LoadError.{LoadError}
 use Rattle.elf_file.specs.declared.error.LoadError.TheVariants.{CutOff, OtherKind, OutOfRange, Misplaced, BadEntry, Memory as NotLoaded}
+use Rattle.shell.specs.Digits.{sixteen_digits}
 use Rattle.commands.specs.declared.refusal.Refusal.{Refusal}
 use Rattle.commands.specs.declared.refusal.Refusal.TheVariants.{Syntax, Rule, UnknownName, ExportedTwice, NoMain, Limit as TooMuch, Memory as NotCompiled, Words, File}
 use Rattle.commands.specs.declared.failure.Failure.{Failure}
 use Rattle.commands.specs.declared.failure.Failure.TheVariants.{Halt, Limit, Fault, Undefined, Stack, Memory, Refused, Unread, Unwritten, Output}
-
--- a number as sixteen hexadecimal digits, in lower case
-unfoldable pub sixteen_digits : ℕ → List ℕ
-sixteen_digits number =
-    map (λ place. digit_glyph false (number / 2 ^ (60 - 4 * place) % 16)) (range_with_len 0 16)
 
 -- ---- lines, each with its line end, part by part
 

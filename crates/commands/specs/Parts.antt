@@ -8,6 +8,7 @@ use Rattle.rv_machine.specs.declared.stop.Stop.{Stop}
 use Rattle.elf_file.specs.declared.error.LoadError.{LoadError}
 use Rattle.elf_file.specs.Loaded.{Executable}
 use Rattle.elf_file.specs.Conditions.{Loads, Refuses as RefusesFile}
+use Rattle.shell.specs.declared.disk.Access.TheVariants.{Read, Write}
 use Rattle.shell.specs.declared.disk.FileFault.TheVariants.{Device, Memory as NoRoom}
 use Rattle.shell.specs.Disk.{DiskState, Files, Holds, Spares, failed, with_fault}
 use Rattle.shell.specs.Sink.{SinkState, Sends, Breaks, Tells}
@@ -15,6 +16,7 @@ use Rattle.shell.specs.Lines.{dis_lines}
 use Rattle.qbec.specs.declared.error.CompileError.{CompileError}
 use Rattle.qbec.specs.Compile.{IsCompiled}
 use Rattle.qbec.specs.Refusals.{Refuses as RefusesTexts}
+use Rattle.symbols.specs.Listing.{IsListed}
 use Rattle.commands.specs.declared.refusal.Refusal.TheVariants.{File}
 use Rattle.commands.specs.declared.failure.Failure.{Failure}
 use Rattle.commands.specs.declared.failure.Failure.TheVariants.{Memory, Refused, Unread, Unwritten, Output}
@@ -26,17 +28,20 @@ use Rattle.commands.specs.Verdicts.{IsVerdict, verdict_status, verdict_lines}
 
 -- ---- files
 
--- this file couldn't be read, and no file changed: the device refused, and its path is given; or
--- memory was refused
+-- the call that reads this file failed, and no file changed: the device refused, and its path is
+-- given; or memory was refused
 abbrev pub IsUnread : (old new : DiskState) → Bor (List ℕ) → Failure → Type 0
 IsUnread old new path f =
-    ((new ≡ failed Device old) × (f ≡ Unread path)) ⊎ ((new ≡ failed NoRoom old) × (f ≡ Memory))
+    ((new ≡ failed Device (record { access = Read; path = path.now }) old) × (f ≡ Unread path))
+    ⊎ ((new ≡ failed NoRoom (record { access = Read; path = path.now }) old) × (f ≡ Memory))
 
--- this file couldn't be written, and no other changed: likewise
+-- the call that writes this file failed, and no other changed: likewise
 pub record IsUnwritten (old new : DiskState) (path : Bor (List ℕ)) (f : Failure) : Type 0 where
   pub spared : Spares old.files new.files path.now
-  pub said : ((new.faults ≡ with_fault Device old.faults) × (f ≡ Unwritten path))
-      ⊎ ((new.faults ≡ with_fault NoRoom old.faults) × (f ≡ Memory))
+  pub said : ((new.faults ≡ with_fault Device (record { access = Write; path = path.now }) old.faults)
+      × (f ≡ Unwritten path))
+      ⊎ ((new.faults ≡ with_fault NoRoom (record { access = Write; path = path.now }) old.faults)
+      × (f ≡ Memory))
 
 -- each file has the bytes of the text in its place
 abbrev pub AllHold : (told : Option Files) → (paths texts : List (List ℕ)) → Type 0
@@ -183,6 +188,34 @@ DisassemblyFails disk after path old new f =
     × Holds disk.files path.now bytes × RefusesFile e bytes × (f ≡ Refused (File e))
     × (after ≡ disk) × (new ≡ old))
     ⊎ (IsCutShort disk path.now old new × (f ≡ Output) × (after ≡ disk))
+
+-- ---- symbols
+
+-- the files hold texts, and the lines that say where the names of that program stand went out
+pub record AreShown (disk : DiskState) (paths : List (List ℕ)) (old new : SinkState) : Type 0 where
+  pub texts : List (List ℕ)
+  pub held : AllHold disk.files paths texts
+  pub lines : List ℕ
+  pub listed : IsListed texts lines
+  pub sent : Sends old new lines
+
+-- or a beginning of the lines went out, and then standard output failed
+pub record AreCutShort (disk : DiskState) (paths : List (List ℕ)) (old new : SinkState) : Type 0 where
+  pub texts : List (List ℕ)
+  pub held : AllHold disk.files paths texts
+  pub lines : List ℕ
+  pub listed : IsListed texts lines
+  pub broke : Breaks old new lines
+
+-- a listing where a file is unread, there was no memory, or the texts are refused, and nothing was
+-- put out; or standard output failed
+unfoldable pub SymbolsFail : (disk after : DiskState) → (paths : List (List ℕ)) →
+    (old new : SinkState) → Failure → Type 0
+SymbolsFail disk after paths old new f =
+    (MissesFile disk after paths f × (new ≡ old)) ⊎ ((f ≡ Memory) × (after ≡ disk) × (new ≡ old))
+    ⊎ ((texts : List (List ℕ)) × (e : CompileError) × AllHold disk.files paths texts
+    × RefusesTexts e texts × (f ≡ Refused (compile_refusal e)) × (after ≡ disk) × (new ≡ old))
+    ⊎ (AreCutShort disk paths old new × (f ≡ Output) × (after ≡ disk))
 
 -- ---- check
 

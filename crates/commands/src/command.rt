@@ -10,6 +10,7 @@ use crate::check::check;
 use crate::disassemble::disassemble;
 use crate::failure::Failure;
 use crate::files::put_out;
+use crate::list_symbols::list_symbols;
 use crate::run::{interpret, run};
 use crate::tell::{tell, tell_bytes};
 use command_line::refusal::Text;
@@ -93,6 +94,7 @@ fn perform<'a, D: Disk, O: Sink, E: Sink>(
         }
         Command::Disassemble { file } => disassemble(alloc, disk, out, *file),
         Command::Check { files } => check(alloc, disk, err, files.as_slice()),
+        Command::Symbols { files } => list_symbols(alloc, allocator, disk, out, files.as_slice()),
     }
 }
 
@@ -105,8 +107,9 @@ fn perform<'a, D: Disk, O: Sink, E: Sink>(
 /// | `interp [--limit N] FILE WORD...` | interprets one text for at most N turns |
 /// | `dis EXE` | shows the instructions of the executable file |
 /// | `check FILE...` | says on `err` what is wrong with the files as texts, in order, each with its line |
+/// | `symbols FILE...` | shows where the functions and the data of the files, as texts in order, stand in the executable that `build` makes with this strategy |
 ///
-/// A program's output goes to `out`. The status is the program's own, or 0 of `build`, of `dis`, and of `check` where the texts are a program, else 126. Where something ends otherwise, the line of the [`Failure`] goes
+/// A program's output goes to `out`. The status is the program's own, or 0 of `build`, of `dis`, of `symbols`, and of `check` where the texts are a program, else 126. Where something ends otherwise, the line of the [`Failure`] goes
 /// to `err`, and its status is answered; that `err` fails changes nothing. Where `out` fails, that is the failure. Help goes to `out`, with status 0; other texts of
 /// the command line go to `err`, with status 126. What these texts say is shown by tests.
 ///

@@ -1,39 +1,16 @@
 //! The lines of failures, written without taking memory.
-ghost use Rattle.std.specs.Prelude.{◌≡◌, ◌<◌, false, map};
+ghost use Rattle.std.specs.Prelude.{◌≡◌, map};
 ghost use Rattle.std.specs.List.{concat};
-ghost use Rattle.std.specs.Fmt.{digit_glyph};
 ghost use Rattle.shell.specs.Sink.{Tells};
-ghost use Rattle.commands.specs.Messages.{file_number, line_of, refusal_parts, sixteen_digits};
+ghost use Rattle.commands.specs.Messages.{file_number, line_of, refusal_parts};
 
 use crate::failure::Failure;
 use crate::refusal::Refusal;
 use elf_file::LoadError;
 use itoa::Buffer;
+use shell::digits::sixteen_digits;
 use shell::sink::Sink;
 use shell::write_exe::{write_exe, write_parts};
-
-/// The character of a hexadecimal digit.
-fn digit(value: u64) -> u8
-    requires { value < 16 }
-    ensures { result ≡ digit_glyph false value }
-{
-    if value < 10 {
-        b'0' + value as u8
-    } else {
-        b'a' - 10 + value as u8
-    }
-}
-
-/// A number as sixteen hexadecimal digits.
-fn sixteen_digits(number: u64) -> [u8; 16]
-    ensures { result ≡ sixteen_digits number }
-{
-    let mut digits = [0; 16];
-    for place in 0..16 {
-        digits[place] = digit(number >> (60 - 4 * place) & 0xf);
-    }
-    digits
-}
 
 /// The number of a file's refusal.
 fn file_number(error: LoadError) -> &'static str

@@ -138,7 +138,11 @@ fn add_difference(
     if call.args.len() != takes.len() {
         words.add(" is given ");
         words.add_number(call.args.len() as u64);
-        words.add(" arguments, and takes ");
+        words.add(if call.args.len() == 1 {
+            " argument, and takes "
+        } else {
+            " arguments, and takes "
+        });
         words.add_number(takes.len() as u64);
         return true;
     }

@@ -1,5 +1,5 @@
 //! Files in memory, of which one is broken.
-use shell::disk::{Disk, Faults, FileFault, counted};
+use shell::disk::{Access, Disk, Faults, FileFault};
 use shell::memory_disk::MemoryDisk;
 use std::alloc::{AllocError, Global};
 
@@ -9,6 +9,7 @@ pub struct BrokenDisk {
     files: MemoryDisk,
     pub fault: FileFault,
     faults: Faults,
+    alloc: Global,
 }
 
 impl BrokenDisk {
@@ -16,10 +17,8 @@ impl BrokenDisk {
         BrokenDisk {
             files: MemoryDisk::new(alloc),
             fault: FileFault::Device,
-            faults: Faults {
-                device: 0,
-                memory: 0,
-            },
+            faults: Faults::none(alloc),
+            alloc,
         }
     }
 
@@ -36,8 +35,9 @@ impl BrokenDisk {
 
 impl Disk for BrokenDisk {
     ghost use Rattle.std.specs.Prelude.{None};
+    ghost use Rattle.shell.specs.Disk.{told_faults};
 
-    ghost told = { λ s. record { files = None; faults = s.faults } };
+    ghost told = { λ s. record { files = None; faults = told_faults s.faults } };
 
     fn read(&mut self, path: &str) -> Result<Vec<u8>, FileFault> {
         let answer = if path == "broken" {
@@ -45,8 +45,10 @@ impl Disk for BrokenDisk {
         } else {
             self.files.read(path)
         };
-        self.faults = counted(self.faults, &answer);
-        answer
+        match answer {
+            Ok(bytes) => Ok(bytes),
+            Err(fault) => Err(self.faults.note(self.alloc, Access::Read, path, fault)),
+        }
     }
 
     fn write(&mut self, path: &str, bytes: &[u8]) -> Result<(), FileFault> {
@@ -55,7 +57,9 @@ impl Disk for BrokenDisk {
         } else {
             self.files.write(path, bytes)
         };
-        self.faults = counted(self.faults, &answer);
-        answer
+        match answer {
+            Ok(()) => Ok(()),
+            Err(fault) => Err(self.faults.note(self.alloc, Access::Write, path, fault)),
+        }
     }
 }

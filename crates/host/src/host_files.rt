@@ -2,10 +2,11 @@
 ghost use Rattle.std.specs.Prelude.{◌≡◌, IfOk};
 ghost use Rattle.std.specs.Io.KnownBytes.{Appends};
 ghost use Rattle.std.specs.IoError.{error_kind};
+ghost use Rattle.shell.specs.Disk.{no_failed_calls, told_faults};
 ghost use Rattle.host.specs.Faults.{fault_of};
 
 use crate::stream::Stream;
-use shell::disk::{Disk, Faults, FileFault, counted};
+use shell::disk::{Access, Disk, Faults, FileFault};
 use shell::write_exe::write_exe;
 use std::alloc::Global;
 use std::io::{Error, ErrorKind, Read, Write};
@@ -19,7 +20,7 @@ const STANDARD_INPUT: &str = "-";
 /// How many bytes are read of what is no plain file, and may have no end: more than any text has, and any executable that is built.
 const LONGEST_STREAM: u64 = 0x400_0000;
 
-/// The files of the system, and how many calls failed. A file that was read isn't written.
+/// The files of the system, and which calls failed. A file that was read isn't written.
 #[derive(Drop)]
 pub struct HostFiles<'r, R> {
     rt: &'r R,
@@ -31,14 +32,11 @@ pub struct HostFiles<'r, R> {
 impl<'r, R: Files + Input + AllocGlobal> HostFiles<'r, R> {
     /// Those of this process, of which no call has failed so far.
     pub fn new(rt: &'r R) -> HostFiles<'r, R>
-        ensures { result.faults ≡ record { device = 0; memory = 0 } }
+        ensures { told_faults result.faults ≡ no_failed_calls }
     {
         HostFiles {
             rt,
-            faults: Faults {
-                device: 0,
-                memory: 0,
-            },
+            faults: Faults::none(rt.alloc()),
             inputs: Vec::new(rt.alloc()),
         }
     }
@@ -58,6 +56,14 @@ impl<'r, R: Files + Input + AllocGlobal> HostFiles<'r, R> {
             return Err(Error::from(ErrorKind::OutOfMemory));
         }
         fs::read(self.rt, path)
+    }
+
+    /// Writes a file, if it isn't one that was read.
+    fn write_output(&self, path: &str, bytes: &[u8]) -> Result<(), FileFault> {
+        if self.is_input(path) {
+            return Err(FileFault::Device);
+        }
+        write_file(self.rt, path, bytes)
     }
 
     /// Whether a path leads to a file that was read.
@@ -136,21 +142,21 @@ fn write_file<R: Files + AllocGlobal>(rt: &R, path: &str, bytes: &[u8]) -> Resul
 impl<R: Files + Input + AllocGlobal> Disk for HostFiles<'_, R> {
     ghost use Rattle.std.specs.Prelude.{None};
 
-    ghost told = { λ s. record { files = None; faults = s.faults } };
+    ghost told = { λ s. record { files = None; faults = told_faults s.faults } };
 
     fn read(&mut self, path: &str) -> Result<Vec<u8>, FileFault> {
-        let answer = answered(self.read_input(path));
-        self.faults = counted(self.faults, &answer);
-        answer
+        let alloc = self.rt.alloc();
+        match answered(self.read_input(path)) {
+            Ok(bytes) => Ok(bytes),
+            Err(fault) => Err(self.faults.note(alloc, Access::Read, path, fault)),
+        }
     }
 
     fn write(&mut self, path: &str, bytes: &[u8]) -> Result<(), FileFault> {
-        let answer = if self.is_input(path) {
-            Err(FileFault::Device)
-        } else {
-            write_file(self.rt, path, bytes)
-        };
-        self.faults = counted(self.faults, &answer);
-        answer
+        let alloc = self.rt.alloc();
+        match self.write_output(path, bytes) {
+            Ok(()) => Ok(()),
+            Err(fault) => Err(self.faults.note(alloc, Access::Write, path, fault)),
+        }
     }
 }

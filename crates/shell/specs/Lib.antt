@@ -1,4 +1,5 @@
 pub mod Sink
 pub mod Disk
 pub mod MemoryDisk
+pub mod Digits
 pub mod Lines

@@ -6,13 +6,16 @@
 //! - [`memory::MemorySink`] is one in memory, which takes as many bytes a call as its maker says, and fails at the call that its maker says.
 //! - [`write_exe::write_exe`] writes all bytes to any sink, whatever the sink does; a fault tells how many went out, and comes only where the sink failed.
 //!   [`write_exe::write_parts`] does so with several parts, one after another.
-//! - [`disk::Disk`] reads and writes files. Its laws say what it read and wrote, as far as it tells what its files hold, and how often a call failed.
+//! - [`disk::Disk`] reads and writes files. Its laws say what it read and wrote, as far as it tells what its files hold, and which
+//!   calls failed.
 //! - [`memory_disk::MemoryDisk`] is one in memory, which tells.
+//! - [`digits::sixteen_digits`] shows a number in hexadecimal.
 //! - [`dis_lines::dis_lines`] gives exactly the lines of a disassembly, as `specs/Lines.antt` says them.
 //!
 //! The crate stands on `elf_file` for loaded files, on `rv_isa` for instructions and their texts, and on `thiserror`.
 #![tactic(auto)]
 
+pub mod digits;
 pub mod dis_lines;
 pub mod disk;
 pub mod memory;

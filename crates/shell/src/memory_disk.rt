@@ -2,10 +2,10 @@
 ghost use Rattle.std.specs.Prelude.{◌≡◌, ◌↔◌, [], Some, None, Err, IfOk, OnOk, OnErr};
 ghost use Rattle.std.specs.Option.{option_map};
 ghost use Rattle.shell.specs.declared.disk.FileFault.TheVariants.{Device};
-ghost use Rattle.shell.specs.Disk.{Holds, Spares};
+ghost use Rattle.shell.specs.Disk.{Holds, Spares, no_failed_calls, told_faults};
 ghost use Rattle.shell.specs.MemoryDisk.{first_at};
 
-use crate::disk::{Disk, Faults, FileFault, counted};
+use crate::disk::{Access, Disk, Faults, FileFault};
 use std::alloc::{AllocError, Global};
 
 /// A file in memory.
@@ -27,14 +27,11 @@ impl MemoryDisk {
     /// A disk without files.
     pub fn new(alloc: Global) -> MemoryDisk
         ensures empty { result.files.items ≡ [] }
-        ensures faults { result.faults ≡ record { device = 0; memory = 0 } }
+        ensures faults { told_faults result.faults ≡ no_failed_calls }
     {
         MemoryDisk {
             files: Vec::new(alloc),
-            faults: Faults {
-                device: 0,
-                memory: 0,
-            },
+            faults: Faults::none(alloc),
             alloc,
         }
     }
@@ -83,20 +80,24 @@ impl MemoryDisk {
 }
 
 impl Disk for MemoryDisk {
-    ghost told = { λ s. record { files = Some (first_at s.files.items); faults = s.faults } };
+    ghost told = { λ s. record { files = Some (first_at s.files.items); faults = told_faults s.faults } };
 
     fn read(&mut self, path: &str) -> Result<Vec<u8>, FileFault> {
-        let answer = self.copy_of(path);
-        self.faults = counted(self.faults, &answer);
-        answer
+        let alloc = self.alloc;
+        match self.copy_of(path) {
+            Ok(bytes) => Ok(bytes),
+            Err(fault) => Err(self.faults.note(alloc, Access::Read, path, fault)),
+        }
     }
 
     fn write(&mut self, path: &str, bytes: &[u8]) -> Result<(), FileFault> {
-        let answer = match self.store(path, bytes) {
+        let alloc = self.alloc;
+        match self.store(path, bytes) {
             Ok(()) => Ok(()),
-            Err(_) => Err(FileFault::Memory),
-        };
-        self.faults = counted(self.faults, &answer);
-        answer
+            Err(_) => Err(
+                self.faults
+                    .note(alloc, Access::Write, path, FileFault::Memory),
+            ),
+        }
     }
 }

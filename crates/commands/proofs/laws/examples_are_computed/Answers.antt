@@ -1,6 +1,6 @@
 use Rattle.std.proofs.Common.{refl}
 use Rattle.std.specs.Fmt.{digits}
-use Rattle.commands.specs.Messages.{sixteen_digits}
+use Rattle.shell.specs.Digits.{sixteen_digits}
 use Rattle.commands.specs.Examples.{Examples}
 use Rattle.commands.proofs.laws.examples_are_computed.Goals as goal
 

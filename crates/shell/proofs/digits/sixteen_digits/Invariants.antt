@@ -1,6 +1,6 @@
 use Rattle.std.proofs.Common.{◌≡◌, ℕ, ◌*◌, ◌-◌, ◌/◌, ◌%◌, ◌^◌, ◌<◌, length, get_or, false}
 use Rattle.std.specs.Fmt.{digit_glyph}
-use Rattle.commands.proofs.tell.sixteen_digits.Given as goal
+use Rattle.shell.proofs.digits.sixteen_digits.Given as goal
 
 abbrev pub invariant-loop-place : goal.invariant-loop-place
 invariant-loop-place l =

@@ -1,8 +1,8 @@
 use Rattle.std.proofs.Common.{◌*◌, ◌-◌, ◌/◌, ◌%◌, ◌^◌, false, rules}
 use Rattle.std.specs.Fmt.{digit_glyph}
 use Rattle.std.proofs.lemmas.List.FromFn.{fill_by_all}
-use Rattle.commands.specs.Messages.{sixteen_digits}
-use Rattle.commands.proofs.tell.sixteen_digits.Goals as goal
+use Rattle.shell.specs.Digits.{sixteen_digits}
+use Rattle.shell.proofs.digits.sixteen_digits.Goals as goal
 
 pub returns : goal.returns
 unfolding sixteen_digits
