@@ -73,7 +73,55 @@ pub fn allocated(
     }
 }
 
-/// The function in virtual code, by all passes in their order. A pass on virtual code has its place here.
+/// A pass on virtual code.
+#[derive(Clone, Copy)]
+enum Pass {
+    SignExtensions,
+    Joining,
+    Propagation,
+    Hoisting,
+    ValueNumbering,
+    DeadCode,
+    ReadCopies,
+    ConstantHoisting,
+    TailCopies,
+    BlockOrder,
+}
+
+/// All of them, in the order in which they go over a function.
+const PASSES: [Pass; 11] = [
+    Pass::SignExtensions,
+    Pass::Joining,
+    Pass::Propagation,
+    Pass::Hoisting,
+    Pass::ValueNumbering,
+    Pass::Propagation,
+    Pass::DeadCode,
+    Pass::ReadCopies,
+    Pass::ConstantHoisting,
+    Pass::TailCopies,
+    Pass::BlockOrder,
+];
+
+/// The function by one pass.
+fn passed(alloc: Global, pass: Pass, function: VFunc) -> Result<VFunc, AllocError>
+    ensures { IfOk result (λ w. Keeps (virtual_code function) (virtual_code w)) }
+{
+    match pass {
+        Pass::SignExtensions => copy_whole_words(alloc, function),
+        Pass::Joining => join_blocks(alloc, function),
+        Pass::Propagation => propagate(alloc, function),
+        Pass::Hoisting => hoist(alloc, function),
+        Pass::ValueNumbering => reuse_values(alloc, function),
+        Pass::DeadCode => remove_dead_code(alloc, function),
+        Pass::ReadCopies => read_copies(alloc, function),
+        Pass::ConstantHoisting => hoist_constants(alloc, function),
+        Pass::TailCopies => copy_tails(alloc, function),
+        Pass::BlockOrder => order_blocks(alloc, function),
+    }
+}
+
+/// The function in virtual code, by all passes in their order.
 ///
 /// # Errors
 ///
@@ -83,19 +131,12 @@ pub fn virtual_code_of(alloc: Global, func: &Func) -> Result<VFunc, AllocError>
     ensures { IfOk result (λ v. IsCodeOf func.now (virtual_code v)) }
 {
     let lowered = lower(alloc, func)?;
-    let selected = select(alloc, &lowered)?;
-    let extended = copy_whole_words(alloc, selected)?;
-    let joined = join_blocks(alloc, extended)?;
-    let propagated = propagate(alloc, joined)?;
-    let hoisted = hoist(alloc, propagated)?;
-    let reused = reuse_values(alloc, hoisted)?;
-    let again = propagate(alloc, reused)?;
-    let live = remove_dead_code(alloc, again)?;
-    let read = read_copies(alloc, live)?;
-    let held = hoist_constants(alloc, read)?;
-    let tails = copy_tails(alloc, held)?;
-    let ordered = order_blocks(alloc, tails)?;
-    Ok(ordered)
+    let mut function = select(alloc, &lowered)?;
+    for pass in PASSES {
+        let made = passed(alloc, pass, function)?;
+        function = made;
+    }
+    Ok(function)
 }
 
 /// The words of a function's machine code.
