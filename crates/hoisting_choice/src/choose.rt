@@ -142,6 +142,68 @@ fn wanted(register: u32, written: &Written, before: usize, line: &Line<u32>) -> 
     }
 }
 
+/// A computation that is planned, as it is or anew.
+fn put_plan(plans: &mut Plans, plan: Plan) -> Result<Option<u32>, AllocError> {
+    match planned(plans, &plan) {
+        Some(register) => Ok(Some(register)),
+        None => push_plan(plans, plan),
+    }
+}
+
+/// The sum in front of a loop of two summands of three, of which the third changes.
+fn part_of_sum(
+    register: u32,
+    written: &Written,
+    before: usize,
+    sum: u32,
+    added: Operand<u32>,
+) -> Option<Plan> {
+    let (left, right) = written.summands(sum)?;
+    let one = match written.in_front(left) {
+        Some(one) => Some(one),
+        None => written.in_front(right),
+    };
+    let other = written.in_front(added);
+    plan_of(before, register, Operation::Reg(RegOp::Add), one, other)
+}
+
+fn wanted_part(register: u32, written: &Written, before: usize, line: &Line<u32>) -> Option<Plan> {
+    match line {
+        Line::Operate {
+            operation: Operation::Reg(RegOp::Add),
+            left: Operand::At(left),
+            right: Operand::At(right),
+            ..
+        } => match part_of_sum(register, written, before, *left, Operand::At(*right)) {
+            Some(plan) => Some(plan),
+            None => part_of_sum(register, written, before, *right, Operand::At(*left)),
+        },
+        _ => None,
+    }
+}
+
+/// Plans the part of a sum that doesn't change, and notes what the line adds.
+fn plan_sum(
+    plans: &mut Plans,
+    written: &mut Written,
+    before: usize,
+    line: &Line<u32>,
+) -> Result<(), AllocError> {
+    if let Some(plan) = wanted_part(plans.next, written, before, line) {
+        put_plan(plans, plan)?;
+    }
+    if let Line::Operate {
+        to,
+        operation: Operation::Reg(RegOp::Add),
+        left,
+        right,
+    } = line
+    {
+        written.add(*to, *left, *right);
+    }
+    Ok(())
+}
+
 fn plan_line(
     plans: &mut Plans,
     written: &mut Written,
@@ -150,7 +212,7 @@ fn plan_line(
 ) -> Result<(), AllocError> {
     let plan = match wanted(plans.next, written, before, line) {
         Some(plan) => plan,
-        None => return Ok(()),
+        None => return plan_sum(plans, written, before, line),
     };
     let register = match planned(plans, &plan) {
         Some(register) => Some(register),

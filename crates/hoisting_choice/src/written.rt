@@ -10,6 +10,8 @@ struct Writes {
     nest: usize,
     count: u32,
     instead: Option<u32>,
+    /// what it is the sum of
+    sum: Option<(Operand<u32>, Operand<u32>)>,
 }
 
 /// What loops write, register by register, for one loop after another.
@@ -31,6 +33,7 @@ impl Written {
             nest: 0,
             count: 0,
             instead: None,
+            sum: None,
         };
         writes.resize(registers as usize, none)?;
         Ok(Written { writes, nest: 0 })
@@ -48,6 +51,7 @@ impl Written {
                 nest: self.nest,
                 count: 0,
                 instead: None,
+                sum: None,
             },
         }
     }
@@ -86,6 +90,25 @@ impl Written {
                 },
             );
         }
+    }
+
+    /// The register that the loop writes once is the sum of these.
+    pub(crate) fn add(&mut self, register: u32, left: Operand<u32>, right: Operand<u32>) {
+        let writes = self.of(register);
+        if writes.count == 1 {
+            self.set(
+                register,
+                Writes {
+                    sum: Some((left, right)),
+                    ..writes
+                },
+            );
+        }
+    }
+
+    /// What the register is the sum of.
+    pub(crate) fn summands(&self, register: u32) -> Option<(Operand<u32>, Operand<u32>)> {
+        self.of(register).sum
     }
 
     /// An operand that has the same value in front of the loop, if there is one.

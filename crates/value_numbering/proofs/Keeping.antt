@@ -1,5 +1,5 @@
 -- Code that uses values again takes what the code took, and names the registers of the function.
-use Rattle.std.proofs.Common.{◌≡◌, ℕ, ◌+◌, ◌<◌, ◌≤◌, Bool, true, false, if◌then◌else◌, List, [], ◌∷◌, Some, refl, sym, ◌∙◌, ap, subst, arith}
+use Rattle.std.proofs.Common.{◌≡◌, ℕ, ◌+◌, ◌<◌, ◌≤◌, Bool, true, false, ◌&&◌, if◌then◌else◌, List, [], ◌∷◌, Some, refl, sym, ◌∙◌, ap, subst, arith}
 use Rattle.std.specs.List.{list_all}
 use Rattle.std.proofs.lemmas.Bool.{and_parts, and_from, lt-ltb}
 use Rattle.vcode.specs.declared.place.Operand.{Operand}
@@ -11,6 +11,7 @@ use Rattle.vcode.specs.declared.line.Line.TheVariants.{Tick, Set, Operate, Load,
 use Rattle.vcode.specs.declared.line.Jump.{Jump}
 use Rattle.vcode.specs.declared.code.Block.{Block}
 use Rattle.vcode.specs.declared.function.VFunc.{VFunc}
+use Rattle.rv_isa.specs.declared.instruction.RegOp.TheVariants.{Add}
 use Rattle.vcode.specs.Cost.{operand_cost, operation_cost, line_cost, jump_cost, is_immediate}
 use Rattle.vcode.specs.Named.{operand_keeps, line_keeps, jump_keeps, is_below}
 use Rattle.vcode.specs.Addresses.{distance}
@@ -24,7 +25,7 @@ use Rattle.value_numbering.specs.Known.{computed, after}
 use Rattle.il_ast.specs.declared.operation.Size.{Size}
 use Rattle.vcode.specs.declared.place.Address.{Address}
 use Rattle.value_numbering.specs.Narrow.{IsNarrow}
-use Rattle.value_numbering.specs.Reused.{Made, Itself, Copy, Narrow, is_dear, is_no_number, claims_at, AreReused, IsReused, AllReused}
+use Rattle.value_numbering.specs.Reused.{Made, Itself, Copy, Narrow, FirstRegrouped, SecondRegrouped, is_dear, is_no_number, claims_at, AreReused, IsReused, AllReused}
 use Rattle.value_numbering.proofs.Running.{runs}
 
 -- ---- what lines take
@@ -32,6 +33,8 @@ use Rattle.value_numbering.proofs.Running.{runs}
 measure_same : (n : ℕ) (facts : List Fact) (l m : Line ℕ) → Made n facts l m → measure m ≡ measure l
 measure_same n facts l m Itself = refl
 measure_same n facts l m (Narrow is low) = refl
+measure_same n facts l m (FirstRegrouped is) = refl
+measure_same n facts l m (SecondRegrouped is) = refl
 measure_same n facts (Set to a) m (Copy is dear low known) = refl
 measure_same n facts (Operate to op a b) m (Copy is dear low known) = refl
 measure_same n facts (Load to op at) m (Copy is dear low known) = refl
@@ -83,6 +86,8 @@ narrow_cost facts size (Name g) at q is = absurd is
 cost_less : (n : ℕ) (facts : List Fact) (l m : Line ℕ) → Made n facts l m → line_cost m ≤ line_cost l
 cost_less n facts l m Itself = itself_least (line_cost l)
 cost_less n facts l m (Narrow {size = size} {a = a} {at = at} {q = q} is low) = narrow_cost facts size a at q is
+cost_less n facts l m (FirstRegrouped is) = omega arith
+cost_less n facts l m (SecondRegrouped is) = omega arith
 cost_less n facts l m (Copy {f = f} is dear low known) = let x = dear_of l f is dear in omega (arith, x)
 
 lines_measured : (n : ℕ) (claims : List (List Fact)) (facts : List Fact) (lines new : List (Line ℕ)) (j : Jump ℕ) → AreReused n claims facts lines new j → Measured false lines new
@@ -104,9 +109,14 @@ writes_low n (Alloc to size) f is h = absurd (let no : ⊥ = cc in no)
 writes_low n (Blit from to count) f is h = absurd (let no : ⊥ = cc in no)
 writes_low n (Call to callee args) f is h = absurd (let no : ⊥ = cc in no)
 
+sum_low : (n to a b : ℕ) → is_below n to ≡ true → a < n → b < n → line_keeps (is_below n) (let l : Line ℕ = Operate to (Reg Add) (At a) (At b) in l) ≡ true
+sum_low n to a b h low less = and_from (is_below n to) (is_below n a && is_below n b) h (and_from (is_below n a) (is_below n b) (lt-ltb a n low) (lt-ltb b n less))
+
 made_low : (n : ℕ) (facts : List Fact) (l m : Line ℕ) → Made n facts l m → line_keeps (is_below n) l ≡ true → line_keeps (is_below n) m ≡ true
 made_low n facts l m Itself h = h
 made_low n facts l m (Narrow {size = size} {a = a} {at = at} {q = q} is low) h = and_from (is_below n q) (operand_keeps (is_below n) at.base) (lt-ltb q n low) (and_parts (operand_keeps (is_below n) a) (operand_keeps (is_below n) at.base) h).1
+made_low n facts l m (FirstRegrouped {to = to} {part = part} {rest = rest} is) h = sum_low n to part rest (and_parts (is_below n to) _ h).0 is.first is.second
+made_low n facts l m (SecondRegrouped {to = to} {part = part} {rest = rest} is) h = sum_low n to part rest (and_parts (is_below n to) _ h).0 is.first is.second
 made_low n facts l m (Copy {f = f} {r = r} is dear low known) h = and_from (is_below n f.register) (is_below n r) (writes_low n l f is h) (lt-ltb r n low)
 
 lines_low : (n : ℕ) (claims : List (List Fact)) (facts : List Fact) (lines new : List (Line ℕ)) (j : Jump ℕ) → AreReused n claims facts lines new j → list_all (line_keeps (is_below n)) lines ≡ true → list_all (line_keeps (is_below n)) new ≡ true

@@ -1,4 +1,5 @@
 pub mod Making
 pub mod Narrowing
+pub mod Regrouping
 pub mod Running
 pub mod Keeping

@@ -41,7 +41,9 @@ use Rattle.value_numbering.specs.declared.fact.Fact.{Fact}
 use Rattle.value_numbering.specs.Known.{reached, gives, IsTrueOf, computed, names, reads, asks_memory, changes_memory, spares, stays, copied_from, source_by, source, copied, shifted_in, first_of, shifted, is_back, extended_by, joined, canonical, kept_fact, known_by, with_fact, after}
 use Rattle.value_numbering.proofs.Narrowing.{narrow_same, itself_same}
 use Rattle.value_numbering.specs.Narrow.{IsNarrow}
-use Rattle.value_numbering.specs.Reused.{Holds, Found, Small, Made, Itself, Copy, Narrow, claims_at, AllIn, LeadsWell, AreReused, AllReused}
+use Rattle.value_numbering.specs.Regrouped.{Adds, IsSum, InOrder, Turned, IsRegrouped}
+use Rattle.value_numbering.proofs.Regrouping.{turned as sum_turned, regrouped}
+use Rattle.value_numbering.specs.Reused.{Holds, Found, Small, Made, Itself, Copy, Narrow, FirstRegrouped, SecondRegrouped, claims_at, AllIn, LeadsWell, AreReused, AllReused}
 
 -- ---- all facts are true
 
@@ -232,6 +234,24 @@ holds_true globals m values facts r e all (Small is) =
     let known = is.1 in
     ap (gives globals m values) is.0 ∙ itself_same globals m values known.1 r known.2.1 (true_at globals m values facts known.0 (record { register = r; value = known.1 }) all known.2.0)
 
+-- a register that is known to hold a sum holds it
+adds_true : (globals : List Value) (m : Memory) (values : Values ℕ) (facts : List Fact) (r : ℕ) (a b : Operand ℕ) → AreTrue globals m values facts → Adds facts r a b → values r ≡ operated m (Reg Add) (value_of globals values a) (value_of globals values b)
+adds_true globals m values facts r a b all is =
+    gives_one (values r) (operated m (Reg Add) (value_of globals values a) (value_of globals values b)) (sym (true_at globals m values facts is.0 (record { register = r; value = Operated (Reg Add) a b }) all is.1))
+
+sum_true : (globals : List Value) (m : Memory) (values : Values ℕ) (facts : List Fact) (r : ℕ) (a b : Operand ℕ) → AreTrue globals m values facts → IsSum facts r a b → values r ≡ operated m (Reg Add) (value_of globals values a) (value_of globals values b)
+sum_true globals m values facts r a b all (InOrder is) = adds_true globals m values facts r a b all is
+sum_true globals m values facts r a b all (Turned is) = adds_true globals m values facts r b a all is ∙ sum_turned m (value_of globals values b) (value_of globals values a)
+
+-- so a sum of three may be added in another order
+regrouped_true : (globals : List Value) (m : Memory) (values : Values ℕ) (n : ℕ) (facts : List Fact) (y added part rest : ℕ) → AreTrue globals m values facts → IsRegrouped n facts y added part rest
+    → operated m (Reg Add) (values part) (values rest) ≡ operated m (Reg Add) (values y) (values added)
+regrouped_true globals m values n facts y added part rest all is =
+    ap (λ (x : Option Value). operated m (Reg Add) x (values rest))
+    (sum_true globals m values facts part (At is.kept) (copied facts (At added)) all is.known ∙ ap (λ (x : Option Value). operated m (Reg Add) (values is.kept) x) (copied_same globals m values facts all (At added)))
+    ∙ regrouped m (values is.kept) (values added) (values rest)
+    ∙ ap (λ (x : Option Value). operated m (Reg Add) x (values added)) (sym (sum_true globals m values facts y (At is.kept) (At rest) all is.sum))
+
 made_same : (globals : List Value) (m : Memory) (values : Values ℕ) (n : ℕ) (facts : List Fact) (l k : Line ℕ) → AreTrue globals m values facts → Made n facts l k
     → (act globals m values k ≡ act globals m values l) × (line_writes k ≡ line_writes l)
 made_same globals m values n facts l k all Itself = (refl, refl)
@@ -240,6 +260,9 @@ made_same globals m values n facts l k all (Copy {f = f} {r = r} is dear low kno
       sym (holds_true globals m values facts r (canonical facts f.value) all known) ∙ canonical_same globals m values facts all f.value ∙ sym does.0,
       sym does.1,
     )
+made_same globals m values n facts l k all (FirstRegrouped {y = y} {added = added} {part = part} {rest = rest} is) = (ap Gives (regrouped_true globals m values n facts y added part rest all is), refl)
+made_same globals m values n facts l k all (SecondRegrouped {y = y} {added = added} {part = part} {rest = rest} is) =
+    (ap Gives (regrouped_true globals m values n facts y added part rest all is ∙ sum_turned m (values y) (values added)), refl)
 made_same globals m values n facts l k all (Narrow {size = size} {a = a} {at = at} {q = q} is low) = (by a is, refl)
   where
     by : (b : Operand ℕ) → IsNarrow facts size b q → act globals m values (Store size (At q) at) ≡ act globals m values (Store size b at)
@@ -451,6 +474,8 @@ known claims = record { Known = List Fact; hold = λ facts globals memory values
 writes_same : (n : ℕ) (facts : List Fact) (l k : Line ℕ) → Made n facts l k → line_writes k ≡ line_writes l
 writes_same n facts l k Itself = refl
 writes_same n facts l k (Narrow is low) = refl
+writes_same n facts l k (FirstRegrouped is) = refl
+writes_same n facts l k (SecondRegrouped is) = refl
 writes_same n facts l k (Copy {f = f} is dear low known) = sym (computes [] [] (λ r. None) l f is).1
 
 line_follows : (claims : List (List Fact)) (n : ℕ) (facts : List Fact) (l k : Line ℕ) → Made n facts l k → Alike (claimed (known claims)) facts (after k facts) l k

@@ -1,3 +1,4 @@
 pub mod Known
 pub mod Narrow
+pub mod Regrouped
 pub mod Reused

@@ -4,7 +4,9 @@ use Rattle.std.specs.Option.{option_map_or}
 use Rattle.vcode.specs.declared.place.Operand.{Operand}
 use Rattle.vcode.specs.declared.place.Operand.TheVariants.{At, Number}
 use Rattle.vcode.specs.declared.line.Line.{Line}
-use Rattle.vcode.specs.declared.line.Line.TheVariants.{Set, Store}
+use Rattle.vcode.specs.declared.line.Line.TheVariants.{Set, Operate, Store}
+use Rattle.vcode.specs.declared.line.Operation.TheVariants.{Reg}
+use Rattle.rv_isa.specs.declared.instruction.RegOp.TheVariants.{Add}
 use Rattle.vcode.specs.declared.line.Jump.{Jump}
 use Rattle.vcode.specs.declared.line.Jump.TheVariants.{Goto, Branch, Return, Halt}
 use Rattle.vcode.specs.declared.code.Block.{Block}
@@ -15,6 +17,7 @@ use Rattle.il_ast.specs.declared.operation.Size.{Size}
 use Rattle.vcode.specs.declared.place.Address.{Address}
 use Rattle.value_numbering.specs.Known.{computed, canonical, after}
 use Rattle.value_numbering.specs.Narrow.{IsNarrow, IsItself}
+use Rattle.value_numbering.specs.Regrouped.{IsRegrouped}
 
 abbrev pub IsIn : Fact → List Fact → Type 0
 IsIn f facts = (k : ℕ) × (slice_get facts k ≡ Some f)
@@ -36,11 +39,14 @@ pub data Holds (facts : List Fact) (r : ℕ) (e : Expression) : Type 0 where
   Small : IsItself facts r e → Holds facts r e
 
 -- a line itself; or a copy of a register of the function that holds what the line computes; or a
--- store of a register that has the bits that are stored
+-- store of a register that has the bits that are stored; or a sum of three, of which the sum of two
+-- is known
 pub data Made (registers : ℕ) (facts : List Fact) : Line ℕ → Line ℕ → Type 0 where
   Itself : {l : Line ℕ} → Made registers facts l l
   Copy : {l : Line ℕ} {f : Fact} {r : ℕ} → computed l ≡ Some f → is_dear f.value ≡ true → r < registers → Holds facts r (canonical facts f.value) → Made registers facts l (Set f.register (At r))
   Narrow : {size : Size} {a : Operand ℕ} {at : Address ℕ} {q : ℕ} → IsNarrow facts size a q → q < registers → Made registers facts (Store size a at) (Store size (At q) at)
+  FirstRegrouped : {to y added part rest : ℕ} → IsRegrouped registers facts y added part rest → Made registers facts (Operate to (Reg Add) (At y) (At added)) (Operate to (Reg Add) (At part) (At rest))
+  SecondRegrouped : {to y added part rest : ℕ} → IsRegrouped registers facts y added part rest → Made registers facts (Operate to (Reg Add) (At added) (At y)) (Operate to (Reg Add) (At part) (At rest))
 
 -- the facts claimed where a block begins
 abbrev pub claims_at : List (List Fact) → ℕ → List Fact

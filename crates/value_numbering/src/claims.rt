@@ -2,6 +2,7 @@
 use crate::fact::Fact;
 use crate::known::pass;
 use crate::lines::copy;
+use crate::regroup::regrouped_line;
 use crate::same::same_fact;
 use il_ast::list::Seq;
 use std::alloc::{AllocError, Global};
@@ -28,7 +29,10 @@ fn pass_lines(
     for line in lines {
         match copy(facts.as_slice(), registers, line) {
             Some(copy) => pass(facts, &copy)?,
-            None => pass(facts, line)?,
+            None => match regrouped_line(facts.as_slice(), registers, line) {
+                Some(sum) => pass(facts, &sum)?,
+                None => pass(facts, line)?,
+            },
         }
     }
     Ok(())

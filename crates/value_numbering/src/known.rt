@@ -25,7 +25,7 @@ fn copied_by(fact: Fact, register: u32) -> Option<u32>
 }
 
 /// The register that this one is first known to be a copy of, or itself.
-fn source(facts: &[Fact], register: u32) -> u32
+pub(crate) fn source(facts: &[Fact], register: u32) -> u32
     ensures { result ≡ source facts.now register }
 {
     for fact in facts {

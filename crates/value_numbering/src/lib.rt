@@ -1,7 +1,7 @@
 //! # Value numbering
 //!
 //! A pass on virtual code. [`reuse::reuse_values`] walks over each block with what registers are known to hold: what another does, what an operation on registers and numbers gives, what a load
-//! gave (`specs/Known`). A line that computes what a register holds already becomes a copy of that register (`specs/Reused`). A store of a value that was masked or extended, no wider than that left it, stores what it was made of (`specs/Narrow`). A fact stays until a register that it names is written, or, if it asks memory, memory
+//! gave (`specs/Known`). A line that computes what a register holds already becomes a copy of that register (`specs/Reused`). A sum of three registers is added in another order where the sum of two of them is known, as `hoisting` sets it in front of a loop (`specs/Regrouped`). A store of a value that was masked or extended, no wider than that left it, stores what it was made of (`specs/Narrow`). A fact stays until a register that it names is written, or, if it asks memory, memory
 //! is changed.
 //!
 //! What is known where a block begins is claimed by a guess (`claims`): what is known at the end of each block that leads there. At each jump the walk tests that what is claimed of the blocks ahead is known; where
@@ -17,5 +17,6 @@ mod fact;
 mod known;
 mod lines;
 mod narrow;
+mod regroup;
 pub mod reuse;
 mod same;

@@ -8,6 +8,7 @@ ghost use Rattle.value_numbering.specs.Reused.{is_dear, is_no_number, Holds, Mad
 use crate::fact::{Expression, Fact, computed};
 use crate::known::{canonical, holder, pass};
 use crate::narrow::{itself, narrow};
+use crate::regroup::regrouped_line;
 use rv_isa::instruction::RegOp;
 use std::alloc::{AllocError, Global};
 use vcode::line::{Line, Operation};
@@ -108,7 +109,11 @@ fn made(
     ensures { IfOk result (λ m. Made registers facts.now line.now m) }
 {
     match copy(facts, registers, line) {
-        Some(copy) => Ok(copy),
+        Some(copy) => return Ok(copy),
+        None => {}
+    }
+    match regrouped_line(facts, registers, line) {
+        Some(sum) => Ok(sum),
         None => match narrower(facts, registers, line) {
             Some(narrower) => Ok(narrower),
             None => line.try_clone(alloc),
