@@ -2,9 +2,10 @@
 use Rattle.std.proofs.Common.{◌≡◌, ◌⊎◌, ℕ, List, [], true, false, inl, inr, refl, subst, sym}
 use Rattle.clap.specs.Faults.{fault_of, is_simple_and_free}
 use Rattle.clap.specs.Kinds.{HasKind, IsAmong}
-use Rattle.clap.specs.Simple.{App}
+use Rattle.clap.specs.Simple.{App, HasMatchesOf, is_simple, subcommand_of, subcommand_rows_of}
 use Rattle.clap.specs.Values.{kind_of}
 use Rattle.clap.specs.declared.error.Error.{Error}
+use Rattle.clap.specs.declared.parser.matches.ArgMatches.{ArgMatches}
 use Rattle.clap.specs.declared.error.kind.ErrorKind.{ErrorKind}
 use Rattle.clap.specs.declared.error.kind.ErrorKind.TheVariants as kind
 use Rattle.clap.proofs.OnLiterals.{clap_on_literals}
@@ -16,6 +17,14 @@ use Rattle.command_line.specs.declared.refusal.Refusal.{Refusal}
 is_free : is_simple_and_free qbec_app ≡ true
 unfolding clap_on_literals
 is_free = refl
+
+-- what is found of a command that is read as the program is
+simple : is_simple qbec_app ≡ true
+unfolding clap_on_literals
+simple = refl
+
+pub found : (a : App) (words : List (List ℕ)) (m : ArgMatches) → a ≡ qbec_app → HasMatchesOf a words m → subcommand_rows_of m ≡ subcommand_of qbec_app words
+found a words m is h = (subst (λ x. HasMatchesOf x words m) is h simple).1
 
 -- what the parser says of a command that is read as the program is
 pub clean : (a : App) (words : List (List ℕ)) → a ≡ qbec_app → (is_simple_and_free a ≡ true → fault_of a words ≡ []) → fault_of qbec_app words ≡ []

@@ -3,7 +3,7 @@ use Rattle.std.specs.Prelude.{◌≡◌, ◌≢◌, ℕ, ◌^◌, ◌<◌, List,
 use Rattle.std.specs.Str.Parse.{IsNumeral, digits_value, without_leading_plus}
 use Rattle.clap.specs.Walk.{Row, first_of, one_of, all_of}
 use Rattle.command_line.specs.declared.Command.{Command}
-use Rattle.command_line.specs.declared.Command.TheVariants.{Build, Run, Interpret, Disassemble, Check, Symbols}
+use Rattle.command_line.specs.declared.Command.TheVariants.{Build, Run, Interpret, Disassemble, Check, Symbols, Trace}
 
 -- the first word of an argument, and all of them
 abbrev pub word_in : List Row → List ℕ → List ℕ
@@ -37,12 +37,15 @@ Asks name rows (Check files) =
     (name ≡ codes "check") × (map (λ s. s.now) files.items ≡ words_in rows (codes "FILES"))
 Asks name rows (Symbols files) =
     (name ≡ codes "symbols") × (map (λ s. s.now) files.items ≡ words_in rows (codes "FILES"))
+Asks name rows (Trace limit file words) =
+    (name ≡ codes "trace") × IsLimit rows limit × (file.now ≡ word_in rows (codes "FILE"))
+    × (map (λ s. s.now) words.items ≡ words_in rows (codes "WORDS"))
 
 -- the same where no subcommand may have the name: then there is no command
 abbrev pub AsksFor : (name : List ℕ) → List Row → Option Command → Type 0
 AsksFor name rows None =
     (name ≢ codes "build") × (name ≢ codes "run") × (name ≢ codes "interp") × (name ≢ codes "dis")
-    × (name ≢ codes "check") × (name ≢ codes "symbols")
+    × (name ≢ codes "check") × (name ≢ codes "symbols") × (name ≢ codes "trace")
 AsksFor name rows (Some command) = Asks name rows command
 
 -- the same of the subcommand that words name, where they name one

@@ -58,6 +58,9 @@ run_app = running_app (codes "run") (codes "EXE")
 abbrev pub interp_app : App
 interp_app = running_app (codes "interp") (codes "FILE")
 
+abbrev pub trace_app : App
+trace_app = running_app (codes "trace") (codes "FILE")
+
 abbrev pub dis_app : App
 dis_app = with_rule (new_app (codes "dis")) (path_rule (codes "EXE"))
 
@@ -86,8 +89,11 @@ executables_app = with_subcommand (with_subcommand program_app build_app.top) ru
 abbrev pub working_app : App
 working_app = with_subcommand (with_subcommand executables_app interp_app.top) dis_app.top
 
+abbrev pub showing_app : App
+showing_app = with_subcommand (with_subcommand working_app check_app.top) symbols_app.top
+
 abbrev pub qbec_app : App
-qbec_app = with_subcommand (with_subcommand working_app check_app.top) symbols_app.top
+qbec_app = with_subcommand showing_app trace_app.top
 
 -- the command is read so, and so are its arguments
 abbrev pub IsRead : Command → App → Type 0

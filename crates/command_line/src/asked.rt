@@ -80,6 +80,17 @@ fn symbols_of<'a>(alloc: Global, found: &ArgMatches<'a>) -> Result<Command<'a>, 
     Ok(Command::Symbols { files })
 }
 
+fn trace_of<'a>(alloc: Global, found: &ArgMatches<'a>) -> Result<Command<'a>, AllocError>
+    ensures { IfOk result (Asks (codes "trace") (rows_of (found_of found.now))) }
+{
+    let words = words_of(alloc, found, WORDS)?;
+    Ok(Command::Trace {
+        limit: limit_of(found),
+        file: word_of(found, TEXT),
+        words,
+    })
+}
+
 /// What the subcommand of this name asks for, with the values of its arguments; none where no command has the name.
 ///
 /// # Errors
@@ -101,6 +112,7 @@ pub fn asked<'a>(
         })),
         "check" => Ok(Some(check_of(alloc, found)?)),
         "symbols" => Ok(Some(symbols_of(alloc, found)?)),
+        "trace" => Ok(Some(trace_of(alloc, found)?)),
         _ => Ok(None),
     }
 }

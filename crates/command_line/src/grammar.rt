@@ -1,6 +1,6 @@
 //! The grammar of the command line.
 ghost use Rattle.std.specs.Prelude.{IfOk};
-ghost use Rattle.command_line.specs.Grammar.{IsRead, IsRuled, build_app, check_app, dis_app, executables_app, files_rule, interp_app, limit_rule, out_rule, path_rule, program_app, qbec_app, run_app, running_app, symbols_app, words_rule, working_app};
+ghost use Rattle.command_line.specs.Grammar.{IsRead, IsRuled, build_app, check_app, dis_app, executables_app, files_rule, interp_app, limit_rule, out_rule, path_rule, program_app, qbec_app, run_app, running_app, showing_app, symbols_app, trace_app, words_rule, working_app};
 
 use clap::{Arg, Command, value_parser};
 use std::alloc::{AllocError, Global};
@@ -20,7 +20,7 @@ pub(crate) const WORDS: &str = "WORDS";
 
 /// What stands below the help of the program and of its commands.
 const STATUSES: &str =
-    "Exit status: the program's own of run and interp, 0 of build, dis, check and symbols; 134 where the program halts, 124 at the limit, 125 where it faults, is undefined or runs out of stack, 126 where qbec refuses or can't go on. Each but the program's own comes with a line on standard error that says why.
+    "Exit status: the program's own of run, interp and trace, 0 of build, dis, check and symbols; 134 where the program halts, 124 at the limit, 125 where it faults, is undefined or runs out of stack, 126 where qbec refuses or can't go on. Each but the program's own comes with a line on standard error that says why.
 
 Example: qbec build -o hello examples/hello.ssa && qbec run hello";
 
@@ -53,9 +53,21 @@ const SYMBOLS: &str =
 
 Example: qbec symbols examples/hello.ssa";
 
+const TRACE: &str =
+    "Exit status: as of interp. Where the program doesn't exit, a line on standard error says at which line of FILE and in which function it ended, before the line that says how.
+
+Example: qbec trace --limit 100000 examples/endless.ssa";
+
 /// What the program takes.
 pub(crate) fn grammar<'a>(alloc: Global) -> Result<Command<'a>, AllocError>
     ensures { IfOk result (λ c. IsRead c qbec_app) }
+{
+    showing(alloc)?.subcommand(trace(alloc)?)
+}
+
+/// The program, with all commands but the one that traces.
+fn showing<'a>(alloc: Global) -> Result<Command<'a>, AllocError>
+    ensures { IfOk result (λ c. IsRead c showing_app) }
 {
     working(alloc)?
         .subcommand(check(alloc)?)?
@@ -163,6 +175,18 @@ fn symbols<'a>(alloc: Global) -> Result<Command<'a>, AllocError>
         .about("Shows where the names of texts stand in their executable")
         .after_help(SYMBOLS)
         .arg(files(alloc))
+}
+
+fn trace<'a>(alloc: Global) -> Result<Command<'a>, AllocError>
+    ensures { IfOk result (λ c. IsRead c trace_app) }
+{
+    let steps = "How many turns to take at most";
+    let command = running(alloc, "trace", steps, TEXT, "The text of the program")?;
+    Ok(
+        command
+            .about("Interprets one text, and says where it ended")
+            .after_help(TRACE),
+    )
 }
 
 fn out<'a>(alloc: Global) -> Arg<'a>

@@ -52,6 +52,12 @@ pub enum Command<'a> {
     Check {
         files: Vec<&'a str>,
     },
+    /// Interpret the text in `file` so, and say where it ended.
+    Trace {
+        limit: u64,
+        file: &'a str,
+        words: Vec<&'a str>,
+    },
     /// Show where the names of the files, as texts in this order, stand in an executable of them.
     Symbols {
         files: Vec<&'a str>,
@@ -63,8 +69,8 @@ pub const DEFAULT_LIMIT: u64 = 1_000_000_000;
 
 /// What the words after the program's name ask for.
 ///
-/// The words are those of a call such as `build -o OUT FILE...`, `run [--limit N] EXE WORD...`, `interp [--limit N] FILE WORD...`, `dis EXE`, `check FILE...` or
-/// `symbols FILE...`.
+/// The words are those of a call such as `build -o OUT FILE...`, `run [--limit N] EXE WORD...`, `interp [--limit N] FILE WORD...`, `dis EXE`, `check FILE...`,
+/// `symbols FILE...` or `trace [--limit N] FILE WORD...`.
 /// N is from 0 to 1,000,000,000,000, by default [`DEFAULT_LIMIT`]. A WORD that begins with `-` stands after `--`.
 ///
 /// # Errors

@@ -23,6 +23,10 @@ fn shown(alloc: Global, command: &Command<'_>) -> Result<String, AllocError> {
             let count = files.len();
             format!(in alloc; "check {count}")
         }
+        Command::Trace { limit, file, words } => {
+            let count = words.len();
+            format!(in alloc; "trace {limit} {file} {count}")
+        }
         Command::Symbols { files } => {
             let count = files.len();
             format!(in alloc; "symbols {count}")
@@ -59,6 +63,7 @@ fn words_ask_for_commands(rt: HostRuntime) -> Result<(), Fail> {
         ("check", "mistake"),
         ("symbols x.ssa y.ssa", "symbols 2"),
         ("symbols", "mistake"),
+        ("trace --limit 5 m.ssa p", "trace 5 m.ssa 1"),
         ("--version", "help"),
         ("run --help", "help"),
         ("go", "mistake"),

@@ -3,7 +3,7 @@
 use Rattle.std.specs.Prelude.{◌≡◌, ◌⊎◌, ℕ, List, map}
 use Rattle.command_line.specs.Words.{AskFor, SaysWhy}
 use Rattle.command_line.specs.declared.Command.{Command}
-use Rattle.command_line.specs.declared.Command.TheVariants.{Build, Run, Interpret, Disassemble, Check, Symbols}
+use Rattle.command_line.specs.declared.Command.TheVariants.{Build, Run, Interpret, Disassemble, Check, Symbols, Trace}
 use Rattle.command_line.specs.declared.refusal.Refusal.{Refusal as CommandRefusal}
 use Rattle.command_line.specs.declared.refusal.Refusal.TheVariants.{Help, Mistake, Memory as NoRoom}
 use Rattle.shell.specs.Disk.{DiskState}
@@ -11,7 +11,7 @@ use Rattle.shell.specs.Sink.{SinkState, Sends, Breaks, Tells}
 use Rattle.commands.specs.declared.failure.Failure.{Failure}
 use Rattle.commands.specs.declared.failure.Failure.TheVariants.{Memory, Output}
 use Rattle.commands.specs.Messages.{line_of}
-use Rattle.commands.specs.Parts.{IsBuilt, BuildFails, RunsTo, RunFails, MeansTo, InterpretFails, IsDisassembled, DisassemblyFails, AreShown, SymbolsFail, IsChecked, CheckFails}
+use Rattle.commands.specs.Parts.{IsBuilt, BuildFails, RunsTo, RunFails, MeansTo, InterpretFails, IsDisassembled, DisassemblyFails, AreShown, SymbolsFail, IsTraced, IsChecked, CheckFails}
 use Rattle.commands.specs.Statuses.{status_of}
 
 -- what a disk and the two streams tell at one time
@@ -21,7 +21,7 @@ pub record World : Type 0 where
   pub err : SinkState
 
 -- it was done, with this status, and no call of the disk or of standard output failed; but for
--- what is found by a check, nothing went to standard error
+-- what is found by a check, and the end of a trace, nothing went to standard error
 abbrev pub Done : Command → (old new : World) → (status : ℕ) → Type 0
 Done (Build out files) old new status =
     (status ≡ 0) × IsBuilt old.disk new.disk (map (λ p. p.now) files.items) out.now
@@ -41,6 +41,9 @@ Done (Check files) old new status =
 Done (Symbols files) old new status =
     (status ≡ 0) × AreShown old.disk (map (λ p. p.now) files.items) old.out new.out
     × (new.disk ≡ old.disk) × (new.err ≡ old.err)
+Done (Trace limit file words) old new status =
+    IsTraced old.disk file.now (map (λ w. w.now) words.items) limit old.out new.out old.err new.err
+    status × (new.disk ≡ old.disk)
 
 -- it failed so
 abbrev pub Fails : Command → (disk after : DiskState) (old new : SinkState) → Failure → Type 0
@@ -55,6 +58,8 @@ Fails (Check files) disk after old new f =
     CheckFails disk after (map (λ p. p.now) files.items) f × (new ≡ old)
 Fails (Symbols files) disk after old new f =
     SymbolsFail disk after (map (λ p. p.now) files.items) old new f
+Fails (Trace limit file words) disk after old new f =
+    InterpretFails disk after file (map (λ w. w.now) words.items) limit old new f
 
 -- the line of this failure went to standard error, or a beginning of it where that failed; and the
 -- status is the failure's

@@ -22,7 +22,8 @@ use Rattle.commands.specs.declared.failure.Failure.{Failure}
 use Rattle.commands.specs.declared.failure.Failure.TheVariants.{Memory, Refused, Unread, Unwritten, Output}
 use Rattle.commands.specs.Runs.{RunsFile, MeansText}
 use Rattle.commands.specs.Refusals.{compile_refusal, FileIsRefused, TextIsRefused}
-use Rattle.commands.specs.Statuses.{stop_status, end_status}
+use Rattle.commands.specs.Messages.{line_of}
+use Rattle.commands.specs.Statuses.{stop_status, end_status, status_of}
 use Rattle.commands.specs.declared.verdict.Verdict.{Verdict}
 use Rattle.commands.specs.Verdicts.{IsVerdict, verdict_status, verdict_lines}
 
@@ -153,6 +154,23 @@ InterpretFails disk after path words turns old new f =
     × (after ≡ disk) × (new ≡ old))
     ⊎ ((output : List ℕ) × (ending : End) × RanText disk path.now words turns output ending
     × EndsBadly output (end_status ending) old new f × (after ≡ disk))
+
+-- ---- trace
+
+-- what an end that is no exit tells on standard error: some bytes that say where it was, and the
+-- line of the failure, each as far as that took them
+unfoldable pub IsTold : (end : Result ℕ Failure) (before after : SinkState) (status : ℕ) → Type 0
+IsTold (Ok value) before after status = (status ≡ value) × (after ≡ before)
+IsTold (Err f) before after status =
+    (status ≡ status_of f) × ((place : List ℕ) × (between : SinkState) × Tells before between place
+    × Tells between after (line_of f))
+
+-- what the text in the file puts out went out, and its end was told so
+unfoldable pub IsTraced : DiskState → (path : List ℕ) → (words : List (List ℕ)) (turns : ℕ) →
+    (old new before after : SinkState) (status : ℕ) → Type 0
+IsTraced disk path words turns old new before after status =
+    (output : List ℕ) × (ending : End) × RanText disk path words turns output ending
+    × Sends old new output × IsTold (end_status ending) before after status
 
 -- ---- dis
 

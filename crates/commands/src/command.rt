@@ -13,6 +13,7 @@ use crate::files::put_out;
 use crate::list_symbols::list_symbols;
 use crate::run::{interpret, run};
 use crate::tell::{tell, tell_bytes};
+use crate::trace::trace;
 use command_line::refusal::Text;
 use command_line::{Command, Refusal, command_of};
 use regalloc::strategy::Strategy;
@@ -94,6 +95,9 @@ fn perform<'a, D: Disk, O: Sink, E: Sink>(
         }
         Command::Disassemble { file } => disassemble(alloc, disk, out, *file),
         Command::Check { files } => check(alloc, disk, err, files.as_slice()),
+        Command::Trace { limit, file, words } => {
+            trace(alloc, disk, out, err, *limit, *file, words.as_slice())
+        }
         Command::Symbols { files } => list_symbols(alloc, allocator, disk, out, files.as_slice()),
     }
 }
@@ -107,6 +111,7 @@ fn perform<'a, D: Disk, O: Sink, E: Sink>(
 /// | `interp [--limit N] FILE WORD...` | interprets one text for at most N turns |
 /// | `dis EXE` | shows the instructions of the executable file |
 /// | `check FILE...` | says on `err` what is wrong with the files as texts, in order, each with its line |
+/// | `trace [--limit N] FILE WORD...` | interprets one text as `interp` does, and says on `err` where it ended, if it didn't exit |
 /// | `symbols FILE...` | shows where the functions and the data of the files, as texts in order, stand in the executable that `build` makes with this strategy |
 ///
 /// A program's output goes to `out`. The status is the program's own, or 0 of `build`, of `dis`, of `symbols`, and of `check` where the texts are a program, else 126. Where something ends otherwise, the line of the [`Failure`] goes

@@ -1,7 +1,7 @@
 //! # The commands of qbec
 //!
 //! [`command::command`] does what the words after the program's name ask for, over any files and streams, and answers the exit status: `build`, `run`, `interp`,
-//! `dis`, `check` and `symbols`, or help. It writes one line to standard error where something ends otherwise than well.
+//! `dis`, `check`, `symbols` and `trace`, or help. It writes one line to standard error where something ends otherwise than well.
 //!
 //! - [`runs::run_file`] runs the executable file of some bytes, exactly as the machine of the definitions does.
 //! - [`runs::interpret_text`] interprets one text, exactly as its program means.
@@ -27,5 +27,7 @@ pub mod refusal;
 mod run;
 pub mod runs;
 pub mod tell;
+mod trace;
+pub mod traced;
 pub mod verdict;
 mod verdict_lines;

@@ -10,7 +10,7 @@ use shell::disk::Disk;
 use shell::sink::Sink;
 use std::alloc::{AllocError, Global};
 
-fn as_bytes<'a>(alloc: Global, words: &[&'a str]) -> Result<Vec<&'a [u8]>, AllocError>
+pub(crate) fn as_bytes<'a>(alloc: Global, words: &[&'a str]) -> Result<Vec<&'a [u8]>, AllocError>
     ensures { IfOk result (λ v. map (λ w. w.now) v.items ≡ map (λ w. w.now) words.now) }
 {
     let mut list = Vec::new(alloc);

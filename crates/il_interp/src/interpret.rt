@@ -57,7 +57,7 @@ pub fn interpret(
 
 /// Calls `main`: the first state, or the end where the call ends the run.
 #[tactic(auto, unfolding(crate::specs::Machine::started))]
-fn begin(
+pub(crate) fn begin(
     alloc: Global,
     prepared: &Prepared<'_>,
     words: &[&[u8]],

@@ -14,6 +14,8 @@
 //! and a call search for nothing; a temporary is a slot of its activation. A block of memory takes a
 //! logarithm of the number of live ones.
 //!
+//! [`trace::interpret_traced`] does the same, and answers besides where the run ended, which no contract promises.
+//!
 //! `operate::operate_one` and `operate::operate_two` are exactly the operations of the language
 //! (`il_ast`, `specs/Operations`). The crate stands on `il_ast`, `il_mem`, `il_types` and `obj_link`, and
 //! on `thiserror` for the texts of refusals.
@@ -38,4 +40,5 @@ mod run;
 mod slots;
 mod start;
 mod state;
+pub mod trace;
 mod turn;
