@@ -45,11 +45,6 @@ use Rattle.alloc_check.proofs.Slots.{operand_in, two_in, args_in}
 pub is_same : (r : ℕ) → nat_eq r r ≡ true
 is_same r = grind (arith, nat_tests)
 
-  where
-    or_three : (a b d : Bool) → (a || (b || d)) ≡ ((a || b) || d)
-    or_three true b d = refl
-    or_three false b d = refl
-
 every_append : {X : Type 0} (test : X → Bool) (xs ys : List X) → list_all test xs ≡ true → list_all test ys ≡ true → list_all test (xs ++ ys) ≡ true
 every_append test [] ys a b = b
 every_append test (x ∷ xs) ys a b =
