@@ -17,10 +17,10 @@ use Rattle.rv_isa.specs.declared.instruction.StoreOp.{StoreOp}
 use Rattle.rv_isa.specs.declared.instruction.StoreOp.TheVariants.{Sb, Sh, Sw, Sd}
 use Rattle.rv_isa.proofs.MemoryLemmas.{updated_here, updated_elsewhere, each_from, stored_avoids}
 use Rattle.vcode.specs.Addresses.{low}
-use Rattle.abi_frames.specs.Fields.{reg}
-use Rattle.abi_frames.specs.Emission.{store_from, store_at}
-use Rattle.abi_frames.proofs.Leading.{Site, Leads, leads_by, IsReg, register_reg, in_register}
-use Rattle.abi_frames.proofs.Instructions.{UsableFrom}
+use Rattle.operation_code.specs.Fields.{reg}
+use Rattle.operation_code.specs.Fields.{store_from, store_at}
+use Rattle.operation_code.proofs.Leading.{Site, Leads, leads_by, IsReg, register_reg, in_register}
+use Rattle.abi_frames.proofs.StackAccesses.{UsableFrom}
 
 -- ---- a store
 

@@ -19,8 +19,8 @@ use Rattle.flat_code.specs.Step.{Numbers, put, number_of}
 use Rattle.abi_frames.specs.Calls.{World, IsWorld, HoldsSpots, is_kept}
 use Rattle.abi_frames.specs.declared.layout.Layout.{Layout}
 use Rattle.abi_frames.specs.Emission.{slot_offset}
-use Rattle.abi_frames.proofs.Leading.{Site, IsReg}
-use Rattle.abi_frames.proofs.Instructions.{UsableFrom}
+use Rattle.operation_code.proofs.Leading.{Site, IsReg}
+use Rattle.abi_frames.proofs.StackAccesses.{UsableFrom}
 
 -- registers that a frame can save
 abbrev pub can_save : ℕ → Bool

@@ -15,12 +15,12 @@ use Rattle.vcode.specs.declared.place.Argument.{Argument}
 use Rattle.vcode.specs.Named.{is_place, operand_keeps}
 use Rattle.flat_code.specs.Step.{taken}
 use Rattle.abi_frames.specs.Calls.{passed}
-use Rattle.abi_frames.specs.Fields.{add_low}
+use Rattle.operation_code.specs.Fields.{add_low}
 use Rattle.abi_frames.specs.Moves.{exchanged, operand_exchanged, argument_exchanged, exchange, is_in, is_read, settled, arrived, earlier, earlier_in, earlier_at, move_up, moves_up, moved_up, all_move_up, all_moved_up}
 use Rattle.abi_frames.specs.Emission.{passed_class, register_all, passed_items}
-use Rattle.abi_frames.proofs.ConstantNumbers.{near_moves}
-use Rattle.abi_frames.proofs.Leading.{Site, Leads, leads_nowhere, leads_then, leads_so, leads_fixed, Sets, IsReg, register_reg}
-use Rattle.abi_frames.proofs.Instructions.{leads_add_low}
+use Rattle.operation_code.proofs.ConstantNumbers.{near_moves}
+use Rattle.operation_code.proofs.Leading.{Site, Leads, leads_nowhere, leads_then, leads_so, leads_fixed, Sets, IsReg, register_reg}
+use Rattle.operation_code.proofs.Instructions.{leads_add_low}
 use Rattle.abi_frames.proofs.Activations.{Setting, IsSetting, site, bottom, value_at, operand_in, place_is}
 use Rattle.abi_frames.proofs.Passing.{sent, in_place, is_behind, InOrder, Registered, leads_registers}
 

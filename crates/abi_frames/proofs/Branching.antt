@@ -16,9 +16,9 @@ use Rattle.vcode.specs.declared.line.Operation.TheVariants.{Compare}
 use Rattle.vcode.proofs.Comparing.{holds_extended}
 use Rattle.flat_code.specs.Step.{taken as taken_as}
 use Rattle.abi_frames.specs.Emission.{branch_when, inverted}
-use Rattle.abi_frames.proofs.Leading.{Site, in_register}
-use Rattle.abi_frames.proofs.Comparing.{le_is_not_lt, int_le_is}
-use Rattle.abi_frames.proofs.Forms.{as_read}
+use Rattle.operation_code.proofs.Leading.{Site, in_register}
+use Rattle.operation_code.proofs.Comparing.{le_is_not_lt, int_le_is}
+use Rattle.operation_code.proofs.Forms.{as_read}
 
 same_test : (a b : ℕ) → (a == b) ≡ nat_eq a b
 same_test a b = grind (arith, nat_tests)

@@ -36,7 +36,7 @@ use Rattle.abi_frames.specs.Calls.{Ready, passed}
 use Rattle.abi_frames.specs.Performs.{Returns, Stops, KeepsOn, Performs, PerformsAt, ReachStays, AllPerform}
 use Rattle.abi_frames.specs.Layout.{most_in_lines}
 use Rattle.abi_frames.specs.Emission.{prepare_items, call_through, receive_items, lines_items, jump_items}
-use Rattle.abi_frames.proofs.Leading.{StandAt, Reaches, Leads, leads_nowhere, leads_so}
+use Rattle.operation_code.proofs.Leading.{StandAt, Reaches, Leads, leads_nowhere, leads_so}
 use Rattle.abi_frames.proofs.Activations.{Setting, IsSetting, site, bottom, operand_in, Framed, operand_known, Assigned, MayWrite, assigned, assigned_output, is_among}
 use Rattle.abi_frames.proofs.Saving.{call_saves}
 use Rattle.abi_frames.proofs.Pacing.{few_standing}

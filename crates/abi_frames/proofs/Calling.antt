@@ -37,11 +37,13 @@ use Rattle.flat_code.specs.Spots.{Spot, NoAccess, ThisByte, Spots, SameReach}
 use Rattle.flat_code.specs.Step.{Numbers, kept, number_of, read_all, taken, passed as read_passed}
 use Rattle.abi_frames.specs.Calls.{Ready, Back, is_kept, passed}
 use Rattle.vcode.specs.Addresses.{low}
-use Rattle.abi_frames.specs.Fields.{reg, add_low}
-use Rattle.abi_frames.specs.Emission.{with_name, fetch, source, passed_class, stack_all, passed_items, callee_items, callee_source, prepare_items, call_through}
-use Rattle.abi_frames.proofs.ConstantNumbers.{parts_made}
-use Rattle.abi_frames.proofs.Leading.{Site, StandAt, Leads, leads_nowhere, leads_then, leads_so, Sets, IsReg, register_reg, stepped, in_register, in_register_small, same_in_register}
-use Rattle.abi_frames.proofs.Instructions.{is_28, leads_upper, name_is, same_address}
+use Rattle.operation_code.specs.Fields.{reg, add_low}
+use Rattle.operation_code.specs.Fields.{with_name}
+use Rattle.abi_frames.specs.Emission.{fetch, source, passed_class, stack_all, passed_items, callee_items, callee_source, prepare_items, call_through}
+use Rattle.operation_code.proofs.ConstantNumbers.{parts_made}
+use Rattle.operation_code.proofs.Leading.{Site, StandAt, Leads, leads_nowhere, leads_then, leads_so, Sets, IsReg, register_reg, stepped, in_register, in_register_small, same_in_register}
+use Rattle.abi_frames.proofs.StackAccesses.{is_28, same_address}
+use Rattle.operation_code.proofs.Instructions.{leads_upper, name_is}
 use Rattle.abi_frames.proofs.Activations.{Setting, IsSetting, site, bottom, slot_at, save_at, value_at, operand_in, place_is, place_reg, slot_is, is_among, is_held, Framed, operand_known}
 use Rattle.abi_frames.proofs.LineCode.{Fetched, leads_fetch}
 use Rattle.abi_frames.proofs.Passing.{sent, in_place, Kept, operand_kept, sent_kept, each, Stacked, stacked_keeps, leads_stack}

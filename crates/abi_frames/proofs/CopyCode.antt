@@ -20,11 +20,13 @@ use Rattle.vcode.specs.declared.place.Location.{Location}
 use Rattle.vcode.specs.declared.place.Operand.{Operand}
 use Rattle.vcode.specs.Named.{is_place, operand_keeps}
 use Rattle.vcode.specs.Addresses.{low}
-use Rattle.abi_frames.specs.Fields.{reg, add_low}
-use Rattle.abi_frames.specs.Emission.{into, store_at, copy_at, copy_eight, copy_eights, copy_rest, blit_items}
-use Rattle.abi_frames.proofs.ConstantNumbers.{near_moves}
-use Rattle.abi_frames.proofs.Leading.{Site, Leads, leads_nowhere, leads_then, leads_so, Sets, IsReg, register_reg}
-use Rattle.abi_frames.proofs.Instructions.{leads_load_at, UsableFrom, leads_add_low, is_28, is_29}
+use Rattle.operation_code.specs.Fields.{reg, add_low}
+use Rattle.abi_frames.specs.Emission.{into, copy_at, copy_eight, copy_eights, copy_rest, blit_items}
+use Rattle.operation_code.specs.Fields.{store_at}
+use Rattle.operation_code.proofs.ConstantNumbers.{near_moves}
+use Rattle.operation_code.proofs.Leading.{Site, Leads, leads_nowhere, leads_then, leads_so, Sets, IsReg, register_reg}
+use Rattle.abi_frames.proofs.StackAccesses.{leads_load_at, UsableFrom, is_28, is_29}
+use Rattle.operation_code.proofs.Instructions.{leads_add_low}
 use Rattle.abi_frames.proofs.Activations.{Setting, IsSetting, site, bottom, operand_in}
 use Rattle.abi_frames.proofs.LineCode.{Scratched, leads_into, operand_same}
 use Rattle.abi_frames.proofs.Accesses.{Written, leads_store_any, stored_byte, byte_later}

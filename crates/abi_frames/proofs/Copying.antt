@@ -19,8 +19,8 @@ use Rattle.flat_code.specs.Step.{all_there, apart_or_same, is_in, with_copy, cop
 use Rattle.abi_frames.specs.Calls.{HoldsSpots}
 use Rattle.abi_frames.specs.Performs.{AllPerform}
 use Rattle.abi_frames.specs.Emission.{line_items}
-use Rattle.abi_frames.proofs.Leading.{leads_so}
-use Rattle.abi_frames.proofs.Instructions.{UsableFrom}
+use Rattle.operation_code.proofs.Leading.{leads_so}
+use Rattle.abi_frames.proofs.StackAccesses.{UsableFrom}
 use Rattle.abi_frames.proofs.Activations.{Setting, site, bottom, operand_in, Framed, operand_known}
 use Rattle.abi_frames.proofs.MemoryChanges.{Changed, changed, there_at, usable_from, inside_is, outside_is}
 use Rattle.abi_frames.proofs.CopyCode.{Apart, Copied, leads_blit_line}

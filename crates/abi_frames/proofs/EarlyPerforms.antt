@@ -40,7 +40,7 @@ use Rattle.abi_frames.specs.Emission.{passed_class, result_items, go_back, block
 use Rattle.abi_frames.specs.Functions.{entry_items}
 use Rattle.abi_frames.specs.EarlyReturns.{spares, is_tick, is_passed, value_is_passed, no_frame, operand_origin, value_origin, is_bare, is_short, quick_label, begin_label, test_items, quick_items, early_items}
 use Rattle.abi_frames.specs.Laws.{IsCode}
-use Rattle.abi_frames.proofs.Leading.{Site, StandAt}
+use Rattle.operation_code.proofs.Leading.{Site, StandAt}
 use Rattle.abi_frames.proofs.Activations.{Setting, IsSetting, site, bottom, operand_in, can_save, Framed}
 use Rattle.abi_frames.proofs.LineCode.{Scratched, operand_same}
 use Rattle.abi_frames.proofs.FrameEnds.{Ends}

@@ -30,7 +30,7 @@ use Rattle.abi_frames.specs.Calls.{World, Ready, passed, is_kept}
 use Rattle.abi_frames.specs.declared.layout.Layout.{Layout}
 use Rattle.abi_frames.specs.Emission.{passed_class, result_items, go_back}
 use Rattle.abi_frames.specs.EarlyReturns.{is_at, spares, is_tick, no_frame, is_bare, quick_items}
-use Rattle.abi_frames.proofs.Leading.{Site, Sets}
+use Rattle.operation_code.proofs.Leading.{Site, Sets}
 use Rattle.abi_frames.proofs.Activations.{Setting, IsSetting, site, operand_in, can_save, is_held, held_below, held_not_10, Framed}
 use Rattle.abi_frames.proofs.LineCode.{Scratched}
 use Rattle.abi_frames.proofs.FrameEnds.{savable, Ends, ends_then, Jumped, ends_go_back}

@@ -14,11 +14,13 @@ use Rattle.vcode.specs.declared.place.Argument.{Argument}
 use Rattle.vcode.specs.Places.{same_location, located}
 use Rattle.vcode.specs.Named.{is_place, are_distinct}
 use Rattle.flat_code.specs.Step.{Numbers, put, bound, held}
-use Rattle.abi_frames.specs.Fields.{add_low, sum_to, load_8, constant}
+use Rattle.operation_code.specs.Fields.{add_low, sum_to, load_8}
+use Rattle.operation_code.specs.Constants.{constant}
 use Rattle.abi_frames.specs.Emission.{store_slot, slot_offset, passed_items}
 use Rattle.abi_frames.specs.Functions.{caller_pointer, from_register, from_stack, argument_items, arguments_items, is_for_arguments, goes_away, is_on_stack, source_in, sources, pointer_items, entry_items}
-use Rattle.abi_frames.proofs.Leading.{Leads, leads_nowhere, leads_then, leads_so, leads_fixed, leads_again, Sets, IsReg}
-use Rattle.abi_frames.proofs.Instructions.{UsableFrom, Writes, leads_sum, leads_constant, leads_load, leads_store_slot, near_address, is_2, is_28}
+use Rattle.operation_code.proofs.Leading.{Leads, leads_nowhere, leads_then, leads_so, leads_fixed, leads_again, Sets, IsReg}
+use Rattle.abi_frames.proofs.StackAccesses.{UsableFrom, Writes, leads_load, leads_store_slot, near_address, is_2, is_28}
+use Rattle.operation_code.proofs.Instructions.{leads_sum, leads_constant}
 use Rattle.abi_frames.proofs.Activations.{Setting, IsSetting, site, bottom, slot_at, save_at, value_at, is_held, held_below, place_is, place_reg, slot_is, slot_in_frame, Framed, Assigned, MayWrite, assigned, assigned_output}
 use Rattle.abi_frames.proofs.Saving.{AllMayWrite}
 use Rattle.abi_frames.proofs.Arranging.{leads_copy, InRegisters, leads_passed}

@@ -18,11 +18,13 @@ use Rattle.rv_isa.proofs.RunLemmas.{comes_by_step, comes_then}
 use Rattle.vcode.specs.Cost.{is_immediate}
 use Rattle.abi_frames.specs.Calls.{is_kept}
 use Rattle.vcode.specs.Addresses.{low}
-use Rattle.abi_frames.specs.Fields.{reg, add_low, sum_to, constant, load_8, store_8}
+use Rattle.operation_code.specs.Fields.{reg, add_low, sum_to, load_8, store_8}
+use Rattle.operation_code.specs.Constants.{constant}
 use Rattle.abi_frames.specs.Emission.{move_pointer, lower_pointer, raise_pointer, save_all, restore_all, go_back, epilogue}
-use Rattle.abi_frames.proofs.ConstantNumbers.{immediate_adds, near_moves}
-use Rattle.abi_frames.proofs.Leading.{Site, StandAt, Leads, leads_nowhere, leads_then, leads_so, leads_fixed, longest-append, stepped, Sets, IsReg, register_reg}
-use Rattle.abi_frames.proofs.Instructions.{Writes, leads_add_low, leads_sum, leads_constant, leads_load, leads_store, near_address, is_2, is_28}
+use Rattle.operation_code.proofs.ConstantNumbers.{immediate_adds, near_moves}
+use Rattle.operation_code.proofs.Leading.{Site, StandAt, Leads, leads_nowhere, leads_then, leads_so, leads_fixed, longest-append, stepped, Sets, IsReg, register_reg}
+use Rattle.abi_frames.proofs.StackAccesses.{Writes, leads_load, leads_store, near_address, is_2, is_28}
+use Rattle.operation_code.proofs.Instructions.{leads_add_low, leads_sum, leads_constant}
 use Rattle.abi_frames.proofs.Activations.{Setting, IsSetting, site, bottom, save_at, in_frame, can_save, is_among, is_held, held_below}
 use Rattle.std.proofs.Common.{append_assoc}
 

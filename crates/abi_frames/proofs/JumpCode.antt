@@ -24,9 +24,9 @@ use Rattle.flat_code.specs.Step.{taken as taken_as}
 use Rattle.abi_frames.specs.Calls.{passed}
 use Rattle.abi_frames.specs.Emission.{passed_class, operand_into, operand_source, goto_items, branch_when, inverted, ways_items, branch_items, result_items}
 use Rattle.abi_frames.specs.declared.layout.Layout.{Layout}
-use Rattle.abi_frames.proofs.Leading.{Site, StandAt, Leads, longest-append, Sets, in_register, same_in_register}
-use Rattle.abi_frames.proofs.Instructions.{is_10, is_28, is_29}
-use Rattle.abi_frames.proofs.Forms.{as_read}
+use Rattle.operation_code.proofs.Leading.{Site, StandAt, Leads, longest-append, Sets, in_register, same_in_register}
+use Rattle.abi_frames.proofs.StackAccesses.{is_10, is_28, is_29}
+use Rattle.operation_code.proofs.Forms.{as_read}
 use Rattle.abi_frames.proofs.Branching.{inverted_holds, when_taken, branch_size, read_holds}
 use Rattle.abi_frames.proofs.Activations.{Setting, IsSetting, site, bottom, operand_in}
 use Rattle.abi_frames.proofs.LineCode.{Scratched, scratched_then, operand_same, ReadFor, leads_read, read_scratched, read_small, read_not_29}

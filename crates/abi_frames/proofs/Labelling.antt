@@ -46,11 +46,14 @@ use Rattle.vcode.specs.Regular.{leads_inside, is_target, alloc_bytes, code_weigh
 use Rattle.abi_frames.specs.Layout.{layout, saved_registers}
 use Rattle.abi_frames.specs.declared.layout.Layout.{Layout}
 use Rattle.vcode.specs.Addresses.{low}
-use Rattle.abi_frames.specs.Fields.{reg, high, amount, word_amount, add_low, extend, sum_to, load_8, store_8, parted_constant, zeros_of, left_of, is_near_number, near_constant, is_made, added, shifted_by, made_constant, long_constant, word, is_word, word_constant, constant, negate, is_zero, is_not_zero}
-use Rattle.abi_frames.specs.Immediates.{opposite, next, right_form, left_form, compare_number, form_items}
-use Rattle.abi_frames.specs.declared.immediate.Form.{Form}
-use Rattle.abi_frames.specs.declared.immediate.Form.TheVariants.{Immediate as ByImmediate, AddWord, Shift as ByShift, ShiftWord, Compare as ByComparison}
-use Rattle.abi_frames.specs.Emission.{copy_at, copy_eight, copy_eights, copy_rest, far_load, load_slot, far_store, store_slot, slot_offset, into, fetch, source, word_into, target, deliver, set_items, compare_items, operation_items, operand_into, operand_source, on_registers, by_form, operate_by, operate_items, name_into, base_items, load_by, store_by, load_to, store_from, store_op, line_items, lines_items, move_pointer, lower_pointer, raise_pointer, save_all, restore_all, go_back, prologue, epilogue, result_items, goto_items, branch_when, inverted, ways_items, compared_into, compared_source, jump_items, blocks_items, passed_class, pass_into, stack_items, stack_all, register_items, register_all, passed_items, callee_items, callee_source, prepare_items, call_through, receive_items, call_items, address_at}
+use Rattle.operation_code.specs.Fields.{reg, high, amount, word_amount, add_low, extend, sum_to, load_8, store_8, negate, is_zero, is_not_zero}
+use Rattle.operation_code.specs.Constants.{parted_constant, zeros_of, left_of, is_near_number, near_constant, is_made, added, shifted_by, made_constant, long_constant, word, is_word, word_constant, constant}
+use Rattle.operation_code.specs.Immediates.{opposite, next, right_form, left_form, compare_number, form_items}
+use Rattle.operation_code.specs.declared.immediate.Form.{Form}
+use Rattle.operation_code.specs.declared.immediate.Form.TheVariants.{Immediate as ByImmediate, AddWord, Shift as ByShift, ShiftWord, Compare as ByComparison}
+use Rattle.abi_frames.specs.Emission.{copy_at, copy_eight, copy_eights, copy_rest, far_load, load_slot, far_store, store_slot, slot_offset, into, fetch, source, word_into, target, deliver, set_items, operand_into, operand_source, on_registers, by_form, operate_by, operate_items, base_items, load_by, store_by, store_op, line_items, lines_items, move_pointer, lower_pointer, raise_pointer, save_all, restore_all, go_back, prologue, epilogue, result_items, goto_items, branch_when, inverted, ways_items, compared_into, compared_source, jump_items, blocks_items, passed_class, pass_into, stack_items, stack_all, register_items, register_all, passed_items, callee_items, callee_source, prepare_items, call_through, receive_items, call_items, address_at}
+use Rattle.operation_code.specs.Operations.{compare_items, operation_items}
+use Rattle.operation_code.specs.Fields.{name_into, load_to, store_from}
 use Rattle.abi_frames.specs.Moves.{is_read, earlier_at, move_up, moves_up, moved_up, all_move_up, all_moved_up}
 use Rattle.abi_frames.proofs.Passing.{in_place}
 use Rattle.abi_frames.proofs.Arranging.{is_earlier, all_stand}
@@ -60,7 +63,7 @@ use Rattle.abi_frames.specs.declared.early.EarlyReturn.{EarlyReturn}
 use Rattle.abi_frames.specs.EarlyReturns.{is_bare, no_frame, quick_label, begin_label, test_items, quick_items, early_items}
 use Rattle.abi_frames.proofs.EarlyFacts.{around}
 use Rattle.abi_frames.specs.Laws.{IsCode}
-use Rattle.abi_frames.proofs.Leading.{longest-append}
+use Rattle.operation_code.proofs.Leading.{longest-append}
 use Rattle.abi_frames.proofs.Activations.{place_is, can_save}
 use Rattle.abi_frames.proofs.FrameEnds.{savable}
 use Rattle.abi_frames.proofs.Saving.{can_save_all, few_saved_registers}

@@ -1,6 +1,4 @@
-pub mod ConstantNumbers
-pub mod Leading
-pub mod Instructions
+pub mod StackAccesses
 pub mod Activations
 pub mod Addressing
 pub mod LineCode
@@ -19,9 +17,6 @@ pub mod Simulating
 pub mod Starting
 pub mod Labelling
 pub mod Joining
-pub mod Comparing
-pub mod FormNumbers
-pub mod Forms
 pub mod Reading
 pub mod Sources
 pub mod Entering

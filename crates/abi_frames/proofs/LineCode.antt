@@ -4,11 +4,11 @@ use Rattle.std.specs.Prelude.{nat_eq, if◌then◌else◌, Option, Some, None}
 use Rattle.std.specs.Option.{option_and_then}
 use Rattle.std.proofs.lemmas.Bool.Decides.{nat_tests}
 use Rattle.il_ast.specs.declared.operation.Class.TheVariants.{W, L}
-use Rattle.abi_frames.proofs.Comparing.{leads_compare}
-use Rattle.abi_frames.proofs.FormNumbers.{same_word, word_is_small}
-use Rattle.abi_frames.proofs.Forms.{made, as_read, computed_is, IsFormOf, leads_form, nothing_given, number_form_is, left_form_is}
-use Rattle.abi_frames.specs.declared.immediate.Form.{Form}
-use Rattle.abi_frames.specs.Immediates.{swapped, right_form, left_form, form_items}
+use Rattle.operation_code.proofs.Comparing.{leads_compare}
+use Rattle.operation_code.proofs.FormNumbers.{same_word, word_is_small}
+use Rattle.operation_code.proofs.Forms.{made, as_read, computed_is, IsFormOf, leads_form, nothing_given, number_form_is, left_form_is}
+use Rattle.operation_code.specs.declared.immediate.Form.{Form}
+use Rattle.operation_code.specs.Immediates.{swapped, right_form, left_form, form_items}
 use Rattle.rv_isa.specs.Step.{load_size, load_value}
 use Rattle.rv_isa.specs.declared.instruction.LoadOp.{LoadOp}
 use Rattle.rv_isa.specs.State.{State}
@@ -28,11 +28,14 @@ use Rattle.vcode.specs.declared.line.Operation.{Operation}
 use Rattle.vcode.specs.declared.line.Operation.TheVariants.{Reg as RegOperation, RegW as RegWOperation, Compare}
 use Rattle.vcode.specs.Named.{is_place, operand_keeps}
 use Rattle.flat_code.specs.Step.{computed}
-use Rattle.abi_frames.specs.Fields.{reg, add_low, extend, word, constant}
-use Rattle.abi_frames.specs.Emission.{base_items, load_by, load_items, slot_offset, load_slot, store_slot, into, fetch, source, word_into, target, deliver, set_items, operation_items, operand_into, operand_source, on_registers, by_form, operate_by, operate_items}
-use Rattle.abi_frames.proofs.ConstantNumbers.{near_moves, parts_made}
-use Rattle.abi_frames.proofs.Leading.{Leads, leads_nowhere, leads_then, leads_so, leads_fixed, Sets, IsReg, register_reg, in_register, same_in_register, in_register_small}
-use Rattle.abi_frames.proofs.Instructions.{UsableFrom, leads_load_at, Writes, leads_extend, leads_add_low, leads_reg, leads_regw, leads_constant, leads_named, leads_upper, leads_address, leads_load_slot, leads_store_slot_in, is_28, is_29}
+use Rattle.operation_code.specs.Fields.{reg, add_low, extend}
+use Rattle.operation_code.specs.Constants.{word, constant}
+use Rattle.abi_frames.specs.Emission.{base_items, load_by, load_items, slot_offset, load_slot, store_slot, into, fetch, source, word_into, target, deliver, set_items, operand_into, operand_source, on_registers, by_form, operate_by, operate_items}
+use Rattle.operation_code.specs.Operations.{operation_items}
+use Rattle.operation_code.proofs.ConstantNumbers.{near_moves, parts_made}
+use Rattle.operation_code.proofs.Leading.{Leads, leads_nowhere, leads_then, leads_so, leads_fixed, Sets, IsReg, register_reg, in_register, same_in_register, in_register_small}
+use Rattle.abi_frames.proofs.StackAccesses.{UsableFrom, leads_load_at, Writes, leads_load_slot, leads_store_slot_in, is_28, is_29}
+use Rattle.operation_code.proofs.Instructions.{leads_extend, leads_add_low, leads_reg, leads_regw, leads_constant, leads_named, leads_upper, leads_address}
 use Rattle.abi_frames.proofs.Addressing.{IsBeyond, IsBased}
 use Rattle.abi_frames.proofs.Activations.{Setting, IsSetting, site, bottom, slot_at, operand_in, IsPlace, place_is, place_reg, slot_is, slot_in_frame, InPlace, OnStack, Assigned}
 

@@ -22,10 +22,11 @@ use Rattle.flat_code.specs.Flat.{FlatGiven, FlatOutcome}
 use Rattle.flat_code.specs.Step.{FlatState, Numbers, put, made_in, is_in, opened, goes_on}
 use Rattle.abi_frames.specs.Calls.{IsUsable}
 use Rattle.abi_frames.specs.Performs.{AllPerform}
-use Rattle.abi_frames.specs.Fields.{reg, high, add_low, sum_to}
+use Rattle.operation_code.specs.Fields.{reg, high, add_low, sum_to}
 use Rattle.abi_frames.specs.Emission.{address_at, alloc_items, line_items}
-use Rattle.abi_frames.proofs.Leading.{Site, Leads, leads_nowhere, leads_so, leads_again, Sets, IsReg, register_reg}
-use Rattle.abi_frames.proofs.Instructions.{leads_add_low, near_address, far_address, high_part, is_2}
+use Rattle.operation_code.proofs.Leading.{Site, Leads, leads_nowhere, leads_so, leads_again, Sets, IsReg, register_reg}
+use Rattle.operation_code.proofs.Instructions.{leads_add_low}
+use Rattle.abi_frames.proofs.StackAccesses.{near_address, far_address, high_part, is_2}
 use Rattle.abi_frames.proofs.Activations.{Setting, IsSetting, site, bottom, InPlace, Framed, Assigned, assigned, assigned_output}
 use Rattle.abi_frames.proofs.LineCode.{leads_made, set_register}
 use Rattle.abi_frames.proofs.MemoryChanges.{inside_is}

@@ -15,7 +15,7 @@ use Rattle.flat_code.specs.Spots.{Spot, NoAccess, ThisByte, Spots}
 use Rattle.flat_code.specs.Step.{Numbers, is_there, all_there, is_in}
 use Rattle.abi_frames.specs.Calls.{HoldsSpots}
 use Rattle.abi_frames.proofs.Activations.{Setting, IsSetting, bottom, value_at, place_is, slot_is, Framed, held_below}
-use Rattle.abi_frames.proofs.Instructions.{UsableFrom}
+use Rattle.abi_frames.proofs.StackAccesses.{UsableFrom}
 
 -- from s to u, scratch registers and bytes that may be accessed have changed, so that the bytes `now` are known
 pub record Changed (memory now : Spots) (s u : State) : Type 0 where

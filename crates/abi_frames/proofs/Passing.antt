@@ -18,10 +18,10 @@ use Rattle.vcode.specs.declared.place.Argument.{Argument}
 use Rattle.vcode.specs.Named.{is_place, operand_keeps}
 use Rattle.flat_code.specs.Step.{taken}
 use Rattle.abi_frames.specs.Calls.{passed}
-use Rattle.abi_frames.specs.Fields.{store_8}
+use Rattle.operation_code.specs.Fields.{store_8}
 use Rattle.abi_frames.specs.Emission.{word_into, passed_class, pass_into, stack_items, stack_all, register_items, register_all}
-use Rattle.abi_frames.proofs.Leading.{Leads, leads_nowhere, leads_then, leads_so, Sets, IsReg}
-use Rattle.abi_frames.proofs.Instructions.{Writes, leads_store, near_address, is_2, is_28}
+use Rattle.operation_code.proofs.Leading.{Leads, leads_nowhere, leads_then, leads_so, Sets, IsReg}
+use Rattle.abi_frames.proofs.StackAccesses.{Writes, leads_store, near_address, is_2, is_28}
 use Rattle.abi_frames.proofs.Activations.{Setting, IsSetting, site, bottom, slot_at, operand_in, place_is, in_frame}
 use Rattle.abi_frames.proofs.LineCode.{leads_into, leads_word_into}
 

@@ -8,7 +8,7 @@ use Rattle.rv_isa.specs.Labelled.{Ground}
 use Rattle.flat_code.specs.Spots.{Spot, NoAccess, AnyByte, ThisByte, Spots}
 use Rattle.flat_code.specs.Step.{read_spot, known_number}
 use Rattle.abi_frames.specs.Calls.{IsUsable, HoldsSpots}
-use Rattle.abi_frames.proofs.Instructions.{UsableFrom}
+use Rattle.abi_frames.proofs.StackAccesses.{UsableFrom}
 
 pub record IsRead (g : Ground) (u : State) (at n v : ℕ) : Type 0 where
   pub value : number_at u.bytes at n ≡ v

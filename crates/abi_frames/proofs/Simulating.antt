@@ -49,7 +49,7 @@ use Rattle.abi_frames.specs.Calls.{ResultIn, passed}
 use Rattle.abi_frames.specs.Performs.{AllPerform}
 use Rattle.abi_frames.specs.Layout.{most_in_lines}
 use Rattle.abi_frames.specs.Emission.{passed_class, line_items, lines_items, jump_items, goto_items, result_items, epilogue}
-use Rattle.abi_frames.proofs.Leading.{Site, StandAt, Leads, leads_so, Sets}
+use Rattle.operation_code.proofs.Leading.{Site, StandAt, Leads, leads_so, Sets}
 use Rattle.abi_frames.proofs.Addressing.{is_based}
 use Rattle.abi_frames.proofs.Activations.{Setting, site, bottom, save_at, operand_in, Framed, operand_known, Assigned, assigned, assigned_output, held_below, held_not_10}
 use Rattle.abi_frames.proofs.LineCode.{leads_set_line, leads_operate_line, leads_load_line}

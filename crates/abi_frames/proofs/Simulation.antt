@@ -32,7 +32,7 @@ use Rattle.abi_frames.specs.Layout.{args_on_stack, most_in_lines, is_register, w
 use Rattle.abi_frames.specs.Emission.{line_items, lines_items, jump_items, epilogue}
 use Rattle.rv_isa.specs.declared.labelled.Item.TheVariants.{Label}
 use Rattle.abi_frames.proofs.Pacing.{standing}
-use Rattle.abi_frames.proofs.Leading.{StandAt, Reaches, Leads}
+use Rattle.operation_code.proofs.Leading.{StandAt, Reaches, Leads}
 use Rattle.abi_frames.proofs.Activations.{Setting, IsSetting, site, bottom, slot_at, save_at, value_at, place_is, Framed, held_below, MayWrite}
 use Rattle.abi_frames.proofs.Saving.{line_may}
 use Rattle.abi_frames.proofs.LineCode.{Scratched}

@@ -48,19 +48,21 @@ use Rattle.abi_frames.specs.declared.early.EarlyReturn.{EarlyReturn}
 use Rattle.abi_frames.specs.EarlyReturns.{is_bare, is_short, no_frame, quick_label, begin_label, test_items, quick_items, early_items}
 use Rattle.abi_frames.specs.declared.layout.Layout.{Layout}
 use Rattle.vcode.specs.Addresses.{low}
-use Rattle.abi_frames.specs.Fields.{reg, high, add_low, extend, sum_to, load_8, store_8, parted_constant, zeros_of, left_of, is_near_number, near_constant, is_made, added, shifted_by, made_constant, long_constant, word, is_word, word_constant, constant, is_zero, is_not_zero}
-use Rattle.abi_frames.specs.Immediates.{opposite, right_form, left_form, compare_number, form_items}
-use Rattle.abi_frames.specs.declared.immediate.Form.{Form}
-use Rattle.abi_frames.specs.declared.immediate.Form.TheVariants.{Immediate as ByImmediate, AddWord, Shift as ByShift, ShiftWord, Compare as ByComparison}
-use Rattle.abi_frames.proofs.FormNumbers.{word_low, word_is_small}
-use Rattle.abi_frames.proofs.ConstantNumbers.{word_by_bits}
+use Rattle.operation_code.specs.Fields.{reg, high, add_low, extend, sum_to, load_8, store_8, is_zero, is_not_zero}
+use Rattle.operation_code.specs.Constants.{parted_constant, zeros_of, left_of, is_near_number, near_constant, is_made, added, shifted_by, made_constant, long_constant, word, is_word, word_constant, constant}
+use Rattle.operation_code.specs.Immediates.{opposite, right_form, left_form, compare_number, form_items}
+use Rattle.operation_code.specs.declared.immediate.Form.{Form}
+use Rattle.operation_code.specs.declared.immediate.Form.TheVariants.{Immediate as ByImmediate, AddWord, Shift as ByShift, ShiftWord, Compare as ByComparison}
+use Rattle.operation_code.proofs.FormNumbers.{word_low, word_is_small}
+use Rattle.operation_code.proofs.ConstantNumbers.{word_by_bits}
 use Rattle.abi_frames.proofs.Branching.{branch_size}
-use Rattle.abi_frames.specs.Emission.{far_load, far_store, load_slot, store_slot, slot_offset, into, fetch, source, word_into, target, deliver, set_items, compare_items, operation_items, operand_into, operand_source, on_registers, by_form, operate_by, operate_items, base_items, load_by, load_items, store_by, store_op, store_items, line_items, lines_items, move_pointer, lower_pointer, raise_pointer, save_all, restore_all, go_back, prologue, epilogue, result_items, goto_items, branch_when, inverted, ways_items, compared_into, compared_source, jump_items, block_items, blocks_items, passed_class, pass_into, stack_items, stack_all, register_items, register_all, passed_items, callee_items, prepare_items, call_through, receive_items, call_items, copy_at, copy_eight, copy_eights, copy_rest, blit_items, address_at, alloc_items}
+use Rattle.abi_frames.specs.Emission.{far_load, far_store, load_slot, store_slot, slot_offset, into, fetch, source, word_into, target, deliver, set_items, operand_into, operand_source, on_registers, by_form, operate_by, operate_items, base_items, load_by, load_items, store_by, store_op, store_items, line_items, lines_items, move_pointer, lower_pointer, raise_pointer, save_all, restore_all, go_back, prologue, epilogue, result_items, goto_items, branch_when, inverted, ways_items, compared_into, compared_source, jump_items, block_items, blocks_items, passed_class, pass_into, stack_items, stack_all, register_items, register_all, passed_items, callee_items, prepare_items, call_through, receive_items, call_items, copy_at, copy_eight, copy_eights, copy_rest, blit_items, address_at, alloc_items}
+use Rattle.operation_code.specs.Operations.{compare_items, operation_items}
 use Rattle.abi_frames.specs.Moves.{operand_exchanged, argument_exchanged, exchange, is_read, settled, arrived, earlier_at, move_up, moves_up, moved_up, all_move_up, all_moved_up}
 use Rattle.abi_frames.proofs.MovingUp.{moved_length}
 use Rattle.abi_frames.proofs.Sources.{sources_length}
 use Rattle.abi_frames.specs.Functions.{caller_pointer, from_register, from_stack, argument_items, arguments_items, is_for_arguments, goes_away, is_on_stack, sources, pointer_items, entry_items, function_items}
-use Rattle.abi_frames.proofs.Leading.{longest-append}
+use Rattle.operation_code.proofs.Leading.{longest-append}
 use Rattle.abi_frames.proofs.Outgoing.{slots_near}
 
 -- ---- lines

@@ -32,7 +32,7 @@ use Rattle.abi_frames.specs.declared.layout.Layout.{Layout}
 use Rattle.abi_frames.specs.Emission.{lines_items, jump_items, blocks_items, prologue, epilogue, lower_pointer, save_all}
 use Rattle.abi_frames.specs.Functions.{entry_items, function_items}
 use Rattle.abi_frames.specs.Laws.{IsCode}
-use Rattle.abi_frames.proofs.Leading.{Site, StandAt, Leads, leads_then, leads_so, longest-append}
+use Rattle.operation_code.proofs.Leading.{Site, StandAt, Leads, leads_then, leads_so, longest-append}
 use Rattle.abi_frames.proofs.Activations.{Setting, IsSetting, site, bottom, can_save, held_below}
 use Rattle.abi_frames.proofs.FrameEnds.{savable, PointerMoved, leads_lower, AllSaved, leads_save_all}
 use Rattle.abi_frames.proofs.Outgoing.{few_outgoing, block_passes}

@@ -34,10 +34,11 @@ use Rattle.flat_code.specs.Flat.{FlatGiven, FlatOutcome}
 use Rattle.flat_code.specs.Step.{all_there, is_in, with_number, stored as stored_spots, FlatState, number_of, address_of, read, taken, changes, goes_on}
 use Rattle.abi_frames.specs.Calls.{HoldsSpots}
 use Rattle.abi_frames.specs.Performs.{AllPerform}
-use Rattle.abi_frames.specs.Fields.{reg}
+use Rattle.operation_code.specs.Fields.{reg}
 use Rattle.abi_frames.specs.Emission.{fetch, source, base_items, store_by, store_op, store_items, line_items}
-use Rattle.abi_frames.proofs.Leading.{Leads, leads_then, leads_so, in_register, same_in_register}
-use Rattle.abi_frames.proofs.Instructions.{UsableFrom, leads_named, is_28, is_29}
+use Rattle.operation_code.proofs.Leading.{Leads, leads_then, leads_so, in_register, same_in_register}
+use Rattle.abi_frames.proofs.StackAccesses.{UsableFrom, is_28, is_29}
+use Rattle.operation_code.proofs.Instructions.{leads_named}
 use Rattle.abi_frames.proofs.Addressing.{IsBased, is_based}
 use Rattle.abi_frames.proofs.Activations.{Setting, IsSetting, site, bottom, operand_in, Framed, operand_known}
 use Rattle.abi_frames.proofs.LineCode.{Aimed, offset_left, leads_base, aimed_scratched, Fetched, leads_fetch, fetched_scratched, scratched_then, operand_same, source_small, source_not_29}

@@ -8,18 +8,16 @@ use Rattle.il_ast.specs.declared.operation.Size.{Size}
 use Rattle.il_ast.specs.declared.operation.Size.TheVariants.{Byte, Half, Word, Long}
 use Rattle.il_ast.specs.declared.operation.Condition.{Condition}
 use Rattle.il_ast.specs.declared.operation.Condition.TheVariants.{Equal, NotEqual, SignedLessEqual, SignedLess, SignedGreaterEqual, SignedGreater, UnsignedLessEqual, UnsignedLess, UnsignedGreaterEqual, UnsignedGreater}
-use Rattle.rv_isa.specs.declared.instruction.Instr.TheVariants.{Lui, Jalr, Load, Store, Reg, RegW, Ebreak}
+use Rattle.rv_isa.specs.declared.instruction.Instr.TheVariants.{Lui, Jalr, Load, Ebreak}
 use Rattle.rv_isa.specs.declared.instruction.LoadOp.{LoadOp}
 use Rattle.rv_isa.specs.declared.instruction.LoadOp.TheVariants.{Ld, Lwu, Lhu, Lbu}
 use Rattle.rv_isa.specs.declared.instruction.StoreOp.{StoreOp}
 use Rattle.rv_isa.specs.declared.instruction.StoreOp.TheVariants.{Sb, Sh, Sw, Sd}
-use Rattle.rv_isa.specs.declared.instruction.RegOp.TheVariants.{Sub, Slt, Sltu}
 use Rattle.rv_isa.specs.declared.instruction.BranchOp.TheVariants.{Beq, Bne, Blt, Bge, Bltu, Bgeu}
 use Rattle.rv_isa.specs.declared.ranges.Immediate.{Immediate}
 use Rattle.rv_isa.specs.declared.labelled.Item.{Item}
-use Rattle.rv_isa.specs.declared.labelled.Item.TheVariants.{Plain, Label, Branch as BranchTo, Goto as GoTo, Relocated}
-use Rattle.rv_isa.specs.declared.relocation.Partial.{Partial}
-use Rattle.rv_isa.specs.declared.relocation.Partial.TheVariants.{Upper, Add, Jump as JumpBy, Load as LoadBy, Store as StoreBy}
+use Rattle.rv_isa.specs.declared.labelled.Item.TheVariants.{Plain, Label, Branch as BranchTo, Goto as GoTo}
+use Rattle.rv_isa.specs.declared.relocation.Partial.TheVariants.{Upper, Jump as JumpBy, Load as LoadBy, Store as StoreBy}
 use Rattle.vcode.specs.declared.place.Location.{Location}
 use Rattle.vcode.specs.declared.place.Location.TheVariants.{Register as InRegister, Slot}
 use Rattle.vcode.specs.declared.place.Operand.{Operand}
@@ -42,10 +40,12 @@ use Rattle.vcode.specs.Addresses.{low}
 use Rattle.vcode.specs.Cost.{is_immediate}
 use Rattle.vcode.specs.Regular.{alloc_bytes}
 use Rattle.abi_frames.specs.declared.layout.Layout.{Layout}
-use Rattle.abi_frames.specs.declared.immediate.Form.{Form}
-use Rattle.abi_frames.specs.Fields.{reg, add_low, extend, sum_to, load_8, store_8, constant, high, word, negate, is_zero, is_not_zero}
+use Rattle.operation_code.specs.declared.immediate.Form.{Form}
+use Rattle.operation_code.specs.Fields.{reg, add_low, extend, sum_to, load_8, store_8, high, load_to, store_from, store_at, with_name, name_into}
+use Rattle.operation_code.specs.Operations.{operation_items}
+use Rattle.operation_code.specs.Constants.{constant, word}
 use Rattle.abi_frames.specs.Moves.{all_move_up, all_moved_up}
-use Rattle.abi_frames.specs.Immediates.{right_form, left_form, form_items}
+use Rattle.operation_code.specs.Immediates.{right_form, left_form, form_items}
 
 -- ---- the frame: eight bytes at an offset from the stack pointer
 
@@ -65,16 +65,6 @@ far_store v offset =
 abbrev pub store_slot : (v offset : ℕ) → List Item
 store_slot v offset =
     if nat_lt offset 2048 then store_8 v STACK_POINTER offset ∷ [] else far_store v offset
-
--- ---- names
-
--- an instruction with its part of the address that lies so far beyond a name's
-abbrev pub with_name : Partial → (global : ℕ) → (offset : Immediate) → Item
-with_name i g o = Relocated (record { instruction = i; global = g; offset = o })
-
--- the name's address into the register d
-abbrev pub name_into : (d global : ℕ) → List Item
-name_into d g = with_name (Upper (reg d)) g (low 0) ∷ with_name (Add (reg d) (reg d)) g (low 0) ∷ []
 
 -- ---- operands and destinations
 
@@ -122,25 +112,6 @@ set_items y (InRegister r) a = into y r a
 set_items y (Slot i) a =
     fetch y FIRST_SCRATCH a ++ store_slot (source FIRST_SCRATCH a) (slot_offset y i)
 
--- a comparison of two registers by all 64 bits
-abbrev pub compare_items : Condition → (d a b : ℕ) → List Item
-compare_items Equal d a b = Plain (Reg Sub (reg d) (reg a) (reg b)) ∷ is_zero d d ∷ []
-compare_items NotEqual d a b = Plain (Reg Sub (reg d) (reg a) (reg b)) ∷ is_not_zero d d ∷ []
-compare_items SignedLess d a b = Plain (Reg Slt (reg d) (reg a) (reg b)) ∷ []
-compare_items SignedGreater d a b = Plain (Reg Slt (reg d) (reg b) (reg a)) ∷ []
-compare_items SignedLessEqual d a b = Plain (Reg Slt (reg d) (reg b) (reg a)) ∷ negate d ∷ []
-compare_items SignedGreaterEqual d a b = Plain (Reg Slt (reg d) (reg a) (reg b)) ∷ negate d ∷ []
-compare_items UnsignedLess d a b = Plain (Reg Sltu (reg d) (reg a) (reg b)) ∷ []
-compare_items UnsignedGreater d a b = Plain (Reg Sltu (reg d) (reg b) (reg a)) ∷ []
-compare_items UnsignedLessEqual d a b = Plain (Reg Sltu (reg d) (reg b) (reg a)) ∷ negate d ∷ []
-compare_items UnsignedGreaterEqual d a b = Plain (Reg Sltu (reg d) (reg a) (reg b)) ∷ negate d ∷ []
-
--- the operation on two registers
-abbrev pub operation_items : Operation → (d a b : ℕ) → List Item
-operation_items (RegOperation op) d a b = Plain (Reg op (reg d) (reg a) (reg b)) ∷ []
-operation_items (RegWOperation op) d a b = Plain (RegW op (reg d) (reg a) (reg b)) ∷ []
-operation_items (Compare on k) d a b = compare_items on d a b
-
 -- an operand of the operation, in a register: a word is extended before it is compared
 abbrev pub operand_into : Layout → Operation → ℕ → Operand Location → List Item
 operand_into y (Compare on W) d a = word_into y d a
@@ -176,16 +147,6 @@ operate_by y to op a b None None = on_registers y to op a b
 
 abbrev pub operate_items : Layout → Location → Operation → (a b : Operand Location) → List Item
 operate_items y to op a b = operate_by y to op a b (right_form op b) (left_form op a)
-
--- a load and a store of this size at an offset from a register
-abbrev pub load_to : LoadOp → (d base : ℕ) → Immediate → Item
-load_to op d base offset = Plain (Load op (reg d) (reg base) offset)
-
-abbrev pub store_from : StoreOp → (v base : ℕ) → Immediate → Item
-store_from op v base offset = Plain (Store op (reg base) (reg v) offset)
-
-abbrev pub store_at : StoreOp → (v base offset : ℕ) → Item
-store_at op v base offset = store_from op v base (low offset)
 
 abbrev pub store_op : Size → StoreOp
 store_op Byte = Sb

@@ -14,7 +14,8 @@ use Rattle.il_ast.specs.declared.operation.Class.TheVariants.{L}
 use Rattle.vcode.specs.declared.code.Block.{Block}
 use Rattle.abi_frames.specs.Layout.{is_register}
 use Rattle.abi_frames.specs.declared.layout.Layout.{Layout}
-use Rattle.abi_frames.specs.Fields.{add_low, sum_to, load_8, constant}
+use Rattle.operation_code.specs.Fields.{add_low, sum_to, load_8}
+use Rattle.operation_code.specs.Constants.{constant}
 use Rattle.abi_frames.specs.Emission.{passed_items, store_slot, slot_offset, prologue, epilogue, blocks_items}
 
 -- the caller's stack pointer into x30

@@ -2,8 +2,6 @@ pub mod Calls
 pub mod Performs
 pub mod Promise
 pub mod Layout
-pub mod Fields
-pub mod Immediates
 pub mod Moves
 pub mod Emission
 pub mod Functions

@@ -2,15 +2,16 @@
 ghost use Rattle.std.specs.Prelude.{◌≡◌, ◌-◌, ◌*◌, ◌^◌, ◌<◌, ◌≤◌, [], ◌∷◌, ◌++◌, ◌&&◌, length, nat_le, OnOk};
 ghost use Rattle.rv_isa.specs.declared.abi.TheConstants.{STACK_POINTER, FIRST_ARGUMENT, LAST_ARGUMENT, FIRST_SCRATCH};
 ghost use Rattle.vcode.specs.declared.place.Operand.TheVariants.{Name};
-ghost use Rattle.abi_frames.specs.Fields.{store_8};
-ghost use Rattle.abi_frames.specs.Emission.{fetch, source, passed_class, pass_into, stack_all, register_items, register_all, passed_items, callee_items, callee_source, call_through, receive_items, call_items};
+ghost use Rattle.operation_code.specs.Fields.{store_8};
+ghost use Rattle.abi_frames.specs.Emission.{passed_class, pass_into, stack_all, register_items, register_all, passed_items, callee_items, callee_source, call_through, receive_items, call_items};
 
-use crate::fields::{add_immediate, register, store};
 use crate::layout::Layout;
 use crate::line::push_set;
 use crate::moves::push_moves_up;
-use crate::operand::{push_fetch, push_operand, push_word, source_of, with_name};
+use crate::operand::{push_fetch, push_operand, push_word, source_of};
 use il_ast::operation::Class;
+use operation_code::fields::{add_immediate, register, store};
+use operation_code::name::with_name;
 use rv_isa::abi;
 use rv_isa::instruction::Instr;
 use rv_isa::labelled::Item;

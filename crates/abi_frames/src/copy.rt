@@ -2,9 +2,9 @@
 ghost use Rattle.std.specs.Prelude.{◌≡◌, ◌^◌, ◌<◌, ◌++◌, OnOk};
 ghost use Rattle.abi_frames.specs.Emission.{copy_at, copy_eight, copy_eights, copy_rest, blit_items};
 
-use crate::fields::{add_immediate, load_at, store_at};
 use crate::layout::Layout;
 use crate::operand::push_operand;
+use operation_code::fields::{add_immediate, load_at, store_at};
 use rv_isa::abi;
 use rv_isa::instruction::{LoadOp, StoreOp};
 use rv_isa::labelled::Item;

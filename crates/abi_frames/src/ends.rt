@@ -1,12 +1,13 @@
 //! The begin and the end of a frame.
 ghost use Rattle.std.specs.Prelude.{◌≡◌, ◌+◌, ◌-◌, ◌*◌, ◌^◌, ◌<◌, ◌≤◌, [], ◌∷◌, ◌++◌, length, OnOk};
 ghost use Rattle.rv_isa.specs.declared.abi.TheConstants.{STACK_POINTER, FIRST_SCRATCH};
-ghost use Rattle.abi_frames.specs.Fields.{constant, sum_to};
+ghost use Rattle.operation_code.specs.Constants.{constant};
+ghost use Rattle.operation_code.specs.Fields.{sum_to};
 ghost use Rattle.abi_frames.specs.Emission.{move_pointer, lower_pointer, raise_pointer, save_all, restore_all, prologue, epilogue, go_back};
 
-use crate::fields::{add, add_immediate, load, register, store};
 use crate::layout::Layout;
-use crate::operand::{has_12_bits, push_constant};
+use operation_code::constant::{has_12_bits, push_constant};
+use operation_code::fields::{add, add_immediate, load, register, store};
 use rv_isa::abi;
 use rv_isa::instruction::Instr;
 use rv_isa::labelled::Item;

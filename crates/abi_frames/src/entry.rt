@@ -2,16 +2,16 @@
 ghost use Rattle.std.specs.Prelude.{◌≡◌, ◌+◌, ◌-◌, ◌*◌, ◌^◌, ◌<◌, ◌≤◌, [], ◌∷◌, ◌++◌, length, if◌then◌else◌, IsTrue, OnOk, IfOk};
 ghost use Rattle.rv_isa.specs.declared.abi.TheConstants.{ARGUMENT_REGISTERS};
 ghost use Rattle.vcode.specs.declared.place.Location.TheVariants.{Slot};
-ghost use Rattle.abi_frames.specs.Fields.{constant, sum_to};
 ghost use Rattle.abi_frames.specs.Functions.{caller_pointer, from_register, from_stack, argument_items, arguments_items, is_for_arguments, goes_away, is_on_stack, comes_to, source_in, sources, pointer_items, entry_items};
 ghost use Rattle.abi_frames.specs.Emission.{passed_items};
 
 use crate::call::push_passed;
-use crate::fields::{add, add_immediate, load};
 use crate::layout::Layout;
-use crate::operand::{push_constant, push_into_slot};
+use crate::operand::push_into_slot;
 use crate::saved::is_register;
 use il_ast::operation::Class;
+use operation_code::constant::push_constant;
+use operation_code::fields::{add, add_immediate, load};
 use rv_isa::abi;
 use rv_isa::labelled::Item;
 use std::alloc::{AllocError, Global};

@@ -4,10 +4,9 @@ ghost use Rattle.std.specs.Prelude.{◌≡◌, ◌+◌, ◌*◌, ◌^◌, ◌<�
 ghost use Rattle.rv_isa.specs.Labels.{longest_size};
 ghost use Rattle.std.specs.List.{list_all, sum_by};
 ghost use Rattle.vcode.specs.Regular.{area, alloc_bytes, passes_few, code_weight};
-ghost use Rattle.flat_code.specs.Step.{flat_begin, flat_step};
-ghost use Rattle.abi_frames.specs.Layout.{layout, saved_registers, frame_bound, frame_size};
+ghost use Rattle.abi_frames.specs.Layout.{layout, saved_registers, frame_bound};
 ghost use Rattle.abi_frames.specs.Emission.{lines_items, jump_items, epilogue, block_items, blocks_items};
-ghost use Rattle.abi_frames.specs.Functions.{entry_items, function_items};
+ghost use Rattle.abi_frames.specs.Functions.{function_items};
 ghost use Rattle.abi_frames.specs.EarlyReturns.{test_items, quick_items, early_items, items_by, labels_with};
 ghost use Rattle.rv_isa.specs.declared.labelled.Item.TheVariants.{Label};
 ghost use Rattle.abi_frames.specs.Frames.{IsFrameOf};

@@ -1,14 +1,14 @@
 //! The machine code of jumps.
 ghost use Rattle.std.specs.Prelude.{◌≡◌, ◌^◌, ◌<◌, ◌&&◌, nat_eq, ◌++◌, OnOk};
 ghost use Rattle.rv_isa.specs.declared.labelled.Item.TheVariants.{Branch};
-ghost use Rattle.abi_frames.specs.Fields.{reg};
+ghost use Rattle.operation_code.specs.Fields.{reg};
 ghost use Rattle.abi_frames.specs.Emission.{result_items, goto_items, branch_when, inverted, ways_items, branch_items, return_items, jump_items};
 
 use crate::call::{passed_class, push_value};
-use crate::fields::register;
 use crate::layout::Layout;
 use crate::line::{operand_source, push_operand_for};
 use il_ast::operation::Condition;
+use operation_code::fields::register;
 use rv_isa::abi;
 use rv_isa::instruction::{BranchOp, Instr};
 use rv_isa::labelled::Item;

@@ -5,7 +5,7 @@
 //! its slots, and the area for blocks of memory. A function whose frame is empty moves no stack pointer.
 //!
 //! Each line becomes instructions of its own: operands that are not in registers come into x28 and x29, and a value for a slot goes through x28. A number stands
-//! in the instruction where that has a form for it (`immediate`, `specs/Immediates.antt`), and 0 is read from x0. Each block of memory stands behind those of the
+//! in the instruction where that has a form for it (`operation_code::immediate`), and 0 is read from x0. Each block of memory stands behind those of the
 //! lines before it. Bytes are copied through x30, eight at a time and the rest as four, two and one.
 //!
 //! No jump goes to the block that stands next, and a branch is turned round where its first target does (`jump`). Ticks have no instructions, so where code falls
@@ -14,8 +14,6 @@
 //!
 //! Where the first block does nothing but test what was passed, and copy, and one of its ways does nothing but return, that way needs no frame (`early`,
 //! `specs/EarlyReturns.antt`): the test stands once more before the frame's begin and reads registers of arguments, and the early return behind the frame's end.
-//!
-//! A number of 64 bits is made from its upper part, shifted by the zeros at its end, and its low 12 bits, in at most eight instructions (`specs/Fields.antt`).
 //!
 //! What the code owes is `FramePromise` (`specs/Promise.antt`): in every world and wherever it stands, from every state that is ready for the call
 //! (`specs/Calls.antt`, by the integer calling convention of the RISC-V ELF psABI), the machine performs what the code on bytes runs (`specs/Performs.antt`), in
@@ -32,14 +30,11 @@
 #![tactic(auto)]
 
 mod call;
-mod compare;
 mod copy;
 mod early;
 mod ends;
 mod entry;
-mod fields;
 pub mod frame;
-pub mod immediate;
 mod jump;
 pub mod laws;
 pub mod layout;

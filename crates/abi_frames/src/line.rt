@@ -4,22 +4,23 @@ ghost use Rattle.std.specs.Prelude.{◌≡◌, ◌^◌, ◌<◌, ◌≤◌, IsTr
 ghost use Rattle.std.specs.List.{list_all, sum_by};
 ghost use Rattle.vcode.specs.Regular.{alloc_bytes, passes_few};
 ghost use Rattle.vcode.specs.declared.place.Location.TheVariants.{Slot};
-ghost use Rattle.abi_frames.specs.Emission.{operation_items, operand_into, operand_source, on_registers, by_form, set_items, operate_items, base_items, load_by, store_by, load_items, store_op, store_items, alloc_items, line_items, lines_items};
+ghost use Rattle.abi_frames.specs.Emission.{operand_into, operand_source, on_registers, by_form, set_items, operate_items, base_items, load_by, store_by, load_items, store_op, store_items, alloc_items, line_items, lines_items};
 
 use crate::call::push_call;
-use crate::compare::push_compare;
 use crate::copy::push_blit;
-use crate::fields::{load_to, register, store_from};
-use crate::immediate::{Form, left_form, push_form, right_form};
 use crate::layout::Layout;
 use crate::operand::{
     push_address_at, push_deliver, push_fetch, push_into_slot, push_operand, push_word, source_of,
-    target_of, with_name,
+    target_of,
 };
 use crate::room::alloc_bytes;
 use il_ast::operation::{Class, Size};
+use operation_code::fields::{load_to, register, store_from};
+use operation_code::immediate::{Form, left_form, push_form, right_form};
+use operation_code::name::with_name;
+use operation_code::operation::push_operation;
 use rv_isa::abi;
-use rv_isa::instruction::{Instr, LoadOp, StoreOp};
+use rv_isa::instruction::{LoadOp, StoreOp};
 use rv_isa::labelled::Item;
 use rv_isa::relocation::Partial;
 use std::alloc::AllocError;
@@ -49,33 +50,6 @@ pub(crate) fn push_set(
     match to {
         Location::Register(number) => push_operand(items, layout, *number, value)?,
         Location::Slot(slot) => push_set_slot(items, layout, *slot, value)?,
-    }
-    Ok(())
-}
-
-fn push_operation(
-    items: &mut Vec<Item>,
-    operation: &Operation,
-    to: u8,
-    left: u8,
-    right: u8,
-) -> Result<(), AllocError>
-    ensures { OnOk result (items.new.items ≡ items.old.items ++ operation_items operation.now to left right) }
-{
-    match operation {
-        Operation::Reg(op) => items.push(Item::Plain(Instr::Reg {
-            op: *op,
-            rd: register(to),
-            rs1: register(left),
-            rs2: register(right),
-        }))?,
-        Operation::RegW(op) => items.push(Item::Plain(Instr::RegW {
-            op: *op,
-            rd: register(to),
-            rs1: register(left),
-            rs2: register(right),
-        }))?,
-        Operation::Compare(condition, _) => push_compare(items, *condition, to, left, right)?,
     }
     Ok(())
 }

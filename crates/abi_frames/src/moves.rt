@@ -1,9 +1,9 @@
 //! Arguments that stand in one another's registers.
 ghost use Rattle.std.specs.Prelude.{◌≡◌, ◌<◌, ◌≤◌, ◌++◌, length, OnOk, IfOk, MatchOption};
 ghost use Rattle.rv_isa.specs.declared.abi.TheConstants.{ARGUMENT_REGISTERS};
-ghost use Rattle.abi_frames.specs.Moves.{exchanged, operand_exchanged, argument_exchanged, exchange, is_in, is_read, earlier, earlier_at, settled, arrived, move_up, moves_up, moved_up, all_move_up, all_moved_up};
+ghost use Rattle.abi_frames.specs.Moves.{exchanged, operand_exchanged, exchange, is_in, is_read, earlier, earlier_at, settled, arrived, move_up, all_move_up, all_moved_up};
 
-use crate::fields::add_immediate;
+use operation_code::fields::add_immediate;
 use rv_isa::abi;
 use rv_isa::labelled::Item;
 use std::alloc::AllocError;

@@ -5,7 +5,6 @@
 //! words those that are named, of the table's and of these: `strategies`, `prefixes`, `files`, `lines`, `devices`, `sizes`, `random`. `random N SEED` runs N random programs.
 #![tactic(auto)]
 
-mod branches;
 mod broken_disk;
 mod case;
 mod commanded;
@@ -15,13 +14,10 @@ mod files;
 mod hostile;
 mod interpreted;
 mod lines;
-mod made;
 mod measures;
 mod prefixes;
 mod programs;
 mod random;
-mod random_body;
-mod random_text;
 mod sizes;
 mod strategies;
 mod table;

@@ -1,7 +1,6 @@
 //! Random programs: interpreted, and compiled with several strategies and run over both kinds of memory within their price.
 use crate::compiled::{Compiled, compile_with, ran};
 use crate::interpreted::interpreted;
-use crate::random_text::random_text;
 use crate::strategies::{Answer, Fixed};
 use crate::watched::Watched;
 use regalloc::spill_all::SpillAll;
@@ -12,6 +11,7 @@ use rv_machine::ram::Ram;
 use std::alloc::{AllocError, Global};
 use test_report::report::Report;
 use test_report::told::Told;
+use test_texts::random_text::random_text;
 
 /// More turns than any of the programs takes.
 const PLENTY: u64 = 1 << 20;

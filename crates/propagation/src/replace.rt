@@ -18,7 +18,7 @@ use std::alloc::{AllocError, Global};
 use vcode::cost::{affords, is_immediate};
 use vcode::line::{Comparison, Jump, Line, Operation};
 use vcode::place::{Address, Operand};
-use vcode::replace::{Replace, address as with_base, arguments, comparison, returned};
+use vcode::replace::{Replace, address as with_base, comparison, line as put_operands, returned};
 
 fn is_short(operand: &Operand<u32>) -> bool
     ensures { result ≡ is_short operand.now }
@@ -162,14 +162,6 @@ pub(crate) fn line(
     ensures { IfOk result (λ v. v ≡ with_line (facts_of table.now) from.now) }
 {
     Ok(match from {
-        Line::Tick { turn, weight } => Line::Tick {
-            turn: *turn,
-            weight: *weight,
-        },
-        Line::Set { to, value } => Line::Set {
-            to: *to,
-            value: table.operand(value),
-        },
         Line::Operate {
             to,
             operation,
@@ -194,20 +186,11 @@ pub(crate) fn line(
             value: table.operand(value),
             at: address(table, at),
         },
-        Line::Alloc { to, size } => Line::Alloc {
-            to: *to,
-            size: *size,
-        },
-        Line::Blit { from, to, count } => Line::Blit {
-            from: table.operand(from),
-            to: table.operand(to),
-            count: *count,
-        },
-        Line::Call { to, callee, args } => Line::Call {
-            to: *to,
-            callee: table.operand(callee),
-            args: arguments(alloc, table, args.as_slice())?,
-        },
+        Line::Tick { .. }
+        | Line::Set { .. }
+        | Line::Alloc { .. }
+        | Line::Blit { .. }
+        | Line::Call { .. } => put_operands(alloc, table, from)?,
     })
 }
 

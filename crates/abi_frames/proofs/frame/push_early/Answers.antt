@@ -3,7 +3,7 @@ use Rattle.rv_isa.specs.declared.labelled.Item.{Item}
 use Rattle.rv_isa.specs.declared.labelled.Item.TheVariants.{Label}
 use Rattle.abi_frames.specs.Functions.{function_items}
 use Rattle.abi_frames.specs.EarlyReturns.{test_items, quick_items, begin_label, quick_label}
-use Rattle.abi_frames.proofs.Joining.{joined_3, joined_as}
+use Rattle.operation_code.proofs.Joining.{joined_3, joined_as}
 use Rattle.abi_frames.proofs.frame.push_early.Goals as goal
 
 pub returns : goal.returns

@@ -1,4 +1,4 @@
-use Rattle.abi_frames.proofs.Joining.{joined_4}
+use Rattle.operation_code.proofs.Joining.{joined_4}
 use Rattle.abi_frames.proofs.frame.push_function.Goals as goal
 
 pub returns : goal.returns

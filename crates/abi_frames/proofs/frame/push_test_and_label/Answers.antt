@@ -1,4 +1,4 @@
-use Rattle.abi_frames.proofs.Joining.{joined_2}
+use Rattle.operation_code.proofs.Joining.{joined_2}
 use Rattle.abi_frames.proofs.frame.push_test_and_label.Goals as goal
 
 pub returns : goal.returns

@@ -28,15 +28,16 @@ use Rattle.vcode.specs.declared.line.Operation.TheVariants.{Reg as RegOperation,
 use Rattle.vcode.specs.Cost.{is_immediate}
 use Rattle.flat_code.specs.Step.{computed}
 use Rattle.vcode.specs.Addresses.{low}
-use Rattle.abi_frames.specs.Fields.{reg, word, add_low, is_zero, is_not_zero}
-use Rattle.abi_frames.specs.Immediates.{opposite, next, form_if, immediate_form, sum_form, reg_form, regw_form, compares_with, comparison_form, number_form, turned, left_form, compare_number, form_items, is_power}
-use Rattle.abi_frames.specs.declared.immediate.Form.{Form}
-use Rattle.abi_frames.specs.declared.immediate.Form.TheVariants.{Immediate as ByImmediate, AddWord, Shift as ByShift, ShiftWord, Compare as ByComparison}
-use Rattle.abi_frames.proofs.ConstantNumbers.{immediate_adds}
-use Rattle.abi_frames.proofs.FormNumbers.{immediate_wide, same_word, word_is_small, less_opposite, opposite_small, opposite_word, sum_word, signed_next, unsigned_next, shift_of_64, shift_of_32, zero_is, not_zero_is, power_is, small_64, small_32, low_word}
-use Rattle.abi_frames.proofs.Leading.{Site, Leads, leads_fixed, leads_again, leads_set, Sets, IsReg, register_reg, in_register, in_register_small}
-use Rattle.abi_frames.proofs.Instructions.{leads_imm, leads_add_low, leads_add_word, leads_shift, leads_shift_word}
-use Rattle.abi_frames.proofs.Comparing.{bit_is, zero_difference, some_difference, le_is_not_lt, int_le_is, then_negate, sets_as}
+use Rattle.operation_code.specs.Fields.{reg, add_low, is_zero, is_not_zero}
+use Rattle.operation_code.specs.Constants.{word}
+use Rattle.operation_code.specs.Immediates.{opposite, next, form_if, immediate_form, sum_form, reg_form, regw_form, compares_with, comparison_form, number_form, turned, left_form, compare_number, form_items, is_power}
+use Rattle.operation_code.specs.declared.immediate.Form.{Form}
+use Rattle.operation_code.specs.declared.immediate.Form.TheVariants.{Immediate as ByImmediate, AddWord, Shift as ByShift, ShiftWord, Compare as ByComparison}
+use Rattle.operation_code.proofs.ConstantNumbers.{immediate_adds}
+use Rattle.operation_code.proofs.FormNumbers.{immediate_wide, same_word, word_is_small, less_opposite, opposite_small, opposite_word, sum_word, signed_next, unsigned_next, shift_of_64, shift_of_32, zero_is, not_zero_is, power_is, small_64, small_32, low_word}
+use Rattle.operation_code.proofs.Leading.{Site, Leads, leads_fixed, leads_again, leads_set, Sets, IsReg, register_reg, in_register, in_register_small}
+use Rattle.operation_code.proofs.Instructions.{leads_imm, leads_add_low, leads_add_word, leads_shift, leads_shift_word}
+use Rattle.operation_code.proofs.Comparing.{bit_is, zero_difference, some_difference, le_is_not_lt, int_le_is, then_negate, sets_as}
 use Rattle.vcode.proofs.Comparing.{holds_extended}
 
 -- ---- comparisons with a number

@@ -4,12 +4,12 @@ ghost use Rattle.rv_isa.specs.declared.labelled.Item.TheVariants.{Plain};
 ghost use Rattle.rv_isa.specs.declared.instruction.Instr.TheVariants.{Imm};
 ghost use Rattle.il_ast.specs.declared.operation.Condition.TheVariants.{Equal, NotEqual};
 ghost use Rattle.vcode.specs.Addresses.{low};
-ghost use Rattle.abi_frames.specs.Fields.{reg, negate};
-ghost use Rattle.abi_frames.specs.Immediates.{opposite, next, form_if, immediate_form, sum_form, is_power, product_form, word_product_form, reg_form, regw_form, compares_with, comparison_form, number_form, turned, swapped_reg, swapped_regw, swapped, right_form, left_form, compare_number, form_items};
+ghost use Rattle.operation_code.specs.Fields.{reg, negate};
+ghost use Rattle.operation_code.specs.Immediates.{opposite, next, form_if, immediate_form, sum_form, is_power, product_form, word_product_form, reg_form, regw_form, compares_with, comparison_form, number_form, turned, swapped_reg, swapped_regw, swapped, right_form, left_form, compare_number, form_items};
 
 use crate::compare::{negation, test_of_nonzero, test_of_zero};
+use crate::constant::{has_12_bits, word};
 use crate::fields::{add_immediate, amount, register, word_amount};
-use crate::operand::{has_12_bits, word};
 use il_ast::operation::{Class, Condition};
 use rv_isa::instruction::{ImmOp, Instr, RegOp, RegWOp, ShiftOp, ShiftWOp};
 use rv_isa::labelled::Item;
@@ -161,7 +161,8 @@ fn comparison_form(condition: Condition, number: u64) -> Option<Form>
     )
 }
 
-fn number_form(operation: &Operation, number: u64) -> Option<Form>
+/// The form of an operation with this number on its right, where it has one.
+pub fn number_form(operation: &Operation, number: u64) -> Option<Form>
     ensures { result ≡ number_form operation.now number }
 {
     match operation {
@@ -173,7 +174,7 @@ fn number_form(operation: &Operation, number: u64) -> Option<Form>
 }
 
 /// The form of an operation with this operand on its right, where it has one.
-pub(crate) fn right_form(operation: &Operation, right: &Operand<Location>) -> Option<Form>
+pub fn right_form(operation: &Operation, right: &Operand<Location>) -> Option<Form>
     ensures { result ≡ right_form operation.now right.now }
 {
     match right {
@@ -237,7 +238,7 @@ fn swapped_regw(op: RegWOp) -> Option<Operation>
 }
 
 /// The operation that gives the same with its operands exchanged.
-fn swapped(operation: &Operation) -> Option<Operation>
+pub fn swapped(operation: &Operation) -> Option<Operation>
     ensures { result ≡ swapped operation.now }
 {
     match operation {
@@ -250,7 +251,7 @@ fn swapped(operation: &Operation) -> Option<Operation>
 }
 
 /// The same for an operand on its left, on the other operand.
-pub(crate) fn left_form(operation: &Operation, left: &Operand<Location>) -> Option<Form>
+pub fn left_form(operation: &Operation, left: &Operand<Location>) -> Option<Form>
     ensures { result ≡ left_form operation.now left.now }
 {
     let exchanged = swapped(operation)?;
@@ -344,12 +345,7 @@ fn push_comparison(
 }
 
 /// Puts the code of a form at the end, from a register to another.
-pub(crate) fn push_form(
-    items: &mut Vec<Item>,
-    form: Form,
-    to: u8,
-    from: u8,
-) -> Result<(), AllocError>
+pub fn push_form(items: &mut Vec<Item>, form: Form, to: u8, from: u8) -> Result<(), AllocError>
     ensures { OnOk result (items.new.items ≡ items.old.items ++ form_items form to from) }
 {
     let rd = register(to);

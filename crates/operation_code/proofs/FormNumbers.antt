@@ -8,10 +8,10 @@ use Rattle.std.proofs.lemmas.Bool.Decides.{nat_tests}
 use Rattle.bits.specs.Words.{sign_extended}
 use Rattle.rv_isa.specs.Formats.{signed}
 use Rattle.vcode.specs.Cost.{is_immediate}
-use Rattle.abi_frames.specs.Fields.{word}
+use Rattle.operation_code.specs.Constants.{word}
 use Rattle.std.proofs.lemmas.Nat.{one_shl}
-use Rattle.abi_frames.specs.Immediates.{opposite, next, is_power}
-use Rattle.abi_frames.proofs.ConstantNumbers.{word_by_bits}
+use Rattle.operation_code.specs.Immediates.{opposite, next, is_power}
+use Rattle.operation_code.proofs.ConstantNumbers.{word_by_bits}
 
 -- an immediate is its number
 pub immediate_wide : (n : ℕ) → is_immediate n ≡ true → cast_unsigned w64 (signed 12 (n % 4096)) ≡ n % 2 ^ 64

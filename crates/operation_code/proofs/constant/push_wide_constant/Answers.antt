@@ -1,7 +1,7 @@
 use Rattle.std.proofs.Common.{◌≡◌, sym, ◌∙◌, arith, false}
-use Rattle.abi_frames.specs.Fields.{is_word}
-use Rattle.abi_frames.proofs.Joining.{joined_as, long_is_wide}
-use Rattle.abi_frames.proofs.operand.push_wide_constant.Goals as goal
+use Rattle.operation_code.specs.Constants.{is_word}
+use Rattle.operation_code.proofs.Joining.{joined_as, long_is_wide}
+use Rattle.operation_code.proofs.constant.push_wide_constant.Goals as goal
 
 pub returns-in_ok-push_long_constant : goal.returns-in_ok-push_long_constant
 returns-in_ok-push_long_constant c =

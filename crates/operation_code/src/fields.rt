@@ -4,8 +4,9 @@ ghost use Rattle.rv_isa.specs.declared.labelled.Item.TheVariants.{Plain};
 ghost use Rattle.rv_isa.specs.declared.instruction.Instr.TheVariants.{Lui, Load, Shift, Addiw};
 ghost use Rattle.rv_isa.specs.declared.instruction.ShiftOp.TheVariants.{Srli};
 ghost use Rattle.vcode.specs.Addresses.{low};
-ghost use Rattle.abi_frames.specs.Fields.{reg, field, high, amount, word_amount, add_low, extend, sum_to, load_8, store_8, shift_11, shifted_by};
-ghost use Rattle.abi_frames.specs.Emission.{load_to, store_from, store_at};
+ghost use Rattle.operation_code.specs.Fields.{reg, field, amount, word_amount, add_low, extend, sum_to, load_8, store_8, shift_11};
+ghost use Rattle.operation_code.specs.Constants.{shifted_by};
+ghost use Rattle.operation_code.specs.Fields.{load_to, store_from, store_at};
 
 use rv_isa::instruction::{ImmOp, Instr, LoadOp, RegOp, ShiftOp, StoreOp};
 use rv_isa::labelled::Item;
@@ -13,7 +14,7 @@ use rv_isa::ranges::{Amount, Immediate, Register, UpperField, WordAmount};
 use vcode::place::low_part;
 
 /// The register of that number, modulo 32.
-pub(crate) fn register(number: u8) -> Register
+pub fn register(number: u8) -> Register
     ensures { result ≡ reg number }
 {
     Register {
@@ -31,7 +32,7 @@ pub(crate) fn upper_field(number: u64) -> UpperField
 }
 
 /// `addi`, with the low part of a number.
-pub(crate) fn add_immediate(to: u8, from: u8, number: u64) -> Item
+pub fn add_immediate(to: u8, from: u8, number: u64) -> Item
     ensures { result ≡ add_low to from number }
 {
     Item::Plain(Instr::Imm {
@@ -43,7 +44,7 @@ pub(crate) fn add_immediate(to: u8, from: u8, number: u64) -> Item
 }
 
 /// `addiw` with 0: the low 32 bits, sign-extended.
-pub(crate) fn extend_word(to: u8, from: u8) -> Item
+pub fn extend_word(to: u8, from: u8) -> Item
     ensures { result ≡ extend to from }
 {
     Item::Plain(Instr::Addiw {
@@ -54,7 +55,7 @@ pub(crate) fn extend_word(to: u8, from: u8) -> Item
 }
 
 /// `add`.
-pub(crate) fn add(to: u8, left: u8, right: u8) -> Item
+pub fn add(to: u8, left: u8, right: u8) -> Item
     ensures { result ≡ sum_to to left right }
 {
     Item::Plain(Instr::Reg {
@@ -66,7 +67,7 @@ pub(crate) fn add(to: u8, left: u8, right: u8) -> Item
 }
 
 /// `ld`, at the low part of an offset from a register.
-pub(crate) fn load(to: u8, base: u8, offset: u64) -> Item
+pub fn load(to: u8, base: u8, offset: u64) -> Item
     ensures { result ≡ load_8 to base offset }
 {
     Item::Plain(Instr::Load {
@@ -78,7 +79,7 @@ pub(crate) fn load(to: u8, base: u8, offset: u64) -> Item
 }
 
 /// A load at the low part of an offset from a register.
-pub(crate) fn load_at(op: LoadOp, to: u8, base: u8, offset: u64) -> Item
+pub fn load_at(op: LoadOp, to: u8, base: u8, offset: u64) -> Item
     ensures { result ≡ Plain (Load op (reg to) (reg base) (low offset)) }
 {
     Item::Plain(Instr::Load {
@@ -90,7 +91,7 @@ pub(crate) fn load_at(op: LoadOp, to: u8, base: u8, offset: u64) -> Item
 }
 
 /// A load at an offset from a register.
-pub(crate) fn load_to(op: LoadOp, to: u8, base: u8, offset: Immediate) -> Item
+pub fn load_to(op: LoadOp, to: u8, base: u8, offset: Immediate) -> Item
     ensures { result ≡ load_to op to base offset }
 {
     Item::Plain(Instr::Load {
@@ -102,7 +103,7 @@ pub(crate) fn load_to(op: LoadOp, to: u8, base: u8, offset: Immediate) -> Item
 }
 
 /// A store at an offset from a register.
-pub(crate) fn store_from(op: StoreOp, value: u8, base: u8, offset: Immediate) -> Item
+pub fn store_from(op: StoreOp, value: u8, base: u8, offset: Immediate) -> Item
     ensures { result ≡ store_from op value base offset }
 {
     Item::Plain(Instr::Store {
@@ -114,14 +115,14 @@ pub(crate) fn store_from(op: StoreOp, value: u8, base: u8, offset: Immediate) ->
 }
 
 /// A store at the low part of an offset from a register.
-pub(crate) fn store_at(op: StoreOp, value: u8, base: u8, offset: u64) -> Item
+pub fn store_at(op: StoreOp, value: u8, base: u8, offset: u64) -> Item
     ensures { result ≡ store_at op value base offset }
 {
     store_from(op, value, base, low_part(offset))
 }
 
 /// `sd`, at the low part of an offset from a register.
-pub(crate) fn store(value: u8, base: u8, offset: u64) -> Item
+pub fn store(value: u8, base: u8, offset: u64) -> Item
     ensures { result ≡ store_8 value base offset }
 {
     Item::Plain(Instr::Store {
@@ -133,7 +134,7 @@ pub(crate) fn store(value: u8, base: u8, offset: u64) -> Item
 }
 
 /// `lui`.
-pub(crate) fn load_upper(to: u8, field: UpperField) -> Item
+pub fn load_upper(to: u8, field: UpperField) -> Item
     ensures { result ≡ Plain (Lui (reg to) field) }
 {
     Item::Plain(Instr::Lui {

@@ -24,9 +24,10 @@ use Rattle.vcode.specs.declared.line.Operation.{Operation}
 use Rattle.vcode.specs.declared.line.Operation.TheVariants.{Reg as RegOperation, RegW as RegWOperation, Compare}
 use Rattle.vcode.specs.Cost.{is_immediate}
 use Rattle.vcode.specs.Addresses.{low}
-use Rattle.abi_frames.specs.Fields.{reg, amount, word_amount, word, add_low, negate, is_zero, is_not_zero}
-use Rattle.abi_frames.specs.declared.immediate.Form.{Form}
-use Rattle.abi_frames.specs.declared.immediate.Form.TheVariants.{Immediate as ByImmediate, AddWord, Shift as ByShift, ShiftWord, Compare as ByComparison}
+use Rattle.operation_code.specs.Fields.{reg, amount, word_amount, add_low, negate, is_zero, is_not_zero}
+use Rattle.operation_code.specs.Constants.{word}
+use Rattle.operation_code.specs.declared.immediate.Form.{Form}
+use Rattle.operation_code.specs.declared.immediate.Form.TheVariants.{Immediate as ByImmediate, AddWord, Shift as ByShift, ShiftWord, Compare as ByComparison}
 
 -- ---- numbers, modulo 2^64
 

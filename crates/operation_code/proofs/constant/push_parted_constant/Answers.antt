@@ -1,5 +1,5 @@
-use Rattle.abi_frames.proofs.Joining.{joined_4}
-use Rattle.abi_frames.proofs.operand.push_parted_constant.Goals as goal
+use Rattle.operation_code.proofs.Joining.{joined_4}
+use Rattle.operation_code.proofs.constant.push_parted_constant.Goals as goal
 
 pub returns : goal.returns
 returns c =

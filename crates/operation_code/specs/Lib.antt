@@ -1,0 +1,4 @@
+pub mod Fields
+pub mod Constants
+pub mod Operations
+pub mod Immediates
