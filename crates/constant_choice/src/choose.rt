@@ -12,6 +12,9 @@ use vcode::place::Operand;
 /// More of them would leave too few registers of the machine for what changes.
 const MOST: usize = 6;
 
+/// A loop of so many blocks most often goes round so often that it pays for a register that has to be saved.
+const LARGE: u32 = 20;
+
 /// A constant for a register that the function names nowhere.
 #[derive(Drop)]
 pub struct Chosen {
@@ -39,7 +42,8 @@ struct Choice {
 fn net(one: &Use, region: &Region) -> i64 {
     let price = where_read(&one.key.operand()).saturating_mul(i64::from(region.entries));
     if region.has_calls {
-        (one.gain / 4).saturating_sub(price).saturating_sub(1)
+        let part = if region.blocks < LARGE { 4 } else { 2 };
+        (one.gain / part).saturating_sub(price).saturating_sub(1)
     } else {
         one.gain.saturating_sub(price)
     }

@@ -10,6 +10,7 @@ pub(crate) struct Region {
     /// how many blocks outside lead into it
     pub(crate) entries: u32,
     pub(crate) has_calls: bool,
+    pub(crate) blocks: u32,
 }
 
 #[derive(Drop)]
@@ -135,6 +136,7 @@ fn joined(alloc: Global, blocks: &[Block<u32>], ways: &Ways) -> Result<Regions, 
     let none = Region {
         entries: 0,
         has_calls: false,
+        blocks: 0,
     };
     let mut numbers = Vec::new(alloc);
     numbers.resize(blocks.len(), 0usize)?;
@@ -157,9 +159,13 @@ fn count_entry(list: &mut [Region], region: usize) {
     }
 }
 
-fn mark_calls(list: &mut [Region], region: usize) {
+/// Counts a block of the region.
+fn count_block(list: &mut [Region], region: usize, has_calls: bool) {
     match list.get_mut(region) {
-        Some(region) => region.has_calls = true,
+        Some(region) => {
+            region.blocks = region.blocks.saturating_add(1);
+            region.has_calls = region.has_calls || has_calls;
+        }
         None => {}
     }
 }
@@ -208,8 +214,9 @@ pub(crate) fn regions_of(
         let region = regions.number(number);
         if region == 0 {
             count_entries(&mut regions, block);
-        } else if has_calls(block.lines.as_slice()) {
-            mark_calls(regions.list.as_mut_slice(), region);
+        } else {
+            let has_calls = has_calls(block.lines.as_slice());
+            count_block(regions.list.as_mut_slice(), region, has_calls);
         }
     }
     Ok(regions)

@@ -109,9 +109,10 @@ fn may_hold(k: usize, candidate: &Candidate) -> bool {
     11 <= k || !candidate.over_call
 }
 
-/// The register that saves moves, by the number of its argument.
+/// The register that saves moves, by the number of its argument; behind those of arguments for what is called.
 fn hinted(hint: u8) -> usize {
-    7usize.saturating_sub(usize::from(hint))
+    let hint = usize::from(hint);
+    7usize.checked_sub(hint).unwrap_or(hint)
 }
 
 /// The register that the candidate would save moves in, if it may stand there.

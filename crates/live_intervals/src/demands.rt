@@ -17,11 +17,11 @@ pub struct Demand {
 
     pub is_param: bool,
 
-    /// the one of the eight registers that arguments are passed in that saves moves, as many as its weight
+    /// the one of the eight registers that arguments are passed in that saves moves, as many as its weight, or one that none is passed in
     pub hint: Hint,
 }
 
-/// One of the registers that arguments are passed in, by the number of its argument.
+/// One of the registers that arguments are passed in, by the number of its argument, or 8 for one that none is passed in.
 #[derive(Clone, Copy)]
 pub struct Hint {
     pub argument: u8,
@@ -136,6 +136,13 @@ fn add_hint(counting: &mut Counting, register: u32, argument: u8, weight: u64) {
     match counting.registers.get_mut(register as usize) {
         Some(demand) => demand.hint = demand.hint.joined(Hint { argument, weight }),
         None => {}
+    }
+}
+
+/// What is called stands best where no argument is passed.
+fn keep_from_arguments(counting: &mut Counting, callee: &Operand<u32>, often: u64) {
+    if let Operand::At(register) = callee {
+        add_hint(counting, *register, 8, often);
     }
 }
 
@@ -284,6 +291,7 @@ fn line(counting: &mut Counting, line: &Line<u32>, often: u64) -> Result<(), All
         }
         Line::Call { to, callee, args } => {
             read(counting, callee, weight)?;
+            keep_from_arguments(counting, callee, often);
             pass_args(counting, args.as_slice(), often)?;
             receive(counting, to, often)
         }
