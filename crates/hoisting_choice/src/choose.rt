@@ -1,7 +1,9 @@
 //! Plans for computations in front of loops.
 use crate::credit::credit;
+use crate::growing::{Linear, find_growth, plan_steps, product_of};
 use crate::nests::{Nest, nests_of};
-use crate::written::Written;
+use crate::reads::count_reads;
+use crate::written::{Spot, Written};
 use rv_isa::instruction::RegOp;
 use std::alloc::{AllocError, Global};
 use vcode::code::Block;
@@ -38,17 +40,20 @@ const MOST: usize = 6;
 
 /// The plans that are made, one loop after another.
 #[derive(Drop)]
-struct Plans {
-    list: Vec<Plan>,
+pub(crate) struct Plans {
+    pub(crate) list: Vec<Plan>,
 
     /// the first one of this loop
     first: usize,
 
     /// the next register that the function doesn't have
-    next: u32,
+    pub(crate) next: u32,
 
     /// of each block, what its ticks still leave
-    credits: Vec<u128>,
+    pub(crate) credits: Vec<u128>,
+
+    /// sums with products of registers that grow, in this loop
+    pub(crate) sums: Vec<Linear>,
 }
 
 /// Whether a computation is worth a register: not where it is part of an address, a branch, or the same everywhere.
@@ -76,7 +81,7 @@ fn planned(plans: &Plans, wanted: &Plan) -> Option<u32> {
 }
 
 /// Takes from the credit of a block what a line costs, if it leaves that.
-fn pay(credits: &mut [u128], block: usize, line: &Line<u32>) -> bool {
+pub(crate) fn pay(credits: &mut [u128], block: usize, line: &Line<u32>) -> bool {
     match credits.get_mut(block) {
         Some(left) => {
             let cost = line_cost(line);
@@ -150,24 +155,32 @@ fn put_plan(plans: &mut Plans, plan: Plan) -> Result<Option<u32>, AllocError> {
     }
 }
 
-/// The sum in front of a loop of two summands of three, of which the third changes.
+/// The sum in front of a loop of two summands of three, of which the third changes; the register that has the sum of the first two; and the third.
+#[derive(Clone, Copy)]
+struct Part {
+    plan: Plan,
+    sum: u32,
+    rest: Operand<u32>,
+}
+
 fn part_of_sum(
     register: u32,
     written: &Written,
     before: usize,
     sum: u32,
     added: Operand<u32>,
-) -> Option<Plan> {
+) -> Option<Part> {
     let (left, right) = written.summands(sum)?;
-    let one = match written.in_front(left) {
-        Some(one) => Some(one),
-        None => written.in_front(right),
+    let (one, rest) = match written.in_front(left) {
+        Some(one) => (Some(one), right),
+        None => (written.in_front(right), left),
     };
     let other = written.in_front(added);
-    plan_of(before, register, Operation::Reg(RegOp::Add), one, other)
+    let plan = plan_of(before, register, Operation::Reg(RegOp::Add), one, other)?;
+    Some(Part { plan, sum, rest })
 }
 
-fn wanted_part(register: u32, written: &Written, before: usize, line: &Line<u32>) -> Option<Plan> {
+fn wanted_part(register: u32, written: &Written, before: usize, line: &Line<u32>) -> Option<Part> {
     match line {
         Line::Operate {
             operation: Operation::Reg(RegOp::Add),
@@ -175,23 +188,109 @@ fn wanted_part(register: u32, written: &Written, before: usize, line: &Line<u32>
             right: Operand::At(right),
             ..
         } => match part_of_sum(register, written, before, *left, Operand::At(*right)) {
-            Some(plan) => Some(plan),
+            Some(part) => Some(part),
             None => part_of_sum(register, written, before, *right, Operand::At(*left)),
         },
         _ => None,
     }
 }
 
-/// Plans the part of a sum that doesn't change, and notes what the line adds.
+/// Where a line stands, and in front of which loop.
+#[derive(Clone, Copy)]
+struct Place {
+    before: usize,
+    at: Spot,
+}
+
+/// The sum with a product of a register that grows, of which that of the sum of the other two is planned.
+fn linear_part(
+    written: &Written,
+    place: Place,
+    to: u32,
+    part: &Part,
+    register: u32,
+) -> Option<Linear> {
+    let product = written.product(part.rest)?;
+    Some(Linear {
+        at: place.at,
+        to,
+        base: Operand::At(register),
+        factor: part.rest,
+        product,
+        is_direct: false,
+        is_part: false,
+    })
+}
+
+/// The sum of a product of a register that grows and of what the loop doesn't change.
+fn linear_of(
+    written: &Written,
+    place: Place,
+    to: u32,
+    base: Operand<u32>,
+    factor: Operand<u32>,
+) -> Option<Linear> {
+    let product = written.product(factor)?;
+    let base = written.in_front(base)?;
+    Some(Linear {
+        at: place.at,
+        to,
+        base,
+        factor,
+        product,
+        is_direct: true,
+        is_part: false,
+    })
+}
+
+fn push_linear(plans: &mut Plans, linear: Option<Linear>) -> Result<(), AllocError> {
+    match linear {
+        Some(linear) => plans.sums.extend_from_slice(&[linear]),
+        None => Ok(()),
+    }
+}
+
+/// The sum of two stands in a sum of three alone.
+fn take_part(sums: &mut [Linear], sum: u32) {
+    for linear in sums.iter_mut() {
+        if linear.to == sum {
+            linear.is_part = true;
+        }
+    }
+}
+
+/// Plans the part of a sum that doesn't change; notes sums with products.
+fn plan_part(
+    plans: &mut Plans,
+    written: &Written,
+    place: Place,
+    to: u32,
+    line: &Line<u32>,
+) -> Result<bool, AllocError> {
+    let part = match wanted_part(plans.next, written, place.before, line) {
+        Some(part) => part,
+        None => return Ok(false),
+    };
+    match put_plan(plans, part.plan)? {
+        Some(register) => {
+            let linear = linear_part(written, place, to, &part, register);
+            if linear.is_some() {
+                take_part(plans.sums.as_mut_slice(), part.sum);
+            }
+            push_linear(plans, linear)?;
+            Ok(true)
+        }
+        None => Ok(false),
+    }
+}
+
+/// Plans the part of a sum that doesn't change, and notes what the line adds or multiplies.
 fn plan_sum(
     plans: &mut Plans,
     written: &mut Written,
-    before: usize,
+    place: Place,
     line: &Line<u32>,
 ) -> Result<(), AllocError> {
-    if let Some(plan) = wanted_part(plans.next, written, before, line) {
-        put_plan(plans, plan)?;
-    }
     if let Line::Operate {
         to,
         operation: Operation::Reg(RegOp::Add),
@@ -199,7 +298,17 @@ fn plan_sum(
         right,
     } = line
     {
+        if !plan_part(plans, written, place, *to, line)? {
+            let linear = match linear_of(written, place, *to, *left, *right) {
+                Some(linear) => Some(linear),
+                None => linear_of(written, place, *to, *right, *left),
+            };
+            push_linear(plans, linear)?;
+        }
         written.add(*to, *left, *right);
+    }
+    if let Some((to, product)) = product_of(written, line) {
+        written.multiply(to, product);
     }
     Ok(())
 }
@@ -207,12 +316,12 @@ fn plan_sum(
 fn plan_line(
     plans: &mut Plans,
     written: &mut Written,
-    before: usize,
+    place: Place,
     line: &Line<u32>,
 ) -> Result<(), AllocError> {
-    let plan = match wanted(plans.next, written, before, line) {
+    let plan = match wanted(plans.next, written, place.before, line) {
         Some(plan) => plan,
-        None => return plan_sum(plans, written, before, line),
+        None => return plan_sum(plans, written, place, line),
     };
     let register = match planned(plans, &plan) {
         Some(register) => Some(register),
@@ -230,10 +339,15 @@ fn plan_block(
     plans: &mut Plans,
     written: &mut Written,
     before: usize,
+    number: usize,
     block: &Block<u32>,
 ) -> Result<(), AllocError> {
-    for line in block.lines.as_slice() {
-        plan_line(plans, written, before, line)?;
+    for (line, item) in block.lines.as_slice().iter().enumerate() {
+        let at = Spot {
+            block: number,
+            line,
+        };
+        plan_line(plans, written, Place { before, at }, item)?;
     }
     Ok(())
 }
@@ -250,17 +364,20 @@ fn count_writes(written: &mut Written, blocks: &[Block<u32>], nest: &Nest) {
 fn plan_nest(
     plans: &mut Plans,
     written: &mut Written,
+    reads: &[u32],
     blocks: &[Block<u32>],
     nest: &Nest,
 ) -> Result<(), AllocError> {
     count_writes(written, blocks, nest);
+    find_growth(written, blocks, nest);
     plans.first = plans.list.len();
+    plans.sums.clear();
     for number in nest.blocks.iter() {
         if let Some(block) = blocks.get(*number) {
-            plan_block(plans, written, nest.before, block)?;
+            plan_block(plans, written, nest.before, *number, block)?;
         }
     }
-    Ok(())
+    plan_steps(plans, written, reads, nest)
 }
 
 fn credits(alloc: Global, blocks: &[Block<u32>]) -> Result<Vec<u128>, AllocError> {
@@ -311,10 +428,12 @@ pub fn choose_plans(alloc: Global, function: &VFunc) -> Result<Option<Choice>, A
         first: 0,
         next: function.registers,
         credits: credits(alloc, blocks)?,
+        sums: Vec::new(alloc),
     };
+    let reads = count_reads(alloc, function.registers, blocks)?;
     for (_, number) in order.iter() {
         if let Some(nest) = nests.get(*number) {
-            plan_nest(&mut plans, &mut written, blocks, nest)?;
+            plan_nest(&mut plans, &mut written, reads.as_slice(), blocks, nest)?;
         }
     }
     if plans.list.len() == 0 {

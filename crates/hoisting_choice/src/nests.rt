@@ -9,6 +9,10 @@ pub(crate) struct Nest {
     /// its blocks, in the order of the text
     pub(crate) blocks: Vec<usize>,
     pub(crate) before: usize,
+    pub(crate) head: usize,
+
+    /// blocks that each round goes through, as far as they stand in a row behind the head or in front of the jump back
+    pub(crate) always: Vec<usize>,
 }
 
 /// The blocks that lead to each block, and the number of the last loop that each was found in.
@@ -23,6 +27,9 @@ struct Search {
 
 /// How many blocks of loops are found for each block, at most.
 const STEPS_A_BLOCK: usize = 64;
+
+/// How many blocks of a loop are looked at in a row, at most.
+const ROW: usize = 16;
 
 /// Notes that the block is in the loop of that number; says whether that is new.
 fn find(found: &mut [usize], block: usize, number: usize) -> bool {
@@ -98,9 +105,88 @@ fn before(search: &Search, head: usize, number: usize) -> Option<usize> {
     before
 }
 
+fn is_found(search: &Search, block: usize, number: usize) -> bool {
+    search.found.get(block) == Some(&number)
+}
+
+/// The only block of the loop that leads to a block, if there is one.
+fn only_source(search: &Search, block: usize) -> Option<usize> {
+    let sources = search.sources.get(block)?;
+    if sources.len() == 1 {
+        sources.get(0).copied()
+    } else {
+        None
+    }
+}
+
+/// The only block of the loop that a block leads to, if nothing else leads there.
+fn only_target(
+    search: &Search,
+    blocks: &[Block<u32>],
+    block: usize,
+    number: usize,
+) -> Option<usize> {
+    let jump = &blocks.get(block)?.jump;
+    let inside = match (target(jump, 0), target(jump, 1)) {
+        (Some(first), None) => first,
+        (Some(first), Some(second)) => {
+            if !is_found(search, second, number) {
+                first
+            } else if !is_found(search, first, number) {
+                second
+            } else {
+                return None;
+            }
+        }
+        _ => return None,
+    };
+    only_source(search, inside)?;
+    if is_found(search, inside, number) {
+        Some(inside)
+    } else {
+        None
+    }
+}
+
+/// The blocks in a row behind the head, and those in a row in front of the jump back.
+fn in_rows(
+    alloc: Global,
+    search: &Search,
+    blocks: &[Block<u32>],
+    head: usize,
+    last: usize,
+    number: usize,
+) -> Result<Vec<usize>, AllocError> {
+    let mut always = Vec::new(alloc);
+    always.push(head)?;
+    let mut behind = head;
+    for _ in 0..ROW {
+        match only_target(search, blocks, behind, number) {
+            Some(next) => {
+                always.push(next)?;
+                behind = next;
+            }
+            None => break,
+        }
+    }
+    always.push(last)?;
+    let mut in_front = last;
+    for _ in 0..ROW {
+        match only_source(search, in_front) {
+            Some(next) if in_front != head => {
+                always.push(next)?;
+                in_front = next;
+            }
+            _ => break,
+        }
+    }
+    Ok(always)
+}
+
 fn push_nest(
     alloc: Global,
     search: &mut Search,
+    code: &[Block<u32>],
     nests: &mut Vec<Nest>,
     head: usize,
     last: usize,
@@ -108,7 +194,13 @@ fn push_nest(
     let number = nests.len().saturating_add(1);
     if let Some(blocks) = members(alloc, search, head, last, number)? {
         if let Some(before) = before(search, head, number) {
-            nests.push(Nest { blocks, before })?;
+            let always = in_rows(alloc, search, code, head, last, number)?;
+            nests.push(Nest {
+                blocks,
+                before,
+                head,
+                always,
+            })?;
         }
     }
     Ok(())
@@ -117,12 +209,13 @@ fn push_nest(
 fn push_back(
     alloc: Global,
     search: &mut Search,
+    code: &[Block<u32>],
     nests: &mut Vec<Nest>,
     from: usize,
     to: Option<usize>,
 ) -> Result<(), AllocError> {
     match to {
-        Some(head) if head <= from && 0 < head => push_nest(alloc, search, nests, head, from),
+        Some(head) if head <= from && 0 < head => push_nest(alloc, search, code, nests, head, from),
         _ => Ok(()),
     }
 }
@@ -158,6 +251,7 @@ pub(crate) fn nests_of(
         push_back(
             alloc,
             &mut search,
+            blocks,
             &mut nests,
             number,
             target(&block.jump, 0),
@@ -165,6 +259,7 @@ pub(crate) fn nests_of(
         push_back(
             alloc,
             &mut search,
+            blocks,
             &mut nests,
             number,
             target(&block.jump, 1),

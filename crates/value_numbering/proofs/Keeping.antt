@@ -21,11 +21,12 @@ use Rattle.vcode.specs.Becomes.{with_these}
 use Rattle.vcode.proofs.Results.{Serves, Owed, owed_each}
 use Rattle.value_numbering.specs.declared.fact.Expression.TheVariants.{Same, Loaded}
 use Rattle.value_numbering.specs.declared.fact.Fact.{Fact}
-use Rattle.value_numbering.specs.Known.{computed, after}
+use Rattle.value_numbering.specs.Known.{computed}
+use Rattle.value_numbering.specs.Steps.{after}
 use Rattle.il_ast.specs.declared.operation.Size.{Size}
 use Rattle.vcode.specs.declared.place.Address.{Address}
 use Rattle.value_numbering.specs.Narrow.{IsNarrow}
-use Rattle.value_numbering.specs.Reused.{Made, Itself, Copy, Narrow, FirstRegrouped, SecondRegrouped, is_dear, is_no_number, claims_at, AreReused, IsReused, AllReused}
+use Rattle.value_numbering.specs.Reused.{Made, Itself, Copy, Narrow, FirstRegrouped, SecondRegrouped, Again, is_dear, is_no_number, claims_at, AreReused, IsReused, AllReused}
 use Rattle.value_numbering.proofs.Running.{runs}
 
 -- ---- what lines take
@@ -35,6 +36,7 @@ measure_same n facts l m Itself = refl
 measure_same n facts l m (Narrow is low) = refl
 measure_same n facts l m (FirstRegrouped is) = refl
 measure_same n facts l m (SecondRegrouped is) = refl
+measure_same n facts l m (Again {k = k} first second) = measure_same n facts k m second ∙ measure_same n facts l k first
 measure_same n facts (Set to a) m (Copy is dear low known) = refl
 measure_same n facts (Operate to op a b) m (Copy is dear low known) = refl
 measure_same n facts (Load to op at) m (Copy is dear low known) = refl
@@ -78,6 +80,9 @@ dear_of (Call to callee args) f is dear = absurd (let no : ⊥ = cc in no)
 itself_least : (k : ℕ) → k ≤ k
 itself_least k = omega arith
 
+at_most : (x y z : ℕ) → x ≤ y → y ≤ z → x ≤ z
+at_most x y z h k = omega arith
+
 narrow_cost : (facts : List Fact) (size : Size) (a : Operand ℕ) (at : Address ℕ) (q : ℕ) → IsNarrow facts size a q → line_cost (Store size (At q) at) ≤ line_cost (Store size a at)
 narrow_cost facts size (At r) at q is = itself_least (line_cost (Store size (At r) at))
 narrow_cost facts size (Number k) at q is = absurd is
@@ -88,6 +93,8 @@ cost_less n facts l m Itself = itself_least (line_cost l)
 cost_less n facts l m (Narrow {size = size} {a = a} {at = at} {q = q} is low) = narrow_cost facts size a at q is
 cost_less n facts l m (FirstRegrouped is) = omega arith
 cost_less n facts l m (SecondRegrouped is) = omega arith
+cost_less n facts l m (Again {k = k} first second) =
+    let x = cost_less n facts k m second in let y = cost_less n facts l k first in at_most (line_cost m) (line_cost k) (line_cost l) x y
 cost_less n facts l m (Copy {f = f} is dear low known) = let x = dear_of l f is dear in omega (arith, x)
 
 lines_measured : (n : ℕ) (claims : List (List Fact)) (facts : List Fact) (lines new : List (Line ℕ)) (j : Jump ℕ) → AreReused n claims facts lines new j → Measured false lines new
@@ -117,6 +124,7 @@ made_low n facts l m Itself h = h
 made_low n facts l m (Narrow {size = size} {a = a} {at = at} {q = q} is low) h = and_from (is_below n q) (operand_keeps (is_below n) at.base) (lt-ltb q n low) (and_parts (operand_keeps (is_below n) a) (operand_keeps (is_below n) at.base) h).1
 made_low n facts l m (FirstRegrouped {to = to} {part = part} {rest = rest} is) h = sum_low n to part rest (and_parts (is_below n to) _ h).0 is.first is.second
 made_low n facts l m (SecondRegrouped {to = to} {part = part} {rest = rest} is) h = sum_low n to part rest (and_parts (is_below n to) _ h).0 is.first is.second
+made_low n facts l m (Again {k = k} first second) h = made_low n facts k m second (made_low n facts l k first h)
 made_low n facts l m (Copy {f = f} {r = r} is dear low known) h = and_from (is_below n f.register) (is_below n r) (writes_low n l f is h) (lt-ltb r n low)
 
 lines_low : (n : ℕ) (claims : List (List Fact)) (facts : List Fact) (lines new : List (Line ℕ)) (j : Jump ℕ) → AreReused n claims facts lines new j → list_all (line_keeps (is_below n)) lines ≡ true → list_all (line_keeps (is_below n)) new ≡ true

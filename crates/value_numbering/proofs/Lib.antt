@@ -1,3 +1,4 @@
+pub mod Counting
 pub mod Making
 pub mod Narrowing
 pub mod Regrouping

@@ -1,20 +1,21 @@
 -- Lines and blocks are made one after another.
-use Rattle.std.proofs.Common.{◌≡◌, ℕ, ◌+◌, ◌<◌, List, [], ◌∷◌, ◌++◌, length, get_or, drop, refl, sym, ap, subst}
+use Rattle.std.proofs.Common.{◌≡◌, ℕ, ◌+◌, ◌<◌, List, [], ◌∷◌, ◌++◌, Option, length, get_or, drop, refl, sym, ap, subst}
 use Rattle.vcode.specs.declared.line.Line.{Line}
 use Rattle.vcode.specs.declared.line.Jump.{Jump}
 use Rattle.vcode.specs.declared.code.Block.{Block}
 use Rattle.vcode.proofs.Lists.{item_next}
 use Rattle.value_numbering.specs.declared.fact.Fact.{Fact}
-use Rattle.value_numbering.specs.Known.{after}
-use Rattle.value_numbering.specs.Reused.{IsIn, AllIn, Made, AreReused, IsReused, AllReused}
+use Rattle.value_numbering.specs.declared.ways.Order.{Order}
+use Rattle.value_numbering.specs.Steps.{after}
+use Rattle.value_numbering.specs.Reused.{IsKnown, AllKnown, Made, AreReused, IsReused, AllReused}
 
 pub append_one : {X : Type 0} (xs : List X) (x : X) (rest : List X) → (xs ++ x ∷ []) ++ rest ≡ xs ++ x ∷ rest
 append_one [] x rest = refl
 append_one (y ∷ xs) x rest = ap (λ zs. y ∷ zs) (append_one xs x rest)
 
 -- one fact more is known
-pub facts_on : (wanted facts : List Fact) (i : ℕ) (f : Fact) → i < length wanted → f ≡ get_or wanted i f → IsIn f facts → AllIn (drop (i + 1) wanted) facts → AllIn (drop i wanted) facts
-facts_on wanted facts i f low is known rest = subst (λ (xs : List Fact). AllIn xs facts) (sym (item_next wanted i f low is)) (known, rest)
+pub facts_on : (wanted facts : List Fact) (order : Option Order) (i : ℕ) (f : Fact) → i < length wanted → f ≡ get_or wanted i f → IsKnown facts order f → AllKnown facts order (drop (i + 1) wanted) → AllKnown facts order (drop i wanted)
+facts_on wanted facts order i f low is known rest = subst (λ (xs : List Fact). AllKnown facts order xs) (sym (item_next wanted i f low is)) (known, rest)
 
 -- one line more
 pub lines_on : (n : ℕ) (claims : List (List Fact)) (facts : List Fact) (lines : List (Line ℕ)) (i : ℕ) (l m : Line ℕ) (rest : List (Line ℕ)) (j : Jump ℕ) → i < length lines → l ≡ get_or lines i l → Made n facts l m

@@ -34,7 +34,7 @@ use Rattle.vcode.specs.Places.{Values}
 use Rattle.vcode.specs.Step.{value_of, operated, address_of}
 use Rattle.vcode.specs.Acts.{Gives, given, left, act}
 use Rattle.value_numbering.specs.declared.fact.Expression.{Expression}
-use Rattle.value_numbering.specs.declared.fact.Expression.TheVariants.{Same, Operated, Extended, Loaded}
+use Rattle.value_numbering.specs.declared.fact.Expression.TheVariants.{Same, Operated, Extended, Loaded, Linear, Growing}
 use Rattle.value_numbering.specs.Known.{gives, reached, is_back, first_of}
 use Rattle.value_numbering.specs.Narrow.{extended_from, masked_from, low_of, loads_zeros, is_small}
 
@@ -215,6 +215,8 @@ is_extended globals m values size (Extended op (Name g) k) q r h is = absurd (le
 is_extended globals m values size (Same a) q r h is = absurd (let no : ⊥ = cc in no)
 is_extended globals m values size (Operated op a b) q r h is = absurd (let no : ⊥ = cc in no)
 is_extended globals m values size (Loaded op a d) q r h is = absurd (let no : ⊥ = cc in no)
+is_extended globals m values size (Linear b i c o) q r h is = absurd (let no : ⊥ = cc in no)
+is_extended globals m values size (Growing a n) q r h is = absurd (let no : ⊥ = cc in no)
 
 is_masked : (globals : List Value) (m : Memory) (values : Values ℕ) (e : Expression) (q r : ℕ) → masked_from e ≡ Some q → gives globals m values e ≡ Gives (values r) → SameLow (2 ^ 8) (values q) (values r)
 is_masked globals m values (Operated (Reg And) (At p) (Number k)) q r h is = by (nat_eq k 255) refl h
@@ -252,6 +254,8 @@ is_masked globals m values (Operated (Compare on k) a b) q r h is = absurd (let 
 is_masked globals m values (Extended op a k) q r h is = absurd (let no : ⊥ = cc in no)
 is_masked globals m values (Same a) q r h is = absurd (let no : ⊥ = cc in no)
 is_masked globals m values (Loaded op a d) q r h is = absurd (let no : ⊥ = cc in no)
+is_masked globals m values (Linear b i c o) q r h is = absurd (let no : ⊥ = cc in no)
+is_masked globals m values (Growing a n) q r h is = absurd (let no : ⊥ = cc in no)
 
 is_byte : (globals : List Value) (m : Memory) (values : Values ℕ) (e : Expression) (q r : ℕ) (o : Option ℕ) → masked_from e ≡ o → first_of o (extended_from e 56) ≡ Some q → gives globals m values e ≡ Gives (values r)
     → SameLow (2 ^ 8) (values q) (values r)
@@ -371,6 +375,8 @@ small_below globals m values (Operated (RegW Remuw) a b) r h is = absurd (let no
 small_below globals m values (Operated (Compare on k) a b) r h is = absurd (let no : ⊥ = cc in no)
 small_below globals m values (Extended op a k) r h is = absurd (let no : ⊥ = cc in no)
 small_below globals m values (Same a) r h is = absurd (let no : ⊥ = cc in no)
+small_below globals m values (Linear b i c o) r h is = absurd (let no : ⊥ = cc in no)
+small_below globals m values (Growing a n) r h is = absurd (let no : ⊥ = cc in no)
 
 stays_itself : (m : Memory) (o : Option Value) → IsBelow o → twice m Srl 32 o ≡ o
 unfolding operate

@@ -1,17 +1,25 @@
 -- Code that uses values again does what the code did: at each line both are in one state, of which what is known is true.
-use Rattle.std.proofs.Common.{◌≡◌, ℕ, zero, suc, ◌+◌, Bool, true, false, not, ◌&&◌, ◌||◌, nat_eq, nat_lt, if◌then◌else◌, List, [], ◌∷◌, ◌++◌, filter, length, Option, Some, None, slice_get, refl, sym, ◌∙◌, ap, subst, arith}
-use Rattle.std.specs.Option.{option_and_then}
+use Rattle.std.proofs.Common.{◌≡◌, ℕ, zero, suc, ◌+◌, ◌%◌, ◌^◌, ◌<◌, Bool, true, false, not, ◌&&◌, ◌||◌, nat_eq, nat_lt, if◌then◌else◌, List, [], ◌∷◌, ◌++◌, filter, length, Option, Some, None, slice_get, refl, sym, ◌∙◌, ap, subst, arith}
+use Rattle.std.specs.Option.{option_and_then, option_map}
+use Rattle.std.specs.Prelude.{ℤ, int_lt, int_le}
+use Rattle.std.specs.Int.{w32, w64, cast_signed}
 use Rattle.std.proofs.lemmas.Bool.{and_parts, eqb-true, not-true, or_parts}
 use Rattle.std.proofs.lemmas.Bool.Decides.{nat_tests}
+use Rattle.std.proofs.lemmas.Int.{ints}
 use Rattle.il_ast.specs.declared.value.Value.{Value}
 use Rattle.il_ast.specs.declared.value.Value.TheVariants.{Integer, Pointer, Function}
 use Rattle.il_ast.specs.Memory.{Memory}
 use Rattle.il_ast.specs.Keeps.{KeepsCode}
 use Rattle.il_ast.specs.declared.operation.Class.{Class}
 use Rattle.rv_isa.specs.declared.instruction.RegOp.{RegOp}
+use Rattle.rv_isa.specs.declared.instruction.RegWOp.{RegWOp}
+use Rattle.rv_isa.specs.declared.instruction.RegWOp.TheVariants.{Addw, Subw, Sllw, Srlw, Sraw, Mulw, Divw, Divuw, Remw, Remuw}
 use Rattle.rv_isa.specs.declared.instruction.RegOp.TheVariants.{Add, Sub, Sll, Slt, Sltu, Xor, Srl, Sra, Or, And, Mul, Mulh, Mulhsu, Mulhu, Div, Divu, Rem, Remu}
 use Rattle.il_ast.specs.declared.operation.BinaryOp.TheVariants.{Add as SumOf, Sub as DifferenceOf}
-use Rattle.il_ast.specs.Operations.{on_places}
+use Rattle.il_ast.specs.declared.operation.Condition.{Condition}
+use Rattle.il_ast.specs.declared.operation.Condition.TheVariants.{Equal, NotEqual, SignedLessEqual, SignedLess, SignedGreaterEqual, SignedGreater, UnsignedLessEqual, UnsignedLess, UnsignedGreaterEqual, UnsignedGreater}
+use Rattle.il_ast.specs.declared.operation.Class.TheVariants.{W, L}
+use Rattle.il_ast.specs.Operations.{on_places, holds, truth, operate_two}
 use Rattle.vcode.specs.declared.place.Operand.{Operand}
 use Rattle.vcode.specs.declared.place.Operand.TheVariants.{At, Number, Name}
 use Rattle.vcode.specs.declared.line.Operation.{Operation}
@@ -28,7 +36,7 @@ use Rattle.vcode.specs.Places.{Values, virtual, unknown}
 use Rattle.vcode.specs.Coded.{classes_in}
 use Rattle.vcode.specs.Step.{begin, step, bound, value_of, operated, address_of, read_result}
 use Rattle.vcode.specs.Writes.{line_writes}
-use Rattle.vcode.specs.Acts.{Act, Gives, given, act, written, way, entering, answering}
+use Rattle.vcode.specs.Acts.{Act, Fails, Gives, given, act, written, way, entering, answering}
 use Rattle.vcode.specs.Follows.{Alike, Follows, Jumps, Both}
 use Rattle.vcode.specs.Facts.{Facts as About, claimed}
 use Rattle.vcode.proofs.Alike.{MayLeave}
@@ -36,14 +44,19 @@ use Rattle.vcode.proofs.Factual.{fact_line, fact_jump, facts_rewrite, Claimed}
 use Rattle.vcode.proofs.Rewriting.{rewrites_keep}
 use Rattle.vcode.proofs.Writing.{turned, unwritten, now_holds}
 use Rattle.value_numbering.specs.declared.fact.Expression.{Expression}
-use Rattle.value_numbering.specs.declared.fact.Expression.TheVariants.{Same, Operated, Extended, Loaded}
+use Rattle.value_numbering.specs.declared.fact.Expression.TheVariants.{Same, Operated, Extended, Loaded, Linear, Growing}
 use Rattle.value_numbering.specs.declared.fact.Fact.{Fact}
-use Rattle.value_numbering.specs.Known.{reached, gives, IsTrueOf, computed, names, reads, asks_memory, changes_memory, spares, stays, copied_from, source_by, source, copied, shifted_in, first_of, shifted, is_back, extended_by, joined, canonical, kept_fact, known_by, with_fact, after}
+use Rattle.value_numbering.specs.declared.steps.Multiple.{Multiple}
+use Rattle.value_numbering.specs.declared.steps.Increment.{Increment}
+use Rattle.value_numbering.specs.declared.ways.Order.{Order}
+use Rattle.value_numbering.specs.Known.{reached, linear, grows, only_if, gives, IsTrueOf, computed, names, reads, asks_memory, changes_memory, spares, stays, copied_from, source_by, source, copied, shifted_in, first_of, shifted, is_back, extended_by, grows_as, grows_in, widened, joined, canonical, is_plain, kept_fact, known_by}
+use Rattle.value_numbering.specs.Steps.{product_in, product, product_of, beyond, linear_in, linear_note, stands, word_in, is_word, is_word_by, is_own, word_of, makes_word, word_note, noted, other_by, added_to, ahead, growth, increment_of, increment_by, further, behind, with_offset, moved_linear, moved, if_stays, with_front, carried, kept, with_fact, after}
+use Rattle.value_numbering.proofs.Counting.{number, nothing_more, whole_grows, index_grows, shift_is_product, IsWord, word_given, number_stands, word_again, grown_same, grown_word, Less, LessLong, less_grows, less_long_grows}
 use Rattle.value_numbering.proofs.Narrowing.{narrow_same, itself_same}
 use Rattle.value_numbering.specs.Narrow.{IsNarrow}
 use Rattle.value_numbering.specs.Regrouped.{Adds, IsSum, InOrder, Turned, IsRegrouped}
 use Rattle.value_numbering.proofs.Regrouping.{turned as sum_turned, regrouped}
-use Rattle.value_numbering.specs.Reused.{Holds, Found, Small, Made, Itself, Copy, Narrow, FirstRegrouped, SecondRegrouped, claims_at, AllIn, LeadsWell, AreReused, AllReused}
+use Rattle.value_numbering.specs.Reused.{IsIn, Holds, Found, Small, Counted, Made, Itself, Copy, Narrow, FirstRegrouped, SecondRegrouped, Again, claims_at, order_met, order_missed, IsKnown, Listed, OfCopies, Bounded, is_limit, limits, bounds, AllKnown, LeadsWell, AreReused, AllReused}
 
 -- ---- all facts are true
 
@@ -56,10 +69,6 @@ true_at globals m values [] k f all at = absurd (let no : ⊥ = cc in no)
 true_at globals m values (g ∷ facts) zero f all at = let same : g ≡ f = cc in subst (IsTrueOf globals m values) same all.0
 true_at globals m values (g ∷ facts) (suc k) f all at = true_at globals m values facts k f all.1 at
 
-all_true : (globals : List Value) (m : Memory) (values : Values ℕ) (facts wanted : List Fact) → AreTrue globals m values facts → AllIn wanted facts → AreTrue globals m values wanted
-all_true globals m values facts [] all known = tt
-all_true globals m values facts (f ∷ wanted) all known = (true_at globals m values facts known.0.0 f all known.0.1, all_true globals m values facts wanted all known.1)
-
 -- ---- expressions of operands with the same values give the same
 
 abbrev SameIn : List Value → (values other : Values ℕ) → (Operand ℕ → Operand ℕ) → Operand ℕ → Type 0
@@ -71,12 +80,16 @@ put f (Same a) = Same (f a)
 put f (Operated op a b) = Operated op (f a) (f b)
 put f (Extended back a n) = Extended back (f a) n
 put f (Loaded op a d) = Loaded op (f a) d
+put f (Linear b i c o) = Linear (f b) (f i) c o
+put f (Growing a n) = Growing (f a) n
 
 abbrev AllOf : (Operand ℕ → Type 0) → Expression → Type 0
 AllOf holds (Same a) = holds a
 AllOf holds (Operated op a b) = holds a × holds b
 AllOf holds (Extended back a n) = holds a
 AllOf holds (Loaded op a d) = holds a
+AllOf holds (Linear b i c o) = holds b × holds i
+AllOf holds (Growing a n) = holds a
 
 number_same : (globals : List Value) (values other : Values ℕ) (d : ℕ) → value_of globals other (Number d) ≡ value_of globals values (Number d)
 number_same globals values other d = refl
@@ -89,12 +102,17 @@ gives_same globals m values other f (Extended back a n) h =
     ap (λ (x : Option Value). Gives (operated m (Reg back) (operated m (Reg Sll) x (value_of globals values (Number n))) (value_of globals values (Number n)))) h
 gives_same globals m values other f (Loaded op a d) h =
     ap (λ (x : Option Value). given (option_and_then (loaded m op) (if nat_eq d 0 then x else operated m (Reg Add) x (value_of globals values (Number d))))) h
+gives_same globals m values other f (Linear b i c o) h =
+    ap (λ (x : Option Value). Gives (linear m x (value_of globals other (f i)) c o)) h.0 ∙ ap (λ (x : Option Value). Gives (linear m (value_of globals values b) x c o)) h.1
+gives_same globals m values other f (Growing a n) h = ap (λ (x : Option Value). only_if (grows n x) x) h
 
 put_nothing : (e : Expression) → put (λ a. a) e ≡ e
 put_nothing (Same a) = refl
 put_nothing (Operated op a b) = refl
 put_nothing (Extended back a n) = refl
 put_nothing (Loaded op a d) = refl
+put_nothing (Linear b i c o) = refl
+put_nothing (Growing a n) = refl
 
 -- ---- copies
 
@@ -111,6 +129,8 @@ copy_same globals m values f r q is e = by (nat_eq f.register r) refl e
     from (Operated op a b) h = absurd (let no : ⊥ = cc in no)
     from (Extended back a n) h = absurd (let no : ⊥ = cc in no)
     from (Loaded op a d) h = absurd (let no : ⊥ = cc in no)
+    from (Linear b i c o) h = absurd (let no : ⊥ = cc in no)
+    from (Growing a n) h = absurd (let no : ⊥ = cc in no)
 
     by : (b : Bool) → nat_eq f.register r ≡ b → (if b then copied_from f.value else None) ≡ Some q → values q ≡ values r
     by true t h =
@@ -170,6 +190,8 @@ shift_here globals m values f r n a is e = by (nat_eq f.register r) refl e
     from (Operated (Compare on k) b c) h = absurd (let no : ⊥ = cc in no)
     from (Extended back b k) h = absurd (let no : ⊥ = cc in no)
     from (Loaded op b d) h = absurd (let no : ⊥ = cc in no)
+    from (Linear b i c o) h = absurd (let no : ⊥ = cc in no)
+    from (Growing b k) h = absurd (let no : ⊥ = cc in no)
 
     by : (b : Bool) → nat_eq f.register r ≡ b → (if b then shifted_in f.value n else None) ≡ Some a → values r ≡ operated m (Reg Sll) (value_of globals values a) (value_of globals values (Number n))
     by true t h =
@@ -187,6 +209,46 @@ shifted_true globals m values (f ∷ facts) all r n a h = by (if nat_eq f.regist
     by (Some b) e rest h = shift_here globals m values f r n a all.0 (e ∙ h)
     by None e rest h = rest h
 
+-- ---- words that grow as longs do
+
+growing_here : (globals : List Value) (m : Memory) (values : Values ℕ) (e : Expression) (n : ℕ) (o : Option Value) → grows_as e n ≡ true → gives globals m values e ≡ Gives o → grows n o ≡ true
+growing_here globals m values (Growing a k) n o h is = by (grows k (value_of globals values a)) refl is
+  where
+    by : (b : Bool) → grows k (value_of globals values a) ≡ b → only_if b (value_of globals values a) ≡ Gives o → grows n o ≡ true
+    by true e f = ap (λ (j : ℕ). grows j o) (sym (eqb-true k n h)) ∙ ap (grows k) (sym (gives_one (value_of globals values a) o f)) ∙ e
+    by false e f = absurd (let no : ⊥ = cc in no)
+growing_here globals m values (Same a) n o h is = absurd (let no : ⊥ = cc in no)
+growing_here globals m values (Operated op a b) n o h is = absurd (let no : ⊥ = cc in no)
+growing_here globals m values (Extended back a k) n o h is = absurd (let no : ⊥ = cc in no)
+growing_here globals m values (Loaded op a d) n o h is = absurd (let no : ⊥ = cc in no)
+growing_here globals m values (Linear b i c q) n o h is = absurd (let no : ⊥ = cc in no)
+
+grows_true : (globals : List Value) (m : Memory) (values : Values ℕ) (facts : List Fact) → AreTrue globals m values facts → (r n : ℕ) → grows_in facts r n ≡ true → grows n (values r) ≡ true
+grows_true globals m values [] all r n h = absurd (let no : ⊥ = cc in no)
+grows_true globals m values (f ∷ facts) all r n h = by (nat_eq f.register r && grows_as f.value n) refl (grows_true globals m values facts all.1 r n) h
+  where
+    by : (b : Bool) → (nat_eq f.register r && grows_as f.value n) ≡ b → (grows_in facts r n ≡ true → grows n (values r) ≡ true) → (if b then true else grows_in facts r n) ≡ true → grows n (values r) ≡ true
+    by true e rest k =
+        let s = and_parts (nat_eq f.register r) (grows_as f.value n) e in
+        ap (λ (j : ℕ). grows n (values j)) (sym (eqb-true f.register r s.0)) ∙ growing_here globals m values f.value n (values f.register) s.1 all.0
+    by false e rest k = rest k
+
+widened_same : (globals : List Value) (m : Memory) (values : Values ℕ) (op : RegWOp) (r n : ℕ) (b : Bool) → (b ≡ true → grows n (values r) ≡ true) → gives globals m values (widened op r n b) ≡ gives globals m values (Operated (RegW op) (At r) (Number n))
+widened_same globals m values op r n b grow = by op b grow
+  where
+    by : (op : RegWOp) (b : Bool) → (b ≡ true → grows n (values r) ≡ true) → gives globals m values (widened op r n b) ≡ gives globals m values (Operated (RegW op) (At r) (Number n))
+    by Addw true h = ap Gives (grown_same m (values r) n (h refl))
+    by Addw false h = refl
+    by Subw b h = refl
+    by Sllw b h = refl
+    by Srlw b h = refl
+    by Sraw b h = refl
+    by Mulw b h = refl
+    by Divw b h = refl
+    by Divuw b h = refl
+    by Remw b h = refl
+    by Remuw b h = refl
+
 joined_same : (globals : List Value) (m : Memory) (values : Values ℕ) (facts : List Fact) → AreTrue globals m values facts → (op : Operation) (a b : Operand ℕ) → gives globals m values (joined facts op a b) ≡ gives globals m values (Operated op a b)
 joined_same globals m values facts all (Reg op) (At r) (Number n) = by (is_back op)
   where
@@ -201,7 +263,11 @@ joined_same globals m values facts all (Reg op) (At r) (At q) = refl
 joined_same globals m values facts all (Reg op) (At r) (Name g) = refl
 joined_same globals m values facts all (Reg op) (Number k) b = refl
 joined_same globals m values facts all (Reg op) (Name g) b = refl
-joined_same globals m values facts all (RegW op) a b = refl
+joined_same globals m values facts all (RegW op) (At r) (Number n) = widened_same globals m values op r n (grows_in facts r n) (grows_true globals m values facts all r n)
+joined_same globals m values facts all (RegW op) (At r) (At q) = refl
+joined_same globals m values facts all (RegW op) (At r) (Name g) = refl
+joined_same globals m values facts all (RegW op) (Number k) b = refl
+joined_same globals m values facts all (RegW op) (Name g) b = refl
 joined_same globals m values facts all (Compare on k) a b = refl
 
 canonical_same : (globals : List Value) (m : Memory) (values : Values ℕ) (facts : List Fact) → AreTrue globals m values facts → (e : Expression) → gives globals m values (canonical facts e) ≡ gives globals m values e
@@ -210,6 +276,221 @@ canonical_same globals m values facts all (Operated op a b) =
     joined_same globals m values facts all op (copied facts a) (copied facts b) ∙ gives_same globals m values values (copied facts) (Operated op a b) (copied_same globals m values facts all a, copied_same globals m values facts all b)
 canonical_same globals m values facts all (Extended back a n) = gives_same globals m values values (copied facts) (Extended back a n) (copied_same globals m values facts all a)
 canonical_same globals m values facts all (Loaded op a d) = gives_same globals m values values (copied facts) (Loaded op a d) (copied_same globals m values facts all a)
+canonical_same globals m values facts all (Linear b i c o) =
+    gives_same globals m values values (copied facts) (Linear b i c o) (copied_same globals m values facts all b, copied_same globals m values facts all i)
+canonical_same globals m values facts all (Growing a n) = gives_same globals m values values (copied facts) (Growing a n) (copied_same globals m values facts all a)
+
+-- ---- sums with products
+
+abbrev times : List Value → Memory → Values ℕ → Multiple → Option Value
+times globals m values p = operated m (Reg Mul) (value_of globals values p.index) (number p.factor)
+
+product_value : (globals : List Value) (m : Memory) (values : Values ℕ) (e : Expression) (p : Multiple) → product_in e ≡ Some p → gives globals m values e ≡ Gives (times globals m values p)
+product_value globals m values (Operated (Reg Sll) a (Number n)) p h = by (nat_lt n 64) refl h
+  where
+    by : (b : Bool) → nat_lt n 64 ≡ b → (if b then Some (record { index = a; factor = 2 ^ n }) else None) ≡ Some p → gives globals m values (Operated (Reg Sll) a (Number n)) ≡ Gives (times globals m values p)
+    by true t k =
+        let few : n < 64 = grind (arith, nat_tests) in
+        let same : record { index = a; factor = 2 ^ n } ≡ p = cc in
+        ap Gives (shift_is_product m (value_of globals values a) n few) ∙ ap (λ (q : Multiple). Gives (times globals m values q)) same
+    by false t k = absurd (let no : ⊥ = cc in no)
+product_value globals m values (Operated (Reg Mul) a (Number n)) p h = let same : record { index = a; factor = n } ≡ p = cc in ap (λ (q : Multiple). Gives (times globals m values q)) same
+product_value globals m values (Operated (Reg Sll) a (At q)) p h = absurd (let no : ⊥ = cc in no)
+product_value globals m values (Operated (Reg Sll) a (Name g)) p h = absurd (let no : ⊥ = cc in no)
+product_value globals m values (Operated (Reg Mul) a (At q)) p h = absurd (let no : ⊥ = cc in no)
+product_value globals m values (Operated (Reg Mul) a (Name g)) p h = absurd (let no : ⊥ = cc in no)
+product_value globals m values (Operated (Reg Add) a b) p h = absurd (let no : ⊥ = cc in no)
+product_value globals m values (Operated (Reg Sub) a b) p h = absurd (let no : ⊥ = cc in no)
+product_value globals m values (Operated (Reg Slt) a b) p h = absurd (let no : ⊥ = cc in no)
+product_value globals m values (Operated (Reg Sltu) a b) p h = absurd (let no : ⊥ = cc in no)
+product_value globals m values (Operated (Reg Xor) a b) p h = absurd (let no : ⊥ = cc in no)
+product_value globals m values (Operated (Reg Srl) a b) p h = absurd (let no : ⊥ = cc in no)
+product_value globals m values (Operated (Reg Sra) a b) p h = absurd (let no : ⊥ = cc in no)
+product_value globals m values (Operated (Reg Or) a b) p h = absurd (let no : ⊥ = cc in no)
+product_value globals m values (Operated (Reg And) a b) p h = absurd (let no : ⊥ = cc in no)
+product_value globals m values (Operated (Reg Mulh) a b) p h = absurd (let no : ⊥ = cc in no)
+product_value globals m values (Operated (Reg Mulhsu) a b) p h = absurd (let no : ⊥ = cc in no)
+product_value globals m values (Operated (Reg Mulhu) a b) p h = absurd (let no : ⊥ = cc in no)
+product_value globals m values (Operated (Reg Div) a b) p h = absurd (let no : ⊥ = cc in no)
+product_value globals m values (Operated (Reg Divu) a b) p h = absurd (let no : ⊥ = cc in no)
+product_value globals m values (Operated (Reg Rem) a b) p h = absurd (let no : ⊥ = cc in no)
+product_value globals m values (Operated (Reg Remu) a b) p h = absurd (let no : ⊥ = cc in no)
+product_value globals m values (Operated (RegW op) a b) p h = absurd (let no : ⊥ = cc in no)
+product_value globals m values (Operated (Compare on k) a b) p h = absurd (let no : ⊥ = cc in no)
+product_value globals m values (Same a) p h = absurd (let no : ⊥ = cc in no)
+product_value globals m values (Extended back a k) p h = absurd (let no : ⊥ = cc in no)
+product_value globals m values (Loaded op a d) p h = absurd (let no : ⊥ = cc in no)
+product_value globals m values (Linear b i c o) p h = absurd (let no : ⊥ = cc in no)
+product_value globals m values (Growing a n) p h = absurd (let no : ⊥ = cc in no)
+
+product_true : (globals : List Value) (m : Memory) (values : Values ℕ) (facts : List Fact) → AreTrue globals m values facts → (r : ℕ) (p : Multiple) → product facts r ≡ Some p → values r ≡ times globals m values p
+product_true globals m values [] all r p h = absurd (let no : ⊥ = cc in no)
+product_true globals m values (f ∷ facts) all r p h = by (if nat_eq f.register r then product_in f.value else None) refl (product_true globals m values facts all.1 r p) h
+  where
+    here : (b : Bool) → nat_eq f.register r ≡ b → (q : Multiple) → (if b then product_in f.value else None) ≡ Some q → values r ≡ times globals m values q
+    here true t q k =
+        gives_one (values r) (times globals m values q) (ap (λ (j : ℕ). Gives (values j)) (sym (eqb-true f.register r t)) ∙ sym all.0 ∙ product_value globals m values f.value q k)
+    here false t q k = absurd (let no : ⊥ = cc in no)
+
+    by : (o : Option Multiple) → (if nat_eq f.register r then product_in f.value else None) ≡ o → (product facts r ≡ Some p → values r ≡ times globals m values p) → first_of o (product facts r) ≡ Some p → values r ≡ times globals m values p
+    by (Some q) e rest k = here (nat_eq f.register r) refl p (e ∙ k)
+    by None e rest k = rest k
+
+product_of_true : (globals : List Value) (m : Memory) (values : Values ℕ) (facts : List Fact) → AreTrue globals m values facts → (a : Operand ℕ) (p : Multiple) → product_of facts a ≡ Some p → value_of globals values a ≡ times globals m values p
+product_of_true globals m values facts all (At r) p h = product_true globals m values facts all r p h
+product_of_true globals m values facts all (Number n) p h = absurd (let no : ⊥ = cc in no)
+product_of_true globals m values facts all (Name g) p h = absurd (let no : ⊥ = cc in no)
+
+beyond_same : (globals : List Value) (m : Memory) (values : Values ℕ) (facts : List Fact) → AreTrue globals m values facts → (a b : Operand ℕ) (o : Option Multiple) → product_of facts b ≡ o → (l : Expression) → beyond a o ≡ Some l
+    → gives globals m values l ≡ Gives (operated m (Reg Add) (value_of globals values a) (value_of globals values b))
+beyond_same globals m values facts all a b (Some p) e l h =
+    let same : Linear a p.index p.factor 0 ≡ l = cc in
+    ap (gives globals m values) (sym same) ∙ ap Gives (nothing_more m (value_of globals values a) (times globals m values p))
+    ∙ ap (λ (x : Option Value). Gives (operated m (Reg Add) (value_of globals values a) x)) (sym (product_of_true globals m values facts all b p e))
+beyond_same globals m values facts all a b None e l h = absurd (let no : ⊥ = cc in no)
+
+linear_same : (globals : List Value) (m : Memory) (values : Values ℕ) (facts : List Fact) → AreTrue globals m values facts → (e l : Expression) → linear_in facts e ≡ Some l → gives globals m values l ≡ gives globals m values e
+linear_same globals m values facts all (Operated (Reg Add) a b) l h = by (beyond a (product_of facts b)) refl h
+  where
+    by : (o : Option Expression) → beyond a (product_of facts b) ≡ o → first_of o (beyond b (product_of facts a)) ≡ Some l → gives globals m values l ≡ gives globals m values (Operated (Reg Add) a b)
+    by (Some k) e h = beyond_same globals m values facts all a b (product_of facts b) refl l (e ∙ h)
+    by None e h = beyond_same globals m values facts all b a (product_of facts a) refl l h ∙ ap Gives (sum_turned m (value_of globals values b) (value_of globals values a))
+linear_same globals m values facts all (Operated (Reg Sub) a b) l h = absurd (let no : ⊥ = cc in no)
+linear_same globals m values facts all (Operated (Reg Sll) a b) l h = absurd (let no : ⊥ = cc in no)
+linear_same globals m values facts all (Operated (Reg Slt) a b) l h = absurd (let no : ⊥ = cc in no)
+linear_same globals m values facts all (Operated (Reg Sltu) a b) l h = absurd (let no : ⊥ = cc in no)
+linear_same globals m values facts all (Operated (Reg Xor) a b) l h = absurd (let no : ⊥ = cc in no)
+linear_same globals m values facts all (Operated (Reg Srl) a b) l h = absurd (let no : ⊥ = cc in no)
+linear_same globals m values facts all (Operated (Reg Sra) a b) l h = absurd (let no : ⊥ = cc in no)
+linear_same globals m values facts all (Operated (Reg Or) a b) l h = absurd (let no : ⊥ = cc in no)
+linear_same globals m values facts all (Operated (Reg And) a b) l h = absurd (let no : ⊥ = cc in no)
+linear_same globals m values facts all (Operated (Reg Mul) a b) l h = absurd (let no : ⊥ = cc in no)
+linear_same globals m values facts all (Operated (Reg Mulh) a b) l h = absurd (let no : ⊥ = cc in no)
+linear_same globals m values facts all (Operated (Reg Mulhsu) a b) l h = absurd (let no : ⊥ = cc in no)
+linear_same globals m values facts all (Operated (Reg Mulhu) a b) l h = absurd (let no : ⊥ = cc in no)
+linear_same globals m values facts all (Operated (Reg Div) a b) l h = absurd (let no : ⊥ = cc in no)
+linear_same globals m values facts all (Operated (Reg Divu) a b) l h = absurd (let no : ⊥ = cc in no)
+linear_same globals m values facts all (Operated (Reg Rem) a b) l h = absurd (let no : ⊥ = cc in no)
+linear_same globals m values facts all (Operated (Reg Remu) a b) l h = absurd (let no : ⊥ = cc in no)
+linear_same globals m values facts all (Operated (RegW op) a b) l h = absurd (let no : ⊥ = cc in no)
+linear_same globals m values facts all (Operated (Compare on k) a b) l h = absurd (let no : ⊥ = cc in no)
+linear_same globals m values facts all (Same a) l h = absurd (let no : ⊥ = cc in no)
+linear_same globals m values facts all (Extended back a k) l h = absurd (let no : ⊥ = cc in no)
+linear_same globals m values facts all (Loaded op a d) l h = absurd (let no : ⊥ = cc in no)
+linear_same globals m values facts all (Linear b i c o) l h = absurd (let no : ⊥ = cc in no)
+linear_same globals m values facts all (Growing a n) l h = absurd (let no : ⊥ = cc in no)
+
+-- ---- words that stand extended
+
+word_value : (globals : List Value) (m : Memory) (values : Values ℕ) (facts : List Fact) → AreTrue globals m values facts → (e : Expression) (o : Option Value) → word_in facts e ≡ true → gives globals m values e ≡ Gives o → IsWord o
+word_value globals m values facts all (Operated (RegW op) a b) o h is =
+    subst IsWord (gives_one (operated m (RegW op) (value_of globals values a) (value_of globals values b)) o is) (word_given m op (value_of globals values a) (value_of globals values b))
+word_value globals m values facts all (Operated (Reg Add) (At q) (Number n)) o h is =
+    subst IsWord (gives_one (operated m (Reg Add) (values q) (number n)) o is) (grown_word m (values q) n (grows_true globals m values facts all q n h))
+word_value globals m values facts all (Same (Number n)) o h is = subst IsWord (gives_one (number n) o is) (number_stands n h)
+word_value globals m values facts all (Operated (Reg Add) (At q) (At r)) o h is = absurd (let no : ⊥ = cc in no)
+word_value globals m values facts all (Operated (Reg Add) (At q) (Name g)) o h is = absurd (let no : ⊥ = cc in no)
+word_value globals m values facts all (Operated (Reg Add) (Number k) b) o h is = absurd (let no : ⊥ = cc in no)
+word_value globals m values facts all (Operated (Reg Add) (Name g) b) o h is = absurd (let no : ⊥ = cc in no)
+word_value globals m values facts all (Operated (Reg Sub) a b) o h is = absurd (let no : ⊥ = cc in no)
+word_value globals m values facts all (Operated (Reg Sll) a b) o h is = absurd (let no : ⊥ = cc in no)
+word_value globals m values facts all (Operated (Reg Slt) a b) o h is = absurd (let no : ⊥ = cc in no)
+word_value globals m values facts all (Operated (Reg Sltu) a b) o h is = absurd (let no : ⊥ = cc in no)
+word_value globals m values facts all (Operated (Reg Xor) a b) o h is = absurd (let no : ⊥ = cc in no)
+word_value globals m values facts all (Operated (Reg Srl) a b) o h is = absurd (let no : ⊥ = cc in no)
+word_value globals m values facts all (Operated (Reg Sra) a b) o h is = absurd (let no : ⊥ = cc in no)
+word_value globals m values facts all (Operated (Reg Or) a b) o h is = absurd (let no : ⊥ = cc in no)
+word_value globals m values facts all (Operated (Reg And) a b) o h is = absurd (let no : ⊥ = cc in no)
+word_value globals m values facts all (Operated (Reg Mul) a b) o h is = absurd (let no : ⊥ = cc in no)
+word_value globals m values facts all (Operated (Reg Mulh) a b) o h is = absurd (let no : ⊥ = cc in no)
+word_value globals m values facts all (Operated (Reg Mulhsu) a b) o h is = absurd (let no : ⊥ = cc in no)
+word_value globals m values facts all (Operated (Reg Mulhu) a b) o h is = absurd (let no : ⊥ = cc in no)
+word_value globals m values facts all (Operated (Reg Div) a b) o h is = absurd (let no : ⊥ = cc in no)
+word_value globals m values facts all (Operated (Reg Divu) a b) o h is = absurd (let no : ⊥ = cc in no)
+word_value globals m values facts all (Operated (Reg Rem) a b) o h is = absurd (let no : ⊥ = cc in no)
+word_value globals m values facts all (Operated (Reg Remu) a b) o h is = absurd (let no : ⊥ = cc in no)
+word_value globals m values facts all (Operated (Compare on k) a b) o h is = absurd (let no : ⊥ = cc in no)
+word_value globals m values facts all (Same (At q)) o h is = absurd (let no : ⊥ = cc in no)
+word_value globals m values facts all (Same (Name g)) o h is = absurd (let no : ⊥ = cc in no)
+word_value globals m values facts all (Extended back a k) o h is = absurd (let no : ⊥ = cc in no)
+word_value globals m values facts all (Loaded op a d) o h is = absurd (let no : ⊥ = cc in no)
+word_value globals m values facts all (Linear b i c q) o h is = absurd (let no : ⊥ = cc in no)
+word_value globals m values facts all (Growing a n) o h is = absurd (let no : ⊥ = cc in no)
+
+word_by_true : (globals : List Value) (m : Memory) (values : Values ℕ) (every facts : List Fact) → AreTrue globals m values every → AreTrue globals m values facts → (r : ℕ) → is_word_by every facts r ≡ true → IsWord (values r)
+word_by_true globals m values every [] all some r h = absurd (let no : ⊥ = cc in no)
+word_by_true globals m values every (f ∷ facts) all some r h = by (nat_eq f.register r && word_in every f.value) refl (word_by_true globals m values every facts all some.1 r) h
+  where
+    by : (b : Bool) → (nat_eq f.register r && word_in every f.value) ≡ b → (is_word_by every facts r ≡ true → IsWord (values r)) → (if b then true else is_word_by every facts r) ≡ true → IsWord (values r)
+    by true e rest k =
+        let s = and_parts (nat_eq f.register r) (word_in every f.value) e in
+        subst (λ (j : ℕ). IsWord (values j)) (eqb-true f.register r s.0) (word_value globals m values every all f.value (values f.register) s.1 some.0)
+    by false e rest k = rest k
+
+word_true : (globals : List Value) (m : Memory) (values : Values ℕ) (facts : List Fact) → AreTrue globals m values facts → (r : ℕ) → is_word facts r ≡ true → IsWord (values r)
+word_true globals m values facts all r h = word_by_true globals m values facts facts all all r h
+
+-- ---- registers that grow
+
+added_value : (globals : List Value) (m : Memory) (values : Values ℕ) (x : ℕ) (e : Expression) (n : ℕ) → added_to x e ≡ Some n → gives globals m values e ≡ Gives (operated m (Reg Add) (values x) (number n))
+added_value globals m values x (Operated (Reg Add) (At q) (Number k)) n h = by (nat_eq q x) refl h
+  where
+    by : (b : Bool) → nat_eq q x ≡ b → (if b then Some k else None) ≡ Some n → gives globals m values (Operated (Reg Add) (At q) (Number k)) ≡ Gives (operated m (Reg Add) (values x) (number n))
+    by true t h =
+        let same : k ≡ n = cc in
+        ap (λ (j : ℕ). Gives (operated m (Reg Add) (values j) (number k))) (eqb-true q x t) ∙ ap (λ (j : ℕ). Gives (operated m (Reg Add) (values x) (number j))) same
+    by false t h = absurd (let no : ⊥ = cc in no)
+added_value globals m values x (Operated (Reg Add) (At q) (At r)) n h = absurd (let no : ⊥ = cc in no)
+added_value globals m values x (Operated (Reg Add) (At q) (Name g)) n h = absurd (let no : ⊥ = cc in no)
+added_value globals m values x (Operated (Reg Add) (Number k) b) n h = absurd (let no : ⊥ = cc in no)
+added_value globals m values x (Operated (Reg Add) (Name g) b) n h = absurd (let no : ⊥ = cc in no)
+added_value globals m values x (Operated (Reg Sub) a b) n h = absurd (let no : ⊥ = cc in no)
+added_value globals m values x (Operated (Reg Sll) a b) n h = absurd (let no : ⊥ = cc in no)
+added_value globals m values x (Operated (Reg Slt) a b) n h = absurd (let no : ⊥ = cc in no)
+added_value globals m values x (Operated (Reg Sltu) a b) n h = absurd (let no : ⊥ = cc in no)
+added_value globals m values x (Operated (Reg Xor) a b) n h = absurd (let no : ⊥ = cc in no)
+added_value globals m values x (Operated (Reg Srl) a b) n h = absurd (let no : ⊥ = cc in no)
+added_value globals m values x (Operated (Reg Sra) a b) n h = absurd (let no : ⊥ = cc in no)
+added_value globals m values x (Operated (Reg Or) a b) n h = absurd (let no : ⊥ = cc in no)
+added_value globals m values x (Operated (Reg And) a b) n h = absurd (let no : ⊥ = cc in no)
+added_value globals m values x (Operated (Reg Mul) a b) n h = absurd (let no : ⊥ = cc in no)
+added_value globals m values x (Operated (Reg Mulh) a b) n h = absurd (let no : ⊥ = cc in no)
+added_value globals m values x (Operated (Reg Mulhsu) a b) n h = absurd (let no : ⊥ = cc in no)
+added_value globals m values x (Operated (Reg Mulhu) a b) n h = absurd (let no : ⊥ = cc in no)
+added_value globals m values x (Operated (Reg Div) a b) n h = absurd (let no : ⊥ = cc in no)
+added_value globals m values x (Operated (Reg Divu) a b) n h = absurd (let no : ⊥ = cc in no)
+added_value globals m values x (Operated (Reg Rem) a b) n h = absurd (let no : ⊥ = cc in no)
+added_value globals m values x (Operated (Reg Remu) a b) n h = absurd (let no : ⊥ = cc in no)
+added_value globals m values x (Operated (RegW op) a b) n h = absurd (let no : ⊥ = cc in no)
+added_value globals m values x (Operated (Compare on k) a b) n h = absurd (let no : ⊥ = cc in no)
+added_value globals m values x (Same a) n h = absurd (let no : ⊥ = cc in no)
+added_value globals m values x (Extended back a k) n h = absurd (let no : ⊥ = cc in no)
+added_value globals m values x (Loaded op a d) n h = absurd (let no : ⊥ = cc in no)
+added_value globals m values x (Linear b i c o) n h = absurd (let no : ⊥ = cc in no)
+added_value globals m values x (Growing a k) n h = absurd (let no : ⊥ = cc in no)
+
+ahead_true : (globals : List Value) (m : Memory) (values : Values ℕ) (facts : List Fact) → AreTrue globals m values facts → (x y n : ℕ) → ahead facts x y ≡ Some n → values y ≡ operated m (Reg Add) (values x) (number n)
+ahead_true globals m values [] all x y n h = absurd (let no : ⊥ = cc in no)
+ahead_true globals m values (f ∷ facts) all x y n h = by (if nat_eq f.register y then added_to x f.value else None) refl (ahead_true globals m values facts all.1 x y n) h
+  where
+    here : (b : Bool) → nat_eq f.register y ≡ b → (k : ℕ) → (if b then added_to x f.value else None) ≡ Some k → values y ≡ operated m (Reg Add) (values x) (number k)
+    here true t k h =
+        gives_one (values y) (operated m (Reg Add) (values x) (number k)) (ap (λ (j : ℕ). Gives (values j)) (sym (eqb-true f.register y t)) ∙ sym all.0 ∙ added_value globals m values x f.value k h)
+    here false t k h = absurd (let no : ⊥ = cc in no)
+
+    by : (o : Option ℕ) → (if nat_eq f.register y then added_to x f.value else None) ≡ o → (ahead facts x y ≡ Some n → values y ≡ operated m (Reg Add) (values x) (number n)) → first_of o (ahead facts x y) ≡ Some n → values y ≡ operated m (Reg Add) (values x) (number n)
+    by (Some k) e rest h = here (nat_eq f.register y) refl n (e ∙ h)
+    by None e rest h = rest h
+
+growth_true : (globals : List Value) (m : Memory) (values : Values ℕ) (facts : List Fact) → AreTrue globals m values facts → (x : ℕ) (e : Expression) (n : ℕ) → growth facts x e ≡ Some n → gives globals m values e ≡ Gives (operated m (Reg Add) (values x) (number n))
+growth_true globals m values facts all x (Same (At y)) n h = ap Gives (ahead_true globals m values facts all x y n h)
+growth_true globals m values facts all x (Same (Number k)) n h = absurd (let no : ⊥ = cc in no)
+growth_true globals m values facts all x (Same (Name g)) n h = absurd (let no : ⊥ = cc in no)
+growth_true globals m values facts all x (Operated op a b) n h = added_value globals m values x (Operated op a b) n h
+growth_true globals m values facts all x (Extended back a k) n h = absurd (let no : ⊥ = cc in no)
+growth_true globals m values facts all x (Loaded op a d) n h = absurd (let no : ⊥ = cc in no)
+growth_true globals m values facts all x (Linear b i c o) n h = absurd (let no : ⊥ = cc in no)
+growth_true globals m values facts all x (Growing a k) n h = absurd (let no : ⊥ = cc in no)
 
 -- ---- lines
 
@@ -233,6 +514,8 @@ holds_true globals m values facts r e all (Found is) = true_at globals m values 
 holds_true globals m values facts r e all (Small is) =
     let known = is.1 in
     ap (gives globals m values) is.0 ∙ itself_same globals m values known.1 r known.2.1 (true_at globals m values facts known.0 (record { register = r; value = known.1 }) all known.2.0)
+holds_true globals m values facts r e all (Counted {l = l} is found) =
+    sym (linear_same globals m values facts all e l is) ∙ true_at globals m values facts found.0 (record { register = r; value = l }) all found.1
 
 -- a register that is known to hold a sum holds it
 adds_true : (globals : List Value) (m : Memory) (values : Values ℕ) (facts : List Fact) (r : ℕ) (a b : Operand ℕ) → AreTrue globals m values facts → Adds facts r a b → values r ≡ operated m (Reg Add) (value_of globals values a) (value_of globals values b)
@@ -263,6 +546,10 @@ made_same globals m values n facts l k all (Copy {f = f} {r = r} is dear low kno
 made_same globals m values n facts l k all (FirstRegrouped {y = y} {added = added} {part = part} {rest = rest} is) = (ap Gives (regrouped_true globals m values n facts y added part rest all is), refl)
 made_same globals m values n facts l k all (SecondRegrouped {y = y} {added = added} {part = part} {rest = rest} is) =
     (ap Gives (regrouped_true globals m values n facts y added part rest all is ∙ sum_turned m (values y) (values added)), refl)
+made_same globals m values n facts l k all (Again {k = j} first second) =
+    let one = made_same globals m values n facts l j all first in
+    let other = made_same globals m values n facts j k all second in
+    (other.0 ∙ one.0, other.1 ∙ one.1)
 made_same globals m values n facts l k all (Narrow {size = size} {a = a} {at = at} {q = q} is low) = (by a is, refl)
   where
     by : (b : Operand ℕ) → IsNarrow facts size b q → act globals m values (Store size (At q) at) ≡ act globals m values (Store size b at)
@@ -283,6 +570,8 @@ expression_spared globals values r o (Same a) h = operand_spared globals values 
 expression_spared globals values r o (Operated op a b) h = let s = or_parts (names r a) (names r b) h in (operand_spared globals values r o a s.0, operand_spared globals values r o b s.1)
 expression_spared globals values r o (Extended back a n) h = operand_spared globals values r o a h
 expression_spared globals values r o (Loaded op a d) h = operand_spared globals values r o a h
+expression_spared globals values r o (Linear b i c q) h = let s = or_parts (names r b) (names r i) h in (operand_spared globals values r o b s.0, operand_spared globals values r o i s.1)
+expression_spared globals values r o (Growing a n) h = operand_spared globals values r o a h
 
 gives_spared : (globals : List Value) (m : Memory) (values : Values ℕ) (r : ℕ) (o : Option Value) (e : Expression) → reads r e ≡ false → gives globals m (written (Some r) o values) e ≡ gives globals m values e
 gives_spared globals m values r o e h =
@@ -376,6 +665,19 @@ memory_spared globals m n values f h is = from f.value h is
         twice =
             operated_any m n (Reg back) (operated m (Reg Sll) (value_of globals values a) by) by refl ∙ ap (λ (x : Option Value). operated n (Reg back) x by) (operated_any m n (Reg Sll) (value_of globals values a) by refl)
     from (Loaded op a d) h is = absurd (let no : ⊥ = cc in no)
+    from (Linear b i c q) h is = ap Gives (sym whole) ∙ is
+      where
+        base : Option Value
+        base = value_of globals values b
+
+        product : Memory → Option Value
+        product x = operated x (Reg Mul) (value_of globals values i) (number c)
+
+        whole : linear m base (value_of globals values i) c q ≡ linear n base (value_of globals values i) c q
+        whole =
+            operated_any m n (Reg Add) (operated m (Reg Add) base (product m)) (number q) refl ∙ ap (λ (x : Option Value). operated n (Reg Add) x (number q)) (operated_any m n (Reg Add) base (product m) refl)
+            ∙ ap (λ (x : Option Value). operated n (Reg Add) (operated n (Reg Add) base x) (number q)) (operated_any m n (Reg Mul) (value_of globals values i) (number c) refl)
+    from (Growing a k) h is = is
 
 -- a line that changes no memory leaves what was there
 unchanged : (globals : List Value) (m : Memory) (values : Values ℕ) (l : Line ℕ) (o : Option Value) (next : Memory) → changes_memory l ≡ false → MayLeave m (act globals m values l) o next → next ≡ m
@@ -412,7 +714,7 @@ all_stay globals m values l o next (f ∷ facts) may all = by (stays l f) refl (
     by true e rest = (fact_stays globals m values l o next f may e all.0, rest)
     by false e rest = rest
 
--- what a line makes known is true behind it
+-- a line that computes something gives that, and leaves memory
 given_leaves : (m : Memory) (e : Act) (o : Option Value) (next : Memory) (f : Fact) (globals : List Value) (values : Values ℕ) → e ≡ gives globals m values f.value → MayLeave m e o next → (gives globals m values f.value ≡ Gives o) × (next ≡ m)
 given_leaves m e o next f globals values is may = from f.value (subst (λ (a : Act). MayLeave m a o next) is may)
   where
@@ -425,6 +727,122 @@ given_leaves m e o next f globals values is may = from f.value (subst (λ (a : A
         loads : (x : Option Value) → MayLeave m (given x) o next → (given x ≡ Gives o) × (next ≡ m)
         loads None h = absurd h
         loads (Some v) h = (ap Gives (sym h.0), h.1)
+    from (Linear b i c q) h = (ap Gives (sym h.0), h.1)
+    from (Growing a n) h = grown (grows n (value_of globals values a)) h
+      where
+        grown : (b : Bool) → MayLeave m (only_if b (value_of globals values a)) o next → (only_if b (value_of globals values a) ≡ Gives o) × (next ≡ m)
+        grown true h = (ap Gives (sym h.0), h.1)
+        grown false h = absurd h
+
+-- ---- what is linear, behind a line that adds a number to a register
+
+increment_true : (globals : List Value) (m : Memory) (values : Values ℕ) (l : Line ℕ) (o : Option Value) (next : Memory) (facts : List Fact) (s : Increment) → AreTrue globals m values facts → MayLeave m (act globals m values l) o next → increment_by facts l ≡ Some s
+    → (line_writes l ≡ Some s.register) × ((next ≡ m) × (o ≡ operated m (Reg Add) (values s.register) (number s.by)))
+increment_true globals m values l o next facts s all may h = by (computed l) refl h
+  where
+    Does : Increment → Type 0
+    Does x = (line_writes l ≡ Some x.register) × ((next ≡ m) × (o ≡ operated m (Reg Add) (values x.register) (number x.by)))
+
+    grown : (f : Fact) → computed l ≡ Some f → (g : Option ℕ) → growth facts f.register (canonical facts f.value) ≡ g → option_map (λ n. record { register = f.register; by = n }) g ≡ Some s → Does s
+    grown f e (Some n) k same =
+        let does = computes globals m values l f e in
+        let left = given_leaves m (act globals m values l) o next f globals values does.0 may in
+        let is : record { register = f.register; by = n } ≡ s = cc in
+        let sum : o ≡ operated m (Reg Add) (values f.register) (number n) =
+        gives_one o (operated m (Reg Add) (values f.register) (number n)) (sym left.0 ∙ sym (canonical_same globals m values facts all f.value) ∙ growth_true globals m values facts all f.register (canonical facts f.value) n k)
+        in
+        subst Does is (does.1, (left.1, sum))
+    grown f e None k same = absurd (let no : ⊥ = cc in no)
+
+    by : (c : Option Fact) → computed l ≡ c → option_and_then (increment_of facts) c ≡ Some s → Does s
+    by None e h = absurd (let no : ⊥ = cc in no)
+    by (Some f) e h = grown f e (growth facts f.register (canonical facts f.value)) refl h
+
+-- the index grew, and its register took the sum
+index_moves : (globals : List Value) (m : Memory) (values : Values ℕ) (x n r : ℕ) (b : Operand ℕ) (c q : ℕ) (o : Option Value) → o ≡ operated m (Reg Add) (values x) (number n) → names x b ≡ false → nat_eq r x ≡ false → gives globals m values (Linear b (At x) c q) ≡ Gives (values r)
+    → IsTrueOf globals m (written (Some x) o values) (with_offset r b x c (behind q n c))
+index_moves globals m values x n r b c q o sum spared other is =
+    ap (λ (v : Option Value). Gives (linear m v (written (Some x) o values x) c (behind q n c))) (operand_spared globals values x o b spared)
+    ∙ ap (λ (v : Option Value). Gives (linear m (value_of globals values b) v c (behind q n c))) (now_holds x o values ∙ sum)
+    ∙ ap Gives (index_grows m (value_of globals values b) (values x) c q n) ∙ is ∙ ap Gives (sym (unwritten (Some x) o values r (turned x r ∙ other)))
+
+-- the register itself grew
+whole_moves : (globals : List Value) (m : Memory) (values : Values ℕ) (x n i : ℕ) (b : Operand ℕ) (c q : ℕ) (o : Option Value) → o ≡ operated m (Reg Add) (values x) (number n) → names x b ≡ false → nat_eq i x ≡ false → gives globals m values (Linear b (At i) c q) ≡ Gives (values x)
+    → IsTrueOf globals m (written (Some x) o values) (with_offset x b i c (further q n))
+whole_moves globals m values x n i b c q o sum spared other is =
+    ap (λ (v : Option Value). Gives (linear m v (written (Some x) o values i) c (further q n))) (operand_spared globals values x o b spared)
+    ∙ ap (λ (v : Option Value). Gives (linear m (value_of globals values b) v c (further q n))) (unwritten (Some x) o values i (turned x i ∙ other))
+    ∙ ap Gives (sym (whole_grows m (operated m (Reg Add) (value_of globals values b) (operated m (Reg Mul) (values i) (number c))) q n))
+    ∙ ap (λ (v : Option Value). Gives (operated m (Reg Add) v (number n))) (gives_one (linear m (value_of globals values b) (values i) c q) (values x) is) ∙ ap Gives (sym sum ∙ sym (now_holds x o values))
+
+moves : (globals : List Value) (m : Memory) (values : Values ℕ) (s : Increment) (r : ℕ) (b : Operand ℕ) (i c q : ℕ) (o : Option Value) (g : Fact) → o ≡ operated m (Reg Add) (values s.register) (number s.by) → gives globals m values (Linear b (At i) c q) ≡ Gives (values r)
+    → moved_linear s r b i c q ≡ Some g → IsTrueOf globals m (written (Some s.register) o values) g
+moves globals m values s r b i c q o g sum is h = outer (names s.register b) (nat_eq i s.register) (nat_eq r s.register) refl refl refl h
+  where
+    Behind : Fact → Type 0
+    Behind k = IsTrueOf globals m (written (Some s.register) o values) k
+
+    outer : (named index whole : Bool) → names s.register b ≡ named → nat_eq i s.register ≡ index → nat_eq r s.register ≡ whole
+        → (if named || (index && whole) then None else (if index then Some (with_offset r b i c (behind q s.by c)) else (if whole then Some (with_offset r b i c (further q s.by)) else None))) ≡ Some g → Behind g
+    outer true index whole e f k h = absurd (let no : ⊥ = cc in no)
+    outer false true true e f k h = absurd (let no : ⊥ = cc in no)
+    outer false true false e f k h =
+        let same : with_offset r b i c (behind q s.by c) ≡ g = cc in
+        let here : i ≡ s.register = eqb-true i s.register f in
+        subst Behind same
+        (subst (λ (j : ℕ). Behind (with_offset r b j c (behind q s.by c))) (sym here)
+        (index_moves globals m values s.register s.by r b c q o sum e k (subst (λ (j : ℕ). gives globals m values (Linear b (At j) c q) ≡ Gives (values r)) here is)))
+    outer false false true e f k h =
+        let same : with_offset r b i c (further q s.by) ≡ g = cc in
+        let here : r ≡ s.register = eqb-true r s.register k in
+        subst Behind same
+        (subst (λ (j : ℕ). Behind (with_offset j b i c (further q s.by))) (sym here)
+        (whole_moves globals m values s.register s.by i b c q o sum e f (subst (λ (j : ℕ). gives globals m values (Linear b (At i) c q) ≡ Gives (values j)) here is)))
+    outer false false false e f k h = absurd (let no : ⊥ = cc in no)
+
+moved_true : (globals : List Value) (m : Memory) (values : Values ℕ) (s : Increment) (f : Fact) (o : Option Value) (g : Fact) → o ≡ operated m (Reg Add) (values s.register) (number s.by) → IsTrueOf globals m values f → moved s f.register f.value ≡ Some g
+    → IsTrueOf globals m (written (Some s.register) o values) g
+moved_true globals m values s f o g sum is h = from f.value is h
+  where
+    from : (e : Expression) → gives globals m values e ≡ Gives (values f.register) → moved s f.register e ≡ Some g → IsTrueOf globals m (written (Some s.register) o values) g
+    from (Linear b (At i) c q) is h = moves globals m values s f.register b i c q o g sum is h
+    from (Linear b (Number k) c q) is h = absurd (let no : ⊥ = cc in no)
+    from (Linear b (Name k) c q) is h = absurd (let no : ⊥ = cc in no)
+    from (Same a) is h = absurd (let no : ⊥ = cc in no)
+    from (Operated op a b) is h = absurd (let no : ⊥ = cc in no)
+    from (Extended back a k) is h = absurd (let no : ⊥ = cc in no)
+    from (Loaded op a d) is h = absurd (let no : ⊥ = cc in no)
+    from (Growing a n) is h = absurd (let no : ⊥ = cc in no)
+
+carried_true : (globals : List Value) (m : Memory) (values : Values ℕ) (l : Line ℕ) (o : Option Value) (next : Memory) (s : Increment) (facts : List Fact) → line_writes l ≡ Some s.register → next ≡ m → o ≡ operated m (Reg Add) (values s.register) (number s.by) → MayLeave m (act globals m values l) o next
+    → AreTrue globals m values facts → AreTrue globals next (written (line_writes l) o values) (carried s l facts)
+carried_true globals m values l o next s [] writes same sum may all = tt
+carried_true globals m values l o next s (f ∷ facts) writes same sum may all =
+    by (moved s f.register f.value) refl (carried_true globals m values l o next s facts writes same sum may all.1)
+  where
+    Behind : List Fact → Type 0
+    Behind fs = AreTrue globals next (written (line_writes l) o values) fs
+
+    unmoved : (b : Bool) → stays l f ≡ b → Behind (carried s l facts) → Behind (with_front (if b then Some f else None) (carried s l facts))
+    unmoved true e rest = (fact_stays globals m values l o next f may e all.0, rest)
+    unmoved false e rest = rest
+
+    by : (g : Option Fact) → moved s f.register f.value ≡ g → Behind (carried s l facts) → Behind (with_front (first_of g (if_stays l f)) (carried s l facts))
+    by (Some g) e rest = (
+      subst (λ (x : Memory). IsTrueOf globals x (written (line_writes l) o values) g) (sym same)
+          (subst (λ (to : Option ℕ). IsTrueOf globals m (written to o values) g) (sym writes) (moved_true globals m values s f o g sum all.0 e)),
+      rest,
+    )
+    by None e rest = unmoved (stays l f) refl rest
+
+kept_true : (globals : List Value) (m : Memory) (values : Values ℕ) (l : Line ℕ) (o : Option Value) (next : Memory) (facts : List Fact) → MayLeave m (act globals m values l) o next → AreTrue globals m values facts → AreTrue globals next (written (line_writes l) o values) (kept (increment_by facts l) l facts)
+kept_true globals m values l o next facts may all = by (increment_by facts l) refl
+  where
+    by : (s : Option Increment) → increment_by facts l ≡ s → AreTrue globals next (written (line_writes l) o values) (kept s l facts)
+    by None e = all_stay globals m values l o next facts may all
+    by (Some s) e = let does = increment_true globals m values l o next facts s all may e in carried_true globals m values l o next s facts does.0 does.1.0 does.1.1 may all
+
+-- ---- what a line makes known is true behind it
 
 abbrev TrueIf : List Value → Memory → Values ℕ → Option Fact → Type 0
 TrueIf globals m values None = Unit {0}
@@ -435,9 +853,10 @@ known_true : (globals : List Value) (m : Memory) (values : Values ℕ) (l : Line
 known_true globals m values l o next facts all may = by (computed l) refl
   where
     is_known : (f : Fact) → computed l ≡ Some f → (b : Bool) → reads f.register (canonical facts f.value) ≡ b
-        → TrueIf globals next (written (line_writes l) o values) (if b then None else Some (record { register = f.register; value = canonical facts f.value }))
-    is_known f e true h = tt
-    is_known f e false h =
+        → (p : Bool) → TrueIf globals next (written (line_writes l) o values) (if b || p then None else Some (record { register = f.register; value = canonical facts f.value }))
+    is_known f e true h p = tt
+    is_known f e false h true = tt
+    is_known f e false h false =
         let does = computes globals m values l f e in
         let left = given_leaves m (act globals m values l) o next f globals values does.0 may in
         subst (λ (to : Option ℕ). IsTrueOf globals next (written to o values) (record { register = f.register; value = canonical facts f.value })) (sym does.1)
@@ -447,7 +866,64 @@ known_true globals m values l o next facts all may = by (computed l) refl
     by : (c : Option Fact) → computed l ≡ c
         → TrueIf globals next (written (line_writes l) o values) (option_and_then (λ f. kept_fact (record { register = f.register; value = canonical facts f.value })) c)
     by None e = tt
-    by (Some f) e = is_known f e (reads f.register (canonical facts f.value)) refl
+    by (Some f) e = is_known f e (reads f.register (canonical facts f.value)) refl (is_plain (canonical facts f.value))
+
+-- ... of an expression that doesn't read the register, and of a word
+now_true : (globals : List Value) (m : Memory) (values : Values ℕ) (r : ℕ) (o : Option Value) (e : Expression) → reads r e ≡ false → gives globals m values e ≡ Gives o → IsTrueOf globals m (written (Some r) o values) (record { register = r; value = e })
+now_true globals m values r o e h is = gives_spared globals m values r o e h ∙ is ∙ ap Gives (sym (now_holds r o values))
+
+now_word : (globals : List Value) (m : Memory) (values : Values ℕ) (r : ℕ) (o : Option Value) → IsWord o → IsTrueOf globals m (written (Some r) o values) (record { register = r; value = word_of r })
+now_word globals m values r o h = ap Gives (word_again m (written (Some r) o values r) (subst IsWord (sym (now_holds r o values)) h))
+
+linear_true : (globals : List Value) (m : Memory) (values : Values ℕ) (r : ℕ) (o : Option Value) (facts : List Fact) → AreTrue globals m values facts → (e : Expression) → gives globals m values e ≡ Gives o → (g : Fact) → linear_note facts r e ≡ Some g → IsTrueOf globals m (written (Some r) o values) g
+linear_true globals m values r o facts all e is g h = by (linear_in facts e) refl h
+  where
+    noted_if : (l : Expression) → linear_in facts e ≡ Some l → (b : Bool) → reads r l ≡ b → (p : Bool) → (if b || p then None else Some (record { register = r; value = l })) ≡ Some g → IsTrueOf globals m (written (Some r) o values) g
+    noted_if l k true t p h = absurd (let no : ⊥ = cc in no)
+    noted_if l k false t true h = absurd (let no : ⊥ = cc in no)
+    noted_if l k false t false h =
+        let same : record { register = r; value = l } ≡ g = cc in
+        subst (IsTrueOf globals m (written (Some r) o values)) same (now_true globals m values r o l t (linear_same globals m values facts all e l k ∙ is))
+
+    by : (x : Option Expression) → linear_in facts e ≡ x → option_and_then (λ l. kept_fact (record { register = r; value = l })) x ≡ Some g → IsTrueOf globals m (written (Some r) o values) g
+    by None k h = absurd (let no : ⊥ = cc in no)
+    by (Some l) k h = noted_if l k (reads r l) refl (is_plain l) h
+
+makes_true : (globals : List Value) (m : Memory) (values : Values ℕ) (facts : List Fact) → AreTrue globals m values facts → (r : ℕ) (e : Expression) (o : Option Value) → makes_word facts r e ≡ true → gives globals m values e ≡ Gives o → IsWord o
+makes_true globals m values facts all r (Same (At y)) o h is = subst IsWord (gives_one (values y) o is) (word_true globals m values facts all y (and_parts (is_word facts y) (not (is_own facts y)) h).0)
+makes_true globals m values facts all r (Same (Number n)) o h is = subst IsWord (gives_one (number n) o is) (number_stands n h)
+makes_true globals m values facts all r (Same (Name g)) o h is = absurd (let no : ⊥ = cc in no)
+makes_true globals m values facts all r (Operated (RegW op) a b) o h is =
+    subst IsWord (gives_one (operated m (RegW op) (value_of globals values a) (value_of globals values b)) o is) (word_given m op (value_of globals values a) (value_of globals values b))
+makes_true globals m values facts all r (Operated (Reg op) a b) o h is = absurd (let no : ⊥ = cc in no)
+makes_true globals m values facts all r (Operated (Compare on k) a b) o h is = absurd (let no : ⊥ = cc in no)
+makes_true globals m values facts all r (Extended back a k) o h is = absurd (let no : ⊥ = cc in no)
+makes_true globals m values facts all r (Loaded op a d) o h is = absurd (let no : ⊥ = cc in no)
+makes_true globals m values facts all r (Linear b i c q) o h is = absurd (let no : ⊥ = cc in no)
+makes_true globals m values facts all r (Growing a n) o h is = absurd (let no : ⊥ = cc in no)
+
+noted_true : (globals : List Value) (m : Memory) (values : Values ℕ) (facts : List Fact) → AreTrue globals m values facts → (f : Fact) (o : Option Value) → gives globals m values f.value ≡ Gives o → TrueIf globals m (written (Some f.register) o values) (noted facts f)
+noted_true globals m values facts all f o is = by (linear_note facts f.register (canonical facts f.value)) refl
+  where
+    word : (b : Bool) → makes_word facts f.register f.value ≡ b → TrueIf globals m (written (Some f.register) o values) (if b then Some (record { register = f.register; value = word_of f.register }) else None)
+    word true e = now_word globals m values f.register o (makes_true globals m values facts all f.register f.value o e is)
+    word false e = tt
+
+    by : (g : Option Fact) → linear_note facts f.register (canonical facts f.value) ≡ g → TrueIf globals m (written (Some f.register) o values) (first_of g (word_note facts f.register f.value))
+    by (Some g) e = linear_true globals m values f.register o facts all (canonical facts f.value) (canonical_same globals m values facts all f.value ∙ is) g e
+    by None e = word (makes_word facts f.register f.value) refl
+
+other_true : (globals : List Value) (m : Memory) (values : Values ℕ) (l : Line ℕ) (o : Option Value) (next : Memory) (facts : List Fact) → AreTrue globals m values facts → MayLeave m (act globals m values l) o next
+    → TrueIf globals next (written (line_writes l) o values) (other_by facts l)
+other_true globals m values l o next facts all may = by (computed l) refl
+  where
+    by : (c : Option Fact) → computed l ≡ c → TrueIf globals next (written (line_writes l) o values) (option_and_then (noted facts) c)
+    by None e = tt
+    by (Some f) e =
+        let does = computes globals m values l f e in
+        let left = given_leaves m (act globals m values l) o next f globals values does.0 may in
+        subst (λ (to : Option ℕ). TrueIf globals next (written to o values) (noted facts f)) (sym does.1)
+        (subst (λ (x : Memory). TrueIf globals x (written (Some f.register) o values) (noted facts f)) (sym left.1) (noted_true globals m values facts all f o left.0))
 
 one_more : (globals : List Value) (m : Memory) (values : Values ℕ) (facts : List Fact) (f : Fact) → AreTrue globals m values facts → IsTrueOf globals m values f → AreTrue globals m values (facts ++ f ∷ [])
 one_more globals m values [] f all is = (is, tt)
@@ -464,7 +940,9 @@ with_true globals m values facts (Some f) all is = by (nat_lt (length facts) 64)
 true_after : (globals : List Value) (m : Memory) (values : Values ℕ) (l : Line ℕ) (o : Option Value) (next : Memory) (facts : List Fact) → AreTrue globals m values facts → MayLeave m (act globals m values l) o next
     → AreTrue globals next (written (line_writes l) o values) (after l facts)
 true_after globals m values l o next facts all may =
-    with_true globals next (written (line_writes l) o values) (filter (stays l) facts) (known_by facts l) (all_stay globals m values l o next facts may all) (known_true globals m values l o next facts all may)
+    with_true globals next (written (line_writes l) o values) (with_fact (known_by facts l) (kept (increment_by facts l) l facts)) (other_by facts l)
+    (with_true globals next (written (line_writes l) o values) (kept (increment_by facts l) l facts) (known_by facts l) (kept_true globals m values l o next facts may all) (known_true globals m values l o next facts all may))
+    (other_true globals m values l o next facts all may)
 
 -- ---- the code follows
 
@@ -476,6 +954,7 @@ writes_same n facts l k Itself = refl
 writes_same n facts l k (Narrow is low) = refl
 writes_same n facts l k (FirstRegrouped is) = refl
 writes_same n facts l k (SecondRegrouped is) = refl
+writes_same n facts l k (Again {k = j} first second) = writes_same n facts j k second ∙ writes_same n facts l j first
 writes_same n facts l k (Copy {f = f} is dear low known) = sym (computes [] [] (λ r. None) l f is).1
 
 line_follows : (claims : List (List Fact)) (n : ℕ) (facts : List Fact) (l k : Line ℕ) → Made n facts l k → Alike (claimed (known claims)) facts (after k facts) l k
@@ -486,21 +965,194 @@ line_follows claims n facts l k made =
     subst (λ (x : Option ℕ). AreTrue globals next (written x o values) (after k facts)) (made_same globals memory values n facts l k all made).1
     (true_after globals memory values k o next facts all (subst (λ (a : Act). MayLeave memory a o next) (sym (made_same globals memory values n facts l k all made).0) may)))
 
+-- ---- what a jump says
+
+-- where words are compared, both operands are numbers
+pub record Numbers (on : Condition) (u v : Option Value) (n : ℕ) : Type 0 where
+  pub left : ℕ
+  pub right : ℕ
+  pub first : u ≡ Some (Integer left)
+  pub second : v ≡ Some (Integer right)
+  pub answer : n ≡ truth (holds on W (left % 2 ^ 32) (right % 2 ^ 32))
+
+numbers_compared : (m : Memory) (on : Condition) (u v : Option Value) (n : ℕ) → operated m (Compare on W) u v ≡ Some (Integer n) → Numbers on u v n
+unfolding operate operate_two
+numbers_compared m on (Some (Integer a)) (Some (Integer b)) n h =
+    record { left = a; right = b; first = refl; second = refl; answer = by (truth (holds on W (a % 2 ^ 32) (b % 2 ^ 32))) h }
+  where
+    by : (k : ℕ) → Some (Integer k) ≡ Some (Integer n) → n ≡ k
+    by k e = cc
+numbers_compared m on (Some (Integer a)) (Some (Pointer b o)) n h = absurd (let no : ⊥ = cc in no)
+numbers_compared m on (Some (Integer a)) (Some (Function g)) n h = absurd (let no : ⊥ = cc in no)
+numbers_compared m on (Some (Integer a)) None n h = absurd (let no : ⊥ = cc in no)
+numbers_compared m on (Some (Pointer b o)) None n h = absurd (let no : ⊥ = cc in no)
+numbers_compared m on (Some (Pointer b o)) (Some v) n h = absurd (let no : ⊥ = cc in no)
+numbers_compared m on (Some (Function f)) None n h = absurd (let no : ⊥ = cc in no)
+numbers_compared m on (Some (Function f)) (Some v) n h = absurd (let no : ⊥ = cc in no)
+numbers_compared m on None v n h = absurd (let no : ⊥ = cc in no)
+
+it_holds : (t : Bool) (n : ℕ) → n ≡ truth t → nat_eq n 0 ≡ false → t ≡ true
+it_holds true n is some = refl
+it_holds false n is some = absurd (let no : nat_eq 0 0 ≡ false = ap (λ (k : ℕ). nat_eq k 0) (sym is) ∙ some in let never : ⊥ = cc in never)
+
+it_fails : (t : Bool) (n : ℕ) → n ≡ truth t → nat_eq n 0 ≡ true → t ≡ false
+it_fails false n is none = refl
+it_fails true n is none = absurd (let no : nat_eq 1 0 ≡ true = ap (λ (k : ℕ). nat_eq k 0) (sym is) ∙ none in let never : ⊥ = cc in never)
+
+not_at_most : (x y : ℤ) → int_le y x ≡ false → int_lt x y ≡ true
+not_at_most x y h = grind (arith, ints)
+
+less_of : (u v : Option Value) (a b : ℕ) → u ≡ Some (Integer a) → v ≡ Some (Integer b) → int_lt (cast_signed w32 (a % 2 ^ 32)) (cast_signed w32 (b % 2 ^ 32)) ≡ true → Less u v
+less_of u v a b e f h = subst (λ (x : Option Value). Less x v) (sym e) (subst (λ (y : Option Value). Less (Some (Integer a)) y) (sym f) h)
+
+abbrev LessOf : Class → Option Value → Option Value → Type 0
+LessOf W u v = Less u v
+LessOf L u v = LessLong u v
+
+abbrev Ordered : List Value → Values ℕ → Option Order → Type 0
+Ordered globals values None = Unit {0}
+Ordered globals values (Some o) = LessOf o.class (value_of globals values o.less) (value_of globals values o.more)
+
+-- longs that are compared are numbers, or it says nothing
+abbrev LongAnswer : Condition → Option Value → Option Value → ℕ → Type 0
+LongAnswer on (Some (Integer a)) (Some (Integer b)) n = n ≡ truth (holds on L a b)
+LongAnswer on (Some u) None n = ⊥
+LongAnswer on None v n = ⊥
+LongAnswer on u v n = Unit {0}
+
+long_answer : (m : Memory) (on : Condition) (u v : Option Value) (n : ℕ) → operated m (Compare on L) u v ≡ Some (Integer n) → LongAnswer on u v n
+unfolding operate operate_two
+long_answer m on (Some (Integer a)) (Some (Integer b)) n h = by (truth (holds on L a b)) h
+  where
+    by : (k : ℕ) → Some (Integer k) ≡ Some (Integer n) → n ≡ k
+    by k e = cc
+long_answer m on (Some (Integer a)) (Some (Pointer b o)) n h = tt
+long_answer m on (Some (Integer a)) (Some (Function g)) n h = tt
+long_answer m on (Some (Pointer b o)) (Some v) n h = tt
+long_answer m on (Some (Function f)) (Some v) n h = tt
+long_answer m on (Some (Integer a)) None n h = absurd (let no : ⊥ = cc in no)
+long_answer m on (Some (Pointer b o)) None n h = absurd (let no : ⊥ = cc in no)
+long_answer m on (Some (Function f)) None n h = absurd (let no : ⊥ = cc in no)
+long_answer m on None v n h = absurd (let no : ⊥ = cc in no)
+
+-- the numbers of the one and of the other, where both are
+long_less : (on : Condition) (u v : Option Value) (n : ℕ) → ((a b : ℕ) → n ≡ truth (holds on L a b) → int_lt (cast_signed w64 a) (cast_signed w64 b) ≡ true) → LongAnswer on u v n → LessLong u v
+long_less on (Some (Integer a)) (Some (Integer b)) n less h = less a b h
+long_less on (Some (Integer a)) (Some (Pointer b o)) n less h = tt
+long_less on (Some (Integer a)) (Some (Function g)) n less h = tt
+long_less on (Some (Integer a)) None n less h = absurd h
+long_less on (Some (Pointer b o)) v n less h = tt
+long_less on (Some (Function f)) v n less h = tt
+long_less on None v n less h = tt
+
+long_more : (on : Condition) (u v : Option Value) (n : ℕ) → ((a b : ℕ) → n ≡ truth (holds on L a b) → int_lt (cast_signed w64 b) (cast_signed w64 a) ≡ true) → LongAnswer on u v n → LessLong v u
+long_more on (Some (Integer a)) (Some (Integer b)) n more h = more a b h
+long_more on (Some (Pointer c o)) (Some (Integer b)) n more h = tt
+long_more on (Some (Function g)) (Some (Integer b)) n more h = tt
+long_more on None (Some (Integer b)) n more h = absurd h
+long_more on u (Some (Pointer b o)) n more h = tt
+long_more on u (Some (Function f)) n more h = tt
+long_more on u None n more h = tt
+
+abbrev comparing : List Value → Memory → Values ℕ → Condition → Class → (a b : Operand ℕ) → Option Value
+comparing globals m values on k a b = operated m (Compare on k) (value_of globals values a) (value_of globals values b)
+
+met_true : (globals : List Value) (m : Memory) (values : Values ℕ) (on : Condition) (k : Class) (a b : Operand ℕ) (n : ℕ) → comparing globals m values on k a b ≡ Some (Integer n) → nat_eq n 0 ≡ false → Ordered globals values (order_met on k a b)
+met_true globals m values SignedLess W a b n h some =
+    let is = numbers_compared m SignedLess (value_of globals values a) (value_of globals values b) n h in
+    less_of (value_of globals values a) (value_of globals values b) is.left is.right is.first is.second (it_holds (int_lt (cast_signed w32 (is.left % 2 ^ 32)) (cast_signed w32 (is.right % 2 ^ 32))) n is.answer some)
+met_true globals m values SignedGreater W a b n h some =
+    let is = numbers_compared m SignedGreater (value_of globals values a) (value_of globals values b) n h in
+    less_of (value_of globals values b) (value_of globals values a) is.right is.left is.second is.first (it_holds (int_lt (cast_signed w32 (is.right % 2 ^ 32)) (cast_signed w32 (is.left % 2 ^ 32))) n is.answer some)
+met_true globals m values SignedLess L a b n h some =
+    long_less SignedLess (value_of globals values a) (value_of globals values b) n (λ x y e. it_holds (int_lt (cast_signed w64 x) (cast_signed w64 y)) n e some) (long_answer m SignedLess (value_of globals values a) (value_of globals values b) n h)
+met_true globals m values SignedGreater L a b n h some =
+    long_more SignedGreater (value_of globals values a) (value_of globals values b) n (λ x y e. it_holds (int_lt (cast_signed w64 y) (cast_signed w64 x)) n e some) (long_answer m SignedGreater (value_of globals values a) (value_of globals values b) n h)
+met_true globals m values Equal k a b n h some = tt
+met_true globals m values NotEqual k a b n h some = tt
+met_true globals m values SignedLessEqual k a b n h some = tt
+met_true globals m values SignedGreaterEqual k a b n h some = tt
+met_true globals m values UnsignedLessEqual k a b n h some = tt
+met_true globals m values UnsignedLess k a b n h some = tt
+met_true globals m values UnsignedGreaterEqual k a b n h some = tt
+met_true globals m values UnsignedGreater k a b n h some = tt
+
+missed_true : (globals : List Value) (m : Memory) (values : Values ℕ) (on : Condition) (k : Class) (a b : Operand ℕ) (n : ℕ) → comparing globals m values on k a b ≡ Some (Integer n) → nat_eq n 0 ≡ true → Ordered globals values (order_missed on k a b)
+missed_true globals m values SignedGreaterEqual W a b n h none =
+    let is = numbers_compared m SignedGreaterEqual (value_of globals values a) (value_of globals values b) n h in
+    let x = cast_signed w32 (is.left % 2 ^ 32) in
+    let y = cast_signed w32 (is.right % 2 ^ 32) in
+    less_of (value_of globals values a) (value_of globals values b) is.left is.right is.first is.second (not_at_most x y (it_fails (int_le y x) n is.answer none))
+missed_true globals m values SignedLessEqual W a b n h none =
+    let is = numbers_compared m SignedLessEqual (value_of globals values a) (value_of globals values b) n h in
+    let x = cast_signed w32 (is.left % 2 ^ 32) in
+    let y = cast_signed w32 (is.right % 2 ^ 32) in
+    less_of (value_of globals values b) (value_of globals values a) is.right is.left is.second is.first (not_at_most y x (it_fails (int_le x y) n is.answer none))
+missed_true globals m values SignedGreaterEqual L a b n h none =
+    long_less SignedGreaterEqual (value_of globals values a) (value_of globals values b) n (λ x y e. not_at_most (cast_signed w64 x) (cast_signed w64 y) (it_fails (int_le (cast_signed w64 y) (cast_signed w64 x)) n e none))
+    (long_answer m SignedGreaterEqual (value_of globals values a) (value_of globals values b) n h)
+missed_true globals m values SignedLessEqual L a b n h none =
+    long_more SignedLessEqual (value_of globals values a) (value_of globals values b) n (λ x y e. not_at_most (cast_signed w64 y) (cast_signed w64 x) (it_fails (int_le (cast_signed w64 x) (cast_signed w64 y)) n e none))
+    (long_answer m SignedLessEqual (value_of globals values a) (value_of globals values b) n h)
+missed_true globals m values Equal k a b n h none = tt
+missed_true globals m values NotEqual k a b n h none = tt
+missed_true globals m values SignedLess k a b n h none = tt
+missed_true globals m values SignedGreater k a b n h none = tt
+missed_true globals m values UnsignedLessEqual k a b n h none = tt
+missed_true globals m values UnsignedLess k a b n h none = tt
+missed_true globals m values UnsignedGreaterEqual k a b n h none = tt
+missed_true globals m values UnsignedGreater k a b n h none = tt
+
+limit_true : (globals : List Value) (m : Memory) (values : Values ℕ) (facts : List Fact) → AreTrue globals m values facts → (a : Operand ℕ) → is_limit facts a ≡ true → IsWord (value_of globals values a)
+limit_true globals m values facts all (At r) h = word_true globals m values facts all r h
+limit_true globals m values facts all (Number n) h = number_stands n h
+limit_true globals m values facts all (Name g) h = absurd (let no : ⊥ = cc in no)
+
+bounds_true : (globals : List Value) (m : Memory) (values : Values ℕ) (facts : List Fact) → AreTrue globals m values facts → (order : Option Order) (r : ℕ) → Ordered globals values order → bounds facts order r ≡ true → IsWord (values r) → grows 1 (values r) ≡ true
+bounds_true globals m values facts all None r order h word = absurd (let no : ⊥ = cc in no)
+bounds_true globals m values facts all (Some o) r order h word =
+    let s = and_parts (names r o.less) (limits facts o.class o.more) h in
+    by o.class (subst (λ (v : Option Value). LessOf o.class v (value_of globals values o.more)) (same o.less s.0) order) s.1
+  where
+    same : (a : Operand ℕ) → names r a ≡ true → value_of globals values a ≡ values r
+    same (At q) h = ap values (eqb-true q r h)
+    same (Number n) h = absurd (let no : ⊥ = cc in no)
+    same (Name g) h = absurd (let no : ⊥ = cc in no)
+
+    by : (k : Class) → LessOf k (values r) (value_of globals values o.more) → limits facts k o.more ≡ true → grows 1 (values r) ≡ true
+    by W less h = less_grows (values r) (value_of globals values o.more) word less
+    by L less h = less_long_grows (values r) (value_of globals values o.more) word (limit_true globals m values facts all o.more h) less
+
+is_true : (globals : List Value) (m : Memory) (values : Values ℕ) (facts : List Fact) (order : Option Order) (f : Fact) → AreTrue globals m values facts → Ordered globals values order → IsKnown facts order f → IsTrueOf globals m values f
+is_true globals m values facts order f all holds (Listed is) = true_at globals m values facts is.0 f all is.1
+is_true globals m values facts order f all holds (OfCopies {r = r} {e = e} is) =
+    sym (canonical_same globals m values facts all e) ∙ true_at globals m values facts is.0 (record { register = r; value = canonical facts e }) all is.1
+is_true globals m values facts order f all holds (Bounded {r = r} less word) =
+    ap (λ (b : Bool). only_if b (values r)) (bounds_true globals m values facts all order r holds less (word_true globals m values facts all r word))
+
+all_true : (globals : List Value) (m : Memory) (values : Values ℕ) (facts : List Fact) (order : Option Order) (wanted : List Fact) → AreTrue globals m values facts → Ordered globals values order → AllKnown facts order wanted → AreTrue globals m values wanted
+all_true globals m values facts order [] all holds known = tt
+all_true globals m values facts order (f ∷ wanted) all holds known =
+    (is_true globals m values facts order f all holds known.0, all_true globals m values facts order wanted all holds known.1)
+
 leads_known : (claims : List (List Fact)) (facts : List Fact) (j : Jump ℕ) → LeadsWell claims facts j → (globals : List Value) (result : Option Class) (memory : Memory) (values : Values ℕ) → AreTrue globals memory values facts
     → Claimed (known claims) globals memory values (way globals result memory values j)
-leads_known claims facts (Goto k) leads globals result memory values all = all_true globals memory values facts (claims_at claims k) all leads
+leads_known claims facts (Goto k) leads globals result memory values all = all_true globals memory values facts None (claims_at claims k) all tt leads
 leads_known claims facts (Branch on met otherwise) leads globals result memory values all =
-    branch (operated memory (Compare on.condition on.class) (value_of globals values on.left) (value_of globals values on.right))
+    branch (comparing globals memory values on.condition on.class on.left on.right) refl
   where
-    branch : (o : Option Value) → Claimed (known claims) globals memory values (entering met otherwise o)
-    branch None = tt
-    branch (Some (Pointer b k)) = tt
-    branch (Some (Function g)) = tt
-    branch (Some (Integer k)) = by (nat_eq k 0)
+    branch : (o : Option Value) → comparing globals memory values on.condition on.class on.left on.right ≡ o → Claimed (known claims) globals memory values (entering met otherwise o)
+    branch None e = tt
+    branch (Some (Pointer b k)) e = tt
+    branch (Some (Function g)) e = tt
+    branch (Some (Integer k)) e = by (nat_eq k 0) refl
       where
-        by : (b : Bool) → AreTrue globals memory values (claims_at claims (if b then otherwise else met))
-        by true = all_true globals memory values facts (claims_at claims otherwise) all leads.1
-        by false = all_true globals memory values facts (claims_at claims met) all leads.0
+        by : (b : Bool) → nat_eq k 0 ≡ b → AreTrue globals memory values (claims_at claims (if b then otherwise else met))
+        by true t =
+            all_true globals memory values facts (order_missed on.condition on.class on.left on.right) (claims_at claims otherwise) all (missed_true globals memory values on.condition on.class on.left on.right k e t)
+            leads.1
+        by false t =
+            all_true globals memory values facts (order_met on.condition on.class on.left on.right) (claims_at claims met) all (met_true globals memory values on.condition on.class on.left on.right k e t) leads.0
 leads_known claims facts (Return None) leads globals result memory values all = tt
 leads_known claims facts (Return (Some a)) leads globals None memory values all = tt
 leads_known claims facts (Return (Some a)) leads globals (Some k) memory values all = answers (read_result globals values k a)

@@ -1,24 +1,28 @@
 -- What registers are known to hold before a line, and behind it.
-use Rattle.std.specs.Prelude.{◌≡◌, ℕ, Bool, true, false, not, ◌&&◌, ◌||◌, nat_eq, nat_lt, if◌then◌else◌, List, [], ◌∷◌, ◌++◌, filter, length, Option, Some, None}
+use Rattle.std.specs.Prelude.{◌≡◌, ℕ, ◌%◌, ◌^◌, Bool, true, false, not, ◌&&◌, ◌||◌, nat_eq, if◌then◌else◌, List, [], ◌∷◌, Option, Some, None}
 use Rattle.std.specs.Option.{option_and_then}
 use Rattle.il_ast.specs.declared.value.Value.{Value}
+use Rattle.il_ast.specs.declared.value.Value.TheVariants.{Integer}
 use Rattle.il_ast.specs.Memory.{Memory}
 use Rattle.vcode.specs.declared.place.Operand.{Operand}
 use Rattle.vcode.specs.declared.place.Operand.TheVariants.{At, Number}
 use Rattle.vcode.specs.declared.line.Line.{Line}
 use Rattle.vcode.specs.declared.line.Line.TheVariants.{Set, Operate, Load, Store, Alloc, Blit, Call}
 use Rattle.vcode.specs.declared.line.Operation.{Operation}
-use Rattle.vcode.specs.declared.line.Operation.TheVariants.{Reg, Compare}
+use Rattle.vcode.specs.declared.line.Operation.TheVariants.{Reg, RegW, Compare}
 use Rattle.rv_isa.specs.declared.instruction.RegOp.{RegOp}
-use Rattle.rv_isa.specs.declared.instruction.RegOp.TheVariants.{Add, Sll, Srl, Sra}
+use Rattle.rv_isa.specs.declared.instruction.RegOp.TheVariants.{Add, Sll, Srl, Sra, Mul}
+use Rattle.rv_isa.specs.declared.instruction.RegWOp.{RegWOp}
+use Rattle.rv_isa.specs.declared.instruction.RegWOp.TheVariants.{Addw}
+use Rattle.rv_isa.specs.Arithmetic.{reg_value, regw_value}
 use Rattle.vcode.specs.Addresses.{distance}
 use Rattle.vcode.specs.Operations.{loaded}
 use Rattle.vcode.specs.Step.{value_of, operated}
 use Rattle.vcode.specs.Places.{Values}
 use Rattle.vcode.specs.Writes.{line_writes}
-use Rattle.vcode.specs.Acts.{Act, Gives, given}
+use Rattle.vcode.specs.Acts.{Act, Fails, Gives, given}
 use Rattle.value_numbering.specs.declared.fact.Expression.{Expression}
-use Rattle.value_numbering.specs.declared.fact.Expression.TheVariants.{Same, Operated, Extended, Loaded}
+use Rattle.value_numbering.specs.declared.fact.Expression.TheVariants.{Same, Operated, Extended, Loaded, Linear, Growing}
 use Rattle.value_numbering.specs.declared.fact.Fact.{Fact}
 
 -- ---- what expressions give
@@ -28,6 +32,23 @@ abbrev pub reached : List Value → Memory → Values ℕ → Operand ℕ → (d
 reached globals m values a d =
     if nat_eq d 0 then value_of globals values a
     else operated m (Reg Add) (value_of globals values a) (value_of globals values (Number d))
+
+-- so many times the index beyond the base, and an offset more
+abbrev pub linear : Memory → (base index : Option Value) → (factor offset : ℕ) → Option Value
+linear m b i c o =
+    operated m (Reg Add)
+    (operated m (Reg Add) b (operated m (Reg Mul) i (Some (Integer (c % 2 ^ 64)))))
+    (Some (Integer (o % 2 ^ 64)))
+
+-- the number added to it as a word gives what it gives added to it as a long
+abbrev pub grows : (number : ℕ) → Option Value → Bool
+grows n None = true
+grows n (Some (Integer k)) = nat_eq (regw_value Addw k (n % 2 ^ 64)) (reg_value Add k (n % 2 ^ 64))
+grows n (Some v) = false
+
+abbrev pub only_if : Bool → Option Value → Act
+only_if true o = Gives o
+only_if false o = Fails
 
 abbrev pub gives : List Value → Memory → Values ℕ → Expression → Act
 gives globals m values (Same a) = Gives (value_of globals values a)
@@ -40,6 +61,10 @@ gives globals m values (Extended back a n) =
     (value_of globals values (Number n)))
 gives globals m values (Loaded op a d) =
     given (option_and_then (loaded m op) (reached globals m values a d))
+gives globals m values (Linear b i c o) =
+    Gives (linear m (value_of globals values b) (value_of globals values i) c o)
+gives globals m values (Growing a n) =
+    only_if (grows n (value_of globals values a)) (value_of globals values a)
 
 abbrev pub IsTrueOf : List Value → Memory → Values ℕ → Fact → Type 0
 IsTrueOf globals m values f = gives globals m values f.value ≡ Gives (values f.register)
@@ -63,6 +88,8 @@ reads r (Same a) = names r a
 reads r (Operated op a b) = names r a || names r b
 reads r (Extended back a n) = names r a
 reads r (Loaded op a d) = names r a
+reads r (Linear b i c o) = names r b || names r i
+reads r (Growing a n) = names r a
 
 -- a comparison asks which blocks of memory live
 abbrev pub asks_memory : Expression → Bool
@@ -134,8 +161,24 @@ extended facts op r n =
     if is_back op then extended_by op r n (shifted facts r n)
     else Operated (Reg op) (At r) (Number n)
 
+abbrev pub grows_as : Expression → (number : ℕ) → Bool
+grows_as (Growing a k) n = nat_eq k n
+grows_as e n = false
+
+-- it is known that the number added to the register as a word gives what it gives as a long
+abbrev pub grows_in : List Fact → ℕ → (number : ℕ) → Bool
+grows_in [] r n = false
+grows_in (f ∷ facts) r n =
+    if nat_eq f.register r && grows_as f.value n then true else grows_in facts r n
+
+-- a sum of words, as one of longs where that is the same
+abbrev pub widened : RegWOp → ℕ → ℕ → (grows : Bool) → Expression
+widened Addw r n true = Operated (Reg Add) (At r) (Number n)
+widened op r n b = Operated (RegW op) (At r) (Number n)
+
 abbrev pub joined : List Fact → Operation → (left right : Operand ℕ) → Expression
 joined facts (Reg op) (At r) (Number n) = extended facts op r n
+joined facts (RegW op) (At r) (Number n) = widened op r n (grows_in facts r n)
 joined facts op a b = Operated op a b
 
 abbrev pub canonical : List Fact → Expression → Expression
@@ -143,23 +186,23 @@ canonical facts (Same a) = Same (copied facts a)
 canonical facts (Operated op a b) = joined facts op (copied facts a) (copied facts b)
 canonical facts (Extended back a n) = Extended back (copied facts a) n
 canonical facts (Loaded op a d) = Loaded op (copied facts a) d
+canonical facts (Linear b i c o) = Linear (copied facts b) (copied facts i) c o
+canonical facts (Growing a n) = Growing (copied facts a) n
 
 -- ---- what is known behind a line
 
+-- a number or a name, which no other register stands for
+abbrev pub is_plain : Expression → Bool
+is_plain (Same (At q)) = false
+is_plain (Same a) = true
+is_plain e = false
+
 -- nothing where the register is written that is read
 abbrev pub kept_fact : Fact → Option Fact
-kept_fact f = if reads f.register f.value then None else Some f
+kept_fact f = if reads f.register f.value || is_plain f.value then None else Some f
 
 abbrev pub known_by : List Fact → Line ℕ → Option Fact
 known_by facts l =
     option_and_then
     (λ f. kept_fact (record { register = f.register; value = canonical facts f.value }))
     (computed l)
-
--- one more, if fewer than 64 are known
-abbrev pub with_fact : Option Fact → List Fact → List Fact
-with_fact None facts = facts
-with_fact (Some f) facts = if nat_lt (length facts) 64 then facts ++ f ∷ [] else facts
-
-abbrev pub after : Line ℕ → List Fact → List Fact
-after l facts = with_fact (known_by facts l) (filter (stays l) facts)

@@ -2,3 +2,4 @@ pub mod Known
 pub mod Narrow
 pub mod Regrouped
 pub mod Reused
+pub mod Steps

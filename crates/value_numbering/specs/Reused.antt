@@ -1,8 +1,8 @@
 -- Code in which lines that compute what a register holds are copies of it.
-use Rattle.std.specs.Prelude.{◌≡◌, ℕ, ◌+◌, ◌<◌, Bool, true, false, List, [], ◌∷◌, slice_get, Some}
+use Rattle.std.specs.Prelude.{◌≡◌, ℕ, ◌+◌, ◌<◌, Bool, true, false, ◌&&◌, List, [], ◌∷◌, slice_get, Option, Some, None}
 use Rattle.std.specs.Option.{option_map_or}
 use Rattle.vcode.specs.declared.place.Operand.{Operand}
-use Rattle.vcode.specs.declared.place.Operand.TheVariants.{At, Number}
+use Rattle.vcode.specs.declared.place.Operand.TheVariants.{At, Number, Name}
 use Rattle.vcode.specs.declared.line.Line.{Line}
 use Rattle.vcode.specs.declared.line.Line.TheVariants.{Set, Operate, Store}
 use Rattle.vcode.specs.declared.line.Operation.TheVariants.{Reg}
@@ -11,11 +11,18 @@ use Rattle.vcode.specs.declared.line.Jump.{Jump}
 use Rattle.vcode.specs.declared.line.Jump.TheVariants.{Goto, Branch, Return, Halt}
 use Rattle.vcode.specs.declared.code.Block.{Block}
 use Rattle.value_numbering.specs.declared.fact.Expression.{Expression}
-use Rattle.value_numbering.specs.declared.fact.Expression.TheVariants.{Same, Operated, Extended, Loaded}
+use Rattle.value_numbering.specs.declared.fact.Expression.TheVariants.{Same, Operated, Extended, Loaded, Linear, Growing}
 use Rattle.value_numbering.specs.declared.fact.Fact.{Fact}
 use Rattle.il_ast.specs.declared.operation.Size.{Size}
 use Rattle.vcode.specs.declared.place.Address.{Address}
-use Rattle.value_numbering.specs.Known.{computed, canonical, after}
+use Rattle.il_ast.specs.declared.operation.Class.TheVariants.{W, L}
+use Rattle.il_ast.specs.declared.operation.Class.{Class}
+use Rattle.il_ast.specs.declared.operation.Condition.{Condition}
+use Rattle.il_ast.specs.declared.operation.Condition.TheVariants.{SignedLessEqual, SignedLess, SignedGreaterEqual, SignedGreater}
+use Rattle.vcode.specs.declared.line.Comparison.{Comparison}
+use Rattle.value_numbering.specs.declared.ways.Order.{Order}
+use Rattle.value_numbering.specs.Known.{computed, names, canonical}
+use Rattle.value_numbering.specs.Steps.{linear_in, stands, is_word, after}
 use Rattle.value_numbering.specs.Narrow.{IsNarrow, IsItself}
 use Rattle.value_numbering.specs.Regrouped.{IsRegrouped}
 
@@ -32,35 +39,76 @@ is_dear (Same a) = false
 is_dear (Operated op a b) = true
 is_dear (Extended op a n) = true
 is_dear (Loaded op a d) = is_no_number a
+is_dear e = false
 
 -- the register holds what the expression gives
 pub data Holds (facts : List Fact) (r : ℕ) (e : Expression) : Type 0 where
   Found : IsIn (record { register = r; value = e }) facts → Holds facts r e
   Small : IsItself facts r e → Holds facts r e
+  Counted : {l : Expression} → linear_in facts e ≡ Some l → IsIn (record { register = r; value = l }) facts → Holds facts r e
 
 -- a line itself; or a copy of a register of the function that holds what the line computes; or a
 -- store of a register that has the bits that are stored; or a sum of three, of which the sum of two
--- is known
+-- is known; or one of these in the place of another
 pub data Made (registers : ℕ) (facts : List Fact) : Line ℕ → Line ℕ → Type 0 where
   Itself : {l : Line ℕ} → Made registers facts l l
   Copy : {l : Line ℕ} {f : Fact} {r : ℕ} → computed l ≡ Some f → is_dear f.value ≡ true → r < registers → Holds facts r (canonical facts f.value) → Made registers facts l (Set f.register (At r))
   Narrow : {size : Size} {a : Operand ℕ} {at : Address ℕ} {q : ℕ} → IsNarrow facts size a q → q < registers → Made registers facts (Store size a at) (Store size (At q) at)
   FirstRegrouped : {to y added part rest : ℕ} → IsRegrouped registers facts y added part rest → Made registers facts (Operate to (Reg Add) (At y) (At added)) (Operate to (Reg Add) (At part) (At rest))
   SecondRegrouped : {to y added part rest : ℕ} → IsRegrouped registers facts y added part rest → Made registers facts (Operate to (Reg Add) (At added) (At y)) (Operate to (Reg Add) (At part) (At rest))
+  Again : {l k m : Line ℕ} → Made registers facts l k → Made registers facts k m → Made registers facts l m
 
 -- the facts claimed where a block begins
 abbrev pub claims_at : List (List Fact) → ℕ → List Fact
 claims_at claims k = option_map_or (λ (facts : List Fact). facts) (slice_get claims k) []
 
-abbrev pub AllIn : List Fact → List Fact → Type 0
-AllIn [] facts = Unit {0}
-AllIn (f ∷ wanted) facts = IsIn f facts × AllIn wanted facts
+-- ---- what a jump says
+
+-- which of two operands is less, as signed numbers of the class, where the comparison holds
+abbrev pub order_met : Condition → Class → (left right : Operand ℕ) → Option Order
+order_met SignedLess k a b = Some (record { class = k; less = a; more = b })
+order_met SignedGreater k a b = Some (record { class = k; less = b; more = a })
+order_met on k a b = None
+
+-- ... where it doesn't hold
+abbrev pub order_missed : Condition → Class → (left right : Operand ℕ) → Option Order
+order_missed SignedGreaterEqual k a b = Some (record { class = k; less = a; more = b })
+order_missed SignedLessEqual k a b = Some (record { class = k; less = b; more = a })
+order_missed on k a b = None
+
+-- the operand is known to be a word that stands extended
+abbrev pub is_limit : List Fact → Operand ℕ → Bool
+is_limit facts (At r) = is_word facts r
+is_limit facts (Number n) = stands n
+is_limit facts (Name g) = false
+
+-- what is less as a number of this class is less than a word
+abbrev pub limits : List Fact → Class → Operand ℕ → Bool
+limits facts W a = true
+limits facts L a = is_limit facts a
+
+-- the register is said to be less than a word
+abbrev pub bounds : List Fact → Option Order → ℕ → Bool
+bounds facts (Some o) r = names r o.less && limits facts o.class o.more
+bounds facts None r = false
+
+-- the fact is known, or it is known of registers that are no copies, or a word that stands extended
+-- is less than another, so that one more is no less as a word than as a long
+pub data IsKnown (facts : List Fact) (order : Option Order) : Fact → Type 0 where
+  Listed : {f : Fact} → IsIn f facts → IsKnown facts order f
+  OfCopies : {r : ℕ} {e : Expression} → IsIn (record { register = r; value = canonical facts e }) facts → IsKnown facts order (record { register = r; value = e })
+  Bounded : {r : ℕ} → bounds facts order r ≡ true → is_word facts r ≡ true → IsKnown facts order (record { register = r; value = Growing (At r) 1 })
+
+abbrev pub AllKnown : List Fact → Option Order → (wanted : List Fact) → Type 0
+AllKnown facts order [] = Unit {0}
+AllKnown facts order (f ∷ wanted) = IsKnown facts order f × AllKnown facts order wanted
 
 -- what is claimed of each block that a jump may lead to is known
 abbrev pub LeadsWell : List (List Fact) → List Fact → Jump ℕ → Type 0
-LeadsWell claims facts (Goto k) = AllIn (claims_at claims k) facts
+LeadsWell claims facts (Goto k) = AllKnown facts None (claims_at claims k)
 LeadsWell claims facts (Branch on met otherwise) =
-    AllIn (claims_at claims met) facts × AllIn (claims_at claims otherwise) facts
+    AllKnown facts (order_met on.condition on.class on.left on.right) (claims_at claims met)
+    × AllKnown facts (order_missed on.condition on.class on.left on.right) (claims_at claims otherwise)
 LeadsWell claims facts (Return a) = Unit {0}
 LeadsWell claims facts Halt = Unit {0}
 

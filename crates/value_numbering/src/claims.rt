@@ -1,13 +1,13 @@
 //! Which facts are claimed where blocks begin. It is a guess: whether they are known there is tested where they are used.
-use crate::fact::Fact;
-use crate::known::pass;
-use crate::lines::copy;
-use crate::regroup::regrouped_line;
-use crate::same::same_fact;
+use crate::fact::{Expression, Fact};
+use crate::lines::changed;
+use crate::steps::{is_word, pass};
+use crate::ways::{Order, bounds, is_known, order_met, order_missed};
 use il_ast::list::Seq;
 use std::alloc::{AllocError, Global};
 use vcode::code::Block;
 use vcode::line::{Jump, Line};
+use vcode::place::Operand;
 
 /// How many facts are claimed of a block, at most.
 const CLAIMS: usize = 32;
@@ -22,38 +22,131 @@ struct Claim {
 }
 
 fn pass_lines(
+    alloc: Global,
     facts: &mut Vec<Fact>,
     registers: u32,
     lines: &[Line<u32>],
 ) -> Result<(), AllocError> {
     for line in lines {
-        match copy(facts.as_slice(), registers, line) {
-            Some(copy) => pass(facts, &copy)?,
-            None => match regrouped_line(facts.as_slice(), registers, line) {
-                Some(sum) => pass(facts, &sum)?,
-                None => pass(facts, line)?,
-            },
+        match changed(facts.as_slice(), registers, line) {
+            Some(changed) => pass(alloc, facts, &changed)?,
+            None => pass(alloc, facts, line)?,
         }
     }
     Ok(())
 }
 
-fn has(facts: &[Fact], wanted: &Fact) -> bool {
-    facts.iter().any(|fact| same_fact(fact, wanted))
+/// One fact more, if few are claimed.
+fn push_claim(known: &mut Vec<Fact>, fact: Fact) -> Result<(), AllocError> {
+    if known.len() < CLAIMS {
+        known.extend_from_slice(&[fact])?;
+    }
+    Ok(())
+}
+
+/// The word that is less than another, as one that may grow.
+fn growing(facts: &[Fact], order: &Option<Order>) -> Option<Fact> {
+    let register = match order {
+        Some(
+            Order {
+                less: Operand::At(register),
+                ..
+            },
+        ) => *register,
+        _ => return None,
+    };
+    if bounds(facts, order, register) && is_word(facts, register) {
+        Some(Fact {
+            register,
+            value: Expression::Growing(Operand::At(register), 1),
+        })
+    } else {
+        None
+    }
+}
+
+/// What is linear in a register, as what is linear in a copy of that.
+fn of_copy(linear: &Fact, copy: &Fact) -> Option<Fact> {
+    match (linear.value, copy.value) {
+        (
+            Expression::Linear(base, Operand::At(index), factor, offset),
+            Expression::Same(Operand::At(from)),
+        ) => {
+            if from == index {
+                let value = Expression::Linear(base, Operand::At(copy.register), factor, offset);
+                Some(Fact {
+                    register: linear.register,
+                    value,
+                })
+            } else {
+                None
+            }
+        }
+        _ => None,
+    }
+}
+
+fn claim_copies(known: &mut Vec<Fact>, facts: &[Fact], linear: &Fact) -> Result<(), AllocError> {
+    for fact in facts {
+        if let Some(other) = of_copy(linear, fact) {
+            push_claim(known, other)?;
+        }
+    }
+    Ok(())
+}
+
+/// How many kinds of facts are claimed before this one.
+fn rank(fact: &Fact) -> u32 {
+    match fact.value {
+        Expression::Linear(_, _, _, _) | Expression::Growing(_, _) => 0,
+        Expression::Same(_) => 2,
+        _ => 1,
+    }
+}
+
+fn claim_rank(known: &mut Vec<Fact>, facts: &[Fact], wanted: u32) -> Result<(), AllocError> {
+    for fact in facts {
+        if rank(fact) == wanted {
+            push_claim(known, *fact)?;
+        }
+    }
+    Ok(())
+}
+
+/// What is claimed by what is known on the first way to a block; what is linear before all else.
+fn first_claim(
+    alloc: Global,
+    facts: &[Fact],
+    order: &Option<Order>,
+) -> Result<Vec<Fact>, AllocError> {
+    let mut known = Vec::new(alloc);
+    if let Some(fact) = growing(facts, order) {
+        push_claim(&mut known, fact)?;
+    }
+    claim_rank(&mut known, facts, 0)?;
+    for fact in facts {
+        claim_copies(&mut known, facts, fact)?;
+    }
+    claim_rank(&mut known, facts, 1)?;
+    claim_rank(&mut known, facts, 2)?;
+    Ok(known)
 }
 
 /// One more way leads to the block, on which these facts are known; says whether that changes what is claimed.
-fn meet(alloc: Global, claim: &mut Claim, facts: &[Fact]) -> Result<bool, AllocError> {
+fn meet(
+    alloc: Global,
+    claim: &mut Claim,
+    facts: &[Fact],
+    order: &Option<Order>,
+) -> Result<bool, AllocError> {
     match &mut claim.facts {
         Some(known) => {
             let before = known.len();
-            known.retain(|fact| has(facts, fact));
+            known.retain(|fact| is_known(facts, order, fact));
             Ok(known.len() != before)
         }
         None => {
-            let mut known = Vec::new(alloc);
-            known.extend_from_slice(&facts[..facts.len().min(CLAIMS)])?;
-            claim.facts = Some(known);
+            claim.facts = Some(first_claim(alloc, facts, order)?);
             Ok(true)
         }
     }
@@ -64,9 +157,10 @@ fn meet_at(
     claims: &mut [Claim],
     block: usize,
     facts: &[Fact],
+    order: &Option<Order>,
 ) -> Result<bool, AllocError> {
     match claims.get_mut(block) {
-        Some(claim) => meet(alloc, claim, facts),
+        Some(claim) => meet(alloc, claim, facts, order),
         None => Ok(false),
     }
 }
@@ -78,10 +172,10 @@ fn lead(
     facts: &[Fact],
 ) -> Result<bool, AllocError> {
     match jump {
-        Jump::Goto(block) => meet_at(alloc, claims, *block, facts),
-        Jump::Branch { met, otherwise, .. } => {
-            let first = meet_at(alloc, claims, *met, facts)?;
-            let second = meet_at(alloc, claims, *otherwise, facts)?;
+        Jump::Goto(block) => meet_at(alloc, claims, *block, facts, &None),
+        Jump::Branch { on, met, otherwise } => {
+            let first = meet_at(alloc, claims, *met, facts, &order_met(on))?;
+            let second = meet_at(alloc, claims, *otherwise, facts, &order_missed(on))?;
             Ok(first || second)
         }
         Jump::Return(_) | Jump::Halt => Ok(false),
@@ -115,7 +209,7 @@ fn spread(
     match known_at(alloc, claims, number)? {
         Some(facts) => {
             let mut facts = facts;
-            pass_lines(&mut facts, registers, block.lines.as_slice())?;
+            pass_lines(alloc, &mut facts, registers, block.lines.as_slice())?;
             lead(alloc, claims, &block.jump, facts.as_slice())
         }
         None => Ok(false),

@@ -19,6 +19,10 @@ pub(crate) enum Expression {
     Extended(RegOp, Operand<u32>, u64),
     /// what memory has, so many bytes beyond what the operand holds
     Loaded(LoadOp, Operand<u32>, u64),
+    /// the first operand, and so many times the second one, and a number more
+    Linear(Operand<u32>, Operand<u32>, u64, u64),
+    /// what the operand does, if this number gives the same added to it as a word and as a long
+    Growing(Operand<u32>, u64),
 }
 
 /// A register holds what an expression gives.
@@ -60,7 +64,7 @@ pub(crate) fn computed(line: &Line<u32>) -> Option<Fact>
     }
 }
 
-fn names(register: u32, operand: Operand<u32>) -> bool
+pub(crate) fn names(register: u32, operand: Operand<u32>) -> bool
     ensures { result ≡ names register operand }
 {
     match operand {
@@ -78,6 +82,8 @@ pub(crate) fn reads(register: u32, value: Expression) -> bool
         Expression::Operated(_, left, right) => names(register, left) || names(register, right),
         Expression::Extended(_, operand, _) => names(register, operand),
         Expression::Loaded(_, base, _) => names(register, base),
+        Expression::Linear(base, index, _, _) => names(register, base) || names(register, index),
+        Expression::Growing(operand, _) => names(register, operand),
     }
 }
 

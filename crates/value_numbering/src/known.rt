@@ -1,13 +1,12 @@
 //! The facts that are known at a place of a block.
-ghost use Rattle.std.specs.Prelude.{◌≡◌, ◌<◌, ℕ, true, [], filter, OnOk, IfOk, IfSome, slice_get, None, if◌then◌else◌, nat_eq};
-ghost use Rattle.value_numbering.specs.Known.{copied_from, source, copied, shifted_in, shifted, is_back, extended, joined, canonical, known_by, kept_fact, with_fact, stays, after};
-ghost use Rattle.value_numbering.specs.Reused.{IsIn, AllIn, claims_at};
+ghost use Rattle.std.specs.Prelude.{◌≡◌, ◌<◌, IfSome, None, if◌then◌else◌, nat_eq, ◌&&◌, ◌||◌};
+ghost use Rattle.value_numbering.specs.Known.{copied_from, source, copied, shifted_in, shifted, is_back, extended, grows_as, grows_in, widened, joined, canonical, reads, is_plain, kept_fact};
+ghost use Rattle.value_numbering.specs.Reused.{IsIn};
 
-use crate::fact::{Expression, Fact, computed, reads, stays};
-use crate::same::{same_expression, same_fact};
-use rv_isa::instruction::RegOp;
-use std::alloc::AllocError;
-use vcode::line::{Line, Operation};
+use crate::fact::{Expression, Fact, reads};
+use crate::same::same_expression;
+use rv_isa::instruction::{RegOp, RegWOp};
+use vcode::line::Operation;
 use vcode::place::Operand;
 
 /// The register that a fact says this one is a copy of.
@@ -109,6 +108,45 @@ fn extended(facts: &[Fact], op: RegOp, register: u32, bits: u64) -> Expression
     }
 }
 
+/// Whether an expression says that this number gives the same as a word and as a long.
+fn grows_as(value: Expression, number: u64) -> bool
+    ensures { result ≡ grows_as value number }
+{
+    match value {
+        Expression::Growing(_, by) => by == number,
+        _ => false,
+    }
+}
+
+fn grows_by(fact: Fact, register: u32, number: u64) -> bool
+    ensures { result ≡ (nat_eq fact.register register && grows_as fact.value number) }
+{
+    fact.register == register && grows_as(fact.value, number)
+}
+
+/// Whether it is known that the number added to the register as a word gives what it gives as a long.
+pub(crate) fn grows_in(facts: &[Fact], register: u32, number: u64) -> bool
+    ensures { result ≡ grows_in facts.now register number }
+{
+    for fact in facts {
+        if grows_by(*fact, register, number) {
+            return true;
+        }
+    }
+    false
+}
+
+/// A sum of words, as one of longs where that is the same.
+fn widened(op: RegWOp, register: u32, number: u64, grows: bool) -> Expression
+    ensures { result ≡ widened op register number grows }
+{
+    let operation = match (op, grows) {
+        (RegWOp::Addw, true) => Operation::Reg(RegOp::Add),
+        _ => Operation::RegW(op),
+    };
+    Expression::Operated(operation, Operand::At(register), Operand::Number(number))
+}
+
 fn joined(
     facts: &[Fact],
     operation: Operation,
@@ -121,6 +159,15 @@ fn joined(
         Operation::Reg(op) => match left {
             Operand::At(register) => match right {
                 Operand::Number(bits) => extended(facts, op, register, bits),
+                _ => Expression::Operated(operation, left, right),
+            },
+            _ => Expression::Operated(operation, left, right),
+        },
+        Operation::RegW(op) => match left {
+            Operand::At(register) => match right {
+                Operand::Number(number) => {
+                    widened(op, register, number, grows_in(facts, register, number))
+                }
                 _ => Expression::Operated(operation, left, right),
             },
             _ => Expression::Operated(operation, left, right),
@@ -144,61 +191,39 @@ pub(crate) fn canonical(facts: &[Fact], value: Expression) -> Expression
         Expression::Loaded(op, base, distance) => {
             Expression::Loaded(op, copied(facts, base), distance)
         }
-    }
-}
-
-fn kept_fact(fact: Fact) -> Option<Fact>
-    ensures { result ≡ kept_fact fact }
-{
-    if reads(fact.register, fact.value) {
-        None
-    } else {
-        Some(fact)
-    }
-}
-
-/// What a line makes known.
-fn known_by(facts: &[Fact], line: &Line<u32>) -> Option<Fact>
-    ensures { result ≡ known_by facts.now line.now }
-{
-    match computed(line) {
-        Some(fact) => kept_fact(Fact {
-            register: fact.register,
-            value: canonical(facts, fact.value),
-        }),
-        None => None,
-    }
-}
-
-/// One fact more, if few are known.
-fn note(facts: &mut Vec<Fact>, made: Option<Fact>) -> Result<(), AllocError>
-    ensures { OnOk result (facts.new.items ≡ with_fact made facts.old.items) }
-{
-    if let Some(fact) = made {
-        if facts.len() < 64 {
-            facts.extend_from_slice(&[fact])?;
+        Expression::Linear(base, index, factor, offset) => Expression::Linear(
+            copied(facts, base),
+            copied(facts, index),
+            factor,
+            offset,
+        ),
+        Expression::Growing(operand, number) => {
+            Expression::Growing(copied(facts, operand), number)
         }
     }
-    Ok(())
 }
 
-fn forget(facts: &mut Vec<Fact>, line: &Line<u32>)
-    ensures { facts.new.items ≡ filter (stays line.now) facts.old.items }
+/// Whether a value is a number or a name, which no other register stands for.
+fn is_plain(value: Expression) -> bool
+    ensures { result ≡ is_plain value }
 {
-    facts.retain(|fact| stays(line, *fact));
+    match value {
+        Expression::Same(Operand::At(_)) => false,
+        Expression::Same(_) => true,
+        _ => false,
+    }
 }
 
-/// Takes what is known before a line to what is known behind it.
-///
-/// # Errors
-///
-/// Only where memory was refused.
-pub(crate) fn pass(facts: &mut Vec<Fact>, line: &Line<u32>) -> Result<(), AllocError>
-    ensures { OnOk result (facts.new.items ≡ after line.now facts.old.items) }
+fn is_unused(fact: &Fact) -> bool
+    ensures { result ≡ (reads fact.now.register fact.now.value || is_plain fact.now.value) }
 {
-    let made = known_by(facts.as_slice(), line);
-    forget(facts, line);
-    note(facts, made)
+    reads(fact.register, fact.value) || is_plain(fact.value)
+}
+
+pub(crate) fn kept_fact(fact: Fact) -> Option<Fact>
+    ensures { result ≡ kept_fact fact }
+{
+    if is_unused(&fact) { None } else { Some(fact) }
 }
 
 /// A register of the function that is known to hold what the expression gives.
@@ -212,27 +237,4 @@ pub(crate) fn holder(facts: &[Fact], registers: u32, value: &Expression) -> Opti
         }
     }
     None
-}
-
-fn is_known(facts: &[Fact], wanted: &Fact) -> bool
-    ensures { result ≡ true → IsIn wanted.now facts.now }
-{
-    for fact in facts {
-        if same_fact(fact, wanted) {
-            return true;
-        }
-    }
-    false
-}
-
-/// Whether all these facts are among those that are known.
-pub(crate) fn are_known(facts: &[Fact], wanted: &[Fact]) -> bool
-    ensures { result ≡ true → AllIn wanted.now facts.now }
-{
-    for fact in wanted {
-        if !is_known(facts, fact) {
-            return false;
-        }
-    }
-    true
 }

@@ -6,9 +6,10 @@ ghost use Rattle.value_numbering.specs.Known.{canonical};
 ghost use Rattle.value_numbering.specs.Reused.{is_dear, is_no_number, Holds, Made, LeadsWell, AreReused};
 
 use crate::fact::{Expression, Fact, computed};
-use crate::known::{canonical, holder, pass};
+use crate::known::{canonical, holder};
 use crate::narrow::{itself, narrow};
 use crate::regroup::regrouped_line;
+use crate::steps::{linear_in, pass};
 use rv_isa::instruction::RegOp;
 use std::alloc::{AllocError, Global};
 use vcode::line::{Line, Operation};
@@ -31,6 +32,7 @@ fn is_dear(value: Expression) -> bool
         Expression::Same(_) => false,
         Expression::Operated(_, _, _) | Expression::Extended(_, _, _) => true,
         Expression::Loaded(_, base, _) => is_no_number(base),
+        Expression::Linear(_, _, _, _) | Expression::Growing(_, _) => false,
     }
 }
 
@@ -42,6 +44,20 @@ fn is_worth(value: Expression) -> bool {
     }
 }
 
+/// A register that is known to hold a sum with a product as what is linear in a register that grows.
+fn counted(facts: &[Fact], registers: u32, value: &Expression) -> Option<u32>
+    ensures low { IfSome result (λ r. r < registers) }
+    ensures holds { IfSome result (λ r. Holds facts.now r value.now) }
+{
+    match linear_in(facts, *value) {
+        Some(linear) => match holder(facts, registers, &linear) {
+            Some(register) => Some(register),
+            None => None,
+        },
+        None => None,
+    }
+}
+
 /// A register of the function that holds a value.
 fn held(facts: &[Fact], registers: u32, value: &Expression) -> Option<u32>
     ensures low { IfSome result (λ r. r < registers) }
@@ -49,7 +65,10 @@ fn held(facts: &[Fact], registers: u32, value: &Expression) -> Option<u32>
 {
     match holder(facts, registers, value) {
         Some(register) => Some(register),
-        None => itself(facts, registers, value),
+        None => match itself(facts, registers, value) {
+            Some(register) => Some(register),
+            None => counted(facts, registers, value),
+        },
     }
 }
 
@@ -67,7 +86,7 @@ fn reused(facts: &[Fact], registers: u32, fact: &Fact) -> Option<u32>
 }
 
 /// The copy that may stand in the place of a line.
-pub(crate) fn copy(facts: &[Fact], registers: u32, line: &Line<u32>) -> Option<Line<u32>>
+fn copy(facts: &[Fact], registers: u32, line: &Line<u32>) -> Option<Line<u32>>
     ensures { IfSome result (λ m. Made registers facts.now line.now m) }
 {
     match computed(line) {
@@ -99,6 +118,32 @@ fn narrower(facts: &[Fact], registers: u32, line: &Line<u32>) -> Option<Line<u32
     }
 }
 
+/// A line that adds in another order, or the copy of what that holds.
+fn regrouped(facts: &[Fact], registers: u32, line: &Line<u32>) -> Option<Line<u32>>
+    ensures { IfSome result (λ m. Made registers facts.now line.now m) }
+{
+    match regrouped_line(facts, registers, line) {
+        Some(sum) => match copy(facts, registers, &sum) {
+            Some(copy) => Some(copy),
+            None => Some(sum),
+        },
+        None => None,
+    }
+}
+
+/// The line that may stand in the place of one.
+pub(crate) fn changed(facts: &[Fact], registers: u32, line: &Line<u32>) -> Option<Line<u32>>
+    ensures { IfSome result (λ m. Made registers facts.now line.now m) }
+{
+    match copy(facts, registers, line) {
+        Some(copy) => Some(copy),
+        None => match regrouped(facts, registers, line) {
+            Some(sum) => Some(sum),
+            None => narrower(facts, registers, line),
+        },
+    }
+}
+
 /// A line, or one in its place that does the same.
 fn made(
     alloc: Global,
@@ -108,16 +153,9 @@ fn made(
 ) -> Result<Line<u32>, AllocError>
     ensures { IfOk result (λ m. Made registers facts.now line.now m) }
 {
-    match copy(facts, registers, line) {
-        Some(copy) => return Ok(copy),
-        None => {}
-    }
-    match regrouped_line(facts, registers, line) {
-        Some(sum) => Ok(sum),
-        None => match narrower(facts, registers, line) {
-            Some(narrower) => Ok(narrower),
-            None => line.try_clone(alloc),
-        },
+    match changed(facts, registers, line) {
+        Some(changed) => Ok(changed),
+        None => line.try_clone(alloc),
     }
 }
 
@@ -133,7 +171,7 @@ pub(crate) fn lines(
     let mut all = Vec::new(alloc);
     for line in from {
         let made = made(alloc, facts.as_slice(), registers, line)?;
-        pass(facts, &made)?;
+        pass(alloc, facts, &made)?;
         all.push(made)?;
     }
     Ok(all)

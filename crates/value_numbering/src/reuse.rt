@@ -7,8 +7,8 @@ ghost use Rattle.value_numbering.specs.Reused.{claims_at, LeadsWell, IsReused, A
 
 use crate::claims::claims;
 use crate::fact::Fact;
-use crate::known::are_known;
 use crate::lines::lines;
+use crate::ways::{are_known, order_met, order_missed};
 use il_ast::list::Seq;
 use std::alloc::{AllocError, Global};
 use vcode::code::Block;
@@ -30,10 +30,10 @@ fn leads_well(claims: &[Seq<Fact>], facts: &[Fact], jump: &Jump<u32>) -> bool
     ensures { result ≡ true → LeadsWell claims.now facts.now jump.now }
 {
     match jump {
-        Jump::Goto(block) => are_known(facts, claims_at(claims, *block)),
-        Jump::Branch { met, otherwise, .. } => {
-            are_known(facts, claims_at(claims, *met))
-                && are_known(facts, claims_at(claims, *otherwise))
+        Jump::Goto(block) => are_known(facts, &None, claims_at(claims, *block)),
+        Jump::Branch { on, met, otherwise } => {
+            are_known(facts, &order_met(on), claims_at(claims, *met))
+                && are_known(facts, &order_missed(on), claims_at(claims, *otherwise))
         }
         Jump::Return(_) | Jump::Halt => true,
     }

@@ -59,6 +59,12 @@ pub(crate) fn same_expression(left: &Expression, right: &Expression) -> bool
         (Expression::Loaded(op, a, distance), Expression::Loaded(other, b, far)) => {
             op == other && distance == far && same_operand(a, b)
         }
+        (Expression::Linear(a, i, factor, offset), Expression::Linear(b, j, by, far)) => {
+            factor == by && offset == far && same_operand(a, b) && same_operand(i, j)
+        }
+        (Expression::Growing(a, number), Expression::Growing(b, by)) => {
+            number == by && same_operand(a, b)
+        }
         _ => false,
     }
 }

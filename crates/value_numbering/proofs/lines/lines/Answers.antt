@@ -3,7 +3,7 @@ use Rattle.std.proofs.lemmas.List.{drop_all}
 use Rattle.vcode.specs.declared.line.Line.{Line}
 use Rattle.vcode.proofs.Lists.{append_none}
 use Rattle.value_numbering.specs.declared.fact.Fact.{Fact}
-use Rattle.value_numbering.specs.Known.{after}
+use Rattle.value_numbering.specs.Steps.{after}
 use Rattle.value_numbering.specs.Reused.{Made, AreReused}
 use Rattle.value_numbering.proofs.Making.{append_one, lines_on}
 use Rattle.value_numbering.proofs.lines.lines.Goals as goal

@@ -8,5 +8,5 @@ itself : {E : Type 0} (n : ℕ) (facts : List Fact) (l : Line ℕ) (r : Result (
 itself n facts l (Ok v) same = subst (λ (m : Line ℕ). Made n facts l m) (sym same) Itself
 itself n facts l (Err e) same = tt
 
-pub returns-in-None-narrower : goal.returns-in-None-narrower
-returns-in-None-narrower c = itself c.args.registers c.args.facts.now c.args.line.now c.try_clone.result c.try_clone.ensures
+pub returns-in-None : goal.returns-in-None
+returns-in-None c = itself c.args.registers c.args.facts.now c.args.line.now c.try_clone.result c.try_clone.ensures

@@ -1,0 +1,217 @@
+-- What is linear in a register that grows, and words that grow as longs do: for all values, known or not.
+use Rattle.std.proofs.Common.{◌≡◌, ℕ, ◌+◌, ◌-◌, ◌*◌, ◌%◌, ◌^◌, ◌<◌, ◌≤◌, Bool, true, false, ◌||◌, nat_eq, nat_lt, nat_le, if◌then◌else◌, Option, Some, None, refl, sym, ◌∙◌, ap, subst, arith}
+use Rattle.std.specs.Prelude.{int_lt}
+use Rattle.std.specs.Int.{w32, w64, cast_signed, cast_unsigned}
+use Rattle.std.proofs.lemmas.Bool.{eqb-true, eq-eqb}
+use Rattle.std.proofs.lemmas.Bool.Decides.{nat_tests}
+use Rattle.std.proofs.lemmas.Int.{ints}
+use Rattle.std.proofs.lemmas.Nat.{mul-mod_first, mul-mod_second}
+use Rattle.il_ast.specs.declared.value.Value.{Value}
+use Rattle.il_ast.specs.declared.value.Value.TheVariants.{Integer, Pointer, Function}
+use Rattle.il_ast.specs.Memory.{Memory}
+use Rattle.rv_isa.specs.declared.instruction.RegOp.TheVariants.{Add, Sll, Mul}
+use Rattle.rv_isa.specs.declared.instruction.RegWOp.{RegWOp}
+use Rattle.rv_isa.specs.declared.instruction.RegWOp.TheVariants.{Addw}
+use Rattle.rv_isa.specs.Arithmetic.{reg_value, regw_value, word_value}
+use Rattle.vcode.specs.declared.line.Operation.TheVariants.{Reg, RegW}
+use Rattle.vcode.specs.Operations.{operate}
+use Rattle.vcode.specs.Step.{operated}
+use Rattle.value_numbering.specs.Known.{linear, grows}
+use Rattle.value_numbering.specs.Steps.{stands, further, behind}
+
+abbrev modulus : ℕ
+modulus = 2 ^ 64
+
+-- ---- numbers
+
+again : (x y : ℕ) → ((x + y) % 2 ^ 64 + 0) % 2 ^ 64 ≡ (x + y) % 2 ^ 64
+again x y = omega arith
+
+further_sum : (x o n : ℕ) → ((x + o % 2 ^ 64) % 2 ^ 64 + n % 2 ^ 64) % 2 ^ 64 ≡ (x + (o + n) % 2 ^ 64 % 2 ^ 64) % 2 ^ 64
+further_sum x o n = omega arith
+
+-- of a product p, what more was added to it as r, which is q modulo 2^64, is taken off the offset
+balanced : (y o p q r a b : ℕ) → a ≡ (p + r) % 2 ^ 64 → r % 2 ^ 64 ≡ q % 2 ^ 64 → b ≡ p % 2 ^ 64
+    → ((y + a) % 2 ^ 64 + (o + (2 ^ 64 - q % 2 ^ 64)) % 2 ^ 64 % 2 ^ 64) % 2 ^ 64 ≡ ((y + b) % 2 ^ 64 + o % 2 ^ 64) % 2 ^ 64
+balanced y o p q r a b e f g = omega (arith, e, f, g)
+
+distributed : (x n c : ℕ) → (x + n % 2 ^ 64) * c ≡ x * c + (n % 2 ^ 64) * c
+distributed x n c = omega arith
+
+grown_product : (x n c : ℕ) → ((x + n % 2 ^ 64) % 2 ^ 64 * (c % 2 ^ 64)) % 2 ^ 64 ≡ (x * c + (n % 2 ^ 64) * c) % 2 ^ 64
+grown_product x n c = mul-mod_first (x + n % 2 ^ 64) (c % 2 ^ 64) modulus ∙ mul-mod_second (x + n % 2 ^ 64) c modulus ∙ ap (λ (k : ℕ). k % 2 ^ 64) (distributed x n c)
+
+behind_sum : (y x n c o : ℕ) → ((y + ((x + n % 2 ^ 64) % 2 ^ 64 * (c % 2 ^ 64)) % 2 ^ 64) % 2 ^ 64 + behind o n c % 2 ^ 64) % 2 ^ 64 ≡ ((y + (x * (c % 2 ^ 64)) % 2 ^ 64) % 2 ^ 64 + o % 2 ^ 64) % 2 ^ 64
+behind_sum y x n c o =
+    balanced y o (x * c) (n * c) ((n % 2 ^ 64) * c) (((x + n % 2 ^ 64) % 2 ^ 64 * (c % 2 ^ 64)) % 2 ^ 64) ((x * (c % 2 ^ 64)) % 2 ^ 64) (grown_product x n c) (mul-mod_first n c modulus) (mul-mod_second x c modulus)
+
+shifted_product : (x n : ℕ) → n < 64 → (x * 2 ^ (n % 2 ^ 64 % 64)) % 2 ^ 64 ≡ (x * (2 ^ n % 2 ^ 64)) % 2 ^ 64
+shifted_product x n few =
+    let by : n % 2 ^ 64 % 64 ≡ n = omega (arith, few) in
+    ap (λ (k : ℕ). (x * 2 ^ k) % 2 ^ 64) by ∙ sym (mul-mod_second x (2 ^ n) modulus)
+
+-- ---- what is linear
+
+abbrev pub number : ℕ → Option Value
+number n = Some (Integer (n % 2 ^ 64))
+
+module _ (m : Memory) where
+  abbrev plus : Option Value → Option Value → Option Value
+  plus a b = operated m (Reg Add) a b
+
+  abbrev times : Option Value → Option Value → Option Value
+  times a b = operated m (Reg Mul) a b
+
+  nothing_added : (a : Option Value) → plus a None ≡ None
+  nothing_added None = refl
+  nothing_added (Some u) = refl
+
+  nothing_more_values : (u v : Value) → plus (operate m (Reg Add) u v) (number 0) ≡ operate m (Reg Add) u v
+  unfolding operate
+  nothing_more_values (Integer a) (Integer b) = ap (λ (n : ℕ). Some (Integer n)) (again a b)
+  nothing_more_values (Integer a) (Pointer b o) = ap (λ (n : ℕ). Some (Pointer b n)) (again o a)
+  nothing_more_values (Integer a) (Function f) = refl
+  nothing_more_values (Pointer b o) (Integer a) = ap (λ (n : ℕ). Some (Pointer b n)) (again o a)
+  nothing_more_values (Pointer b o) (Pointer c q) = refl
+  nothing_more_values (Pointer b o) (Function f) = refl
+  nothing_more_values (Function f) (Integer a) = refl
+  nothing_more_values (Function f) (Pointer b o) = refl
+  nothing_more_values (Function f) (Function g) = refl
+
+  -- a sum with a product is linear, with no offset
+  pub nothing_more : (a b : Option Value) → plus (plus a b) (number 0) ≡ plus a b
+  nothing_more None b = refl
+  nothing_more (Some u) None = refl
+  nothing_more (Some u) (Some v) = nothing_more_values u v
+
+  -- more is added to the whole
+  pub whole_grows : (a : Option Value) (o n : ℕ) → plus (plus a (number o)) (number n) ≡ plus a (number (further o n))
+  unfolding operate
+  whole_grows None o n = refl
+  whole_grows (Some (Integer x)) o n = ap (λ (k : ℕ). Some (Integer k)) (further_sum x o n)
+  whole_grows (Some (Pointer b x)) o n = ap (λ (k : ℕ). Some (Pointer b k)) (further_sum x o n)
+  whole_grows (Some (Function f)) o n = refl
+
+  no_product : (b i j : Option Value) (o q : ℕ) → i ≡ None → j ≡ None → plus (plus b i) (number o) ≡ plus (plus b j) (number q)
+  no_product b i j o q e f =
+      ap (λ (x : Option Value). plus x (number o)) (ap (plus b) e ∙ nothing_added b) ∙ sym (ap (λ (x : Option Value). plus x (number q)) (ap (plus b) f ∙ nothing_added b))
+
+  -- the index grows
+  pub index_grows : (b i : Option Value) (c o n : ℕ) → linear m b (plus i (number n)) c (behind o n c) ≡ linear m b i c o
+  unfolding operate
+  index_grows b None c o n = no_product b None None (behind o n c) o refl refl
+  index_grows b (Some (Pointer d x)) c o n = no_product b None None (behind o n c) o refl refl
+  index_grows b (Some (Function f)) c o n = no_product b None None (behind o n c) o refl refl
+  index_grows None (Some (Integer x)) c o n = refl
+  index_grows (Some (Integer y)) (Some (Integer x)) c o n = ap (λ (k : ℕ). Some (Integer k)) (behind_sum y x n c o)
+  index_grows (Some (Pointer d y)) (Some (Integer x)) c o n = ap (λ (k : ℕ). Some (Pointer d k)) (behind_sum y x n c o)
+  index_grows (Some (Function f)) (Some (Integer x)) c o n = refl
+
+  pub shift_is_product : (a : Option Value) (n : ℕ) → n < 64 → operated m (Reg Sll) a (number n) ≡ times a (number (2 ^ n))
+  unfolding operate
+  shift_is_product None n few = refl
+  shift_is_product (Some (Integer x)) n few = ap (λ (k : ℕ). Some (Integer k)) (shifted_product x n few)
+  shift_is_product (Some (Pointer b x)) n few = refl
+  shift_is_product (Some (Function f)) n few = refl
+
+-- ---- words
+
+-- the register holds a word that stands extended, or nothing
+abbrev pub IsWord : Option Value → Type 0
+IsWord None = Unit {0}
+IsWord (Some (Integer n)) = cast_unsigned w64 (cast_signed w32 (n % 2 ^ 32)) ≡ n
+IsWord (Some (Pointer b o)) = ⊥
+IsWord (Some (Function f)) = ⊥
+
+extended_again : (n : ℕ) → n < 2 ^ 32 → cast_unsigned w64 (cast_signed w32 (cast_unsigned w64 (cast_signed w32 n) % 2 ^ 32)) ≡ cast_unsigned w64 (cast_signed w32 n)
+extended_again n h = grind (arith, ints)
+
+word_small : (op : RegWOp) (a b : ℕ) → a < 2 ^ 32 → b < 2 ^ 32 → word_value op a b < 2 ^ 32
+word_small op a b h k = grind (arith, ints)
+
+words_give : (m : Memory) (op : RegWOp) (u v : Value) → IsWord (operate m (RegW op) u v)
+unfolding operate
+words_give m op (Integer a) (Integer b) = extended_again (word_value op (a % 2 ^ 32) (b % 2 ^ 32)) (word_small op (a % 2 ^ 32) (b % 2 ^ 32) (omega arith) (omega arith))
+words_give m op (Integer a) (Pointer b o) = tt
+words_give m op (Integer a) (Function f) = tt
+words_give m op (Pointer b o) v = tt
+words_give m op (Function f) v = tt
+
+pub word_given : (m : Memory) (op : RegWOp) (a b : Option Value) → IsWord (operated m (RegW op) a b)
+word_given m op None b = tt
+word_given m op (Some u) None = tt
+word_given m op (Some u) (Some v) = words_give m op u v
+
+low_stands : (n : ℕ) → n < 2 ^ 31 → cast_unsigned w64 (cast_signed w32 (n % 2 ^ 32)) ≡ n
+low_stands n h = grind (arith, ints)
+
+high_stands : (n : ℕ) → 2 ^ 64 - 2 ^ 31 ≤ n → n < 2 ^ 64 → cast_unsigned w64 (cast_signed w32 (n % 2 ^ 32)) ≡ n
+high_stands n h k = grind (arith, ints)
+
+either_stands : (n : ℕ) (a b : Bool) → nat_lt n (2 ^ 31) ≡ a → nat_le (2 ^ 64 - 2 ^ 31) n ≡ b → n < 2 ^ 64 → (a || b) ≡ true → IsWord (Some (Integer n))
+either_stands n true b e f h k = low_stands n (let lt : n < 2 ^ 31 = grind (arith, nat_tests) in lt)
+either_stands n false true e f h k = high_stands n (let le : 2 ^ 64 - 2 ^ 31 ≤ n = grind (arith, nat_tests) in le) h
+either_stands n false false e f h k = absurd (let no : ⊥ = cc in no)
+
+pub number_stands : (n : ℕ) → stands n ≡ true → IsWord (number n)
+number_stands n h = either_stands (n % 2 ^ 64) (nat_lt (n % 2 ^ 64) (2 ^ 31)) (nat_le (2 ^ 64 - 2 ^ 31) (n % 2 ^ 64)) refl refl (omega arith) h
+
+-- such a word, extended, is itself
+pub word_again : (m : Memory) (o : Option Value) → IsWord o → operated m (RegW Addw) o (number 0) ≡ o
+unfolding operate
+word_again m None h = refl
+word_again m (Some (Integer n)) h =
+    let same : (n % 2 ^ 32 + 0) % 2 ^ 32 ≡ n % 2 ^ 32 = omega arith in
+    ap (λ (k : ℕ). Some (Integer (cast_unsigned w64 (cast_signed w32 k)))) same ∙ ap (λ (k : ℕ). Some (Integer k)) h
+word_again m (Some (Pointer b o)) h = absurd h
+word_again m (Some (Function f)) h = absurd h
+
+-- where it grows as a long
+pub grown_same : (m : Memory) (o : Option Value) (n : ℕ) → grows n o ≡ true → operated m (Reg Add) o (number n) ≡ operated m (RegW Addw) o (number n)
+unfolding operate
+grown_same m None n h = refl
+grown_same m (Some (Integer k)) n h = ap (λ (j : ℕ). Some (Integer j)) (sym (eqb-true (regw_value Addw k (n % 2 ^ 64)) (reg_value Add k (n % 2 ^ 64)) h))
+grown_same m (Some (Pointer b o)) n h = absurd (let no : ⊥ = cc in no)
+grown_same m (Some (Function f)) n h = absurd (let no : ⊥ = cc in no)
+
+pub grown_word : (m : Memory) (o : Option Value) (n : ℕ) → grows n o ≡ true → IsWord (operated m (Reg Add) o (number n))
+grown_word m o n h = subst IsWord (sym (grown_same m o n h)) (word_given m Addw o (number n))
+
+-- ---- words that are less than others
+
+-- as words
+abbrev pub Less : Option Value → Option Value → Type 0
+Less (Some (Integer a)) (Some (Integer b)) = int_lt (cast_signed w32 (a % 2 ^ 32)) (cast_signed w32 (b % 2 ^ 32)) ≡ true
+Less a b = ⊥
+
+-- as longs, if they are numbers
+abbrev pub LessLong : Option Value → Option Value → Type 0
+LessLong (Some (Integer a)) (Some (Integer b)) = int_lt (cast_signed w64 a) (cast_signed w64 b) ≡ true
+LessLong (Some (Integer a)) None = ⊥
+LessLong a b = Unit {0}
+
+one_more : (n k : ℕ) → cast_unsigned w64 (cast_signed w32 (n % 2 ^ 32)) ≡ n → k < 2 ^ 32 → int_lt (cast_signed w32 (n % 2 ^ 32)) (cast_signed w32 k) ≡ true
+    → cast_unsigned w64 (cast_signed w32 ((n % 2 ^ 32 + 1) % 2 ^ 32)) ≡ (n + 1) % 2 ^ 64
+one_more n k word small less = grind (arith, ints)
+
+pub less_grows : (o p : Option Value) → IsWord o → Less o p → grows 1 o ≡ true
+less_grows (Some (Integer n)) (Some (Integer k)) word less = eq-eqb (regw_value Addw n 1) (reg_value Add n 1) (one_more n (k % 2 ^ 32) word (omega arith) less)
+less_grows (Some (Integer n)) (Some (Pointer b o)) word less = absurd less
+less_grows (Some (Integer n)) (Some (Function f)) word less = absurd less
+less_grows (Some (Integer n)) None word less = absurd less
+less_grows (Some (Pointer b o)) p word less = absurd word
+less_grows (Some (Function f)) p word less = absurd word
+less_grows None p word less = absurd less
+
+one_more_long : (n k : ℕ) → cast_unsigned w64 (cast_signed w32 (n % 2 ^ 32)) ≡ n → cast_unsigned w64 (cast_signed w32 (k % 2 ^ 32)) ≡ k → int_lt (cast_signed w64 n) (cast_signed w64 k) ≡ true
+    → cast_unsigned w64 (cast_signed w32 ((n % 2 ^ 32 + 1) % 2 ^ 32)) ≡ (n + 1) % 2 ^ 64
+one_more_long n k word other less = grind (arith, ints)
+
+pub less_long_grows : (o p : Option Value) → IsWord o → IsWord p → LessLong o p → grows 1 o ≡ true
+less_long_grows (Some (Integer n)) (Some (Integer k)) word other less = eq-eqb (regw_value Addw n 1) (reg_value Add n 1) (one_more_long n k word other less)
+less_long_grows (Some (Integer n)) (Some (Pointer b o)) word other less = absurd other
+less_long_grows (Some (Integer n)) (Some (Function f)) word other less = absurd other
+less_long_grows (Some (Integer n)) None word other less = absurd less
+less_long_grows (Some (Pointer b o)) p word other less = absurd word
+less_long_grows (Some (Function f)) p word other less = absurd word
+less_long_grows None p word other less = refl
