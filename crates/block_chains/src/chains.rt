@@ -2,13 +2,10 @@
 use loops::depths::{depths, target};
 use std::alloc::{AllocError, Global};
 use vcode::code::Block;
-use vcode::line::{Jump, Line};
+use vcode::line::Jump;
 
 /// Blocks in more loops than that are as those in so many.
 const DEEPEST: u32 = 5;
-
-/// After so many lines of a chain the blocks are placed to which it branches, so that branches reach them.
-const LONG: usize = 350;
 
 /// A block of a chain.
 #[derive(Clone, Copy)]
@@ -265,9 +262,6 @@ struct Placing {
 
     /// blocks whose chains come next, the last one first
     next: Vec<usize>,
-
-    /// the rest of a chain that was too long, which comes behind these
-    rest: Option<usize>,
 }
 
 fn first_of(links: &[Link], block: usize) -> usize {
@@ -312,101 +306,37 @@ fn place_block(
     }
 }
 
-/// Makes two chains of one.
-fn cut(links: &mut [Link], from: usize, to: usize) {
-    match links.get_mut(from) {
-        Some(link) => link.behind = None,
-        None => {}
-    }
-    match links.get_mut(to) {
-        Some(link) => link.before = None,
-        None => {}
-    }
-}
-
-/// How many lines there are in a block that become instructions.
-fn lines_of(blocks: &[Block<u32>], number: usize) -> usize {
-    let mut lines = 0usize;
-    if let Some(block) = blocks.get(number) {
-        for line in block.lines.as_slice() {
-            match line {
-                Line::Tick { .. } => {}
-                _ => lines = lines.saturating_add(1),
-            }
-        }
-    }
-    lines
-}
-
-/// Whether a chain is longer than branches reach.
-fn is_long(links: &[Link], blocks: &[Block<u32>], first: usize) -> bool {
-    let mut number = first;
-    let mut lines = 0usize;
-    for _ in 0..links.len() {
-        lines = lines.saturating_add(lines_of(blocks, number));
-        match behind(links, number) {
-            Some(next) => number = next,
-            None => break,
-        }
-    }
-    lines > LONG
-}
-
-/// Places a chain; of a long one the first part, if no other is cut.
 fn place_chain(
     placing: &mut Placing,
-    links: &mut [Link],
+    links: &[Link],
     blocks: &[Block<u32>],
     first: usize,
     is_last: bool,
 ) -> Result<(), AllocError> {
     let mut number = first;
-    let mut lines = 0usize;
     for _ in 0..links.len() {
         place_block(placing, blocks, number, is_last)?;
-        lines = lines.saturating_add(lines_of(blocks, number));
         match behind(links, number) {
-            Some(next) => {
-                if lines > LONG && !is_last && placing.rest.is_none() {
-                    cut(links, number, next);
-                    placing.rest = Some(next);
-                    return Ok(());
-                }
-                number = next;
-            }
+            Some(next) => number = next,
             None => return Ok(()),
         }
     }
     Ok(())
 }
 
-/// The block whose chain comes next.
-fn next_block(placing: &mut Placing) -> Option<usize> {
-    match placing.next.pop() {
-        Some(block) => Some(block),
-        None => {
-            let rest = placing.rest;
-            placing.rest = None;
-            rest
-        }
-    }
-}
-
 /// Places the chains to which those lead that are placed, near these. Each block is placed once, and has at most two targets.
 fn place_chains(
     placing: &mut Placing,
-    links: &mut [Link],
+    links: &[Link],
     blocks: &[Block<u32>],
     last: Option<usize>,
 ) -> Result<(), AllocError> {
-    for _ in 0..blocks.len().saturating_mul(3).saturating_add(1) {
-        match next_block(placing) {
+    for _ in 0..blocks.len().saturating_mul(2).saturating_add(1) {
+        match placing.next.pop() {
             Some(block) => {
-                let first = first_of(links, block);
-                let waits = placing.rest == Some(first);
-                if !waits && !is_marked(placing.is_placed.as_slice(), block) {
-                    let is_last = last == Some(first) && !is_long(links, blocks, first);
-                    place_chain(placing, links, blocks, first, is_last)?;
+                if !is_marked(placing.is_placed.as_slice(), block) {
+                    let first = first_of(links, block);
+                    place_chain(placing, links, blocks, first, last == Some(first))?;
                 }
             }
             None => return Ok(()),
@@ -423,17 +353,16 @@ fn place_chains(
 /// Only where memory was refused.
 pub fn chained(alloc: Global, blocks: &[Block<u32>]) -> Result<Vec<usize>, AllocError> {
     let reached = reached(alloc, blocks)?;
-    let mut links = chains(alloc, blocks, reached.as_slice())?;
+    let links = chains(alloc, blocks, reached.as_slice())?;
     let last = last_chain(links.as_slice(), blocks, reached.as_slice());
     let mut placing = Placing {
         order: Vec::new(alloc),
         held: Vec::new(alloc),
         is_placed: vec![in alloc; false; blocks.len()]?,
         next: Vec::new(alloc),
-        rest: None,
     };
     push_target(&mut placing, Some(0))?;
-    place_chains(&mut placing, links.as_mut_slice(), blocks, last)?;
+    place_chains(&mut placing, links.as_slice(), blocks, last)?;
     placing.order.extend_from_slice(placing.held.as_slice())?;
     Ok(placing.order)
 }

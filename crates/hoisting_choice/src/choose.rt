@@ -163,6 +163,18 @@ struct Part {
     rest: Operand<u32>,
 }
 
+/// The summand that has its value in front of the loop, if one has, and the other.
+fn unchanged(
+    written: &Written,
+    left: &Operand<u32>,
+    right: &Operand<u32>,
+) -> (Option<Operand<u32>>, Operand<u32>) {
+    match written.in_front(*left) {
+        Some(one) => (Some(one), *right),
+        None => (written.in_front(*right), *left),
+    }
+}
+
 fn part_of_sum(
     register: u32,
     written: &Written,
@@ -171,10 +183,7 @@ fn part_of_sum(
     added: Operand<u32>,
 ) -> Option<Part> {
     let (left, right) = written.summands(sum)?;
-    let (one, rest) = match written.in_front(left) {
-        Some(one) => (Some(one), right),
-        None => (written.in_front(right), left),
-    };
+    let (one, rest) = unchanged(written, &left, &right);
     let other = written.in_front(added);
     let plan = plan_of(before, register, Operation::Reg(RegOp::Add), one, other)?;
     Some(Part { plan, sum, rest })
@@ -227,16 +236,16 @@ fn linear_of(
     written: &Written,
     place: Place,
     to: u32,
-    base: Operand<u32>,
-    factor: Operand<u32>,
+    base: &Operand<u32>,
+    factor: &Operand<u32>,
 ) -> Option<Linear> {
-    let product = written.product(factor)?;
-    let base = written.in_front(base)?;
+    let product = written.product(*factor)?;
+    let base = written.in_front(*base)?;
     Some(Linear {
         at: place.at,
         to,
         base,
-        factor,
+        factor: *factor,
         product,
         is_direct: true,
         is_part: false,
@@ -299,9 +308,9 @@ fn plan_sum(
     } = line
     {
         if !plan_part(plans, written, place, *to, line)? {
-            let linear = match linear_of(written, place, *to, *left, *right) {
+            let linear = match linear_of(written, place, *to, left, right) {
                 Some(linear) => Some(linear),
-                None => linear_of(written, place, *to, *right, *left),
+                None => linear_of(written, place, *to, right, left),
             };
             push_linear(plans, linear)?;
         }

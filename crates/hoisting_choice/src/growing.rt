@@ -39,7 +39,7 @@ fn has(nest: &Nest, block: usize) -> bool {
 }
 
 /// What is more than the register, as a signed number, where the comparison holds or doesn't.
-fn more_than(on: &Comparison<u32>, register: Operand<u32>, holds: bool) -> Option<Operand<u32>> {
+fn more_than(on: &Comparison<u32>, register: u32, holds: bool) -> Option<Operand<u32>> {
     let (less, more) = match (on.condition, holds) {
         (Condition::SignedLess, true) | (Condition::SignedGreaterEqual, false) => {
             (on.left, on.right)
@@ -49,7 +49,11 @@ fn more_than(on: &Comparison<u32>, register: Operand<u32>, holds: bool) -> Optio
         }
         _ => return None,
     };
-    if less == register { Some(more) } else { None }
+    if less == Operand::At(register) {
+        Some(more)
+    } else {
+        None
+    }
 }
 
 /// Whether what is less than the operand, as a number of this class, is less than a word.
@@ -61,7 +65,7 @@ fn limits(class: Class, more: Operand<u32>) -> bool {
     }
 }
 
-fn is_less(on: &Comparison<u32>, register: Operand<u32>, holds: bool) -> bool {
+fn is_less(on: &Comparison<u32>, register: u32, holds: bool) -> bool {
     match more_than(on, register, holds) {
         Some(more) => limits(on.class, more),
         None => false,
@@ -75,7 +79,6 @@ fn stands(number: u64) -> bool {
 
 /// Whether the loop goes on from its head only where the register is less than a word.
 fn is_tested(blocks: &[Block<u32>], nest: &Nest, register: u32) -> bool {
-    let operand = Operand::At(register);
     match blocks.get(nest.head) {
         Some(
             Block {
@@ -83,8 +86,8 @@ fn is_tested(blocks: &[Block<u32>], nest: &Nest, register: u32) -> bool {
                 ..
             },
         ) => {
-            (has(nest, *met) && !has(nest, *otherwise) && is_less(on, operand, true))
-                || (has(nest, *otherwise) && !has(nest, *met) && is_less(on, operand, false))
+            (has(nest, *met) && !has(nest, *otherwise) && is_less(on, register, true))
+                || (has(nest, *otherwise) && !has(nest, *met) && is_less(on, register, false))
         }
         _ => false,
     }

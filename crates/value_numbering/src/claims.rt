@@ -1,12 +1,13 @@
 //! Which facts are claimed where blocks begin. It is a guess: whether they are known there is tested where they are used.
-use crate::fact::{Expression, Fact};
+use crate::fact::{Expression, Fact, reads};
 use crate::lines::changed;
 use crate::steps::{is_word, pass};
 use crate::ways::{Order, bounds, is_known, order_met, order_missed};
+use cfg_live::uses::line_writes;
 use il_ast::list::Seq;
 use std::alloc::{AllocError, Global};
 use vcode::code::Block;
-use vcode::line::{Jump, Line};
+use vcode::line::{Jump, Line, Operation};
 use vcode::place::Operand;
 
 /// How many facts are claimed of a block, at most.
@@ -95,18 +96,83 @@ fn claim_copies(known: &mut Vec<Fact>, facts: &[Fact], linear: &Fact) -> Result<
     Ok(())
 }
 
-/// How many kinds of facts are claimed before this one.
-fn rank(fact: &Fact) -> u32 {
-    match fact.value {
-        Expression::Linear(_, _, _, _) | Expression::Growing(_, _) => 0,
-        Expression::Same(_) => 2,
-        _ => 1,
+/// What blocks write each register, and the last one that leads back to each block.
+#[derive(Drop)]
+struct Writing {
+    blocks: Vec<Vec<usize>>,
+    backs: Vec<Option<usize>>,
+}
+
+/// How many blocks write the register.
+fn writes_of(writing: &Writing, register: u32) -> usize {
+    match writing.blocks.get(register as usize) {
+        Some(blocks) => blocks.len(),
+        None => 0,
     }
 }
 
-fn claim_rank(known: &mut Vec<Fact>, facts: &[Fact], wanted: u32) -> Result<(), AllocError> {
+/// How many kinds of facts are claimed before this one. Of words, those may grow that are written more than once.
+fn rank(writing: &Writing, fact: &Fact) -> u32 {
+    match fact.value {
+        Expression::Linear(_, _, _, _) | Expression::Growing(_, _) => 0,
+        Expression::Same(_) => 2,
+        Expression::Operated(Operation::Compare(_, _), _, _) => 3,
+        _ => {
+            if !reads(fact.register, fact.value) {
+                1
+            } else if writes_of(writing, fact.register) > 1 {
+                0
+            } else {
+                2
+            }
+        }
+    }
+}
+
+/// Whether one of the blocks from the first to the last writes the register.
+fn is_written(writing: &Writing, register: u32, first: usize, last: usize) -> bool {
+    match writing.blocks.get(register as usize) {
+        Some(blocks) => blocks.iter().any(|block| first <= *block && *block <= last),
+        None => false,
+    }
+}
+
+fn is_changed(writing: &Writing, operand: Operand<u32>, first: usize, last: usize) -> bool {
+    match operand {
+        Operand::At(register) => is_written(writing, register, first, last),
+        _ => false,
+    }
+}
+
+/// Whether the fact names a register that is written between a block and the last one that leads back there.
+fn is_lost(writing: &Writing, block: usize, fact: &Fact) -> bool {
+    let last = match writing.backs.get(block) {
+        Some(Some(last)) => *last,
+        _ => return false,
+    };
+    if is_written(writing, fact.register, block, last) {
+        return true;
+    }
+    match fact.value {
+        Expression::Same(operand)
+        | Expression::Extended(_, operand, _)
+        | Expression::Loaded(_, operand, _) => is_changed(writing, operand, block, last),
+        Expression::Operated(_, left, right) => {
+            is_changed(writing, left, block, last) || is_changed(writing, right, block, last)
+        }
+        _ => false,
+    }
+}
+
+fn claim_rank(
+    known: &mut Vec<Fact>,
+    writing: &Writing,
+    block: usize,
+    facts: &[Fact],
+    wanted: u32,
+) -> Result<(), AllocError> {
     for fact in facts {
-        if rank(fact) == wanted {
+        if rank(writing, fact) == wanted && (wanted == 0 || !is_lost(writing, block, fact)) {
             push_claim(known, *fact)?;
         }
     }
@@ -116,6 +182,8 @@ fn claim_rank(known: &mut Vec<Fact>, facts: &[Fact], wanted: u32) -> Result<(), 
 /// What is claimed by what is known on the first way to a block; what is linear before all else.
 fn first_claim(
     alloc: Global,
+    writing: &Writing,
+    block: usize,
     facts: &[Fact],
     order: &Option<Order>,
 ) -> Result<Vec<Fact>, AllocError> {
@@ -123,18 +191,21 @@ fn first_claim(
     if let Some(fact) = growing(facts, order) {
         push_claim(&mut known, fact)?;
     }
-    claim_rank(&mut known, facts, 0)?;
+    claim_rank(&mut known, writing, block, facts, 0)?;
     for fact in facts {
         claim_copies(&mut known, facts, fact)?;
     }
-    claim_rank(&mut known, facts, 1)?;
-    claim_rank(&mut known, facts, 2)?;
+    for wanted in 1..4 {
+        claim_rank(&mut known, writing, block, facts, wanted)?;
+    }
     Ok(known)
 }
 
 /// One more way leads to the block, on which these facts are known; says whether that changes what is claimed.
 fn meet(
     alloc: Global,
+    writing: &Writing,
+    block: usize,
     claim: &mut Claim,
     facts: &[Fact],
     order: &Option<Order>,
@@ -146,7 +217,7 @@ fn meet(
             Ok(known.len() != before)
         }
         None => {
-            claim.facts = Some(first_claim(alloc, facts, order)?);
+            claim.facts = Some(first_claim(alloc, writing, block, facts, order)?);
             Ok(true)
         }
     }
@@ -154,28 +225,30 @@ fn meet(
 
 fn meet_at(
     alloc: Global,
+    writing: &Writing,
     claims: &mut [Claim],
     block: usize,
     facts: &[Fact],
     order: &Option<Order>,
 ) -> Result<bool, AllocError> {
     match claims.get_mut(block) {
-        Some(claim) => meet(alloc, claim, facts, order),
+        Some(claim) => meet(alloc, writing, block, claim, facts, order),
         None => Ok(false),
     }
 }
 
 fn lead(
     alloc: Global,
+    writing: &Writing,
     claims: &mut [Claim],
     jump: &Jump<u32>,
     facts: &[Fact],
 ) -> Result<bool, AllocError> {
     match jump {
-        Jump::Goto(block) => meet_at(alloc, claims, *block, facts, &None),
+        Jump::Goto(block) => meet_at(alloc, writing, claims, *block, facts, &None),
         Jump::Branch { on, met, otherwise } => {
-            let first = meet_at(alloc, claims, *met, facts, &order_met(on))?;
-            let second = meet_at(alloc, claims, *otherwise, facts, &order_missed(on))?;
+            let first = meet_at(alloc, writing, claims, *met, facts, &order_met(on))?;
+            let second = meet_at(alloc, writing, claims, *otherwise, facts, &order_missed(on))?;
             Ok(first || second)
         }
         Jump::Return(_) | Jump::Halt => Ok(false),
@@ -201,6 +274,7 @@ fn known_at(
 /// Goes through a block, from what is known where it begins to the blocks that it leads to; says whether that changes what is claimed of them.
 fn spread(
     alloc: Global,
+    writing: &Writing,
     claims: &mut [Claim],
     registers: u32,
     number: usize,
@@ -210,7 +284,7 @@ fn spread(
         Some(facts) => {
             let mut facts = facts;
             pass_lines(alloc, &mut facts, registers, block.lines.as_slice())?;
-            lead(alloc, claims, &block.jump, facts.as_slice())
+            lead(alloc, writing, claims, &block.jump, facts.as_slice())
         }
         None => Ok(false),
     }
@@ -219,15 +293,80 @@ fn spread(
 /// Goes through all blocks; says whether that changes what is claimed.
 fn spread_all(
     alloc: Global,
+    writing: &Writing,
     claims: &mut [Claim],
     registers: u32,
     blocks: &[Block<u32>],
 ) -> Result<bool, AllocError> {
     let mut changes = false;
     for (number, block) in blocks.iter().enumerate() {
-        changes = spread(alloc, claims, registers, number, block)? || changes;
+        changes = spread(alloc, writing, claims, registers, number, block)? || changes;
     }
     Ok(changes)
+}
+
+fn note_write(
+    writes: &mut [Vec<usize>],
+    number: usize,
+    line: &Line<u32>,
+) -> Result<(), AllocError> {
+    if let Some(register) = line_writes(line) {
+        if let Some(blocks) = writes.get_mut(register as usize) {
+            if blocks.last() != Some(&number) {
+                blocks.push(number)?;
+            }
+        }
+    }
+    Ok(())
+}
+
+fn note_back(backs: &mut [Option<usize>], number: usize, to: Option<usize>) {
+    if let Some(to) = to {
+        if to <= number {
+            if let Some(back) = backs.get_mut(to) {
+                *back = Some(number);
+            }
+        }
+    }
+}
+
+fn targets(jump: &Jump<u32>) -> (Option<usize>, Option<usize>) {
+    match jump {
+        Jump::Goto(block) => (Some(*block), None),
+        Jump::Branch { met, otherwise, .. } => (Some(*met), Some(*otherwise)),
+        Jump::Return(_) | Jump::Halt => (None, None),
+    }
+}
+
+fn note_block(writing: &mut Writing, number: usize, block: &Block<u32>) -> Result<(), AllocError> {
+    for line in block.lines.as_slice() {
+        note_write(writing.blocks.as_mut_slice(), number, line)?;
+    }
+    let (first, second) = targets(&block.jump);
+    note_back(writing.backs.as_mut_slice(), number, first);
+    note_back(writing.backs.as_mut_slice(), number, second);
+    Ok(())
+}
+
+fn no_writes(alloc: Global, registers: u32) -> Result<Vec<Vec<usize>>, AllocError> {
+    let mut blocks = Vec::with_capacity(alloc, registers as usize)?;
+    for _ in 0..registers {
+        blocks.push(Vec::new(alloc))?;
+    }
+    Ok(blocks)
+}
+
+fn writing_of(alloc: Global, registers: u32, blocks: &[Block<u32>]) -> Result<Writing, AllocError> {
+    let mut backs = Vec::new(alloc);
+    backs.resize(blocks.len(), None)?;
+    let mut writing = Writing {
+        blocks: no_writes(alloc, registers)?,
+        backs,
+    };
+    for (number, block) in blocks.iter().enumerate() {
+        note_block(&mut writing, number, block)?;
+    }
+    Ok(writing)
 }
 
 /// Nothing is known where the code begins, and no way leads to another block so far.
@@ -266,8 +405,9 @@ pub(crate) fn claims(
     blocks: &[Block<u32>],
 ) -> Result<Vec<Seq<Fact>>, AllocError> {
     let mut claims = first_claims(alloc, blocks.len())?;
+    let writing = writing_of(alloc, registers, blocks)?;
     for _ in 0..ROUNDS {
-        if !spread_all(alloc, claims.as_mut_slice(), registers, blocks)? {
+        if !spread_all(alloc, &writing, claims.as_mut_slice(), registers, blocks)? {
             break;
         }
     }
