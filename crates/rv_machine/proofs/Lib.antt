@@ -4,6 +4,7 @@ pub mod MappedSpans
 pub mod Spans
 pub mod StepLaws
 pub mod DecodedLaws
+pub mod EntryLaws
 pub mod RunEnding
 pub mod RegionLemmas
 pub mod WholeLemmas

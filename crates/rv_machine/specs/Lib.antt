@@ -1,7 +1,9 @@
 pub mod Access
 pub mod Decoded
+pub mod Entries
 pub mod Machine
 pub mod Mapped
+pub mod Opcodes
 pub mod Pages
 pub mod Regions
 pub mod Registers

@@ -18,9 +18,10 @@
 //! All of it holds over any memory that keeps the laws of [`ram::Ram`]. [`flat_ram::FlatRam`] keeps each mapped range in one vector, and never
 //! refuses; [`page_ram::PageRam`] makes a page of 4096 bytes when a byte of it is first stored to.
 //!
-//! For speed, code that can be executed and never written is decoded once, before it runs (`specs/Decoded.antt`): such code stays as it is, whatever
-//! the program does. What can be done without a fault is done at once, and memory answers whole numbers where it can; every stop
-//! comes from the one slow step, which works byte by byte.
+//! For speed, code that can be executed and never written is decoded once, before it runs, to entries of one flat list of operations
+//! (`specs/Opcodes.antt`, `specs/Entries.antt`): such code stays as it is, whatever the program does (`specs/Decoded.antt`). A run goes from entry to entry
+//! by index, and memory answers whole numbers where it can. What an entry leaves, and every stop, is done by the one slow step, which works byte by byte
+//! where it has to.
 //!
 //! The crate stands on `rv_isa` for instructions and their meaning, on `elf_file` for loaded files, on `obj_link` for the addresses of an image and on
 //! `bits`, `byteorder` and `thiserror`.
@@ -29,11 +30,16 @@
 mod access;
 mod at_once;
 mod decoded;
+mod enact;
+mod entry;
+mod entry_of;
 mod fill;
 pub mod flat_ram;
 pub mod laws;
 mod lookup;
 pub mod machine;
+mod opcode;
+mod opcode_of;
 mod page;
 pub mod page_ram;
 mod pages;

@@ -1,20 +1,17 @@
 //! The registers x0 to x31.
 
-ghost use Rattle.std.specs.Prelude.{◌≡◌, slice_index};
-
 use rv_isa::ranges::Register;
 
-/// The values of the 32 registers; x0 is always 0.
+/// The values of the 32 registers. x0 is 0, whatever stands in its place.
 #[derive(Drop)]
 pub struct Registers {
     values: [u64; 32],
-    ghost zero: { slice_index values 0 ≡ 0 },
 }
 
 impl Registers {
-    ghost use Rattle.std.specs.Prelude.{◌==◌, if◌then◌else◌};
+    ghost use Rattle.std.specs.Prelude.{◌≡◌, ◌==◌, if◌then◌else◌};
     ghost use Rattle.rv_isa.specs.State.{written};
-    ghost use Rattle.rv_machine.specs.Registers.{numbers, all_zero};
+    ghost use Rattle.rv_machine.specs.Registers.{HasZero, numbers, all_zero};
 
     /// Registers that are all 0.
     pub fn new() -> Registers
@@ -28,16 +25,36 @@ impl Registers {
     pub fn get(&self, register: Register) -> u64
         ensures { result ≡ (if register.number == 0 then 0 else numbers self.now register.number) }
     {
+        if register.number == 0 {
+            0
+        } else {
+            self.values[usize::from(register.number)]
+        }
+    }
+
+    /// The value of a register, where a 0 stands in the place of x0.
+    #[inline(always)]
+    pub fn read(&self, register: Register) -> u64
+        requires { HasZero self.now }
+        ensures { result ≡ (if register.number == 0 then 0 else numbers self.now register.number) }
+    {
         self.values[usize::from(register.number)]
     }
 
-    /// Gives a register a value; of x0 nothing changes.
+    /// Gives a register a value; x0 stays 0, but the value stands in its place.
     #[inline(always)]
     pub fn set(&mut self, register: Register, value: u64)
         ensures { numbers self.new ≡ written (numbers self.old) register value }
     {
-        if register.number != 0 {
-            self.values[usize::from(register.number)] = value;
-        }
+        self.values[usize::from(register.number)] = value;
+    }
+
+    /// Puts a 0 in the place of x0.
+    #[inline(always)]
+    pub fn clear_zero(&mut self)
+        ensures same { numbers self.new ≡ numbers self.old }
+        ensures zero { HasZero self.new }
+    {
+        self.values[0] = 0;
     }
 }

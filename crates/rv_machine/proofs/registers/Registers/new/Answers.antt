@@ -1,4 +1,5 @@
-use Rattle.std.proofs.Common.{◌≡◌, ℕ, zero, suc, replicate, get_or, refl, List}
+use Rattle.std.proofs.Common.{◌≡◌, ℕ, zero, suc, Bool, true, false, replicate, get_or, refl, List}
+use Rattle.std.specs.Prelude.{◌==◌, if◌then◌else◌}
 use Rattle.std.proofs.Math.Path.{fun_ext}
 use Rattle.rv_machine.proofs.registers.Registers.new.Goals as goal
 
@@ -11,6 +12,10 @@ zeros zero n = refl
 zeros (suc k) zero = refl
 zeros (suc k) (suc n) = zeros k n
 
+either_zero : (b : Bool) (x : ℕ) → x ≡ 0 → (if b then 0 else x) ≡ 0
+either_zero true x h = refl
+either_zero false x h = h
+
 pub returns : goal.returns
 unfolding zero_at
-returns c = fun_ext (zeros 32)
+returns c = fun_ext (λ n. either_zero (n == 0) (zero_at (replicate 32 0) n) (zeros 32 n))
