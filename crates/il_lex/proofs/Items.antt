@@ -164,7 +164,7 @@ octal_complete (c ∷ d ∷ e ∷ []) byte after o =
     rw (parts.0, more.0, three, fits) (ap (λ n. Some (n, 4)) value)
 octal_complete (c ∷ d ∷ e ∷ f ∷ fs) byte after o = absurd (omega (arith, o.most))
 
-plain_complete : (b : ℕ) (after : List ℕ) → is_plain b ≡ true → item (b ∷ after) ≡ Some (b, 1)
+pub plain_complete : (b : ℕ) (after : List ℕ) → is_plain b ≡ true → item (b ∷ after) ≡ Some (b, 1)
 unfolding item
 plain_complete b after h =
     ap (λ t. cond t (escape after) (cond (is_plain b) (Some (b, 1)) None)) (plain_parts b h).0

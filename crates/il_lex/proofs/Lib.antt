@@ -6,3 +6,4 @@ pub mod Lexemes
 pub mod Exact
 pub mod Lines
 pub mod Passing
+pub mod Plain

@@ -1,6 +1,7 @@
 //! Strings: their items, and what they stand for.
 
-ghost use Rattle.std.specs.Prelude.{◌≡◌, ◌+◌, ◌<◌, ◌≤◌, List, ℕ, ◌++◌, length, IfSome, IfOk, OnOk};
+ghost use Rattle.std.specs.Prelude.{◌≡◌, ◌+◌, ◌<◌, ◌≤◌, List, ℕ, ◌++◌, drop, length, take, IfSome, IfOk, OnOk};
+ghost use Rattle.std.specs.List.{prefix_len};
 ghost use Rattle.std.specs.Option.{option_map};
 ghost use Rattle.il_lex.specs.Quoted.{is_plain, escaped, IsString};
 ghost use Rattle.il_lex.specs.Scan.{octal_third, octal_second, escape, item, items_len, items, string_bytes};
@@ -84,6 +85,30 @@ fn item(bytes: &[u8]) -> Option<(u8, usize)>
     }
 }
 
+/// How many bytes at the front stand for themselves.
+fn plain_len(bytes: &[u8]) -> usize
+    ensures value { result ≡ prefix_len is_plain bytes.now }
+    ensures bound { result ≤ length bytes.now }
+{
+    bytes.iter().take_while(|b| is_plain(**b)).count()
+}
+
+/// The first `n` bytes.
+fn front(bytes: &[u8], n: usize) -> &[u8]
+    requires { n ≤ length bytes.now }
+    ensures { result.now ≡ take n bytes.now }
+{
+    &bytes[..n]
+}
+
+/// The bytes behind the first `n`.
+fn behind(bytes: &[u8], n: usize) -> &[u8]
+    requires { n ≤ length bytes.now }
+    ensures { result.now ≡ drop n bytes.now }
+{
+    &bytes[n..]
+}
+
 /// How many bytes the items at the front have.
 pub(crate) fn items_len(bytes: &[u8]) -> usize
     ensures value { result ≡ items_len (length bytes.now) bytes.now }
@@ -92,12 +117,14 @@ pub(crate) fn items_len(bytes: &[u8]) -> usize
     let mut rest = bytes;
     let mut len = 0;
     for _ in 0..bytes.len() {
-        match item(rest) {
+        let run = plain_len(rest);
+        let left = behind(rest, run);
+        match item(left) {
             Some((_, n)) => {
-                rest = &rest[n..];
-                len += n;
+                rest = behind(left, n);
+                len += run + n;
             }
-            None => return len,
+            None => return len + run,
         }
     }
     len
@@ -109,10 +136,13 @@ fn push_items(bytes: &[u8], out: &mut Vec<u8>) -> Result<(), AllocError>
 {
     let mut rest = bytes;
     for _ in 0..bytes.len() {
-        match item(rest) {
+        let run = plain_len(rest);
+        out.extend_from_slice(front(rest, run))?;
+        let left = behind(rest, run);
+        match item(left) {
             Some((byte, len)) => {
                 out.push(byte)?;
-                rest = &rest[len..];
+                rest = behind(left, len);
             }
             None => return Ok(()),
         }
