@@ -9,7 +9,7 @@
 //! |---|---|---|
 //! | `machine` | `alu` (operations and a branch), `memory` (with a load and a store), `alu-paged`, `memory-paged` (over pages) | instructions |
 //! | `interpreter` | `alu`, `memory`, `calls` (a recursion 50,000 deep), `phis` (a block of 195 phis) | turns |
-//! | `front`, `compile`, `certificates` | `functions` (of six lines with a loop), `lines` (one function over 4,000 temporaries), `locals` (one function over 3,990 locals in memory), `wide` (one function with 3,990 temporaries live throughout), `phi` (with many predecessors), `phis` (as many as predecessors), `bytes` (a datum) | functions, lines, changes, blocks, predecessors, predecessors, bytes |
+//! | `front`, `compile`, `certificates` | `functions` (of six lines with a loop), `lines` (one function over 4,000 temporaries), `locals` (one function over 3,990 locals in memory), `wide` (one function with 3,990 temporaries live throughout), `phi` (with many predecessors), `phis` (as many as predecessors), `bytes` (a datum), `strings` (a datum of strings) | functions, lines, changes, blocks, predecessors, predecessors, bytes, characters |
 //! | `text` | the same | the text itself is printed |
 //! | `liveness` | `live` (blocks in reverse), `ladder`, `nest` (loops in one another) | blocks of 40 points, over 4,000 registers |
 //! | `sets` | | a thousand joins of sets of numbers below it |
@@ -39,13 +39,14 @@ use std::time::Instant;
 use std::{env, fs, io};
 
 /// A measure, a kind and a size, for each part.
-const LITTLE: [(&str, &str, u64); 11] = [
+const LITTLE: [(&str, &str, u64); 12] = [
     ("machine", "alu", 1000),
     ("machine", "memory-paged", 1000),
     ("interpreter", "alu", 1000),
     ("interpreter", "phis", 1000),
     ("front", "functions", 10),
     ("compile", "bytes", 10),
+    ("compile", "strings", 640),
     ("certificates", "functions", 10),
     ("certificates", "phis", 10),
     ("certificates", "wide", 10),
@@ -54,15 +55,17 @@ const LITTLE: [(&str, &str, u64); 11] = [
 ];
 
 /// The rows of the table.
-const TABLE: [(&str, &str, u64); 10] = [
+const TABLE: [(&str, &str, u64); 12] = [
     ("front", "lines", 36_000),
     ("front", "bytes", 4_000_000),
+    ("compile", "strings", 12_000_000),
     ("compile", "functions", 10_000),
     ("compile", "lines", 36_000),
     ("compile", "locals", 11_900),
     ("compile", "wide", 4_500),
     ("interpreter", "alu", 20_000_000),
     ("machine", "alu", 1_000_000_000),
+    ("machine", "alu-paged", 1_000_000_000),
     ("machine", "memory-paged", 1_000_000_000),
     ("liveness", "nest", 1_000),
 ];
@@ -75,6 +78,7 @@ fn shape_of(kind: &str) -> Shape {
         "phis" => Shape::Phis,
         "wide" => Shape::Wide,
         "bytes" => Shape::Bytes,
+        "strings" => Shape::Strings,
         _ => Shape::Functions,
     }
 }
@@ -160,6 +164,15 @@ fn timed(
     Ok((said, time))
 }
 
+/// Whether the size of a measure is how many instructions or turns it takes at most.
+fn takes_steps(measure: &str) -> bool {
+    measure == "machine" || measure == "interpreter"
+}
+
+fn millions_a_second(steps: u64, milliseconds: u128) -> u128 {
+    u128::from(steps) / (milliseconds.max(1).saturating_mul(1000))
+}
+
 /// Prints what comes of a measure, with its time where that is asked for.
 fn print_row(
     rt: &HostRuntime,
@@ -170,7 +183,12 @@ fn print_row(
 ) -> io::Result<()> {
     let text = text_for(rt.alloc(), measure, kind, size)?;
     let (said, time) = timed(rt, measure, kind, size, text.as_bytes())?;
-    if is_timed {
+    if is_timed && takes_steps(measure) {
+        let millions = millions_a_second(size, time);
+        println!(rt;
+            "{measure} {kind} {size}: {time} ms, {millions} million steps a second, {said}"
+        )
+    } else if is_timed {
         println!(rt; "{measure} {kind} {size}: {time} ms, {said}")
     } else {
         println!(rt; "{measure} {kind} {size}: {said}")

@@ -23,6 +23,8 @@ pub enum Shape {
     Wide,
     /// a datum of so many bytes, of four characters each
     Bytes,
+    /// a datum of strings that have so many characters together, 64 each
+    Strings,
 }
 
 /// The text of this shape and size.
@@ -41,6 +43,7 @@ fn push_text(text: &mut TextMaker, shape: Shape, size: u64) {
         Shape::Phis => push_phis(text, size),
         Shape::Wide => wide(text, size),
         Shape::Bytes => bytes(text, size),
+        Shape::Strings => strings(text, size),
     }
 }
 
@@ -110,6 +113,18 @@ fn bytes(text: &mut TextMaker, count: u64) {
         text.add(" ");
     }
     text.add("}\n");
+}
+
+/// A field with a string of 64 characters, the last two of which are one byte.
+const STRING: &str =
+    "\tb \"What stands here is long enough to be a line of some program's\\n\",\n";
+
+fn strings(text: &mut TextMaker, characters: u64) {
+    text.add("export function w $main() {\n@start\n\tret 0\n}\ndata $d = {\n");
+    for _ in 0..characters / 64 {
+        text.add(STRING);
+    }
+    text.add("\tb 0 }\n");
 }
 
 // A temporary of those that live throughout, another one for each number.
