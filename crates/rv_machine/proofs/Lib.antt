@@ -6,6 +6,8 @@ pub mod StepLaws
 pub mod DecodedLaws
 pub mod EntryLaws
 pub mod RunEnding
+pub mod OutputLaws
+pub mod PieceLaws
 pub mod RegionLemmas
 pub mod WholeLemmas
 pub mod PageLemmas

@@ -5,6 +5,7 @@ pub mod Machine
 pub mod Mapped
 pub mod Opcodes
 pub mod Pages
+pub mod Pieces
 pub mod Regions
 pub mod Registers
 pub mod Runs
