@@ -11,7 +11,7 @@ use Rattle.clap.specs.declared.error.kind.ErrorKind.TheVariants as kind
 use Rattle.clap.proofs.OnLiterals.{clap_on_literals}
 use Rattle.command_line.specs.Grammar.{qbec_app}
 use Rattle.command_line.specs.Refused.{refusal_by, refusal_of}
-use Rattle.command_line.specs.Words.{HaveFault, SaysWhy, is_help}
+use Rattle.command_line.specs.Words.{HaveFault, SaysOf, is_help}
 use Rattle.command_line.specs.declared.refusal.Refusal.{Refusal}
 
 is_free : is_simple_and_free qbec_app ≡ true
@@ -45,7 +45,7 @@ helped words k is room h = elim h [
   | inr among ↦ record { kind = k; among = among; is = is }
 ]
 
-by_kind : (words : List (List ℕ)) (e : Error) (k : ErrorKind) → (k ≡ kind.OutOfMemory) ⊎ IsAmong k (fault_of qbec_app words) → SaysWhy words (refusal_by k e)
+by_kind : (words : List (List ℕ)) (e : Error) (k : ErrorKind) → (k ≡ kind.OutOfMemory) ⊎ IsAmong k (fault_of qbec_app words) → SaysOf words (refusal_by k e)
 by_kind words e kind.InvalidValue h = mistaken words kind.InvalidValue refl (λ x. cc) h
 by_kind words e kind.UnknownArgument h = mistaken words kind.UnknownArgument refl (λ x. cc) h
 by_kind words e kind.InvalidSubcommand h = mistaken words kind.InvalidSubcommand refl (λ x. cc) h
@@ -64,5 +64,5 @@ by_kind words e kind.Io h = mistaken words kind.Io refl (λ x. cc) h
 by_kind words e kind.Format h = mistaken words kind.Format refl (λ x. cc) h
 by_kind words e kind.OutOfMemory h = tt
 
-pub says : (words : List (List ℕ)) (e : Error) (r : Refusal) → HasKind (fault_of qbec_app words) e → r ≡ refusal_of e → SaysWhy words r
-says words e r h is = subst (λ x. SaysWhy words x) (sym is) (by_kind words e (kind_of e) h)
+pub says : (words : List (List ℕ)) (e : Error) (r : Refusal) → HasKind (fault_of qbec_app words) e → r ≡ refusal_of e → SaysOf words r
+says words e r h is = subst (λ x. SaysOf words x) (sym is) (by_kind words e (kind_of e) h)

@@ -1,3 +1,4 @@
 pub mod Adding
 pub mod Naming
+pub mod Dashes
 pub mod Faulting

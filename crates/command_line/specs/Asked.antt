@@ -12,14 +12,20 @@ word_in rows name = unwrap_or (first_of name rows) []
 abbrev pub words_in : List Row → List ℕ → List (List ℕ)
 words_in rows name = unwrap_or (all_of name rows) []
 
--- the decimal number of the argument `limit`, or the default where it has no value
-pub record IsLimit (rows : List Row) (limit : ℕ) : Type 0 where
+-- the decimal number of the argument of this name, or the default where it has no value
+pub record IsNumber (name : List ℕ) (default : ℕ) (rows : List Row) (number : ℕ) : Type 0 where
   pub given : (t : List ℕ)
-      → one_of (codes "limit") rows ≡ Some t
+      → one_of name rows ≡ Some t
       → IsNumeral 10 (without_leading_plus t)
       → digits_value 10 (without_leading_plus t) < 2 ^ 64
-      → limit ≡ digits_value 10 (without_leading_plus t)
-  pub missing : one_of (codes "limit") rows ≡ None → limit ≡ 1000000000
+      → number ≡ digits_value 10 (without_leading_plus t)
+  pub missing : one_of name rows ≡ None → number ≡ default
+
+abbrev pub IsLimit : List Row → ℕ → Type 0
+IsLimit rows limit = IsNumber (codes "limit") 1000000000 rows limit
+
+abbrev pub IsLast : List Row → ℕ → Type 0
+IsLast rows last = IsNumber (codes "last") 0 rows last
 
 -- the subcommand of this name, with these values of its arguments, asks for the command
 abbrev pub Asks : (name : List ℕ) → List Row → Command → Type 0
@@ -37,9 +43,9 @@ Asks name rows (Check files) =
     (name ≡ codes "check") × (map (λ s. s.now) files.items ≡ words_in rows (codes "FILES"))
 Asks name rows (Symbols files) =
     (name ≡ codes "symbols") × (map (λ s. s.now) files.items ≡ words_in rows (codes "FILES"))
-Asks name rows (Trace limit file words) =
-    (name ≡ codes "trace") × IsLimit rows limit × (file.now ≡ word_in rows (codes "FILE"))
-    × (map (λ s. s.now) words.items ≡ words_in rows (codes "WORDS"))
+Asks name rows (Trace limit last files words) =
+    (name ≡ codes "trace") × IsLimit rows limit × IsLast rows last
+    × (map (λ s. s.now) files.items ≡ words_in rows (codes "FILES"))
 
 -- the same where no subcommand may have the name: then there is no command
 abbrev pub AsksFor : (name : List ℕ) → List Row → Option Command → Type 0
@@ -53,3 +59,12 @@ abbrev pub AsksIn : Option (List ℕ × List Row) → Option Command → Type 0
 AsksIn None None = Unit {0}
 AsksIn None (Some command) = ⊥
 AsksIn (Some found) command = AsksFor found.0 found.1 command
+
+-- the words that a trace hands on are these; other commands have theirs by the grammar
+abbrev pub HandsOn : (words : List (List ℕ)) → Command → Type 0
+HandsOn words (Trace limit last files handed) = map (λ s. s.now) handed.items ≡ words
+HandsOn words command = Unit {0}
+
+abbrev pub MayHandOn : (words : List (List ℕ)) → Option Command → Type 0
+MayHandOn words None = Unit {0}
+MayHandOn words (Some command) = HandsOn words command

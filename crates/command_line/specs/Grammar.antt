@@ -31,6 +31,15 @@ limit_rule = record (new_rule (codes "limit")) {
   defaults = codes "1000000000" ∷ [];
 }
 
+-- --last K, from 0 to 1,000, or else 0
+abbrev pub last_rule : Rule
+last_rule = record (new_rule (codes "last")) {
+  long = Some (codes "last");
+  value_names = 1;
+  parser = Some (vp.Unsigned 0 1000);
+  defaults = codes "0" ∷ [];
+}
+
 -- EXE, or FILE
 abbrev pub path_rule : List ℕ → Rule
 path_rule name = record (new_rule name) { required = true }
@@ -59,7 +68,7 @@ abbrev pub interp_app : App
 interp_app = running_app (codes "interp") (codes "FILE")
 
 abbrev pub trace_app : App
-trace_app = running_app (codes "trace") (codes "FILE")
+trace_app = with_rule (with_rule (with_rule (new_app (codes "trace")) limit_rule) last_rule) files_rule
 
 abbrev pub dis_app : App
 dis_app = with_rule (new_app (codes "dis")) (path_rule (codes "EXE"))

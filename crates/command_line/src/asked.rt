@@ -2,9 +2,9 @@
 ghost use Rattle.std.specs.Prelude.{◌≡◌, IfOk, codes, map};
 ghost use Rattle.clap.specs.Matches.{found_of};
 ghost use Rattle.clap.specs.Walk.{rows_of};
-ghost use Rattle.command_line.specs.Asked.{Asks, AsksFor, IsLimit, word_in, words_in};
+ghost use Rattle.command_line.specs.Asked.{Asks, AsksFor, HandsOn, IsLast, IsLimit, MayHandOn, word_in, words_in};
 
-use crate::grammar::{EXECUTABLE, FILES, LIMIT, OUT, TEXT, WORDS};
+use crate::grammar::{EXECUTABLE, FILES, LAST, LIMIT, OUT, TEXT, WORDS};
 use crate::{Command, DEFAULT_LIMIT};
 use clap::ArgMatches;
 use std::alloc::{AllocError, Global};
@@ -32,6 +32,12 @@ fn limit_of(found: &ArgMatches<'_>) -> u64
     ensures { IsLimit (rows_of (found_of found.now)) result }
 {
     found.get_one::<u64>(LIMIT).unwrap_or(DEFAULT_LIMIT)
+}
+
+fn last_of(found: &ArgMatches<'_>) -> u64
+    ensures { IsLast (rows_of (found_of found.now)) result }
+{
+    found.get_one::<u64>(LAST).unwrap_or(0)
 }
 
 fn build_of<'a>(alloc: Global, found: &ArgMatches<'a>) -> Result<Command<'a>, AllocError>
@@ -80,18 +86,25 @@ fn symbols_of<'a>(alloc: Global, found: &ArgMatches<'a>) -> Result<Command<'a>, 
     Ok(Command::Symbols { files })
 }
 
-fn trace_of<'a>(alloc: Global, found: &ArgMatches<'a>) -> Result<Command<'a>, AllocError>
-    ensures { IfOk result (Asks (codes "trace") (rows_of (found_of found.now))) }
+fn trace_of<'a>(
+    alloc: Global,
+    found: &ArgMatches<'a>,
+    handed: &[&'a str],
+) -> Result<Command<'a>, AllocError>
+    ensures asks { IfOk result (Asks (codes "trace") (rows_of (found_of found.now))) }
+    ensures hands { IfOk result (HandsOn (map (λ w. w.now) handed.now)) }
 {
-    let words = words_of(alloc, found, WORDS)?;
+    let files = words_of(alloc, found, FILES)?;
+    let words = handed.to_vec(alloc)?;
     Ok(Command::Trace {
         limit: limit_of(found),
-        file: word_of(found, TEXT),
+        last: last_of(found),
+        files,
         words,
     })
 }
 
-/// What the subcommand of this name asks for, with the values of its arguments; none where no command has the name.
+/// What the subcommand of this name asks for, with the values of its arguments, and with the words that are handed on; none where no command has the name.
 ///
 /// # Errors
 ///
@@ -100,8 +113,10 @@ pub fn asked<'a>(
     alloc: Global,
     name: &str,
     found: &ArgMatches<'a>,
+    handed: &[&'a str],
 ) -> Result<Option<Command<'a>>, AllocError>
-    ensures { IfOk result (AsksFor name.now (rows_of (found_of found.now))) }
+    ensures asks { IfOk result (AsksFor name.now (rows_of (found_of found.now))) }
+    ensures hands { IfOk result (MayHandOn (map (λ w. w.now) handed.now)) }
 {
     match name {
         "build" => Ok(Some(build_of(alloc, found)?)),
@@ -112,7 +127,7 @@ pub fn asked<'a>(
         })),
         "check" => Ok(Some(check_of(alloc, found)?)),
         "symbols" => Ok(Some(symbols_of(alloc, found)?)),
-        "trace" => Ok(Some(trace_of(alloc, found)?)),
+        "trace" => Ok(Some(trace_of(alloc, found, handed)?)),
         _ => Ok(None),
     }
 }

@@ -1,6 +1,6 @@
 //! The grammar of the command line.
 ghost use Rattle.std.specs.Prelude.{IfOk};
-ghost use Rattle.command_line.specs.Grammar.{IsRead, IsRuled, build_app, check_app, dis_app, executables_app, files_rule, interp_app, limit_rule, out_rule, path_rule, program_app, qbec_app, run_app, running_app, showing_app, symbols_app, trace_app, words_rule, working_app};
+ghost use Rattle.command_line.specs.Grammar.{IsRead, IsRuled, build_app, check_app, dis_app, executables_app, files_rule, interp_app, last_rule, limit_rule, out_rule, path_rule, program_app, qbec_app, run_app, running_app, showing_app, symbols_app, trace_app, words_rule, working_app};
 
 use clap::{Arg, Command, value_parser};
 use std::alloc::{AllocError, Global};
@@ -11,6 +11,8 @@ pub(crate) const OUT: &str = "OUT";
 pub(crate) const FILES: &str = "FILES";
 
 pub(crate) const LIMIT: &str = "limit";
+
+pub(crate) const LAST: &str = "last";
 
 pub(crate) const EXECUTABLE: &str = "EXE";
 
@@ -53,10 +55,11 @@ const SYMBOLS: &str =
 
 Example: qbec symbols examples/hello.ssa";
 
-const TRACE: &str =
-    "Exit status: as of interp. Where the program doesn't exit, a line on standard error says at which line of FILE and in which function it ended, before the line that says how.
+const TRACE: &str = "The argument words of the program stand behind '--'.
 
-Example: qbec trace --limit 100000 examples/endless.ssa";
+Exit status: as of interp. Where the program doesn't exit, lines on standard error say where and why it ended, before the line that says how: the line of a text and the function, what its operands hold, and the calls that it stands in.
+
+Example: qbec trace --limit 100000 --last 5 examples/endless.ssa -- word";
 
 /// What the program takes.
 pub(crate) fn grammar<'a>(alloc: Global) -> Result<Command<'a>, AllocError>
@@ -180,13 +183,12 @@ fn symbols<'a>(alloc: Global) -> Result<Command<'a>, AllocError>
 fn trace<'a>(alloc: Global) -> Result<Command<'a>, AllocError>
     ensures { IfOk result (λ c. IsRead c trace_app) }
 {
-    let steps = "How many turns to take at most";
-    let command = running(alloc, "trace", steps, TEXT, "The text of the program")?;
-    Ok(
-        command
-            .about("Interprets one text, and says where it ended")
-            .after_help(TRACE),
-    )
+    Command::new(alloc, "trace")
+        .about("Interprets texts, and says where and why they ended")
+        .after_help(TRACE)
+        .arg(limit(alloc, "How many turns to take at most"))?
+        .arg(last(alloc))?
+        .arg(files(alloc))
 }
 
 fn out<'a>(alloc: Global) -> Arg<'a>
@@ -223,6 +225,17 @@ fn limit<'a>(alloc: Global, help: &'a str) -> Arg<'a>
         .value_parser(value_parser!(u64).range(0..=1_000_000_000_000))
         .default_value("1000000000")
         .help(help)
+}
+
+fn last<'a>(alloc: Global) -> Arg<'a>
+    ensures { IsRuled result last_rule }
+{
+    Arg::new(alloc, LAST)
+        .long("last")
+        .value_name("K")
+        .value_parser(value_parser!(u64).range(0..=1_000))
+        .default_value("0")
+        .help("How many turns before the last one to show")
 }
 
 fn words<'a>(alloc: Global) -> Arg<'a>

@@ -10,12 +10,12 @@ mod grammar;
 pub mod laws;
 pub mod refusal;
 
-ghost use Rattle.std.specs.Prelude.{◌≡◌, [], IfOk, IfErr, OnOk, map};
+ghost use Rattle.std.specs.Prelude.{◌≡◌, ◌≤◌, [], IfOk, IfErr, OnOk, length, map};
 ghost use Rattle.clap.specs.Faults.{fault_of};
 ghost use Rattle.clap.specs.Simple.{subcommand_of, subcommand_rows_of};
-ghost use Rattle.command_line.specs.Asked.{AsksIn};
+ghost use Rattle.command_line.specs.Asked.{AsksIn, MayHandOn};
 ghost use Rattle.command_line.specs.Grammar.{qbec_app};
-ghost use Rattle.command_line.specs.Words.{AskFor, SaysWhy};
+ghost use Rattle.command_line.specs.Words.{AskFor, SaysOf, SaysWhy, dashes_at, handed_words, is_trace, read_words};
 
 use crate::asked::asked;
 use crate::grammar::grammar;
@@ -52,10 +52,11 @@ pub enum Command<'a> {
     Check {
         files: Vec<&'a str>,
     },
-    /// Interpret the text in `file` so, and say where it ended.
+    /// Interpret the files, as texts in this order, so, and say where and why they ended, with so many turns before.
     Trace {
         limit: u64,
-        file: &'a str,
+        last: u64,
+        files: Vec<&'a str>,
         words: Vec<&'a str>,
     },
     /// Show where the names of the files, as texts in this order, stand in an executable of them.
@@ -70,8 +71,9 @@ pub const DEFAULT_LIMIT: u64 = 1_000_000_000;
 /// What the words after the program's name ask for.
 ///
 /// The words are those of a call such as `build -o OUT FILE...`, `run [--limit N] EXE WORD...`, `interp [--limit N] FILE WORD...`, `dis EXE`, `check FILE...`,
-/// `symbols FILE...` or `trace [--limit N] FILE WORD...`.
-/// N is from 0 to 1,000,000,000,000, by default [`DEFAULT_LIMIT`]. A WORD that begins with `-` stands after `--`.
+/// `symbols FILE...` or `trace [--limit N] [--last K] FILE... [-- WORD...]`.
+/// N is from 0 to 1,000,000,000,000, by default [`DEFAULT_LIMIT`], and K from 0 to 1,000, by default 0. A WORD that begins with `-` stands after `--`, and each WORD
+/// of a trace does.
 ///
 /// # Errors
 ///
@@ -81,17 +83,55 @@ pub fn command_of<'a>(alloc: Global, words: &'a [&'a str]) -> Result<Command<'a>
     ensures asks { IfOk result (AskFor (map (λ w. w.now) words.now)) }
     ensures says { IfErr result (SaysWhy (map (λ w. w.now) words.now)) }
 {
-    let matches = matches_of(alloc, words)?;
-    match asked_in(alloc, &matches)? {
+    let (read, handed) = split(words);
+    let matches = matches_of(alloc, read)?;
+    match asked_in(alloc, &matches, handed)? {
         Some(command) => Ok(command),
         None => Err(no_command(alloc)?),
     }
 }
 
+/// The words that the grammar reads, and those that are handed on as they are.
+fn split<'a>(words: &'a [&'a str]) -> (&'a [&'a str], &'a [&'a str])
+    ensures read { map (λ w. w.now) result.0.now ≡ read_words (map (λ w. w.now) words.now) }
+    ensures handed { map (λ w. w.now) result.1.now ≡ handed_words (map (λ w. w.now) words.now) }
+{
+    if !is_trace(words) {
+        return (words, &[]);
+    }
+    let at = dashes_at(words);
+    if at < words.len() {
+        (&words[..at], &words[at + 1..])
+    } else {
+        (words, &[])
+    }
+}
+
+fn is_trace(words: &[&str]) -> bool
+    ensures { result ≡ is_trace (map (λ w. w.now) words.now) }
+{
+    match words {
+        [] => false,
+        [word, ..] => *word == "trace",
+    }
+}
+
+/// How many words stand before the first `--`, or how many there are.
+fn dashes_at(words: &[&str]) -> usize
+    ensures value { result ≡ dashes_at (map (λ w. w.now) words.now) }
+    ensures bound { result ≤ length words.now }
+{
+    let mut at = 0;
+    while at < words.len() && words[at] != "--" {
+        at += 1;
+    }
+    at
+}
+
 fn matches_of<'a>(alloc: Global, words: &'a [&'a str]) -> Result<ArgMatches<'a>, Refusal>
     ensures clean { OnOk result (fault_of qbec_app (map (λ w. w.now) words.now) ≡ []) }
     ensures found { IfOk result (λ m. subcommand_rows_of m ≡ subcommand_of qbec_app (map (λ w. w.now) words.now)) }
-    ensures says { IfErr result (SaysWhy (map (λ w. w.now) words.now)) }
+    ensures says { IfErr result (SaysOf (map (λ w. w.now) words.now)) }
 {
     match grammar(alloc)?.try_get_matches_from(words) {
         Ok(matches) => Ok(matches),
@@ -100,11 +140,16 @@ fn matches_of<'a>(alloc: Global, words: &'a [&'a str]) -> Result<ArgMatches<'a>,
 }
 
 /// What the subcommand asks for, where there is one.
-fn asked_in<'a>(alloc: Global, matches: &ArgMatches<'a>) -> Result<Option<Command<'a>>, AllocError>
-    ensures { IfOk result (AsksIn (subcommand_rows_of matches.now)) }
+fn asked_in<'a>(
+    alloc: Global,
+    matches: &ArgMatches<'a>,
+    handed: &[&'a str],
+) -> Result<Option<Command<'a>>, AllocError>
+    ensures asks { IfOk result (AsksIn (subcommand_rows_of matches.now)) }
+    ensures hands { IfOk result (MayHandOn (map (λ w. w.now) handed.now)) }
 {
     match matches.subcommand() {
-        Some((name, found)) => asked(alloc, name, found),
+        Some((name, found)) => asked(alloc, name, found, handed),
         None => Ok(None),
     }
 }

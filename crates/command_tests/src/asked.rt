@@ -23,9 +23,15 @@ fn shown(alloc: Global, command: &Command<'_>) -> Result<String, AllocError> {
             let count = files.len();
             format!(in alloc; "check {count}")
         }
-        Command::Trace { limit, file, words } => {
+        Command::Trace {
+            limit,
+            last,
+            files,
+            words,
+        } => {
+            let texts = files.len();
             let count = words.len();
-            format!(in alloc; "trace {limit} {file} {count}")
+            format!(in alloc; "trace {limit} {last} {texts} {count}")
         }
         Command::Symbols { files } => {
             let count = files.len();
@@ -63,7 +69,14 @@ fn words_ask_for_commands(rt: HostRuntime) -> Result<(), Fail> {
         ("check", "mistake"),
         ("symbols x.ssa y.ssa", "symbols 2"),
         ("symbols", "mistake"),
-        ("trace --limit 5 m.ssa p", "trace 5 m.ssa 1"),
+        ("trace --limit 5 m.ssa n.ssa", "trace 5 0 2 0"),
+        (
+            "trace --last 1000 m.ssa -- -n -- p",
+            "trace 1000000000 1000 1 3",
+        ),
+        ("trace --last 1001 m.ssa", "mistake"),
+        ("trace -- m.ssa", "mistake"),
+        ("trace --help -- m.ssa", "help"),
         ("--version", "help"),
         ("run --help", "help"),
         ("go", "mistake"),

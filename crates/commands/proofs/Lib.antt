@@ -3,3 +3,5 @@ pub mod Telling
 pub mod Holding
 pub mod Making
 pub mod Judging
+pub mod Sending
+pub mod Ending

@@ -11,7 +11,7 @@ use Rattle.shell.specs.Sink.{SinkState, Sends, Breaks, Tells}
 use Rattle.commands.specs.declared.failure.Failure.{Failure}
 use Rattle.commands.specs.declared.failure.Failure.TheVariants.{Memory, Output}
 use Rattle.commands.specs.Messages.{line_of}
-use Rattle.commands.specs.Parts.{IsBuilt, BuildFails, RunsTo, RunFails, MeansTo, InterpretFails, IsDisassembled, DisassemblyFails, AreShown, SymbolsFail, IsTraced, IsChecked, CheckFails}
+use Rattle.commands.specs.Parts.{IsBuilt, BuildFails, RunsTo, RunFails, MeansTo, InterpretFails, IsDisassembled, DisassemblyFails, AreShown, SymbolsFail, IsTraced, TraceFails, IsChecked, CheckFails}
 use Rattle.commands.specs.Statuses.{status_of}
 
 -- what a disk and the two streams tell at one time
@@ -41,9 +41,10 @@ Done (Check files) old new status =
 Done (Symbols files) old new status =
     (status ≡ 0) × AreShown old.disk (map (λ p. p.now) files.items) old.out new.out
     × (new.disk ≡ old.disk) × (new.err ≡ old.err)
-Done (Trace limit file words) old new status =
-    IsTraced old.disk file.now (map (λ w. w.now) words.items) limit old.out new.out old.err new.err
-    status × (new.disk ≡ old.disk)
+Done (Trace limit last files words) old new status =
+    IsTraced old.disk (map (λ p. p.now) files.items) (map (λ w. w.now) words.items) limit
+    old.out new.out old.err new.err status
+    × (new.disk ≡ old.disk)
 
 -- it failed so
 abbrev pub Fails : Command → (disk after : DiskState) (old new : SinkState) → Failure → Type 0
@@ -58,8 +59,9 @@ Fails (Check files) disk after old new f =
     CheckFails disk after (map (λ p. p.now) files.items) f × (new ≡ old)
 Fails (Symbols files) disk after old new f =
     SymbolsFail disk after (map (λ p. p.now) files.items) old new f
-Fails (Trace limit file words) disk after old new f =
-    InterpretFails disk after file (map (λ w. w.now) words.items) limit old new f
+Fails (Trace limit last files words) disk after old new f =
+    TraceFails disk after (map (λ p. p.now) files.items) (map (λ w. w.now) words.items) limit old new
+    f
 
 -- the line of this failure went to standard error, or a beginning of it where that failed; and the
 -- status is the failure's

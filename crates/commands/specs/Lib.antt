@@ -4,5 +4,6 @@ pub mod Examples
 pub mod Runs
 pub mod Refusals
 pub mod Verdicts
+pub mod Pieces
 pub mod Parts
 pub mod Commands

@@ -20,8 +20,9 @@ use Rattle.symbols.specs.Listing.{IsListed}
 use Rattle.commands.specs.declared.refusal.Refusal.TheVariants.{File}
 use Rattle.commands.specs.declared.failure.Failure.{Failure}
 use Rattle.commands.specs.declared.failure.Failure.TheVariants.{Memory, Refused, Unread, Unwritten, Output}
-use Rattle.commands.specs.Runs.{RunsFile, MeansText}
-use Rattle.commands.specs.Refusals.{compile_refusal, FileIsRefused, TextIsRefused}
+use Rattle.commands.specs.Pieces.{TextsBreak, TextsCutOff, not_run}
+use Rattle.commands.specs.Runs.{RunsFile, TextsMean}
+use Rattle.commands.specs.Refusals.{compile_refusal, FileIsRefused, TextsAreRefused}
 use Rattle.commands.specs.Messages.{line_of}
 use Rattle.commands.specs.Statuses.{stop_status, end_status, status_of}
 use Rattle.commands.specs.declared.verdict.Verdict.{Verdict}
@@ -119,7 +120,7 @@ pub record RanText (disk : DiskState) (path : List ℕ) (words : List (List ℕ)
     (output : List ℕ) (ending : End) : Type 0 where
   pub text : List ℕ
   pub held : Holds disk.files path text
-  pub means : MeansText text words turns output ending
+  pub means : TextsMean (text ∷ []) words turns output ending
 
 -- what they put out went out, and they ended with this status
 unfoldable pub RunsTo : DiskState → (path : List ℕ) →
@@ -146,16 +147,27 @@ RunFails disk after path words limit old new f =
     ⊎ ((output : List ℕ) × (stop : Stop) × RanFile disk path.now words limit output stop
     × EndsBadly output (stop_status stop) old new f × (after ≡ disk))
 
+-- the same of a text. Where memory is refused while it is interpreted, that is told as a refusal, and
+-- what it puts out in some of these turns went out
 unfoldable pub InterpretFails : (disk after : DiskState) → Bor (List ℕ) →
     (words : List (List ℕ)) (turns : ℕ) (old new : SinkState) → Failure → Type 0
 InterpretFails disk after path words turns old new f =
     (IsUnread disk after path f × (new ≡ old)) ⊎ ((f ≡ Memory) × (after ≡ disk) × (new ≡ old))
-    ⊎ ((text : List ℕ) × Holds disk.files path.now text × TextIsRefused text words f
+    ⊎ ((text : List ℕ) × Holds disk.files path.now text × TextsAreRefused (text ∷ []) words f
     × (after ≡ disk) × (new ≡ old))
     ⊎ ((output : List ℕ) × (ending : End) × RanText disk path.now words turns output ending
     × EndsBadly output (end_status ending) old new f × (after ≡ disk))
+    ⊎ ((text : List ℕ) × Holds disk.files path.now text
+    × TextsCutOff (text ∷ []) words turns old new × (f ≡ not_run) × (after ≡ disk))
 
 -- ---- trace
+
+-- the texts in the files mean so much
+pub record RanTexts (disk : DiskState) (paths words : List (List ℕ)) (turns : ℕ)
+    (output : List ℕ) (ending : End) : Type 0 where
+  pub texts : List (List ℕ)
+  pub held : AllHold disk.files paths texts
+  pub means : TextsMean texts words turns output ending
 
 -- what an end that is no exit tells on standard error: some bytes that say where it was, and the
 -- line of the failure, each as far as that took them
@@ -165,12 +177,26 @@ IsTold (Err f) before after status =
     (status ≡ status_of f) × ((place : List ℕ) × (between : SinkState) × Tells before between place
     × Tells between after (line_of f))
 
--- what the text in the file puts out went out, and its end was told so
-unfoldable pub IsTraced : DiskState → (path : List ℕ) → (words : List (List ℕ)) (turns : ℕ) →
+-- what the texts in the files put out went out, and their end was told so
+unfoldable pub IsTraced : DiskState → (paths words : List (List ℕ)) (turns : ℕ) →
     (old new before after : SinkState) (status : ℕ) → Type 0
-IsTraced disk path words turns old new before after status =
-    (output : List ℕ) × (ending : End) × RanText disk path words turns output ending
+IsTraced disk paths words turns old new before after status =
+    (output : List ℕ) × (ending : End) × RanTexts disk paths words turns output ending
     × Sends old new output × IsTold (end_status ending) before after status
+
+-- or it failed so: a file is unread, there was no memory, or the texts or the words are refused, and
+-- nothing was put out; a beginning of what they put out went out, and then standard output failed;
+-- or what they put out in some of these turns went out, and then memory was refused
+unfoldable pub TraceFails : (disk after : DiskState) → (paths words : List (List ℕ)) (turns : ℕ) →
+    (old new : SinkState) → Failure → Type 0
+TraceFails disk after paths words turns old new f =
+    (MissesFile disk after paths f × (new ≡ old)) ⊎ ((f ≡ Memory) × (after ≡ disk) × (new ≡ old))
+    ⊎ ((texts : List (List ℕ)) × AllHold disk.files paths texts × TextsAreRefused texts words f
+    × (after ≡ disk) × (new ≡ old))
+    ⊎ ((texts : List (List ℕ)) × AllHold disk.files paths texts
+    × TextsBreak texts words turns old new × (f ≡ Output) × (after ≡ disk))
+    ⊎ ((texts : List (List ℕ)) × AllHold disk.files paths texts
+    × TextsCutOff texts words turns old new × (f ≡ not_run) × (after ≡ disk))
 
 -- ---- dis
 

@@ -1,5 +1,5 @@
 -- Which failure each refusal becomes, and what a failure says of a file or of a text.
-use Rattle.std.specs.Prelude.{◌≡◌, ◌⊎◌, ℕ, false, List, [], ◌∷◌}
+use Rattle.std.specs.Prelude.{◌≡◌, ◌⊎◌, ℕ, false, List}
 use Rattle.il_ast.specs.declared.program.Program.{Program}
 use Rattle.il_types.specs.RuleNumber.{rule_number}
 use Rattle.il_interp.specs.declared.error.RunError.{RunError}
@@ -51,10 +51,10 @@ FileIsRefused bytes words (Refused Words) =
 FileIsRefused bytes words WantsMemory = (x : Executable) × Loads bytes x
 FileIsRefused bytes words f = ⊥
 
--- of a text that was not interpreted: it is refused as compiling it is, or it is a program and the
--- words are refused
-unfoldable pub TextIsRefused : List ℕ → (words : List (List ℕ)) → Failure → Type 0
-TextIsRefused text words f =
-    ((e : CompileError) × RefusesTexts e (text ∷ []) × (f ≡ Refused (compile_refusal e)))
-    ⊎ ((e : RunError) × (p : Program) × AreProgram (text ∷ []) p × RefusesWords e words
+-- of texts that were not interpreted: they are refused as compiling them is, or they are a program
+-- and the words are refused
+unfoldable pub TextsAreRefused : (texts words : List (List ℕ)) → Failure → Type 0
+TextsAreRefused texts words f =
+    ((e : CompileError) × RefusesTexts e texts × (f ≡ Refused (compile_refusal e)))
+    ⊎ ((e : RunError) × (p : Program) × AreProgram texts p × RefusesWords e words
     × (f ≡ Refused (run_refusal e)))

@@ -1,5 +1,5 @@
 -- What runs of files and of texts answer.
-use Rattle.std.specs.Prelude.{◌≡◌, ℕ, true, List, [], ◌∷◌}
+use Rattle.std.specs.Prelude.{◌≡◌, ℕ, true, List}
 use Rattle.il_ast.specs.declared.program.Program.{Program}
 use Rattle.il_ast.specs.declared.value.End.{End}
 use Rattle.il_ast.specs.Meaning.{meaning}
@@ -20,10 +20,10 @@ pub record RunsFile (bytes : List ℕ) (words : List (List ℕ)) (limit : ℕ) (
   pub fit : are_arguments words ≡ true
   pub ends : RunEnds true limit (start_state file words) output stop
 
--- the text is a program, which with these words, within their limits, means this output and this end
-pub record MeansText (text : List ℕ) (words : List (List ℕ)) (turns : ℕ) (output : List ℕ)
-    (ending : End) : Type 0 where
+-- the texts are a program, which with these words, within their limits, means this output and this
+-- end
+pub record TextsMean (texts words : List (List ℕ)) (turns : ℕ) (output : List ℕ) (ending : End) : Type 0 where
   pub program : Program
-  pub is : AreProgram (text ∷ []) program
+  pub is : AreProgram texts program
   pub fit : are_arguments words ≡ true
   pub means : meaning program words turns ≡ record { output = output; ending = ending }

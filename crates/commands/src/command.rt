@@ -95,9 +95,21 @@ fn perform<'a, D: Disk, O: Sink, E: Sink>(
         }
         Command::Disassemble { file } => disassemble(alloc, disk, out, *file),
         Command::Check { files } => check(alloc, disk, err, files.as_slice()),
-        Command::Trace { limit, file, words } => {
-            trace(alloc, disk, out, err, *limit, *file, words.as_slice())
-        }
+        Command::Trace {
+            limit,
+            last,
+            files,
+            words,
+        } => trace(
+            alloc,
+            disk,
+            out,
+            err,
+            *limit,
+            *last,
+            files.as_slice(),
+            words.as_slice(),
+        ),
         Command::Symbols { files } => list_symbols(alloc, allocator, disk, out, files.as_slice()),
     }
 }
@@ -111,10 +123,10 @@ fn perform<'a, D: Disk, O: Sink, E: Sink>(
 /// | `interp [--limit N] FILE WORD...` | interprets one text for at most N turns |
 /// | `dis EXE` | shows the instructions of the executable file |
 /// | `check FILE...` | says on `err` what is wrong with the files as texts, in order, each with its line |
-/// | `trace [--limit N] FILE WORD...` | interprets one text as `interp` does, and says on `err` where it ended, if it didn't exit |
+/// | `trace [--limit N] [--last K] FILE... [-- WORD...]` | interprets the files as texts, in order, as `interp` does one, and says on `err` where and why they ended, if they didn't exit, with the last K turns |
 /// | `symbols FILE...` | shows where the functions and the data of the files, as texts in order, stand in the executable that `build` makes with this strategy |
 ///
-/// A program's output goes to `out`. The status is the program's own, or 0 of `build`, of `dis`, of `symbols`, and of `check` where the texts are a program, else 126. Where something ends otherwise, the line of the [`Failure`] goes
+/// A program's output goes to `out`, while it runs. The status is the program's own, or 0 of `build`, of `dis`, of `symbols`, and of `check` where the texts are a program, else 126. Where something ends otherwise, the line of the [`Failure`] goes
 /// to `err`, and its status is answered; that `err` fails changes nothing. Where `out` fails, that is the failure. Help goes to `out`, with status 0; other texts of
 /// the command line go to `err`, with status 126. What these texts say is shown by tests.
 ///

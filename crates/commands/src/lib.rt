@@ -3,8 +3,8 @@
 //! [`command::command`] does what the words after the program's name ask for, over any files and streams, and answers the exit status: `build`, `run`, `interp`,
 //! `dis`, `check`, `symbols` and `trace`, or help. It writes one line to standard error where something ends otherwise than well.
 //!
-//! - [`runs::run_file`] runs the executable file of some bytes, exactly as the machine of the definitions does.
-//! - [`runs::interpret_text`] interprets one text, exactly as its program means.
+//! - [`runs::run_file`] runs the executable file of some bytes, exactly as the machine of the definitions does, and puts out what it puts out while it runs.
+//! - [`runs::interpret_texts`] interprets texts, exactly as their program means.
 //! - [`failure::Failure`] says why a command did not end well; its status is that of `specs/Statuses.antt`, and which failure a refusal becomes, and what
 //!   it says of the file or of the text, is that of `specs/Refusals.antt`.
 //! - [`verdict::judge`] finds what is wrong with texts, and where; what it says of them, and the lines that show it, is that of `specs/Verdicts.antt`.
@@ -23,6 +23,7 @@ pub mod failure;
 mod files;
 pub mod laws;
 mod list_symbols;
+mod pieces;
 pub mod refusal;
 mod run;
 pub mod runs;

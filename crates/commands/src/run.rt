@@ -1,11 +1,10 @@
 //! `qbec run` and `qbec interp`.
-ghost use Rattle.std.specs.Prelude.{◌≡◌, map, Ok, IfOk, OnOk, IfErr};
-ghost use Rattle.shell.specs.Sink.{Sends};
-ghost use Rattle.commands.specs.Parts.{EndsBadly, RunsTo, MeansTo, RunFails, InterpretFails};
+ghost use Rattle.std.specs.Prelude.{◌≡◌, map, IfOk, OnOk, IfErr};
+ghost use Rattle.commands.specs.Parts.{RunsTo, MeansTo, RunFails, InterpretFails};
 
 use crate::failure::{Failure, end_status, stop_status};
-use crate::files::{put_out, read};
-use crate::runs::{interpret_text, run_file};
+use crate::files::read;
+use crate::runs::{interpret_texts, run_file};
 use shell::disk::Disk;
 use shell::sink::Sink;
 use std::alloc::{AllocError, Global};
@@ -20,22 +19,8 @@ pub(crate) fn as_bytes<'a>(alloc: Global, words: &[&'a str]) -> Result<Vec<&'a [
     Ok(list)
 }
 
-/// Puts out what a program put out, and answers how it ended.
-fn finish<'a, O: Sink>(
-    out: &mut O,
-    output: &[u8],
-    end: Result<u8, Failure<'a>>,
-) -> Result<u8, Failure<'a>>
-    ensures heard { OnOk result (Sends (O.told out.old) (O.told out.new) output.now) }
-    ensures status { IfOk result (λ status. end.entry ≡ Ok status) }
-    ensures fails { IfErr result (EndsBadly output.now end.entry (O.told out.old) (O.told out.new)) }
-{
-    put_out(out, output)?;
-    end
-}
-
-/// Runs an executable file, puts out what it puts out, and answers its exit status.
-#[tactic(auto, unfolding(crate::specs::Parts::RunsTo, crate::specs::Parts::RunFails))]
+/// Runs an executable file, puts out what it puts out while it runs, and answers its exit status.
+#[tactic(auto, unfolding(crate::specs::Parts::RunsTo, crate::specs::Parts::RunFails, crate::specs::Pieces::FileFails))]
 pub(crate) fn run<'a, D: Disk, O: Sink>(
     alloc: Global,
     disk: &mut D,
@@ -50,12 +35,12 @@ pub(crate) fn run<'a, D: Disk, O: Sink>(
 {
     let bytes = read(disk, path)?;
     let words = as_bytes(alloc, words)?;
-    let (output, stop) = run_file(alloc, bytes.as_slice(), words.as_slice(), limit)?;
-    finish(out, output.as_slice(), stop_status(stop))
+    let stop = run_file(alloc, bytes.as_slice(), words.as_slice(), limit, out)?;
+    stop_status(stop)
 }
 
-/// Interprets a text, puts out what it puts out, and answers its exit status.
-#[tactic(auto, unfolding(crate::specs::Parts::MeansTo, crate::specs::Parts::InterpretFails))]
+/// Interprets a text, puts out what it puts out while it runs, and answers its exit status.
+#[tactic(auto, unfolding(crate::specs::Parts::MeansTo, crate::specs::Parts::InterpretFails, crate::specs::Pieces::TextsFail))]
 pub(crate) fn interpret<'a, D: Disk, O: Sink>(
     alloc: Global,
     disk: &mut D,
@@ -70,6 +55,6 @@ pub(crate) fn interpret<'a, D: Disk, O: Sink>(
 {
     let text = read(disk, path)?;
     let words = as_bytes(alloc, words)?;
-    let (output, end) = interpret_text(alloc, text.as_slice(), words.as_slice(), turns)?;
-    finish(out, output.as_slice(), end_status(end))
+    let end = interpret_texts(alloc, &[text.as_slice()], words.as_slice(), turns, out)?;
+    end_status(end)
 }

@@ -1,83 +1,106 @@
-//! Runs of files and of texts.
-ghost use Rattle.std.specs.Prelude.{◌≡◌, ◌↔◌, ◌∷◌, [], map, Err, IfOk, OnOk, IfErr, true, false};
+//! Runs of files and of texts, whose output goes out while they run.
+ghost use Rattle.std.specs.Prelude.{◌≡◌, ◌↔◌, map, true, false, Err, IfOk, OnOk, IfErr};
 ghost use Rattle.il_ast.specs.Meaning.{meaning};
 ghost use Rattle.obj_link.specs.Arguments.{are_arguments};
+ghost use Rattle.obj_link.specs.ProgramOf.{program};
 ghost use Rattle.rv_machine.specs.declared.start.StartError.TheVariants.{Arguments};
-ghost use Rattle.rv_machine.specs.Runs.{RunEnds};
+ghost use Rattle.rv_machine.specs.Machine.{view};
 ghost use Rattle.rv_machine.specs.Start.{start_state};
-ghost use Rattle.commands.specs.Runs.{RunsFile, MeansText};
-ghost use Rattle.commands.specs.Refusals.{FileIsRefused, TextIsRefused};
+ghost use Rattle.commands.specs.Pieces.{FileFails, FileSends, LinkedFails, Sent, TextsFail, TextsSend};
 
 use crate::failure::Failure;
+use crate::pieces::{run_machine, run_turns};
 use elf_file::{Loaded, read_image};
 use il_ast::value::End;
-use il_interp::interpret::interpret;
+use il_interp::pieces::begin_to_run;
+use obj_link::linking::linked::Linked;
 use obj_link::linking::resolve::resolve;
 use qbec::error::link_refusal;
 use qbec::texts::checked_texts;
 use rv_machine::machine::Machine;
 use rv_machine::page_ram::PageRam;
+use rv_machine::ram::Ram;
 use rv_machine::start::StartError;
 use rv_machine::stop::Stop;
+use shell::sink::Sink;
 use std::alloc::Global;
 
-/// Runs a loaded file from its start with these argument words, for at most `limit` instructions.
-fn run_loaded(
-    alloc: Global,
-    file: &Loaded,
-    words: &[&[u8]],
-    limit: u64,
-) -> Result<(Vec<u8>, Stop), StartError>
-    ensures ends { IfOk result (λ r. RunEnds true limit (start_state file.now (map (λ w. w.now) words.now)) r.0.items r.1) }
+/// A machine at the start of a loaded file with these argument words.
+fn start(alloc: Global, file: &Loaded, words: &[&[u8]]) -> Result<Machine<PageRam>, StartError>
+    ensures starts { IfOk result (λ m. view ⟦<PageRam as Ram>⟧ m ≡ start_state file.now (map (λ w. w.now) words.now)) }
     ensures fit { OnOk result (are_arguments (map (λ w. w.now) words.now) ≡ true) }
     ensures refused { (result ≡ Err Arguments) ↔ (are_arguments (map (λ w. w.now) words.now) ≡ false) }
 {
-    match Machine::<PageRam>::start(alloc, file, words) {
-        Ok(machine) => Ok(machine.run(alloc, limit)),
-        Err(error) => Err(error),
-    }
+    Machine::<PageRam>::start(alloc, file, words)
 }
 
-/// Runs an executable file with these argument words for at most `limit` instructions. Answers all that the program put out, and why it stopped.
+/// Runs an executable file with these argument words for at most `limit` instructions, puts out what it puts out while it runs, and answers why it stopped.
 ///
 /// # Errors
 ///
 /// `Failure::Refused` for bytes that are no executable file (L1 to L6), and then for words that pass a limit (E8); `Failure::Memory` where memory for the
-/// machine was refused.
-pub fn run_file<'a>(
+/// machine was refused; `Failure::Output` where the sink fails.
+pub fn run_file<'a, O: Sink>(
     alloc: Global,
     bytes: &[u8],
     words: &[&[u8]],
     limit: u64,
-) -> Result<(Vec<u8>, Stop), Failure<'a>>
-    ensures runs { IfOk result (λ r. RunsFile bytes.now (map (λ w. w.now) words.now) limit r.0.items r.1) }
-    ensures refused { IfErr result (λ e. FileIsRefused bytes.now (map (λ w. w.now) words.now) e) }
+    out: &mut O,
+) -> Result<Stop, Failure<'a>>
+    ensures runs { IfOk result (FileSends bytes.now (map (λ w. w.now) words.now) limit (O.told out.old) (O.told out.new)) }
+    ensures fails { IfErr result (FileFails bytes.now (map (λ w. w.now) words.now) limit (O.told out.old) (O.told out.new)) }
 {
     let file = match read_image(alloc, bytes) {
         Ok(file) => file,
         Err(error) => return Err(Failure::from(error)),
     };
-    match run_loaded(alloc, &file, words, limit) {
-        Ok(answer) => Ok(answer),
+    let mut machine = match start(alloc, &file, words) {
+        Ok(machine) => machine,
+        Err(error) => return Err(Failure::from(error)),
+    };
+    let code = machine.decoded_code(alloc);
+    run_machine(&mut machine, &code, limit, out)
+}
+
+/// Interprets a linked program with these argument words for at most `turns` turns, puts out what it puts out while it runs, and answers how it ended.
+fn interpret_linked<'a, O: Sink>(
+    alloc: Global,
+    linked: &Linked<'_>,
+    words: &[&[u8]],
+    turns: u64,
+    out: &mut O,
+) -> Result<End, Failure<'a>>
+    ensures sent { IfOk result (Sent (meaning (program linked.now) (map (λ w. w.now) words.now)) turns (O.told out.old) (O.told out.new)) }
+    ensures fit { OnOk result (are_arguments (map (λ w. w.now) words.now) ≡ true) }
+    ensures fails { IfErr result (LinkedFails (meaning (program linked.now) (map (λ w. w.now) words.now)) (map (λ w. w.now) words.now) turns (O.told out.old) (O.told out.new)) }
+{
+    match begin_to_run(alloc, linked, words) {
+        Ok(Ok(running)) => {
+            let mut running = running;
+            run_turns(alloc, &mut running, turns, out)
+        }
+        Ok(Err(end)) => Ok(end),
         Err(error) => Err(Failure::from(error)),
     }
 }
 
-/// Interprets one text with these argument words for at most `turns` turns. Answers all that the program put out, and how it ended.
+/// Interprets texts with these argument words for at most `turns` turns, puts out what they put out while they run, and answers how they ended.
 ///
 /// # Errors
 ///
-/// `Failure::Refused` for a text that is no program (E1 to E6), then for words that pass a limit (E8), and where memory was refused (E7).
-pub fn interpret_text<'a>(
+/// `Failure::Refused` for texts that are no program (E1 to E6), then for words that pass a limit (E8), and where memory was refused (E7), also in the middle of the
+/// run; `Failure::Output` where the sink fails.
+pub fn interpret_texts<'a, O: Sink>(
     alloc: Global,
-    text: &[u8],
+    texts: &[&[u8]],
     words: &[&[u8]],
     turns: u64,
-) -> Result<(Vec<u8>, End), Failure<'a>>
-    ensures means { IfOk result (λ r. MeansText text.now (map (λ w. w.now) words.now) turns r.0.items r.1) }
-    ensures refused { IfErr result (λ e. TextIsRefused text.now (map (λ w. w.now) words.now) e) }
+    out: &mut O,
+) -> Result<End, Failure<'a>>
+    ensures means { IfOk result (TextsSend (map (λ t. t.now) texts.now) (map (λ w. w.now) words.now) turns (O.told out.old) (O.told out.new)) }
+    ensures fails { IfErr result (TextsFail (map (λ t. t.now) texts.now) (map (λ w. w.now) words.now) turns (O.told out.old) (O.told out.new)) }
 {
-    let checked = match checked_texts(alloc, &[text]) {
+    let checked = match checked_texts(alloc, texts) {
         Ok(checked) => checked,
         Err(error) => return Err(Failure::from(error)),
     };
@@ -85,8 +108,5 @@ pub fn interpret_text<'a>(
         Ok(linked) => linked,
         Err(error) => return Err(Failure::from(link_refusal(alloc, error))),
     };
-    match interpret(alloc, &linked, words, turns) {
-        Ok(answer) => Ok(answer),
-        Err(error) => Err(Failure::from(error)),
-    }
+    interpret_linked(alloc, &linked, words, turns, out)
 }

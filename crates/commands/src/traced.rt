@@ -1,93 +1,95 @@
-//! Texts that are interpreted, with where that ended.
-ghost use Rattle.std.specs.Prelude.{◌≡◌, map, false, Err, IfOk, IfErr, MatchResult};
+//! Texts that are interpreted, with where and why that ended.
+ghost use Rattle.std.specs.Prelude.{◌≡◌, map, true, IfOk, OnOk, IfErr};
 ghost use Rattle.il_ast.specs.Meaning.{meaning};
-ghost use Rattle.il_interp.specs.declared.error.RunError.TheVariants.{Words};
-ghost use Rattle.il_interp.specs.Begun.{Refuses as RefusesWords};
 ghost use Rattle.obj_link.specs.Arguments.{are_arguments};
 ghost use Rattle.obj_link.specs.ProgramOf.{program};
-ghost use Rattle.commands.specs.Runs.{MeansText};
-ghost use Rattle.commands.specs.Refusals.{TextIsRefused};
+ghost use Rattle.commands.specs.Pieces.{LinkedFails, Sent, TextsFail, TextsSend};
 
 use crate::failure::Failure;
+use crate::pieces::run_turns;
+use backtrace::source::Source;
+use backtrace::story::{story, story_of_start};
 use il_ast::value::End;
-use il_interp::error::RunError;
-use il_interp::trace::{Place, interpret_traced};
+use il_interp::pieces::{Running, begin_to_run};
 use obj_link::linking::linked::Linked;
 use obj_link::linking::resolve::resolve;
 use qbec::error::link_refusal;
 use qbec::texts::checked_texts;
-use std::alloc::{AllocError, Global};
+use shell::sink::Sink;
+use std::alloc::Global;
 
-/// A line that says where a run ended: file, line and function.
-fn place_line(
+/// Where and why a run ended.
+fn told(
     alloc: Global,
-    path: &str,
     linked: &Linked<'_>,
-    place: Place,
-) -> Result<Vec<u8>, AllocError> {
-    let mut line = Vec::new(alloc);
-    let number = place.line(linked);
-    let begin = format!(in alloc; "{path}:{number}: in $")?;
-    line.extend_from_slice(begin.as_bytes())?;
-    line.extend_from_slice(name_at(linked, place.function))?;
-    line.extend_from_slice(b"\n")?;
-    Ok(line)
+    paths: &[&str],
+    texts: &[&[u8]],
+    running: &Running<'_>,
+) -> String {
+    let source = Source {
+        linked,
+        paths,
+        texts,
+    };
+    story(alloc, &source, running)
 }
 
-/// The name of a function of a program.
-fn name_at<'a>(linked: &'a Linked<'_>, function: usize) -> &'a [u8] {
-    let function = match linked.functions.as_slice().get(function) {
-        Some(function) => function,
-        None => return b"",
+/// Where a program ended that came to no turn.
+fn told_of_start(alloc: Global, linked: &Linked<'_>, paths: &[&str], texts: &[&[u8]]) -> String {
+    let source = Source {
+        linked,
+        paths,
+        texts,
     };
-    match linked.texts.get(function.text) {
-        Some(checked) => match checked
-            .text
-            .symbols
-            .as_slice()
-            .get(function.item.name.number())
-        {
-            Some(name) => name.as_slice(),
-            None => b"",
-        },
-        None => b"",
+    story_of_start(alloc, &source)
+}
+
+/// Interprets a linked program as [`crate::runs::interpret_texts`] does, and answers also where and why it ended.
+fn trace_linked<'a, O: Sink>(
+    alloc: Global,
+    linked: &Linked<'_>,
+    paths: &[&str],
+    texts: &[&[u8]],
+    words: &[&[u8]],
+    turns: u64,
+    last: u64,
+    out: &mut O,
+) -> Result<(End, String), Failure<'a>>
+    ensures sent { IfOk result (λ r. Sent (meaning (program linked.now) (map (λ w. w.now) words.now)) turns (O.told out.old) (O.told out.new) r.0) }
+    ensures fit { OnOk result (are_arguments (map (λ w. w.now) words.now) ≡ true) }
+    ensures fails { IfErr result (LinkedFails (meaning (program linked.now) (map (λ w. w.now) words.now)) (map (λ w. w.now) words.now) turns (O.told out.old) (O.told out.new)) }
+{
+    match begin_to_run(alloc, linked, words) {
+        Ok(Ok(running)) => {
+            let mut running = running;
+            running.watch(alloc, last as usize);
+            let end = run_turns(alloc, &mut running, turns, out)?;
+            Ok((end, told(alloc, linked, paths, texts, &running)))
+        }
+        Ok(Err(end)) => Ok((end, told_of_start(alloc, linked, paths, texts))),
+        Err(error) => Err(Failure::from(error)),
     }
 }
 
-/// Interprets a linked program, and says where it ended.
-fn traced<'a>(
-    alloc: Global,
-    path: &str,
-    linked: &Linked<'_>,
-    words: &[&[u8]],
-    turns: u64,
-) -> Result<(Vec<u8>, End, Vec<u8>), RunError>
-    ensures exact { IfOk result (λ r. meaning (program linked.now) (map (λ w. w.now) words.now) turns ≡ record { output = r.0.items; ending = r.1 }) }
-    ensures refused { are_arguments (map (λ w. w.now) words.now) ≡ false → result ≡ Err Words }
-    ensures truth { MatchResult result (λ _. Unit {0}) (λ error. RefusesWords error (map (λ w. w.now) words.now)) }
-{
-    let (output, end, place) = interpret_traced(alloc, linked, words, turns)?;
-    let line = place_line(alloc, path, linked, place)?;
-    Ok((output, end, line))
-}
-
-/// Interprets the text of a file as [`interpret_text`] does, and answers also a line that says where it ended: the file, the line and the function. No contract says
-/// more of that line.
+/// Interprets texts as [`crate::runs::interpret_texts`] does, and answers also the lines that say where and why they ended, with the last `last` turns: the files of these
+/// paths, their lines, and the functions. No contract says more of these lines.
 ///
 /// # Errors
 ///
-/// Those of [`interpret_text`].
-pub fn trace_text<'a>(
+/// Those of [`crate::runs::interpret_texts`].
+pub fn trace_texts<'a, O: Sink>(
     alloc: Global,
-    path: &str,
-    text: &[u8],
+    paths: &[&str],
+    texts: &[&[u8]],
     words: &[&[u8]],
     turns: u64,
-) -> Result<(Vec<u8>, End, Vec<u8>), Failure<'a>>
-    ensures means { IfOk result (λ r. MeansText text.now (map (λ w. w.now) words.now) turns r.0.items r.1) }
-    ensures refused { IfErr result (λ e. TextIsRefused text.now (map (λ w. w.now) words.now) e) }
+    last: u64,
+    out: &mut O,
+) -> Result<(End, String), Failure<'a>>
+    ensures means { IfOk result (λ r. TextsSend (map (λ t. t.now) texts.now) (map (λ w. w.now) words.now) turns (O.told out.old) (O.told out.new) r.0) }
+    ensures fails { IfErr result (TextsFail (map (λ t. t.now) texts.now) (map (λ w. w.now) words.now) turns (O.told out.old) (O.told out.new)) }
 {
-    let checked = match checked_texts(alloc, &[text]) {
+    let checked = match checked_texts(alloc, texts) {
         Ok(checked) => checked,
         Err(error) => return Err(Failure::from(error)),
     };
@@ -95,8 +97,5 @@ pub fn trace_text<'a>(
         Ok(linked) => linked,
         Err(error) => return Err(Failure::from(link_refusal(alloc, error))),
     };
-    match traced(alloc, path, &linked, words, turns) {
-        Ok(answer) => Ok(answer),
-        Err(error) => Err(Failure::from(error)),
-    }
+    trace_linked(alloc, &linked, paths, texts, words, turns, last, out)
 }

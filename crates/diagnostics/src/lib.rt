@@ -18,7 +18,7 @@ mod label;
 mod limit;
 pub mod linking;
 mod mention;
-mod name;
+pub mod name;
 pub mod note;
 mod phi;
 mod place;

@@ -6,4 +6,6 @@ pub mod NativeLemmas
 pub mod CallLemmas
 pub mod StartLemmas
 pub mod RunLemmas
+pub mod OutputLaws
+pub mod PieceLaws
 pub mod LabelLemmas

@@ -7,3 +7,4 @@ pub mod Places
 pub mod Prepared
 pub mod Room
 pub mod Begun
+pub mod Pieces

@@ -14,7 +14,8 @@
 //! and a call search for nothing; a temporary is a slot of its activation. A block of memory takes a
 //! logarithm of the number of live ones.
 //!
-//! [`trace::interpret_traced`] does the same, and answers besides where the run ended, which no contract promises.
+//! [`pieces::Running`] is a run in hand: it goes on by so many turns, and what it puts out can be taken between. A run can be watched: then it tells besides where
+//! it stands, what it did last, and what the operands of the turn hold that is due (`trace`), which no contract promises.
 //!
 //! `operate::operate_one` and `operate::operate_two` are exactly the operations of the language
 //! (`il_ast`, `specs/Operations`). The crate stands on `il_ast`, `il_mem`, `il_types` and `obj_link`, and
@@ -33,6 +34,7 @@ mod native;
 mod object;
 mod operand;
 pub mod operate;
+pub mod pieces;
 mod places;
 mod prepare;
 mod prepared;

@@ -1,5 +1,6 @@
 //! Runs.
-ghost use Rattle.std.specs.Prelude.{◌≡◌, IfOk};
+ghost use Rattle.std.specs.Prelude.{◌≡◌, ◌+◌, ℕ, IfOk};
+ghost use Rattle.il_interp.specs.Pieces.{rest_of};
 ghost use Rattle.il_interp.specs.Prepared.{program_of};
 ghost use Rattle.il_interp.specs.Machine.{machine};
 
@@ -10,7 +11,6 @@ use il_ast::value::End;
 use std::alloc::{AllocError, Global};
 
 /// Does so many turns, or as many as there are to the end. Answers the output and the end.
-#[tactic(auto, unfolding(crate::specs::Machine::machine))]
 pub fn run(
     alloc: Global,
     prepared: &Prepared<'_>,
@@ -19,12 +19,25 @@ pub fn run(
 ) -> Result<(Vec<u8>, End), AllocError>
     ensures { IfOk result (λ r. machine (program_of prepared.now) turns state ≡ record { output = r.0.items; ending = r.1 }) }
 {
+    let end = go_on(alloc, prepared, &mut state, turns)?;
+    Ok((state.output.into_bytes(), end.unwrap_or(End::Turns)))
+}
+
+/// Does so many turns, or as many as there are to the end. Answers the end, where the run is over.
+pub fn go_on(
+    alloc: Global,
+    prepared: &Prepared<'_>,
+    state: &mut State,
+    turns: u64,
+) -> Result<Option<End>, AllocError>
+    ensures { IfOk result (λ end. (n : ℕ) → machine (program_of prepared.now) (turns + n) state.old ≡ rest_of (program_of prepared.now) state.new end n) }
+{
     let mut values = Vec::new(alloc);
     for _done in 0..turns {
-        match turn(alloc, prepared, &mut state, &mut values)? {
-            Some(end) => return Ok((state.output.into_bytes(), end)),
+        match turn(alloc, prepared, state, &mut values)? {
+            Some(end) => return Ok(Some(end)),
             None => {}
         }
     }
-    Ok((state.output.into_bytes(), End::Turns))
+    Ok(None)
 }

@@ -69,6 +69,21 @@ impl Pile {
         Ok(())
     }
 
+    /// How many activations there are.
+    pub fn len(&self) -> usize {
+        self.frames.len()
+    }
+
+    /// The activation with this number, counted from 0 for the latest.
+    pub fn get(&self, number: usize) -> Option<&Frame> {
+        let count = self.frames.len();
+        if number < count {
+            self.frames.get(count - 1 - number)
+        } else {
+            None
+        }
+    }
+
     /// Takes the one on top.
     #[tactic(auto, using(crate::proofs::PileLemmas::popped))]
     pub fn pop(&mut self) -> Option<Frame>
@@ -107,6 +122,20 @@ impl Output {
         ensures { OnOk result (self.new ≡ self.old ++ bytes.now) }
     {
         self.bytes.extend_from_slice(bytes)
+    }
+
+    /// The bytes that are there.
+    pub fn bytes(&self) -> &[u8]
+        ensures { result.now ≡ self.now }
+    {
+        self.bytes.as_slice()
+    }
+
+    /// Forgets them.
+    pub fn clear(&mut self)
+        ensures { self.new ≡ [] }
+    {
+        self.bytes.clear();
     }
 
     /// All bytes that were put out.

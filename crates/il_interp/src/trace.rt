@@ -1,23 +1,21 @@
-//! Runs that tell where they end.
-ghost use Rattle.std.specs.Prelude.{◌≡◌, map, false, Err, IfOk, MatchResult};
-ghost use Rattle.il_ast.specs.Meaning.{meaning};
-ghost use Rattle.obj_link.specs.ProgramOf.{program};
-ghost use Rattle.obj_link.specs.Arguments.{are_arguments};
-ghost use Rattle.il_interp.specs.declared.error.RunError.TheVariants.{Words};
+//! Runs that are watched: where each turn is due, the last ones, and where blocks of memory were made.
+ghost use Rattle.std.specs.Prelude.{◌≡◌, ◌+◌, ℕ, IfOk};
+ghost use Rattle.il_interp.specs.Pieces.{rest_of};
 ghost use Rattle.il_interp.specs.Prepared.{program_of};
 ghost use Rattle.il_interp.specs.Machine.{machine};
-ghost use Rattle.il_interp.specs.Begun.{Refuses};
 
-use crate::error::RunError;
-use crate::interpret::begin;
-use crate::prepare::prepare;
 use crate::prepared::Prepared;
 use crate::state::{Frame, State};
 use crate::turn::turn;
-use il_ast::value::End;
-use obj_link::arguments::are_arguments;
+use il_ast::block::Block;
+use il_ast::instruction::Inst;
+use il_ast::operand::Dest;
+use il_ast::value::{End, Value};
 use obj_link::linking::linked::Linked;
 use std::alloc::{AllocError, Global};
+
+/// Of so many blocks of memory, the ones that were made last, it is remembered where they were made.
+const MOST_MAKERS: usize = 1_000_000;
 
 /// Where a turn is due.
 #[derive(Clone, Copy, Debug, PartialEq, Eq)]
@@ -30,16 +28,48 @@ pub struct Place {
     pub next: usize,
 }
 
+/// A turn that was done.
+#[derive(Clone, Copy, Debug, PartialEq, Eq)]
+pub struct Turn {
+    pub place: Place,
+    /// what its instruction assigned, where that is known at once: of a call it isn't
+    pub assigned: Option<Value>,
+}
+
 impl Place {
+    /// Where a program begins.
+    pub fn start(linked: &Linked<'_>) -> Place {
+        Place {
+            function: linked.main,
+            block: 0,
+            next: 0,
+        }
+    }
+
+    /// The block of the text that the turn is due in.
+    pub fn in_block<'a>(self, linked: &Linked<'a>) -> Option<&'a Block> {
+        match linked.functions.as_slice().get(self.function) {
+            Some(function) => function.item.blocks.as_slice().get(self.block),
+            None => None,
+        }
+    }
+
+    /// The instruction that is due, or none where it is the jump.
+    pub fn instruction<'a>(self, linked: &Linked<'a>) -> Option<&'a Inst> {
+        match self.in_block(linked) {
+            Some(block) => match block.insts.as_slice().get(self.next) {
+                Some(inst) => Some(&inst.item),
+                None => None,
+            },
+            None => None,
+        }
+    }
+
     /// The line of the text at which the turn is due.
     pub fn line(self, linked: &Linked<'_>) -> usize {
-        let function = match linked.functions.as_slice().get(self.function) {
-            Some(function) => function.item,
-            None => return 1,
-        };
-        let block = match function.blocks.as_slice().get(self.block) {
+        let block = match self.in_block(linked) {
             Some(block) => block,
-            None => return function.line,
+            None => return 1,
         };
         match block.insts.as_slice().get(self.next) {
             Some(inst) => inst.line,
@@ -51,6 +81,25 @@ impl Place {
     }
 }
 
+/// What is remembered of a run that is watched.
+#[derive(Drop)]
+pub struct Watch {
+    /// where the last turn was due, or the next one where the run goes on
+    place: Place,
+    /// how many activations waited there
+    depth: usize,
+    /// how many turns are remembered
+    last: usize,
+    /// the last turns; once they are as many as are wanted, the next one takes the place of the oldest
+    turns: Vec<Turn>,
+    oldest: usize,
+    /// where blocks of memory were made, by their numbers from `first` on, modulo [`MOST_MAKERS`]
+    makers: Vec<Place>,
+    first: u128,
+    /// how many blocks were made
+    made: u128,
+}
+
 fn place_of(frame: &Frame) -> Place {
     Place {
         function: frame.function,
@@ -59,57 +108,152 @@ fn place_of(frame: &Frame) -> Place {
     }
 }
 
-/// Does so many turns, or as many as there are to the end. Answers the output, the end, and where the last turn was due, or the next one where the turns are used up.
-#[tactic(auto, unfolding(crate::specs::Machine::machine))]
-fn run_traced(
+/// What the instruction at a place assigns, where it isn't a call.
+fn assigned_at(linked: &Linked<'_>, place: Place) -> Option<Dest> {
+    match place.instruction(linked) {
+        Some(Inst::Unary { to, .. }) => Some(*to),
+        Some(Inst::Binary { to, .. }) => Some(*to),
+        Some(Inst::Alloc { to, .. }) => Some(*to),
+        _ => None,
+    }
+}
+
+/// Where in a list the block with this number has its place, counted from the first one.
+fn maker_at(number: u128) -> usize {
+    (number % MOST_MAKERS as u128) as usize
+}
+
+impl Watch {
+    /// Nothing is remembered yet of a run that stands there. Of its turns the last ones will be, so many.
+    pub(crate) fn new(alloc: Global, state: &State, last: usize) -> Watch {
+        Watch {
+            place: place_of(&state.frame),
+            depth: state.below.len(),
+            last,
+            turns: Vec::new(alloc),
+            oldest: 0,
+            makers: Vec::new(alloc),
+            first: state.memory.made(),
+            made: state.memory.made(),
+        }
+    }
+
+    /// Before a turn.
+    fn begin(&mut self, state: &State) {
+        self.place = place_of(&state.frame);
+        self.depth = state.below.len();
+        self.made = state.memory.made();
+    }
+
+    /// After a turn.
+    fn end(&mut self, linked: &Linked<'_>, state: &State) -> Result<(), AllocError> {
+        if state.memory.made() > self.made {
+            self.note_block()?;
+        }
+        if self.last == 0 {
+            return Ok(());
+        }
+        let assigned = match assigned_at(linked, self.place) {
+            Some(to) => state.frame.temps.get(to.temp.number()),
+            None => None,
+        };
+        let place = self.place;
+        self.note_turn(Turn { place, assigned })
+    }
+
+    /// Remembers where the block was made that this turn made.
+    fn note_block(&mut self) -> Result<(), AllocError> {
+        let at = maker_at(self.made.saturating_sub(self.first));
+        match self.makers.get_mut(at) {
+            Some(maker) => *maker = self.place,
+            None => self.makers.push(self.place)?,
+        }
+        Ok(())
+    }
+
+    fn note_turn(&mut self, turn: Turn) -> Result<(), AllocError> {
+        if self.turns.len() < self.last {
+            self.turns.push(turn)?;
+            return Ok(());
+        }
+        match self.turns.get_mut(self.oldest) {
+            Some(oldest) => {
+                *oldest = turn;
+                self.oldest = self.oldest.saturating_add(1);
+            }
+            None => {}
+        }
+        if self.oldest >= self.turns.len() {
+            self.oldest = 0;
+        }
+        Ok(())
+    }
+
+    /// Where the last turn was due, or where the next one is, if the run goes on.
+    pub(crate) fn place(&self) -> Place {
+        self.place
+    }
+
+    /// How many activations waited at that turn.
+    pub(crate) fn depth(&self) -> usize {
+        self.depth
+    }
+
+    /// How many turns are remembered.
+    pub(crate) fn count(&self) -> usize {
+        self.turns.len()
+    }
+
+    /// How many blocks there were when it began to be watched.
+    pub(crate) fn first(&self) -> u128 {
+        self.first
+    }
+
+    /// Of the last turns the one with this number, counted from 0 for the oldest.
+    pub(crate) fn turn(&self, number: usize) -> Option<Turn> {
+        let count = self.turns.len();
+        if number >= count {
+            return None;
+        }
+        let behind = count - number;
+        let at = if self.oldest < behind {
+            self.oldest.saturating_add(number)
+        } else {
+            self.oldest - behind
+        };
+        self.turns.get(at).copied()
+    }
+
+    /// Where the block with this number was made, if that is remembered.
+    pub(crate) fn maker(&self, block: u128) -> Option<Place> {
+        if block < self.first {
+            return None;
+        }
+        if self.made.saturating_sub(block) >= MOST_MAKERS as u128 {
+            return None;
+        }
+        self.makers.get(maker_at(block - self.first)).copied()
+    }
+}
+
+/// Does so many turns, or as many as there are to the end, as [`crate::run::go_on`] does, and remembers what is wanted of them.
+pub(crate) fn go_on_watched(
     alloc: Global,
     prepared: &Prepared<'_>,
-    mut state: State,
+    state: &mut State,
+    watch: &mut Watch,
     turns: u64,
-) -> Result<(Vec<u8>, End, Place), AllocError>
-    ensures { IfOk result (λ r. machine (program_of prepared.now) turns state ≡ record { output = r.0.items; ending = r.1 }) }
+) -> Result<Option<End>, AllocError>
+    ensures { IfOk result (λ end. (n : ℕ) → machine (program_of prepared.now) (turns + n) state.old ≡ rest_of (program_of prepared.now) state.new end n) }
 {
     let mut values = Vec::new(alloc);
     for _done in 0..turns {
-        let place = place_of(&state.frame);
-        match turn(alloc, prepared, &mut state, &mut values)? {
-            Some(end) => return Ok((state.output.into_bytes(), end, place)),
-            None => {}
+        watch.begin(state);
+        match turn(alloc, prepared, state, &mut values)? {
+            Some(end) => return Ok(Some(end)),
+            None => watch.end(prepared.linked, state)?,
         }
     }
-    let place = place_of(&state.frame);
-    Ok((state.output.into_bytes(), End::Turns, place))
-}
-
-/// Runs a program as [`crate::interpret::interpret`] does, and answers also where it ended: where the last turn was due, or the next one where the turns are used up.
-///
-/// # Errors
-///
-/// `RunError::Words` says that the words pass a limit, `RunError::Memory` that memory was refused.
-pub fn interpret_traced(
-    alloc: Global,
-    linked: &Linked<'_>,
-    words: &[&[u8]],
-    turns: u64,
-) -> Result<(Vec<u8>, End, Place), RunError>
-    ensures exact { IfOk result (λ r. meaning (program linked.now) (map (λ w. w.now) words.now) turns ≡ record { output = r.0.items; ending = r.1 }) }
-    ensures refused { are_arguments (map (λ w. w.now) words.now) ≡ false → result ≡ Err Words }
-    ensures truth { MatchResult result (λ _. Unit {0}) (λ error. Refuses error (map (λ w. w.now) words.now)) }
-{
-    if !are_arguments(words) {
-        return Err(RunError::Words);
-    }
-    let prepared = prepare(alloc, linked)?;
-    match begin(alloc, &prepared, words)? {
-        Ok(state) => Ok(run_traced(alloc, &prepared, state, turns)?),
-        Err(end) => Ok((
-            Vec::new(alloc),
-            end,
-            Place {
-                function: linked.main,
-                block: 0,
-                next: 0,
-            },
-        )),
-    }
+    watch.begin(state);
+    Ok(None)
 }

@@ -1,0 +1,18 @@
+use Rattle.std.proofs.Common.{◌∙◌, ap, map, List, ℕ, Bor, inr}
+use Rattle.std.proofs.lemmas.Result.{IfErr-weaker}
+use Rattle.il_ast.specs.Meaning.{meaning}
+use Rattle.obj_link.specs.ProgramOf.{program}
+use Rattle.il_interp.specs.Pieces.{begun_as, comes_to}
+use Rattle.commands.proofs.Ending.{fails_as}
+use Rattle.commands.proofs.runs.interpret_linked.Goals as goal
+
+pub returns-in-Ok-Ok-clause-fails : goal.returns-in-Ok-Ok-clause-fails
+returns-in-Ok-Ok-clause-fails g c =
+    IfErr-weaker c.run_turns.result _ _
+    (λ f h.
+    inr (
+      c.in-Ok-Ok.ensures.fit,
+      fails_as (comes_to c.in-Ok-Ok.running) (meaning (program c.args.linked.now) (map (λ (w : Bor (List ℕ)). w.now) c.args.words.now)) c.args.turns (g.O.Sink.told c.args.out.now) (g.O.Sink.told c.run_turns.new.out) f
+          (λ n. c.in-Ok-Ok.ensures.means n ∙ ap (λ b. begun_as b n) c.in-Ok-Ok.field-0-is) h,
+    ))
+    c.run_turns.ensures.fails
