@@ -116,8 +116,7 @@ fn bytes(text: &mut TextMaker, count: u64) {
 }
 
 /// A field with a string of 64 characters, the last two of which are one byte.
-const STRING: &str =
-    "\tb \"What stands here is long enough to be a line of some program's\\n\",\n";
+const STRING: &str = "\tb \"What stands here is long enough to be a line of some program's\\n\",\n";
 
 fn strings(text: &mut TextMaker, characters: u64) {
     text.add("export function w $main() {\n@start\n\tret 0\n}\ndata $d = {\n");

@@ -20,7 +20,7 @@ use std::alloc::Global;
 
 /// After so many instructions or turns at most, what they put out goes out. It is held until then, so that a program that puts out a byte at a time asks the system
 /// seldom.
-const PIECE: u64 = 8_192;
+const PIECE: u64 = 2_048;
 
 /// Where a piece puts out more than so many bytes, the next one is shorter.
 const MUCH: usize = 65_536;
