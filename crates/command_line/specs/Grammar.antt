@@ -1,5 +1,6 @@
 -- The grammar of the command line, as `clap` reads one.
-use Rattle.std.specs.Prelude.{◌≡◌, ℕ, true, false, List, [], ◌∷◌, codes, Some}
+use Rattle.std.specs.Prelude.{◌≡◌, ℕ, true, false, List, [], ◌∷◌, codes, Some, Result, IfOk}
+use Rattle.std.specs.declared.alloc.AllocError.{AllocError}
 use Rattle.clap.specs.Lexer.{usize_max}
 use Rattle.clap.specs.Walk.{Rule, rule_of}
 use Rattle.clap.specs.Simple.{App, app_of, new_app, new_rule, new_shape, with_rule, with_subcommand}
@@ -110,3 +111,15 @@ IsRead c app = (app_of c ≡ app) × ((fields_of c).has_globals ≡ false)
 
 abbrev pub IsRuled : Arg → Rule → Type 0
 IsRuled a rule = (rule_of a ≡ rule) × (a.global ≡ false)
+
+-- where there was memory for all, this is the program with the command
+abbrev pub HasSubcommand : (program command result : Result Command AllocError) → Type 0
+HasSubcommand program command result =
+    (a b : App) → IfOk program (λ c. IsRead c a) → IfOk command (λ c. IsRead c b)
+    → IfOk result (λ c. IsRead c (with_subcommand a b.top))
+
+-- where there was memory for all, this is the command with the argument
+abbrev pub HasArgument : (command : Result Command AllocError) → Arg → (result : Result Command AllocError) → Type 0
+HasArgument command argument result =
+    (a : App) (r : Rule) → IfOk command (λ c. IsRead c a) → IsRuled argument r
+    → IfOk result (λ c. IsRead c (with_rule a r))

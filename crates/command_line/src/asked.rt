@@ -72,6 +72,14 @@ fn interpret_of<'a>(alloc: Global, found: &ArgMatches<'a>) -> Result<Command<'a>
     })
 }
 
+fn disassemble_of<'a>(found: &ArgMatches<'a>) -> Command<'a>
+    ensures { Asks (codes "dis") (rows_of (found_of found.now)) result }
+{
+    Command::Disassemble {
+        file: word_of(found, EXECUTABLE),
+    }
+}
+
 fn check_of<'a>(alloc: Global, found: &ArgMatches<'a>) -> Result<Command<'a>, AllocError>
     ensures { IfOk result (Asks (codes "check") (rows_of (found_of found.now))) }
 {
@@ -118,16 +126,15 @@ pub fn asked<'a>(
     ensures asks { IfOk result (AsksFor name.now (rows_of (found_of found.now))) }
     ensures hands { IfOk result (MayHandOn (map (λ w. w.now) handed.now)) }
 {
-    match name {
-        "build" => Ok(Some(build_of(alloc, found)?)),
-        "run" => Ok(Some(run_of(alloc, found)?)),
-        "interp" => Ok(Some(interpret_of(alloc, found)?)),
-        "dis" => Ok(Some(Command::Disassemble {
-            file: word_of(found, EXECUTABLE),
-        })),
-        "check" => Ok(Some(check_of(alloc, found)?)),
-        "symbols" => Ok(Some(symbols_of(alloc, found)?)),
-        "trace" => Ok(Some(trace_of(alloc, found, handed)?)),
-        _ => Ok(None),
-    }
+    let command = match name {
+        "build" => build_of(alloc, found),
+        "run" => run_of(alloc, found),
+        "interp" => interpret_of(alloc, found),
+        "dis" => Ok(disassemble_of(found)),
+        "check" => check_of(alloc, found),
+        "symbols" => symbols_of(alloc, found),
+        "trace" => trace_of(alloc, found, handed),
+        _ => return Ok(None),
+    };
+    Ok(Some(command?))
 }

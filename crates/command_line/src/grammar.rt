@@ -1,6 +1,7 @@
 //! The grammar of the command line.
-ghost use Rattle.std.specs.Prelude.{IfOk};
-ghost use Rattle.command_line.specs.Grammar.{IsRead, IsRuled, build_app, check_app, dis_app, executables_app, files_rule, interp_app, last_rule, limit_rule, out_rule, path_rule, program_app, qbec_app, run_app, running_app, showing_app, symbols_app, trace_app, words_rule, working_app};
+ghost use Rattle.std.specs.Prelude.{IfOk, List, ℕ};
+ghost use Rattle.clap.specs.Simple.{new_app};
+ghost use Rattle.command_line.specs.Grammar.{HasArgument, HasSubcommand, IsRead, IsRuled, build_app, check_app, dis_app, executables_app, files_rule, interp_app, last_rule, limit_rule, out_rule, path_rule, program_app, qbec_app, run_app, running_app, showing_app, symbols_app, trace_app, words_rule, working_app};
 
 use clap::{Arg, Command, value_parser};
 use std::alloc::{AllocError, Global};
@@ -65,34 +66,51 @@ Example: qbec trace --limit 100000 --last 5 examples/endless.ssa -- word";
 pub(crate) fn grammar<'a>(alloc: Global) -> Result<Command<'a>, AllocError>
     ensures { IfOk result (λ c. IsRead c qbec_app) }
 {
-    showing(alloc)?.subcommand(trace(alloc)?)
+    with_subcommand(showing(alloc), trace(alloc))
 }
 
 /// The program, with all commands but the one that traces.
 fn showing<'a>(alloc: Global) -> Result<Command<'a>, AllocError>
     ensures { IfOk result (λ c. IsRead c showing_app) }
 {
-    working(alloc)?
-        .subcommand(check(alloc)?)?
-        .subcommand(symbols(alloc)?)
+    let working = with_subcommand(working(alloc), check(alloc));
+    with_subcommand(working, symbols(alloc))
 }
 
 /// The program, with the commands that make, run and show programs.
 fn working<'a>(alloc: Global) -> Result<Command<'a>, AllocError>
     ensures { IfOk result (λ c. IsRead c working_app) }
 {
-    executables(alloc)?
-        .subcommand(interp(alloc)?)?
-        .subcommand(dis(alloc)?)
+    let executables = with_subcommand(executables(alloc), interp(alloc));
+    with_subcommand(executables, dis(alloc))
 }
 
 /// The program, with the commands that make and run executables.
 fn executables<'a>(alloc: Global) -> Result<Command<'a>, AllocError>
     ensures { IfOk result (λ c. IsRead c executables_app) }
 {
-    program(alloc)?
-        .subcommand(build(alloc)?)?
-        .subcommand(run(alloc)?)
+    let program = with_subcommand(program(alloc), build(alloc));
+    with_subcommand(program, run(alloc))
+}
+
+/// A program with one more command, where there was memory for both.
+fn with_subcommand<'a>(
+    program: Result<Command<'a>, AllocError>,
+    command: Result<Command<'a>, AllocError>,
+) -> Result<Command<'a>, AllocError>
+    ensures { HasSubcommand program.entry command.entry result }
+{
+    program?.subcommand(command?)
+}
+
+/// A command with one more argument, where there was memory for it.
+fn with_argument<'a>(
+    command: Result<Command<'a>, AllocError>,
+    argument: Arg<'a>,
+) -> Result<Command<'a>, AllocError>
+    ensures { HasArgument command.entry argument.entry result }
+{
+    command?.arg(argument)
 }
 
 /// The program, without its commands.
@@ -111,84 +129,81 @@ fn program<'a>(alloc: Global) -> Result<Command<'a>, AllocError>
         .bin_name("qbec")
 }
 
+/// A command of this name, with what its help says above and below its arguments.
+fn titled<'a>(alloc: Global, name: &'a str, about: &'a str, help: &'a str) -> Command<'a>
+    ensures { IsRead result (new_app name.now) }
+{
+    Command::new(alloc, name).about(about).after_help(help)
+}
+
 fn build<'a>(alloc: Global) -> Result<Command<'a>, AllocError>
     ensures { IfOk result (λ c. IsRead c build_app) }
 {
-    Command::new(alloc, "build")
-        .about("Compiles texts to an executable file")
-        .after_help(BUILD)
-        .arg(out(alloc))?
-        .arg(files(alloc))
+    let about = "Compiles texts to an executable file";
+    let command = titled(alloc, "build", about, BUILD).arg(out(alloc));
+    with_argument(command, files(alloc))
 }
 
-/// A command that runs a program within a limit, without its help.
+/// A command that runs a program within a limit: it with its arguments.
 fn running<'a>(
     alloc: Global,
-    command: &'a str,
+    command: Command<'a>,
     limit_help: &'a str,
     file: &'a str,
     file_help: &'a str,
 ) -> Result<Command<'a>, AllocError>
-    ensures { IfOk result (λ c. IsRead c (running_app command.now file.now)) }
+    ensures { (name : List ℕ) → IsRead command.entry (new_app name) → IfOk result (λ c. IsRead c (running_app name file.now)) }
 {
-    Command::new(alloc, command)
-        .arg(limit(alloc, limit_help))?
-        .arg(path(alloc, file, file_help))?
-        .arg(words(alloc))
+    let command = command.arg(limit(alloc, limit_help));
+    let command = with_argument(command, path(alloc, file, file_help));
+    with_argument(command, words(alloc))
 }
 
 fn run<'a>(alloc: Global) -> Result<Command<'a>, AllocError>
     ensures { IfOk result (λ c. IsRead c run_app) }
 {
+    let command = titled(alloc, "run", "Runs an executable file", RUN);
     let steps = "How many instructions to run at most";
-    let command = running(alloc, "run", steps, EXECUTABLE, "The executable file")?;
-    Ok(command.about("Runs an executable file").after_help(RUN))
+    running(alloc, command, steps, EXECUTABLE, "The executable file")
 }
 
 fn interp<'a>(alloc: Global) -> Result<Command<'a>, AllocError>
     ensures { IfOk result (λ c. IsRead c interp_app) }
 {
+    let command = titled(alloc, "interp", "Interprets one text", INTERPRET);
     let steps = "How many turns to take at most";
-    let command = running(alloc, "interp", steps, TEXT, "The text of the program")?;
-    Ok(command.about("Interprets one text").after_help(INTERPRET))
+    running(alloc, command, steps, TEXT, "The text of the program")
 }
 
 fn dis<'a>(alloc: Global) -> Result<Command<'a>, AllocError>
     ensures { IfOk result (λ c. IsRead c dis_app) }
 {
-    Command::new(alloc, "dis")
-        .about("Shows the instructions of an executable file")
-        .after_help(DISASSEMBLE)
-        .arg(path(alloc, EXECUTABLE, "The executable file"))
+    let about = "Shows the instructions of an executable file";
+    titled(alloc, "dis", about, DISASSEMBLE).arg(path(alloc, EXECUTABLE, "The executable file"))
 }
 
 fn check<'a>(alloc: Global) -> Result<Command<'a>, AllocError>
     ensures { IfOk result (λ c. IsRead c check_app) }
 {
-    Command::new(alloc, "check")
-        .about("Says what is wrong with texts, and where")
-        .after_help(CHECK)
-        .arg(files(alloc))
+    let about = "Says what is wrong with texts, and where";
+    titled(alloc, "check", about, CHECK).arg(files(alloc))
 }
 
 fn symbols<'a>(alloc: Global) -> Result<Command<'a>, AllocError>
     ensures { IfOk result (λ c. IsRead c symbols_app) }
 {
-    Command::new(alloc, "symbols")
-        .about("Shows where the names of texts stand in their executable")
-        .after_help(SYMBOLS)
-        .arg(files(alloc))
+    let about = "Shows where the names of texts stand in their executable";
+    titled(alloc, "symbols", about, SYMBOLS).arg(files(alloc))
 }
 
 fn trace<'a>(alloc: Global) -> Result<Command<'a>, AllocError>
     ensures { IfOk result (λ c. IsRead c trace_app) }
 {
-    Command::new(alloc, "trace")
-        .about("Interprets texts, and says where and why they ended")
-        .after_help(TRACE)
-        .arg(limit(alloc, "How many turns to take at most"))?
-        .arg(last(alloc))?
-        .arg(files(alloc))
+    let about = "Interprets texts, and says where and why they ended";
+    let command = titled(alloc, "trace", about, TRACE);
+    let command = command.arg(limit(alloc, "How many turns to take at most"));
+    let command = with_argument(command, last(alloc));
+    with_argument(command, files(alloc))
 }
 
 fn out<'a>(alloc: Global) -> Arg<'a>

@@ -25,7 +25,7 @@ use clap::error::ErrorKind;
 use std::alloc::{AllocError, Global};
 
 /// What the user asks for.
-#[derive(Debug, Drop, PartialEq, Eq)]
+#[derive(Drop)]
 pub enum Command<'a> {
     /// Compile the files, as texts in this order, to the executable file `out`.
     Build {
