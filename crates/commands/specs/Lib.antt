@@ -7,3 +7,4 @@ pub mod Verdicts
 pub mod Pieces
 pub mod Parts
 pub mod Commands
+pub mod Exits

@@ -8,6 +8,7 @@
 //! - [`failure::Failure`] says why a command did not end well; its status is that of `specs/Statuses.antt`, and which failure a refusal becomes, and what
 //!   it says of the file or of the text, is that of `specs/Refusals.antt`.
 //! - [`verdict::judge`] finds what is wrong with texts, and where; what it says of them, and the lines that show it, is that of `specs/Verdicts.antt`.
+//! - [`invoke::invoke`] does what the words of a process ask for, and answers the process's status; how it ends is that of `specs/Exits.antt`.
 //! - [`tell::tell`] writes the line of a failure, byte by byte that of `specs/Messages.antt`.
 //!
 //! `specs/Parts.antt` says what each command does with what files hold, down to the bytes that go to standard output, and with which statuses and failures it ends;
@@ -21,9 +22,11 @@ pub mod command;
 mod disassemble;
 pub mod failure;
 mod files;
+pub mod invoke;
 pub mod laws;
 mod list_symbols;
 mod pieces;
+mod process;
 pub mod refusal;
 mod run;
 pub mod runs;
@@ -32,3 +35,4 @@ mod trace;
 pub mod traced;
 pub mod verdict;
 mod verdict_lines;
+mod words;

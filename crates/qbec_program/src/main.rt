@@ -1,11 +1,11 @@
-//! The program `qbec`: its words, files and standard streams, handed to [`invocation::invoke::invoke`].
+//! The program `qbec`: its words, files and standard streams, handed to [`commands::invoke::invoke`].
 //!
 //! What the system gives and takes is promised by no contract; every byte goes out by [`shell::write_exe::write_exe`].
 #![tactic(auto)]
 
+use commands::invoke::invoke;
 use host::host_files::HostFiles;
 use host::stream::Stream;
-use invocation::invoke::invoke;
 use regalloc::linear_scan::LinearScan;
 use std::process::ExitCode;
 use std::rt::Env;

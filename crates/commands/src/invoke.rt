@@ -3,13 +3,13 @@ ghost use Rattle.std.specs.Prelude.{◌≡◌, map, drop, IfOk, IfErr};
 ghost use Rattle.std.specs.IoError.{error_kind};
 ghost use Rattle.std.specs.Process.{exit_status};
 ghost use Rattle.std.specs.String.{string_bytes};
-ghost use Rattle.invocation.specs.Exits.{Exits, IsUnbegun, words_failure};
+ghost use Rattle.commands.specs.Exits.{Exits, IsUnbegun, words_failure};
 
+use crate::command::{command, report};
+use crate::failure::Failure;
 use crate::process::exit_code;
+use crate::refusal::Refusal;
 use crate::words::words_of;
-use commands::command::{command, report};
-use commands::failure::Failure;
-use commands::refusal::Refusal;
 use regalloc::strategy::Strategy;
 use shell::disk::Disk;
 use shell::sink::Sink;
