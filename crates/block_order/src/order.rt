@@ -101,6 +101,18 @@ fn as_they_stand(alloc: Global, function: &VFunc) -> Result<VFunc, AllocError>
     }
 }
 
+/// The function with its blocks in the order of chains, or as they stand where that is none.
+fn in_chains(alloc: Global, function: &VFunc) -> Result<VFunc, AllocError>
+    ensures kept { IfOk result (λ w. Keeps (virtual_code function.now) (virtual_code w)) }
+    ensures ordered { IfOk result (λ w. IsOrdered function.now w) }
+{
+    let order = chained(alloc, function.code.blocks.as_slice())?;
+    match in_order(alloc, function, order.as_slice())? {
+        Some(made) => Ok(made),
+        None => as_they_stand(alloc, function),
+    }
+}
+
 /// The function with its blocks in an order in which fewer jumps are taken, by a guess at what runs often, and without those to which nothing leads. It takes time
 /// and memory as the text is long, and as finding the depths of loops does.
 ///
@@ -111,9 +123,5 @@ pub fn order_blocks(alloc: Global, function: VFunc) -> Result<VFunc, AllocError>
     ensures kept { IfOk result (λ w. Keeps (virtual_code function) (virtual_code w)) }
     ensures ordered { IfOk result (λ w. IsOrdered function w) }
 {
-    let order = chained(alloc, function.code.blocks.as_slice())?;
-    match in_order(alloc, &function, order.as_slice())? {
-        Some(made) => Ok(made),
-        None => as_they_stand(alloc, &function),
-    }
+    in_chains(alloc, &function)
 }

@@ -104,6 +104,19 @@ fn without_dead(alloc: Global, function: &VFunc, live: &Live) -> Result<VFunc, A
     Ok(made)
 }
 
+/// The function by its live registers.
+fn by_liveness(alloc: Global, function: &VFunc) -> Result<VFunc, AllocError>
+    ensures kept { IfOk result (λ w. Keeps (virtual_code function.now) (virtual_code w)) }
+    ensures exact { IfOk result (λ w. IsWithoutDead function.now w) }
+{
+    let graph = graph(alloc, function)?;
+    // the graph has them all, so each has a number
+    let _points = graph.uses.len();
+    let live = live_in(alloc, &graph, function.registers)?;
+    let kept = without_dead(alloc, function, &live)?;
+    Ok(kept)
+}
+
 /// The function without its dead lines: those that do nothing but write a register whose value isn't used any more. Blocks of memory stay, but have no register
 /// where their address isn't used. It takes about as long and as much memory as finding the live registers does.
 ///
@@ -114,10 +127,5 @@ pub fn remove_dead_code(alloc: Global, function: VFunc) -> Result<VFunc, AllocEr
     ensures kept { IfOk result (λ w. Keeps (virtual_code function) (virtual_code w)) }
     ensures exact { IfOk result (λ w. IsWithoutDead function w) }
 {
-    let graph = graph(alloc, &function)?;
-    // the graph has them all, so each has a number
-    let _points = graph.uses.len();
-    let live = live_in(alloc, &graph, function.registers)?;
-    let kept = without_dead(alloc, &function, &live)?;
-    Ok(kept)
+    by_liveness(alloc, &function)
 }

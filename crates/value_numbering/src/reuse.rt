@@ -104,6 +104,17 @@ fn reused(
     }
 }
 
+/// The function by the claims that are found, or else by none; none where neither are right.
+fn reused_by_any(alloc: Global, function: &VFunc) -> Result<Option<VFunc>, AllocError>
+    ensures { IfOk result (λ o. IfSome o (λ w. Keeps (virtual_code function.now) (virtual_code w))) }
+{
+    let claims = claims(alloc, function.registers, function.code.blocks.as_slice())?;
+    match reused(alloc, function, claims.as_slice())? {
+        Some(made) => Ok(Some(made)),
+        None => reused(alloc, function, &[]),
+    }
+}
+
 /// The function in which lines that compute what a register holds are copies of it, and stores of what was extended or masked write what it was made of, within
 /// blocks and, where the claims are right, across them.
 ///
@@ -113,12 +124,8 @@ fn reused(
 pub fn reuse_values(alloc: Global, function: VFunc) -> Result<VFunc, AllocError>
     ensures { IfOk result (λ w. Keeps (virtual_code function) (virtual_code w)) }
 {
-    let claims = claims(alloc, function.registers, function.code.blocks.as_slice())?;
-    if let Some(made) = reused(alloc, &function, claims.as_slice())? {
-        return Ok(made);
+    match reused_by_any(alloc, &function)? {
+        Some(made) => Ok(made),
+        None => Ok(function),
     }
-    if let Some(made) = reused(alloc, &function, &[])? {
-        return Ok(made);
-    }
-    Ok(function)
 }
