@@ -66,7 +66,7 @@ pub record EarlyCode (c : Setting) (f : Code Location) (e : EarlyReturn) : Type 
   pub code : CodeStands c f
   pub rest : List Item
   pub begin : StandAt (site c)
-      (prologue c.layout c.saved ++ (entry_items c.layout f.params ++ (blocks_items c.layout 0 f.blocks ++ (Label c.layout.leave ∷ rest))))
+      (prologue c.layout c.saved ++ (entry_items c.layout f.params ++ (blocks_items c.layout c.saved 0 f.blocks ++ (Label c.layout.leave ∷ rest))))
       (c.label (begin_label c.layout))
   pub quick : StandAt (site c) (quick_items c.layout e.value ++ []) (c.label (quick_label c.layout))
   pub leave : c.layout.leave ≡ length f.blocks
@@ -322,7 +322,7 @@ other_way c f slots j e r log call a n goes =
     let saved : list_all can_save c.saved ≡ true = call.stands.code.setting.savable in
     let ready = later_ready c.world c.start.pc c.sp (classes f.params) j c.start a.after call.ready a.same a.fixed in
     let ready_there = subst (λ (q : Spots). Ready c.world a.after.pc c.sp (classes f.params) (record j { memory = q }) a.after) (sym call.before) ready in
-    let rest : List Item = blocks_items c.layout 0 f.blocks ++ (Label c.layout.leave ∷ call.stands.rest) in
+    let rest : List Item = blocks_items c.layout c.saved 0 f.blocks ++ (Label c.layout.leave ∷ call.stands.rest) in
     let begin : List Item = prologue c.layout c.saved ++ entry_items c.layout f.params in
     let m = (begins later f slots a.after.pc j good call.same_slots call.same_saved call.is call.clear ready_there).from rest
     (subst (λ q. StandAt (site c) (begin ++ rest) q) (sym a.place)
@@ -333,7 +333,7 @@ other_way c f slots j e r log call a n goes =
     let size = call.size in
     enter c f call.stands.code j r n (follows c f call.stands.code j r n) 0 (flat_begin f (c.sp - c.area) j) (a.steps + m.steps) m.after
     (record {
-      place = first_label (site c) c.layout f.blocks call.stands.rest m.after.pc call.stands.leave m.stands;
+      place = first_label (site c) c.layout c.saved f.blocks call.stands.rest m.after.pc call.stands.leave m.stands;
       fixed = m.fixed;
       framed = subst (λ (q : Spots). Framed c (passed_numbers f j) q m.after) call.before framed.0;
       comes = comes_then a.comes m.comes;
@@ -428,28 +428,28 @@ by_ways c f slots j e r log call n goes false g false h a = early_way c f slots 
 
 -- ---- the promise
 
-pub performs_early : (w : World) (at : ℕ) (label global : ℕ → ℕ) (addresses : List ℕ) (f : Code Location) (slots : ℕ) (e : EarlyReturn) → IsEarly f e → IsCode f slots → IsWorld w
+pub performs_early : (w : World) (at : ℕ) (label global : ℕ → ℕ) (addresses : List ℕ) (f : Code Location) (slots : ℕ) (copies : Bool) (e : EarlyReturn) → IsEarly f e → IsCode f slots → IsWorld w
     → ((n a : ℕ) → slice_get addresses n ≡ Some a → global n ≡ a) → ((n : ℕ) → global n < 2 ^ 30)
-    → Stand w.memory_map label global (early_items (layout f slots) (saved_registers f) f.params f.blocks e) at
+    → Stand w.memory_map label global (early_items (layout f slots copies) (saved_registers f) f.params f.blocks e) at
     → KeepsFrame w at (frame_bound f slots) (frame_size f slots) (area f) (map (λ d. d.class) f.params) f.result (flat_begin f) (flat_step f addresses)
-performs_early w at label global addresses f slots e early is world globals near stands sp j stack clear log r n goes all s ready =
-    let c : Setting = setting w label global addresses f slots sp j.memory s in
-    let y : Layout = layout f slots in
-    let good : IsSetting c = is_setting w label global addresses f slots sp j.room j.memory s is world globals near stack in
+performs_early w at label global addresses f slots copies e early is world globals near stands sp j stack clear log r n goes all s ready =
+    let c : Setting = setting w label global addresses f slots copies sp j.memory s in
+    let y : Layout = layout f slots copies in
+    let good : IsSetting c = is_setting w label global addresses f slots copies sp j.room j.memory s is world globals near stack in
     let rs : List ℕ = saved_registers f in
     let p_quick : List Item = Label (quick_label y) ∷ quick_items y e.value in
     let p_end : List Item = epilogue y rs ++ p_quick in
-    let p_blocks : List Item = blocks_items y 0 f.blocks ++ (Label y.leave ∷ p_end) in
+    let p_blocks : List Item = blocks_items y rs 0 f.blocks ++ (Label y.leave ∷ p_end) in
     let p_entry : List Item = entry_items y f.params ++ p_blocks in
     let p_begin : List Item = prologue y rs ++ p_entry in
     let test : StandAt (site c) (test_items y e ++ (Label (begin_label y) ∷ p_begin)) at =
     subst (λ (q : List Item). StandAt (site c) (test_items y e ++ (Label (begin_label y) ∷ q)) at)
-    (around (prologue y rs) (entry_items y f.params) (blocks_items y 0 f.blocks) (Label y.leave ∷ epilogue y rs) p_quick) stands in
+    (around (prologue y rs) (entry_items y f.params) (blocks_items y rs 0 f.blocks) (Label y.leave ∷ epilogue y rs) p_quick) stands in
     let at_begin = stand_after (site c) (test_items y e) (Label (begin_label y) ∷ p_begin) at test in
     let begin = after_label (site c) (begin_label y) p_begin at_begin.place at_begin.stands in
     let at_entry = stand_after (site c) (prologue y rs) p_entry (c.label (begin_label y)) begin in
     let at_blocks = stand_after (site c) (entry_items y f.params) p_blocks at_entry.place at_entry.stands in
-    let at_leave = stand_after (site c) (blocks_items y 0 f.blocks) (Label y.leave ∷ p_end) at_blocks.place at_blocks.stands in
+    let at_leave = stand_after (site c) (blocks_items y rs 0 f.blocks) (Label y.leave ∷ p_end) at_blocks.place at_blocks.stands in
     let leave = after_label (site c) y.leave p_end at_leave.place at_leave.stands in
     let at_quick = stand_after (site c) (epilogue y rs) p_quick (c.label y.leave) leave in
     let quick = after_label (site c) (quick_label y) (quick_items y e.value) at_quick.place at_quick.stands in
@@ -457,8 +457,8 @@ performs_early w at label global addresses f slots e early is world globals near
       setting = good;
       blocks = λ i b h.
           block_stands c f slots refl refl refl is b i h
-          (subst (λ k. BlockCode (site c) y b k) (zero-add i)
-          (blocks_stand (site c) y 0 f.blocks p_end at_blocks.place (sym (zero-add (length f.blocks))) at_blocks.stands i b h));
+          (subst (λ k. BlockCode (site c) y rs b k) (zero-add i)
+          (blocks_stand (site c) y rs 0 f.blocks p_end at_blocks.place (sym (zero-add (length f.blocks))) at_blocks.stands i b h));
       result = refl;
       falls = refl;
       rest = p_quick;
@@ -483,7 +483,7 @@ performs_early w at label global addresses f slots e early is world globals near
       };
       ready = subst (λ a. Ready w a sp (classes f.params) j s) (sym ready.place) ready;
       clear = clear;
-      size = begin_size f slots is;
+      size = begin_size f slots copies is;
       all = all;
     } in
     let level : sp ≡ sp - 0 = omega arith in

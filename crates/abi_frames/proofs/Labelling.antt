@@ -51,7 +51,7 @@ use Rattle.operation_code.specs.Constants.{parted_constant, zeros_of, left_of, i
 use Rattle.operation_code.specs.Immediates.{opposite, next, right_form, left_form, compare_number, form_items}
 use Rattle.operation_code.specs.declared.immediate.Form.{Form}
 use Rattle.operation_code.specs.declared.immediate.Form.TheVariants.{Immediate as ByImmediate, AddWord, Shift as ByShift, ShiftWord, Compare as ByComparison}
-use Rattle.abi_frames.specs.Emission.{copy_at, copy_eight, copy_eights, copy_rest, far_load, load_slot, far_store, store_slot, slot_offset, into, fetch, source, word_into, target, deliver, set_items, operand_into, operand_source, on_registers, by_form, operate_by, operate_items, base_items, load_by, store_by, store_op, line_items, lines_items, move_pointer, lower_pointer, raise_pointer, save_all, restore_all, go_back, prologue, epilogue, result_items, goto_items, branch_when, inverted, ways_items, compared_into, compared_source, jump_items, blocks_items, passed_class, pass_into, stack_items, stack_all, register_items, register_all, passed_items, callee_items, callee_source, prepare_items, call_through, receive_items, call_items, address_at}
+use Rattle.abi_frames.specs.Emission.{copy_at, copy_eight, copy_eights, copy_rest, far_load, load_slot, far_store, store_slot, slot_offset, into, fetch, source, word_into, target, deliver, set_items, operand_into, operand_source, on_registers, by_form, operate_by, operate_items, base_items, load_by, store_by, store_op, line_items, lines_items, move_pointer, lower_pointer, raise_pointer, save_all, restore_all, go_back, prologue, epilogue, result_items, goto_items, branch_when, inverted, ways_items, compared_into, compared_source, leave_items, jump_items, blocks_items, passed_class, pass_into, stack_items, stack_all, register_items, register_all, passed_items, callee_items, callee_source, prepare_items, call_through, receive_items, call_items, address_at}
 use Rattle.operation_code.specs.Operations.{compare_items, operation_items}
 use Rattle.operation_code.specs.Fields.{name_into, load_to, store_from}
 use Rattle.abi_frames.specs.Moves.{is_read, earlier_at, move_up, moves_up, moved_up, all_move_up, all_moved_up}
@@ -68,7 +68,7 @@ use Rattle.abi_frames.proofs.Activations.{place_is, can_save}
 use Rattle.abi_frames.proofs.FrameEnds.{savable}
 use Rattle.abi_frames.proofs.Saving.{can_save_all, few_saved_registers}
 use Rattle.abi_frames.proofs.Outgoing.{slots_near}
-use Rattle.abi_frames.proofs.Sizes.{function_size, le_is, ValueShort}
+use Rattle.abi_frames.proofs.Sizes.{ValueShort}
 
 -- ---- code without a label of its own, whose jumps go to labels below n
 
@@ -651,25 +651,6 @@ ways_plainly n y next on v w met otherwise some more first second = by_test (y.f
         plainly_then n (branch_when on v w met ∷ []) (goto_items y next otherwise) (when_plainly n on v w met some more first)
         (goto_items_plainly n y next otherwise second)
 
-jump_plainly : (n : ℕ) (y : Layout) (next slots blocks : ℕ) (j : Jump Location) → y.leave < n → blocks < n → jump_keeps (is_place slots) j ≡ true
-    → leads_inside blocks j ≡ true → Plainly n (jump_items y next j)
-jump_plainly n y next slots blocks (Goto k) leave more known inside = goto_items_plainly n y next k (target_below blocks n k more inside)
-jump_plainly n y next slots blocks (Branch c met otherwise) leave more known inside =
-    let parts = and_parts (is_target blocks met) (is_target blocks otherwise) inside in
-    let both = and_parts (operand_keeps (is_place slots) c.left) (operand_keeps (is_place slots) c.right) known in
-    let op : Operation = Compare c.condition c.class in
-    let ways = ways_items y next c.condition (compared_source c 28 c.left) (compared_source c 29 c.right) met otherwise in
-    plainly_then n (compared_into y c 28 c.left) (compared_into y c 29 c.right ++ ways) (read_plainly n y slots op 28 c.left (lit< tt) (lit< tt) both.0)
-    (plainly_then n (compared_into y c 29 c.right) ways (read_plainly n y slots op 29 c.right (lit< tt) (lit< tt) both.1)
-    (ways_plainly n y next c.condition (compared_source c 28 c.left) (compared_source c 29 c.right) met otherwise
-    (read_nameable slots op 28 c.left (lit< tt) both.0) (read_nameable slots op 29 c.right (lit< tt) both.1)
-    (target_below blocks n met more parts.0) (target_below blocks n otherwise more parts.1)))
-jump_plainly n y next slots blocks (Return None) leave more known inside = goto_items_plainly n y next y.leave (lt_from y.leave n leave)
-jump_plainly n y next slots blocks (Return (Some a)) leave more known inside =
-    plainly_then n (result_items y y.result a) (goto_items y next y.leave) (result_plainly n y slots y.result a known)
-    (goto_items_plainly n y next y.leave (lt_from y.leave n leave))
-jump_plainly n y next slots blocks Halt leave more known inside = record { labels = refl; none = λ l. refl; registers = refl }
-
 -- ---- the frame's begin and end
 
 move_plainly : (n m : ℕ) → Plainly n (move_pointer m)
@@ -721,6 +702,33 @@ epilogue_plainly n y rs good =
     plainly_then n (restore_all y.saves rs) (raise_pointer y.size ++ (go_back ∷ [])) (restores_plainly n y.saves rs good)
     (plainly_then n (raise_pointer y.size) (go_back ∷ []) (raise_plainly n y.size) (record { labels = refl; none = λ l. refl; registers = refl }))
 
+-- ---- jumps
+
+leave_plainly : (n : ℕ) (y : Layout) (rs : List ℕ) (next : ℕ) → list_all can_save rs ≡ true → y.leave < n → Plainly n (leave_items y rs next)
+leave_plainly n y rs next good leave = by_test (y.copies && not (y.falls && nat_eq y.leave next))
+  where
+    by_test : (t : Bool) → Plainly n (if t then epilogue y rs else goto_items y next y.leave)
+    by_test true = epilogue_plainly n y rs good
+    by_test false = goto_items_plainly n y next y.leave (lt_from y.leave n leave)
+
+jump_plainly : (n : ℕ) (y : Layout) (rs : List ℕ) (next slots blocks : ℕ) (j : Jump Location) → list_all can_save rs ≡ true → y.leave < n → blocks < n → jump_keeps (is_place slots) j ≡ true
+    → leads_inside blocks j ≡ true → Plainly n (jump_items y rs next j)
+jump_plainly n y rs next slots blocks (Goto k) good leave more known inside = goto_items_plainly n y next k (target_below blocks n k more inside)
+jump_plainly n y rs next slots blocks (Branch c met otherwise) good leave more known inside =
+    let parts = and_parts (is_target blocks met) (is_target blocks otherwise) inside in
+    let both = and_parts (operand_keeps (is_place slots) c.left) (operand_keeps (is_place slots) c.right) known in
+    let op : Operation = Compare c.condition c.class in
+    let ways = ways_items y next c.condition (compared_source c 28 c.left) (compared_source c 29 c.right) met otherwise in
+    plainly_then n (compared_into y c 28 c.left) (compared_into y c 29 c.right ++ ways) (read_plainly n y slots op 28 c.left (lit< tt) (lit< tt) both.0)
+    (plainly_then n (compared_into y c 29 c.right) ways (read_plainly n y slots op 29 c.right (lit< tt) (lit< tt) both.1)
+    (ways_plainly n y next c.condition (compared_source c 28 c.left) (compared_source c 29 c.right) met otherwise
+    (read_nameable slots op 28 c.left (lit< tt) both.0) (read_nameable slots op 29 c.right (lit< tt) both.1)
+    (target_below blocks n met more parts.0) (target_below blocks n otherwise more parts.1)))
+jump_plainly n y rs next slots blocks (Return None) good leave more known inside = leave_plainly n y rs next good leave
+jump_plainly n y rs next slots blocks (Return (Some a)) good leave more known inside =
+    plainly_then n (result_items y y.result a) (leave_items y rs next) (result_plainly n y slots y.result a known) (leave_plainly n y rs next good leave)
+jump_plainly n y rs next slots blocks Halt good leave more known inside = record { labels = refl; none = λ l. refl; registers = refl }
+
 -- ---- blocks
 
 -- 1 for each number from k on, as many as there are blocks
@@ -741,20 +749,20 @@ one_more k n l = grind (arith, nat_tests)
 length-more : (b : Block Location) (blocks : List (Block Location)) → length (b ∷ blocks) ≡ length blocks + 1
 length-more b blocks = omega arith
 
-blocks_labelled : (n : ℕ) (y : Layout) (slots all k : ℕ) (blocks : List (Block Location)) → y.leave < n → all < n → k + length blocks ≤ all
+blocks_labelled : (n : ℕ) (y : Layout) (rs : List ℕ) (slots all k : ℕ) (blocks : List (Block Location)) → list_all can_save rs ≡ true → y.leave < n → all < n → k + length blocks ≤ all
     → list_all (block_keeps (is_place slots)) blocks ≡ true → list_all (λ (b : Block Location). leads_inside all b.jump) blocks ≡ true
-    → BlocksLabelled n k blocks (blocks_items y k blocks)
-blocks_labelled n y slots all k [] leave more few known inside = record { labels = refl; once = λ l. no_blocks k l; registers = refl }
-blocks_labelled n y slots all k (b ∷ blocks) leave more few known inside =
+    → BlocksLabelled n k blocks (blocks_items y rs k blocks)
+blocks_labelled n y rs slots all k [] good leave more few known inside = record { labels = refl; once = λ l. no_blocks k l; registers = refl }
+blocks_labelled n y rs slots all k (b ∷ blocks) good leave more few known inside =
     let known_parts = and_parts (block_keeps (is_place slots) b) (list_all (block_keeps (is_place slots)) blocks) known in
     let inside_parts = and_parts (leads_inside all b.jump) (list_all (λ (d : Block Location). leads_inside all d.jump) blocks) inside in
     let here = and_parts (list_all (line_keeps (is_place slots)) b.lines) (jump_keeps (is_place slots) b.jump) known_parts.0 in
-    let body : List Item = lines_items y 0 b.lines ++ jump_items y (k + 1) b.jump in
-    let plain = plainly_then n (lines_items y 0 b.lines) (jump_items y (k + 1) b.jump) (lines_plainly n y 0 slots b.lines here.0)
-    (jump_plainly n y (k + 1) slots all b.jump leave more here.1 inside_parts.0) in
+    let body : List Item = lines_items y 0 b.lines ++ jump_items y rs (k + 1) b.jump in
+    let plain = plainly_then n (lines_items y 0 b.lines) (jump_items y rs (k + 1) b.jump) (lines_plainly n y 0 slots b.lines here.0)
+    (jump_plainly n y rs (k + 1) slots all b.jump good leave more here.1 inside_parts.0) in
     let count = length-more b blocks in
-    let rest = blocks_labelled n y slots all (k + 1) blocks leave more (omega (arith, few, count)) known_parts.1 inside_parts.1 in
-    let others : List Item = blocks_items y (k + 1) blocks in
+    let rest = blocks_labelled n y rs slots all (k + 1) blocks good leave more (omega (arith, few, count)) known_parts.1 inside_parts.1 in
+    let others : List Item = blocks_items y rs (k + 1) blocks in
     record {
       labels = and_from (nat_lt k n) (list_all (has_label_below n) (body ++ others)) (lt_from k n (omega (arith, few, count, more)))
           (all_both (has_label_below n) body others plain.labels rest.labels);
@@ -838,23 +846,21 @@ some_size y rs =
     let more = longest-append (raise_pointer y.size) (go_back ∷ []) in
     omega (arith, all, more)
 
-pub function_labelled : (f : Code Location) (slots : ℕ) → IsCode f slots
-    → IsLabelled (record { items = function_items (layout f slots) (saved_registers f) f.params f.blocks; labels = length f.blocks + 1 })
-function_labelled f slots is =
-    let y : Layout = layout f slots in
+pub function_labelled : (f : Code Location) (slots : ℕ) (copies : Bool) → IsCode f slots
+    → longest_size (function_items (layout f slots copies) (saved_registers f) f.params f.blocks) < 2 ^ 28
+    → IsLabelled (record { items = function_items (layout f slots copies) (saved_registers f) f.params f.blocks; labels = length f.blocks + 1 })
+function_labelled f slots copies is near =
+    let y : Layout = layout f slots copies in
     let n : ℕ = length f.blocks in
     let known = and_parts (list_all (λ (d : Destination Location). is_place slots d.place) f.params) (list_all (block_keeps (is_place slots)) f.blocks) is.known in
     let rs : List ℕ = saved_registers f in
     let first : List Item = prologue y rs ++ entry_items y f.params in
-    let mid : List Item = blocks_items y 0 f.blocks in
+    let mid : List Item = blocks_items y rs 0 f.blocks in
     let last : List Item = Label n ∷ epilogue y rs in
     let tail : List Item = mid ++ last in
     let begin = begin_plainly (n + 1) y rs slots f.params (can_save_all f) known.0 in
     let end = epilogue_plainly (n + 1) y rs (can_save_all f) in
-    let blocks = blocks_labelled (n + 1) y slots n 0 f.blocks (omega arith) (omega arith) (omega arith) known.1 is.regular.inside in
-    let at_most = le_is (length f.params) 64 is.regular.few_params in
-    let size = function_size y rs f.params f.blocks (few_saved_registers f) (slots_near f is.regular) at_most is.near is.regular.paid in
-    let light = le_is (code_weight f) FUNCTION_WEIGHT is.light in
+    let blocks = blocks_labelled (n + 1) y rs slots n 0 f.blocks (can_save_all f) (omega arith) (omega arith) (omega arith) known.1 is.regular.inside in
     let some = some_size y rs in
     let whole = append_assoc (prologue y rs) (entry_items y f.params) tail in
     let sum_whole = ap longest_size whole in
@@ -876,7 +882,7 @@ function_labelled f slots is =
           (if nat_eq n l then 1 else 0) (times_labelled l (epilogue y rs)) (numbered 0 n l) one two none once none_last whole;
       registers = all_both has_good_registers first tail begin.registers (all_both has_good_registers mid last blocks.registers end.registers);
       not_empty = omega (arith, some, sum_one, sum_two);
-      near = omega (arith, size, light, sum_whole);
+      near = omega (arith, near, sum_whole);
     })
   where
     total : (s p t m x e k : ℕ) → s ≡ p + t → t ≡ m + (x + e) → p ≡ 0 → m ≡ k → e ≡ 0 → k + x ≡ 1 → s ≡ 1
@@ -936,21 +942,21 @@ all_once : (n l : ℕ) → l < n + 3
     → (if nat_eq (n + 2) l then 1 else 0) + (numbered 0 n l + ((if nat_eq n l then 1 else 0) + (if nat_eq (n + 1) l then 1 else 0))) ≡ 1
 all_once n l h = grind (arith, nat_tests)
 
-pub early_labelled : (f : Code Location) (slots : ℕ) (e : EarlyReturn) → IsCode f slots → is_bare e.on.left ≡ true → is_bare e.on.right ≡ true → ValueShort e.value
-    → longest_size (early_items (layout f slots) (saved_registers f) f.params f.blocks e) < 2 ^ 28
-    → IsLabelled (record { items = early_items (layout f slots) (saved_registers f) f.params f.blocks e; labels = length f.blocks + 3 })
-early_labelled f slots e is left right short near =
-    let y : Layout = layout f slots in
+pub early_labelled : (f : Code Location) (slots : ℕ) (copies : Bool) (e : EarlyReturn) → IsCode f slots → is_bare e.on.left ≡ true → is_bare e.on.right ≡ true → ValueShort e.value
+    → longest_size (early_items (layout f slots copies) (saved_registers f) f.params f.blocks e) < 2 ^ 28
+    → IsLabelled (record { items = early_items (layout f slots copies) (saved_registers f) f.params f.blocks e; labels = length f.blocks + 3 })
+early_labelled f slots copies e is left right short near =
+    let y : Layout = layout f slots copies in
     let n : ℕ = length f.blocks in
     let all : ℕ = n + 3 in
     let rs : List ℕ = saved_registers f in
     let known = and_parts (list_all (λ (d : Destination Location). is_place slots d.place) f.params) (list_all (block_keeps (is_place slots)) f.blocks) is.known in
     let test = test_plainly all y e (omega arith) left right in
     let begin = begin_plainly all y rs slots f.params (can_save_all f) known.0 in
-    let blocks = blocks_labelled all y slots n 0 f.blocks (omega arith) (omega arith) (omega arith) known.1 is.regular.inside in
+    let blocks = blocks_labelled all y rs slots n 0 f.blocks (can_save_all f) (omega arith) (omega arith) (omega arith) known.1 is.regular.inside in
     let p_begin = prologue y rs in
     let p_entry = entry_items y f.params in
-    let p_blocks = blocks_items y 0 f.blocks in
+    let p_blocks = blocks_items y rs 0 f.blocks in
     let p_end : List Item = Label n ∷ epilogue y rs in
     let p_quick : List Item = Label (n + 1) ∷ quick_items y e.value in
     let end = label_then all n (epilogue y rs) (omega arith) (epilogue_plainly all y rs (can_save_all f)) in

@@ -1,6 +1,6 @@
 -- The machine follows the code on bytes, line by line: what holds at a line, and that it holds at the next one, until the code is over.
-use Rattle.std.proofs.Common.{◌≡◌, ◌≢◌, ℕ, zero, suc, ◌+◌, ◌-◌, ◌*◌, ◌<◌, ◌≤◌, Bool, true, false, List, [], ◌∷◌, ◌++◌, refl, sym, ◌∙◌, ap, subst, arith, lit<, zero-add, append-nil}
-use Rattle.std.specs.Prelude.{◌&&◌, nat_eq, nat_lt, if◌then◌else◌, length, slice_get, Option, Some, None, Err}
+use Rattle.std.proofs.Common.{◌≡◌, ◌≢◌, ℕ, zero, suc, ◌+◌, ◌-◌, ◌*◌, ◌<◌, ◌≤◌, Bool, true, false, List, [], ◌∷◌, ◌++◌, refl, sym, ◌∙◌, ap, subst, arith, lit<, zero-add, append_assoc, append-nil}
+use Rattle.std.specs.Prelude.{not, ◌&&◌, nat_eq, nat_lt, if◌then◌else◌, length, slice_get, Option, Some, None, Err}
 use Rattle.std.specs.Option.{option_map, option_and_then}
 use Rattle.std.specs.List.{list_all, list_any}
 use Rattle.std.proofs.lemmas.Bool.{and_parts}
@@ -19,6 +19,7 @@ use Rattle.rv_isa.specs.Memory.{number_at}
 use Rattle.rv_isa.specs.Labels.{longest_size}
 use Rattle.rv_isa.specs.Labelled.{Stand, Stands}
 use Rattle.rv_isa.specs.declared.instruction.Instr.TheVariants.{Ebreak}
+use Rattle.rv_isa.specs.declared.labelled.Item.{Item}
 use Rattle.rv_isa.specs.declared.labelled.Item.TheVariants.{Label}
 use Rattle.rv_isa.proofs.RunLemmas.{comes_then}
 use Rattle.rv_isa.proofs.StepLemmas.{step_at}
@@ -48,7 +49,7 @@ use Rattle.flat_code.specs.Step.{known_number, FlatState, Numbers, put, number_o
 use Rattle.abi_frames.specs.Calls.{ResultIn, passed}
 use Rattle.abi_frames.specs.Performs.{AllPerform}
 use Rattle.abi_frames.specs.Layout.{most_in_lines}
-use Rattle.abi_frames.specs.Emission.{passed_class, line_items, lines_items, jump_items, goto_items, result_items, epilogue}
+use Rattle.abi_frames.specs.Emission.{passed_class, line_items, lines_items, jump_items, goto_items, branch_items, result_items, leave_items, epilogue}
 use Rattle.operation_code.proofs.Leading.{Site, StandAt, Leads, leads_so, Sets}
 use Rattle.abi_frames.proofs.Addressing.{is_based}
 use Rattle.abi_frames.proofs.Activations.{Setting, site, bottom, save_at, operand_in, Framed, operand_known, Assigned, assigned, assigned_output, held_below, held_not_10}
@@ -58,12 +59,12 @@ use Rattle.abi_frames.proofs.LineCode.{Scratched}
 use Rattle.abi_frames.proofs.Pacing.{landing, standing, few_standing, lands_on, falls_on}
 use Rattle.abi_frames.specs.declared.layout.Layout.{Layout}
 use Rattle.abi_frames.proofs.Calling.{PassedSo, passed_so}
-use Rattle.abi_frames.proofs.JumpCode.{Arrives, Jumps, jumps_then, jumps_so, jumps_goto, meets, jumps_branch, leads_result, way_by}
-use Rattle.abi_frames.proofs.Sizes.{jump_size, epilogue_size, le_is}
+use Rattle.abi_frames.proofs.JumpCode.{Arrives, jumps_goto, meets, jumps_branch, leads_result, way_by}
+use Rattle.abi_frames.proofs.Sizes.{result_size, goto_size, branch_items_size, epilogue_size, le_is}
 use Rattle.abi_frames.proofs.Saving.{few_saved_registers}
 use Rattle.abi_frames.proofs.Storing.{store_case}
 use Rattle.abi_frames.proofs.CallCase.{call_case}
-use Rattle.abi_frames.proofs.Simulation.{CodeStands, At, AtJump, Landed, Performed, step_of, nothing_taken, later_fits, Log, Follows, Then, undefined, framed_same, reach, next_index, advance, may_write}
+use Rattle.abi_frames.proofs.Simulation.{CodeStands, allowed, At, AtJump, Landed, Performed, step_of, nothing_taken, later_fits, Log, Follows, Then, undefined, framed_same, reach, next_index, advance, may_write}
 use Rattle.abi_frames.proofs.Making.{alloc_case}
 use Rattle.abi_frames.proofs.Copying.{blit_case}
 
@@ -255,13 +256,12 @@ line_case c f is j r n go b (Call to callee args) lines fs k u a log goes all = 
 
 -- ---- jumps
 
--- after the code of a jump
-landed : (c : Setting) (f : Code Location) (j : Jump Location) (fs : FlatState) (k : ℕ) (u : State) (l extra : ℕ) (a : AtJump c f j fs k u)
-    → (m : Arrives (site c) c.layout.falls (fs.block + 1) (longest_size (jump_items c.layout (fs.block + 1) j)) u l (Scratched u))
+-- after the code of a jump, which has so many words
+landed : (c : Setting) (f : Code Location) (j : Jump Location) (fs : FlatState) (k : ℕ) (u : State) (l extra words : ℕ) (a : AtJump c f j fs k u) → words ≤ jump_cost j
+    → (m : Arrives (site c) c.layout.falls (fs.block + 1) words u l (Scratched u))
     → fs.spent.turns ≤ FUNCTION_WEIGHT * (k + m.steps) + extra → Landed c (c.label l) extra fs (k + m.steps) m.after
-landed c f j fs k u l extra a m pace =
+landed c f j fs k u l extra words a size m pace =
     let few = m.few in
-    let size = jump_size c.layout (fs.block + 1) j in
     let paid = a.paid in
     let price = a.price in
     record {
@@ -291,10 +291,10 @@ keeps_pace c f is i l turns k steps pace fell = by_test (nat_eq steps 0) refl
         omega (arith, pace, some, bound)
 
 -- at the label of a block
-lands : (c : Setting) (f : Code Location) → CodeStands c f → (j : Jump Location) (fs : FlatState) (k : ℕ) (u : State) (l : ℕ) (a : AtJump c f j fs k u)
-    → (m : Arrives (site c) c.layout.falls (fs.block + 1) (longest_size (jump_items c.layout (fs.block + 1) j)) u l (Scratched u))
+lands : (c : Setting) (f : Code Location) → CodeStands c f → (j : Jump Location) (fs : FlatState) (k : ℕ) (u : State) (l words : ℕ) (a : AtJump c f j fs k u) → words ≤ jump_cost j
+    → (m : Arrives (site c) c.layout.falls (fs.block + 1) words u l (Scratched u))
     → Landed c (c.label l) (landing f l) fs (k + m.steps) m.after
-lands c f is j fs k u l a m = landed c f j fs k u l (landing f l) a m (keeps_pace c f is fs.block l fs.spent.turns k m.steps a.pace m.fell)
+lands c f is j fs k u l words a size m = landed c f j fs k u l (landing f l) words a size m (keeps_pace c f is fs.block l fs.spent.turns k m.steps a.pace m.fell)
 
 -- what comes of an event that is over
 no_block : (c : Setting) (f : Code Location) (j : FlatGiven) (t : FlatState) → slice_get f.blocks t.block ≡ None → step_of c f j t ≡ fails t
@@ -345,7 +345,7 @@ enter c f is j r n go i fs k u a new log goes all = by_block (slice_get f.blocks
           ahead = λ q. ap (λ i. slice_get b.lines i) (zero-add q);
           rest = stands.rest;
           used = 0;
-          stands = subst (λ x. StandAt (site c) ((lines_items c.layout 0 b.lines ++ jump_items c.layout (i + 1) b.jump) ++ (Label (i + 1) ∷ stands.rest)) x) (sym a.place) stands.stands;
+          stands = subst (λ x. StandAt (site c) ((lines_items c.layout 0 b.lines ++ jump_items c.layout c.saved (i + 1) b.jump) ++ (Label (i + 1) ∷ stands.rest)) x) (sym a.place) stands.stands;
           fixed = a.fixed;
           framed = a.framed;
           comes = a.comes;
@@ -379,14 +379,13 @@ closed_there f at n x h e = h (by_test (is_in at n x))
     by_test true = refl
     by_test false = e
 
--- from the label of the frame's end
-leave_case : (c : Setting) (f : Code Location) → CodeStands c f → (fs : FlatState) (k : ℕ) (w : State) (x : Option ℕ) → Landed c (c.label c.layout.leave) FUNCTION_WEIGHT fs k w
+-- from the frame's end, wherever it stands
+end_case : (c : Setting) (f : Code Location) → CodeStands c f → (fs : FlatState) (k : ℕ) (w : State) (x : Option ℕ) (rest : List Item)
+    → StandAt (site c) (epilogue c.layout c.saved ++ rest) w.pc → Landed c w.pc FUNCTION_WEIGHT fs k w
     → ((t : State) → t.registers 10 ≡ w.registers 10 → ResultIn f.result x t)
     → Performed c f (FlatReturned fs.spent x (closed fs.memory (c.sp - c.area) (area f)))
-leave_case c f is fs k w x a held =
-    let stands : StandAt (site c) (epilogue c.layout c.saved ++ is.rest) w.pc =
-    subst (λ q. StandAt (site c) (epilogue c.layout c.saved ++ is.rest) q) (sym a.place) is.leave in
-    let m = (ends_frame c is.setting w a.framed.pointer is.pointer is.aligned a.framed.saved a.framed.thread).from is.rest stands a.fixed in
+end_case c f is fs k w x rest stands a held =
+    let m = (ends_frame c is.setting w a.framed.pointer is.pointer is.aligned a.framed.saved a.framed.thread).from rest stands a.fixed in
     let left = m.holds in
     let few = m.few in
     let some = m.some in
@@ -416,6 +415,34 @@ leave_case c f is fs k w x a held =
       };
     }
 
+-- from a jump to the frame's end, or a copy of that
+leave_case : (c : Setting) (f : Code Location) → CodeStands c f → (fs : FlatState) (k : ℕ) (w : State) (x : Option ℕ) (next : ℕ) (rest : List Item)
+    → StandAt (site c) (leave_items c.layout c.saved next ++ (Label next ∷ rest)) w.pc → Landed c w.pc FUNCTION_WEIGHT fs k w → k + 26 ≤ allowed fs
+    → ((t : State) → t.registers 10 ≡ w.registers 10 → ResultIn f.result x t)
+    → Performed c f (FlatReturned fs.spent x (closed fs.memory (c.sp - c.area) (area f)))
+leave_case c f is fs k w x next rest stands a paid held = by_test (c.layout.copies && not (c.layout.falls && nat_eq c.layout.leave next)) stands
+  where
+    by_test : (t : Bool) → StandAt (site c) ((if t then epilogue c.layout c.saved else goto_items c.layout next c.layout.leave) ++ (Label next ∷ rest)) w.pc
+        → Performed c f (FlatReturned fs.spent x (closed fs.memory (c.sp - c.area) (area f)))
+    by_test true here = end_case c f is fs k w x (Label next ∷ rest) here a held
+    by_test false here =
+        let m = (jumps_goto (site c) c.layout w next c.layout.leave).from rest here a.fixed in
+        let few = m.few in
+        let size = goto_size c.layout next c.layout.leave in
+        let pace = a.pace in
+        end_case c f is fs (k + m.steps) m.after x is.rest
+        (subst (λ q. StandAt (site c) (epilogue c.layout c.saved ++ is.rest) q) (sym m.place) is.leave)
+        (record {
+          place = refl;
+          fixed = m.fixed;
+          framed = framed_same c fs.numbers fs.memory w m.after a.framed m.holds;
+          comes = comes_then a.comes m.comes;
+          output = m.holds.output ∙ a.output;
+          price = omega (arith, few, size, paid);
+          pace = omega (arith, pace);
+        })
+        (λ t same. held t (same ∙ m.holds.registers 10 (lit< tt)))
+
 no_result : (k : Option Class) (t : State) → ResultIn k None t
 no_result None t = tt
 no_result (Some k) t = tt
@@ -427,15 +454,13 @@ record WithResult (u : State) (n : ℕ) (w : State) : Type 0 where
   pub bytes : w.bytes ≡ u.bytes
   pub output : w.output ≡ u.output
 
-result_and_jump : (c : Site) (y : Layout) (u w : State) (next l n : ℕ) → Sets u 10 n w → Jumps c y.falls next (goto_items y next l) w l (WithResult u n)
-result_and_jump c y u w next l n one =
-    jumps_so c y.falls next (goto_items y next l) w l l (Scratched w) (WithResult u n) refl
-    (λ t two. record {
-      value = two.registers 10 (lit< tt) ∙ one.value;
-      others = λ m lo other. two.registers m lo ∙ one.others m other;
-      bytes = two.bytes ∙ one.bytes;
-      output = two.output ∙ one.output;
-    }) (jumps_goto c y w next l)
+with_result : (u w : State) (n : ℕ) → Sets u 10 n w → WithResult u n w
+with_result u w n one = record {
+  value = one.value;
+  others = λ m lo other. one.others m other;
+  bytes = one.bytes;
+  output = one.output;
+}
 
 no_numbers : Numbers
 no_numbers p = None
@@ -468,41 +493,51 @@ return_value c f is r y fs k u a q is_q wants v known z so e =
     let value : operand_in c u y.value ≡ v = operand_known c fs.numbers fs.memory u y.value v is.setting a.framed a.known known in
     let leads : Leads (site c) (result_items c.layout c.layout.result y) u (Sets u 10 n) =
     subst (λ o. Leads (site c) (result_items c.layout o y) u (Sets u 10 n)) (sym is_q) (leads_result c is.setting u q y a.framed.pointer a.known) in
-    let jumps : Jumps (site c) c.layout.falls next (jump_items c.layout next (Return (Some y))) u l (WithResult u n) =
-    jumps_then (site c) c.layout.falls next (result_items c.layout c.layout.result y) (goto_items c.layout next l) u l (Sets u 10 n) (WithResult u n) leads
-    (λ w fixed one. result_and_jump (site c) c.layout u w next l n one) in
-    let m = jumps.from a.rest a.stands a.fixed in
+    let m = leads.from (leave_items c.layout c.saved next ++ (Label next ∷ a.rest))
+    (subst (λ l. StandAt (site c) l u.pc) (append_assoc (result_items c.layout c.layout.result y) (leave_items c.layout c.saved next) (Label next ∷ a.rest)) a.stands) a.fixed in
+    let holds = with_result u m.after n m.holds in
     let few = m.few in
-    let size = jump_size c.layout next (Return (Some y)) in
+    let size = result_size c.layout c.layout.result y in
     let paid = a.paid in
     let price = a.price in
     let bound = few_standing f fs.block in
     let pace = a.pace in
     subst (λ o. Performed c f o) e
-    (leave_case c f is (record fs { numbers = no_numbers }) (k + m.steps) m.after (Some z)
+    (leave_case c f is (record fs { numbers = no_numbers }) (k + m.steps) m.after (Some z) next a.rest m.stands
     (record {
-      place = m.place;
+      place = refl;
       fixed = m.fixed;
-      framed = result_framed c fs.numbers fs.memory u m.after n a.framed m.holds;
+      framed = result_framed c fs.numbers fs.memory u m.after n a.framed holds;
       comes = comes_then a.comes m.comes;
-      output = m.holds.output ∙ a.output;
+      output = holds.output ∙ a.output;
       price = omega (arith, few, size, paid, price);
       pace = omega (arith, bound, pace);
     })
+    (omega (arith, few, size, paid, price))
     (λ t same. subst (λ o. ResultIn o (Some z) t) (sym wants)
     (same
-    ∙ (m.holds.value
+    ∙ (holds.value
     ∙ (ap (λ x. passed (passed_class y.extension q) (taken (passed_class y.extension q) x)) value ∙ (so.stands ∙ ap (passed q) so.is))))))
 
 return_nothing : (c : Setting) (f : Code Location) → CodeStands c f → (r : FlatOutcome) (fs : FlatState) (k : ℕ) (u : State)
     → AtJump c f (Return None) fs k u → FlatReturned fs.spent None (closed fs.memory (c.sp - c.area) (area f)) ≡ r → Performed c f r
 return_nothing c f is r fs k u a e =
-    let m = (jumps_goto (site c) c.layout u (fs.block + 1) c.layout.leave).from a.rest a.stands a.fixed in
     let bound = few_standing f fs.block in
+    let paid = a.paid in
+    let price = a.price in
     let pace = a.pace in
     subst (λ o. Performed c f o) e
-    (leave_case c f is fs (k + m.steps) m.after None (landed c f (Return None) fs k u c.layout.leave FUNCTION_WEIGHT a m (omega (arith, bound, pace)))
-    (λ t same. no_result f.result t))
+    (leave_case c f is fs k u None (fs.block + 1) a.rest a.stands
+    (record {
+      place = refl;
+      fixed = a.fixed;
+      framed = a.framed;
+      comes = a.comes;
+      output = a.output;
+      price = omega (arith, price);
+      pace = omega (arith, bound, pace);
+    })
+    (omega (arith, paid, price)) (λ t same. no_result f.result t))
 
 return_case : (c : Setting) (f : Code Location) → CodeStands c f → (j : FlatGiven) (r : FlatOutcome) (n : ℕ) (y : ReturnValue Location) (fs : FlatState) (k : ℕ) (u : State)
     → AtJump c f (Return (Some y)) fs k u → (log : Log) → Then c f j r n log (returns_as f c.addresses (c.sp - c.area) fs f.result y) → Performed c f r
@@ -550,14 +585,15 @@ branch_case c f is j r n go on met otherwise fs k u a log goes all =
     known : (operand_keeps (is_place c.slots) on.left ≡ true) × (operand_keeps (is_place c.slots) on.right ≡ true)
     known = and_parts (operand_keeps (is_place c.slots) on.left) (operand_keeps (is_place c.slots) on.right) a.known
 
-    m : Arrives (site c) c.layout.falls (fs.block + 1) (longest_size (jump_items c.layout (fs.block + 1) (Branch on met otherwise))) u
+    m : Arrives (site c) c.layout.falls (fs.block + 1) (longest_size (branch_items c.layout (fs.block + 1) on met otherwise)) u
         (way_by (meets c u on) met otherwise) (Scratched u)
     m = (jumps_branch c is.setting u (fs.block + 1) on met otherwise a.framed.pointer known.0 known.1).from a.rest a.stands a.fixed
 
     at_way : (t : Bool) → meets c u on ≡ t → Landed c (c.label (way_by t met otherwise)) (landing f (way_by t met otherwise)) fs (k + m.steps) m.after
     at_way t e =
         subst (λ z. Landed c (c.label (way_by z met otherwise)) (landing f (way_by z met otherwise)) fs (k + m.steps) m.after) e
-        (lands c f is (Branch on met otherwise) fs k u (way_by (meets c u on) met otherwise) a m)
+        (lands c f is (Branch on met otherwise) fs k u (way_by (meets c u on) met otherwise) (longest_size (branch_items c.layout (fs.block + 1) on met otherwise)) a
+        (branch_items_size c.layout (fs.block + 1) on met otherwise) m)
 
     targets : (is_target a.blocks met ≡ true) × (is_target a.blocks otherwise ≡ true)
     targets = and_parts (is_target a.blocks met) (is_target a.blocks otherwise) a.inside
@@ -583,7 +619,7 @@ goto_case : (c : Setting) (f : Code Location) → CodeStands c f → (j : FlatGi
     → Then c f j r n log (enters fs i) → AllPerform c.world (bottom c) log → Performed c f r
 goto_case c f is j r n go i fs k u a log goes all =
     let m = (jumps_goto (site c) c.layout u (fs.block + 1) i).from a.rest a.stands a.fixed in
-    enter c f is j r n go i fs (k + m.steps) m.after (lands c f is (Goto i) fs k u i a m) (not_first a.blocks i fs.used a.inside) log goes all
+    enter c f is j r n go i fs (k + m.steps) m.after (lands c f is (Goto i) fs k u i (longest_size (goto_items c.layout (fs.block + 1) i)) a (goto_size c.layout (fs.block + 1) i) m) (not_first a.blocks i fs.used a.inside) log goes all
 
 jump_case : (c : Setting) (f : Code Location) → CodeStands c f → (j : FlatGiven) (r : FlatOutcome) (n : ℕ) → Follows c f j r n
     → (x : Jump Location) (fs : FlatState) (k : ℕ) (u : State) → AtJump c f x fs k u → (log : Log)

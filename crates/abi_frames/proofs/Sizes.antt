@@ -1,5 +1,5 @@
 -- The code of a line is no longer than the line's cost, and so that of a function within its price.
-use Rattle.std.proofs.Common.{suc, zero, ◌/◌, ◌≡◌, ℕ, ◌+◌, ◌-◌, ◌*◌, ◌%◌, ◌^◌, ◌<◌, ◌≤◌, Bool, true, false, List, [], ◌∷◌, ◌++◌, refl, ◌∙◌, ap, subst, arith, lit≤}
+use Rattle.std.proofs.Common.{suc, zero, ◌/◌, ◌≡◌, ℕ, ◌+◌, ◌-◌, ◌*◌, ◌%◌, ◌^◌, ◌<◌, ◌≤◌, Bool, true, false, List, [], ◌∷◌, ◌++◌, refl, sym, ◌∙◌, ap, subst, arith, lit≤}
 use Rattle.bits.specs.Words.{sign_extended}
 use Rattle.std.specs.Prelude.{◌&&◌, not, nat_eq, nat_le, nat_lt, if◌then◌else◌, length, Option, Some, None}
 use Rattle.std.specs.List.{list_all, sum_by}
@@ -33,6 +33,7 @@ use Rattle.vcode.specs.declared.line.Operation.{Operation}
 use Rattle.vcode.specs.declared.line.Operation.TheVariants.{Reg as RegOperation, RegW as RegWOperation, Compare}
 use Rattle.vcode.specs.declared.line.Line.{Line}
 use Rattle.vcode.specs.declared.line.Line.TheVariants.{Tick, Set, Operate, Load, Store, Alloc, Blit, Call}
+use Rattle.vcode.specs.declared.line.Comparison.{Comparison}
 use Rattle.vcode.specs.declared.line.Jump.{Jump}
 use Rattle.vcode.specs.declared.line.Jump.TheVariants.{Goto, Branch, Return, Halt}
 use Rattle.vcode.specs.declared.code.Block.{Block}
@@ -56,7 +57,7 @@ use Rattle.operation_code.specs.declared.immediate.Form.TheVariants.{Immediate a
 use Rattle.operation_code.proofs.FormNumbers.{word_low, word_is_small}
 use Rattle.operation_code.proofs.ConstantNumbers.{word_by_bits}
 use Rattle.abi_frames.proofs.Branching.{branch_size}
-use Rattle.abi_frames.specs.Emission.{far_load, far_store, load_slot, store_slot, slot_offset, into, fetch, source, word_into, target, deliver, set_items, operand_into, operand_source, on_registers, by_form, operate_by, operate_items, base_items, load_by, load_items, store_by, store_op, store_items, line_items, lines_items, move_pointer, lower_pointer, raise_pointer, save_all, restore_all, go_back, prologue, epilogue, result_items, goto_items, branch_when, inverted, ways_items, compared_into, compared_source, jump_items, block_items, blocks_items, passed_class, pass_into, stack_items, stack_all, register_items, register_all, passed_items, callee_items, prepare_items, call_through, receive_items, call_items, copy_at, copy_eight, copy_eights, copy_rest, blit_items, address_at, alloc_items}
+use Rattle.abi_frames.specs.Emission.{far_load, far_store, load_slot, store_slot, slot_offset, into, fetch, source, word_into, target, deliver, set_items, operand_into, operand_source, on_registers, by_form, operate_by, operate_items, base_items, load_by, load_items, store_by, store_op, store_items, line_items, lines_items, move_pointer, lower_pointer, raise_pointer, save_all, restore_all, go_back, prologue, epilogue, result_items, goto_items, branch_when, inverted, ways_items, compared_into, compared_source, branch_items, leave_items, jump_items, block_items, blocks_items, passed_class, pass_into, stack_items, stack_all, register_items, register_all, passed_items, callee_items, prepare_items, call_through, receive_items, call_items, copy_at, copy_eight, copy_eights, copy_rest, blit_items, address_at, alloc_items}
 use Rattle.operation_code.specs.Operations.{compare_items, operation_items}
 use Rattle.abi_frames.specs.Moves.{operand_exchanged, argument_exchanged, exchange, is_read, settled, arrived, earlier_at, move_up, moves_up, moved_up, all_move_up, all_moved_up}
 use Rattle.abi_frames.proofs.MovingUp.{moved_length}
@@ -552,11 +553,11 @@ value_size : (y : Layout) (k : Class) (a : Operand Location) → longest_size (p
 value_size y W a = word_into_size y 10 a
 value_size y L a = let h = into_size y 10 a in omega (arith, h)
 
-result_size : (y : Layout) (k : Option Class) (a : ReturnValue Location) → longest_size (result_items y k a) ≤ operand_cost a.value + 1
+pub result_size : (y : Layout) (k : Option Class) (a : ReturnValue Location) → longest_size (result_items y k a) ≤ operand_cost a.value + 1
 result_size y None a = omega arith
 result_size y (Some k) a = value_size y (passed_class a.extension k) a.value
 
-goto_size : (y : Layout) (next l : ℕ) → longest_size (goto_items y next l) ≤ 2
+pub goto_size : (y : Layout) (next l : ℕ) → longest_size (goto_items y next l) ≤ 2
 goto_size y next l = by_test (y.falls && nat_eq l next)
   where
     by_test : (b : Bool) → longest_size (if b then [] else GoTo l ∷ []) ≤ 2
@@ -584,9 +585,9 @@ branch_pays : (k : Class) → 2 * word_more k + 5 ≤ branch_cost k
 branch_pays W = lit≤ tt
 branch_pays L = lit≤ tt
 
-pub jump_size : (y : Layout) (next : ℕ) (j : Jump Location) → longest_size (jump_items y next j) ≤ jump_cost j
-jump_size y next (Goto k) = goto_size y next k
-jump_size y next (Branch c met otherwise) =
+pub branch_items_size : (y : Layout) (next : ℕ) (c : Comparison Location) (met otherwise : ℕ)
+    → longest_size (branch_items y next c met otherwise) ≤ operand_cost c.left + operand_cost c.right + branch_cost c.class
+branch_items_size y next c met otherwise =
     let v = compared_source c 28 c.left in
     let w = compared_source c 29 c.right in
     let ways = ways_items y next c.condition v w met otherwise in
@@ -597,13 +598,22 @@ jump_size y next (Branch c met otherwise) =
     let more = ways_size y next c.condition v w met otherwise in
     let pays = branch_pays c.class in
     omega (arith, all, rest, h, k, more, pays)
-jump_size y next (Return None) = goto_size y next y.leave
-jump_size y next (Return (Some a)) =
-    let all = longest-append (result_items y y.result a) (goto_items y next y.leave) in
+
+leave_size : (y : Layout) (rs : List ℕ) (next : ℕ) → y.copies ≡ false → longest_size (leave_items y rs next) ≤ 2
+leave_size y rs next none =
+    subst (λ t. longest_size (if t && not (y.falls && nat_eq y.leave next) then epilogue y rs else goto_items y next y.leave) ≤ 2) (sym none) (goto_size y next y.leave)
+
+-- where no return has a copy of the frame's end
+jump_size : (y : Layout) (rs : List ℕ) (next : ℕ) (j : Jump Location) → y.copies ≡ false → longest_size (jump_items y rs next j) ≤ jump_cost j
+jump_size y rs next (Goto k) none = goto_size y next k
+jump_size y rs next (Branch c met otherwise) none = branch_items_size y next c met otherwise
+jump_size y rs next (Return None) none = leave_size y rs next none
+jump_size y rs next (Return (Some a)) none =
+    let all = longest-append (result_items y y.result a) (leave_items y rs next) in
     let h = result_size y y.result a in
-    let more = goto_size y next y.leave in
+    let more = leave_size y rs next none in
     omega (arith, all, h, more)
-jump_size y next Halt = lit≤ tt
+jump_size y rs next Halt none = lit≤ tt
 
 -- ---- blocks
 
@@ -611,15 +621,15 @@ pub le_is : (a b : ℕ) → nat_le a b ≡ true → a ≤ b
 le_is a b h = grind (arith, nat_tests)
 
 -- the code of the lines and of the jump
-abbrev pub LinesFit : Layout → (next used credit : ℕ) → Jump Location → List (Line Location) → Type 0
-LinesFit y next used credit j lines = longest_size (lines_items y used lines) + longest_size (jump_items y next j) ≤ credit + 32 * sum_by weight_of lines
+abbrev pub LinesFit : Layout → (saved : List ℕ) → (next used credit : ℕ) → Jump Location → List (Line Location) → Type 0
+LinesFit y rs next used credit j lines = longest_size (lines_items y used lines) + longest_size (jump_items y rs next j) ≤ credit + 32 * sum_by weight_of lines
 
 -- after a line that is no tick
-fits_more : (y : Layout) (next used credit : ℕ) (j : Jump Location) (l : Line Location) (lines : List (Line Location)) → weight_of l ≡ 0
+fits_more : (y : Layout) (rs : List ℕ) (next used credit : ℕ) (j : Jump Location) (l : Line Location) (lines : List (Line Location)) → weight_of l ≡ 0
     → (nat_le (line_cost l) credit && affords (credit - line_cost l) j lines) ≡ true
-    → (affords (credit - line_cost l) j lines ≡ true → LinesFit y next (used + alloc_bytes l) (credit - line_cost l) j lines)
-    → LinesFit y next used credit j (l ∷ lines)
-fits_more y next used credit j l lines light paid rest =
+    → (affords (credit - line_cost l) j lines ≡ true → LinesFit y rs next (used + alloc_bytes l) (credit - line_cost l) j lines)
+    → LinesFit y rs next used credit j (l ∷ lines)
+fits_more y rs next used credit j l lines light paid rest =
     let parts = and_parts (nat_le (line_cost l) credit) (affords (credit - line_cost l) j lines) paid in
     let enough = le_is (line_cost l) credit parts.0 in
     let others = rest parts.1 in
@@ -628,44 +638,44 @@ fits_more y next used credit j l lines light paid rest =
     let size = line_size y used l in
     omega (arith, enough, others, sum, all, size, light)
 
-pub lines_size : (y : Layout) (next used credit : ℕ) (j : Jump Location) (lines : List (Line Location)) → affords credit j lines ≡ true
-    → LinesFit y next used credit j lines
-lines_size y next used credit j [] paid =
+pub lines_size : (y : Layout) (rs : List ℕ) (next used credit : ℕ) (j : Jump Location) (lines : List (Line Location)) → y.copies ≡ false → affords credit j lines ≡ true
+    → LinesFit y rs next used credit j lines
+lines_size y rs next used credit j [] none paid =
     let enough = le_is (jump_cost j) credit paid in
-    let size = jump_size y next j in
+    let size = jump_size y rs next j none in
     omega (arith, enough, size)
-lines_size y next used credit j (Tick turn w ∷ lines) paid =
-    let others = lines_size y next (used + 0) (credit + 32 * w) j lines paid in
+lines_size y rs next used credit j (Tick turn w ∷ lines) none paid =
+    let others = lines_size y rs next (used + 0) (credit + 32 * w) j lines none paid in
     let sum = sum_by-cons weight_of (Tick turn w) lines in
     omega (arith, others, sum)
-lines_size y next used credit j (Set to a ∷ lines) paid =
-    fits_more y next used credit j (Set to a) lines refl paid (λ h. lines_size y next (used + 0) (credit - line_cost (Set to a)) j lines h)
-lines_size y next used credit j (Operate to op a b ∷ lines) paid =
-    fits_more y next used credit j (Operate to op a b) lines refl paid (λ h. lines_size y next (used + 0) (credit - line_cost (Operate to op a b)) j lines h)
-lines_size y next used credit j (Load to op at ∷ lines) paid =
-    fits_more y next used credit j (Load to op at) lines refl paid (λ h. lines_size y next (used + 0) (credit - line_cost (Load to op at)) j lines h)
-lines_size y next used credit j (Store size a at ∷ lines) paid =
-    fits_more y next used credit j (Store size a at) lines refl paid (λ h. lines_size y next (used + 0) (credit - line_cost (Store size a at)) j lines h)
-lines_size y next used credit j (Alloc to size ∷ lines) paid =
-    fits_more y next used credit j (Alloc to size) lines refl paid (λ h. lines_size y next (used + round_16 size) (credit - line_cost (Alloc to size)) j lines h)
-lines_size y next used credit j (Blit from to count ∷ lines) paid =
-    fits_more y next used credit j (Blit from to count) lines refl paid (λ h. lines_size y next (used + 0) (credit - line_cost (Blit from to count)) j lines h)
-lines_size y next used credit j (Call to callee args ∷ lines) paid =
-    fits_more y next used credit j (Call to callee args) lines refl paid (λ h. lines_size y next (used + 0) (credit - line_cost (Call to callee args)) j lines h)
+lines_size y rs next used credit j (Set to a ∷ lines) none paid =
+    fits_more y rs next used credit j (Set to a) lines refl paid (λ h. lines_size y rs next (used + 0) (credit - line_cost (Set to a)) j lines none h)
+lines_size y rs next used credit j (Operate to op a b ∷ lines) none paid =
+    fits_more y rs next used credit j (Operate to op a b) lines refl paid (λ h. lines_size y rs next (used + 0) (credit - line_cost (Operate to op a b)) j lines none h)
+lines_size y rs next used credit j (Load to op at ∷ lines) none paid =
+    fits_more y rs next used credit j (Load to op at) lines refl paid (λ h. lines_size y rs next (used + 0) (credit - line_cost (Load to op at)) j lines none h)
+lines_size y rs next used credit j (Store size a at ∷ lines) none paid =
+    fits_more y rs next used credit j (Store size a at) lines refl paid (λ h. lines_size y rs next (used + 0) (credit - line_cost (Store size a at)) j lines none h)
+lines_size y rs next used credit j (Alloc to size ∷ lines) none paid =
+    fits_more y rs next used credit j (Alloc to size) lines refl paid (λ h. lines_size y rs next (used + round_16 size) (credit - line_cost (Alloc to size)) j lines none h)
+lines_size y rs next used credit j (Blit from to count ∷ lines) none paid =
+    fits_more y rs next used credit j (Blit from to count) lines refl paid (λ h. lines_size y rs next (used + 0) (credit - line_cost (Blit from to count)) j lines none h)
+lines_size y rs next used credit j (Call to callee args ∷ lines) none paid =
+    fits_more y rs next used credit j (Call to callee args) lines refl paid (λ h. lines_size y rs next (used + 0) (credit - line_cost (Call to callee args)) j lines none h)
 
 abbrev pub block_weight : Block Location → ℕ
 block_weight b = sum_by weight_of b.lines
 
-pub blocks_size : (y : Layout) (k : ℕ) (blocks : List (Block Location)) → list_all is_paid blocks ≡ true
-    → longest_size (blocks_items y k blocks) ≤ 32 * sum_by block_weight blocks
-blocks_size y k [] good = omega arith
-blocks_size y k (b ∷ blocks) good =
+pub blocks_size : (y : Layout) (rs : List ℕ) (k : ℕ) (blocks : List (Block Location)) → y.copies ≡ false → list_all is_paid blocks ≡ true
+    → longest_size (blocks_items y rs k blocks) ≤ 32 * sum_by block_weight blocks
+blocks_size y rs k [] none good = omega arith
+blocks_size y rs k (b ∷ blocks) none good =
     let parts = and_parts (is_paid b) (list_all is_paid blocks) good in
     let pays = parts.0 in
-    let one = lines_size y (k + 1) 0 0 b.jump b.lines pays in
-    let two = longest-append (lines_items y 0 b.lines) (jump_items y (k + 1) b.jump) in
-    let all = longest-append (block_items y k b) (blocks_items y (k + 1) blocks) in
-    let others = blocks_size y (k + 1) blocks parts.1 in
+    let one = lines_size y rs (k + 1) 0 0 b.jump b.lines none pays in
+    let two = longest-append (lines_items y 0 b.lines) (jump_items y rs (k + 1) b.jump) in
+    let all = longest-append (block_items y rs k b) (blocks_items y rs (k + 1) blocks) in
+    let others = blocks_size y rs (k + 1) blocks none parts.1 in
     let sum = sum_by-cons block_weight b blocks in
     omega (arith, one, two, all, others, sum)
 
@@ -874,18 +884,18 @@ entry_size y params few at_most near =
 
 -- ---- functions
 
-pub function_size : (y : Layout) (rs : List ℕ) (params : List (Destination Location)) (blocks : List (Block Location)) → length rs ≤ 13 → y.slots < 1024
+pub function_size : (y : Layout) (rs : List ℕ) (params : List (Destination Location)) (blocks : List (Block Location)) → y.copies ≡ false → length rs ≤ 13 → y.slots < 1024
     → length params ≤ 64 → are_near params ≡ true → list_all is_paid blocks ≡ true
     → longest_size (function_items y rs params blocks) ≤ 32 * sum_by block_weight blocks + 249
-function_size y rs params blocks saved few at_most near good =
-    let body : List Item = blocks_items y 0 blocks ++ (Label y.leave ∷ epilogue y rs) in
+function_size y rs params blocks none saved few at_most near good =
+    let body : List Item = blocks_items y rs 0 blocks ++ (Label y.leave ∷ epilogue y rs) in
     let all = longest-append (prologue y rs) (entry_items y params ++ body) in
     let entry = longest-append (entry_items y params) body in
-    let more = longest-append (blocks_items y 0 blocks) (Label y.leave ∷ epilogue y rs) in
+    let more = longest-append (blocks_items y rs 0 blocks) (Label y.leave ∷ epilogue y rs) in
     let one = prologue_size y rs saved in
     let between = entry_size y params few at_most near in
     let two = epilogue_size y rs saved in
-    let three = blocks_size y 0 blocks good in
+    let three = blocks_size y rs 0 blocks none good in
     omega (arith, all, entry, more, one, between, two, three)
 
 -- ---- an early return
@@ -991,15 +1001,15 @@ test_size y e bare_a short_a bare_b short_b =
     omega (arith, all, more, one, two, three)
 
 pub function_small : (f : Code Location) (slots : ℕ) → IsCode f slots
-    → longest_size (function_items (layout f slots) (saved_registers f) f.params f.blocks) ≤ 32 * code_weight f + 249
+    → longest_size (function_items (layout f slots false) (saved_registers f) f.params f.blocks) ≤ 32 * code_weight f + 249
 function_small f slots is =
     let at_most = le_is (length f.params) 64 is.regular.few_params in
-    function_size (layout f slots) (saved_registers f) f.params f.blocks (few_saved_registers f) (slots_near f is.regular) at_most is.near is.regular.paid
+    function_size (layout f slots false) (saved_registers f) f.params f.blocks refl (few_saved_registers f) (slots_near f is.regular) at_most is.near is.regular.paid
 
-pub early_size : (f : Code Location) (slots : ℕ) (e : EarlyReturn) → IsCode f slots → longest_size (test_items (layout f slots) e) ≤ 5 → ValueShort e.value
-    → longest_size (early_items (layout f slots) (saved_registers f) f.params f.blocks e) ≤ 32 * code_weight f + 256
+pub early_size : (f : Code Location) (slots : ℕ) (e : EarlyReturn) → IsCode f slots → longest_size (test_items (layout f slots false) e) ≤ 5 → ValueShort e.value
+    → longest_size (early_items (layout f slots false) (saved_registers f) f.params f.blocks e) ≤ 32 * code_weight f + 256
 early_size f slots e is test short =
-    let y : Layout = layout f slots in
+    let y : Layout = layout f slots false in
     let whole : List Item = function_items y (saved_registers f) f.params f.blocks in
     let p_quick : List Item = Label (quick_label y) ∷ quick_items y e.value in
     let all = longest-append (test_items y e) (Label (begin_label y) ∷ (whole ++ p_quick)) in

@@ -53,9 +53,9 @@ stand_after c [] js a stands = record { place = a; stands = stands }
 stand_after c (i ∷ is) js a stands = stand_after c is js stands.0 stands.2
 
 -- the code of a block, at its label
-pub record BlockCode (c : Site) (y : Layout) (b : Block Location) (l : ℕ) : Type 0 where
+pub record BlockCode (c : Site) (y : Layout) (rs : List ℕ) (b : Block Location) (l : ℕ) : Type 0 where
   pub rest : List Item
-  pub stands : StandAt c ((lines_items y 0 b.lines ++ jump_items y (l + 1) b.jump) ++ (Label (l + 1) ∷ rest)) (c.label l)
+  pub stands : StandAt c ((lines_items y 0 b.lines ++ jump_items y rs (l + 1) b.jump) ++ (Label (l + 1) ∷ rest)) (c.label l)
 
 some_block : (a b : Block Location) → Some a ≡ Some b → a ≡ b
 some_block a b e = cc
@@ -66,53 +66,53 @@ record Begins (l : ℕ) (is : List Item) : Type 0 where
   same : is ≡ Label l ∷ rest
 
 -- blocks from the k-th on, and the frame's end
-begins_next : (y : Layout) (k : ℕ) (blocks : List (Block Location)) (tail : List Item) → y.leave ≡ k + length blocks
-    → Begins k (blocks_items y k blocks ++ (Label y.leave ∷ tail))
-begins_next y k [] tail e = record { rest = tail; same = ap (λ l. Label l ∷ tail) (let last : y.leave ≡ k = omega (arith, e) in last) }
-begins_next y k (b ∷ blocks) tail e = record {
-  rest = ((lines_items y 0 b.lines ++ jump_items y (k + 1) b.jump) ++ blocks_items y (k + 1) blocks) ++ (Label y.leave ∷ tail);
+begins_next : (y : Layout) (rs : List ℕ) (k : ℕ) (blocks : List (Block Location)) (tail : List Item) → y.leave ≡ k + length blocks
+    → Begins k (blocks_items y rs k blocks ++ (Label y.leave ∷ tail))
+begins_next y rs k [] tail e = record { rest = tail; same = ap (λ l. Label l ∷ tail) (let last : y.leave ≡ k = omega (arith, e) in last) }
+begins_next y rs k (b ∷ blocks) tail e = record {
+  rest = ((lines_items y 0 b.lines ++ jump_items y rs (k + 1) b.jump) ++ blocks_items y rs (k + 1) blocks) ++ (Label y.leave ∷ tail);
   same = refl;
 }
 
-pub blocks_stand : (c : Site) (y : Layout) (k : ℕ) (blocks : List (Block Location)) (tail : List Item) (a : ℕ) → y.leave ≡ k + length blocks
-    → StandAt c (blocks_items y k blocks ++ (Label y.leave ∷ tail)) a
-    → (i : ℕ) (b : Block Location) → slice_get blocks i ≡ Some b → BlockCode c y b (k + i)
+pub blocks_stand : (c : Site) (y : Layout) (rs : List ℕ) (k : ℕ) (blocks : List (Block Location)) (tail : List Item) (a : ℕ) → y.leave ≡ k + length blocks
+    → StandAt c (blocks_items y rs k blocks ++ (Label y.leave ∷ tail)) a
+    → (i : ℕ) (b : Block Location) → slice_get blocks i ≡ Some b → BlockCode c y rs b (k + i)
 unfolding Stand Stands
-blocks_stand c y k [] tail a leave stands i b e = absurd (let no : ⊥ = cc in no)
-blocks_stand c y k (d ∷ blocks) tail a leave stands zero b e =
-    let here : List Item = lines_items y 0 d.lines ++ jump_items y (k + 1) d.jump in
-    let more : List Item = blocks_items y (k + 1) blocks in
-    let next = begins_next y (k + 1) blocks tail (later leave) in
+blocks_stand c y rs k [] tail a leave stands i b e = absurd (let no : ⊥ = cc in no)
+blocks_stand c y rs k (d ∷ blocks) tail a leave stands zero b e =
+    let here : List Item = lines_items y 0 d.lines ++ jump_items y rs (k + 1) d.jump in
+    let more : List Item = blocks_items y rs (k + 1) blocks in
+    let next = begins_next y rs (k + 1) blocks tail (later leave) in
     let at : stands.0 ≡ c.label k = stands.1.1 ∙ sym stands.1.0 in
-    let code : BlockCode c y d k = record {
+    let code : BlockCode c y rs d k = record {
       rest = next.rest;
       stands = subst (λ x. StandAt c (here ++ x) (c.label k)) next.same
           (subst (λ x. StandAt c (here ++ (more ++ (Label y.leave ∷ tail))) x) at
           (subst (λ l. StandAt c l stands.0) (append_assoc here more (Label y.leave ∷ tail)) stands.2));
     } in
-    subst (λ x. BlockCode c y x (k + zero)) (some_block d b e) (subst (λ n. BlockCode c y d n) (no_more k) code)
+    subst (λ x. BlockCode c y rs x (k + zero)) (some_block d b e) (subst (λ n. BlockCode c y rs d n) (no_more k) code)
   where
     no_more : (n : ℕ) → n ≡ n + zero
     no_more n = omega arith
 
     later : y.leave ≡ k + suc (length blocks) → y.leave ≡ k + 1 + length blocks
     later h = omega (arith, h)
-blocks_stand c y k (d ∷ blocks) tail a leave stands (suc i) b e =
-    let here : List Item = lines_items y 0 d.lines ++ jump_items y (k + 1) d.jump in
-    let more : List Item = blocks_items y (k + 1) blocks in
+blocks_stand c y rs k (d ∷ blocks) tail a leave stands (suc i) b e =
+    let here : List Item = lines_items y 0 d.lines ++ jump_items y rs (k + 1) d.jump in
+    let more : List Item = blocks_items y rs (k + 1) blocks in
     let next = stand_after c here (more ++ (Label y.leave ∷ tail)) stands.0 (subst (λ l. StandAt c l stands.0) (append_assoc here more (Label y.leave ∷ tail)) stands.2) in
     let place : k + 1 + i ≡ k + suc i = omega arith in
-    subst (λ n. BlockCode c y b n) place (blocks_stand c y (k + 1) blocks tail next.place (later leave) next.stands i b e)
+    subst (λ n. BlockCode c y rs b n) place (blocks_stand c y rs (k + 1) blocks tail next.place (later leave) next.stands i b e)
   where
     later : y.leave ≡ k + suc (length blocks) → y.leave ≡ k + 1 + length blocks
     later h = omega (arith, h)
 
 -- the first label, also where there is no block
-pub first_label : (c : Site) (y : Layout) (blocks : List (Block Location)) (rest : List Item) (a : ℕ) → y.leave ≡ length blocks
-    → StandAt c (blocks_items y 0 blocks ++ (Label y.leave ∷ rest)) a → a ≡ c.label 0
+pub first_label : (c : Site) (y : Layout) (rs : List ℕ) (blocks : List (Block Location)) (rest : List Item) (a : ℕ) → y.leave ≡ length blocks
+    → StandAt c (blocks_items y rs 0 blocks ++ (Label y.leave ∷ rest)) a → a ≡ c.label 0
 unfolding Stand Stands
-first_label c y [] rest a e stands = sym stands.1.0 ∙ ap c.label e
-first_label c y (b ∷ blocks) rest a e stands = sym stands.1.0
+first_label c y rs [] rest a e stands = sym stands.1.0 ∙ ap c.label e
+first_label c y rs (b ∷ blocks) rest a e stands = sym stands.1.0
 
 pub leave_stands : (c : Site) (l : ℕ) (is : List Item) (a : ℕ) → StandAt c (Label l ∷ is) a → StandAt c (is ++ []) (c.label l)
 unfolding Stand Stands
@@ -235,14 +235,14 @@ ready_passes c at ks j ready i n a e f = by_test (nat_lt i 8) refl
 
 -- ---- the promise
 
-abbrev pub setting : World → (label global : ℕ → ℕ) → List ℕ → Code Location → (slots sp : ℕ) → Spots → State → Setting
-setting w label global addresses f slots sp before s =
+abbrev pub setting : World → (label global : ℕ → ℕ) → List ℕ → Code Location → (slots : ℕ) → (copies : Bool) → (sp : ℕ) → Spots → State → Setting
+setting w label global addresses f slots copies sp before s =
     record {
       world = w;
       label = label;
       global = global;
       addresses = addresses;
-      layout = layout f slots;
+      layout = layout f slots copies;
       saved = saved_registers f;
       slots = slots;
       area = area f;
@@ -264,10 +264,10 @@ frame_fits f slots is = record {
   fits = let saved = few_saved_registers f in omega (arith, saved);
 }
 
-pub is_setting : (w : World) (label global : ℕ → ℕ) (addresses : List ℕ) (f : Code Location) (slots sp room : ℕ) (before : Spots) (s : State) → IsCode f slots
+pub is_setting : (w : World) (label global : ℕ → ℕ) (addresses : List ℕ) (f : Code Location) (slots : ℕ) (copies : Bool) (sp room : ℕ) (before : Spots) (s : State) → IsCode f slots
     → IsWorld w → ((n a : ℕ) → slice_get addresses n ≡ Some a → global n ≡ a) → ((n : ℕ) → global n < 2 ^ 30) → GoodStack w sp (frame_bound f slots + room)
-    → IsSetting (setting w label global addresses f slots sp before s)
-is_setting w label global addresses f slots sp room before s is world globals near stack =
+    → IsSetting (setting w label global addresses f slots copies sp before s)
+is_setting w label global addresses f slots copies sp room before s is world globals near stack =
     let frame = frame_fits f slots is in
     let few = frame.few in
     let small = frame.small in
@@ -317,7 +317,7 @@ made_first (d ∷ blocks) (suc i) b h e some =
     not_true (list_any is_alloc b.lines) (each (λ (x : Block Location). not (list_any is_alloc x.lines)) blocks i b h e)
 
 pub block_stands : (c : Setting) (f : Code Location) (slots : ℕ) → c.slots ≡ slots → c.area ≡ area f → c.layout.saves ≡ 8 * outgoing f → IsCode f slots → (b : Block Location) (i : ℕ) → slice_get f.blocks i ≡ Some b
-    → BlockCode (site c) c.layout b i → BlockStands c b i
+    → BlockCode (site c) c.layout c.saved b i → BlockStands c b i
 block_stands c f slots same same_area same_saves is b i e code =
     let known = and_parts (list_all (λ (d : Destination Location). is_place slots d.place) f.params) (list_all (block_keeps (is_place slots)) f.blocks) is.known in
     let keeps : block_keeps (is_place slots) b ≡ true = each (block_keeps (is_place slots)) f.blocks i b known.1 e in
@@ -363,9 +363,9 @@ begins c f slots at j good same same_saved is clear ready =
     leads_entry c good f.params j.args u can is.apart
     (are_passed c 0 f.params j.args (λ i n a e k. ap (argument_in c c.start) (zero-add i) ∙ ready_passes c at (classes f.params) (record j { memory = c.before }) ready i n a e k)) now)
 
-pub begin_size : (f : Code Location) (slots : ℕ) → IsCode f slots → longest_size (prologue (layout f slots) (saved_registers f) ++ entry_items (layout f slots) f.params) ≤ 225
-begin_size f slots is =
-    let y : Layout = layout f slots in
+pub begin_size : (f : Code Location) (slots : ℕ) (copies : Bool) → IsCode f slots → longest_size (prologue (layout f slots copies) (saved_registers f) ++ entry_items (layout f slots copies) f.params) ≤ 225
+begin_size f slots copies is =
+    let y : Layout = layout f slots copies in
     let frame = frame_fits f slots is in
     let few = frame.few in
     let saved = few_saved_registers f in
@@ -375,26 +375,26 @@ begin_size f slots is =
     omega (arith, all, one, two)
 
 -- from the call on
-pub performs : (w : World) (at : ℕ) (label global : ℕ → ℕ) (addresses : List ℕ) (f : Code Location) (slots : ℕ) → IsCode f slots → IsWorld w
+pub performs : (w : World) (at : ℕ) (label global : ℕ → ℕ) (addresses : List ℕ) (f : Code Location) (slots : ℕ) (copies : Bool) → IsCode f slots → IsWorld w
     → ((n a : ℕ) → slice_get addresses n ≡ Some a → global n ≡ a) → ((n : ℕ) → global n < 2 ^ 30)
-    → Stand w.memory_map label global (function_items (layout f slots) (saved_registers f) f.params f.blocks) at
+    → Stand w.memory_map label global (function_items (layout f slots copies) (saved_registers f) f.params f.blocks) at
     → KeepsFrame w at (frame_bound f slots) (frame_size f slots) (area f) (map (λ d. d.class) f.params) f.result (flat_begin f) (flat_step f addresses)
-performs w at label global addresses f slots is world globals near stands sp j stack clear log r n goes all s ready =
-    let c : Setting = setting w label global addresses f slots sp j.memory s in
-    let y : Layout = layout f slots in
-    let good : IsSetting c = is_setting w label global addresses f slots sp j.room j.memory s is world globals near stack in
+performs w at label global addresses f slots copies is world globals near stands sp j stack clear log r n goes all s ready =
+    let c : Setting = setting w label global addresses f slots copies sp j.memory s in
+    let y : Layout = layout f slots copies in
+    let good : IsSetting c = is_setting w label global addresses f slots copies sp j.room j.memory s is world globals near stack in
     let rs : List ℕ = saved_registers f in
     let last : List Item = epilogue y rs in
-    let body : List Item = blocks_items y 0 f.blocks ++ (Label y.leave ∷ last) in
+    let body : List Item = blocks_items y rs 0 f.blocks ++ (Label y.leave ∷ last) in
     let tail : List Item = entry_items y f.params ++ body in
     let entry = stand_after (site c) (prologue y rs) tail at stands in
     let blocks = stand_after (site c) (entry_items y f.params) body entry.place entry.stands in
-    let leave = stand_after (site c) (blocks_items y 0 f.blocks) (Label y.leave ∷ last) blocks.place blocks.stands in
+    let leave = stand_after (site c) (blocks_items y rs 0 f.blocks) (Label y.leave ∷ last) blocks.place blocks.stands in
     let code : CodeStands c f = record {
       setting = good;
       blocks = λ i b e.
           block_stands c f slots refl refl refl is b i e
-          (subst (λ k. BlockCode (site c) y b k) (zero-add i) (blocks_stand (site c) y 0 f.blocks last blocks.place (sym (zero-add (length f.blocks))) blocks.stands i b e));
+          (subst (λ k. BlockCode (site c) y rs b k) (zero-add i) (blocks_stand (site c) y rs 0 f.blocks last blocks.place (sym (zero-add (length f.blocks))) blocks.stands i b e));
       result = refl;
       falls = refl;
       rest = [];
@@ -410,10 +410,10 @@ performs w at label global addresses f slots is world globals near stands sp j s
     (subst (λ a. StandAt (site c) (begin ++ body) a) (sym ready.place) (subst (λ is. StandAt (site c) is at) (sym (append_assoc (prologue y rs) (entry_items y f.params) body)) stands))
     ready.fixed in
     let few = m.few in
-    let size = begin_size f slots is in
+    let size = begin_size f slots copies is in
     enter c f code j r n (follows c f code j r n) 0 (flat_begin f (sp - area f) j) m.steps m.after
     (record {
-      place = first_label (site c) y f.blocks last m.after.pc refl m.stands;
+      place = first_label (site c) y rs f.blocks last m.after.pc refl m.stands;
       fixed = m.fixed;
       framed = m.holds.framed;
       comes = m.comes;

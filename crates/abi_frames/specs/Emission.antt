@@ -1,6 +1,6 @@
 -- The machine code of each line and jump. x2 is the stack pointer; x28 to x30 hold operands and
 -- addresses for a moment.
-use Rattle.std.specs.Prelude.{ℕ, zero, suc, ◌+◌, ◌-◌, ◌*◌, ◌/◌, ◌%◌, ◌^◌, ◌&&◌, nat_eq, nat_lt, nat_le, if◌then◌else◌, List, [], ◌∷◌, ◌++◌, length, Option, Some, None}
+use Rattle.std.specs.Prelude.{ℕ, zero, suc, ◌+◌, ◌-◌, ◌*◌, ◌/◌, ◌%◌, ◌^◌, not, ◌&&◌, nat_eq, nat_lt, nat_le, if◌then◌else◌, List, [], ◌∷◌, ◌++◌, length, Option, Some, None}
 use Rattle.rv_isa.specs.declared.abi.TheConstants.{ZERO, RETURN_ADDRESS, STACK_POINTER, FIRST_ARGUMENT, LAST_ARGUMENT, ARGUMENT_REGISTERS, RESULT, FIRST_SCRATCH, SECOND_SCRATCH, THIRD_SCRATCH}
 use Rattle.il_ast.specs.declared.operation.Class.{Class}
 use Rattle.il_ast.specs.declared.operation.Class.TheVariants.{W, L}
@@ -397,22 +397,29 @@ branch_items y next c met otherwise =
     ++ ways_items y next c.condition (compared_source c FIRST_SCRATCH c.left)
     (compared_source c SECOND_SCRATCH c.right) met otherwise)
 
-abbrev pub return_items : Layout → (next : ℕ) → Option (ReturnValue Location) → List Item
-return_items y next None = goto_items y next y.leave
-return_items y next (Some a) = result_items y y.result a ++ goto_items y next y.leave
+-- to the frame's end, or a copy of it
+abbrev pub leave_items : Layout → (saved : List ℕ) → (next : ℕ) → List Item
+leave_items y rs next =
+    if y.copies && not (y.falls && nat_eq y.leave next) then epilogue y rs
+    else goto_items y next y.leave
 
-abbrev pub jump_items : Layout → (next : ℕ) → Jump Location → List Item
-jump_items y next (Goto k) = goto_items y next k
-jump_items y next (Branch on met otherwise) = branch_items y next on met otherwise
-jump_items y next (Return a) = return_items y next a
-jump_items y next Halt = Plain Ebreak ∷ []
+abbrev pub return_items : Layout → (saved : List ℕ) → (next : ℕ) → Option (ReturnValue Location) →
+    List Item
+return_items y rs next None = leave_items y rs next
+return_items y rs next (Some a) = result_items y y.result a ++ leave_items y rs next
+
+abbrev pub jump_items : Layout → (saved : List ℕ) → (next : ℕ) → Jump Location → List Item
+jump_items y rs next (Goto k) = goto_items y next k
+jump_items y rs next (Branch on met otherwise) = branch_items y next on met otherwise
+jump_items y rs next (Return a) = return_items y rs next a
+jump_items y rs next Halt = Plain Ebreak ∷ []
 
 -- ---- blocks
 
 -- behind the k-th block stands the label k + 1: that of the next block, or of the frame's end
-abbrev pub block_items : Layout → ℕ → Block Location → List Item
-block_items y k b = Label k ∷ (lines_items y 0 b.lines ++ jump_items y (k + 1) b.jump)
+abbrev pub block_items : Layout → (saved : List ℕ) → ℕ → Block Location → List Item
+block_items y rs k b = Label k ∷ (lines_items y 0 b.lines ++ jump_items y rs (k + 1) b.jump)
 
-abbrev pub blocks_items : Layout → ℕ → List (Block Location) → List Item
-blocks_items y k [] = []
-blocks_items y k (b ∷ blocks) = block_items y k b ++ blocks_items y (k + 1) blocks
+abbrev pub blocks_items : Layout → (saved : List ℕ) → ℕ → List (Block Location) → List Item
+blocks_items y rs k [] = []
+blocks_items y rs k (b ∷ blocks) = block_items y rs k b ++ blocks_items y rs (k + 1) blocks

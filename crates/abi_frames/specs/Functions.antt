@@ -90,5 +90,5 @@ entry_items y params =
 abbrev pub function_items : Layout → (saved : List ℕ) → List (Destination Location) →
     List (Block Location) → List Item
 function_items y rs params blocks =
-    prologue y rs ++ (entry_items y params ++ (blocks_items y 0 blocks
+    prologue y rs ++ (entry_items y params ++ (blocks_items y rs 0 blocks
     ++ (Label y.leave ∷ epilogue y rs)))

@@ -99,8 +99,9 @@ turns_in f = sum_by (λ b. sum_by turns_of b.lines) f.blocks
 abbrev pub falls_through : Code Location → Bool
 falls_through f = nat_le (turns_in f) TURN_BOUND
 
-abbrev pub layout : Code Location → (slots : ℕ) → Layout
-layout f slots =
+-- its returns have copies of the frame's end or go to the one behind the last block
+abbrev pub layout : Code Location → (slots : ℕ) → (copies : Bool) → Layout
+layout f slots copies =
     record {
       saves = saves_offset f;
       slots = slots_offset f;
@@ -109,4 +110,5 @@ layout f slots =
       result = f.result;
       leave = length f.blocks;
       falls = falls_through f;
+      copies = copies;
     }

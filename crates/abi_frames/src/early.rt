@@ -339,6 +339,7 @@ fn no_frame(layout: &Layout) -> Layout
         result: layout.result,
         leave: layout.leave,
         falls: true,
+        copies: false,
     }
 }
 

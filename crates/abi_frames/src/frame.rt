@@ -1,13 +1,13 @@
 //! Functions with their frames.
 ghost use Rattle.il_ast.specs.declared.limits.TheConstants.{ALLOC_BYTES};
-ghost use Rattle.std.specs.Prelude.{◌≡◌, ◌+◌, ◌*◌, ◌^◌, ◌<◌, ◌≤◌, IsTrue, [], ◌∷◌, ◌++◌, length, map, nat_le, OnOk, IfOk};
+ghost use Rattle.std.specs.Prelude.{◌≡◌, ◌+◌, ◌*◌, ◌^◌, ◌<◌, ◌≤◌, IsTrue, [], ◌∷◌, ◌++◌, false, true, length, map, nat_le, OnOk, IfOk};
 ghost use Rattle.rv_isa.specs.Labels.{longest_size};
 ghost use Rattle.std.specs.List.{list_all, sum_by};
 ghost use Rattle.vcode.specs.Regular.{area, alloc_bytes, passes_few, code_weight};
 ghost use Rattle.abi_frames.specs.Layout.{layout, saved_registers, frame_bound};
 ghost use Rattle.abi_frames.specs.Emission.{lines_items, jump_items, epilogue, block_items, blocks_items};
 ghost use Rattle.abi_frames.specs.Functions.{function_items};
-ghost use Rattle.abi_frames.specs.EarlyReturns.{test_items, quick_items, early_items, items_by, labels_with};
+ghost use Rattle.abi_frames.specs.EarlyReturns.{test_items, quick_items, early_items, items_by, items_with, copies_end, labels_with};
 ghost use Rattle.rv_isa.specs.declared.labelled.Item.TheVariants.{Label};
 ghost use Rattle.abi_frames.specs.Frames.{IsFrameOf};
 
@@ -17,6 +17,7 @@ use crate::entry::push_entry;
 use crate::jump::push_jump;
 use crate::layout::Layout;
 use crate::line::push_lines;
+use crate::price::{COPIED_RESTORES, is_within, price};
 use crate::room::{area_of, outgoing_of};
 use crate::saved::saved_registers;
 use crate::turns::falls_through;
@@ -29,43 +30,49 @@ use vcode::place::{Destination, Location};
 fn push_body(
     items: &mut Vec<Item>,
     layout: &Layout,
+    saved: &[u8],
     next: usize,
     block: &Block<Location>,
 ) -> Result<(), AllocError>
     requires room { sum_by alloc_bytes block.now.lines ≤ ALLOC_BYTES }
     requires few { IsTrue (list_all passes_few block.now.lines) }
-    ensures { OnOk result (items.new.items ≡ items.old.items ++ (lines_items layout.now 0 block.now.lines ++ jump_items layout.now next block.now.jump)) }
+    requires few_saved { length saved.now ≤ 13 }
+    ensures { OnOk result (items.new.items ≡ items.old.items ++ (lines_items layout.now 0 block.now.lines ++ jump_items layout.now saved.now next block.now.jump)) }
 {
     push_lines(items, layout, block.lines.as_slice())?;
-    push_jump(items, layout, next, &block.jump)
+    push_jump(items, layout, saved, next, &block.jump)
 }
 
 fn push_block(
     items: &mut Vec<Item>,
     layout: &Layout,
+    saved: &[u8],
     label: usize,
     block: &Block<Location>,
 ) -> Result<(), AllocError>
     requires room { sum_by alloc_bytes block.now.lines ≤ ALLOC_BYTES }
     requires few { IsTrue (list_all passes_few block.now.lines) }
+    requires few_saved { length saved.now ≤ 13 }
     requires not_last { label + 1 < 2 ^ 64 }
-    ensures { OnOk result (items.new.items ≡ items.old.items ++ block_items layout.now label block.now) }
+    ensures { OnOk result (items.new.items ≡ items.old.items ++ block_items layout.now saved.now label block.now) }
 {
     items.push(Item::Label(label))?;
-    push_body(items, layout, label + 1, block)
+    push_body(items, layout, saved, label + 1, block)
 }
 
 fn push_blocks(
     items: &mut Vec<Item>,
     layout: &Layout,
+    saved: &[u8],
     blocks: &[Block<Location>],
 ) -> Result<(), AllocError>
     requires room { sum_by (λ b. sum_by alloc_bytes b.lines) blocks.now ≤ ALLOC_BYTES }
     requires calls { IsTrue (list_all (λ b. list_all passes_few b.lines) blocks.now) }
-    ensures { OnOk result (items.new.items ≡ items.old.items ++ blocks_items layout.now 0 blocks.now) }
+    requires few_saved { length saved.now ≤ 13 }
+    ensures { OnOk result (items.new.items ≡ items.old.items ++ blocks_items layout.now saved.now 0 blocks.now) }
 {
     for (label, block) in blocks.iter().enumerate() {
-        push_block(items, layout, label, block)?;
+        push_block(items, layout, saved, label, block)?;
     }
     Ok(())
 }
@@ -94,7 +101,7 @@ fn push_function(
 {
     push_prologue(items, layout, saved)?;
     push_entry(items, layout, params)?;
-    push_blocks(items, layout, blocks)?;
+    push_blocks(items, layout, saved, blocks)?;
     push_end(items, layout, saved)?;
     Ok(())
 }
@@ -184,7 +191,7 @@ fn labels(blocks: usize, early: &Option<EarlyReturn>) -> usize
 #[tactic(auto, using(crate::proofs::Outgoing::few_outgoing, crate::proofs::Saving::few_saved_registers))]
 fn layout_of(function: &FlatFunc, saved: &[u8]) -> Layout
     requires { saved.now ≡ saved_registers function.now.located.code }
-    ensures value { result ≡ layout function.now.located.code function.now.located.slots }
+    ensures value { result ≡ layout function.now.located.code function.now.located.slots false }
 {
     let code = &function.located.code;
     let area = area_of(code);
@@ -200,6 +207,7 @@ fn layout_of(function: &FlatFunc, saved: &[u8]) -> Layout
         result: function.located.code.result,
         leave: function.located.code.blocks.len(),
         falls: falls_through(code),
+        copies: false,
     }
 }
 
@@ -211,6 +219,65 @@ pub fn frame_bound(function: &FlatFunc) -> u64
     let code = &function.located.code;
     let words = u64::from(function.located.slots) + outgoing_of(code) + 16;
     (area_of(code) + 8 * words + 15) / 16 * 16
+}
+
+/// The same layout, with copies of the frame's end in place of jumps to it or not.
+fn layout_with(layout: &Layout, copies: bool) -> Layout
+    ensures { result ≡ record layout.now { copies = copies } }
+{
+    let mut changed = *layout;
+    changed.copies = copies;
+    changed
+}
+
+/// The code of a function, with copies of the frame's end in place of jumps to it or not.
+fn items_with(
+    alloc: Global,
+    function: &FlatFunc,
+    saved: &[u8],
+    shared: &Layout,
+    copies: bool,
+    early: &Option<EarlyReturn>,
+) -> Result<Vec<Item>, AllocError>
+    requires registers { saved.now ≡ saved_registers function.now.located.code }
+    requires plan { shared.now ≡ layout function.now.located.code function.now.located.slots false }
+    requires small { length function.now.located.code.blocks < 2 ^ 63 }
+    ensures { IfOk result (λ v. v.items ≡ items_with function.now.located.code function.now.located.slots copies early.now) }
+{
+    let mut items = Vec::new(alloc);
+    push_frame(
+        &mut items,
+        &layout_with(shared, copies),
+        saved,
+        function.located.code.params.as_slice(),
+        function.located.code.blocks.as_slice(),
+        early,
+    )?;
+    Ok(items)
+}
+
+/// The code of a function, with copies of the frame's end where this is short and they are within the price.
+fn frame_items(
+    alloc: Global,
+    function: &FlatFunc,
+    saved: &[u8],
+    shared: &Layout,
+    early: &Option<EarlyReturn>,
+) -> Result<Vec<Item>, AllocError>
+    requires registers { saved.now ≡ saved_registers function.now.located.code }
+    requires plan { shared.now ≡ layout function.now.located.code function.now.located.slots false }
+    requires small { length function.now.located.code.blocks < 2 ^ 63 }
+    ensures { IfOk result (λ v. v.items ≡ items_with function.now.located.code function.now.located.slots (copies_end function.now.located.code function.now.located.slots early.now) early.now) }
+{
+    if saved.len() > COPIED_RESTORES {
+        return items_with(alloc, function, saved, shared, false, early);
+    }
+    let items = items_with(alloc, function, saved, shared, true, early)?;
+    if is_within(items.as_slice(), price(&function.located.code)) {
+        Ok(items)
+    } else {
+        items_with(alloc, function, saved, shared, false, early)
+    }
 }
 
 /// The machine code of a function, with at most 32 words for each unit of its weight, and 256. Wherever it stands, it performs what the
@@ -226,14 +293,7 @@ pub fn frame(alloc: Global, function: &FlatFunc) -> Result<LabelledCode, AllocEr
     let saved = saved_registers(alloc, &function.located.code)?;
     let layout = layout_of(function, saved.as_slice());
     let early = early_return(&function.located.code, layout.size);
-    let mut items = Vec::new(alloc);
-    push_frame(
-        &mut items,
-        &layout,
-        saved.as_slice(),
-        function.located.code.params.as_slice(),
-        function.located.code.blocks.as_slice(),
-        &early,
-    )?;
-    Ok(LabelledCode::new(items, labels(function.located.code.blocks.len(), &early)))
+    let blocks = function.located.code.blocks.as_slice();
+    let items = frame_items(alloc, function, saved.as_slice(), &layout, &early)?;
+    Ok(LabelledCode::new(items, labels(blocks.len(), &early)))
 }

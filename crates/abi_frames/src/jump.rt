@@ -1,10 +1,11 @@
 //! The machine code of jumps.
-ghost use Rattle.std.specs.Prelude.{◌≡◌, ◌^◌, ◌<◌, ◌&&◌, nat_eq, ◌++◌, OnOk};
+ghost use Rattle.std.specs.Prelude.{◌≡◌, ◌^◌, ◌<◌, ◌≤◌, ◌&&◌, nat_eq, ◌++◌, length, OnOk};
 ghost use Rattle.rv_isa.specs.declared.labelled.Item.TheVariants.{Branch};
 ghost use Rattle.operation_code.specs.Fields.{reg};
-ghost use Rattle.abi_frames.specs.Emission.{result_items, goto_items, branch_when, inverted, ways_items, branch_items, return_items, jump_items};
+ghost use Rattle.abi_frames.specs.Emission.{result_items, goto_items, branch_when, inverted, ways_items, branch_items, leave_items, return_items, jump_items};
 
 use crate::call::{passed_class, push_value};
+use crate::ends::push_epilogue;
 use crate::layout::Layout;
 use crate::line::{operand_source, push_operand_for};
 use il_ast::operation::Condition;
@@ -150,36 +151,57 @@ pub(crate) fn push_result(
     }
 }
 
+/// To the end of the frame, or that end itself.
+fn push_leave(
+    items: &mut Vec<Item>,
+    layout: &Layout,
+    saved: &[u8],
+    next: usize,
+) -> Result<(), AllocError>
+    requires few { length saved.now ≤ 13 }
+    ensures { OnOk result (items.new.items ≡ items.old.items ++ leave_items layout.now saved.now next) }
+{
+    if layout.copies && !is_next(layout, next, layout.leave) {
+        push_epilogue(items, layout, saved)
+    } else {
+        push_goto(items, layout, next, layout.leave)
+    }
+}
+
 fn push_return(
     items: &mut Vec<Item>,
     layout: &Layout,
+    saved: &[u8],
     next: usize,
     value: &Option<ReturnValue<Location>>,
 ) -> Result<(), AllocError>
-    ensures { OnOk result (items.new.items ≡ items.old.items ++ return_items layout.now next value.now) }
+    requires few { length saved.now ≤ 13 }
+    ensures { OnOk result (items.new.items ≡ items.old.items ++ return_items layout.now saved.now next value.now) }
 {
     match value {
         None => {}
         Some(value) => push_result(items, layout, value)?,
     }
-    push_goto(items, layout, next, layout.leave)
+    push_leave(items, layout, saved, next)
 }
 
 /// Puts the code of a jump at the end, before the label `next`.
 pub(crate) fn push_jump(
     items: &mut Vec<Item>,
     layout: &Layout,
+    saved: &[u8],
     next: usize,
     jump: &Jump<Location>,
 ) -> Result<(), AllocError>
-    ensures { OnOk result (items.new.items ≡ items.old.items ++ jump_items layout.now next jump.now) }
+    requires few { length saved.now ≤ 13 }
+    ensures { OnOk result (items.new.items ≡ items.old.items ++ jump_items layout.now saved.now next jump.now) }
 {
     match jump {
         Jump::Goto(block) => push_goto(items, layout, next, *block)?,
         Jump::Branch { on, met, otherwise } => {
             push_branch(items, layout, next, on, *met, *otherwise)?
         }
-        Jump::Return(value) => push_return(items, layout, next, value)?,
+        Jump::Return(value) => push_return(items, layout, saved, next, value)?,
         Jump::Halt => items.push(Item::Plain(Instr::Ebreak))?,
     }
     Ok(())

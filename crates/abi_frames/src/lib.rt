@@ -42,6 +42,7 @@ mod line;
 mod moves;
 mod operand;
 pub mod pace;
+mod price;
 mod room;
 mod saved;
 mod turns;

@@ -1,14 +1,14 @@
 use Rattle.std.proofs.Common.{◌≡◌, ◌+◌, ◌*◌, ◌≤◌, ◌∙◌, sym, ap, subst, List, ℕ, length}
 use Rattle.rv_isa.specs.Labels.{IsLabelled, longest_size}
 use Rattle.rv_isa.specs.declared.labelled.Item.{Item}
+use Rattle.vcode.specs.declared.place.Location.{Location}
+use Rattle.vcode.specs.declared.code.Block.{Block}
 use Rattle.vcode.specs.declared.function.LFunc.{LFunc}
 use Rattle.vcode.specs.Regular.{code_weight}
-use Rattle.abi_frames.specs.EarlyReturns.{early_by, early_return, frame_items, labels_with}
+use Rattle.abi_frames.specs.EarlyReturns.{early_by, early_return, items_with, copies_end, frame_items, labels_with}
 use Rattle.abi_frames.specs.Frames.{IsFrameOf}
 use Rattle.abi_frames.specs.Laws.{IsCode}
-use Rattle.abi_frames.proofs.Joining.{items_are}
 use Rattle.abi_frames.proofs.Promising.{frames_are_labelled, frames_are_small, frames_perform}
-use Rattle.abi_frames.proofs.Saving.{few_saved_registers}
 use Rattle.abi_frames.proofs.frame.frame.Goals as goal
 
 -- a function in location code
@@ -21,11 +21,10 @@ unfolding early_return
 new-requires c =
     let l = c.args.function.now.located in
     let early : c.early_return-early.result ≡ early_return l.code l.slots = c.early_return-early.ensures ∙ ap (λ y. early_by l.code y.size) c.layout_of-layout.ensures.value in
-    let items : c.push_frame.new.items.items ≡ frame_items l.code l.slots =
-    items_are _ _ _ _ _ _ _ _ _ _ _ _ c.in_ok-push_frame.ensures c.new-items.ensures.items c.layout_of-layout.ensures.value
-    (c.as_slice-2.ensures.value ∙ c.in_ok-saved.ensures) c.as_slice-3.ensures c.as_slice-4.ensures early in
+    let items : c.in_ok-items.items.items ≡ frame_items l.code l.slots =
+    c.in_ok-items.ensures ∙ ap (λ o. items_with l.code l.slots (copies_end l.code l.slots o) o) early in
     let labels : c.labels.result ≡ labels_with (length l.code.blocks) (early_return l.code l.slots) =
-    c.labels.ensures ∙ (ap (λ n. labels_with n c.early_return-early.result) c.len.ensures ∙ ap (labels_with (length l.code.blocks)) early) in
+    c.labels.ensures ∙ (ap (λ (bs : List (Block Location)). labels_with (length bs) c.early_return-early.result) c.as_slice-blocks.ensures ∙ ap (labels_with (length l.code.blocks)) early) in
     subst (λ (is : List Item). IsLabelled (record { items = is; labels = c.labels.result })) (sym items)
     (subst (λ (n : ℕ). IsLabelled (record { items = frame_items l.code l.slots; labels = n })) (sym labels)
     (frames_are_labelled l.code l.slots (code_of l)))
@@ -35,9 +34,8 @@ unfolding early_return
 returns-clause-promise c =
     let l = c.args.function.now.located in
     let early : c.early_return-early.result ≡ early_return l.code l.slots = c.early_return-early.ensures ∙ ap (λ y. early_by l.code y.size) c.layout_of-layout.ensures.value in
-    let items : c.push_frame.new.items.items ≡ frame_items l.code l.slots =
-    items_are _ _ _ _ _ _ _ _ _ _ _ _ c.in_ok-push_frame.ensures c.new-items.ensures.items c.layout_of-layout.ensures.value
-    (c.as_slice-2.ensures.value ∙ c.in_ok-saved.ensures) c.as_slice-3.ensures c.as_slice-4.ensures early in
+    let items : c.in_ok-items.items.items ≡ frame_items l.code l.slots =
+    c.in_ok-items.ensures ∙ ap (λ o. items_with l.code l.slots (copies_end l.code l.slots o) o) early in
     let whole : c.new.result.items ≡ frame_items l.code l.slots = ap (λ k. k.items) c.new.ensures ∙ items in
     subst (IsFrameOf l.code l.slots) (sym whole) (frames_perform l.code l.slots (code_of l))
 
@@ -46,13 +44,8 @@ unfolding early_return
 returns-clause-size c =
     let l = c.args.function.now.located in
     let early : c.early_return-early.result ≡ early_return l.code l.slots = c.early_return-early.ensures ∙ ap (λ y. early_by l.code y.size) c.layout_of-layout.ensures.value in
-    let items : c.push_frame.new.items.items ≡ frame_items l.code l.slots =
-    items_are _ _ _ _ _ _ _ _ _ _ _ _ c.in_ok-push_frame.ensures c.new-items.ensures.items c.layout_of-layout.ensures.value
-    (c.as_slice-2.ensures.value ∙ c.in_ok-saved.ensures) c.as_slice-3.ensures c.as_slice-4.ensures early in
+    let items : c.in_ok-items.items.items ≡ frame_items l.code l.slots =
+    c.in_ok-items.ensures ∙ ap (λ o. items_with l.code l.slots (copies_end l.code l.slots o) o) early in
     let whole : c.new.result.items ≡ frame_items l.code l.slots = ap (λ k. k.items) c.new.ensures ∙ items in
     subst (λ (is : List Item). longest_size is ≤ 32 * code_weight l.code + 256) (sym whole)
     (frames_are_small l.code l.slots (code_of l))
-
-pub push_frame-requires-clause-few_saved : goal.push_frame-requires-clause-few_saved
-push_frame-requires-clause-few_saved c =
-    subst (λ (rs : List ℕ). length rs ≤ 13) (sym (c.as_slice-2.ensures.value ∙ c.in_ok-saved.ensures)) (few_saved_registers c.args.function.now.located.code)

@@ -25,11 +25,12 @@ loop-label-preserved c =
     let i = c.loop-label.label in
     let b = c.index-blocks-label.result in
     let y = c.args.layout.now in
+    let rs = c.args.saved.now in
     let before = c.loop-label.items.items in
     let sum = sum_next (λ (b : Block Location). sum_by alloc_bytes b.lines) blocks i b c.loop-label-test.true c.index-blocks-label.is in
     let room = c.loop-label.invariant.1 in (
-      code_next before c.push_block.new.items.items (block_items y i b) (blocks_items y (i + 1) (drop (i + 1) blocks)) (c.args.items.now.items ++ blocks_items y 0 blocks) c.in_ok-push_block.ensures
-          (ap (λ rows. before ++ blocks_items y i rows) (sym (item_next blocks i b c.loop-label-test.true c.index-blocks-label.is)) ∙ c.loop-label.invariant.0),
+      code_next before c.push_block.new.items.items (block_items y rs i b) (blocks_items y rs (i + 1) (drop (i + 1) blocks)) (c.args.items.now.items ++ blocks_items y rs 0 blocks) c.in_ok-push_block.ensures
+          (ap (λ rows. before ++ blocks_items y rs i rows) (sym (item_next blocks i b c.loop-label-test.true c.index-blocks-label.is)) ∙ c.loop-label.invariant.0),
       omega (arith, sum, room),
       (all_next (λ (b : Block Location). list_all passes_few b.lines) blocks i b c.loop-label-test.true c.index-blocks-label.is c.loop-label.invariant.2).1,
     )
@@ -37,4 +38,4 @@ loop-label-preserved c =
 pub returns : goal.returns
 returns c =
     let items = c.loop-label.items.items in
-    sym (append_none items) ∙ ap (λ rows. items ++ blocks_items c.args.layout.now c.loop-label.label rows) (sym (drop_all c.loop-label.label c.args.blocks.now c.loop-label-test.false)) ∙ c.loop-label.invariant.0
+    sym (append_none items) ∙ ap (λ rows. items ++ blocks_items c.args.layout.now c.args.saved.now c.loop-label.label rows) (sym (drop_all c.loop-label.label c.args.blocks.now c.loop-label-test.false)) ∙ c.loop-label.invariant.0

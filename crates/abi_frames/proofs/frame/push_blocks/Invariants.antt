@@ -7,6 +7,6 @@ use Rattle.abi_frames.proofs.frame.push_blocks.Given as goal
 
 abbrev pub invariant-loop-label : goal.invariant-loop-label
 invariant-loop-label l =
-    (l.items.items ++ blocks_items l.layout l.label (drop l.label l.blocks) ≡ l.fn.items.items ++ blocks_items l.fn.layout 0 l.fn.blocks)
+    (l.items.items ++ blocks_items l.layout l.saved l.label (drop l.label l.blocks) ≡ l.fn.items.items ++ blocks_items l.fn.layout l.fn.saved 0 l.fn.blocks)
     × (sum_by (λ b. sum_by alloc_bytes b.lines) (drop l.label l.blocks) ≤ ALLOC_BYTES)
     × (list_all (λ b. list_all passes_few b.lines) (drop l.label l.blocks) ≡ true)

@@ -1,0 +1,23 @@
+use Rattle.std.proofs.Common.{◌≡◌, ◌<◌, ◌≤◌, ◌^◌, ◌∙◌, refl, sym, ap, subst, List, ℕ}
+use Rattle.std.specs.Prelude.{length}
+use Rattle.abi_frames.specs.declared.layout.Layout.{Layout}
+use Rattle.abi_frames.specs.Layout.{layout}
+use Rattle.abi_frames.proofs.Joining.{items_are}
+use Rattle.abi_frames.proofs.Saving.{few_saved_registers}
+use Rattle.abi_frames.proofs.frame.items_with.Goals as goal
+
+pub push_frame-requires-clause-few_saved : goal.push_frame-requires-clause-few_saved
+push_frame-requires-clause-few_saved c =
+    subst (λ (rs : List ℕ). length rs ≤ 13) (sym c.requires.registers) (few_saved_registers c.args.function.now.located.code)
+
+pub push_frame-requires-clause-small : goal.push_frame-requires-clause-small
+push_frame-requires-clause-small c =
+    let l = c.args.function.now.located in
+    let plan : c.layout_with.result ≡ layout l.code l.slots c.args.copies = c.layout_with.ensures ∙ ap (λ (y : Layout). record y { copies = c.args.copies }) c.requires.plan in
+    subst (λ (y : Layout). y.leave < 2 ^ 63) (sym plan) c.requires.small
+
+pub returns : goal.returns
+returns c =
+    let l = c.args.function.now.located in
+    let plan : c.layout_with.result ≡ layout l.code l.slots c.args.copies = c.layout_with.ensures ∙ ap (λ (y : Layout). record y { copies = c.args.copies }) c.requires.plan in
+    items_are _ _ _ _ _ _ _ _ _ _ c.args.early.now c.args.early.now c.in_ok-push_frame.ensures c.new-items.ensures.items plan c.requires.registers c.as_slice.ensures c.as_slice-2.ensures refl
