@@ -43,7 +43,7 @@ with_parts x = record {
 named_prop : (p : FunctionParts) → IsProp (Named p)
 named_prop p = hlevel props
 
-function_same : (f g : Func) → function_parts f ≡ function_parts g → f ≡ g
+pub function_same : (f g : Func) → function_parts f ≡ function_parts g → f ≡ g
 function_same f g e =
     let same : pair f ≡ pair g = Σ_prop_path named_prop e in ap with_parts same
   where

@@ -28,12 +28,12 @@ use Rattle.vcode.specs.Follows.{BehindCall, DoAlike}
 
 -- ---- what a line's act performs
 
-pub received : State ℕ → Option ℕ → Option Class → Option Value → Next (State ℕ) Outcome
+unfoldable pub received : State ℕ → Option ℕ → Option Class → Option Value → Next (State ℕ) Outcome
 received s to None v = On (record s { next = s.next + 1 })
 received s to (Some k) None = Over (Ended s.spent Undefined)
 received s to (Some k) (Some v) = On (record s { next = s.next + 1; values = written to (Some (held k v)) s.values })
 
-pub resumed : State ℕ → Option ℕ → Option Class → Outcome → Next (State ℕ) Outcome
+unfoldable pub resumed : State ℕ → Option ℕ → Option Class → Outcome → Next (State ℕ) Outcome
 resumed s to wants (Returned t v m) = received (record s { memory = m; spent = both s.spent t }) to wants v
 resumed s to wants (Ended t e) = Over (Ended (both s.spent t) e)
 

@@ -52,7 +52,7 @@ operand_follows globals ev el (Number n) all = λ v e. e
 operand_follows globals ev el (Name g) all = λ v e. e
 
 -- what is done with an operand's value
-then_follows : {P Y : Type 0} (globals : List Value) (ev el : Values P) (a : Operand P) (act : Value → Option Y) → AllFollow el ev → Follows (option_and_then act (value_of globals el a)) (option_and_then act (value_of globals ev a))
+pub then_follows : {P Y : Type 0} (globals : List Value) (ev el : Values P) (a : Operand P) (act : Value → Option Y) → AllFollow el ev → Follows (option_and_then act (value_of globals el a)) (option_and_then act (value_of globals ev a))
 then_follows globals ev el a act all = follows_then (value_of globals el a) (value_of globals ev a) act act (operand_follows globals ev el a all) (λ x y e. e)
 
 two_follow : {P Y : Type 0} (globals : List Value) (ev el : Values P) (a b : Operand P) (act : Value → Value → Option Y) → AllFollow el ev
@@ -140,7 +140,7 @@ module _ (holds : Memory → Values ℕ → Values ℕ → Type 0) (memory : Mem
       let o : Option Value = Some (Pointer (length memory) 0) in (h, behind o o (fresh memory size) (refl, refl) (λ x g. g))
   follow_alike (Asks call) b e f h behind = (h, answers_alike holds memory to to2 before after call.wants e f (λ o next may. behind o o next may (λ x g. g)))
 
-assign_follows : (to : Option ℕ) (o p : Option Value) (ev el : Values ℕ) → Follows p o → AllFollow el ev → AllFollow (written to p el) (written to o ev)
+pub assign_follows : (to : Option ℕ) (o p : Option Value) (ev el : Values ℕ) → Follows p o → AllFollow el ev → AllFollow (written to p el) (written to o ev)
 assign_follows None o p ev el follows all q = all q
 assign_follows (Some k) o p ev el follows all q = by (nat_eq q k)
   where

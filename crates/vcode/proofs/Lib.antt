@@ -16,3 +16,4 @@ pub mod Leading
 pub mod Factual
 pub mod Measuring
 pub mod Results
+pub mod InPlace

@@ -26,23 +26,23 @@ use Rattle.vcode.proofs.Acting.{perform, line_acts, lead, jump_leads, beside, ac
 
 -- ---- what is left of a block
 
-record Left (f : Code ℕ) (block next : ℕ) (ls : List (Line ℕ)) (j : Jump ℕ) : Type 0 where
-  whole : Block ℕ
-  found : slice_get f.blocks block ≡ Some whole
-  lines : drop next whole.lines ≡ ls
-  jump : whole.jump ≡ j
+pub record Left (f : Code ℕ) (block next : ℕ) (ls : List (Line ℕ)) (j : Jump ℕ) : Type 0 where
+  pub whole : Block ℕ
+  pub found : slice_get f.blocks block ≡ Some whole
+  pub lines : drop next whole.lines ≡ ls
+  pub jump : whole.jump ≡ j
 
-at_start : (f : Code ℕ) (k : ℕ) (b : Block ℕ) → slice_get f.blocks k ≡ Some b → Left f k 0 b.lines b.jump
+pub at_start : (f : Code ℕ) (k : ℕ) (b : Block ℕ) → slice_get f.blocks k ≡ Some b → Left f k 0 b.lines b.jump
 at_start f k b e = record { whole = b; found = e; lines = refl; jump = refl }
 
-behind_it : (f : Code ℕ) (k n : ℕ) (l : Line ℕ) (ls : List (Line ℕ)) (j : Jump ℕ) → Left f k n (l ∷ ls) j → Left f k (n + 1) ls j
+pub behind_it : (f : Code ℕ) (k n : ℕ) (l : Line ℕ) (ls : List (Line ℕ)) (j : Jump ℕ) → Left f k n (l ∷ ls) j → Left f k (n + 1) ls j
 behind_it f k n l ls j h = record { whole = h.whole; found = h.found; lines = tail_at h.whole.lines n l ls h.lines; jump = h.jump }
 
-line_is : (f : Code ℕ) (globals : List Value) (i : Given) (s : State ℕ) (l : Line ℕ) (ls : List (Line ℕ)) (j : Jump ℕ) → Left f s.block s.next (l ∷ ls) j
+pub line_is : (f : Code ℕ) (globals : List Value) (i : Given) (s : State ℕ) (l : Line ℕ) (ls : List (Line ℕ)) (j : Jump ℕ) → Left f s.block s.next (l ∷ ls) j
     → step virtual globals f i s ≡ perform i s (line_writes l) (act globals s.memory s.values l)
 line_is f globals i s l ls j h = step_line virtual globals f i s h.whole l h.found (head_at h.whole.lines s.next l ls h.lines) ∙ line_acts globals i s l
 
-jump_is : (f : Code ℕ) (globals : List Value) (i : Given) (s : State ℕ) (j : Jump ℕ) → Left f s.block s.next [] j → step virtual globals f i s ≡ lead s (way globals f.result s.memory s.values j)
+pub jump_is : (f : Code ℕ) (globals : List Value) (i : Given) (s : State ℕ) (j : Jump ℕ) → Left f s.block s.next [] j → step virtual globals f i s ≡ lead s (way globals f.result s.memory s.values j)
 jump_is f globals i s j h =
     step_jump virtual globals f i s h.whole h.found (nothing_at h.whole.lines s.next h.lines) ∙ ap (jump_step globals f.result s) h.jump ∙ jump_leads globals f.result s j
 

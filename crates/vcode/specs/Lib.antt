@@ -19,3 +19,4 @@ pub mod Claims
 pub mod Follows
 pub mod Rewrites
 pub mod Facts
+pub mod InPlace

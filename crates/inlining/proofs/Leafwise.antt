@@ -1,0 +1,317 @@
+-- The leaf's code in place runs as the leaf, up to where it returns.
+use Rattle.std.proofs.Common.{◌≡◌, ℕ, zero, suc, ◌+◌, ◌-◌, Bool, true, false, nat_eq, nat_lt, if◌then◌else◌, List, [], ◌∷◌, ◌++◌, map, slice_get, Option, Some, None, refl, sym, ◌∙◌, ap, subst, arith}
+use Rattle.std.specs.List.{list_all}
+use Rattle.std.specs.Option.{option_map, option_and_then}
+use Rattle.std.proofs.lemmas.Bool.{and_parts}
+use Rattle.std.proofs.lemmas.Bool.Decides.{nat_tests}
+use Rattle.il_ast.specs.declared.operation.Class.{Class}
+use Rattle.il_ast.specs.declared.value.Value.{Value}
+use Rattle.il_ast.specs.declared.value.Value.TheVariants.{Integer, Pointer, Function}
+use Rattle.il_ast.specs.declared.value.End.TheVariants.{Halt as Halted, Turns}
+use Rattle.il_ast.specs.Memory.{Memory, free_all}
+use Rattle.il_ast.specs.Meaning.{result_fits}
+use Rattle.il_ast.specs.Run.{Spent, nothing, one_turn, both, Outcome, Returned, Ended}
+use Rattle.il_ast.specs.Logged.{On, Over, Event, Does, Entry, LoggedEvent, Logged}
+use Rattle.il_ast.specs.Keeps.{Asked, Given}
+use Rattle.vcode.specs.declared.place.ReturnValue.{ReturnValue}
+use Rattle.vcode.specs.declared.place.Destination.{Destination}
+use Rattle.vcode.specs.declared.line.Line.{Line}
+use Rattle.vcode.specs.declared.line.Operation.TheVariants.{Compare}
+use Rattle.vcode.specs.declared.line.Jump.{Jump}
+use Rattle.vcode.specs.declared.line.Jump.TheVariants.{Goto, Branch, Return, Halt}
+use Rattle.vcode.specs.declared.code.Block.{Block}
+use Rattle.vcode.specs.Operations.{held, passed}
+use Rattle.vcode.specs.Places.{Values, virtual}
+use Rattle.vcode.specs.Step.{State, begin, value_of, operated, read_result, weighs, goes_on, step}
+use Rattle.vcode.specs.Writes.{line_writes}
+use Rattle.vcode.specs.Acts.{Act, Fails, Spends, Gives, Leaves, Makes, Asks, act, written, Way, entering, answering, way}
+use Rattle.vcode.specs.InPlace.{IsCheaper, GoesSo, HasRoom}
+use Rattle.vcode.proofs.Acting.{perform, lead}
+use Rattle.vcode.proofs.Following.{AllFollow, ActFollows, act_follows, WayFollows, way_follows, then_follows, assign_follows}
+use Rattle.vcode.proofs.InPlace.{as_cheap, cheaper_after}
+use Rattle.vcode.proofs.Rewriting.{Left, at_start, behind_it, line_is, jump_is}
+use Rattle.vcode.proofs.Stepping.{step_nowhere}
+use Rattle.inlining.specs.Moved.{moved, moved_line, moved_jump}
+use Rattle.inlining.specs.Leaves.{is_calm}
+use Rattle.inlining.specs.InPlace.{brought, result_brought, leaf_block}
+use Rattle.inlining.proofs.Beside.{Setting, placed, placed_step, Goes, does_goes, cheaper_both, cheaper_turned, cheaper_alone, IsLow}
+use Rattle.inlining.proofs.PlacedBlocks.{all_at, behind_at, first_at, leaf_block_at}
+use Rattle.inlining.proofs.Passed.{result_is}
+use Rattle.inlining.proofs.MovedActs.{from_base, moved_to, moved_follows, beyond_follows, value_moved, act_moved, writes_moved, IsCalm, act_calm, moved_way, branch_moved}
+use Rattle.inlining.proofs.Entering.{brought_goes}
+
+-- ---- what the leaf's end owes
+
+-- the caller's registers with what is wanted of a result
+abbrev pub answered : Option (Destination ℕ) → Option Value → Values ℕ → Values ℕ
+answered None v values = values
+answered (Some d) None values = values
+answered (Some d) (Some v) values = written (Some d.place) (Some (held d.class v)) values
+
+-- behind the call, with the memory that the leaf left
+abbrev pub resumed_at : Setting → State ℕ → Memory → Values ℕ → Spent → State ℕ
+resumed_at c s m el sp = record { block = behind_at c; next = 0; values = el; memory = m; owned = s.owned; spent = sp }
+
+abbrev pub Behind : Setting → Option (Destination ℕ) → State ℕ → Outcome → Type 0
+Behind c to s (Returned x v m) =
+    (el : Values ℕ) (sp : Spent) → IsCheaper sp (both s.spent x) → AllFollow el (answered to v s.values) → Goes c (resumed_at c s m el sp)
+Behind c to s (Ended x e) = (sp : Spent) → IsCheaper sp (both s.spent x) → GoesSo (Ended sp e) c.o
+
+-- ---- where the leaf's code stands
+
+-- with the leaf's memory, and the caller's blocks of memory
+abbrev pub inside : (s l : State ℕ) → (block next : ℕ) → Values ℕ → Spent → State ℕ
+inside s l b n el sp = record { block = b; next = n; values = el; memory = l.memory; owned = s.owned; spent = sp }
+
+-- the leaf made no blocks; the caller's registers hold what they did, and moved ones what the leaf's do
+pub record Inside (c : Setting) (s l : State ℕ) (el : Values ℕ) (sp : Spent) : Type 0 where
+  pub owned : l.owned ≡ []
+  pub follows : AllFollow el s.values
+  pub moved : AllFollow (from_base c.base el) l.values
+  pub cheap : IsCheaper sp (both s.spent l.spent)
+
+cheaper_more : (a l x sp : Spent) → IsCheaper sp (both a l) → IsCheaper (both sp x) (both a (both l x))
+cheaper_more a l x sp h =
+    cheaper_after (both sp x) (both (both a l) x) (both a (both l x)) (cheaper_both sp (both a l) x x h (as_cheap x)) (cheaper_turned a l x)
+
+-- turns are left in both or in neither
+same_tick : (all a l g sp : ℕ) → g ≡ all - a → sp ≡ a + l → nat_lt sp all ≡ nat_lt l g
+same_tick all a l g sp e f = by (nat_lt l g) refl
+  where
+    by : (b : Bool) → nat_lt l g ≡ b → nat_lt sp all ≡ b
+    by true h = grind (arith, nat_tests)
+    by false h = grind (arith, nat_tests)
+
+module _ (c : Setting) (s : State ℕ) (g : Given) (went : Outcome) where
+  abbrev leaf_step : State ℕ → Event (State ℕ) Asked Outcome
+  leaf_step = step virtual c.globals c.leaf g
+
+  abbrev Runs : ℕ → State ℕ → List (Entry Asked Outcome) → Type 0
+  Runs steps u rest = Logged leaf_step steps u rest went
+
+  -- what is to go on behind a line
+  abbrev Onward : (steps : ℕ) → State ℕ → (block next : ℕ) → Type 0
+  Onward steps l b n =
+      (u : State ℕ) (el : Values ℕ) (sp : Spent) → u.block ≡ l.block → u.next ≡ l.next + 1 → Inside c s u el sp → Runs steps u [] → Goes c (inside s u b (n + 1) el sp)
+
+  -- a tick that begins a turn
+  tick_goes : (steps w : ℕ) (l : State ℕ) (b n : ℕ) (el : Values ℕ) (sp : Spent) → Inside c s l el sp → Behind c c.site.to s went → Onward steps l b n → (q : Bool)
+      → placed_step c (inside s l b n el sp)
+      ≡ (if q then goes_on (record (inside s l b n el sp) { spent = both sp (one_turn w) }) else Does (Over (Ended sp Turns)))
+      → LoggedEvent (Runs steps) went (if q then goes_on (record l { spent = both l.spent (one_turn w) }) else Does (Over (Ended l.spent Turns))) [] → Goes c (inside s l b n el sp)
+  tick_goes steps w l b n el sp h behind on true at run =
+      let u : State ℕ = record l { next = l.next + 1; spent = both l.spent (one_turn w) } in
+      does_goes c (inside s l b n el sp) (On (inside s u b (n + 1) el (both sp (one_turn w)))) at
+      (on u el (both sp (one_turn w)) refl refl
+      (record { owned = h.owned; follows = h.follows; moved = h.moved; cheap = cheaper_more s.spent l.spent (one_turn w) sp h.cheap }) run)
+  tick_goes steps w l b n el sp h behind on false at run =
+      does_goes c (inside s l b n el sp) (Over (Ended sp Turns)) at (subst (Behind c c.site.to s) (sym run.0) behind sp h.cheap)
+
+  -- both do a line
+  acts_go : (steps : ℕ) (l : State ℕ) (b n : ℕ) (el : Values ℕ) (sp : Spent) → g.turns ≡ c.given.turns - s.spent.turns → IsLow c.base s.values → HasRoom went → Behind c c.site.to s went
+      → Inside c s l el sp → Onward steps l b n → (to : Option ℕ) (a x : Act) → IsCalm a → ActFollows x a
+      → placed_step c (inside s l b n el sp) ≡ perform c.given (inside s l b n el sp) (moved_to c.base to) x → LoggedEvent (Runs steps) went (perform g l to a) [] → Goes c (inside s l b n el sp)
+  acts_go steps l b n el sp same low fine behind h on to Fails x calm f at run = absurd (subst HasRoom (sym run.0) fine)
+  acts_go steps l b n el sp same low fine behind h on to (Spends false w) x calm f at run =
+      let t : State ℕ = inside s l b n el sp in
+      let u : State ℕ = record l { next = l.next + 1; spent = both l.spent (weighs w) } in
+      does_goes c t (On (inside s u b (n + 1) el (both sp (weighs w)))) (at ∙ ap (perform c.given t (moved_to c.base to)) f)
+      (on u el (both sp (weighs w)) refl refl
+      (record { owned = h.owned; follows = h.follows; moved = h.moved; cheap = cheaper_more s.spent l.spent (weighs w) sp h.cheap }) run)
+  acts_go steps l b n el sp same low fine behind h on to (Spends true w) x calm f at run =
+      let t : State ℕ = inside s l b n el sp in
+      tick_goes steps w l b n el sp h behind on (nat_lt l.spent.turns g.turns)
+      (at ∙ ap (perform c.given t (moved_to c.base to)) f
+      ∙ ap (λ (q : Bool). if q then goes_on (record t { spent = both sp (one_turn w) }) else Does (Over (Ended sp Turns)))
+      (same_tick c.given.turns s.spent.turns l.spent.turns g.turns sp.turns same h.cheap.turns)) run
+  acts_go steps l b n el sp same low fine behind h on to (Gives o) x calm f at run =
+      let t : State ℕ = inside s l b n el sp in
+      let u : State ℕ = record l { next = l.next + 1; values = written to o l.values } in
+      let el2 : Values ℕ = written (moved_to c.base to) f.0 el in
+      does_goes c t (On (inside s u b (n + 1) el2 sp)) (at ∙ ap (perform c.given t (moved_to c.base to)) f.1.0)
+      (on u el2 sp refl refl
+      (record {
+        owned = h.owned;
+        follows = beyond_follows c.base to f.0 el s.values low h.follows;
+        moved = moved_follows c.base to f.0 o el l.values f.1.1 h.moved;
+        cheap = h.cheap;
+      }) run)
+  acts_go steps l b n el sp same low fine behind h on to (Leaves m) x calm f at run =
+      let t : State ℕ = inside s l b n el sp in
+      let u : State ℕ = record l { next = l.next + 1; memory = m } in
+      does_goes c t (On (inside s u b (n + 1) el sp)) (at ∙ ap (perform c.given t (moved_to c.base to)) f)
+      (on u el sp refl refl (record { owned = h.owned; follows = h.follows; moved = h.moved; cheap = h.cheap }) run)
+  acts_go steps l b n el sp same low fine behind h on to (Makes size) x calm f at run = absurd calm
+  acts_go steps l b n el sp same low fine behind h on to (Asks call) x calm f at run = absurd calm
+
+  line_goes : (steps : ℕ) (l : State ℕ) (b n : ℕ) (el : Values ℕ) (sp : Spent) → g.turns ≡ c.given.turns - s.spent.turns → IsLow c.base s.values → HasRoom went → Behind c c.site.to s went
+      → Inside c s l el sp → Onward steps l b n → (x : Line ℕ) (ls ms : List (Line ℕ)) (j k : Jump ℕ) → Left c.leaf l.block l.next (x ∷ ls) j → Left (placed c) b n (moved_line c.base x ∷ ms) k
+      → is_calm x ≡ true → Runs (suc steps) l [] → Goes c (inside s l b n el sp)
+  unfolding Logged
+  line_goes steps l b n el sp same low fine behind h on x ls ms j k first second calm run =
+      let t : State ℕ = inside s l b n el sp in
+      acts_go steps l b n el sp same low fine behind h on (line_writes x) (act c.globals l.memory l.values x) (act c.globals l.memory (from_base c.base el) x)
+      (act_calm c.globals l.memory l.values x calm) (act_follows c.globals l.memory l.values (from_base c.base el) x h.moved)
+      (line_is (placed c) c.globals c.given t (moved_line c.base x) ms k second
+      ∙ ap (λ (r : Option ℕ). perform c.given t r (act c.globals l.memory el (moved_line c.base x))) (writes_moved c.base x calm)
+      ∙ ap (perform c.given t (moved_to c.base (line_writes x))) (act_moved c.globals l.memory c.base el x calm))
+      (subst (λ (e : Event (State ℕ) Asked Outcome). LoggedEvent (Runs steps) went e []) (line_is c.leaf c.globals g l x ls j first) run)
+
+  -- ---- where the leaf jumps
+
+  -- what is to go on in a block
+  abbrev Arrives : ℕ → State ℕ → Values ℕ → Spent → Type 0
+  Arrives steps l el sp = (k : ℕ) → Runs steps (record l { block = k; next = 0 }) [] → Goes c (inside s l (k + first_at c) 0 el sp)
+
+  branch_goes : (steps : ℕ) (l : State ℕ) (b n : ℕ) (el : Values ℕ) (sp : Spent) → HasRoom went → Arrives steps l el sp → (met otherwise : ℕ) (o : Option Value) (y : Way)
+      → placed_step c (inside s l b n el sp) ≡ lead (inside s l b n el sp) (moved_way (first_at c) y) → WayFollows y (entering met otherwise o)
+      → LoggedEvent (Runs steps) went (lead l (entering met otherwise o)) [] → Goes c (inside s l b n el sp)
+  branch_goes steps l b n el sp fine arrives met otherwise None y at f run = absurd (subst HasRoom (sym run.0) fine)
+  branch_goes steps l b n el sp fine arrives met otherwise (Some (Integer m)) y at f run =
+      let k : ℕ = if nat_eq m 0 then otherwise else met in
+      let t : State ℕ = inside s l b n el sp in
+      does_goes c t (On (inside s l (k + first_at c) 0 el sp)) (at ∙ ap (λ (z : Way). lead t (moved_way (first_at c) z)) f) (arrives k run)
+  branch_goes steps l b n el sp fine arrives met otherwise (Some (Pointer x m)) y at f run = absurd (subst HasRoom (sym run.0) fine)
+  branch_goes steps l b n el sp fine arrives met otherwise (Some (Function x)) y at f run = absurd (subst HasRoom (sym run.0) fine)
+
+  -- the jump behind the call
+  out_goes : (l : State ℕ) (b n : ℕ) (el : Values ℕ) (sp : Spent) → Left (placed c) b n [] (Goto (behind_at c)) → Goes c (resumed_at c s l.memory el sp) → Goes c (inside s l b n el sp)
+  out_goes l b n el sp here go =
+      does_goes c (inside s l b n el sp) (On (resumed_at c s l.memory el sp)) (jump_is (placed c) c.globals c.given (inside s l b n el sp) (Goto (behind_at c)) here) go
+
+  freed : (m : Memory) (owned : List ℕ) → owned ≡ [] → free_all m owned ≡ m
+  freed m owned e = ap (free_all m) e
+
+  -- a value is returned, which is wanted or not
+  wanted_goes : (l : State ℕ) (b n : ℕ) (el : Values ℕ) (sp : Spent) → Inside c s l el sp → (to : Option (Destination ℕ)) (k : Class) → result_fits (option_map (λ (d : Destination ℕ). d.class) to) (Some k) ≡ true
+      → (a : ReturnValue ℕ) (v : Value) → read_result c.globals l.values k a ≡ Some v → Left (placed c) b n (result_brought c.base (Some k) to (Return (Some a))) (Goto (behind_at c))
+      → Behind c to s (Returned l.spent (Some v) l.memory) → Goes c (inside s l b n el sp)
+  wanted_goes l b n el sp h None k fits a v is here behind = out_goes l b n el sp here (behind el sp h.cheap h.follows)
+  wanted_goes l b n el sp h (Some d) k fits a v is here behind =
+      let o : Option Value = Some (held k v) in
+      let el2 : Values ℕ = written (Some d.place) o el in
+      brought_goes c (inside s l b n el sp) d.place k a.extension (moved c.base a.value) [] (Goto (behind_at c)) v here
+      (ap (option_and_then (passed a.extension k)) (value_moved c.globals c.base el a.value)
+      ∙ then_follows c.globals l.values (from_base c.base el) a.value (passed a.extension k) h.moved v is)
+      (out_goes l b (n + 1) el2 sp (behind_it (placed c) b n (brought d.place k a.extension (moved c.base a.value)) [] (Goto (behind_at c)) here)
+      (behind el2 sp h.cheap
+      (assign_follows (Some d.place) (Some (held d.class v)) o s.values el
+      (λ x e. ap (λ (q : Class). Some (held q v)) (sym (result_is d.class k fits)) ∙ e) h.follows)))
+
+  value_goes : (steps : ℕ) (l : State ℕ) (b n : ℕ) (el : Values ℕ) (sp : Spent) → HasRoom went → Inside c s l el sp → (to : Option (Destination ℕ)) (k : Class) → result_fits (option_map (λ (d : Destination ℕ). d.class) to) (Some k) ≡ true
+      → (a : ReturnValue ℕ) (o : Option Value) → read_result c.globals l.values k a ≡ o → Left (placed c) b n (result_brought c.base (Some k) to (Return (Some a))) (Goto (behind_at c))
+      → Behind c to s went → LoggedEvent (Runs steps) went (lead l (answering o)) [] → Goes c (inside s l b n el sp)
+  value_goes steps l b n el sp fine h to k fits a None is here behind run = absurd (subst HasRoom (sym run.0) fine)
+  value_goes steps l b n el sp fine h to k fits a (Some v) is here behind run =
+      wanted_goes l b n el sp h to k fits a v is here
+      (subst (λ (m : Memory). Behind c to s (Returned l.spent (Some v) m)) (freed l.memory l.owned h.owned) (subst (Behind c to s) (sym run.0) behind))
+
+  returns_go : (steps : ℕ) (l : State ℕ) (b n : ℕ) (el : Values ℕ) (sp : Spent) → HasRoom went → Inside c s l el sp → (to : Option (Destination ℕ)) (result : Option Class) → result_fits (option_map (λ (d : Destination ℕ). d.class) to) result ≡ true
+      → (a : ReturnValue ℕ) → Left (placed c) b n (result_brought c.base result to (Return (Some a))) (Goto (behind_at c))
+      → Behind c to s went → LoggedEvent (Runs steps) went (lead l (way c.globals result l.memory l.values (Return (Some a)))) [] → Goes c (inside s l b n el sp)
+  returns_go steps l b n el sp fine h to None fits a here behind run = absurd (subst HasRoom (sym run.0) fine)
+  returns_go steps l b n el sp fine h to (Some k) fits a here behind run =
+      value_goes steps l b n el sp fine h to k fits a (read_result c.globals l.values k a) refl here behind run
+
+  none_answered : (to : Option (Destination ℕ)) (el : Values ℕ) → AllFollow el s.values → AllFollow el (answered to None s.values)
+  none_answered None el follows = follows
+  none_answered (Some d) el follows = follows
+
+  -- nothing is brought where no value is returned
+  abbrev GivesNone : Jump ℕ → Type 0
+  GivesNone (Return (Some a)) = ⊥
+  GivesNone j = Unit {0}
+
+  none_brought : (base : ℕ) (result : Option Class) (to : Option (Destination ℕ)) (j : Jump ℕ) → GivesNone j → result_brought base result to j ≡ []
+  none_brought base None to j h = refl
+  none_brought base (Some k) None j h = refl
+  none_brought base (Some k) (Some d) (Goto n) h = refl
+  none_brought base (Some k) (Some d) (Branch on met otherwise) h = refl
+  none_brought base (Some k) (Some d) (Return None) h = refl
+  none_brought base (Some k) (Some d) (Return (Some a)) h = absurd h
+  none_brought base (Some k) (Some d) Halt h = refl
+
+  only_jump : (b n : ℕ) (j k : Jump ℕ) → GivesNone j → Left (placed c) b n (result_brought c.base c.leaf.result c.site.to j) k → Left (placed c) b n [] k
+  only_jump b n j k none here = subst (λ (ls : List (Line ℕ)). Left (placed c) b n ls k) (none_brought c.base c.leaf.result c.site.to j none) here
+
+  jump_goes : (steps : ℕ) (l : State ℕ) (b n : ℕ) (el : Values ℕ) (sp : Spent) → HasRoom went → Behind c c.site.to s went → Inside c s l el sp → Arrives steps l el sp → (j : Jump ℕ)
+      → Left (placed c) b n (result_brought c.base c.leaf.result c.site.to j) (moved_jump (first_at c) (behind_at c) c.base j)
+      → LoggedEvent (Runs steps) went (lead l (way c.globals c.leaf.result l.memory l.values j)) [] → Goes c (inside s l b n el sp)
+  jump_goes steps l b n el sp fine behind h arrives (Goto k) here run =
+      let t : State ℕ = inside s l b n el sp in
+      does_goes c t (On (inside s l (k + first_at c) 0 el sp))
+      (jump_is (placed c) c.globals c.given t (Goto (k + first_at c)) (only_jump b n (Goto k) (Goto (k + first_at c)) tt here)) (arrives k run)
+  jump_goes steps l b n el sp fine behind h arrives (Branch on met otherwise) here run =
+      let t : State ℕ = inside s l b n el sp in
+      let j : Jump ℕ = moved_jump (first_at c) (behind_at c) c.base (Branch on met otherwise) in
+      branch_goes steps l b n el sp fine arrives met otherwise
+      (operated l.memory (Compare on.condition on.class) (value_of c.globals l.values on.left) (value_of c.globals l.values on.right))
+      (way c.globals c.leaf.result l.memory (from_base c.base el) (Branch on met otherwise))
+      (jump_is (placed c) c.globals c.given t j (only_jump b n (Branch on met otherwise) j tt here)
+      ∙ ap (lead t) (branch_moved c.globals (placed c).result c.leaf.result l.memory (first_at c) (behind_at c) c.base el on met otherwise))
+      (way_follows c.globals c.leaf.result l.memory l.values (from_base c.base el) (Branch on met otherwise) h.moved) run
+  jump_goes steps l b n el sp fine behind h arrives (Return None) here run =
+      out_goes l b n el sp (only_jump b n (Return None) (Goto (behind_at c)) tt here)
+      (subst (λ (m : Memory). Behind c c.site.to s (Returned l.spent None m)) (freed l.memory l.owned h.owned) (subst (Behind c c.site.to s) (sym run.0) behind)
+      el sp h.cheap (none_answered c.site.to el h.follows))
+  jump_goes steps l b n el sp fine behind h arrives (Return (Some a)) here run =
+      returns_go steps l b n el sp fine h c.site.to c.leaf.result c.is.result a here behind run
+  jump_goes steps l b n el sp fine behind h arrives Halt here run =
+      does_goes c (inside s l b n el sp) (Over (Ended sp Halted))
+      (jump_is (placed c) c.globals c.given (inside s l b n el sp) Halt (only_jump b n Halt Halt tt here)) (subst (Behind c c.site.to s) (sym run.0) behind sp h.cheap)
+
+  -- ---- the whole of it
+
+  nowhere : (steps : ℕ) (u : State ℕ) → HasRoom went → slice_get c.leaf.blocks u.block ≡ None → Runs steps u [] → ⊥
+  unfolding Logged
+  nowhere zero u fine e run = run
+  nowhere (suc steps) u fine e run =
+      let over = subst (λ (x : Event (State ℕ) Asked Outcome). LoggedEvent (Runs steps) went x []) (step_nowhere virtual c.globals c.leaf g u e) run in
+      subst HasRoom (sym over.0) fine
+
+  -- the leaf's code goes on from each line
+  abbrev Later : ℕ → Type 0
+  Later steps =
+      (l : State ℕ) (b n : ℕ) (el : Values ℕ) (sp : Spent) (ls : List (Line ℕ)) (j : Jump ℕ) → Left c.leaf l.block l.next ls j
+      → Left (placed c) b n (map (moved_line c.base) ls ++ result_brought c.base c.leaf.result c.site.to j) (moved_jump (first_at c) (behind_at c) c.base j)
+      → list_all is_calm ls ≡ true → Inside c s l el sp → Runs steps l [] → Goes c (inside s l b n el sp)
+
+  block_arrives : (steps : ℕ) → HasRoom went → Later steps → (l : State ℕ) (el : Values ℕ) (sp : Spent) → Inside c s l el sp → Arrives steps l el sp
+  block_arrives steps fine later l el sp h k run = by (slice_get c.leaf.blocks k) refl
+    where
+      by : (o : Option (Block ℕ)) → slice_get c.leaf.blocks k ≡ o → Goes c (inside s l (k + first_at c) 0 el sp)
+      by None e = absurd (nowhere steps (record l { block = k; next = 0 }) fine e run)
+      by (Some x) e =
+          later (record l { block = k; next = 0 }) (k + first_at c) 0 el sp x.lines x.jump (at_start c.leaf k x e)
+          (at_start (placed c) (k + first_at c) (leaf_block (first_at c) (behind_at c) c.base c.leaf.result c.site.to x) (leaf_block_at c k x e))
+          (all_at (λ (d : Block ℕ). list_all is_calm d.lines) c.leaf.blocks k x c.is.calm e)
+          (record { owned = h.owned; follows = h.follows; moved = h.moved; cheap = h.cheap }) run
+
+  leaf_goes : g.turns ≡ c.given.turns - s.spent.turns → IsLow c.base s.values → HasRoom went → Behind c c.site.to s went → (steps : ℕ) → Later steps
+  unfolding Logged
+  leaf_goes same low fine behind zero l b n el sp ls j first second calm h run = absurd run
+  leaf_goes same low fine behind (suc steps) l b n el sp [] j first second calm h run =
+      jump_goes steps l b n el sp fine behind h
+      (block_arrives steps fine (λ u d m e q ms k f p z i r. leaf_goes same low fine behind steps u d m e q ms k f p z i r) l el sp h) j second
+      (subst (λ (x : Event (State ℕ) Asked Outcome). LoggedEvent (Runs steps) went x []) (jump_is c.leaf c.globals g l j first) run)
+  leaf_goes same low fine behind (suc steps) l b n el sp (x ∷ ls) j first second calm h run =
+      let ms : List (Line ℕ) = map (moved_line c.base) ls ++ result_brought c.base c.leaf.result c.site.to j in
+      let k : Jump ℕ = moved_jump (first_at c) (behind_at c) c.base j in
+      let parts = and_parts (is_calm x) (list_all is_calm ls) calm in
+      line_goes steps l b n el sp same low fine behind h
+      (λ u el2 sp2 at next h2 run2.
+      leaf_goes same low fine behind steps u b (n + 1) el2 sp2 ls j
+      (subst (λ (q : ℕ). Left c.leaf q u.next ls j) (sym at) (subst (λ (q : ℕ). Left c.leaf l.block q ls j) (sym next) (behind_it c.leaf l.block l.next x ls j first)))
+      (behind_it (placed c) b n (moved_line c.base x) ms k second) parts.1 h2 run2)
+      x ls ms j k first second parts.0 run
+
+  -- from its first line, with the arguments brought
+  pub leaf_enters : g.turns ≡ c.given.turns - s.spent.turns → IsLow c.base s.values → HasRoom went → Behind c c.site.to s went → (steps : ℕ) (el : Values ℕ) (sp : Spent)
+      → AllFollow el s.values → AllFollow (from_base c.base el) (begin virtual c.leaf g).values → IsCheaper sp s.spent → Runs steps (begin virtual c.leaf g) []
+      → Goes c (inside s (begin virtual c.leaf g) (first_at c) 0 el sp)
+  leaf_enters same low fine behind steps el sp follows moved cheap run =
+      let l : State ℕ = begin virtual c.leaf g in
+      let h : Inside c s l el sp =
+      record { owned = refl; follows = follows; moved = moved; cheap = cheaper_after sp s.spent (both s.spent nothing) cheap (cheaper_alone s.spent) } in
+      subst (λ (k : ℕ). Goes c (inside s l k 0 el sp)) (let e : 0 + first_at c ≡ first_at c = omega arith in e)
+      (block_arrives steps fine (leaf_goes same low fine behind steps) l el sp h 0 run)

@@ -1,0 +1,13 @@
+use Rattle.std.proofs.Common.{Option, subst}
+use Rattle.std.specs.Prelude.{IfSome, slice_index_or}
+use Rattle.inlining.specs.declared.growth.Cut.{Cut}
+use Rattle.inlining.specs.Growth.{IsCut}
+use Rattle.inlining.proofs.Placing.{placed_on}
+use Rattle.inlining.proofs.calls.with_call.Goals as goal
+
+pub returns-in-Some : goal.returns-in-Some
+returns-in-Some c =
+    let leaves = c.args.leaves.now in
+    let g = c.args.growth in
+    let cut = subst (λ (o : Option Cut). IfSome o (λ d. IsCut leaves g (slice_index_or g.blocks.items c.args.at d.up_to) d)) c.in-Some.is c.in_ok-cut.ensures in
+    placed_on leaves g c.args.at c.in-Some.cut.up_to c.in-Some.cut c.requires cut c.put.result c.put.ensures.blocks c.put.ensures.room

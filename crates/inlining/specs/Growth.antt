@@ -1,0 +1,79 @@
+-- A function that grows by calls in place.
+use Rattle.std.specs.Prelude.{◌≡◌, ℕ, ◌+◌, ◌<◌, not, ◌∷◌, map, length, take, drop, slice_get, Some, IsTrue}
+use Rattle.std.specs.List.{list_all, list_any}
+use Rattle.std.specs.Option.{option_map}
+use Rattle.il_ast.specs.declared.limits.TheConstants.{FUNCTION_WEIGHT}
+use Rattle.il_ast.specs.Meaning.{same_classes, result_fits}
+use Rattle.vcode.specs.declared.limits.TheConstants.{PLACES}
+use Rattle.vcode.specs.declared.place.Destination.{Destination}
+use Rattle.vcode.specs.declared.place.Argument.{Argument}
+use Rattle.vcode.specs.declared.place.Operand.TheVariants.{Name}
+use Rattle.vcode.specs.declared.line.Line.TheVariants.{Call}
+use Rattle.vcode.specs.declared.code.Block.{Block}
+use Rattle.vcode.specs.declared.function.VFunc.{VFunc}
+use Rattle.vcode.specs.Becomes.{with_these}
+use Rattle.vcode.specs.Coded.{classes_in}
+use Rattle.vcode.specs.Cost.{is_paid}
+use Rattle.vcode.specs.Named.{keeps_places, is_below}
+use Rattle.vcode.specs.Regular.{IsRegular, is_alloc, code_weight}
+use Rattle.inlining.specs.declared.limits.TheConstants.{BLOCKS}
+use Rattle.inlining.specs.declared.growth.Room.{Room}
+use Rattle.inlining.specs.declared.growth.Growth.{Growth}
+use Rattle.inlining.specs.declared.growth.Cut.{Cut}
+use Rattle.inlining.specs.InPlace.{Site, begins_turn, leaf_block, up_to_call, behind_call}
+use Rattle.inlining.specs.Leaves.{is_leaf}
+use Rattle.inlining.specs.Placed.{Leaves, Grows}
+
+-- the room that the leaf's code leaves, in a function with so many blocks
+pub record Takes (room : Room) (blocks : ℕ) (leaf : VFunc) (left : Room) : Type 0 where
+  pub registers : left.registers ≡ room.registers + leaf.registers
+  pub few : left.registers < PLACES
+  pub low : blocks + length leaf.code.blocks < BLOCKS
+  pub weight : code_weight leaf.code + left.weight_left ≡ room.weight_left
+
+-- the leaf takes what the call passes, gives what it wants, and has blocks
+pub record Answers (leaf : VFunc) (s : Site) : Type 0 where
+  pub classes :
+      IsTrue (same_classes (map (λ (a : Argument ℕ). a.class) s.args) (classes_in leaf.code.params))
+  pub result :
+      IsTrue (result_fits (option_map (λ (d : Destination ℕ). d.class) s.to) leaf.code.result)
+  pub calm : IsTrue (is_leaf leaf.code)
+  pub begins : 0 < length leaf.code.blocks
+
+-- line j of the block is the call; a turn begins before it, and no block of memory is made behind it
+pub record StandsAt (j : ℕ) (s : Site) : Type 0 where
+  pub call : slice_get s.block.lines j ≡ Some (Call s.to (Name s.name) s.args)
+  pub turn : IsTrue (list_any begins_turn (take j s.block.lines))
+  pub plain : IsTrue (not (list_any is_alloc (drop (j + 1) s.block.lines)))
+
+-- what the call in place makes of its block, in a function with so many blocks; the ticks pay for
+-- that
+pub record IsMade (room : Room) (blocks : ℕ) (leaf : VFunc) (j : ℕ) (s : Site) (c : Cut) : Type 0
+  where
+    pub up_to : c.up_to ≡ up_to_call (blocks + 1) room.registers j leaf.code.params s
+    pub behind : c.behind.items
+        ≡ behind_call j s
+        ∷ map (leaf_block (blocks + 1) blocks room.registers leaf.code.result s.to) leaf.code.blocks
+    pub paid : IsTrue (is_paid c.up_to)
+    pub all_paid : IsTrue (list_all is_paid c.behind.items)
+    pub takes : Takes room blocks leaf c.room
+
+-- the block cut at a call of one of the leaves
+pub record IsCut (leaves : Leaves) (g : Growth) (b : Block ℕ) (c : Cut) : Type 0 where
+  pub leaf : VFunc
+  pub line : ℕ
+  pub site : Site
+  pub block : site.block ≡ b
+  pub named : slice_get leaves site.name ≡ Some (Some leaf)
+  pub answers : Answers leaf site
+  pub stands : StandsAt line site
+  pub made : IsMade g.room (length g.blocks.items) leaf line site c
+
+-- the blocks are what the function's become by calls in place, and code that there may be
+pub record IsGrowth (leaves : Leaves) (v : VFunc) (g : Growth) : Type 0 where
+  pub regular : IsRegular (with_these v.code g.blocks.items)
+  pub light : code_weight (with_these v.code g.blocks.items) + g.room.weight_left ≡ FUNCTION_WEIGHT
+  pub known : IsTrue (keeps_places (is_below g.room.registers) (with_these v.code g.blocks.items))
+  pub few : g.room.registers < PLACES
+  pub grows :
+      Grows leaves v.code v.registers (with_these v.code g.blocks.items) g.room.registers

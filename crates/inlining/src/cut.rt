@@ -1,0 +1,161 @@
+//! Blocks that are cut at a call.
+ghost use Rattle.std.specs.Prelude.{◌≡◌, ℕ, ◌+◌, ◌<◌, ◌∷◌, [], false, not, map, length, take, drop, slice_get, Some, IsTrue, IfOk, IfSome};
+ghost use Rattle.std.specs.List.{list_all, list_any};
+ghost use Rattle.vcode.specs.Regular.{is_alloc};
+ghost use Rattle.vcode.specs.declared.limits.TheConstants.{PLACES};
+ghost use Rattle.inlining.specs.declared.limits.TheConstants.{BLOCKS};
+ghost use Rattle.inlining.specs.InPlace.{begins_turn, leaf_block, behind_call};
+ghost use Rattle.inlining.specs.Placed.{site_of};
+ghost use Rattle.inlining.specs.Growth.{StandsAt, IsMade, IsCut};
+
+use crate::blocks::{CallSite, behind_call, push_leaf, up_to_call};
+use crate::growth::{Cut, Growth, Room, room_behind};
+use crate::limits::TRIES;
+use crate::site::{answers, are_paid, begins_turn, is_call_of, up_to_allocs};
+use std::alloc::{AllocError, Global};
+use vcode::code::Block;
+use vcode::cost::is_paid;
+use vcode::function::VFunc;
+use vcode::line::Line;
+use vcode::place::Operand;
+
+/// The rest of the block behind the call, which this line is, and the leaf's blocks.
+fn blocks_behind(
+    alloc: Global,
+    behind: usize,
+    base: u32,
+    line: usize,
+    site: &CallSite<'_>,
+    leaf: &VFunc,
+) -> Result<Vec<Block<u32>>, AllocError>
+    requires line { line < length site.now.block.now.lines }
+    requires few { behind + length leaf.now.code.blocks < BLOCKS }
+    requires base { base < PLACES }
+    ensures { IfOk result (λ v. v.items ≡ behind_call line (site_of site.now) ∷ map (leaf_block (behind + 1) behind base leaf.now.code.result site.now.to) leaf.now.code.blocks) }
+{
+    let blocks = leaf.code.blocks.as_slice();
+    let mut made = Vec::new(alloc);
+    made.push(behind_call(alloc, line, site)?)?;
+    push_leaf(
+        alloc,
+        base,
+        leaf.code.result,
+        site.to,
+        behind,
+        &mut made,
+        blocks,
+    )?;
+    Ok(made)
+}
+
+/// The block cut at the call, which this line is, if there is room for the leaf and the ticks pay.
+fn cut_for(
+    alloc: Global,
+    growth: &Growth,
+    line: usize,
+    site: &CallSite<'_>,
+    leaf: &VFunc,
+) -> Result<Option<Cut>, AllocError>
+    requires line { line < length site.now.block.now.lines }
+    ensures { IfOk result (λ o. IfSome o (λ c. IsMade growth.now.room (length growth.now.blocks.items) leaf.now line (site_of site.now) c)) }
+{
+    let count = growth.blocks.len();
+    let base = growth.room.registers;
+    let room = match room_behind(growth.room, count, site.block.lines.len(), leaf) {
+        Some(room) => room,
+        None => return Ok(None),
+    };
+    let up_to = up_to_call(alloc, count, base, line, leaf.code.params.as_slice(), site)?;
+    let behind = blocks_behind(alloc, count, base, line, site, leaf)?;
+    if is_paid(&up_to) && are_paid(behind.as_slice()) {
+        Ok(Some(Cut {
+            up_to,
+            behind,
+            room,
+        }))
+    } else {
+        Ok(None)
+    }
+}
+
+/// The block cut at the call, which this line is, if it is of one of the leaves and may be done in place.
+fn cut_at_call(
+    alloc: Global,
+    growth: &Growth,
+    line: usize,
+    site: &CallSite<'_>,
+    leaves: &[Option<VFunc>],
+) -> Result<Option<Cut>, AllocError>
+    requires line { line < length site.now.block.now.lines }
+    requires stands { StandsAt line (site_of site.now) }
+    ensures { IfOk result (λ o. IfSome o (λ c. IsCut leaves.now growth.now site.now.block.now c)) }
+{
+    match leaves.get(site.name.number()) {
+        Some(leaf) => match leaf {
+            Some(leaf) => {
+                if answers(leaf, site) {
+                    cut_for(alloc, growth, line, site, leaf)
+                } else {
+                    Ok(None)
+                }
+            }
+            None => Ok(None),
+        },
+        None => Ok(None),
+    }
+}
+
+/// The block cut at this line, if it is a call of one of the leaves that may be done in place.
+fn cut_at(
+    alloc: Global,
+    growth: &Growth,
+    block: &Block<u32>,
+    line: usize,
+    leaves: &[Option<VFunc>],
+) -> Result<Option<Cut>, AllocError>
+    requires line { line < length block.now.lines }
+    requires turn { IsTrue (list_any begins_turn (take line block.now.lines)) }
+    requires plain { IsTrue (not (list_any is_alloc (drop (line + 1) block.now.lines))) }
+    ensures { IfOk result (λ o. IfSome o (λ c. IsCut leaves.now growth.now block.now c)) }
+{
+    match &block.lines.as_slice()[line] {
+        Line::Call { to, callee, args } => match callee {
+            Operand::Name(name) => {
+                let site = CallSite {
+                    block,
+                    to: *to,
+                    name: *name,
+                    args: args.as_slice(),
+                };
+                cut_at_call(alloc, growth, line, &site, leaves)
+            }
+            Operand::At(_) | Operand::Number(_) => Ok(None),
+        },
+        _ => Ok(None),
+    }
+}
+
+/// The block cut at the first call of one of the leaves that may be done in place, if there is one.
+pub(crate) fn cut_in(
+    alloc: Global,
+    growth: &Growth,
+    block: &Block<u32>,
+    leaves: &[Option<VFunc>],
+) -> Result<Option<Cut>, AllocError>
+    ensures { IfOk result (λ o. IfSome o (λ c. IsCut leaves.now growth.now block.now c)) }
+{
+    let lines = block.lines.as_slice();
+    let start = up_to_allocs(lines);
+    let mut turned = false;
+    let mut tries = 0;
+    for (number, line) in lines.iter().enumerate() {
+        if turned && start <= number && tries < TRIES && is_call_of(line, leaves) {
+            if let Some(cut) = cut_at(alloc, growth, block, number, leaves)? {
+                return Ok(Some(cut));
+            }
+            tries += 1;
+        }
+        turned = turned || begins_turn(line);
+    }
+    Ok(None)
+}
