@@ -14,6 +14,7 @@ use Rattle.il_ast.specs.Start.{target_value, values_of, globals_of}
 use Rattle.il_ast.specs.Passes.{classes_of}
 use Rattle.vcode.specs.Places.{located}
 use Rattle.vcode.specs.Regular.{area}
+use Rattle.vcode.specs.Coded.{coded}
 use Rattle.vcode.specs.Step.{begin, step}
 use Rattle.flat_code.specs.Spots.{AllShow}
 use Rattle.flat_code.specs.Step.{flat_begin, flat_step}
@@ -35,7 +36,7 @@ use Rattle.headline.specs.Places.{setting_of, start_places}
 use Rattle.headline.specs.Executables.{entries_of, places_of, NamesAreThere}
 use Rattle.headline.specs.Compiled.{StandIn, EachStands, EachStandsIn, StandsIn, ReplacedRuns, CompiledRuns}
 use Rattle.headline.specs.InPlace.{calls_in}
-use Rattle.headline.proofs.InPlace.{meaning_runs}
+use Rattle.headline.proofs.InPlace.{code_is_in}
 use Rattle.headline.proofs.InNeed.{bytes_in_need, frame_in_need}
 use Rattle.headline.proofs.LayersKeep.{layers_keep}
 use Rattle.headline.proofs.StartMemory.{get_within}
@@ -171,11 +172,11 @@ function_kept p codes x words s has each every fits good stands starts turns k a
     let addresses = addresses_in a (slice_get p.targets f.text) in
     let here = function_stands p codes x words s good stands starts k at code.words f code.here found entry in
     let labelled = r.laid (ground_of s) at global here in
-    let m = frame_in_need f.item r.code r.slots r.items r.params r.result r.fits r.machine in
+    let m = frame_in_need f.item r.code r.slots r.items r.is.params r.is.result r.fits r.machine in
     layers_keep c setting at (need f.item) (frame_size r.code r.slots) (area r.code) turns (classes_of f.item.params) f.item.result (globals_of p f.text) addresses (body_of p f) (calls_in p turns) (begin located r.code) (step located (globals_of p f.text) r.code) (flat_begin r.code) (flat_step r.code addresses)
     (record {
-      meaning = r.runs turns;
-      flat = bytes_in_need f.item r.code r.params r.result r.bytes (record { entries = entries_of p codes; globals = globals_of p f.text; addresses = addresses });
+      meaning = r.is.runs turns;
+      flat = bytes_in_need f.item r.code r.is.params r.is.result r.bytes (record { entries = entries_of p codes; globals = globals_of p f.text; addresses = addresses });
       machine =
           m.keeps c.world at labelled.0 global addresses setting.world (λ n y e. name_is a (slice_get p.targets f.text) n y e)
           (λ n. target_small p codes fits (option_and_then (λ ts. slice_get ts n) (slice_get p.targets f.text)))
@@ -208,9 +209,7 @@ stands_in p f c r =
       code = r.code;
       slots = r.slots;
       items = r.items;
-      params = r.is.params;
-      result = r.is.result;
-      runs = λ turns. meaning_runs (classes_of f.item.params) (begin located r.code) (step located (globals_of p f.text) r.code) (body_of p f) (r.is.runs (globals_of p f.text)) (calls_in p turns) turns;
+      is = code_is_in p f (coded located r.code) r.is;
       fits = r.fits;
       bytes = r.bytes;
       machine = r.machine;

@@ -27,12 +27,12 @@ use Rattle.rv_isa.proofs.RunLemmas.{comes_here}
 use Rattle.flat_code.specs.Spots.{Spots, Bases}
 use Rattle.flat_code.specs.Flat.{FlatGiven, FlatAsked, FlatOutcome, FlatEnded, flat_after, ShowsOutcome, KeepsFlat, Plays}
 use Rattle.abi_frames.specs.Performs.{Performs, KeepsFrame}
+use Rattle.vcode.proofs.InPlace.{meaning_runs}
 use Rattle.headline.specs.InPlace.{calls_in}
 use Rattle.headline.specs.Knot.{IsSetting, KeepsBody, Layers}
 use Rattle.headline.specs.Functions.{body_of, FunctionsKept}
 use Rattle.headline.specs.Example.{setting, halting, flat_halting, begin, step, flat_begin, flat_step}
 use Rattle.headline.proofs.Answer.{grown_same}
-use Rattle.headline.proofs.InPlace.{meaning_runs}
 use Rattle.headline.proofs.LayersKeep.{layers_keep}
 
 -- the function of the example
@@ -103,7 +103,7 @@ machine_kept sp j good clear log r n logged all s ready =
 example_layers : (turns : ℕ) → Layers setting 0x10000 128 0 0 turns [] (Some W) [] [] (body_of halts main_function) (calls_in halts turns) begin step flat_begin flat_step
 example_layers turns =
     record {
-      meaning = meaning_runs [] begin step (body_of halts main_function) meaning_kept (calls_in halts turns) turns;
+      meaning = meaning_runs (calls_in halts turns) turns [] begin step (body_of halts main_function) meaning_kept;
       flat = flat_kept;
       machine = machine_kept;
       names = tt;

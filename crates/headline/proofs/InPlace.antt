@@ -13,8 +13,8 @@ use Rattle.il_ast.specs.Memory.{Memory}
 use Rattle.il_ast.specs.Run.{Spent, nothing, one_call, both, Outcome, Returned, Ended, Callees, begun}
 use Rattle.il_ast.specs.Start.{globals_of}
 use Rattle.il_ast.specs.Meaning.{callees}
-use Rattle.il_ast.specs.Logged.{Event}
-use Rattle.il_ast.specs.Keeps.{Asked, Given, Body, Suits, Fine, KeepsMeaning}
+use Rattle.il_ast.specs.Keeps.{Given, Suits, KeepsCode}
+use Rattle.il_ast.specs.Passes.{Coded, Keeps, IsCodeOf, classes_of}
 use Rattle.il_ast.proofs.SameDepth.{SameBelow, same_run}
 use Rattle.rv_isa.specs.State.{State}
 use Rattle.rv_isa.specs.Step.{Stop}
@@ -22,8 +22,10 @@ use Rattle.flat_code.specs.Spots.{Spots, Bases, Entries, ShowsResult, ShowsMemor
 use Rattle.flat_code.specs.Flat.{FlatOutcome, FlatReturned, FlatEnded, flat_after, ShowsOutcome}
 use Rattle.abi_frames.specs.Calls.{World}
 use Rattle.abi_frames.specs.Performs.{Performs, Returns, Stops, KeepsOn}
-use Rattle.headline.specs.Functions.{body_of}
-use Rattle.headline.specs.InPlace.{below, calls_in, IsCheaper, GoesSo, KeepsRuns}
+use Rattle.headline.specs.Functions.{body_of, IsCodeIn}
+use Rattle.vcode.specs.InPlace.{IsCheaper, GoesSo}
+use Rattle.vcode.proofs.InPlace.{runs_stay, code_keeps_in, meaning_runs}
+use Rattle.headline.specs.InPlace.{below, calls_in}
 
 -- ---- the calls of a run
 
@@ -40,35 +42,6 @@ same_body p f turns i low =
     sym
     (same_run (record { func = f.item; globals = globals_of p f.text }) (callees p turns) (calls_in p turns) i.room i.turns i.turns i.turns
     (below_same turns (callees p turns) i.turns low) (omega arith) (omega arith) i.turns (begun f.item i.args) i.memory (omega arith))
-
--- ---- what goes so
-
-as_cheap : (t : Spent) → IsCheaper t t
-as_cheap t = record { turns = refl; weight = omega arith; calls = omega arith; output = refl }
-
-goes_itself : (o : Outcome) → GoesSo o o
-goes_itself (Returned t v m) = (as_cheap t, refl, refl)
-goes_itself (Ended t e) = (as_cheap t, refl)
-
--- code that keeps a meaning runs so in every program
-pub meaning_runs : {S : Type 0} (params : List Class) (start : Given → S) (step : Given → S → Event S Asked Outcome) (body : Body) → KeepsMeaning params start step body
-    → (calls : Callees) (turns : ℕ) → KeepsRuns calls turns params start step body
-meaning_runs params start step body keeps calls turns i low args fine =
-    let run = keeps calls i args fine in
-    record { went = body calls i; goes = goes_itself (body calls i); log = run.0; calls = run.1; steps = run.2.0; runs = run.2.1 }
-
-other_spent : (t s : Spent) (e : End) → Fine (Ended s e) → Fine (Ended t e)
-other_spent t s (Exit n) h = h
-other_spent t s Halt h = h
-other_spent t s Undefined h = h
-other_spent t s Stack h = h
-other_spent t s Turns h = h
-
-pub goes_fine : (o q : Outcome) → GoesSo o q → Fine q → Fine o
-goes_fine (Returned t v m) (Returned s w n) h fine = tt
-goes_fine (Returned t v m) (Ended s f) h fine = absurd h
-goes_fine (Ended t e) (Returned s w n) h fine = absurd h
-goes_fine (Ended t e) (Ended s f) h fine = subst (λ (x : End). Fine (Ended t x)) (sym h.1) (other_spent t s f fine)
 
 -- ---- what is performed for less is performed
 
@@ -157,3 +130,26 @@ shown_so e w sp p wants before made (Ended t z) (Ended s f) (FlatReturned u y k)
 shown_so e w sp p wants before made (Ended t z) (Ended s f) (FlatEnded u y) g h =
     let cheap : IsCheaper u s = subst (λ x. IsCheaper x s) (sym h.0) g.0 in
     record { went = FlatEnded s y; shows = (refl, h.1 ∙ g.1); performs = λ st. ends_for w sp wants before st (both one_call u) (both one_call s) y (cheaper_call u s cheap) }
+
+-- ---- code of a function, in a program
+
+pub code_is_in : (p : Program) (f : InText Func) (c : Coded) → IsCodeOf f.item c → IsCodeIn p f c
+code_is_in p f c is =
+    record {
+      params = is.params;
+      result = is.result;
+      runs = λ turns. meaning_runs (calls_in p turns) turns (classes_of f.item.params) c.start (c.step (globals_of p f.text)) (body_of p f) (is.runs (globals_of p f.text));
+    }
+
+-- a pass that keeps the code stays with the function
+pub stays_in : (p : Program) (f : InText Func) (c d : Coded) → IsCodeIn p f c → Keeps c d → IsCodeIn p f d
+stays_in p f c d is keeps =
+    let classes = keeps.params ∙ is.params in
+    record {
+      params = classes;
+      result = keeps.result ∙ is.result;
+      runs =
+          λ turns. runs_stay (calls_in p turns) turns (classes_of f.item.params) c.start (c.step (globals_of p f.text)) d.start (d.step (globals_of p f.text)) (body_of p f) (is.runs turns)
+          (code_keeps_in (calls_in p turns) turns (classes_of f.item.params) c.start (c.step (globals_of p f.text)) d.start (d.step (globals_of p f.text))
+          (subst (λ (ks : List Class). KeepsCode ks c.start (c.step (globals_of p f.text)) d.start (d.step (globals_of p f.text))) is.params (keeps.runs (globals_of p f.text))));
+    }

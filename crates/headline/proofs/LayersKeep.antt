@@ -7,13 +7,16 @@ use Rattle.il_ast.specs.declared.value.Value.TheVariants.{Integer, Pointer, Func
 use Rattle.il_ast.specs.declared.value.End.TheVariants.{Exit, Halt, Undefined, Stack, Turns}
 use Rattle.il_ast.specs.Run.{Outcome, Returned, Ended, Callees}
 use Rattle.il_ast.specs.Logged.{Event}
-use Rattle.il_ast.specs.Keeps.{Asked, Given, Body, Fine}
+use Rattle.il_ast.specs.Keeps.{Asked, Given, Body}
+use Rattle.vcode.specs.InPlace.{HasRoom}
+use Rattle.vcode.proofs.InPlace.{room_fine, goes_room}
 use Rattle.flat_code.specs.Spots.{Bases, Entries, Grown, Shows, AllShow}
 use Rattle.flat_code.specs.Flat.{Frame, FlatGiven, FlatAsked, FlatOutcome, FlatEnded, ShowsGiven}
 use Rattle.abi_frames.specs.Calls.{World, GoodStack}
 use Rattle.headline.specs.Knot.{Setting, IsSetting, KeptBody, KeepsBody, Layers}
 use Rattle.headline.proofs.Answer.{grown_same, answer}
-use Rattle.headline.proofs.InPlace.{goes_fine, shown_so}
+use Rattle.headline.proofs.InPlace.{shown_so}
+
 
 pub shows_grown : (e : Entries) (p q : Bases) → Grown p q → (v : Value) (x : ℕ) → Shows e p v x → Shows e q v x
 shows_grown e p q g (Integer n) x h = h
@@ -26,15 +29,16 @@ all_show_grown e p q g [] (x ∷ xs) h = absurd h
 all_show_grown e p q g (v ∷ vs) [] h = absurd h
 all_show_grown e p q g (v ∷ vs) (x ∷ xs) h = (shows_grown e p q g v x h.0, all_show_grown e p q g vs xs h.1)
 
--- nothing is owed where the body becomes undefined
-kept_if_fine : (c : Setting) (at sp : ℕ) (params : List Class) (result : Option Class) (p : Bases) (i : Given) (j : FlatGiven) (o : Outcome) → (Fine o → KeptBody c at sp params result p i j o) → KeptBody c at sp params result p i j o
-kept_if_fine c at sp params result p i j (Returned s v m) h = h tt
-kept_if_fine c at sp params result p i j (Ended s (Exit n)) h = h tt
-kept_if_fine c at sp params result p i j (Ended s Halt) h = h tt
-kept_if_fine c at sp params result p i j (Ended s Undefined) h =
+-- nothing is owed where the body becomes undefined or runs out of stack
+kept_with_room : (c : Setting) (at sp : ℕ) (params : List Class) (result : Option Class) (p : Bases) (i : Given) (j : FlatGiven) (o : Outcome) → (HasRoom o → KeptBody c at sp params result p i j o) → KeptBody c at sp params result p i j o
+kept_with_room c at sp params result p i j (Returned s v m) h = h tt
+kept_with_room c at sp params result p i j (Ended s (Exit n)) h = h tt
+kept_with_room c at sp params result p i j (Ended s Halt) h = h tt
+kept_with_room c at sp params result p i j (Ended s Undefined) h =
     record { placed = p; went = FlatEnded s Undefined; grown = grown_same p; shows = (refl, refl); performs = λ u r. tt }
-kept_if_fine c at sp params result p i j (Ended s Stack) h = h tt
-kept_if_fine c at sp params result p i j (Ended s Turns) h = h tt
+kept_with_room c at sp params result p i j (Ended s Stack) h =
+    record { placed = p; went = FlatEnded s Stack; grown = grown_same p; shows = (refl, refl); performs = λ u r. tt }
+kept_with_room c at sp params result p i j (Ended s Turns) h = h tt
 
 -- the stack pointer below the frame has the room of the function's own calls
 below_frame : (w : World) (sp need frame room : ℕ) → frame ≤ need → frame % 16 ≡ 0 → GoodStack w sp (need + room) → GoodStack w (sp - frame) room
@@ -55,10 +59,10 @@ small_stack sp top h k = omega arith
 
 pub layers_keep : {S T : Type 0} (c : Setting) → IsSetting c → (at need frame area turns : ℕ) (params : List Class) (result : Option Class) (globals : List Value) (addresses : List ℕ) (body : Body) (callees : Callees) (start : Given → S) (step : Given → S → Event S Asked Outcome) (flat_start : (base : ℕ) → FlatGiven → T) (flat_step : (base : ℕ) → FlatGiven → T → Event T FlatAsked FlatOutcome) → Layers c at need frame area turns params result globals addresses body callees start step flat_start flat_step → KeepsBody c at need turns params result body callees
 layers_keep c is at need frame area turns params result globals addresses body callees start step flat_start flat_step ls kept sp p i j low g args shows good =
-    kept_if_fine c at sp params result p i j (body callees i) (λ fine.
+    kept_with_room c at sp params result p i j (body callees i) (λ room.
     let bottom = c.world.bottom in
     let places = area_below bottom sp need frame area i.room ls.frame_fits ls.area_fits good.above in
-    let run = ls.meaning i low args fine in
+    let run = ls.meaning i low args room in
     let shown : ShowsGiven c.entries p bottom (sp - area + area) i j =
     subst (λ (x : ℕ). ShowsGiven c.entries p bottom x i j) (sym places.1) shows
     in
@@ -66,7 +70,7 @@ layers_keep c is at need frame area turns params result globals addresses body c
     ls.flat bottom (sp - frame) (sp - area) places.0
     (area_above bottom sp need area i.room ls.some good.above)
     (subst (λ (x : ℕ). x < 2 ^ 64) (sym places.1) (small_stack sp c.world.top good.below is.world.small))
-    run.log i run.went args (goes_fine run.went (body callees i) run.goes fine) run.steps run.runs p j is.entries
+    run.log i run.went args (room_fine run.went (goes_room run.went (body callees i) run.goes room)) run.steps run.runs p j is.entries
     (all_show_grown c.entries c.start p g globals addresses ls.names)
     shown
     in

@@ -6,13 +6,11 @@ use Rattle.il_ast.specs.declared.function.Func.{Func}
 use Rattle.il_ast.specs.declared.program.InText.{InText}
 use Rattle.il_ast.specs.declared.program.Program.{Program}
 use Rattle.il_ast.specs.Cost.{need}
-use Rattle.il_ast.specs.Passes.{IsCodeOf, classes_of}
-use Rattle.il_ast.specs.Start.{globals_of}
+use Rattle.il_ast.specs.Passes.{IsCodeOf}
 use Rattle.vcode.specs.declared.place.Location.{Location}
 use Rattle.vcode.specs.declared.code.Code.{Code}
-use Rattle.vcode.specs.Coded.{classes_in, coded}
+use Rattle.vcode.specs.Coded.{coded}
 use Rattle.vcode.specs.Places.{located}
-use Rattle.vcode.specs.Step.{begin, step}
 use Rattle.flat_code.specs.Laws.{FlatKept}
 use Rattle.abi_frames.specs.Frames.{IsFrameOf}
 use Rattle.abi_frames.specs.Layout.{frame_bound}
@@ -26,8 +24,7 @@ use Rattle.obj_link.specs.Placed.{contents_of, FitsBelow, EveryCode}
 use Rattle.elf_file.specs.Loaded.{Executable}
 use Rattle.elf_file.specs.Stands.{Stands}
 use Rattle.rv_machine.specs.Start.{Starts}
-use Rattle.headline.specs.InPlace.{calls_in, KeepsRuns}
-use Rattle.headline.specs.Functions.{body_of}
+use Rattle.headline.specs.Functions.{IsCodeIn}
 use Rattle.headline.specs.Headline.{Executes}
 use Rattle.headline.specs.Executables.{NamesAreThere}
 
@@ -52,17 +49,13 @@ EachStands (c ∷ codes) [] = ⊥
 EachStands (c ∷ codes) (f ∷ fs) = StandFor f.item c × EachStands codes fs
 
 -- Words that stand in for a function of a program: they are the layout of labelled code that
--- performs what location code of the function's classes runs on bytes, in a frame that takes at most
--- the stack that a call of the function is counted for; and in this program that code runs as the
--- function's body does, but that it may spend less.
+-- performs what location code, which is the function's in this program, runs on bytes; and its frame
+-- takes at most the stack that a call of the function is counted for.
 pub record StandIn (p : Program) (f : InText Func) (c : Words) : Type 0 where
   pub code : Code Location
   pub slots : ℕ
   pub items : List Item
-  pub params : classes_in code.params ≡ classes_of f.item.params
-  pub result : code.result ≡ f.item.result
-  pub runs : (turns : ℕ) → KeepsRuns (calls_in p turns) turns (classes_of f.item.params)
-      (begin located code) (step located (globals_of p f.text) code) (body_of p f)
+  pub is : IsCodeIn p f (coded located code)
   pub fits : frame_bound code slots ≤ need f.item
   pub bytes : FlatKept code
   pub machine : IsFrameOf code slots items

@@ -9,6 +9,8 @@ use Rattle.il_ast.specs.Cost.{need}
 use Rattle.il_ast.specs.Run.{body}
 use Rattle.il_ast.specs.Start.{globals_of}
 use Rattle.il_ast.specs.Keeps.{Body}
+use Rattle.il_ast.specs.Passes.{Coded, classes_of}
+use Rattle.vcode.specs.InPlace.{KeepsRuns}
 use Rattle.headline.specs.InPlace.{calls_in}
 use Rattle.headline.specs.Knot.{Setting, IsSetting, AllKept, KeepsBody}
 use Rattle.headline.specs.Natives.{NativesPerform}
@@ -18,6 +20,15 @@ abbrev pub body_of : Program → InText Func → Body
 body_of p f callees i =
     body (record { func = f.item; globals = globals_of p f.text }) callees i.turns i.room i.args
     i.memory
+
+-- Code that is a function's in its program: it has the function's classes, and in however many turns
+-- it runs as the function's body does where calls go as the program's own do, but that it may spend
+-- less, as where it needn't enter a call.
+pub record IsCodeIn (p : Program) (f : InText Func) (c : Coded) : Type 0 where
+  pub params : c.params ≡ classes_of f.item.params
+  pub result : c.result ≡ f.item.result
+  pub runs : (turns : ℕ) → KeepsRuns (calls_in p turns) turns (classes_of f.item.params) c.start
+      (c.step (globals_of p f.text)) (body_of p f)
 
 -- each function is kept at its address, where calls go as the program's own do
 abbrev pub FunctionsKept : Setting → Program → Type 0

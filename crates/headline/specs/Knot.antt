@@ -7,11 +7,11 @@ use Rattle.il_ast.specs.declared.value.Value.{Value}
 use Rattle.il_ast.specs.Run.{Outcome, Callees, one_call}
 use Rattle.il_ast.specs.Logged.{Event}
 use Rattle.il_ast.specs.Keeps.{Asked, Given, Body, AreArgs}
+use Rattle.vcode.specs.InPlace.{KeepsRuns}
 use Rattle.flat_code.specs.Spots.{Bases, Entries, AreEntries, Grown, AllShow}
 use Rattle.flat_code.specs.Flat.{FlatGiven, FlatAsked, FlatOutcome, flat_after, ShowsGiven, ShowsAsked, ShowsOutcome, KeepsFlat}
 use Rattle.abi_frames.specs.Calls.{World, IsWorld, GoodStack}
 use Rattle.abi_frames.specs.Performs.{PerformsAt, KeepsFrame}
-use Rattle.headline.specs.InPlace.{KeepsRuns}
 
 -- what stays while a program runs: the machine's memory, the functions' addresses, and where the
 -- blocks of the start stand
