@@ -18,7 +18,7 @@ use Rattle.rv_machine.specs.Start.{Starts}
 use Rattle.promote.proofs.Programs.{outcome_stays}
 use Rattle.headline.specs.Headline.{Executes}
 use Rattle.headline.proofs.DataPlaced.{programs_have_names, stands_well}
-use Rattle.headline.proofs.CompiledRuns.{compiled_runs}
+use Rattle.headline.proofs.CompiledRuns.{replaced_runs}
 use Rattle.qbec.specs.Codes.{AreWords}
 use Rattle.qbec.specs.Compile.{IsExecutableOf, IsFile}
 use Rattle.qbec.specs.Promoted.{with_functions}
@@ -26,25 +26,26 @@ use Rattle.qbec.proofs.PromotedFunctions.{compiled, one_each, is_promoted, names
 use Rattle.qbec.proofs.ExecutableBytes.{has_bytes}
 use Rattle.qbec.proofs.PromotedRuns.{executes_so}
 
-pub fits_below : (texts : List Checked) (p : Program) (codes : List Words) → IsProgram texts p → AreWords codes p.functions → FitsBelow p codes
+pub fits_below : (texts : List Checked) (p : Program) (codes : List Words) → IsProgram texts p → AreWords codes p → FitsBelow p codes
 fits_below texts p codes is words = program_fits texts p codes is words.few
 
 -- the machine executes the program in whose place the promoted one is compiled
 runs_promoted : (texts : List Checked) (p : Program) (codes : List Words) (x : Executable) (ws : List (List ℕ)) (s : State)
-    → IsProgram texts p → AreWords codes p.functions → IsImage (contents_of p codes) → Stands (contents_of p codes) x → Starts x ws s → length ws ≤ 1024 → length (word_bytes ws) ≤ 65536 → Executes p ws s
+    → IsProgram texts p → AreWords codes p → IsImage (contents_of p codes) → Stands (contents_of p codes) x → Starts x ws s → length ws ≤ 1024 → length (word_bytes ws) ≤ 65536 → Executes p ws s
 runs_promoted texts p codes x ws s is words good stands starts few short =
-    let made = compiled codes p.functions words.stand in
+    let made = compiled p codes p.functions words.stand in
     let q = with_functions p made.functions in
+    let is_q = is_promoted p made.functions made.are in
     let has = programs_have_names texts p is in
     let fits = fits_below texts p codes is words in
     let same = same_contents p codes made.functions made.are in
-    let well = stands_well p codes x has (one_each codes p.functions words.stand) words.every fits good stands in
+    let well = stands_well p codes x has (one_each p codes p.functions words.stand) words.every fits good stands in
     let bytes = has_bytes p codes x ws s has well.data_bytes starts few in
-    executes_so p q ws s starts.begins.silent (λ n. outcome_stays p q ws n (is_promoted p made.functions made.are) bytes)
-    (compiled_runs q codes x ws s (names_are_there p made.functions made.are has) made.stand words.every fits (subst IsImage same good)
+    executes_so p q ws s starts.begins.silent (λ n. outcome_stays p q ws n is_q bytes)
+    (replaced_runs q codes x ws s (names_are_there p made.functions made.are has) (made.stand q is_q) words.every fits (subst IsImage same good)
     (subst (λ i. Stands i x) same stands) starts few short)
 
-pub is_file : (texts : List Checked) (p : Program) (codes : List Words) (image : Contents) (bytes : List ℕ) → IsProgram texts p → AreWords codes p.functions → image ≡ contents_of p codes → IsImage image → Loads bytes (executable_of image) → Stands image (executable_of image) → IsFile p bytes
+pub is_file : (texts : List Checked) (p : Program) (codes : List Words) (image : Contents) (bytes : List ℕ) → IsProgram texts p → AreWords codes p → image ≡ contents_of p codes → IsImage image → Loads bytes (executable_of image) → Stands image (executable_of image) → IsFile p bytes
 is_file texts p codes image bytes is words made good loads stands =
     record {
       file = executable_of image;

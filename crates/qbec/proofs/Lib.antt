@@ -3,6 +3,8 @@ pub mod ProgramLemmas
 pub mod CodeLemmas
 pub mod PromotedFunctions
 pub mod Standing
+pub mod LeafCalls
+pub mod Placing
 pub mod ExecutableBytes
 pub mod PromotedRuns
 pub mod FileLemmas

@@ -1,5 +1,5 @@
 -- The functions that are compiled in the place of a program's.
-use Rattle.std.proofs.Common.{◌≡◌, suc, ◌<◌, List, [], ◌∷◌, ◌++◌, length, refl, sym, ◌∙◌, ap, subst}
+use Rattle.std.proofs.Common.{◌≡◌, ℕ, zero, suc, ◌<◌, List, [], ◌∷◌, ◌++◌, length, map, slice_get, Some, refl, sym, ◌∙◌, ap, subst}
 use Rattle.il_ast.specs.declared.function.Func.{Func}
 use Rattle.il_ast.specs.declared.program.InText.{InText}
 use Rattle.il_ast.specs.declared.program.Program.{Program}
@@ -14,11 +14,13 @@ use Rattle.obj_link.specs.Laws.{IsThere}
 use Rattle.obj_link.specs.Natives.{start_words, write_words, exit_words}
 use Rattle.obj_link.specs.Placed.{name_address, functions_words, addresses_of, callee_address, contents_of}
 use Rattle.promote.specs.Uses.{mentions_of, width_in}
-use Rattle.promote.specs.Promoted.{IsPromoted}
+use Rattle.promote.specs.Promoted.{IsPromoted, promoted_block}
+use Rattle.il_reader.specs.Definitions.{FunctionParts, function_parts}
+use Rattle.il_reader.proofs.OneTree.{function_same}
 use Rattle.promote.specs.Programs.{ArePromoted, IsProgramPromoted}
 use Rattle.promote.proofs.Respect.{all_respected}
 use Rattle.promote.proofs.Rules.{rules_stay, limits_stay, same_weight}
-use Rattle.headline.specs.Compiled.{EachStands}
+use Rattle.headline.specs.Compiled.{EachStandsIn}
 use Rattle.headline.specs.Executables.{NamesAreThere}
 use Rattle.qbec.specs.Promoted.{EachPromoted, with_functions}
 
@@ -32,25 +34,60 @@ still_good f g is good =
 pub same_weights : (f g : Func) → IsPromoted f g → weight g ≡ weight f
 same_weights f g is = same_weight (width_in (mentions_of f)) f g is
 
+abbrev promoted_parts : Func → FunctionParts
+promoted_parts f = record (function_parts f) { blocks = map (promoted_block (width_in (mentions_of f))) f.blocks }
+
+same_parts : (f g : Func) → IsPromoted f g → function_parts g ≡ promoted_parts f
+same_parts f g is =
+    let p : FunctionParts = function_parts g in
+    ap (λ x. record p { line = x }) is.line
+    ∙ ap (λ x. record p { line = f.line; exported = x }) is.exported
+    ∙ ap (λ x. record p { line = f.line; exported = f.exported; name = x }) is.name
+    ∙ ap (λ x. record p { line = f.line; exported = f.exported; name = f.name; result = x }) is.result
+    ∙ ap (λ x. record p { line = f.line; exported = f.exported; name = f.name; result = f.result; params = x }) is.params
+    ∙ ap (λ x. record p { line = f.line; exported = f.exported; name = f.name; result = f.result; params = f.params; temps = x }) is.temps
+    ∙ ap (λ x. record p { line = f.line; exported = f.exported; name = f.name; result = f.result; params = f.params; temps = f.temps; labels = x }) is.labels
+    ∙ ap (λ x. record (promoted_parts f) { blocks = x }) is.blocks
+
+-- a function becomes one
+pub one_promoted : (f g h : Func) → IsPromoted f g → IsPromoted f h → g ≡ h
+one_promoted f g h is also = function_same g h (same_parts f g is ∙ sym (same_parts f h also))
+
 -- ---- all functions
 
--- what the functions become, for which the words stand
-pub record Compiled (codes : List Words) (fs : List (InText Func)) : Type 0 where
+-- what the functions become, for which the words stand in
+pub record Compiled (p : Program) (codes : List Words) (fs : List (InText Func)) : Type 0 where
   pub functions : List (InText Func)
   pub are : ArePromoted fs functions
-  pub stand : EachStands codes functions
+  pub stand : (q : Program) → IsProgramPromoted p q → EachStandsIn q codes functions
 
-pub compiled : (codes : List Words) (fs : List (InText Func)) → EachPromoted codes fs → Compiled codes fs
-compiled [] [] h = record { functions = []; are = tt; stand = tt }
-compiled [] (f ∷ fs) h = absurd h
-compiled (c ∷ codes) [] h = absurd h
-compiled (c ∷ codes) (f ∷ fs) h =
-    let rest = compiled codes fs h.1 in
+pub compiled : (p : Program) (codes : List Words) (fs : List (InText Func)) → EachPromoted p codes fs → Compiled p codes fs
+compiled p [] [] h = record { functions = []; are = tt; stand = λ q is. tt }
+compiled p [] (f ∷ fs) h = absurd h
+compiled p (c ∷ codes) [] h = absurd h
+compiled p (c ∷ codes) (f ∷ fs) h =
+    let rest = compiled p codes fs h.1 in
     record {
       functions = record { text = f.text; item = h.0.promoted } ∷ rest.functions;
       are = (refl, h.0.is, rest.are);
-      stand = (h.0.stand, rest.stand);
+      stand = λ q is. (h.0.stand q is, rest.stand q is);
     }
+
+-- the one in the place of a function
+pub record Promoted (f : InText Func) (k : ℕ) (gs : List (InText Func)) : Type 0 where
+  pub function : InText Func
+  pub here : slice_get gs k ≡ Some function
+  pub text : function.text ≡ f.text
+  pub is : IsPromoted f.item function.item
+
+pub promoted_at : (fs gs : List (InText Func)) (k : ℕ) (f : InText Func) → ArePromoted fs gs → slice_get fs k ≡ Some f → Promoted f k gs
+promoted_at [] gs k f are h = absurd (let no : ⊥ = cc in no)
+promoted_at (x ∷ fs) [] k f are h = absurd are
+promoted_at (x ∷ fs) (g ∷ gs) zero f are h =
+    let same : x ≡ f = cc in
+    record { function = g; here = refl; text = are.0 ∙ ap (λ (y : InText Func). y.text) same; is = subst (λ (y : InText Func). IsPromoted y.item g.item) same are.1 }
+promoted_at (x ∷ fs) (g ∷ gs) (suc k) f are h =
+    let rest = promoted_at fs gs k f are.2 h in record { function = rest.function; here = rest.here; text = rest.text; is = rest.is }
 
 pub as_many : (fs gs : List (InText Func)) → ArePromoted fs gs → length gs ≡ length fs
 as_many [] [] h = refl
@@ -58,11 +95,11 @@ as_many [] (g ∷ gs) h = absurd h
 as_many (f ∷ fs) [] h = absurd h
 as_many (f ∷ fs) (g ∷ gs) h = ap suc (as_many fs gs h.2)
 
-pub one_each : (codes : List Words) (fs : List (InText Func)) → EachPromoted codes fs → length codes ≡ length fs
-one_each [] [] h = refl
-one_each [] (f ∷ fs) h = absurd h
-one_each (c ∷ codes) [] h = absurd h
-one_each (c ∷ codes) (f ∷ fs) h = ap suc (one_each codes fs h.1)
+pub one_each : (p : Program) (codes : List Words) (fs : List (InText Func)) → EachPromoted p codes fs → length codes ≡ length fs
+one_each p [] [] h = refl
+one_each p [] (f ∷ fs) h = absurd h
+one_each p (c ∷ codes) [] h = absurd h
+one_each p (c ∷ codes) (f ∷ fs) h = ap suc (one_each p codes fs h.1)
 
 -- ---- the program
 

@@ -3,6 +3,7 @@ use Rattle.std.specs.Prelude.{◌≡◌, ℕ, List, slice_get, Some}
 use Rattle.std.specs.Borrow.{Bor}
 use Rattle.il_ast.specs.declared.function.Func.{Func}
 use Rattle.il_ast.specs.declared.program.InText.{InText}
+use Rattle.il_ast.specs.declared.program.Program.{Program}
 use Rattle.phi_copies.specs.Good.{IsGoodFunction}
 use Rattle.rv_isa.specs.Words.{Words}
 use Rattle.obj_link.specs.Placed.{AreCodes, EveryCode}
@@ -12,8 +13,12 @@ use Rattle.qbec.specs.Promoted.{EachPromoted}
 abbrev pub AreGood : List (InText (Bor Func)) → Type 0
 AreGood fs = (k : ℕ) (f : InText (Bor Func)) → slice_get fs k ≡ Some f → IsGoodFunction f.item.now
 
--- words that stand for what each function becomes, and not too many
-pub record AreWords (codes : List Words) (fs : List (InText Func)) : Type 0 where
-  pub stand : EachPromoted codes fs
+-- words that stand in for what each of these functions of the program becomes, and not too many
+pub record AreWordsIn (p : Program) (codes : List Words) (fs : List (InText Func)) : Type 0 where
+  pub stand : EachPromoted p codes fs
   pub few : AreCodes codes fs
   pub every : EveryCode codes
+
+-- so for all its functions
+abbrev pub AreWords : List Words → Program → Type 0
+AreWords codes p = AreWordsIn p codes p.functions

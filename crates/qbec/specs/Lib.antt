@@ -1,7 +1,8 @@
 pub mod Texts
 pub mod Refusals
 pub mod Laws
-pub mod Pipeline
 pub mod Promoted
+pub mod Pipeline
+pub mod Leaves
 pub mod Codes
 pub mod Compile

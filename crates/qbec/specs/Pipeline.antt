@@ -1,14 +1,51 @@
 -- How far a function has come on the way to its words.
-use Rattle.std.specs.Prelude.{◌+◌, ◌*◌, ◌≤◌, List, length}
+use Rattle.std.specs.Prelude.{◌≡◌, ℕ, ◌+◌, ◌*◌, ◌≤◌, IsTrue, List, length, slice_get, Option, Some}
 use Rattle.il_ast.specs.declared.function.Func.{Func}
+use Rattle.il_ast.specs.declared.program.InText.{InText}
+use Rattle.il_ast.specs.declared.program.Program.{Program}
+use Rattle.il_ast.specs.declared.value.Callee.TheVariants.{Defined}
+use Rattle.il_ast.specs.declared.value.Value.TheVariants.{Function}
 use Rattle.il_ast.specs.Cost.{weight}
+use Rattle.il_ast.specs.Passes.{Coded}
+use Rattle.il_ast.specs.Start.{globals_of}
 use Rattle.vcode.specs.declared.function.LFunc.{LFunc}
+use Rattle.vcode.specs.declared.function.VFunc.{VFunc}
+use Rattle.vcode.specs.Coded.{virtual_code}
 use Rattle.vcode.specs.Regular.{code_weight}
+use Rattle.inlining.specs.Leaves.{is_leaf}
 use Rattle.abi_frames.specs.Frames.{IsFrameOf}
 use Rattle.rv_isa.specs.declared.labelled.Item.{Item}
 use Rattle.rv_isa.specs.Laid.{LaysOut}
 use Rattle.rv_isa.specs.Words.{Words}
-use Rattle.headline.specs.Compiled.{StandFor}
+use Rattle.headline.specs.Functions.{IsCodeIn}
+use Rattle.headline.specs.Compiled.{StandIn}
+
+-- ---- leaves
+
+-- in this text of the program the name means a function of the same text, whose code this is; and
+-- that makes no call
+pub record IsLeafNamed (p : Program) (text name : ℕ) (leaf : VFunc) : Type 0 where
+  pub number : ℕ
+  pub function : InText Func
+  pub means : slice_get (globals_of p text) name ≡ Some (Function (Defined number))
+  pub here : slice_get p.functions number ≡ Some function
+  pub same : function.text ≡ text
+  pub is : IsCodeIn p function (virtual_code leaf)
+  pub calm : IsTrue (is_leaf leaf.code)
+
+-- for some names of this text, the code of the leaves that they mean
+abbrev pub AreLeavesOf : Program → (text : ℕ) → List (Option VFunc) → Type 0
+AreLeavesOf p text leaves =
+    (name : ℕ) (leaf : VFunc) → slice_get leaves name ≡ Some (Some leaf) →
+    IsLeafNamed p text name leaf
+
+-- ---- one function
+
+-- code of the function, in every text of a program whose leaves these are
+abbrev pub IsCodeWith : List (Option VFunc) → Func → Coded → Type 0
+IsCodeWith leaves f c =
+    (p : Program) (text : ℕ) → AreLeavesOf p text leaves →
+    IsCodeIn p (record { text = text; item = f }) c
 
 -- words for location code, wherever they stand, and how many they are at most
 pub record IsLaidOut (l : LFunc) (c : Words) : Type 0 where
@@ -17,6 +54,12 @@ pub record IsLaidOut (l : LFunc) (c : Words) : Type 0 where
   pub laid : LaysOut items c.words c.holes
   pub few : length c.words ≤ 32 * code_weight l.code + 256
 
--- words that stand for the function, as few as its weight allows: 32 for each unit, and 256
-abbrev pub StandWithin : Func → Words → Type 0
-StandWithin f c = StandFor f c × (length c.words ≤ 32 * weight f + 256)
+-- words that stand in for the function, in every text of a program whose leaves these are
+abbrev pub StandWith : List (Option VFunc) → Func → Words → Type 0
+StandWith leaves f c =
+    (p : Program) (text : ℕ) → AreLeavesOf p text leaves →
+    StandIn p (record { text = text; item = f }) c
+
+-- and as few as its weight allows: 32 for each unit, and 256
+abbrev pub StandWithin : List (Option VFunc) → Func → Words → Type 0
+StandWithin leaves f c = StandWith leaves f c × (length c.words ≤ 32 * weight f + 256)

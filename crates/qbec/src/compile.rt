@@ -27,7 +27,7 @@ fn file_of(
     codes: &[MachineCode],
 ) -> Result<Vec<u8>, CompileError>
     requires program { IsProgram linked.now.texts.now (program linked.now) }
-    requires words { AreWords codes.now (program linked.now).functions }
+    requires words { AreWords codes.now (program linked.now) }
     ensures { MatchResult result (λ v. IsFile (program linked.now) v.items) (λ e. e ≡ Memory) }
 {
     match place(alloc, codes, linked) {
@@ -48,7 +48,7 @@ fn compiled(
     requires good { AreGood linked.now.functions }
     ensures { MatchResult result (λ v. IsFile (program linked.now) v.items) (λ e. e ≡ Memory) }
 {
-    let codes = codes_of(alloc, linked.functions.as_slice(), allocator)?;
+    let codes = codes_of(alloc, linked, allocator)?;
     file_of(alloc, linked, codes.as_slice())
 }
 

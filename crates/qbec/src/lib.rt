@@ -9,12 +9,13 @@
 //! |---|---|
 //! | `specs/Texts`, `specs/Compile` | the program that texts are; what an executable file of a program is |
 //! | `specs/Refusals` | what each refusal says |
-//! | `specs/Words`, `specs/Promoted`, `specs/Codes` | functions on their way to words; the program that is compiled in a program's place |
+//! | `specs/Pipeline`, `specs/Leaves`, `specs/Promoted`, `specs/Codes` | functions on their way to words; the program that is compiled in a program's place |
 #![tactic(auto)]
 
 pub mod codes;
 pub mod compile;
 pub mod error;
 pub mod laws;
+pub mod leaves;
 pub mod pipeline;
 pub mod texts;

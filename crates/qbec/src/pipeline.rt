@@ -1,15 +1,18 @@
 //! The words of one function.
-ghost use Rattle.std.specs.Prelude.{◌≡◌, true, false, ◌+◌, ◌*◌, ◌≤◌, IfOk, IfSome, length};
+ghost use Rattle.std.specs.Prelude.{◌≡◌, true, false, ◌+◌, ◌*◌, ◌≤◌, [], IfOk, IfSome, length};
 ghost use Rattle.alloc_check.specs.Accepted.{is_accepted};
 ghost use Rattle.alloc_check.specs.Certified.{placed_by};
 ghost use Rattle.alloc_check.specs.Placed.{in_slots};
 ghost use Rattle.il_ast.specs.Cost.{need, weight};
+ghost use Rattle.il_ast.specs.declared.function.Func.{Func as PromotedFunc};
 ghost use Rattle.il_ast.specs.Passes.{Keeps, IsCodeOf};
 ghost use Rattle.phi_copies.specs.Good.{IsGoodFunction};
 ghost use Rattle.abi_frames.specs.Layout.{frame_bound};
 ghost use Rattle.vcode.specs.Coded.{virtual_code, location_code};
-ghost use Rattle.qbec.specs.Promoted.{StandPromoted};
-ghost use Rattle.qbec.specs.Pipeline.{IsLaidOut, StandWithin};
+ghost use Rattle.headline.specs.Compiled.{StandFor};
+ghost use Rattle.promote.specs.Promoted.{IsPromoted};
+ghost use Rattle.qbec.specs.Leaves.{IsLeafCode};
+ghost use Rattle.qbec.specs.Pipeline.{IsCodeWith, IsLaidOut, StandWith, StandWithin};
 
 use abi_frames::frame::{frame, frame_bound};
 use alloc_check::accept::{Refused, accept};
@@ -25,6 +28,8 @@ use flat_code::function::{FlatFunc, flat};
 use hoisting::hoist::hoist;
 use il_ast::function::Func;
 use il_types::cost::{capped_need, weight};
+use inlining::calls::place_calls;
+use inlining::leaf::is_leaf;
 use phi_copies::lower::lower;
 use promote::promote::promote;
 use propagation::propagate::propagate;
@@ -121,17 +126,45 @@ fn passed(alloc: Global, pass: Pass, function: VFunc) -> Result<VFunc, AllocErro
     }
 }
 
-/// The function in virtual code, by all passes in their order.
-///
-/// # Errors
-///
-/// Only where memory was refused.
-pub fn virtual_code_of(alloc: Global, func: &Func) -> Result<VFunc, AllocError>
+/// The function as it is selected.
+fn selected(alloc: Global, func: &Func) -> Result<VFunc, AllocError>
     requires { IsGoodFunction func.now }
     ensures { IfOk result (λ v. IsCodeOf func.now (virtual_code v)) }
 {
     let lowered = lower(alloc, func)?;
-    let mut function = select(alloc, &lowered)?;
+    let function = select(alloc, &lowered)?;
+    Ok(function)
+}
+
+/// The function as it is selected, with calls of these leaves in place.
+fn with_calls_placed(
+    alloc: Global,
+    leaves: &[Option<VFunc>],
+    func: &Func,
+) -> Result<VFunc, AllocError>
+    requires { IsGoodFunction func.now }
+    ensures { IfOk result (λ v. IsCodeWith leaves.now func.now (virtual_code v)) }
+{
+    let function = selected(alloc, func)?;
+    let placed = place_calls(alloc, function, leaves)?;
+    Ok(placed)
+}
+
+/// The function in virtual code: with calls of these leaves in place, and by all passes in their order. `leaves` has for names of the function's text the code
+/// of the function that the name means, where that makes no call.
+///
+/// # Errors
+///
+/// Only where memory was refused.
+pub fn virtual_code_of(
+    alloc: Global,
+    leaves: &[Option<VFunc>],
+    func: &Func,
+) -> Result<VFunc, AllocError>
+    requires { IsGoodFunction func.now }
+    ensures { IfOk result (λ v. IsCodeWith leaves.now func.now (virtual_code v)) }
+{
+    let mut function = with_calls_placed(alloc, leaves, func)?;
     for pass in PASSES {
         let made = passed(alloc, pass, function)?;
         function = made;
@@ -167,13 +200,14 @@ fn is_short(func: &Func, code: &MachineCode) -> bool
 /// more than its weight allows: passes may add registers and copy lines, and nothing else bounds how many.
 fn optimized(
     alloc: Global,
+    leaves: &[Option<VFunc>],
     func: &Func,
     allocator: &mut dyn Strategy,
 ) -> Result<Option<MachineCode>, AllocError>
     requires { IsGoodFunction func.now }
-    ensures { IfOk result (λ o. IfSome o (λ c. StandWithin func.now c)) }
+    ensures { IfOk result (λ o. IfSome o (λ c. StandWithin leaves.now func.now c)) }
 {
-    let function = virtual_code_of(alloc, func)?;
+    let function = virtual_code_of(alloc, leaves, func)?;
     let located = allocated(alloc, &function, allocator)?;
     let placed = flat(located);
     let code = laid_out(alloc, &placed)?;
@@ -188,7 +222,8 @@ fn optimized(
 /// are as few as its weight allows.
 fn unoptimized(alloc: Global, func: &Func) -> Result<MachineCode, AllocError>
     requires { IsGoodFunction func.now }
-    ensures { IfOk result (λ c. StandWithin func.now c) }
+    ensures stand { IfOk result (λ c. StandFor func.now c) }
+    ensures few { IfOk result (λ c. length c.words ≤ 32 * weight func.now + 256) }
 {
     let lowered = lower(alloc, func)?;
     let selected = select(alloc, &lowered)?;
@@ -198,25 +233,82 @@ fn unoptimized(alloc: Global, func: &Func) -> Result<MachineCode, AllocError>
     Ok(code)
 }
 
-/// The words of a function, whose locals are taken out of memory first: by all passes where that fits, else as it is selected.
+/// By all passes where that fits, else as it is selected.
+fn without_calls_placed(
+    alloc: Global,
+    func: &Func,
+    allocator: &mut dyn Strategy,
+) -> Result<MachineCode, AllocError>
+    requires { IsGoodFunction func.now }
+    ensures { IfOk result (λ c. StandWithin [] func.now c) }
+{
+    match optimized(alloc, &[], func, allocator)? {
+        Some(code) => Ok(code),
+        None => {
+            let code = unoptimized(alloc, func)?;
+            Ok(code)
+        }
+    }
+}
+
+/// With calls of leaves in place where that fits, else without.
+fn promoted_words(
+    alloc: Global,
+    leaves: &[Option<VFunc>],
+    func: &Func,
+    allocator: &mut dyn Strategy,
+) -> Result<MachineCode, AllocError>
+    requires { IsGoodFunction func.now }
+    ensures { IfOk result (λ c. StandWithin leaves.now func.now c) }
+{
+    match optimized(alloc, leaves, func, allocator)? {
+        Some(code) => Ok(code),
+        None => {
+            let code = without_calls_placed(alloc, func, allocator)?;
+            Ok(code)
+        }
+    }
+}
+
+/// The code of a function, with calls of these leaves in place, if it makes no other call and no block of memory.
+///
+/// # Errors
+///
+/// Only where memory was refused.
+pub fn leaf_code(
+    alloc: Global,
+    below: &[Option<VFunc>],
+    func: &Func,
+) -> Result<Option<VFunc>, AllocError>
+    requires { IsGoodFunction func.now }
+    ensures { IfOk result (λ o. IfSome o (λ v. IsLeafCode below.now func.now v)) }
+{
+    let promoted = promote(alloc, func)?;
+    let function = with_calls_placed(alloc, below, &promoted)?;
+    if is_leaf(&function) {
+        Ok(Some(function))
+    } else {
+        Ok(None)
+    }
+}
+
+/// The words of a function, whose locals are taken out of memory first: by all passes, with calls of leaves in place where that fits, else without; and as it is
+/// selected where all that doesn't fit.
 ///
 /// # Errors
 ///
 /// Only where memory was refused.
 pub fn function_words(
     alloc: Global,
+    leaves: &[Option<VFunc>],
     func: &Func,
     allocator: &mut dyn Strategy,
 ) -> Result<MachineCode, AllocError>
     requires { IsGoodFunction func.now }
-    ensures { IfOk result (λ c. StandPromoted func.now c × (length c.words ≤ 32 * weight func.now + 256)) }
+    ensures stand { IfOk result (λ c. (promoted : PromotedFunc) × IsPromoted func.now promoted × StandWith leaves.now promoted c) }
+    ensures few { IfOk result (λ c. length c.words ≤ 32 * weight func.now + 256) }
 {
     let promoted = promote(alloc, func)?;
-    match optimized(alloc, &promoted, allocator)? {
-        Some(code) => Ok(code),
-        None => {
-            let code = unoptimized(alloc, &promoted)?;
-            Ok(code)
-        }
-    }
+    let code = promoted_words(alloc, leaves, &promoted, allocator)?;
+    Ok(code)
 }

@@ -69,5 +69,5 @@ symbols_of texts p codes =
 -- those of a program whose functions have words that stand for what they become
 pub record AreSymbols (texts : List Checked) (p : Program) (symbols : List Entry) : Type 0 where
   pub codes : List Words
-  pub words : AreWords codes p.functions
+  pub words : AreWords codes p
   pub are : symbols ≡ symbols_of texts p codes

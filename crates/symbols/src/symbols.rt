@@ -106,7 +106,7 @@ fn symbols_with<'a>(
     codes: &[MachineCode],
 ) -> Result<Vec<Symbol<'a>>, AllocError>
     requires program { IsProgram linked.now.texts.now (program linked.now) }
-    requires words { AreWords codes.now (program linked.now).functions }
+    requires words { AreWords codes.now (program linked.now) }
     ensures { IfOk result (λ v. map entry v.items ≡ symbols_of linked.now.texts.now (program linked.now) codes.now) }
 {
     let mut found = Vec::new(alloc);
@@ -131,6 +131,6 @@ pub fn symbols<'a>(
     requires good { AreGood linked.now.functions }
     ensures { IfOk result (λ v. AreSymbols linked.now.texts.now (program linked.now) (map entry v.items)) }
 {
-    let codes = codes_of(alloc, linked.functions.as_slice(), allocator)?;
+    let codes = codes_of(alloc, linked, allocator)?;
     symbols_with(alloc, linked, codes.as_slice())
 }

@@ -1,14 +1,19 @@
-use Rattle.qbec.proofs.CodeLemmas.{good_here, all_codes, one_more_code}
+use Rattle.std.proofs.Common.{List, Vec, Global, Option, Bor, map, sym, subst}
+use Rattle.il_ast.specs.declared.function.Func.{Func}
+use Rattle.il_ast.specs.declared.program.InText.{InText}
+use Rattle.obj_link.specs.ProgramOf.{program}
+use Rattle.obj_link.specs.Shown.{shown}
+use Rattle.vcode.specs.declared.function.VFunc.{VFunc}
+use Rattle.qbec.specs.Codes.{AreGood, AreWordsIn}
+use Rattle.qbec.specs.Leaves.{AreLeavesIn}
 use Rattle.qbec.proofs.codes.codes_of.Goals as goal
 
-pub function_words-requires : goal.function_words-requires
-function_words-requires g c = good_here c.args.functions.now c.loop-k.k _ c.loop-k-test.true c.requires
+pub codes_with-requires : goal.codes_with-requires
+codes_with-requires g c = subst AreGood (sym c.as_slice-functions.ensures) c.requires
 
 pub returns : goal.returns
-returns g c = all_codes c.args.functions.now c.loop-k.k c.loop-k.codes.items c.loop-k-test.false c.loop-k.invariant
-
-pub loop-k-preserved : goal.loop-k-preserved
-loop-k-preserved g c =
-    let stands = c.in_ok-code.ensures in
-    one_more_code c.args.functions.now c.loop-k.k _ c.loop-k.codes.items c.push_code.new.codes.items c.in_ok-code.code c.loop-k-test.true c.loop-k.invariant stands.0 stands.1
-    c.in_ok-push_code.ensures.code c.in_ok-push_code.ensures.pushed
+returns g c =
+    let p = program c.args.linked.now in
+    subst (λ (fs : List (InText (Bor Func))). AreWordsIn p c.in_ok-codes.codes.items (map shown fs)) c.as_slice-functions.ensures
+    (c.in_ok-codes.ensures p
+    (subst (λ (ts : List (Vec (Option VFunc) Global)). AreLeavesIn p (map (λ t. t.items) ts)) (sym c.as_slice.ensures.value) c.in_ok-tables.ensures))

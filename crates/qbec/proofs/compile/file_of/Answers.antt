@@ -9,7 +9,7 @@ use Rattle.qbec.proofs.compile.file_of.Goals as goal
 
 pub place-requires-clause-one_each : goal.place-requires-clause-one_each
 place-requires-clause-one_each c =
-    one_each c.args.codes.now (program c.args.linked.now).functions c.requires.words.stand ∙ length-map c.args.linked.now.functions shown
+    one_each (program c.args.linked.now) c.args.codes.now (program c.args.linked.now).functions c.requires.words.stand ∙ length-map c.args.linked.now.functions shown
 
 pub place-requires-clause-fits : goal.place-requires-clause-fits
 place-requires-clause-fits c = fits_below c.args.linked.now.texts.now (program c.args.linked.now) c.args.codes.now c.requires.program c.requires.words

@@ -13,7 +13,7 @@ use Rattle.symbols.proofs.symbols.symbols_with.Goals as goal
 
 pub push_functions-requires-clause-one_each : goal.push_functions-requires-clause-one_each
 push_functions-requires-clause-one_each c =
-    one_each c.args.codes.now (program c.args.linked.now).functions c.requires.words.stand ∙ length-map c.args.linked.now.functions shown ∙ ap length (sym c.as_slice-functions.ensures)
+    one_each (program c.args.linked.now) c.args.codes.now (program c.args.linked.now).functions c.requires.words.stand ∙ length-map c.args.linked.now.functions shown ∙ ap length (sym c.as_slice-functions.ensures)
 
 pub push_functions-requires-clause-fits : goal.push_functions-requires-clause-fits
 push_functions-requires-clause-fits c =

@@ -1,0 +1,107 @@
+-- Calls of a program's leaves go as their code.
+use Rattle.std.proofs.Common.{◌≡◌, ℕ, zero, suc, ◌-◌, ◌<◌, ◌≤◌, nat_lt, Bool, true, false, List, [], slice_get, Option, Some, None, refl, sym, ◌∙◌, ap, subst, arith}
+use Rattle.std.specs.Prelude.{if◌then◌else◌}
+use Rattle.std.proofs.lemmas.Bool.Decides.{nat_tests}
+use Rattle.il_ast.specs.declared.operation.Class.{Class}
+use Rattle.il_ast.specs.declared.function.Func.{Func}
+use Rattle.il_ast.specs.declared.program.InText.{InText}
+use Rattle.il_ast.specs.declared.program.Program.{Program}
+use Rattle.il_ast.specs.declared.value.Callee.{Callee}
+use Rattle.il_ast.specs.declared.value.Callee.TheVariants.{Defined}
+use Rattle.il_ast.specs.declared.value.End.{End}
+use Rattle.il_ast.specs.declared.value.End.TheVariants.{Exit, Halt, Undefined, Stack, Turns}
+use Rattle.il_ast.specs.declared.value.Value.{Value}
+use Rattle.il_ast.specs.Cost.{need}
+use Rattle.il_ast.specs.Effect.{Call}
+use Rattle.il_ast.specs.Memory.{Memory}
+use Rattle.il_ast.specs.Run.{Outcome, Returned, Ended, nothing, one_call, after}
+use Rattle.il_ast.specs.Meaning.{call_fits, call_function, call_named, callees}
+use Rattle.il_ast.specs.Logged.{Logged}
+use Rattle.il_ast.specs.Keeps.{Asked, Given, AreArgs, Log}
+use Rattle.il_ast.specs.Passes.{classes_of}
+use Rattle.il_ast.specs.Start.{globals_of}
+use Rattle.vcode.specs.declared.function.VFunc.{VFunc}
+use Rattle.vcode.specs.declared.code.Code.{Code}
+use Rattle.vcode.specs.Coded.{classes_in, virtual_code}
+use Rattle.vcode.specs.InPlace.{GoesSo, HasRoom, RunsAs}
+use Rattle.vcode.specs.Places.{virtual}
+use Rattle.vcode.specs.Step.{State, begin, step}
+use Rattle.inlining.specs.Leaves.{is_leaf, given_by, GoesAs, IsLeafOf}
+use Rattle.inlining.proofs.Silent.{silent}
+use Rattle.headline.specs.InPlace.{calls_in}
+use Rattle.headline.specs.Functions.{body_of, IsCodeIn}
+use Rattle.headline.proofs.InPlace.{same_body}
+use Rattle.qbec.specs.Pipeline.{IsLeafNamed}
+
+-- ---- how a call of a function goes
+
+after_room : (o : Outcome) → HasRoom (after one_call o) → HasRoom o
+after_room (Returned s v m) h = h
+after_room (Ended s (Exit n)) h = h
+after_room (Ended s Halt) h = h
+after_room (Ended s Undefined) h = h
+after_room (Ended s Stack) h = h
+after_room (Ended s Turns) h = h
+
+-- the call is entered, and goes so
+record Entered (p : Program) (n : ℕ) (f : InText Func) (call : Call) (t room : ℕ) (m : Memory) : Type 0 where
+  is : callees p (suc n) call t room m ≡ after one_call (body_of p f (callees p n) (given_by call t (room - need f.item) m))
+  room_left : HasRoom (body_of p f (callees p n) (given_by call t (room - need f.item) m))
+
+room_for : (b : Bool) (o x : Outcome) → x ≡ (if b then Ended nothing Stack else after one_call o) → HasRoom x → (x ≡ after one_call o) × HasRoom o
+room_for true o x is h = absurd (subst HasRoom is h)
+room_for false o x is h = (is, after_room o (subst HasRoom is h))
+
+entered : (p : Program) (n number : ℕ) (f : InText Func) (call : Call) (t room : ℕ) (m : Memory) → slice_get p.functions number ≡ Some f → call.callee ≡ Defined number
+    → call_fits call (classes_of f.item.params) f.item.result ≡ true → HasRoom (callees p (suc n) call t room m) → Entered p n f call t room m
+unfolding callees
+entered p n number f call t room m here callee fits enough =
+    let meant : Outcome = body_of p f (callees p n) (given_by call t (room - need f.item) m) in
+    let goes =
+    ap (call_named p (callees p n) call t room m) callee
+    ∙ ap (call_function p (callees p n) call t room m) here
+    ∙ ap (λ (b : Bool). if b then (if nat_lt room (need f.item) then Ended nothing Stack else after one_call meant) else Ended nothing Undefined) fits
+    in
+    let r = room_for (nat_lt room (need f.item)) meant (callees p (suc n) call t room m) goes enough in
+    record { is = r.0; room_left = r.1 }
+
+-- ---- it goes as the leaf's code
+
+-- in fewer turns than there are
+in_turns : (p : Program) (turns : ℕ) (call : Call) (t room : ℕ) (m : Memory) → t < turns → calls_in p turns call t room m ≡ callees p turns call t room m
+in_turns p turns call t room m low = by (nat_lt t turns) (grind (arith, nat_tests))
+  where
+    by : (b : Bool) → b ≡ true → (if b then callees p turns call t room m else Ended nothing Turns) ≡ callees p turns call t room m
+    by true e = refl
+    by false e = absurd (let no : ⊥ = cc in no)
+
+leaf_entered : (p : Program) (text name n : ℕ) (leaf : VFunc) (l : IsLeafNamed p text name leaf) (call : Call) (t room : ℕ) (m : Memory) → t ≤ n → AreArgs (classes_in leaf.code.params) call.args
+    → Entered p n l.function call t room m → calls_in p (suc n) call t room m ≡ callees p (suc n) call t room m → GoesAs (calls_in p (suc n)) (globals_of p text) leaf.code call t room m
+leaf_entered p text name n leaf l call t room m low args e going =
+    let f = l.function in
+    let i = given_by call t (room - need f.item) m in
+    let same = same_body p f n i low in
+    let run =
+    l.is.runs n i low (subst (λ (cs : List Class). AreArgs cs call.args) l.is.params args) (subst HasRoom (sym same) e.room_left)
+    in
+    let none = silent (globals_of p f.text) leaf.code i l.calm run.steps (begin virtual leaf.code i) run.log run.went run.runs in
+    let alone = subst (λ (log : Log). Logged (step virtual (globals_of p f.text) leaf.code i) run.steps (begin virtual leaf.code i) log run.went) none run.runs in
+    record {
+      meant = body_of p f (callees p n) i;
+      is = going ∙ e.is;
+      went = run.went;
+      goes = subst (GoesSo run.went) same run.goes;
+      below = room - need f.item;
+      steps = run.steps;
+      runs = subst (λ (x : ℕ). Logged (step virtual (globals_of p x) leaf.code i) run.steps (begin virtual leaf.code i) [] run.went) l.same alone;
+    }
+
+-- in the program each call of the function that the name means goes as the leaf's code
+pub leaf_goes : (p : Program) (text name : ℕ) (leaf : VFunc) (l : IsLeafNamed p text name leaf) (turns : ℕ) → IsLeafOf (calls_in p turns) turns (globals_of p text) leaf.code (Defined l.number)
+leaf_goes p text name leaf l zero call t room m callee low fits args enough = absurd (omega (arith, low))
+leaf_goes p text name leaf l (suc n) call t room m callee low fits args enough =
+    let f = l.function in
+    let going = in_turns p (suc n) call t room m low in
+    let fits_it = ap (λ (cs : List Class). call_fits call cs f.item.result) (sym l.is.params) ∙ ap (call_fits call (classes_in leaf.code.params)) (sym l.is.result) ∙ fits in
+    leaf_entered p text name n leaf l call t room m (omega (arith, low)) args
+    (entered p n l.number f call t room m l.here callee fits_it (subst HasRoom going enough)) going
