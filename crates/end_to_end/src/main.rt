@@ -2,7 +2,7 @@
 //!
 //! The programs stand in `data/programs.cases`, with what is known of each from outside; `data/files.cases` has changes of an executable file, with their
 //! refusals, and `data/lines.cases` what is shown for words of the command line. The program prints a line for each case that fails, a line for each group, and how many cases there are. Without words it runs all groups; with
-//! words those that are named, of the table's and of these: `strategies`, `prefixes`, `files`, `lines`, `devices`, `sizes`, `random`. `random N SEED` runs N random programs.
+//! words those that are named, of the table's and of these: `strategies`, `prefixes`, `files`, `lines`, `devices`, `sizes`, `random`, `small_functions`. `random N SEED` and `small_functions N SEED` run N random programs.
 #![tactic(auto)]
 
 mod broken_disk;
@@ -30,14 +30,17 @@ use std::rt::Files;
 use std::{env, fs, io, str};
 use test_report::report::Report;
 
-/// How many random programs there are, and from which seed, where no words say.
-const RANDOM: (u64, u64) = (300, 1);
+/// How many random programs there are, where no words say.
+const RANDOM: u64 = 300;
+
+/// How many random programs of many small functions there are, where no words say.
+const SMALL: u64 = 40;
 
 /// What the words ask for.
 #[derive(Drop)]
 struct Asked {
     groups: Vec<String>,
-    count: u64,
+    count: Option<u64>,
     seed: u64,
 }
 
@@ -50,15 +53,15 @@ impl Asked {
 fn words_asked(rt: &HostRuntime) -> io::Result<Asked> {
     let mut asked = Asked {
         groups: Vec::new(rt.alloc()),
-        count: RANDOM.0,
-        seed: RANDOM.1,
+        count: None,
+        seed: 1,
     };
     let mut numbers = 0u8;
     for word in env::args(rt)?.skip(1) {
         match word.as_str().parse::<u64>() {
             Ok(number) => {
                 if numbers == 0 {
-                    asked.count = number;
+                    asked.count = Some(number);
                 } else {
                     asked.seed = number;
                 }
@@ -110,7 +113,11 @@ fn check_rest(table: &CaseTable, asked: &Asked, report: &mut Report) -> Result<(
     }
     if asked.has("random") {
         report.enter("random")?;
-        random::check(asked.count, asked.seed, report)?;
+        random::check(asked.count.unwrap_or(RANDOM), asked.seed, report)?;
+    }
+    if asked.has("small_functions") {
+        report.enter("small_functions")?;
+        random::check_small(asked.count.unwrap_or(SMALL), asked.seed, report)?;
     }
     Ok(())
 }

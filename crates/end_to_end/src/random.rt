@@ -12,6 +12,7 @@ use std::alloc::{AllocError, Global};
 use test_report::report::Report;
 use test_report::told::Told;
 use test_texts::random_text::random_text;
+use test_texts::small_functions::small_functions;
 
 /// More turns than any of the programs takes.
 const PLENTY: u64 = 1 << 20;
@@ -135,14 +136,20 @@ fn check_text(text: &[u8], report: &mut Report) -> Result<(), AllocError> {
     check_wanted(text, &wanted, report)
 }
 
-fn begin(seed: u64, report: &mut Report) -> Result<(), AllocError> {
-    let title = format!(in report.alloc; "random program of seed {seed}")?;
+fn begin(what: &str, seed: u64, report: &mut Report) -> Result<(), AllocError> {
+    let title = format!(in report.alloc; "{what} of seed {seed}")?;
     report.begin(title.as_str())
 }
 
 fn check_seed(seed: u64, report: &mut Report) -> Result<(), AllocError> {
-    begin(seed, report)?;
+    begin("random program", seed, report)?;
     let text = random_text(report.alloc, seed)?;
+    check_text(text.as_bytes(), report)
+}
+
+fn check_small_seed(seed: u64, report: &mut Report) -> Result<(), AllocError> {
+    begin("small functions", seed, report)?;
+    let text = small_functions(report.alloc, seed)?;
     check_text(text.as_bytes(), report)
 }
 
@@ -150,6 +157,14 @@ fn check_seed(seed: u64, report: &mut Report) -> Result<(), AllocError> {
 pub fn check(count: u64, seed: u64, report: &mut Report) -> Result<(), AllocError> {
     for number in 0..count {
         check_seed(seed.wrapping_add(number), report)?;
+    }
+    Ok(())
+}
+
+/// Checks so many random programs of many small functions, from this seed on.
+pub fn check_small(count: u64, seed: u64, report: &mut Report) -> Result<(), AllocError> {
+    for number in 0..count {
+        check_small_seed(seed.wrapping_add(number), report)?;
     }
     Ok(())
 }

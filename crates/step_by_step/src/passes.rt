@@ -4,6 +4,7 @@ use code_text::function::{virtual_function, virtual_text};
 use constant_hoisting::constants::hoist_constants;
 use dead_code::remove::remove_dead_code;
 use hoisting::hoist::hoist;
+use inlining::calls::place_calls;
 use propagation::propagate::propagate;
 use read_copies::read::read_copies;
 use sign_extensions::copies::copy_whole_words;
@@ -24,6 +25,19 @@ pub fn shown_or_refused(alloc: Global, made: Result<Option<VFunc>, AllocError>) 
         Some(function) => virtual_text(alloc, &function).ok(),
         None => String::from_str(alloc, "refused").ok(),
     }
+}
+
+fn only(alloc: Global, leaf: VFunc) -> Option<Vec<Option<VFunc>>> {
+    let mut leaves = Vec::new(alloc);
+    leaves.push(Some(leaf)).ok()?;
+    Some(leaves)
+}
+
+/// The function with calls of the global name 0 done in place, which go as this leaf.
+pub fn with_calls_in_place(alloc: Global, text: &str, leaf: &str) -> Option<String> {
+    let function = virtual_function(alloc, text)?;
+    let leaves = only(alloc, virtual_function(alloc, leaf)?)?;
+    shown(alloc, place_calls(alloc, function, leaves.as_slice()))
 }
 
 /// The function with extensions of whole words as copies.

@@ -16,6 +16,7 @@ pub enum Step {
     Promoting,
     Phis,
     Selection,
+    CallsInPlace,
     SignExtensions,
     Joining,
     Propagation,
@@ -48,7 +49,7 @@ pub enum Step {
 }
 
 /// All of them, in the order of the compiler.
-pub const STEPS: [Step; 36] = [
+pub const STEPS: [Step; 37] = [
     Step::Tokens,
     Step::Reading,
     Step::Checking,
@@ -56,6 +57,7 @@ pub const STEPS: [Step; 36] = [
     Step::Promoting,
     Step::Phis,
     Step::Selection,
+    Step::CallsInPlace,
     Step::SignExtensions,
     Step::Joining,
     Step::Propagation,
@@ -98,6 +100,7 @@ impl Step {
             Step::Promoting => "promoting",
             Step::Phis => "phis",
             Step::Selection => "selection",
+            Step::CallsInPlace => "calls_in_place",
             Step::SignExtensions => "sign_extensions",
             Step::Joining => "joining",
             Step::Propagation => "propagation",
@@ -140,6 +143,7 @@ impl Step {
             Step::Promoting => front_end::promoted(alloc, case.given),
             Step::Phis => phis::copies(alloc, case.given),
             Step::Selection => phis::selected(alloc, case.given),
+            Step::CallsInPlace => passes::with_calls_in_place(alloc, case.given, case.with),
             Step::SignExtensions => passes::with_whole_words(alloc, case.given),
             Step::Joining => passes::with_blocks_joined(alloc, case.given),
             Step::Propagation => passes::forwarded(alloc, case.given),

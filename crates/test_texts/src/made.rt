@@ -55,6 +55,7 @@ fn push_rule(text: &mut TextMaker, rule: &str, size: u64) {
         "chain" => chain(text, size),
         "far" => far(text, size),
         "wide" => wide(text, size),
+        "calls" => calls(text, size),
         _ => {}
     }
 }
@@ -231,4 +232,14 @@ fn push_wide_sum(text: &mut TextMaker) {
         text.add_with_numbers("%sum =l add %sum, %t#\n", &[number]);
     }
     text.add("ret %sum\n}\n");
+}
+
+// So many calls of a leaf one behind the other, each given what the one before answered.
+fn calls(text: &mut TextMaker, count: u64) {
+    text.add("function w $f(w %x) {\n@s\n%y =w mul %x, 5\n%z =w add %y, 3\n");
+    text.add("%r =w and %z, 255\nret %r\n}\n");
+    text.add(MAIN);
+    text.add("%x =w copy 1\n");
+    text.repeat("%x =w call $f(w %x)\n", count);
+    text.add("ret %x\n}\n");
 }

@@ -51,7 +51,8 @@ pub struct Signature {
     pub params: Vec<&'static str>,
 }
 
-fn random_signature(
+/// How a function of this number is called: a result of one class, and up to ten parameters.
+pub(crate) fn random_signature(
     alloc: Global,
     random: &mut Random,
     number: u64,
