@@ -17,7 +17,6 @@ use Rattle.headline.specs.Knot.{Setting, IsSetting, KeptBody, KeepsBody, Layers}
 use Rattle.headline.proofs.Answer.{grown_same, answer}
 use Rattle.headline.proofs.InPlace.{shown_so}
 
-
 pub shows_grown : (e : Entries) (p q : Bases) → Grown p q → (v : Value) (x : ℕ) → Shows e p v x → Shows e q v x
 shows_grown e p q g (Integer n) x h = h
 shows_grown e p q g (Pointer b o) x h = (h.0, g b h.0 h.1, h.2)

@@ -1,6 +1,6 @@
 -- What the words that are made for a function owe, and what the executable of a program whose
 -- functions have such words does.
-use Rattle.std.specs.Prelude.{◌≡◌, ℕ, ◌≤◌, List, [], ◌∷◌, length}
+use Rattle.std.specs.Prelude.{ℕ, ◌≤◌, List, [], ◌∷◌, length}
 use Rattle.il_ast.specs.declared.limits.TheConstants.{WORDS, WORD_BYTES}
 use Rattle.il_ast.specs.declared.function.Func.{Func}
 use Rattle.il_ast.specs.declared.program.InText.{InText}

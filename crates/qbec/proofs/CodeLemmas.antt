@@ -1,17 +1,15 @@
 -- Words for one function after another.
-use Rattle.std.proofs.Common.{◌≡◌, ℕ, zero, suc, ◌+◌, ◌*◌, ◌<◌, ◌≤◌, List, [], ◌∷◌, ◌++◌, length, map, drop, refl, sym, ◌∙◌, ap, subst, arith, append_assoc, drop_of_length-le}
-use Rattle.std.specs.Prelude.{slice_get, slice_index_or, Some}
+use Rattle.std.proofs.Common.{◌≡◌, ℕ, zero, suc, ◌+◌, ◌*◌, ◌≤◌, List, [], ◌∷◌, ◌++◌, length, map, drop, refl, sym, ◌∙◌, ap, subst, arith, append_assoc, drop_of_length-le}
+use Rattle.std.specs.Prelude.{slice_get, Some}
 use Rattle.std.specs.Borrow.{Bor}
-use Rattle.std.proofs.lemmas.Option.{slice_get-get_or}
 use Rattle.il_ast.specs.declared.function.Func.{Func}
 use Rattle.il_ast.specs.declared.program.InText.{InText}
 use Rattle.il_ast.specs.declared.program.Program.{Program}
 use Rattle.il_ast.specs.Cost.{weight}
-use Rattle.phi_copies.specs.Good.{IsGoodFunction}
 use Rattle.rv_isa.specs.Words.{Words, IsCode}
 use Rattle.obj_link.specs.Shown.{shown}
 use Rattle.qbec.specs.Promoted.{StandPromoted}
-use Rattle.qbec.specs.Codes.{AreGood, AreWordsIn}
+use Rattle.qbec.specs.Codes.{AreWordsIn}
 
 pub record CodesSoFar (p : Program) (fs : List (InText (Bor Func))) (k : ℕ) (codes : List Words) : Type 0 where
   pub whole : (rest : List Words) → AreWordsIn p rest (map shown (drop k fs)) → AreWordsIn p (codes ++ rest) (map shown fs)

@@ -1,35 +1,31 @@
 -- Calls of a program's leaves go as their code.
-use Rattle.std.proofs.Common.{◌≡◌, ℕ, zero, suc, ◌-◌, ◌<◌, ◌≤◌, nat_lt, Bool, true, false, List, [], slice_get, Option, Some, None, refl, sym, ◌∙◌, ap, subst, arith}
+use Rattle.std.proofs.Common.{◌≡◌, ℕ, zero, suc, ◌-◌, ◌<◌, ◌≤◌, nat_lt, Bool, true, false, List, [], slice_get, Some, refl, sym, ◌∙◌, ap, subst, arith}
 use Rattle.std.specs.Prelude.{if◌then◌else◌}
 use Rattle.std.proofs.lemmas.Bool.Decides.{nat_tests}
 use Rattle.il_ast.specs.declared.operation.Class.{Class}
 use Rattle.il_ast.specs.declared.function.Func.{Func}
 use Rattle.il_ast.specs.declared.program.InText.{InText}
 use Rattle.il_ast.specs.declared.program.Program.{Program}
-use Rattle.il_ast.specs.declared.value.Callee.{Callee}
 use Rattle.il_ast.specs.declared.value.Callee.TheVariants.{Defined}
-use Rattle.il_ast.specs.declared.value.End.{End}
 use Rattle.il_ast.specs.declared.value.End.TheVariants.{Exit, Halt, Undefined, Stack, Turns}
-use Rattle.il_ast.specs.declared.value.Value.{Value}
 use Rattle.il_ast.specs.Cost.{need}
 use Rattle.il_ast.specs.Effect.{Call}
 use Rattle.il_ast.specs.Memory.{Memory}
 use Rattle.il_ast.specs.Run.{Outcome, Returned, Ended, nothing, one_call, after}
 use Rattle.il_ast.specs.Meaning.{call_fits, call_function, call_named, callees}
 use Rattle.il_ast.specs.Logged.{Logged}
-use Rattle.il_ast.specs.Keeps.{Asked, Given, AreArgs, Log}
+use Rattle.il_ast.specs.Keeps.{AreArgs, Log}
 use Rattle.il_ast.specs.Passes.{classes_of}
 use Rattle.il_ast.specs.Start.{globals_of}
 use Rattle.vcode.specs.declared.function.VFunc.{VFunc}
-use Rattle.vcode.specs.declared.code.Code.{Code}
-use Rattle.vcode.specs.Coded.{classes_in, virtual_code}
-use Rattle.vcode.specs.InPlace.{GoesSo, HasRoom, RunsAs}
+use Rattle.vcode.specs.Coded.{classes_in}
+use Rattle.vcode.specs.InPlace.{GoesSo, HasRoom}
 use Rattle.vcode.specs.Places.{virtual}
-use Rattle.vcode.specs.Step.{State, begin, step}
-use Rattle.inlining.specs.Leaves.{is_leaf, given_by, GoesAs, IsLeafOf}
+use Rattle.vcode.specs.Step.{begin, step}
+use Rattle.inlining.specs.Leaves.{given_by, GoesAs, IsLeafOf}
 use Rattle.inlining.proofs.Silent.{silent}
 use Rattle.headline.specs.InPlace.{calls_in}
-use Rattle.headline.specs.Functions.{body_of, IsCodeIn}
+use Rattle.headline.specs.Functions.{body_of}
 use Rattle.headline.proofs.InPlace.{same_body}
 use Rattle.qbec.specs.Pipeline.{IsLeafNamed}
 

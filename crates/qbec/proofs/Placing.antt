@@ -11,8 +11,6 @@ use Rattle.il_ast.specs.declared.program.Program.{Program}
 use Rattle.il_ast.specs.declared.program.Target.{Target}
 use Rattle.il_ast.specs.declared.program.Target.TheVariants.{Code}
 use Rattle.il_ast.specs.declared.value.Callee.TheVariants.{Defined}
-use Rattle.il_ast.specs.declared.value.Value.{Value}
-use Rattle.il_ast.specs.declared.value.Value.TheVariants.{Function}
 use Rattle.il_ast.specs.Passes.{Coded, Keeps, IsCodeOf, classes_of}
 use Rattle.il_ast.specs.Start.{globals_of, values_of, target_value}
 use Rattle.vcode.specs.declared.function.VFunc.{VFunc}

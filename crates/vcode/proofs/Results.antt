@@ -1,6 +1,5 @@
 -- What a pass owes of the code that it makes, and what follows: the invariants of a function, and that it keeps the function that there was.
-use Rattle.std.proofs.Common.{[], ◌∷◌, ◌≤◌, ◌≡◌, ℕ, Bool, true, nat_le, List, length, refl, sym, ◌∙◌, ap, subst, arith}
-use Rattle.std.specs.Prelude.{IsTrue}
+use Rattle.std.proofs.Common.{[], ◌∷◌, ◌≤◌, ◌≡◌, ℕ, Bool, true, List, length, refl, sym, ◌∙◌, ap, subst, arith}
 use Rattle.std.specs.List.{list_all}
 use Rattle.std.proofs.lemmas.Bool.{and_parts, and_from}
 use Rattle.std.proofs.lemmas.Bool.Decides.{nat_tests}

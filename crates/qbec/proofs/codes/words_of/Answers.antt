@@ -1,4 +1,4 @@
-use Rattle.std.proofs.Common.{List, [], map, sym, subst}
+use Rattle.std.proofs.Common.{[], map, sym, subst}
 use Rattle.qbec.specs.Leaves.{AreLeavesAt}
 use Rattle.qbec.proofs.Placing.{got_at, got_mapped, no_leaves, words_answer}
 use Rattle.qbec.proofs.codes.words_of.Goals as goal
