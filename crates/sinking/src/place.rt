@@ -1,0 +1,131 @@
+//! Where a block may set registers.
+use crate::known::{Known, Plan};
+use crate::reads::line_reads;
+use cfg_live::uses::line_writes;
+use il_ast::list::Seq;
+use std::alloc::{AllocError, Global};
+use vcode::code::Block;
+use vcode::cost::{is_immediate, line_cost};
+use vcode::line::{Jump, Line};
+use vcode::place::{Argument, Operand};
+
+/// The most that a jump costs.
+fn jump_cost(jump: &Jump<u32>) -> u128 {
+    match jump {
+        Jump::Goto(_) | Jump::Return(None) | Jump::Halt => 2,
+        Jump::Branch { .. } => 25,
+        Jump::Return(Some(_)) => 12,
+    }
+}
+
+/// What a line leaves of the credit that the ticks before it give.
+fn left_behind(credit: u128, line: &Line<u32>) -> u128 {
+    match line {
+        Line::Tick { weight, .. } => credit.saturating_add(32 * u128::from(*weight)),
+        _ => credit.saturating_sub(line_cost(line)),
+    }
+}
+
+/// How much more the block's ticks would pay for before each of its lines, and before its jump.
+fn room(alloc: Global, block: &Block<u32>) -> Result<Vec<u128>, AllocError> {
+    let lines = block.lines.as_slice();
+    let mut room = Vec::with_capacity(alloc, lines.len().saturating_add(1))?;
+    let mut credit = 0u128;
+    room.push(credit)?;
+    for line in lines {
+        credit = left_behind(credit, line);
+        room.push(credit)?;
+    }
+    let mut least = credit.saturating_sub(jump_cost(&block.jump));
+    for at in room.iter_mut().rev() {
+        least = least.min(*at);
+        *at = least;
+    }
+    Ok(room)
+}
+
+fn is_in(sets: &[Known], register: u32) -> bool {
+    for known in sets {
+        if known.register == register {
+            return true;
+        }
+    }
+    false
+}
+
+fn is_at(sets: &[Known], operand: Option<Operand<u32>>) -> bool {
+    match operand {
+        Some(Operand::At(register)) => is_in(sets, register),
+        _ => false,
+    }
+}
+
+fn are_args(sets: &[Known], args: &[Argument<u32>]) -> bool {
+    for arg in args {
+        if is_at(sets, Some(arg.value)) {
+            return true;
+        }
+    }
+    false
+}
+
+/// Whether the line reads or writes one of these registers.
+fn names(sets: &[Known], line: &Line<u32>) -> bool {
+    if let Some(register) = line_writes(line) {
+        if is_in(sets, register) {
+            return true;
+        }
+    }
+    let reads = line_reads(line);
+    is_at(sets, reads.first) || is_at(sets, reads.second) || are_args(sets, reads.args)
+}
+
+/// What it costs to set the register.
+fn cost(known: &Known) -> u128 {
+    if is_immediate(known.number) { 4 } else { 12 }
+}
+
+/// Whether there is room for all of them.
+fn fit(room: &[u128], place: usize, sets: &[Known]) -> bool {
+    let mut cost_of_all = 0u128;
+    for known in sets {
+        cost_of_all = cost_of_all.saturating_add(cost(known));
+    }
+    match room.get(place) {
+        Some(room) => cost_of_all <= *room,
+        None => false,
+    }
+}
+
+/// What a block is to set, and where: in front of the first line that names one of the registers, if there is room for all of them, else without that one.
+///
+/// # Errors
+///
+/// Only where memory was refused.
+pub(crate) fn placed(
+    alloc: Global,
+    planned: Vec<Known>,
+    block: &Block<u32>,
+) -> Result<Plan, AllocError> {
+    let room = room(alloc, block)?;
+    let mut sets = planned;
+    for (number, line) in block.lines.as_slice().iter().enumerate() {
+        if names(sets.as_slice(), line) {
+            if fit(room.as_slice(), number, sets.as_slice()) {
+                return Ok(Plan {
+                    behind: number,
+                    sets: Seq::from_vec(sets),
+                });
+            }
+            sets.retain(|known| !names(&[*known], line));
+        }
+    }
+    let behind = block.lines.len();
+    if !fit(room.as_slice(), behind, sets.as_slice()) {
+        sets.clear();
+    }
+    Ok(Plan {
+        behind,
+        sets: Seq::from_vec(sets),
+    })
+}
