@@ -1,5 +1,5 @@
--- Code with more operations at the ends of its blocks takes what the code took, where their ticks pay for them, and names registers that there are.
-use Rattle.std.proofs.Common.{◌≡◌, ℕ, ◌≤◌, Bool, true, ◌&&◌, nat_le, nat_lt, List, [], ◌∷◌, ◌++◌, Option, Some, None, refl, sym, ◌∙◌, ap, subst, arith}
+-- Code with more operations in its blocks takes what the code took, where their ticks pay for them, and names registers that there are.
+use Rattle.std.proofs.Common.{◌≡◌, ℕ, ◌≤◌, Bool, true, ◌&&◌, nat_le, List, [], ◌∷◌, Option, Some, None, refl, ◌∙◌, ap, arith}
 use Rattle.std.specs.List.{list_all}
 use Rattle.std.proofs.lemmas.Bool.{and_parts, and_from}
 use Rattle.std.proofs.lemmas.Bool.Decides.{nat_tests}
@@ -18,7 +18,7 @@ use Rattle.vcode.specs.Regular.{leads_inside}
 use Rattle.vcode.proofs.Measuring.{Measured, Empty, Put, SetIn, measure, nothing_taken, within_tested, Each, NoBlocks, OneMore}
 use Rattle.vcode.specs.Becomes.{with_these}
 use Rattle.vcode.proofs.Results.{Serves, Owed, owed_each}
-use Rattle.hoisting.specs.Longer.{is_extra, IsLonger, AllLonger}
+use Rattle.hoisting.specs.Longer.{is_extra, AreLonger, NoLines, Own, Extra, IsLonger, AllLonger}
 use Rattle.hoisting.proofs.Running.{runs}
 
 -- ---- what lines take
@@ -33,13 +33,10 @@ extra_takes n m (Alloc to size) h = absurd (let no : ⊥ = cc in no)
 extra_takes n m (Blit from to count) h = absurd (let no : ⊥ = cc in no)
 extra_takes n m (Call to callee args) h = absurd (let no : ⊥ = cc in no)
 
-extra_measured : (n m : ℕ) (extra : List (Line ℕ)) → list_all (is_extra n m) extra ≡ true → Measured true [] extra
-extra_measured n m [] h = Empty
-extra_measured n m (l ∷ extra) h = let s = and_parts (is_extra n m l) (list_all (is_extra n m) extra) h in SetIn refl (extra_takes n m l s.0) (extra_measured n m extra s.1)
-
-lines_measured : (n m : ℕ) (lines extra : List (Line ℕ)) → list_all (is_extra n m) extra ≡ true → Measured true lines (lines ++ extra)
-lines_measured n m [] extra h = extra_measured n m extra h
-lines_measured n m (l ∷ lines) extra h = Put refl (λ e. absurd (let no : ⊥ = cc in no)) (lines_measured n m lines extra h)
+lines_measured : (n m : ℕ) {lines new : List (Line ℕ)} → AreLonger n m lines new → Measured true lines new
+lines_measured n m NoLines = Empty
+lines_measured n m (Own rest) = Put refl (λ e. absurd (let no : ⊥ = cc in no)) (lines_measured n m rest)
+lines_measured n m (Extra {m = k} fits rest) = SetIn refl (extra_takes n m k fits) (lines_measured n m rest)
 
 -- ---- what names fewer registers names more
 
@@ -103,28 +100,24 @@ extra_low n m (Alloc to size) h = absurd (let no : ⊥ = cc in no)
 extra_low n m (Blit from to count) h = absurd (let no : ⊥ = cc in no)
 extra_low n m (Call to callee args) h = absurd (let no : ⊥ = cc in no)
 
-all_extra_low : (n m : ℕ) (extra : List (Line ℕ)) → list_all (is_extra n m) extra ≡ true → list_all (line_keeps (is_below m)) extra ≡ true
-all_extra_low n m [] h = refl
-all_extra_low n m (l ∷ extra) h =
-    let s = and_parts (is_extra n m l) (list_all (is_extra n m) extra) h in and_from (line_keeps (is_below m) l) (list_all (line_keeps (is_below m)) extra) (extra_low n m l s.0) (all_extra_low n m extra s.1)
-
-lines_low : (n m : ℕ) → n ≤ m → (lines extra : List (Line ℕ)) → list_all (is_extra n m) extra ≡ true → list_all (line_keeps (is_below n)) lines ≡ true → list_all (line_keeps (is_below m)) (lines ++ extra) ≡ true
-lines_low n m more [] extra fits h = all_extra_low n m extra fits
-lines_low n m more (l ∷ lines) extra fits h =
+lines_low : (n m : ℕ) → n ≤ m → {lines new : List (Line ℕ)} → AreLonger n m lines new → list_all (line_keeps (is_below n)) lines ≡ true → list_all (line_keeps (is_below m)) new ≡ true
+lines_low n m more NoLines h = refl
+lines_low n m more (Own {l = l} {lines = lines} {new = new} rest) h =
     let s = and_parts (line_keeps (is_below n) l) (list_all (line_keeps (is_below n)) lines) h in
-    and_from (line_keeps (is_below m) l) (list_all (line_keeps (is_below m)) (lines ++ extra)) (line_more (is_below n) (is_below m) (below_more n m more) l s.0) (lines_low n m more lines extra fits s.1)
+    and_from (line_keeps (is_below m) l) (list_all (line_keeps (is_below m)) new) (line_more (is_below n) (is_below m) (below_more n m more) l s.0) (lines_low n m more rest s.1)
+lines_low n m more (Extra {m = k} {new = new} fits rest) h = and_from (line_keeps (is_below m) k) (list_all (line_keeps (is_below m)) new) (extra_low n m k fits) (lines_low n m more rest h)
 
 -- ---- the whole
 
 block_serves : (n m : ℕ) → n ≤ m → (b d : Block ℕ) → IsLonger n m b d → Serves n m b d
 block_serves n m more b d is =
     record {
-      within = within_tested b d (subst (λ (ls : List (Line ℕ)). Measured true b.lines ls) (sym is.lines) (lines_measured n m b.lines is.extra is.fits)) is.paid;
+      within = within_tested b d (lines_measured n m is.lines) is.paid;
       inside = λ k e. ap (leads_inside k) is.jump ∙ e;
       names = λ e.
           let s = and_parts (list_all (line_keeps (is_below n)) b.lines) (jump_keeps (is_below n) b.jump) e in
           and_from (list_all (line_keeps (is_below m)) d.lines) (jump_keeps (is_below m) d.jump)
-          (ap (list_all (line_keeps (is_below m))) is.lines ∙ lines_low n m more b.lines is.extra is.fits s.0)
+          (lines_low n m more is.lines s.0)
           (ap (jump_keeps (is_below m)) is.jump ∙ jump_more (is_below n) (is_below m) (below_more n m more) b.jump s.1);
     }
 

@@ -1,5 +1,5 @@
--- Code with more operations at the ends of its blocks does what the code did: the registers that there were hold the same.
-use Rattle.std.proofs.Common.{◌≡◌, ℕ, zero, suc, ◌≤◌, Bool, true, false, ◌&&◌, nat_le, List, [], ◌∷◌, ◌++◌, Option, Some, slice_get, refl, sym, ◌∙◌, ap, subst, arith}
+-- Code with more operations in its blocks does what the code did: the registers that there were hold the same.
+use Rattle.std.proofs.Common.{◌≡◌, ℕ, zero, suc, true, false, nat_le, List, [], ◌∷◌, Option, Some, slice_get, refl, sym, ap, subst, arith}
 use Rattle.std.specs.List.{list_all}
 use Rattle.std.proofs.lemmas.Bool.{and_parts}
 use Rattle.std.proofs.lemmas.Bool.Decides.{nat_tests}
@@ -28,7 +28,7 @@ use Rattle.vcode.proofs.Alike.{lines_alike}
 use Rattle.vcode.proofs.Writing.{Agree, both_write, second_writes}
 use Rattle.vcode.proofs.Leading.{LeadsTo, Arriving, jump_itself_alike}
 use Rattle.vcode.proofs.Rewriting.{rewrites_keep}
-use Rattle.hoisting.specs.Longer.{is_extra, IsLonger, AllLonger}
+use Rattle.hoisting.specs.Longer.{is_extra, AreLonger, NoLines, Own, Extra, IsLonger, AllLonger}
 
 -- ---- what is claimed
 
@@ -78,22 +78,16 @@ own_jump n v j low globals memory before after agrees =
 -- ---- the code follows
 
 module _ (n m : ℕ) (v w : Code ℕ) where
-  extra_follows : (extra : List (Line ℕ)) (j : Jump ℕ) → list_all (is_extra n m) extra ≡ true → jump_keeps (is_below n) j ≡ true → Follows (claims n) v w tt [] j extra j
-  extra_follows [] j fits low = Jumps (own_jump n v j low)
-  extra_follows (l ∷ extra) j fits low =
-      let s = and_parts (is_extra n m l) (list_all (is_extra n m) extra) fits in Come (extra_comes n m l s.0) (extra_follows extra j s.1 low)
-
-  lines_follow : (lines extra : List (Line ℕ)) (j : Jump ℕ) → list_all (is_extra n m) extra ≡ true → list_all (line_keeps (is_below n)) lines ≡ true → jump_keeps (is_below n) j ≡ true
-      → Follows (claims n) v w tt lines j (lines ++ extra) j
-  lines_follow [] extra j fits all low = extra_follows extra j fits low
-  lines_follow (l ∷ lines) extra j fits all low =
-      let s = and_parts (line_keeps (is_below n) l) (list_all (line_keeps (is_below n)) lines) all in Both (own_line n l s.0) (lines_follow lines extra j fits s.1 low)
+  lines_follow : {lines new : List (Line ℕ)} (j : Jump ℕ) → AreLonger n m lines new → list_all (line_keeps (is_below n)) lines ≡ true → jump_keeps (is_below n) j ≡ true → Follows (claims n) v w tt lines j new j
+  lines_follow j NoLines all low = Jumps (own_jump n v j low)
+  lines_follow j (Own {l = l} {lines = lines} rest) all low =
+      let s = and_parts (line_keeps (is_below n) l) (list_all (line_keeps (is_below n)) lines) all in Both (own_line n l s.0) (lines_follow j rest s.1 low)
+  lines_follow j (Extra {m = k} fits rest) all low = Come (extra_comes n m k fits) (lines_follow j rest all low)
 
   block_follows : (b d : Block ℕ) → IsLonger n m b d → block_keeps (is_below n) b ≡ true → Follows (claims n) v w tt b.lines b.jump d.lines d.jump
   block_follows b d is named =
       let s = and_parts (list_all (line_keeps (is_below n)) b.lines) (jump_keeps (is_below n) b.jump) named in
-      subst (λ (j : Jump ℕ). Follows (claims n) v w tt b.lines b.jump d.lines j) (sym is.jump)
-      (subst (λ (ls : List (Line ℕ)). Follows (claims n) v w tt b.lines b.jump ls b.jump) (sym is.lines) (lines_follow b.lines is.extra b.jump is.fits s.0 s.1))
+      subst (λ (j : Jump ℕ). Follows (claims n) v w tt b.lines b.jump d.lines j) (sym is.jump) (lines_follow b.jump is.lines s.0 s.1)
 
   blocks_follow : (blocks new : List (Block ℕ)) → AllLonger n m blocks new → list_all (block_keeps (is_below n)) blocks ≡ true → (k : ℕ) (b : Block ℕ) → slice_get blocks k ≡ Some b
       → (d : Block ℕ) × ((slice_get new k ≡ Some d) × Follows (claims n) v w tt b.lines b.jump d.lines d.jump)

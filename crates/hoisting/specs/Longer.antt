@@ -1,6 +1,5 @@
--- Blocks with more operations at their ends, in registers that the function doesn't have.
-use Rattle.std.specs.Prelude.{◌≡◌, ℕ, ◌≤◌, Bool, true, false, ◌&&◌, nat_le, List, [], ◌∷◌, ◌++◌}
-use Rattle.std.specs.List.{list_all}
+-- Blocks with more operations, in registers that the function doesn't have.
+use Rattle.std.specs.Prelude.{◌≡◌, ℕ, Bool, true, false, ◌&&◌, nat_le, List, [], ◌∷◌, Option, Some, None}
 use Rattle.vcode.specs.declared.line.Line.{Line}
 use Rattle.vcode.specs.declared.line.Line.TheVariants.{Operate}
 use Rattle.vcode.specs.declared.code.Block.{Block}
@@ -13,10 +12,19 @@ is_extra before after (Operate to op a b) =
     nat_le before to && line_keeps (is_below after) (let l : Line ℕ = Operate to op a b in l)
 is_extra before after l = false
 
+-- the lines, with such operations among them
+pub data AreLonger (before after : ℕ) : (lines new : List (Line ℕ)) → Type 0 where
+  NoLines : AreLonger before after [] []
+  Own : {l : Line ℕ} {lines new : List (Line ℕ)} → AreLonger before after lines new → AreLonger before after (l ∷ lines) (l ∷ new)
+  Extra : {m : Line ℕ} {lines new : List (Line ℕ)} → is_extra before after m ≡ true → AreLonger before after lines new → AreLonger before after lines (m ∷ new)
+
+-- a line, and the one in front of it if there is one
+abbrev pub with_front : Option (Line ℕ) → Line ℕ → List (Line ℕ)
+with_front None l = l ∷ []
+with_front (Some m) l = m ∷ l ∷ []
+
 pub record IsLonger (before after : ℕ) (b d : Block ℕ) : Type 0 where
-  pub extra : List (Line ℕ)
-  pub lines : d.lines ≡ b.lines ++ extra
-  pub fits : list_all (is_extra before after) extra ≡ true
+  pub lines : AreLonger before after b.lines d.lines
   pub jump : d.jump ≡ b.jump
   pub paid : is_paid b ≡ true → is_paid d ≡ true
 

@@ -1,4 +1,4 @@
-//! Functions with computations in front of their loops.
+//! Functions with computations in front of their loops and extensions.
 ghost use Rattle.std.specs.Prelude.{◌≡◌, ◌≤◌, ◌<◌, IfOk};
 ghost use Rattle.vcode.specs.declared.limits.TheConstants.{PLACES};
 ghost use Rattle.il_ast.specs.Passes.{Keeps};
@@ -24,7 +24,7 @@ fn more(registers: u32, chosen: u32) -> u32
     }
 }
 
-/// The function with these computations at the ends of blocks, as far as they fit.
+/// The function with these computations in its blocks, as far as they fit.
 fn with_plans(alloc: Global, function: &VFunc, choice: &Choice) -> Result<VFunc, AllocError>
     ensures { IfOk result (λ w. Keeps (virtual_code function.now) (virtual_code w)) }
 {
@@ -42,7 +42,7 @@ fn with_plans(alloc: Global, function: &VFunc, choice: &Choice) -> Result<VFunc,
     Ok(made)
 }
 
-/// The function with computations whose operands its loops don't write done in front of them too, in registers of their own.
+/// The function with computations whose operands its loops don't write done in front of them too, and the first halves of extensions in front of these, in registers of their own.
 ///
 /// # Errors
 ///

@@ -1,11 +1,11 @@
-//! Blocks with more lines at their ends.
-ghost use Rattle.std.specs.Prelude.{◌≡◌, ◌++◌, ◌&&◌, ℕ, List, true, nat_le, nat_lt, IfOk, OnOk};
+//! Blocks with more lines.
+ghost use Rattle.std.specs.Prelude.{◌≡◌, ◌++◌, ◌&&◌, ℕ, List, true, nat_le, nat_lt, IfOk, IfSome, OnOk};
 ghost use Rattle.std.specs.List.{list_all};
 ghost use Rattle.vcode.specs.declared.line.Line.{Line as ALine};
 ghost use Rattle.vcode.specs.Named.{operand_keeps, is_below};
-ghost use Rattle.hoisting.specs.Longer.{is_extra, IsLonger, AllLonger};
+ghost use Rattle.hoisting.specs.Longer.{is_extra, AreLonger, with_front, IsLonger, AllLonger};
 
-use hoisting_choice::choose::Plan;
+use hoisting_choice::choose::{BlockPlans, Plan};
 use il_ast::list::Seq;
 use std::alloc::{AllocError, Global};
 use vcode::code::Block;
@@ -71,46 +71,114 @@ fn push_lines(alloc: Global, to: &mut Vec<Line<u32>>, lines: &[Line<u32>]) -> Re
     Ok(())
 }
 
-/// The block with these lines behind its own.
-fn with_lines(
-    alloc: Global,
-    from: &Block<u32>,
-    extra: &[Line<u32>],
-) -> Result<Block<u32>, AllocError>
-    ensures lines { IfOk result (λ d. d.lines ≡ from.now.lines ++ extra.now) }
-    ensures jump { IfOk result (λ d. d.jump ≡ from.now.jump) }
+/// The line that is planned in front of the line with this number, if it fits.
+fn front(registers: Registers, plans: &[Option<Plan>], number: usize) -> Option<Line<u32>>
+    ensures { IfSome result (λ m. is_extra registers.before registers.after m ≡ true) }
 {
-    let mut lines = Vec::with_capacity(alloc, from.lines.len())?;
-    push_lines(alloc, &mut lines, from.lines.as_slice())?;
-    push_lines(alloc, &mut lines, extra)?;
-    Ok(Block {
-        lines: Seq::from_vec(lines),
-        jump: from.jump,
-    })
+    match plans.get(number) {
+        Some(Some(plan)) => {
+            let line = plan.line();
+            if is_extra(registers, &line) {
+                Some(line)
+            } else {
+                None
+            }
+        }
+        _ => None,
+    }
 }
 
-fn plans_at(plans: &[Vec<Plan>], block: usize) -> &[Plan] {
-    match plans.get(block) {
-        Some(plans) => plans.as_slice(),
-        None => &[],
+fn push_with_front(
+    alloc: Global,
+    to: &mut Vec<Line<u32>>,
+    front: Option<Line<u32>>,
+    line: &Line<u32>,
+) -> Result<(), AllocError>
+    ensures { OnOk result (to.new.items ≡ to.old.items ++ with_front front line.now) }
+{
+    if let Some(front) = front {
+        to.push(front)?;
     }
+    to.push(line.try_clone(alloc)?)?;
+    Ok(())
+}
+
+/// The lines, with those that are planned in front of them.
+fn with_fronts(
+    alloc: Global,
+    registers: Registers,
+    plans: &[Option<Plan>],
+    from: &[Line<u32>],
+) -> Result<Vec<Line<u32>>, AllocError>
+    ensures { IfOk result (λ v. AreLonger registers.before registers.after from.now v.items) }
+{
+    let mut lines = Vec::with_capacity(alloc, from.len())?;
+    for (number, line) in from.iter().enumerate() {
+        push_with_front(alloc, &mut lines, front(registers, plans, number), line)?;
+    }
+    Ok(lines)
+}
+
+/// The lines, with those that are planned in front of them and behind them all.
+fn longer_lines(
+    alloc: Global,
+    registers: Registers,
+    plans: &BlockPlans,
+    from: &[Line<u32>],
+) -> Result<Vec<Line<u32>>, AllocError>
+    ensures { IfOk result (λ v. AreLonger registers.before registers.after from.now v.items) }
+{
+    let extra = extra(alloc, registers, plans.behind.as_slice())?;
+    let mut lines = with_fronts(alloc, registers, plans.in_front.as_slice(), from)?;
+    push_lines(alloc, &mut lines, extra.as_slice())?;
+    Ok(lines)
 }
 
 /// The block with the lines that are planned for it, if its ticks pay for them.
 fn longer(
     alloc: Global,
     registers: Registers,
-    plans: &[Plan],
+    plans: &BlockPlans,
     from: &Block<u32>,
 ) -> Result<Block<u32>, AllocError>
     ensures { IfOk result (λ d. IsLonger registers.before registers.after from.now d) }
 {
-    let extra = extra(alloc, registers, plans)?;
-    let block = with_lines(alloc, from, extra.as_slice())?;
+    let lines = longer_lines(alloc, registers, plans, from.lines.as_slice())?;
+    let block = Block {
+        lines: Seq::from_vec(lines),
+        jump: from.jump,
+    };
     if is_paid(&block) {
         Ok(block)
     } else {
-        with_lines(alloc, from, &[])
+        copy(alloc, from)
+    }
+}
+
+/// The same block.
+fn copy(alloc: Global, from: &Block<u32>) -> Result<Block<u32>, AllocError>
+    ensures { IfOk result (λ d. d ≡ from.now) }
+{
+    let mut lines = Vec::with_capacity(alloc, from.lines.len())?;
+    push_lines(alloc, &mut lines, from.lines.as_slice())?;
+    Ok(Block {
+        lines: Seq::from_vec(lines),
+        jump: from.jump,
+    })
+}
+
+fn planned(
+    alloc: Global,
+    registers: Registers,
+    plans: &[BlockPlans],
+    number: usize,
+    from: &Block<u32>,
+) -> Result<Block<u32>, AllocError>
+    ensures { IfOk result (λ d. IsLonger registers.before registers.after from.now d) }
+{
+    match plans.get(number) {
+        Some(plans) => longer(alloc, registers, plans, from),
+        None => copy(alloc, from),
     }
 }
 
@@ -122,14 +190,14 @@ fn longer(
 pub(crate) fn all_longer(
     alloc: Global,
     registers: Registers,
-    plans: &[Vec<Plan>],
+    plans: &[BlockPlans],
     from: &[Block<u32>],
 ) -> Result<Vec<Block<u32>>, AllocError>
     ensures { IfOk result (λ v. AllLonger registers.before registers.after from.now v.items) }
 {
     let mut made = Vec::with_capacity(alloc, from.len())?;
     for (number, block) in from.iter().enumerate() {
-        made.push(longer(alloc, registers, plans_at(plans, number), block)?)?;
+        made.push(planned(alloc, registers, plans, number, block)?)?;
     }
     Ok(made)
 }

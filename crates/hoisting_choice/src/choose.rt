@@ -1,6 +1,7 @@
 //! Plans for computations in front of loops.
 use crate::credit::credit;
 use crate::growing::{Linear, find_growth, plan_steps, product_of};
+use crate::halves::plan_halves;
 use crate::nests::{Nest, nests_of};
 use crate::reads::count_reads;
 use crate::written::{Spot, Written};
@@ -397,33 +398,55 @@ fn credits(alloc: Global, blocks: &[Block<u32>]) -> Result<Vec<u128>, AllocError
     Ok(credits)
 }
 
-/// Which computations are done at the ends of blocks, in an order in which each stands behind those that it reads, and how many registers there are with theirs.
+/// What is computed in a block besides its own lines.
+#[derive(Drop)]
+pub struct BlockPlans {
+    /// in front of each line, or nothing at all
+    pub in_front: Vec<Option<Plan>>,
+
+    /// behind the lines, in an order in which each stands behind those that it reads
+    pub behind: Vec<Plan>,
+}
+
+/// Which computations are done in the blocks, and how many registers there are with theirs.
 #[derive(Drop)]
 pub struct Choice {
-    pub blocks: Vec<Vec<Plan>>,
+    pub blocks: Vec<BlockPlans>,
     pub registers: u32,
 }
 
-fn push_to(blocks: &mut [Vec<Plan>], plan: Plan) -> Result<(), AllocError> {
+fn push_to(blocks: &mut [BlockPlans], plan: Plan) -> Result<(), AllocError> {
     match blocks.get_mut(plan.block) {
-        Some(plans) => plans.extend_from_slice(&[plan]),
+        Some(plans) => plans.behind.extend_from_slice(&[plan]),
         None => Ok(()),
     }
 }
 
-/// The plans, block by block.
-fn by_block(alloc: Global, plans: &[Plan], blocks: usize) -> Result<Vec<Vec<Plan>>, AllocError> {
-    let mut lists = Vec::with_capacity(alloc, blocks)?;
-    for _ in 0..blocks {
-        lists.push(Vec::new(alloc))?;
-    }
-    for plan in plans {
-        push_to(lists.as_mut_slice(), *plan)?;
+/// The plans, block by block; with those for the lines of each block.
+fn by_block(
+    alloc: Global,
+    plans: &mut Plans,
+    blocks: &[Block<u32>],
+) -> Result<Vec<BlockPlans>, AllocError> {
+    let mut lists = Vec::with_capacity(alloc, blocks.len())?;
+    for (number, block) in blocks.iter().enumerate() {
+        lists.push(BlockPlans {
+            in_front: plan_halves(alloc, plans, number, block)?,
+            behind: Vec::new(alloc),
+        })?;
     }
     Ok(lists)
 }
 
-/// Computations for the ends of blocks in front of loops; none where there is nothing to do.
+/// Each plan to the end of its block.
+fn push_plans(blocks: &mut [BlockPlans], plans: &[Plan]) -> Result<(), AllocError> {
+    for plan in plans {
+        push_to(blocks, *plan)?;
+    }
+    Ok(())
+}
+
+/// Computations for the ends of blocks in front of loops, and for extensions that are shifted to the left; none where there is nothing to do.
 ///
 /// # Errors
 ///
@@ -445,10 +468,11 @@ pub fn choose_plans(alloc: Global, function: &VFunc) -> Result<Option<Choice>, A
             plan_nest(&mut plans, &mut written, reads.as_slice(), blocks, nest)?;
         }
     }
-    if plans.list.len() == 0 {
+    let mut lists = by_block(alloc, &mut plans, blocks)?;
+    if plans.next == function.registers {
         return Ok(None);
     }
-    let lists = by_block(alloc, plans.list.as_slice(), blocks.len())?;
+    push_plans(lists.as_mut_slice(), plans.list.as_slice())?;
     Ok(Some(Choice {
         blocks: lists,
         registers: plans.next,

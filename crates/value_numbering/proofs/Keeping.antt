@@ -1,7 +1,8 @@
 -- Code that uses values again takes what the code took, and names the registers of the function.
-use Rattle.std.proofs.Common.{◌≡◌, ℕ, ◌+◌, ◌<◌, ◌≤◌, Bool, true, false, ◌&&◌, if◌then◌else◌, List, [], ◌∷◌, Some, refl, sym, ◌∙◌, ap, subst, arith}
+use Rattle.std.proofs.Common.{◌≡◌, ℕ, ◌+◌, ◌<◌, ◌≤◌, Bool, true, false, ◌&&◌, ◌||◌, nat_lt, nat_le, ◌-◌, ◌%◌, ◌^◌, if◌then◌else◌, List, [], ◌∷◌, Some, refl, sym, ◌∙◌, ap, subst, arith}
 use Rattle.std.specs.List.{list_all}
 use Rattle.std.proofs.lemmas.Bool.{and_parts, and_from, lt-ltb}
+use Rattle.std.proofs.lemmas.Bool.Decides.{nat_tests}
 use Rattle.vcode.specs.declared.place.Operand.{Operand}
 use Rattle.vcode.specs.declared.place.Operand.TheVariants.{At, Number, Name}
 use Rattle.vcode.specs.declared.line.Operation.{Operation}
@@ -11,7 +12,7 @@ use Rattle.vcode.specs.declared.line.Line.TheVariants.{Tick, Set, Operate, Load,
 use Rattle.vcode.specs.declared.line.Jump.{Jump}
 use Rattle.vcode.specs.declared.code.Block.{Block}
 use Rattle.vcode.specs.declared.function.VFunc.{VFunc}
-use Rattle.rv_isa.specs.declared.instruction.RegOp.TheVariants.{Add}
+use Rattle.rv_isa.specs.declared.instruction.RegOp.TheVariants.{Add, Sll, Srl}
 use Rattle.vcode.specs.Cost.{operand_cost, operation_cost, line_cost, jump_cost, is_immediate}
 use Rattle.vcode.specs.Named.{operand_keeps, line_keeps, jump_keeps, is_below}
 use Rattle.vcode.specs.Addresses.{distance}
@@ -21,12 +22,15 @@ use Rattle.vcode.specs.Becomes.{with_these}
 use Rattle.vcode.proofs.Results.{Serves, Owed, owed_each}
 use Rattle.value_numbering.specs.declared.fact.Expression.TheVariants.{Same, Loaded}
 use Rattle.value_numbering.specs.declared.fact.Fact.{Fact}
-use Rattle.value_numbering.specs.Known.{computed}
+use Rattle.value_numbering.specs.Known.{computed, source}
 use Rattle.value_numbering.specs.Steps.{after}
 use Rattle.il_ast.specs.declared.operation.Size.{Size}
 use Rattle.vcode.specs.declared.place.Address.{Address}
 use Rattle.value_numbering.specs.Narrow.{IsNarrow}
-use Rattle.value_numbering.specs.Reused.{Made, Itself, Copy, Narrow, FirstRegrouped, SecondRegrouped, Again, is_dear, is_no_number, claims_at, AreReused, IsReused, AllReused}
+use Rattle.value_numbering.specs.Extensions.{is_base}
+use Rattle.value_numbering.specs.Shifts.{IsHalfway}
+use Rattle.rv_isa.specs.declared.instruction.LoadOp.{LoadOp}
+use Rattle.value_numbering.specs.Reused.{Made, Itself, Copy, Narrow, FirstRegrouped, SecondRegrouped, Halfway, Reloaded, Again, is_dear, is_no_number, claims_at, AreReused, IsReused, AllReused}
 use Rattle.value_numbering.proofs.Running.{runs}
 
 -- ---- what lines take
@@ -36,6 +40,8 @@ measure_same n facts l m Itself = refl
 measure_same n facts l m (Narrow is low) = refl
 measure_same n facts l m (FirstRegrouped is) = refl
 measure_same n facts l m (SecondRegrouped is) = refl
+measure_same n facts l m (Halfway is) = refl
+measure_same n facts l m (Reloaded is) = refl
 measure_same n facts l m (Again {k = k} first second) = measure_same n facts k m second ∙ measure_same n facts l k first
 measure_same n facts (Set to a) m (Copy is dear low known) = refl
 measure_same n facts (Operate to op a b) m (Copy is dear low known) = refl
@@ -88,11 +94,41 @@ narrow_cost facts size (At r) at q is = itself_least (line_cost (Store size (At 
 narrow_cost facts size (Number k) at q is = absurd is
 narrow_cost facts size (Name g) at q is = absurd is
 
+-- a number below 64 is an immediate
+shift_cost : (n : ℕ) → n < 64 → (let a : Operand ℕ = Number n in operand_cost a) ≡ 1
+shift_cost n few =
+    let low : nat_lt (n % 2 ^ 64) 2048 ≡ true = grind (arith, nat_tests) in ap (λ (b : Bool). if b || nat_le (2 ^ 64 - 2048) (n % 2 ^ 64) then 1 else 9) low
+
+halfway_cost : (n : ℕ) (facts : List Fact) (to r y by whole rest : ℕ) → IsHalfway n facts r by whole rest
+    → line_cost (let l : Line ℕ = Operate to (Reg Srl) (At whole) (Number rest) in l) ≤ line_cost (let l : Line ℕ = Operate to (Reg Sll) (At y) (Number by) in l)
+halfway_cost n facts to r y by whole rest is =
+    let bits : ℕ = is.bits in
+    let within : bits < 64 = is.within in
+    let left : rest ≡ bits - by = is.left in
+    let low : rest < 64 = omega (arith, within, left) in
+    let cost = shift_cost rest low in
+    let least = operand_least (Number by) in omega (arith, cost, least)
+
+base_cost : (n : ℕ) (a : Operand ℕ) → is_base n a ≡ true → operand_cost a ≤ 3
+base_cost n (At r) h = omega arith
+base_cost n (Name g) h = omega arith
+base_cost n (Number k) h = absurd (let no : ⊥ = cc in no)
+
+reloaded_cost : (n to y k : ℕ) (o : Operation) (op : LoadOp) (at : Address ℕ) → is_base n at.base ≡ true → line_cost (let l : Line ℕ = Load to op at in l) ≤ line_cost (let l : Line ℕ = Operate to o (At y) (Number k) in l)
+reloaded_cost n to y k o op at base = let most = base_cost n at.base base in let x = operand_least (Number k) in let z = operation_least o in omega (arith, most, x, z)
+
+base_low : (n : ℕ) (a : Operand ℕ) → is_base n a ≡ true → operand_keeps (is_below n) a ≡ true
+base_low n (At r) h = h
+base_low n (Name g) h = refl
+base_low n (Number k) h = refl
+
 cost_less : (n : ℕ) (facts : List Fact) (l m : Line ℕ) → Made n facts l m → line_cost m ≤ line_cost l
 cost_less n facts l m Itself = itself_least (line_cost l)
 cost_less n facts l m (Narrow {size = size} {a = a} {at = at} {q = q} is low) = narrow_cost facts size a at q is
 cost_less n facts l m (FirstRegrouped is) = omega arith
 cost_less n facts l m (SecondRegrouped is) = omega arith
+cost_less n facts l m (Halfway {to = to} {y = y} {by = by} {whole = whole} {rest = rest} is) = halfway_cost n facts to (source facts y) y by whole rest is
+cost_less n facts l m (Reloaded {to = to} {y = y} {k = k} {o = o} {op = op} {at = at} is) = reloaded_cost n to y k o op at is.base
 cost_less n facts l m (Again {k = k} first second) =
     let x = cost_less n facts k m second in let y = cost_less n facts l k first in at_most (line_cost m) (line_cost k) (line_cost l) x y
 cost_less n facts l m (Copy {f = f} is dear low known) = let x = dear_of l f is dear in omega (arith, x)
@@ -124,6 +160,8 @@ made_low n facts l m Itself h = h
 made_low n facts l m (Narrow {size = size} {a = a} {at = at} {q = q} is low) h = and_from (is_below n q) (operand_keeps (is_below n) at.base) (lt-ltb q n low) (and_parts (operand_keeps (is_below n) a) (operand_keeps (is_below n) at.base) h).1
 made_low n facts l m (FirstRegrouped {to = to} {part = part} {rest = rest} is) h = sum_low n to part rest (and_parts (is_below n to) _ h).0 is.first is.second
 made_low n facts l m (SecondRegrouped {to = to} {part = part} {rest = rest} is) h = sum_low n to part rest (and_parts (is_below n to) _ h).0 is.first is.second
+made_low n facts l m (Halfway {to = to} {whole = whole} is) h = and_from (is_below n to) (is_below n whole && true) (and_parts (is_below n to) _ h).0 (and_from (is_below n whole) true (lt-ltb whole n is.low) refl)
+made_low n facts l m (Reloaded {to = to} {at = at} is) h = and_from (is_below n to) (operand_keeps (is_below n) at.base) (and_parts (is_below n to) _ h).0 (base_low n at.base is.base)
 made_low n facts l m (Again {k = k} first second) h = made_low n facts k m second (made_low n facts l k first h)
 made_low n facts l m (Copy {f = f} {r = r} is dear low known) h = and_from (is_below n f.register) (is_below n r) (writes_low n l f is h) (lt-ltb r n low)
 

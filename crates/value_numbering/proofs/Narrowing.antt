@@ -1,11 +1,10 @@
 -- A store of a register whose low bits are another's writes what a store of that one does.
-use Rattle.std.proofs.Common.{◌≡◌, ℕ, ◌*◌, ◌/◌, ◌%◌, ◌^◌, ◌<◌, ◌≤◌, Bool, true, false, ◌&&◌, nat_eq, nat_lt, if◌then◌else◌, List, [], ◌∷◌, Option, Some, None, refl, sym, ◌∙◌, ap, subst, arith}
+use Rattle.std.proofs.Common.{◌≡◌, ℕ, ◌*◌, ◌/◌, ◌%◌, ◌^◌, Bool, true, false, ◌&&◌, nat_eq, if◌then◌else◌, List, [], ◌∷◌, Option, Some, None, refl, sym, ◌∙◌, ap, subst, arith}
 use Rattle.std.specs.Prelude.{bit_and}
-use Rattle.std.specs.Int.{w32, w64, cast_signed, cast_unsigned, int_shr}
+use Rattle.std.specs.Int.{w64, cast_signed, cast_unsigned, int_shr}
 use Rattle.std.specs.Option.{option_and_then}
-use Rattle.std.proofs.lemmas.Bool.{and_parts, eqb-true}
-use Rattle.std.proofs.lemmas.Nat.{and_mask, and_le_r, div_below, pow_below}
-use Rattle.std.proofs.lemmas.Bool.Decides.{nat_tests}
+use Rattle.std.proofs.lemmas.Bool.{eqb-true}
+use Rattle.std.proofs.lemmas.Nat.{and_mask}
 use Rattle.std.proofs.lemmas.Int.{ints}
 use Rattle.il_ast.specs.declared.value.Value.{Value}
 use Rattle.il_ast.specs.declared.value.Value.TheVariants.{Integer, Pointer, Function}
@@ -16,27 +15,22 @@ use Rattle.il_ast.specs.declared.operation.Class.TheVariants.{W}
 use Rattle.il_ast.specs.declared.operation.Size.{Size}
 use Rattle.il_ast.specs.declared.operation.Size.TheVariants.{Byte, Half, Word, Long}
 use Rattle.il_ast.specs.Values.{in_place, byte_count}
-use Rattle.il_ast.specs.Memory.{Memory, load, store, cells_for, write_at}
+use Rattle.il_ast.specs.Memory.{Memory, store, cells_for, write_at}
 use Rattle.il_ast.specs.Effect.{stored_class}
 use Rattle.rv_isa.specs.declared.instruction.RegOp.{RegOp}
 use Rattle.rv_isa.specs.declared.instruction.RegOp.TheVariants.{Add, Sub, Sll, Slt, Sltu, Xor, Srl, Sra, Or, And, Mul, Mulh, Mulhsu, Mulhu, Div, Divu, Rem, Remu}
-use Rattle.rv_isa.specs.declared.instruction.RegWOp.TheVariants.{Addw, Subw, Sllw, Srlw, Sraw, Mulw, Divw, Divuw, Remw, Remuw}
-use Rattle.rv_isa.specs.declared.instruction.LoadOp.{LoadOp}
-use Rattle.rv_isa.specs.declared.instruction.LoadOp.TheVariants.{Lb, Lh, Lw, Ld, Lbu, Lhu, Lwu}
-use Rattle.rv_isa.specs.Step.{load_size}
-use Rattle.rv_isa.specs.Arithmetic.{regw_value}
 use Rattle.vcode.specs.declared.place.Operand.TheVariants.{At, Number, Name}
 use Rattle.vcode.specs.declared.place.Address.{Address}
 use Rattle.vcode.specs.declared.line.Operation.TheVariants.{Reg, RegW, Compare}
 use Rattle.vcode.specs.declared.line.Line.TheVariants.{Store}
-use Rattle.vcode.specs.Operations.{operate, loaded, extended}
+use Rattle.vcode.specs.Operations.{operate}
 use Rattle.vcode.specs.Places.{Values}
-use Rattle.vcode.specs.Step.{value_of, operated, address_of}
-use Rattle.vcode.specs.Acts.{Gives, given, left, act}
+use Rattle.vcode.specs.Step.{operated, address_of}
+use Rattle.vcode.specs.Acts.{Gives, left, act}
 use Rattle.value_numbering.specs.declared.fact.Expression.{Expression}
 use Rattle.value_numbering.specs.declared.fact.Expression.TheVariants.{Same, Operated, Extended, Loaded, Linear, Growing}
-use Rattle.value_numbering.specs.Known.{gives, reached, is_back, first_of}
-use Rattle.value_numbering.specs.Narrow.{extended_from, masked_from, low_of, loads_zeros, is_small}
+use Rattle.value_numbering.specs.Known.{gives, is_back, first_of}
+use Rattle.value_numbering.specs.Narrow.{extended_from, masked_from, low_of}
 
 -- ---- numbers
 
@@ -268,123 +262,3 @@ narrow_same globals m values Byte e q r at h is = ap left (narrow_storing m Byte
 narrow_same globals m values Half e q r at h is = ap left (narrow_storing m Half (address_of globals m values at) (values q) (values r) refl (is_extended globals m values Half e q r h is))
 narrow_same globals m values Word e q r at h is = ap left (narrow_storing m Word (address_of globals m values at) (values q) (values r) refl (is_extended globals m values Word e q r h is))
 narrow_same globals m values Long e q r at h is = absurd (let no : ⊥ = cc in no)
-
--- ---- numbers below 2^32
-
-abbrev IsBelow : Option Value → Type 0
-IsBelow (Some (Integer n)) = n < 2 ^ 32
-IsBelow (Some (Pointer b k)) = ⊥
-IsBelow (Some (Function g)) = ⊥
-IsBelow None = Unit {0}
-
-masked_below : (m : Memory) (n : ℕ) → n < 2 ^ 32 → (o : Option Value) → IsBelow (operated m (Reg And) o (Some (Integer (n % 2 ^ 64))))
-unfolding operate
-masked_below m n small (Some (Integer k)) = let least : bit_and k (n % 2 ^ 64) ≤ n % 2 ^ 64 = and_le_r k (n % 2 ^ 64) in omega (arith, least, small)
-masked_below m n small (Some (Pointer b k)) = tt
-masked_below m n small (Some (Function g)) = tt
-masked_below m n small None = tt
-
-word_stands : (n : ℕ) → n < 2 ^ 31 → cast_unsigned w64 (cast_signed w32 n) ≡ n
-word_stands n h = grind (arith, ints)
-
-half_below : (k n : ℕ) → 0 < n → k < 2 ^ 32 → k / 2 ^ n < 2 ^ 31
-half_below k n some low =
-    let two : 2 ^ 0 < 2 ^ n = pow_below 0 n some in
-    div_below k (2 ^ n) (2 ^ 31) (omega (arith, two)) (omega (arith, two, low))
-
-shifted_below : (m : Memory) (n : ℕ) → 0 < n → n < 32 → (o : Option Value) → IsBelow (operated m (RegW Srlw) o (Some (Integer (n % 2 ^ 64))))
-unfolding operate
-shifted_below m n some few (Some (Integer k)) =
-    let by : n % 2 ^ 64 % 2 ^ 32 % 32 ≡ n = omega (arith, few) in
-    let small : k % 2 ^ 32 / 2 ^ n < 2 ^ 31 = half_below (k % 2 ^ 32) n some (omega arith) in
-    let same : regw_value Srlw k (n % 2 ^ 64) ≡ k % 2 ^ 32 / 2 ^ n = ap (λ (j : ℕ). cast_unsigned w64 (cast_signed w32 (k % 2 ^ 32 / 2 ^ j))) by ∙ word_stands (k % 2 ^ 32 / 2 ^ n) small in
-    subst (λ (x : ℕ). x < 2 ^ 32) (sym same) (omega (arith, small))
-shifted_below m n some few (Some (Pointer b k)) = tt
-shifted_below m n some few (Some (Function g)) = tt
-shifted_below m n some few None = tt
-
-extended_below : (op : LoadOp) → loads_zeros op ≡ true → (v : Value) → IsBelow (extended op v)
-extended_below Lbu h (Integer n) = omega arith
-extended_below Lhu h (Integer n) = omega arith
-extended_below Lwu h (Integer n) = omega arith
-extended_below Lbu h (Pointer b k) = tt
-extended_below Lbu h (Function g) = tt
-extended_below Lhu h (Pointer b k) = tt
-extended_below Lhu h (Function g) = tt
-extended_below Lwu h (Pointer b k) = tt
-extended_below Lwu h (Function g) = tt
-extended_below Lb h v = absurd (let no : ⊥ = cc in no)
-extended_below Lh h v = absurd (let no : ⊥ = cc in no)
-extended_below Lw h v = absurd (let no : ⊥ = cc in no)
-extended_below Ld h v = absurd (let no : ⊥ = cc in no)
-
-loaded_below : (m : Memory) (op : LoadOp) → loads_zeros op ≡ true → (o : Option Value) → IsBelow (option_and_then (loaded m op) o)
-unfolding loaded
-loaded_below m op h None = tt
-loaded_below m op h (Some p) = by (load m (load_size op) p)
-  where
-    by : (o : Option Value) → IsBelow (option_and_then (extended op) o)
-    by None = tt
-    by (Some v) = extended_below op h v
-
-given_below : (o p : Option Value) → IsBelow o → given o ≡ Gives p → IsBelow p
-given_below None p low h = absurd (let no : ⊥ = cc in no)
-given_below (Some v) p low h = subst IsBelow (gives_one (Some v) p h) low
-
-small_below : (globals : List Value) (m : Memory) (values : Values ℕ) (e : Expression) (r : ℕ) → is_small e ≡ true → gives globals m values e ≡ Gives (values r) → IsBelow (values r)
-small_below globals m values (Operated (Reg And) a (Number n)) r h is =
-    let low : n < 2 ^ 32 = grind (arith, nat_tests) in
-    subst IsBelow (gives_one (operated m (Reg And) (value_of globals values a) (Some (Integer (n % 2 ^ 64)))) (values r) is) (masked_below m n low (value_of globals values a))
-small_below globals m values (Operated (Reg And) a (At q)) r h is = absurd (let no : ⊥ = cc in no)
-small_below globals m values (Operated (Reg And) a (Name q)) r h is = absurd (let no : ⊥ = cc in no)
-small_below globals m values (Operated (RegW Srlw) a (Number n)) r h is =
-    let s = and_parts (nat_lt 0 n) (nat_lt n 32) h in
-    let some : 0 < n = let t = s.0 in grind (arith, nat_tests) in
-    let few : n < 32 = let t = s.1 in grind (arith, nat_tests) in
-    subst IsBelow (gives_one (operated m (RegW Srlw) (value_of globals values a) (Some (Integer (n % 2 ^ 64)))) (values r) is) (shifted_below m n some few (value_of globals values a))
-small_below globals m values (Operated (RegW Srlw) a (At q)) r h is = absurd (let no : ⊥ = cc in no)
-small_below globals m values (Operated (RegW Srlw) a (Name q)) r h is = absurd (let no : ⊥ = cc in no)
-small_below globals m values (Loaded op a d) r h is =
-    given_below (option_and_then (loaded m op) (reached globals m values a d)) (values r) (loaded_below m op h (reached globals m values a d)) is
-small_below globals m values (Operated (Reg Add) a b) r h is = absurd (let no : ⊥ = cc in no)
-small_below globals m values (Operated (Reg Sub) a b) r h is = absurd (let no : ⊥ = cc in no)
-small_below globals m values (Operated (Reg Sll) a b) r h is = absurd (let no : ⊥ = cc in no)
-small_below globals m values (Operated (Reg Slt) a b) r h is = absurd (let no : ⊥ = cc in no)
-small_below globals m values (Operated (Reg Sltu) a b) r h is = absurd (let no : ⊥ = cc in no)
-small_below globals m values (Operated (Reg Xor) a b) r h is = absurd (let no : ⊥ = cc in no)
-small_below globals m values (Operated (Reg Srl) a b) r h is = absurd (let no : ⊥ = cc in no)
-small_below globals m values (Operated (Reg Sra) a b) r h is = absurd (let no : ⊥ = cc in no)
-small_below globals m values (Operated (Reg Or) a b) r h is = absurd (let no : ⊥ = cc in no)
-small_below globals m values (Operated (Reg Mul) a b) r h is = absurd (let no : ⊥ = cc in no)
-small_below globals m values (Operated (Reg Mulh) a b) r h is = absurd (let no : ⊥ = cc in no)
-small_below globals m values (Operated (Reg Mulhsu) a b) r h is = absurd (let no : ⊥ = cc in no)
-small_below globals m values (Operated (Reg Mulhu) a b) r h is = absurd (let no : ⊥ = cc in no)
-small_below globals m values (Operated (Reg Div) a b) r h is = absurd (let no : ⊥ = cc in no)
-small_below globals m values (Operated (Reg Divu) a b) r h is = absurd (let no : ⊥ = cc in no)
-small_below globals m values (Operated (Reg Rem) a b) r h is = absurd (let no : ⊥ = cc in no)
-small_below globals m values (Operated (Reg Remu) a b) r h is = absurd (let no : ⊥ = cc in no)
-small_below globals m values (Operated (RegW Addw) a b) r h is = absurd (let no : ⊥ = cc in no)
-small_below globals m values (Operated (RegW Subw) a b) r h is = absurd (let no : ⊥ = cc in no)
-small_below globals m values (Operated (RegW Sllw) a b) r h is = absurd (let no : ⊥ = cc in no)
-small_below globals m values (Operated (RegW Sraw) a b) r h is = absurd (let no : ⊥ = cc in no)
-small_below globals m values (Operated (RegW Mulw) a b) r h is = absurd (let no : ⊥ = cc in no)
-small_below globals m values (Operated (RegW Divw) a b) r h is = absurd (let no : ⊥ = cc in no)
-small_below globals m values (Operated (RegW Divuw) a b) r h is = absurd (let no : ⊥ = cc in no)
-small_below globals m values (Operated (RegW Remw) a b) r h is = absurd (let no : ⊥ = cc in no)
-small_below globals m values (Operated (RegW Remuw) a b) r h is = absurd (let no : ⊥ = cc in no)
-small_below globals m values (Operated (Compare on k) a b) r h is = absurd (let no : ⊥ = cc in no)
-small_below globals m values (Extended op a k) r h is = absurd (let no : ⊥ = cc in no)
-small_below globals m values (Same a) r h is = absurd (let no : ⊥ = cc in no)
-small_below globals m values (Linear b i c o) r h is = absurd (let no : ⊥ = cc in no)
-small_below globals m values (Growing a n) r h is = absurd (let no : ⊥ = cc in no)
-
-stays_itself : (m : Memory) (o : Option Value) → IsBelow o → twice m Srl 32 o ≡ o
-unfolding operate
-stays_itself m (Some (Integer n)) low = let same : n * 2 ^ 32 % 2 ^ 64 / 2 ^ 32 ≡ n = omega (arith, low) in ap (λ (k : ℕ). Some (Integer k)) same
-stays_itself m (Some (Pointer b k)) low = absurd low
-stays_itself m (Some (Function g)) low = absurd low
-stays_itself m None low = refl
-
-pub itself_same : (globals : List Value) (m : Memory) (values : Values ℕ) (e : Expression) (r : ℕ) → is_small e ≡ true → gives globals m values e ≡ Gives (values r)
-    → gives globals m values (Extended Srl (At r) 32) ≡ Gives (values r)
-itself_same globals m values e r h is = ap Gives (stays_itself m (values r) (small_below globals m values e r h is))

@@ -36,7 +36,7 @@ use Rattle.vcode.specs.Places.{Values, virtual, unknown}
 use Rattle.vcode.specs.Coded.{classes_in}
 use Rattle.vcode.specs.Step.{begin, step, bound, value_of, operated, address_of, read_result}
 use Rattle.vcode.specs.Writes.{line_writes}
-use Rattle.vcode.specs.Acts.{Act, Fails, Gives, given, act, written, way, entering, answering}
+use Rattle.vcode.specs.Acts.{Act, Gives, given, act, written, way, entering, answering}
 use Rattle.vcode.specs.Follows.{Alike, Follows, Jumps, Both}
 use Rattle.vcode.specs.Facts.{Facts as About, claimed}
 use Rattle.vcode.proofs.Alike.{MayLeave}
@@ -50,13 +50,17 @@ use Rattle.value_numbering.specs.declared.steps.Multiple.{Multiple}
 use Rattle.value_numbering.specs.declared.steps.Increment.{Increment}
 use Rattle.value_numbering.specs.declared.ways.Order.{Order}
 use Rattle.value_numbering.specs.Known.{reached, linear, grows, only_if, gives, IsTrueOf, computed, names, reads, asks_memory, changes_memory, spares, stays, copied_from, source_by, source, copied, shifted_in, first_of, shifted, is_back, extended_by, grows_as, grows_in, widened, joined, canonical, is_plain, kept_fact, known_by}
-use Rattle.value_numbering.specs.Steps.{product_in, product, product_of, beyond, linear_in, linear_note, stands, word_in, is_word, is_word_by, is_own, word_of, makes_word, word_note, noted, other_by, added_to, ahead, growth, increment_of, increment_by, further, behind, with_offset, moved_linear, moved, if_stays, with_front, carried, kept, with_fact, after}
+use Rattle.value_numbering.specs.Steps.{product_in, product, product_of, beyond, linear_in, linear_note, word_in, is_word, is_word_by, is_own, word_of, makes_word, word_note, noted, other_by, added_to, ahead, growth, increment_of, increment_by, further, behind, with_offset, moved_linear, moved, if_stays, with_front, carried, kept, with_fact, after}
 use Rattle.value_numbering.proofs.Counting.{number, nothing_more, whole_grows, index_grows, shift_is_product, IsWord, word_given, number_stands, word_again, grown_same, grown_word, Less, LessLong, less_grows, less_long_grows}
-use Rattle.value_numbering.proofs.Narrowing.{narrow_same, itself_same}
+use Rattle.value_numbering.proofs.Narrowing.{narrow_same}
+use Rattle.value_numbering.specs.Extensions.{other_way}
+use Rattle.value_numbering.proofs.Extending.{itself_same, reloaded_same}
 use Rattle.value_numbering.specs.Narrow.{IsNarrow}
 use Rattle.value_numbering.specs.Regrouped.{Adds, IsSum, InOrder, Turned, IsRegrouped}
 use Rattle.value_numbering.proofs.Regrouping.{turned as sum_turned, regrouped}
-use Rattle.value_numbering.specs.Reused.{IsIn, Holds, Found, Small, Counted, Made, Itself, Copy, Narrow, FirstRegrouped, SecondRegrouped, Again, claims_at, order_met, order_missed, IsKnown, Listed, OfCopies, Bounded, is_limit, limits, bounds, AllKnown, LeadsWell, AreReused, AllReused}
+use Rattle.value_numbering.specs.Shifts.{IsHalfway}
+use Rattle.value_numbering.proofs.Shifting.{less_back}
+use Rattle.value_numbering.specs.Reused.{Holds, Found, Already, Counted, Made, Itself, Copy, Narrow, FirstRegrouped, SecondRegrouped, Halfway, Reloaded, Again, claims_at, order_met, order_missed, IsKnown, Listed, OfCopies, Bounded, is_limit, limits, bounds, AllKnown, LeadsWell, AreReused, AllReused}
 
 -- ---- all facts are true
 
@@ -511,9 +515,9 @@ computes globals m values (Call to callee args) f h = absurd (let no : ⊥ = cc 
 
 holds_true : (globals : List Value) (m : Memory) (values : Values ℕ) (facts : List Fact) (r : ℕ) (e : Expression) → AreTrue globals m values facts → Holds facts r e → gives globals m values e ≡ Gives (values r)
 holds_true globals m values facts r e all (Found is) = true_at globals m values facts is.0 (record { register = r; value = e }) all is.1
-holds_true globals m values facts r e all (Small is) =
-    let known = is.1 in
-    ap (gives globals m values) is.0 ∙ itself_same globals m values known.1 r known.2.1 (true_at globals m values facts known.0 (record { register = r; value = known.1 }) all known.2.0)
+holds_true globals m values facts r e all (Already is) =
+    let held = is.1.1 in
+    itself_same globals m values is.0 e held.0 r is.1.0 held.1.1 (true_at globals m values facts held.1.0.0 (record { register = r; value = held.0 }) all held.1.0.1)
 holds_true globals m values facts r e all (Counted {l = l} is found) =
     sym (linear_same globals m values facts all e l is) ∙ true_at globals m values facts found.0 (record { register = r; value = l }) all found.1
 
@@ -535,6 +539,22 @@ regrouped_true globals m values n facts y added part rest all is =
     ∙ regrouped m (values is.kept) (values added) (values rest)
     ∙ ap (λ (x : Option Value). operated m (Reg Add) x (values added)) (sym (sum_true globals m values facts y (At is.kept) (At rest) all is.sum))
 
+-- so an extension that is shifted to the left is what it was halfway, shifted back by less
+halfway_true : (globals : List Value) (m : Memory) (values : Values ℕ) (n : ℕ) (facts : List Fact) (y by whole rest : ℕ) → AreTrue globals m values facts → IsHalfway n facts (source facts y) by whole rest
+    → operated m (Reg Srl) (values whole) (number rest) ≡ operated m (Reg Sll) (values y) (number by)
+halfway_true globals m values n facts y by whole rest all is =
+    let o : Option Value = value_of globals values is.operand in
+    let held : values whole ≡ operated m (Reg Sll) o (number is.bits) =
+    gives_one (values whole) (operated m (Reg Sll) o (number is.bits))
+    (sym (true_at globals m values facts is.shifted.0 (record { register = whole; value = Operated (Reg Sll) is.operand (Number is.bits) }) all is.shifted.1))
+    in
+    let extended : values (source facts y) ≡ operated m (Reg Srl) (operated m (Reg Sll) o (number is.bits)) (number is.bits) =
+    gives_one (values (source facts y)) (operated m (Reg Srl) (operated m (Reg Sll) o (number is.bits)) (number is.bits))
+    (sym (true_at globals m values facts is.extended.0 (record { register = source facts y; value = Extended Srl is.operand is.bits }) all is.extended.1))
+    in
+    ap (λ (x : Option Value). operated m (Reg Srl) x (number rest)) held ∙ less_back m o is.bits by rest is.within is.fewer is.left
+    ∙ ap (λ (x : Option Value). operated m (Reg Sll) x (number by)) (sym extended ∙ source_same globals m values facts all y)
+
 made_same : (globals : List Value) (m : Memory) (values : Values ℕ) (n : ℕ) (facts : List Fact) (l k : Line ℕ) → AreTrue globals m values facts → Made n facts l k
     → (act globals m values k ≡ act globals m values l) × (line_writes k ≡ line_writes l)
 made_same globals m values n facts l k all Itself = (refl, refl)
@@ -546,6 +566,14 @@ made_same globals m values n facts l k all (Copy {f = f} {r = r} is dear low kno
 made_same globals m values n facts l k all (FirstRegrouped {y = y} {added = added} {part = part} {rest = rest} is) = (ap Gives (regrouped_true globals m values n facts y added part rest all is), refl)
 made_same globals m values n facts l k all (SecondRegrouped {y = y} {added = added} {part = part} {rest = rest} is) =
     (ap Gives (regrouped_true globals m values n facts y added part rest all is ∙ sum_turned m (values y) (values added)), refl)
+made_same globals m values n facts l k all (Halfway {y = y} {by = by} {whole = whole} {rest = rest} is) = (ap Gives (halfway_true globals m values n facts y by whole rest all is), refl)
+made_same globals m values n facts l k all (Reloaded {to = to} {y = y} {k = number} {o = o} {op = op} {at = at} is) =
+    let value : Expression = canonical facts (Operated o (At y) (Number number)) in (
+      reloaded_same globals m values op value at.base (distance at) is.register is.extension
+          (true_at globals m values facts is.loaded.0 (record { register = is.register; value = Loaded (other_way op) at.base (distance at) }) all is.loaded.1)
+          ∙ canonical_same globals m values facts all (Operated o (At y) (Number number)),
+      refl,
+    )
 made_same globals m values n facts l k all (Again {k = j} first second) =
     let one = made_same globals m values n facts l j all first in
     let other = made_same globals m values n facts j k all second in
@@ -954,6 +982,8 @@ writes_same n facts l k Itself = refl
 writes_same n facts l k (Narrow is low) = refl
 writes_same n facts l k (FirstRegrouped is) = refl
 writes_same n facts l k (SecondRegrouped is) = refl
+writes_same n facts l k (Halfway is) = refl
+writes_same n facts l k (Reloaded is) = refl
 writes_same n facts l k (Again {k = j} first second) = writes_same n facts j k second ∙ writes_same n facts l j first
 writes_same n facts l k (Copy {f = f} is dear low known) = sym (computes [] [] (λ r. None) l f is).1
 

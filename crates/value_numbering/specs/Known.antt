@@ -1,5 +1,5 @@
 -- What registers are known to hold before a line, and behind it.
-use Rattle.std.specs.Prelude.{◌≡◌, ℕ, ◌%◌, ◌^◌, Bool, true, false, not, ◌&&◌, ◌||◌, nat_eq, if◌then◌else◌, List, [], ◌∷◌, Option, Some, None}
+use Rattle.std.specs.Prelude.{◌≡◌, ℕ, ◌%◌, ◌^◌, Bool, true, false, not, ◌&&◌, ◌||◌, nat_eq, if◌then◌else◌, List, [], ◌∷◌, slice_get, Option, Some, None}
 use Rattle.std.specs.Option.{option_and_then}
 use Rattle.il_ast.specs.declared.value.Value.{Value}
 use Rattle.il_ast.specs.declared.value.Value.TheVariants.{Integer}
@@ -68,6 +68,9 @@ gives globals m values (Growing a n) =
 
 abbrev pub IsTrueOf : List Value → Memory → Values ℕ → Fact → Type 0
 IsTrueOf globals m values f = gives globals m values f.value ≡ Gives (values f.register)
+
+abbrev pub IsIn : Fact → List Fact → Type 0
+IsIn f facts = (k : ℕ) × (slice_get facts k ≡ Some f)
 
 -- what a line computes, and where to
 abbrev pub computed : Line ℕ → Option Fact

@@ -1,16 +1,13 @@
 -- Registers whose low bits are another's, as far as a store writes them.
-use Rattle.std.specs.Prelude.{◌≡◌, ℕ, ◌^◌, Bool, true, false, ◌&&◌, nat_eq, nat_lt, if◌then◌else◌, List, Option, Some, None, slice_get}
+use Rattle.std.specs.Prelude.{◌≡◌, ℕ, ◌&&◌, nat_eq, if◌then◌else◌, List, Option, Some, None, slice_get}
 use Rattle.il_ast.specs.declared.operation.Size.{Size}
 use Rattle.il_ast.specs.declared.operation.Size.TheVariants.{Byte, Half, Word, Long}
 use Rattle.vcode.specs.declared.place.Operand.{Operand}
 use Rattle.vcode.specs.declared.place.Operand.TheVariants.{At, Number}
-use Rattle.vcode.specs.declared.line.Operation.TheVariants.{Reg, RegW}
-use Rattle.rv_isa.specs.declared.instruction.RegOp.TheVariants.{And, Srl}
-use Rattle.rv_isa.specs.declared.instruction.RegWOp.TheVariants.{Srlw}
-use Rattle.rv_isa.specs.declared.instruction.LoadOp.{LoadOp}
-use Rattle.rv_isa.specs.declared.instruction.LoadOp.TheVariants.{Lbu, Lhu, Lwu}
+use Rattle.vcode.specs.declared.line.Operation.TheVariants.{Reg}
+use Rattle.rv_isa.specs.declared.instruction.RegOp.TheVariants.{And}
 use Rattle.value_numbering.specs.declared.fact.Expression.{Expression}
-use Rattle.value_numbering.specs.declared.fact.Expression.TheVariants.{Operated, Extended, Loaded}
+use Rattle.value_numbering.specs.declared.fact.Expression.TheVariants.{Operated, Extended}
 use Rattle.value_numbering.specs.declared.fact.Fact.{Fact}
 use Rattle.value_numbering.specs.Known.{is_back, first_of}
 
@@ -37,28 +34,3 @@ IsNarrow facts size (At r) q =
     (k : ℕ) × (e : Expression) ×
     ((slice_get facts k ≡ Some (record { register = r; value = e })) × (low_of size e ≡ Some q))
 IsNarrow facts size a q = ⊥
-
--- ---- extensions of what is small
-
-abbrev pub loads_zeros : LoadOp → Bool
-loads_zeros Lbu = true
-loads_zeros Lhu = true
-loads_zeros Lwu = true
-loads_zeros op = false
-
--- what it gives, if anything, is a number below 2^32
-abbrev pub is_small : Expression → Bool
-is_small (Operated (Reg And) a (Number n)) = nat_lt n (2 ^ 32)
-is_small (Operated (RegW Srlw) a (Number n)) = nat_lt 0 n && nat_lt n 32
-is_small (Loaded op a d) = loads_zeros op
-is_small e = false
-
--- the register is known to hold such a number
-abbrev pub IsSmall : List Fact → ℕ → Type 0
-IsSmall facts r =
-    (k : ℕ) × (e : Expression) ×
-    ((slice_get facts k ≡ Some (record { register = r; value = e })) × (is_small e ≡ true))
-
--- the value is what the register holds, extended by zeros, which it is already
-abbrev pub IsItself : List Fact → ℕ → Expression → Type 0
-IsItself facts r value = (value ≡ Extended Srl (At r) 32) × IsSmall facts r

@@ -4,14 +4,16 @@ use Rattle.std.specs.Option.{option_map_or}
 use Rattle.vcode.specs.declared.place.Operand.{Operand}
 use Rattle.vcode.specs.declared.place.Operand.TheVariants.{At, Number, Name}
 use Rattle.vcode.specs.declared.line.Line.{Line}
-use Rattle.vcode.specs.declared.line.Line.TheVariants.{Set, Operate, Store}
+use Rattle.vcode.specs.declared.line.Line.TheVariants.{Set, Operate, Load, Store}
+use Rattle.vcode.specs.declared.line.Operation.{Operation}
 use Rattle.vcode.specs.declared.line.Operation.TheVariants.{Reg}
-use Rattle.rv_isa.specs.declared.instruction.RegOp.TheVariants.{Add}
+use Rattle.rv_isa.specs.declared.instruction.LoadOp.{LoadOp}
+use Rattle.rv_isa.specs.declared.instruction.RegOp.TheVariants.{Add, Sll, Srl}
 use Rattle.vcode.specs.declared.line.Jump.{Jump}
 use Rattle.vcode.specs.declared.line.Jump.TheVariants.{Goto, Branch, Return, Halt}
 use Rattle.vcode.specs.declared.code.Block.{Block}
 use Rattle.value_numbering.specs.declared.fact.Expression.{Expression}
-use Rattle.value_numbering.specs.declared.fact.Expression.TheVariants.{Same, Operated, Extended, Loaded, Linear, Growing}
+use Rattle.value_numbering.specs.declared.fact.Expression.TheVariants.{Same, Operated, Extended, Loaded, Growing}
 use Rattle.value_numbering.specs.declared.fact.Fact.{Fact}
 use Rattle.il_ast.specs.declared.operation.Size.{Size}
 use Rattle.vcode.specs.declared.place.Address.{Address}
@@ -19,15 +21,13 @@ use Rattle.il_ast.specs.declared.operation.Class.TheVariants.{W, L}
 use Rattle.il_ast.specs.declared.operation.Class.{Class}
 use Rattle.il_ast.specs.declared.operation.Condition.{Condition}
 use Rattle.il_ast.specs.declared.operation.Condition.TheVariants.{SignedLessEqual, SignedLess, SignedGreaterEqual, SignedGreater}
-use Rattle.vcode.specs.declared.line.Comparison.{Comparison}
 use Rattle.value_numbering.specs.declared.ways.Order.{Order}
-use Rattle.value_numbering.specs.Known.{computed, names, canonical}
+use Rattle.value_numbering.specs.Known.{IsIn, computed, names, source, canonical}
 use Rattle.value_numbering.specs.Steps.{linear_in, stands, is_word, after}
-use Rattle.value_numbering.specs.Narrow.{IsNarrow, IsItself}
+use Rattle.value_numbering.specs.Narrow.{IsNarrow}
+use Rattle.value_numbering.specs.Extensions.{IsItself, IsReloaded}
 use Rattle.value_numbering.specs.Regrouped.{IsRegrouped}
-
-abbrev pub IsIn : Fact → List Fact → Type 0
-IsIn f facts = (k : ℕ) × (slice_get facts k ≡ Some f)
+use Rattle.value_numbering.specs.Shifts.{IsHalfway}
 
 abbrev pub is_no_number : Operand ℕ → Bool
 is_no_number (Number n) = false
@@ -44,18 +44,21 @@ is_dear e = false
 -- the register holds what the expression gives
 pub data Holds (facts : List Fact) (r : ℕ) (e : Expression) : Type 0 where
   Found : IsIn (record { register = r; value = e }) facts → Holds facts r e
-  Small : IsItself facts r e → Holds facts r e
+  Already : IsItself facts r e → Holds facts r e
   Counted : {l : Expression} → linear_in facts e ≡ Some l → IsIn (record { register = r; value = l }) facts → Holds facts r e
 
 -- a line itself; or a copy of a register of the function that holds what the line computes; or a
 -- store of a register that has the bits that are stored; or a sum of three, of which the sum of two
--- is known; or one of these in the place of another
+-- is known; or an extension that is shifted to the left, as what it was halfway, shifted back by
+-- less; or an extension of what was loaded, as another load; or one of these in the place of another
 pub data Made (registers : ℕ) (facts : List Fact) : Line ℕ → Line ℕ → Type 0 where
   Itself : {l : Line ℕ} → Made registers facts l l
   Copy : {l : Line ℕ} {f : Fact} {r : ℕ} → computed l ≡ Some f → is_dear f.value ≡ true → r < registers → Holds facts r (canonical facts f.value) → Made registers facts l (Set f.register (At r))
   Narrow : {size : Size} {a : Operand ℕ} {at : Address ℕ} {q : ℕ} → IsNarrow facts size a q → q < registers → Made registers facts (Store size a at) (Store size (At q) at)
   FirstRegrouped : {to y added part rest : ℕ} → IsRegrouped registers facts y added part rest → Made registers facts (Operate to (Reg Add) (At y) (At added)) (Operate to (Reg Add) (At part) (At rest))
   SecondRegrouped : {to y added part rest : ℕ} → IsRegrouped registers facts y added part rest → Made registers facts (Operate to (Reg Add) (At added) (At y)) (Operate to (Reg Add) (At part) (At rest))
+  Halfway : {to y by whole rest : ℕ} → IsHalfway registers facts (source facts y) by whole rest → Made registers facts (Operate to (Reg Sll) (At y) (Number by)) (Operate to (Reg Srl) (At whole) (Number rest))
+  Reloaded : {to y k : ℕ} {o : Operation} {op : LoadOp} {at : Address ℕ} → IsReloaded registers facts (canonical facts (Operated o (At y) (Number k))) op at → Made registers facts (Operate to o (At y) (Number k)) (Load to op at)
   Again : {l k m : Line ℕ} → Made registers facts l k → Made registers facts k m → Made registers facts l m
 
 -- the facts claimed where a block begins

@@ -32,7 +32,8 @@ pub(crate) struct Fact {
     pub(crate) value: Expression,
 }
 
-fn distance(at: &Address<u32>) -> u64
+/// How far from its base an address is, modulo 2^64.
+pub(crate) fn distance(at: &Address<u32>) -> u64
     ensures { result ≡ distance at.now }
 {
     i64::from(at.offset.value).cast_unsigned()

@@ -1,7 +1,6 @@
 //! The facts that are known at a place of a block.
 ghost use Rattle.std.specs.Prelude.{◌≡◌, ◌<◌, IfSome, None, if◌then◌else◌, nat_eq, ◌&&◌, ◌||◌};
-ghost use Rattle.value_numbering.specs.Known.{copied_from, source, copied, shifted_in, shifted, is_back, extended, grows_as, grows_in, widened, joined, canonical, reads, is_plain, kept_fact};
-ghost use Rattle.value_numbering.specs.Reused.{IsIn};
+ghost use Rattle.value_numbering.specs.Known.{copied_from, source, copied, shifted_in, shifted, is_back, extended, grows_as, grows_in, widened, joined, canonical, reads, is_plain, kept_fact, IsIn};
 
 use crate::fact::{Expression, Fact, reads};
 use crate::same::same_expression;

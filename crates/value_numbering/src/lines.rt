@@ -5,10 +5,12 @@ ghost use Rattle.value_numbering.specs.declared.fact.Fact.{Fact as AFact};
 ghost use Rattle.value_numbering.specs.Known.{canonical};
 ghost use Rattle.value_numbering.specs.Reused.{is_dear, is_no_number, Holds, Made, LeadsWell, AreReused};
 
+use crate::extensions::{itself, reloaded_line};
 use crate::fact::{Expression, Fact, computed};
 use crate::known::{canonical, holder};
-use crate::narrow::{itself, narrow};
+use crate::narrow::narrow;
 use crate::regroup::regrouped_line;
+use crate::shifts::halfway_line;
 use crate::steps::{linear_in, pass};
 use rv_isa::instruction::RegOp;
 use std::alloc::{AllocError, Global};
@@ -118,14 +120,27 @@ fn narrower(facts: &[Fact], registers: u32, line: &Line<u32>) -> Option<Line<u32
     }
 }
 
-/// A line that adds in another order, or the copy of what that holds.
-fn regrouped(facts: &[Fact], registers: u32, line: &Line<u32>) -> Option<Line<u32>>
+/// A line that computes the same of other registers, or loads it.
+fn other(facts: &[Fact], registers: u32, line: &Line<u32>) -> Option<Line<u32>>
     ensures { IfSome result (λ m. Made registers facts.now line.now m) }
 {
     match regrouped_line(facts, registers, line) {
-        Some(sum) => match copy(facts, registers, &sum) {
+        Some(sum) => Some(sum),
+        None => match halfway_line(facts, registers, line) {
+            Some(shift) => Some(shift),
+            None => reloaded_line(facts, registers, line),
+        },
+    }
+}
+
+/// A line that computes the same otherwise, or the copy of what that holds.
+fn recomputed(facts: &[Fact], registers: u32, line: &Line<u32>) -> Option<Line<u32>>
+    ensures { IfSome result (λ m. Made registers facts.now line.now m) }
+{
+    match other(facts, registers, line) {
+        Some(other) => match copy(facts, registers, &other) {
             Some(copy) => Some(copy),
-            None => Some(sum),
+            None => Some(other),
         },
         None => None,
     }
@@ -137,8 +152,8 @@ pub(crate) fn changed(facts: &[Fact], registers: u32, line: &Line<u32>) -> Optio
 {
     match copy(facts, registers, line) {
         Some(copy) => Some(copy),
-        None => match regrouped(facts, registers, line) {
-            Some(sum) => Some(sum),
+        None => match recomputed(facts, registers, line) {
+            Some(other) => Some(other),
             None => narrower(facts, registers, line),
         },
     }

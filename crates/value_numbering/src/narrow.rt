@@ -1,12 +1,12 @@
-//! Registers whose low bits are another's, for stores that write no more than these; and registers that hold what their extension by zeros would give.
-ghost use Rattle.std.specs.Prelude.{◌≡◌, ◌<◌, true, IfSome};
+//! Registers whose low bits are another's, for stores that write no more than these.
+ghost use Rattle.std.specs.Prelude.{◌≡◌, ◌<◌, IfSome};
 ghost use Rattle.vcode.specs.declared.place.Operand.TheVariants.{At};
-ghost use Rattle.value_numbering.specs.Narrow.{extended_from, masked_from, low_of, IsNarrow, loads_zeros, is_small, IsSmall, IsItself};
+ghost use Rattle.value_numbering.specs.Narrow.{extended_from, masked_from, low_of, IsNarrow};
 
 use crate::fact::{Expression, Fact};
 use crate::known::is_back;
 use il_ast::operation::Size;
-use rv_isa::instruction::{LoadOp, RegOp, RegWOp};
+use rv_isa::instruction::RegOp;
 use vcode::line::Operation;
 use vcode::place::Operand;
 
@@ -80,57 +80,4 @@ fn low_register(facts: &[Fact], registers: u32, size: Size, register: u32) -> Op
         }
     }
     None
-}
-
-fn loads_zeros(op: LoadOp) -> bool
-    ensures { result ≡ loads_zeros op }
-{
-    match op {
-        LoadOp::Lbu | LoadOp::Lhu | LoadOp::Lwu => true,
-        _ => false,
-    }
-}
-
-/// Whether a value is a number below 2^32, if there is one.
-fn is_small(value: &Expression) -> bool
-    ensures { result ≡ is_small value.now }
-{
-    match value {
-        Expression::Operated(Operation::Reg(RegOp::And), _, Operand::Number(mask)) => {
-            *mask < 0x1_0000_0000
-        }
-        Expression::Operated(Operation::RegW(RegWOp::Srlw), _, Operand::Number(by)) => {
-            0 < *by && *by < 32
-        }
-        Expression::Loaded(op, _, _) => loads_zeros(*op),
-        _ => false,
-    }
-}
-
-fn holds_small(facts: &[Fact], register: u32) -> bool
-    ensures { result ≡ true → IsSmall facts.now register }
-{
-    for fact in facts {
-        if fact.register == register && is_small(&fact.value) {
-            return true;
-        }
-    }
-    false
-}
-
-/// The register that holds a value which is its extension by zeros from 32 bits, where it is known to be below 2^32.
-pub(crate) fn itself(facts: &[Fact], registers: u32, value: &Expression) -> Option<u32>
-    ensures low { IfSome result (λ r. r < registers) }
-    ensures itself { IfSome result (λ r. IsItself facts.now r value.now) }
-{
-    match value {
-        Expression::Extended(RegOp::Srl, Operand::At(register), 32) => {
-            if *register < registers && holds_small(facts, *register) {
-                Some(*register)
-            } else {
-                None
-            }
-        }
-        _ => None,
-    }
 }

@@ -115,7 +115,7 @@ fn reused_by_any(alloc: Global, function: &VFunc) -> Result<Option<VFunc>, Alloc
     }
 }
 
-/// The function in which lines that compute what a register holds are copies of it, and stores of what was extended or masked write what it was made of, within
+/// The function in which lines that compute what a register holds are copies of it, extensions of what was loaded are loads, and stores of what was extended or masked write what it was made of, within
 /// blocks and, where the claims are right, across them.
 ///
 /// # Errors

@@ -2,9 +2,9 @@
 ghost use Rattle.std.specs.Prelude.{◌≡◌, ◌&&◌, true, IfSome};
 ghost use Rattle.vcode.specs.declared.place.Operand.TheVariants.{At};
 ghost use Rattle.value_numbering.specs.declared.fact.Expression.TheVariants.{Growing};
-ghost use Rattle.value_numbering.specs.Known.{canonical};
+ghost use Rattle.value_numbering.specs.Known.{canonical, IsIn};
 ghost use Rattle.value_numbering.specs.Steps.{is_word};
-ghost use Rattle.value_numbering.specs.Reused.{IsIn, order_met, order_missed, is_limit, limits, bounds, IsKnown, AllKnown};
+ghost use Rattle.value_numbering.specs.Reused.{order_met, order_missed, is_limit, limits, bounds, IsKnown, AllKnown};
 
 use crate::fact::{Expression, Fact, names};
 use crate::known::canonical;

@@ -19,10 +19,10 @@ loop-number-preserved c = λ rest h.
     let n = c.args.registers.before in
     let m = c.args.registers.after in
     let b : Block ℕ = c.index-from-number.result in
-    let d : Block ℕ = c.in_ok-longer.field-0 in
+    let d : Block ℕ = c.in_ok-planned.field-0 in
     subst (λ (xs : List (Block ℕ)). AllLonger n m c.args.from.now xs)
     (sym (ap (λ (xs : List (Block ℕ)). xs ++ rest) c.in_ok-push.ensures.items ∙ append_one c.loop-number.made.items d rest))
-    (c.loop-number.invariant (d ∷ rest) (blocks_on n m c.args.from.now c.loop-number.number b d rest c.loop-number-test.true c.index-from-number.is c.in_ok-longer.ensures h))
+    (c.loop-number.invariant (d ∷ rest) (blocks_on n m c.args.from.now c.loop-number.number b d rest c.loop-number-test.true c.index-from-number.is c.in_ok-planned.ensures h))
 
 pub returns : goal.returns
 returns c =
