@@ -9,8 +9,14 @@ use vcode::code::Block;
 use vcode::function::VFunc;
 use vcode::place::Operand;
 
-/// More of them would leave too few registers of the machine for what changes.
+/// More of them would leave too few registers of the machine for what changes in a long function.
 const MOST: usize = 6;
+
+/// A function of so many blocks is long.
+const LONG: usize = 80;
+
+/// As many may a shorter one have.
+const MOST_IN_SHORT: usize = 12;
 
 /// A loop of so many blocks most often goes round so often that it pays for a register that has to be saved.
 const LARGE: u32 = 20;
@@ -187,7 +193,12 @@ fn chosen_in(
     choices: &[Choice],
 ) -> Result<Vec<Chosen>, AllocError> {
     let blocks = function.code.blocks.as_slice();
-    let free = free_registers(alloc, function, MOST)?;
+    let most = if blocks.len() < LONG {
+        MOST_IN_SHORT
+    } else {
+        MOST
+    };
+    let free = free_registers(alloc, function, most)?;
     let mut chosen = Vec::new(alloc);
     for (k, register) in free.iter().enumerate() {
         if let Some(choice) = from_last(choices, k) {

@@ -25,11 +25,11 @@ fn size_of(lines: &[Line<u32>]) -> u64 {
     total
 }
 
-/// Whether the block branches, and has few lines.
+/// Whether the block branches or returns, and has few lines.
 fn is_short(block: &Block<u32>, most: u64) -> bool {
     match &block.jump {
-        Jump::Branch { .. } => size_of(block.lines.as_slice()) < most,
-        Jump::Goto(_) | Jump::Return(_) | Jump::Halt => false,
+        Jump::Branch { .. } | Jump::Return(_) => size_of(block.lines.as_slice()) < most,
+        Jump::Goto(_) | Jump::Halt => false,
     }
 }
 
