@@ -1,6 +1,7 @@
 -- Code with a call in place is code that there may be.
 use Rattle.std.proofs.Common.{◌≡◌, ℕ, ◌+◌, ◌<◌, ◌≤◌, Bool, true, false, ◌&&◌, nat_lt, List, [], ◌∷◌, map, Option, Some, None, refl, arith}
 use Rattle.std.specs.List.{list_all, sum_by}
+use Rattle.std.specs.Option.{option_map}
 use Rattle.std.proofs.lemmas.Bool.{and_parts, and_from}
 use Rattle.std.proofs.lemmas.Bool.Decides.{nat_tests}
 use Rattle.std.proofs.lemmas.List.Sums.{sum_by-cons}
@@ -19,7 +20,8 @@ use Rattle.vcode.specs.declared.line.Jump.TheVariants.{Goto, Branch, Return, Hal
 use Rattle.vcode.specs.declared.code.Block.{Block}
 use Rattle.vcode.specs.Named.{operand_keeps, wanted_keeps, made_keeps, line_keeps, jump_keeps, block_keeps, is_below}
 use Rattle.vcode.specs.Regular.{leads_inside, is_target, is_alloc, alloc_bytes, turns_of, passes_few, weight_of}
-use Rattle.inlining.specs.Moved.{moved, moved_line, moved_jump}
+use Rattle.vcode.specs.Replaced.{with_argument}
+use Rattle.inlining.specs.Moved.{moved, moved_destination, moved_line, moved_jump}
 use Rattle.inlining.specs.InPlace.{brought, arguments_brought, result_brought, leaf_block}
 use Rattle.inlining.proofs.Listing.{all_both, all_changed, all_weaker}
 
@@ -94,6 +96,10 @@ module _ (n base : ℕ) where
   operand_moved (Number k) h = refl
   operand_moved (Name g) h = refl
 
+  wanted_moved : (to : Option (Destination ℕ)) → wanted_keeps (is_below n) to ≡ true → wanted_keeps (is_below (base + n)) (option_map (moved_destination base) to) ≡ true
+  wanted_moved None h = refl
+  wanted_moved (Some d) h = below_moved n base d.place h
+
   line_moved : (l : Line ℕ) → line_keeps (is_below n) l ≡ true → line_keeps (is_below (base + n)) (moved_line base l) ≡ true
   line_moved (Tick turn w) h = refl
   line_moved (Set to a) h =
@@ -114,7 +120,15 @@ module _ (n base : ℕ) where
   line_moved (Blit from to count) h =
       let s = and_parts (operand_keeps (is_below n) from) (operand_keeps (is_below n) to) h in
       and_from (operand_keeps (is_below (base + n)) (moved base from)) (operand_keeps (is_below (base + n)) (moved base to)) (operand_moved from s.0) (operand_moved to s.1)
-  line_moved (Call to callee args) h = line_weaker (is_below n) (is_below (base + n)) (below_more n (base + n) (omega arith)) (Call to callee args) h
+  line_moved (Call to callee args) h =
+      let s = and_parts (wanted_keeps (is_below n) to) (operand_keeps (is_below n) callee && list_all (λ (a : Argument ℕ). operand_keeps (is_below n) a.value) args) h in
+      let t = and_parts (operand_keeps (is_below n) callee) (list_all (λ (a : Argument ℕ). operand_keeps (is_below n) a.value) args) s.1 in
+      let others : List (Argument ℕ) = map (with_argument (moved base)) args in
+      and_from (wanted_keeps (is_below (base + n)) (option_map (moved_destination base) to))
+      (operand_keeps (is_below (base + n)) (moved base callee) && list_all (λ (a : Argument ℕ). operand_keeps (is_below (base + n)) a.value) others) (wanted_moved to s.0)
+      (and_from (operand_keeps (is_below (base + n)) (moved base callee)) (list_all (λ (a : Argument ℕ). operand_keeps (is_below (base + n)) a.value) others) (operand_moved callee t.0)
+      (all_changed (λ (a : Argument ℕ). operand_keeps (is_below n) a.value) (λ (a : Argument ℕ). operand_keeps (is_below (base + n)) a.value) (with_argument (moved base))
+      (λ a e. operand_moved a.value e) args t.1))
 
   jump_moved : (first behind : ℕ) (j : Jump ℕ) → jump_keeps (is_below n) j ≡ true → jump_keeps (is_below (base + n)) (moved_jump first behind base j) ≡ true
   jump_moved first behind (Goto k) h = refl

@@ -6,7 +6,7 @@ use Rattle.std.proofs.lemmas.Bool.{and_parts, and_from}
 use Rattle.std.proofs.lemmas.Bool.Decides.{nat_tests}
 use Rattle.std.proofs.lemmas.List.Sums.{sum_by-cons, sum_by-append}
 use Rattle.il_ast.specs.declared.operation.Class.{Class}
-use Rattle.il_ast.specs.declared.limits.TheConstants.{FUNCTION_WEIGHT, ALLOC_BYTES}
+use Rattle.il_ast.specs.declared.limits.TheConstants.{ARGUMENTS, FUNCTION_WEIGHT, ALLOC_BYTES}
 use Rattle.vcode.specs.declared.place.Operand.{Operand}
 use Rattle.vcode.specs.declared.place.Operand.TheVariants.{Name}
 use Rattle.vcode.specs.declared.place.Destination.{Destination}
@@ -23,11 +23,13 @@ use Rattle.vcode.specs.Regular.{leads_inside, is_alloc, allocs_first, alloc_byte
 use Rattle.inlining.specs.declared.growth.Room.{Room}
 use Rattle.inlining.specs.declared.growth.Growth.{Growth}
 use Rattle.inlining.specs.declared.growth.Cut.{Cut}
-use Rattle.inlining.specs.Leaves.{is_calm, is_leaf}
-use Rattle.inlining.specs.Moved.{moved_line}
+use Rattle.inlining.specs.Leaves.{is_leaf}
+use Rattle.inlining.specs.Moved.{moved, moved_line}
 use Rattle.inlining.specs.InPlace.{arguments_brought, result_brought, leaf_block, Site, up_to_call, behind_call, blocks_in_place, IsSite}
 use Rattle.inlining.specs.Placed.{Leaves, Grows, AsItWas, OneMore}
 use Rattle.inlining.specs.Growth.{Answers, StandsAt, IsCut, IsGrowth}
+use Rattle.vcode.proofs.Replacing.{args_count}
+use Rattle.inlining.proofs.Calm.{makes_none, leaf_makes_none}
 use Rattle.inlining.proofs.Listing.{all_at, all_both, all_taken, all_left, all_set, all_changed, all_weaker, sum_at, sum_set, sum_changed, length_both, length_set, length_changed, low_at, none_all, all_none, no_any}
 use Rattle.inlining.proofs.Fitting.{IsPlain, arguments_plain, result_plain, plain_sum, plain_all, arguments_named, leaf_named, block_weaker, below_more, inside_more, inside_moved, target_at}
 
@@ -78,27 +80,27 @@ few_moved base (Load to op at) h = refl
 few_moved base (Store size a at) h = refl
 few_moved base (Alloc to size) h = refl
 few_moved base (Blit from to count) h = refl
-few_moved base (Call to callee args) h = h
+few_moved base (Call to callee args) h = ap (λ k. nat_le k ARGUMENTS) (args_count (moved base) args) ∙ h
 
-calm_moved : (base : ℕ) (l : Line ℕ) → is_calm l ≡ true → not (is_alloc (moved_line base l)) ≡ true
-calm_moved base (Tick turn w) h = refl
-calm_moved base (Set to a) h = refl
-calm_moved base (Operate to op a b) h = refl
-calm_moved base (Load to op at) h = refl
-calm_moved base (Store size a at) h = refl
-calm_moved base (Alloc to size) h = h
-calm_moved base (Blit from to count) h = refl
-calm_moved base (Call to callee args) h = refl
+none_moved : (base : ℕ) (l : Line ℕ) → makes_none l ≡ true → not (is_alloc (moved_line base l)) ≡ true
+none_moved base (Tick turn w) h = refl
+none_moved base (Set to a) h = refl
+none_moved base (Operate to op a b) h = refl
+none_moved base (Load to op at) h = refl
+none_moved base (Store size a at) h = refl
+none_moved base (Alloc to size) h = h
+none_moved base (Blit from to count) h = refl
+none_moved base (Call to callee args) h = refl
 
-calm_bytes : (l : Line ℕ) → is_calm l ≡ true → alloc_bytes l ≡ 0
-calm_bytes (Tick turn w) h = refl
-calm_bytes (Set to a) h = refl
-calm_bytes (Operate to op a b) h = refl
-calm_bytes (Load to op at) h = refl
-calm_bytes (Store size a at) h = refl
-calm_bytes (Alloc to size) h = absurd (let no : ⊥ = cc in no)
-calm_bytes (Blit from to count) h = refl
-calm_bytes (Call to callee args) h = refl
+none_bytes : (l : Line ℕ) → makes_none l ≡ true → alloc_bytes l ≡ 0
+none_bytes (Tick turn w) h = refl
+none_bytes (Set to a) h = refl
+none_bytes (Operate to op a b) h = refl
+none_bytes (Load to op at) h = refl
+none_bytes (Store size a at) h = refl
+none_bytes (Alloc to size) h = absurd (let no : ⊥ = cc in no)
+none_bytes (Blit from to count) h = refl
+none_bytes (Call to callee args) h = refl
 
 weights : IsTaken weight_of
 weights = record { plain = λ l p. p.weight; moved = weight_moved; calls = λ to callee args. refl }
@@ -152,20 +154,20 @@ blocks_take g is blocks leaf base k j s at call =
     let same = sum_changed (in_block g) (in_block g) (leaf_block first behind base leaf.result s.to) (leaf_takes g is first behind base leaf.result s.to) leaf.blocks in
     omega (arith, all, next, set, parts, same)
 
-calm_area : (lines : List (Line ℕ)) → list_all is_calm lines ≡ true → sum_by alloc_bytes lines ≡ 0
-calm_area [] h = refl
-calm_area (l ∷ lines) h =
-    let s = and_parts (is_calm l) (list_all is_calm lines) h in
-    let here = calm_bytes l s.0 in
-    let rest = calm_area lines s.1 in
+none_area : (lines : List (Line ℕ)) → list_all makes_none lines ≡ true → sum_by alloc_bytes lines ≡ 0
+none_area [] h = refl
+none_area (l ∷ lines) h =
+    let s = and_parts (makes_none l) (list_all makes_none lines) h in
+    let here = none_bytes l s.0 in
+    let rest = none_area lines s.1 in
     let all = sum_by-cons alloc_bytes l lines in
     omega (arith, here, rest, all)
 
-leaf_area : (blocks : List (Block ℕ)) → list_all (λ (b : Block ℕ). list_all is_calm b.lines) blocks ≡ true → sum_by (in_block alloc_bytes) blocks ≡ 0
+leaf_area : (blocks : List (Block ℕ)) → list_all (λ (b : Block ℕ). list_all makes_none b.lines) blocks ≡ true → sum_by (in_block alloc_bytes) blocks ≡ 0
 leaf_area [] h = refl
 leaf_area (b ∷ blocks) h =
-    let s = and_parts (list_all is_calm b.lines) (list_all (λ (c : Block ℕ). list_all is_calm c.lines) blocks) h in
-    let here = calm_area b.lines s.0 in
+    let s = and_parts (list_all makes_none b.lines) (list_all (λ (c : Block ℕ). list_all makes_none c.lines) blocks) h in
+    let here = none_area b.lines s.0 in
     let rest = leaf_area blocks s.1 in
     let all = sum_by-cons (in_block alloc_bytes) b blocks in
     omega (arith, here, rest, all)
@@ -200,11 +202,11 @@ up_to_plain first base j params s h =
     (all_taken (λ (l : Line ℕ). not (is_alloc l)) j s.block.lines (lines_plain s.block.lines h))
     (plain_all (λ (l : Line ℕ). not (is_alloc l)) (λ l p. ap not p.makes) (arguments_brought base params s.args) (arguments_plain base params s.args)))
 
-leaf_plain : (first behind base : ℕ) (k : Option Class) (to : Option (Destination ℕ)) (b : Block ℕ) → list_all is_calm b.lines ≡ true → is_plain (leaf_block first behind base k to b) ≡ true
+leaf_plain : (first behind base : ℕ) (k : Option Class) (to : Option (Destination ℕ)) (b : Block ℕ) → list_all makes_none b.lines ≡ true → is_plain (leaf_block first behind base k to b) ≡ true
 leaf_plain first behind base k to b h =
     plain_lines (map (moved_line base) b.lines ++ result_brought base k to b.jump)
     (all_both (λ (l : Line ℕ). not (is_alloc l)) (map (moved_line base) b.lines) (result_brought base k to b.jump)
-    (all_changed is_calm (λ (l : Line ℕ). not (is_alloc l)) (moved_line base) (calm_moved base) b.lines h)
+    (all_changed makes_none (λ (l : Line ℕ). not (is_alloc l)) (moved_line base) (none_moved base) b.lines h)
     (plain_all (λ (l : Line ℕ). not (is_alloc l)) (λ l p. ap not p.makes) (result_brought base k to b.jump) (result_plain base k to b.jump)))
 
 -- only the first block makes blocks of memory, and it stays the first
@@ -326,14 +328,14 @@ plain_in_place blocks leaf base k j s at stands calm h =
     let more : List (Block ℕ) = map (leaf_block first behind base leaf.result s.to) leaf.blocks in
     first_in_place blocks (slice_set blocks k up ++ rest ∷ more) (rest ∷ more) k s.block up at refl (up_to_plain first base j leaf.params s)
     (and_from (is_plain rest) (list_all is_plain more) stands.plain
-    (all_changed (λ (b : Block ℕ). list_all is_calm b.lines) is_plain (leaf_block first behind base leaf.result s.to) (leaf_plain first behind base leaf.result s.to) leaf.blocks calm))
+    (all_changed (λ (b : Block ℕ). list_all makes_none b.lines) is_plain (leaf_block first behind base leaf.result s.to) (leaf_plain first behind base leaf.result s.to) leaf.blocks (leaf_makes_none leaf calm)))
     h
 
 small_in_place : (blocks : List (Block ℕ)) (leaf : Code ℕ) (base k j : ℕ) (s : Site) → slice_get blocks k ≡ Some s.block → StandsAt j s → is_leaf leaf ≡ true
     → sum_by (in_block alloc_bytes) (blocks_in_place blocks leaf base k j s) ≤ sum_by (in_block alloc_bytes) blocks
 small_in_place blocks leaf base k j s at stands calm =
     let all = blocks_take alloc_bytes bytes blocks leaf base k j s at stands.call in
-    let none = leaf_area leaf.blocks calm in
+    let none = leaf_area leaf.blocks (leaf_makes_none leaf calm) in
     omega (arith, all, none)
 
 regular_in_place : (w : Code ℕ) (leaf : VFunc) (base k j : ℕ) (s : Site) → slice_get w.blocks k ≡ Some s.block → StandsAt j s → Answers leaf s → IsRegular w

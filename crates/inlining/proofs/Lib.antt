@@ -1,12 +1,15 @@
 pub mod Beside
 pub mod PlacedBlocks
+mod Turns
+mod Listing
+mod Calm
 pub mod Passed
 pub mod MovedActs
 pub mod Entering
 pub mod Leafwise
 pub mod SiteLaw
-pub mod Silent
-mod Listing
+pub mod LeafCalls
+pub mod MoreRoom
 mod Fitting
 mod Growing
 mod WithinLimits

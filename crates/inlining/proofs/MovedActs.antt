@@ -1,6 +1,6 @@
 -- What a leaf's lines and jumps do at other registers: the same.
-use Rattle.std.proofs.Common.{◌≡◌, ℕ, ◌+◌, ◌≤◌, Bool, true, false, nat_eq, if◌then◌else◌, List, Option, Some, None, refl, sym, ◌∙◌, ap, subst, arith}
-use Rattle.std.specs.Option.{option_and_then}
+use Rattle.std.proofs.Common.{◌≡◌, ℕ, ◌+◌, ◌≤◌, Bool, true, false, nat_eq, if◌then◌else◌, List, map, Option, Some, None, refl, sym, ◌∙◌, ap, subst, arith}
+use Rattle.std.specs.Option.{option_map, option_and_then}
 use Rattle.std.proofs.lemmas.Bool.Decides.{nat_tests}
 use Rattle.il_ast.specs.declared.operation.Class.{Class}
 use Rattle.il_ast.specs.declared.value.Value.{Value}
@@ -12,6 +12,8 @@ use Rattle.rv_isa.specs.declared.instruction.RegOp.TheVariants.{Add}
 use Rattle.vcode.specs.declared.place.Operand.{Operand}
 use Rattle.vcode.specs.declared.place.Operand.TheVariants.{At, Number, Name}
 use Rattle.vcode.specs.declared.place.Address.{Address}
+use Rattle.vcode.specs.declared.place.Argument.{Argument}
+use Rattle.vcode.specs.declared.place.Destination.{Destination}
 use Rattle.vcode.specs.declared.line.Line.{Line}
 use Rattle.vcode.specs.declared.line.Line.TheVariants.{Tick, Set, Operate, Load, Store, Alloc, Blit, Call}
 use Rattle.vcode.specs.declared.line.Operation.TheVariants.{Reg, Compare}
@@ -20,13 +22,15 @@ use Rattle.vcode.specs.declared.line.Jump.TheVariants.{Branch}
 use Rattle.vcode.specs.Addresses.{distance}
 use Rattle.vcode.specs.Operations.{loaded}
 use Rattle.vcode.specs.Places.{Values}
-use Rattle.vcode.specs.Step.{value_of, operated, address_of}
-use Rattle.vcode.specs.Replaced.{with_base}
+use Rattle.vcode.specs.Step.{value_of, read_all, operated, address_of}
+use Rattle.vcode.specs.Replaced.{with_base, with_argument}
 use Rattle.vcode.specs.Writes.{line_writes}
-use Rattle.vcode.specs.Acts.{Act, Gives, Makes, Asks, given, left, act, written, Way, Enters, entering, way}
+use Rattle.vcode.specs.Acts.{Act, Gives, Makes, given, left, asked, act, written, Way, Enters, entering, way}
 use Rattle.vcode.proofs.Following.{Follows, AllFollow}
-use Rattle.inlining.specs.Moved.{moved, moved_line, moved_jump}
-use Rattle.inlining.specs.Leaves.{is_calm}
+use Rattle.vcode.proofs.SameReads.{SameValue}
+use Rattle.vcode.proofs.SameActs.{reads_every, act_same}
+use Rattle.inlining.specs.Moved.{moved, moved_destination, moved_line, moved_jump}
+use Rattle.inlining.proofs.Calm.{makes_none}
 use Rattle.inlining.proofs.Beside.{IsLow}
 
 -- ---- registers
@@ -86,7 +90,16 @@ address_moved : (globals : List Value) (m : Memory) (base : ℕ) (el : Values �
 address_moved globals m base el at =
     ap (λ o. if nat_eq (distance at) 0 then o else operated m (Reg Add) o (value_of globals el (Number (distance at)))) (value_moved globals base el at.base)
 
-pub act_moved : (globals : List Value) (m : Memory) (base : ℕ) (el : Values ℕ) (l : Line ℕ) → is_calm l ≡ true → act globals m el (moved_line base l) ≡ act globals m (from_base base el) l
+-- a moved destination wants a result of the same class
+wanted_moved : (base : ℕ) (to : Option (Destination ℕ)) (args : List (Argument ℕ)) (x : Option Value) (vs : Option (List Value)) → asked (option_map (moved_destination base) to) args x vs ≡ asked to args x vs
+wanted_moved base None args x vs = refl
+wanted_moved base (Some d) args (Some (Function f)) (Some vs) = refl
+wanted_moved base (Some d) args (Some (Function f)) None = refl
+wanted_moved base (Some d) args (Some (Integer n)) vs = refl
+wanted_moved base (Some d) args (Some (Pointer b n)) vs = refl
+wanted_moved base (Some d) args None vs = refl
+
+pub act_moved : (globals : List Value) (m : Memory) (base : ℕ) (el : Values ℕ) (l : Line ℕ) → makes_none l ≡ true → act globals m el (moved_line base l) ≡ act globals m (from_base base el) l
 act_moved globals m base el (Tick turn w) calm = refl
 act_moved globals m base el (Set to a) calm = ap Gives (value_moved globals base el a)
 act_moved globals m base el (Operate to op a b) calm = two_moved globals base el a b (λ o p. Gives (operated m op o p))
@@ -99,9 +112,12 @@ act_moved globals m base el (Store size a at) calm =
 act_moved globals m base el (Alloc to size) calm = absurd (let no : ⊥ = cc in no)
 act_moved globals m base el (Blit from to count) calm =
     two_moved globals base el from to (λ o q. left (option_and_then (λ u. option_and_then (λ v. copy m count u v) q) o))
-act_moved globals m base el (Call to callee args) calm = absurd (let no : ⊥ = cc in no)
+act_moved globals m base el (Call to callee args) calm =
+    wanted_moved base to (map (with_argument (moved base)) args) (value_of globals el (moved base callee)) (read_all globals el (map (with_argument (moved base)) args))
+    ∙ act_same globals m (from_base base el) el (moved base) (Call to callee args)
+    (reads_every (SameValue globals (from_base base el) el (moved base)) (value_moved globals base el) (Call to callee args))
 
-pub writes_moved : (base : ℕ) (l : Line ℕ) → is_calm l ≡ true → line_writes (moved_line base l) ≡ moved_to base (line_writes l)
+pub writes_moved : (base : ℕ) (l : Line ℕ) → makes_none l ≡ true → line_writes (moved_line base l) ≡ moved_to base (line_writes l)
 writes_moved base (Tick turn w) calm = refl
 writes_moved base (Set to a) calm = refl
 writes_moved base (Operate to op a b) calm = refl
@@ -109,23 +125,30 @@ writes_moved base (Load to op at) calm = refl
 writes_moved base (Store size a at) calm = refl
 writes_moved base (Alloc to size) calm = absurd (let no : ⊥ = cc in no)
 writes_moved base (Blit from to count) calm = refl
-writes_moved base (Call to callee args) calm = absurd (let no : ⊥ = cc in no)
+writes_moved base (Call None callee args) calm = refl
+writes_moved base (Call (Some d) callee args) calm = refl
 
--- it makes no block and no call
+-- it makes no block
 abbrev pub IsCalm : Act → Type 0
 IsCalm (Makes size) = ⊥
-IsCalm (Asks call) = ⊥
 IsCalm a = Unit {0}
 
 given_calm : (o : Option Value) → IsCalm (given o)
 given_calm None = tt
 given_calm (Some v) = tt
 
+asked_calm : (to : Option (Destination ℕ)) (args : List (Argument ℕ)) (x : Option Value) (vs : Option (List Value)) → IsCalm (asked to args x vs)
+asked_calm to args (Some (Function f)) (Some vs) = tt
+asked_calm to args (Some (Function f)) None = tt
+asked_calm to args (Some (Integer n)) vs = tt
+asked_calm to args (Some (Pointer b n)) vs = tt
+asked_calm to args None vs = tt
+
 left_calm : (o : Option Memory) → IsCalm (left o)
 left_calm None = tt
 left_calm (Some m) = tt
 
-pub act_calm : (globals : List Value) (m : Memory) (values : Values ℕ) (l : Line ℕ) → is_calm l ≡ true → IsCalm (act globals m values l)
+pub act_calm : (globals : List Value) (m : Memory) (values : Values ℕ) (l : Line ℕ) → makes_none l ≡ true → IsCalm (act globals m values l)
 act_calm globals m values (Tick turn w) calm = tt
 act_calm globals m values (Set to a) calm = tt
 act_calm globals m values (Operate to op a b) calm = tt
@@ -136,7 +159,7 @@ act_calm globals m values (Store size a at) calm =
 act_calm globals m values (Alloc to size) calm = absurd (let no : ⊥ = cc in no)
 act_calm globals m values (Blit from to count) calm =
     left_calm (option_and_then (λ p. option_and_then (λ q. copy m count p q) (value_of globals values to)) (value_of globals values from))
-act_calm globals m values (Call to callee args) calm = absurd (let no : ⊥ = cc in no)
+act_calm globals m values (Call to callee args) calm = asked_calm to args (value_of globals values callee) (read_all globals values args)
 
 -- ---- jumps
 

@@ -1,5 +1,5 @@
 -- Code with a call in place runs as the code with the call.
-use Rattle.std.proofs.Common.{◌≡◌, ℕ, zero, suc, ◌+◌, ◌-◌, ◌<◌, ◌≤◌, Bool, true, false, nat_eq, nat_lt, ◌&&◌, ◌||◌, if◌then◌else◌, ◌⊎◌, inl, inr, List, [], ◌∷◌, ◌++◌, map, length, take, drop, slice_get, Option, Some, None, refl, sym, ◌∙◌, ap, subst, arith}
+use Rattle.std.proofs.Common.{◌≡◌, ℕ, zero, suc, ◌+◌, ◌-◌, ◌<◌, ◌≤◌, Bool, true, false, nat_eq, nat_lt, ◌&&◌, if◌then◌else◌, ◌⊎◌, inl, inr, List, [], ◌∷◌, ◌++◌, map, length, take, drop, slice_get, Option, Some, None, refl, sym, ◌∙◌, ap, subst, arith}
 use Rattle.std.specs.List.{list_all, list_any}
 use Rattle.std.specs.Option.{option_map}
 use Rattle.std.proofs.lemmas.Bool.{and_parts}
@@ -7,14 +7,13 @@ use Rattle.std.proofs.lemmas.Bool.Decides.{nat_tests}
 use Rattle.il_ast.specs.declared.operation.Class.{Class}
 use Rattle.il_ast.specs.declared.value.Value.{Value}
 use Rattle.il_ast.specs.declared.value.Value.TheVariants.{Pointer, Function}
-use Rattle.il_ast.specs.declared.value.End.{End}
-use Rattle.il_ast.specs.declared.value.End.TheVariants.{Exit, Halt as Halted, Undefined, Stack, Turns}
+use Rattle.il_ast.specs.declared.value.End.TheVariants.{Halt as Halted, Undefined, Turns}
 use Rattle.il_ast.specs.Memory.{Memory, fresh, free_all}
 use Rattle.il_ast.specs.Effect.{Call as Calling}
 use Rattle.il_ast.specs.Meaning.{same_classes, result_fits}
 use Rattle.il_ast.specs.Run.{Spent, nothing, one_turn, one_call, both, Outcome, Returned, Ended, after}
 use Rattle.il_ast.specs.Logged.{On, Over, Event, Does, LoggedNext, LoggedEvent, Logged}
-use Rattle.il_ast.specs.Keeps.{Asked, Given, Log, AreArgs, AllGo}
+use Rattle.il_ast.specs.Keeps.{Asked, Log, AreArgs, AllGo}
 use Rattle.vcode.specs.declared.place.Operand.TheVariants.{Name}
 use Rattle.vcode.specs.declared.place.Argument.{Argument}
 use Rattle.vcode.specs.declared.place.Destination.{Destination}
@@ -36,11 +35,12 @@ use Rattle.vcode.proofs.Following.{AllFollow, ActFollows, act_follows, WayFollow
 use Rattle.vcode.proofs.InPlace.{as_cheap, cheaper_after, goes_room}
 use Rattle.vcode.proofs.Rewriting.{Left, at_start, behind_it, line_is, jump_is}
 use Rattle.vcode.proofs.Stepping.{step_nowhere}
-use Rattle.inlining.specs.InPlace.{arguments_brought, behind_call, begins_turn}
-use Rattle.inlining.specs.Leaves.{given_by, GoesAs}
+use Rattle.inlining.specs.InPlace.{arguments_brought, behind_call}
+use Rattle.inlining.specs.Leaves.{begins_turn, given_by, GoesAs}
 use Rattle.inlining.specs.Laws.{CallsInPlaceKeep}
 use Rattle.inlining.proofs.Beside.{Setting, placed, placed_step, Goes, GoesNext, does_goes, calls_goes, cheaper_both, cheaper_unentered, IsLow}
 use Rattle.inlining.proofs.PlacedBlocks.{cut_at, behind_at, first_at, cut_block, other_block, call_block, rest_block, block_known}
+use Rattle.inlining.proofs.Turns.{IsTurn, turn_act, one_or_other, Begun, begun_further, ended_room}
 use Rattle.inlining.proofs.Passed.{args_are, same_classes_are}
 use Rattle.inlining.proofs.Entering.{along, arguments_goes}
 use Rattle.inlining.proofs.Leafwise.{answered, resumed_at, Behind, leaf_enters}
@@ -76,36 +76,6 @@ bound_low base (d ∷ ds) [] values h low = low
 bound_low base (d ∷ ds) (v ∷ vs) values h low =
     let parts = and_parts (is_below base d.place) (list_all (λ (d : Destination ℕ). is_below base d.place) ds) h in
     bound_low base ds vs (put virtual d.place (held d.class v) values) parts.1 (written_low base (Some d.place) (Some (held d.class v)) values parts.0 low)
-
--- ---- turns
-
-abbrev IsTurn : Act → Type 0
-IsTurn (Spends true w) = Unit {0}
-IsTurn a = ⊥
-
-turn_act : (globals : List Value) (m : Memory) (values : Values ℕ) (l : Line ℕ) → begins_turn l ≡ true → IsTurn (act globals m values l)
-turn_act globals m values (Tick true w) h = tt
-turn_act globals m values (Tick false w) h = absurd (let no : ⊥ = cc in no)
-turn_act globals m values (Set to a) h = absurd (let no : ⊥ = cc in no)
-turn_act globals m values (Operate to op a b) h = absurd (let no : ⊥ = cc in no)
-turn_act globals m values (Load to op at) h = absurd (let no : ⊥ = cc in no)
-turn_act globals m values (Store size a at) h = absurd (let no : ⊥ = cc in no)
-turn_act globals m values (Alloc to size) h = absurd (let no : ⊥ = cc in no)
-turn_act globals m values (Blit from to count) h = absurd (let no : ⊥ = cc in no)
-turn_act globals m values (Call to callee args) h = absurd (let no : ⊥ = cc in no)
-
-one_or_other : (a b : Bool) → (a || b) ≡ true → (a ≡ true) ⊎ (b ≡ true)
-one_or_other true b h = inl refl
-one_or_other false b h = inr h
-
--- a turn has begun
-record Begun (i : Given) (x : Spent) : Type 0 where
-  given : 0 < i.turns
-  spent : 0 < x.turns
-
--- it is no less for what is spent further
-begun_further : (i : Given) (x y : Spent) → Begun i x → Begun i (both x y)
-begun_further i x y h = record { given = h.given; spent = let p = h.spent in omega (arith, p) }
 
 -- ---- the codes side by side
 
@@ -338,13 +308,6 @@ module _ (c : Setting) where
       λ sp cheap. subst (GoesSo (Ended sp e)) run.0 (cheaper_called s.spent x y sp g.0 cheap, g.1)
 
   -- a call behind which the code has room has room
-  ended_room : (x y : Spent) (e : End) → HasRoom (Ended x e) → HasRoom (Ended y e)
-  ended_room x y (Exit n) h = h
-  ended_room x y Halted h = h
-  ended_room x y Undefined h = h
-  ended_room x y Stack h = h
-  ended_room x y Turns h = h
-
   call_room : (steps : ℕ) (s : State ℕ) (to : Option ℕ) (wants : Option Class) (went : Outcome) (rest : Log) → LoggedNext (Runs steps) c.o (resumed s to wants went) rest → HasRoom went
   unfolding resumed
   call_room steps s to wants (Returned x v m) rest run = tt
@@ -402,7 +365,7 @@ module _ (c : Setting) where
       arguments_goes c s h.low sp b c.leaf.params c.site.args vs n el unknown (same_classes_are (map (λ (a : Argument ℕ). a.class) c.site.args) (classes_in c.leaf.params) c.is.classes) read h.follows
       (λ r x e. absurd (let no : ⊥ = cc in no)) second
       (λ el2 follows moved.
-      leaf_enters c s (given_by (the_call vs) (c.given.turns - s.spent.turns) a.below s.memory) a.went refl h.low room behind a.steps el2 sp follows moved h.cheap a.runs)
+      leaf_enters c s (given_by (the_call vs) (c.given.turns - s.spent.turns) a.below s.memory) a.went refl a.fits h.low room behind a.steps el2 sp a.log follows moved h.cheap a.calls a.runs)
 
   asked_goes : (steps : ℕ) → Later steps → (s : State ℕ) (b n : ℕ) (el : Values ℕ) (sp : Spent) → Beside c s el sp → Begun c.given s.spent → IsLowPlace c.base call_place → Left c.v s.block (s.next + 1) rest_lines c.site.block.jump
       → AreKnown rest_lines → Left (placed c) b n entry_lines (Goto (first_at c)) → (r : Option (List Value)) → read_all c.globals s.values c.site.args ≡ r → (log : Log) → AllGo c.callees log

@@ -20,8 +20,8 @@ use Rattle.inlining.specs.declared.limits.TheConstants.{BLOCKS}
 use Rattle.inlining.specs.declared.growth.Room.{Room}
 use Rattle.inlining.specs.declared.growth.Growth.{Growth}
 use Rattle.inlining.specs.declared.growth.Cut.{Cut}
-use Rattle.inlining.specs.InPlace.{Site, begins_turn, leaf_block, up_to_call, behind_call}
-use Rattle.inlining.specs.Leaves.{is_leaf}
+use Rattle.inlining.specs.InPlace.{Site, leaf_block, up_to_call, behind_call}
+use Rattle.inlining.specs.Leaves.{begins_turn, is_leaf}
 use Rattle.inlining.specs.Placed.{Leaves, Grows}
 
 -- the room that the leaf's code leaves, in a function with so many blocks

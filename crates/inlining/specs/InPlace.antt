@@ -1,7 +1,7 @@
 -- A call that is done in place: the block is cut at the call; lines bring the arguments to the
 -- registers of the leaf's parameters; the leaf's blocks follow at other registers; where it returns,
 -- a line takes its result, and the rest of the block goes on.
-use Rattle.std.specs.Prelude.{◌≡◌, ℕ, ◌+◌, Bool, true, false, IsTrue, List, [], ◌∷◌, ◌++◌, map, length, take, drop, slice_get, slice_set, Option, Some}
+use Rattle.std.specs.Prelude.{◌≡◌, ℕ, ◌+◌, IsTrue, List, [], ◌∷◌, ◌++◌, map, length, take, drop, slice_get, slice_set, Option, Some}
 use Rattle.std.specs.List.{list_any}
 use Rattle.std.specs.Option.{option_map}
 use Rattle.il_ast.specs.declared.operation.Class.{Class}
@@ -15,7 +15,7 @@ use Rattle.vcode.specs.declared.place.Argument.{Argument}
 use Rattle.vcode.specs.declared.place.Extension.{Extension}
 use Rattle.vcode.specs.declared.place.Extension.TheVariants.{Made, Claimed}
 use Rattle.vcode.specs.declared.line.Line.{Line}
-use Rattle.vcode.specs.declared.line.Line.TheVariants.{Tick, Set, Operate, Call}
+use Rattle.vcode.specs.declared.line.Line.TheVariants.{Set, Operate, Call}
 use Rattle.vcode.specs.declared.line.Operation.TheVariants.{RegW}
 use Rattle.vcode.specs.declared.line.Jump.{Jump}
 use Rattle.vcode.specs.declared.line.Jump.TheVariants.{Goto, Return}
@@ -24,7 +24,7 @@ use Rattle.vcode.specs.declared.code.Code.{Code}
 use Rattle.vcode.specs.Coded.{classes_in}
 use Rattle.vcode.specs.Named.{keeps_places, is_below}
 use Rattle.inlining.specs.Moved.{moved, moved_line, moved_jump}
-use Rattle.inlining.specs.Leaves.{is_leaf}
+use Rattle.inlining.specs.Leaves.{begins_turn, is_leaf}
 
 -- ---- what is passed
 
@@ -94,10 +94,6 @@ in_place v leaf base k j s =
     }
 
 -- ---- where that may be done
-
-abbrev pub begins_turn : Line ℕ → Bool
-begins_turn (Tick true w) = true
-begins_turn l = false
 
 -- line j of block k is a call that passes what the leaf takes, and wants what it gives; a turn
 -- begins before it in the block; the code's registers are below `base`

@@ -146,7 +146,7 @@ fn calls_any(function: &VFunc, leaves: &[Option<VFunc>]) -> bool {
 
 /// The function with calls of leaves done in place. `leaves` has, for each global name of the function's text, the leaf that a call of it goes as, if it has one.
 /// The leaves that may be called in place are small ones by the caller's choice: each call of one is done in place where a turn begins before it in its block and
-/// no block of memory is made behind it there, until the function has 1,000 lines more, or as many registers, blocks or as much weight as it may have. It takes
+/// no block of memory is made behind it there, until the function has 2,000 lines more, or as many registers, blocks or as much weight as it may have. It takes
 /// time and memory as the function and the lines that come are long.
 ///
 /// # Errors

@@ -4,14 +4,16 @@ ghost use Rattle.std.specs.List.{list_all, list_any};
 ghost use Rattle.vcode.specs.Regular.{is_alloc};
 ghost use Rattle.vcode.specs.declared.limits.TheConstants.{PLACES};
 ghost use Rattle.inlining.specs.declared.limits.TheConstants.{BLOCKS};
-ghost use Rattle.inlining.specs.InPlace.{begins_turn, leaf_block, behind_call};
+ghost use Rattle.inlining.specs.Leaves.{begins_turn};
+ghost use Rattle.inlining.specs.InPlace.{leaf_block, behind_call};
 ghost use Rattle.inlining.specs.Placed.{site_of};
 ghost use Rattle.inlining.specs.Growth.{StandsAt, IsMade, IsCut};
 
 use crate::blocks::{CallSite, behind_call, push_leaf, up_to_call};
 use crate::growth::{Cut, Growth, Room, room_behind};
+use crate::leaf::begins_turn;
 use crate::limits::TRIES;
-use crate::site::{answers, are_paid, begins_turn, is_call_of, up_to_allocs};
+use crate::site::{answers, are_paid, is_call_of, up_to_allocs};
 use std::alloc::{AllocError, Global};
 use vcode::code::Block;
 use vcode::cost::is_paid;

@@ -1,28 +1,46 @@
 //! Functions whose calls are done in place.
-ghost use Rattle.std.specs.Prelude.{◌≡◌};
-ghost use Rattle.std.specs.List.{list_all};
-ghost use Rattle.inlining.specs.Leaves.{is_calm, is_leaf};
+ghost use Rattle.std.specs.Prelude.{◌≡◌, false};
+ghost use Rattle.inlining.specs.Leaves.{begins_turn, is_calm, calm_behind, is_leaf};
 
 use vcode::code::Block;
 use vcode::function::VFunc;
 use vcode::line::Line;
 
-fn is_calm(line: &Line<u32>) -> bool
-    ensures { result ≡ is_calm line.now }
+/// Whether the line begins a turn.
+pub(crate) fn begins_turn(line: &Line<u32>) -> bool
+    ensures { result ≡ begins_turn line.now }
 {
     match line {
-        Line::Call { .. } | Line::Alloc { .. } => false,
+        Line::Tick { turn, .. } => *turn,
+        _ => false,
+    }
+}
+
+/// Whether the line makes no block of memory, and no call where no turn began before it.
+fn is_calm(turned: bool, line: &Line<u32>) -> bool
+    ensures { result ≡ is_calm turned line.now }
+{
+    match line {
+        Line::Call { .. } => turned,
+        Line::Alloc { .. } => false,
         _ => true,
     }
 }
 
-fn are_calm(block: &Block<u32>) -> bool
-    ensures { result ≡ list_all is_calm block.now.lines }
+fn are_calm(lines: &[Line<u32>]) -> bool
+    ensures { result ≡ calm_behind false lines.now }
 {
-    block.lines.as_slice().iter().all(|line| is_calm(line))
+    let mut turned = false;
+    for line in lines {
+        if !is_calm(turned, line) {
+            return false;
+        }
+        turned = turned || begins_turn(line);
+    }
+    true
 }
 
-/// Whether the function makes no call and no block of memory.
+/// Whether the function makes no block of memory, and a turn begins before each call in its block.
 pub fn is_leaf(function: &VFunc) -> bool
     ensures { result ≡ is_leaf function.now.code }
 {
@@ -31,5 +49,5 @@ pub fn is_leaf(function: &VFunc) -> bool
         .blocks
         .as_slice()
         .iter()
-        .all(|block| are_calm(block))
+        .all(|block: &Block<u32>| are_calm(block.lines.as_slice()))
 }

@@ -4,7 +4,7 @@
 pub(crate) const BLOCKS: usize = 65_536;
 
 /// A function comes to have at most so many lines more, so that the passes behind take about the time that they would have taken.
-pub(crate) const LINES: usize = 1_000;
+pub(crate) const LINES: usize = 2_000;
 
 /// At most so many lines are copied where blocks of a function are cut: so calls in a long block take no longer than a pass over a long function.
 pub(crate) const COPIES: usize = 200_000;

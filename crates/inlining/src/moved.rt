@@ -1,15 +1,19 @@
 //! A leaf's lines and jumps at other registers and blocks.
-ghost use Rattle.std.specs.Prelude.{◌≡◌, ◌+◌, ◌<◌, IsTrue, IfOk};
+ghost use Rattle.std.specs.Prelude.{◌≡◌, ℕ, ◌+◌, ◌++◌, ◌<◌, map, IsTrue, IfOk, OnOk};
+ghost use Rattle.std.specs.List.{list_all};
+ghost use Rattle.std.specs.Option.{option_map};
 ghost use Rattle.vcode.specs.declared.limits.TheConstants.{PLACES};
-ghost use Rattle.vcode.specs.Named.{operand_keeps, line_keeps, jump_keeps, is_below};
+ghost use Rattle.vcode.specs.declared.place.Argument.{Argument as ArgumentOf};
+ghost use Rattle.vcode.specs.Named.{operand_keeps, wanted_keeps, line_keeps, jump_keeps, is_below};
 ghost use Rattle.vcode.specs.Regular.{is_target, leads_inside};
-ghost use Rattle.vcode.specs.Replaced.{with_base, with_comparison};
+ghost use Rattle.vcode.specs.Replaced.{with_base, with_argument, with_comparison};
 ghost use Rattle.inlining.specs.declared.limits.TheConstants.{BLOCKS};
-ghost use Rattle.inlining.specs.Moved.{moved, moved_line, moved_jump};
+ghost use Rattle.inlining.specs.Moved.{moved, moved_destination, moved_line, moved_jump};
 
+use il_ast::list::Seq;
 use std::alloc::{AllocError, Global};
 use vcode::line::{Comparison, Jump, Line};
-use vcode::place::{Address, Operand};
+use vcode::place::{Address, Argument, Destination, Operand};
 
 /// The operand with its register so many further.
 pub(crate) fn moved(base: u32, from: &Operand<u32>) -> Operand<u32>
@@ -49,7 +53,70 @@ fn moved_comparison(base: u32, from: &Comparison<u32>) -> Comparison<u32>
     }
 }
 
-/// The line with its registers so many further. One that calls or makes a block of memory stays as it is.
+fn moved_destination(base: u32, from: Destination<u32>) -> Destination<u32>
+    requires base { base < PLACES }
+    requires known { IsTrue (is_below PLACES from.place) }
+    ensures { result ≡ moved_destination base from }
+{
+    Destination {
+        place: from.place + base,
+        class: from.class,
+    }
+}
+
+fn moved_wanted(base: u32, from: &Option<Destination<u32>>) -> Option<Destination<u32>>
+    requires base { base < PLACES }
+    requires known { IsTrue (wanted_keeps (is_below PLACES) from.now) }
+    ensures { result ≡ option_map (moved_destination base) from.now }
+{
+    match *from {
+        None => None,
+        Some(to) => Some(moved_destination(base, to)),
+    }
+}
+
+fn moved_argument(base: u32, from: &Argument<u32>) -> Argument<u32>
+    requires base { base < PLACES }
+    requires known { IsTrue (operand_keeps (is_below PLACES) from.now.value) }
+    ensures { result ≡ with_argument (moved base) from.now }
+{
+    Argument {
+        class: from.class,
+        value: moved(base, &from.value),
+        extension: from.extension,
+    }
+}
+
+fn push_moved(
+    base: u32,
+    to: &mut Seq<Argument<u32>>,
+    args: &[Argument<u32>],
+) -> Result<(), AllocError>
+    requires base { base < PLACES }
+    requires known { IsTrue (list_all (λ (a : ArgumentOf ℕ). operand_keeps (is_below PLACES) a.value) args.now) }
+    ensures { OnOk result (to.new ≡ to.old ++ map (with_argument (moved base)) args.now) }
+{
+    for arg in args {
+        to.push(moved_argument(base, arg))?;
+    }
+    Ok(())
+}
+
+fn moved_arguments(
+    alloc: Global,
+    base: u32,
+    args: &[Argument<u32>],
+) -> Result<Seq<Argument<u32>>, AllocError>
+    requires base { base < PLACES }
+    requires known { IsTrue (list_all (λ (a : ArgumentOf ℕ). operand_keeps (is_below PLACES) a.value) args.now) }
+    ensures { IfOk result (λ v. v ≡ map (with_argument (moved base)) args.now) }
+{
+    let mut to = Seq::new(alloc);
+    push_moved(base, &mut to, args)?;
+    Ok(to)
+}
+
+/// The line with its registers so many further. One that makes a block of memory stays as it is.
 pub(crate) fn moved_line(
     alloc: Global,
     base: u32,
@@ -99,9 +166,9 @@ pub(crate) fn moved_line(
             count: *count,
         },
         Line::Call { to, callee, args } => Line::Call {
-            to: *to,
-            callee: *callee,
-            args: args.try_clone(alloc)?,
+            to: moved_wanted(base, to),
+            callee: moved(base, callee),
+            args: moved_arguments(alloc, base, args.as_slice())?,
         },
     })
 }

@@ -8,7 +8,6 @@ ghost use Rattle.vcode.specs.declared.place.Destination.{Destination as Destinat
 ghost use Rattle.vcode.specs.Coded.{classes_in};
 ghost use Rattle.vcode.specs.Cost.{is_paid};
 ghost use Rattle.vcode.specs.Regular.{is_alloc};
-ghost use Rattle.inlining.specs.InPlace.{begins_turn};
 ghost use Rattle.inlining.specs.Placed.{site_of};
 ghost use Rattle.inlining.specs.Growth.{Answers};
 
@@ -62,16 +61,6 @@ pub(crate) fn are_paid(blocks: &[Block<u32>]) -> bool
     ensures { result ≡ list_all is_paid blocks.now }
 {
     blocks.iter().all(|block| is_paid(block))
-}
-
-/// Whether the line begins a turn.
-pub(crate) fn begins_turn(line: &Line<u32>) -> bool
-    ensures { result ≡ begins_turn line.now }
-{
-    match line {
-        Line::Tick { turn, .. } => *turn,
-        _ => false,
-    }
 }
 
 fn is_alloc(line: &Line<u32>) -> bool

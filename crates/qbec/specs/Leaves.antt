@@ -1,5 +1,5 @@
--- The leaves that the names of a program's texts mean: functions that make no call, in what the
--- program becomes where locals are taken out of memory.
+-- The leaves that the names of a program's texts mean: functions that make no block of memory, in
+-- what the program becomes where locals are taken out of memory.
 use Rattle.std.specs.Prelude.{◌≡◌, ℕ, IsTrue, List, slice_get, Option, Some}
 use Rattle.il_ast.specs.declared.function.Func.{Func}
 use Rattle.il_ast.specs.declared.program.InText.{InText}
@@ -15,7 +15,7 @@ use Rattle.promote.specs.Programs.{IsProgramPromoted}
 use Rattle.headline.specs.Functions.{IsCodeIn}
 use Rattle.qbec.specs.Pipeline.{AreLeavesOf, IsCodeWith}
 
--- code of what a function becomes, with calls of these leaves in place; it makes no call
+-- code of what a function becomes, with calls of these leaves in place; it is a leaf
 pub record IsLeafCode (below : List (Option VFunc)) (f : Func) (leaf : VFunc) : Type 0 where
   pub promoted : Func
   pub is : IsPromoted f promoted

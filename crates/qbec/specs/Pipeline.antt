@@ -23,7 +23,7 @@ use Rattle.headline.specs.Compiled.{StandIn}
 -- ---- leaves
 
 -- in this text of the program the name means a function of the same text, whose code this is; and
--- that makes no call
+-- that is a leaf
 pub record IsLeafNamed (p : Program) (text name : ℕ) (leaf : VFunc) : Type 0 where
   pub number : ℕ
   pub function : InText Func

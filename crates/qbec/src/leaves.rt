@@ -12,91 +12,207 @@ use il_ast::function::Func;
 use il_ast::instruction::Inst;
 use il_ast::operand::Val;
 use il_ast::program::Target;
-use il_ast::symbol::Symbol;
 use il_ast::value::Callee;
 use obj_link::linking::linked::Linked;
 use std::alloc::{AllocError, Global};
 use vcode::function::VFunc;
 
-/// A function whose calls are done in place has at most so many instructions.
+/// A function that is called in several places, and is done in place in them, has at most so many instructions.
 const SMALL: usize = 30;
 
-fn mark_call(called: &mut [bool], targets: &[Target], inst: &Inst) {
-    if let Inst::Call {
-        callee: Val::Global(name),
-        ..
-    } = inst
-    {
-        if let Some(Target::Code(Callee::Defined(number))) = targets.get(name.number()) {
-            if let Some(mark) = called.get_mut(*number) {
-                *mark = true;
-            }
-        }
-    }
-}
+/// One that is called in one place has at most so many.
+const LARGE: usize = 400;
 
-fn mark_block(called: &mut [bool], targets: &[Target], block: &Block) {
-    for inst in block.insts.as_slice() {
-        mark_call(called, targets, &inst.item);
-    }
-}
+/// So many instructions may come to any program by calls in place, and besides half as many as it has, for functions called in one place and for the others.
+const FREE: usize = 500;
 
-fn mark_function(called: &mut [bool], targets: &[Target], function: &Func) {
-    for block in function.blocks.as_slice() {
-        mark_block(called, targets, block);
-    }
-}
-
-/// For each function of a program, whether one calls it by name.
-fn called_functions(alloc: Global, linked: &Linked<'_>) -> Result<Vec<bool>, AllocError> {
-    let mut called = Vec::new(alloc);
-    called.resize(linked.functions.len(), false)?;
-    for function in linked.functions.as_slice() {
-        if let Some(targets) = linked.targets.as_slice().get(function.text) {
-            mark_function(called.as_mut_slice(), targets.as_slice(), function.item);
-        }
-    }
-    Ok(called)
-}
-
-fn is_leaf_name(below: &[Option<VFunc>], name: Symbol) -> bool {
-    matches!(below.get(name.number()), Some(Some(_)))
-}
-
-/// Whether the block makes a call that isn't done in place.
-fn makes_call(below: &[Option<VFunc>], block: &Block) -> bool {
-    block.insts.as_slice().iter().any(|inst| match &inst.item {
+/// The number of the function that the instruction calls by name, if it calls one.
+fn callee_of(targets: &[Target], inst: &Inst) -> Option<usize> {
+    match inst {
         Inst::Call {
             callee: Val::Global(name),
             ..
-        } => !is_leaf_name(below, *name),
-        Inst::Call { .. } => true,
-        _ => false,
+        } => match targets.get(name.number()) {
+            Some(Target::Code(Callee::Defined(number))) => Some(*number),
+            _ => None,
+        },
+        _ => None,
+    }
+}
+
+fn count_call(calls: &mut [u32], targets: &[Target], inst: &Inst) {
+    if let Some(number) = callee_of(targets, inst) {
+        if let Some(count) = calls.get_mut(number) {
+            *count = count.saturating_add(1);
+        }
+    }
+}
+
+fn count_in_block(calls: &mut [u32], targets: &[Target], block: &Block) {
+    for inst in block.insts.as_slice() {
+        count_call(calls, targets, &inst.item);
+    }
+}
+
+fn count_in_function(calls: &mut [u32], targets: &[Target], function: &Func) {
+    for block in function.blocks.as_slice() {
+        count_in_block(calls, targets, block);
+    }
+}
+
+/// For each function of a program, in how many places it is called by name.
+fn count_calls(alloc: Global, linked: &Linked<'_>) -> Result<Vec<u32>, AllocError> {
+    let mut calls = Vec::new(alloc);
+    calls.resize(linked.functions.len(), 0)?;
+    for function in linked.functions.as_slice() {
+        if let Some(targets) = linked.targets.as_slice().get(function.text) {
+            count_in_function(calls.as_mut_slice(), targets.as_slice(), function.item);
+        }
+    }
+    Ok(calls)
+}
+
+/// Whether the block calls the function with this number by name.
+fn calls_it(targets: &[Target], number: usize, block: &Block) -> bool {
+    block
+        .insts
+        .as_slice()
+        .iter()
+        .any(|inst| callee_of(targets, &inst.item) == Some(number))
+}
+
+fn calls_itself(targets: &[Target], number: usize, function: &Func) -> bool {
+    function
+        .blocks
+        .as_slice()
+        .iter()
+        .any(|block| calls_it(targets, number, block))
+}
+
+/// How many instructions the function has.
+fn size_of(function: &Func) -> usize {
+    let mut size = 0usize;
+    for block in function.blocks.as_slice() {
+        size = size.saturating_add(block.insts.len());
+    }
+    size
+}
+
+/// How many instructions each function of a program has.
+fn sizes_of(alloc: Global, linked: &Linked<'_>) -> Result<Vec<usize>, AllocError> {
+    let mut sizes = Vec::with_capacity(alloc, linked.functions.len())?;
+    for function in linked.functions.as_slice() {
+        sizes.push(size_of(function.item))?;
+    }
+    Ok(sizes)
+}
+
+/// For each size, how many instructions come by all calls of functions of that size in place.
+#[derive(Drop)]
+struct Copies {
+    /// of those that are called in one place
+    once: Vec<usize>,
+    /// and of the others
+    often: Vec<usize>,
+}
+
+fn add(copies: &mut [usize], size: usize, count: u32) {
+    if let Some(sum) = copies.get_mut(size) {
+        *sum = sum.saturating_add(size.saturating_mul(count as usize));
+    }
+}
+
+fn copies_of(alloc: Global, sizes: &[usize], calls: &[u32]) -> Result<Copies, AllocError> {
+    let mut once = Vec::new(alloc);
+    let mut often = Vec::new(alloc);
+    once.resize(LARGE + 1, 0)?;
+    often.resize(SMALL + 1, 0)?;
+    for (size, count) in sizes.iter().zip(calls.iter()) {
+        if *count == 1 {
+            add(once.as_mut_slice(), *size, 1);
+        } else {
+            add(often.as_mut_slice(), *size, *count);
+        }
+    }
+    Ok(Copies { once, often })
+}
+
+/// The first size at which too many instructions come by functions up to it.
+fn limit(copies: &[usize], most: usize) -> usize {
+    let mut left = most;
+    for (size, sum) in copies.iter().enumerate() {
+        match left.checked_sub(*sum) {
+            Some(rest) => left = rest,
+            None => return size,
+        }
+    }
+    copies.len()
+}
+
+fn sum(sizes: &[usize]) -> usize {
+    let mut sum = 0usize;
+    for size in sizes {
+        sum = sum.saturating_add(*size);
+    }
+    sum
+}
+
+/// Functions of fewer instructions are done in place: those that are called in one place, and the others.
+#[derive(Clone, Copy)]
+struct Limits {
+    once: usize,
+    often: usize,
+}
+
+fn limits_of(alloc: Global, sizes: &[usize], calls: &[u32]) -> Result<Limits, AllocError> {
+    let most = (sum(sizes) / 2).saturating_add(FREE);
+    let copies = copies_of(alloc, sizes, calls)?;
+    Ok(Limits {
+        once: limit(copies.once.as_slice(), most),
+        often: limit(copies.often.as_slice(), most),
     })
 }
 
-/// Whether the function is short, and makes no call but of these leaves.
-fn is_small(below: &[Option<VFunc>], function: &Func) -> bool {
-    let mut count = 0usize;
-    for block in function.blocks.as_slice() {
-        count = count.saturating_add(block.insts.len());
-        if count > SMALL || makes_call(below, block) {
-            return false;
-        }
+fn is_small(limits: Limits, size: usize, count: u32) -> bool {
+    match count {
+        0 => false,
+        1 => size < limits.once,
+        _ => size < limits.often,
     }
-    true
 }
 
-/// Whether calls of the function with this number are to be done in place.
-fn is_worth(called: &[bool], below: &[Option<VFunc>], number: usize, function: &Func) -> bool {
-    matches!(called.get(number), Some(true)) && is_small(below, function)
+/// For each function of a program, whether it is called by name, in so many places that not too many instructions come by that in all, and not by itself.
+fn worthy_functions(alloc: Global, linked: &Linked<'_>) -> Result<Vec<bool>, AllocError> {
+    let calls = count_calls(alloc, linked)?;
+    let sizes = sizes_of(alloc, linked)?;
+    let limits = limits_of(alloc, sizes.as_slice(), calls.as_slice())?;
+    let mut worthy = Vec::with_capacity(alloc, linked.functions.len())?;
+    for (number, (size, count)) in sizes.iter().zip(calls.iter()).enumerate() {
+        worthy.push(is_small(limits, *size, *count) && !is_recursive(linked, number))?;
+    }
+    Ok(worthy)
 }
 
-/// The code of the function with this number, if it stands in this text, is small, and makes no call but of the leaves that there are.
+/// Whether the function with this number calls itself by name.
+fn is_recursive(linked: &Linked<'_>, number: usize) -> bool {
+    match linked.functions.as_slice().get(number) {
+        Some(function) => match linked.targets.as_slice().get(function.text) {
+            Some(targets) => calls_itself(targets.as_slice(), number, function.item),
+            None => false,
+        },
+        None => false,
+    }
+}
+
+fn is_marked(marks: &[bool], number: usize) -> bool {
+    matches!(marks.get(number), Some(true))
+}
+
+/// The code of the function with this number, with calls of the leaves that there are in place, if it stands in this text and its calls are to be done in place.
 fn leaf_at(
     alloc: Global,
     linked: &Linked<'_>,
-    called: &[bool],
+    worthy: &[bool],
     below: &[Option<VFunc>],
     text: usize,
     number: usize,
@@ -107,7 +223,7 @@ fn leaf_at(
 {
     match linked.functions.as_slice().get(number) {
         Some(found) => {
-            if found.text == text && is_worth(called, below, number, found.item) {
+            if found.text == text && is_marked(worthy, number) {
                 leaf_code(alloc, below, found.item)
             } else {
                 Ok(None)
@@ -121,7 +237,7 @@ fn leaf_at(
 fn leaf_meant(
     alloc: Global,
     linked: &Linked<'_>,
-    called: &[bool],
+    worthy: &[bool],
     below: &[Option<VFunc>],
     text: usize,
     target: &Target,
@@ -132,7 +248,7 @@ fn leaf_meant(
 {
     match target {
         Target::Code(Callee::Defined(number)) => {
-            leaf_at(alloc, linked, called, below, text, *number)
+            leaf_at(alloc, linked, worthy, below, text, *number)
         },
         Target::Code(_) | Target::Object(_) => Ok(None),
     }
@@ -142,7 +258,7 @@ fn leaf_meant(
 fn leaves_meant(
     alloc: Global,
     linked: &Linked<'_>,
-    called: &[bool],
+    worthy: &[bool],
     below: &[Option<VFunc>],
     text: usize,
     targets: &[Target],
@@ -153,7 +269,7 @@ fn leaves_meant(
 {
     let mut leaves = Vec::with_capacity(alloc, targets.len())?;
     for target in targets {
-        leaves.push(leaf_meant(alloc, linked, called, below, text, target)?)?;
+        leaves.push(leaf_meant(alloc, linked, worthy, below, text, target)?)?;
     }
     Ok(leaves)
 }
@@ -162,7 +278,7 @@ fn leaves_meant(
 fn leaves_at(
     alloc: Global,
     linked: &Linked<'_>,
-    called: &[bool],
+    worthy: &[bool],
     below: &[Vec<Option<VFunc>>],
     text: usize,
     targets: &[Target],
@@ -174,22 +290,22 @@ fn leaves_at(
 {
     match below.get(text) {
         Some(leaves) => {
-            let found = leaves_meant(alloc, linked, called, leaves.as_slice(), text, targets)?;
+            let found = leaves_meant(alloc, linked, worthy, leaves.as_slice(), text, targets)?;
             Ok(found)
         }
         None => {
-            let found = leaves_meant(alloc, linked, called, &[], text, targets)?;
+            let found = leaves_meant(alloc, linked, worthy, &[], text, targets)?;
             Ok(found)
         }
     }
 }
 
-/// For each text of a program and each name of the text, the leaf that it means, if it means one: a function of the same text that is short, and makes no call
-/// but of the leaves that there are.
+/// For each text of a program and each name of the text, the leaf that it means, if it means one: a function of the same text, with calls of the leaves that there
+/// are in place.
 fn leaves_over(
     alloc: Global,
     linked: &Linked<'_>,
-    called: &[bool],
+    worthy: &[bool],
     below: &[Vec<Option<VFunc>>],
 ) -> Result<Vec<Vec<Option<VFunc>>>, AllocError>
     requires good { AreGood linked.now.functions }
@@ -198,13 +314,13 @@ fn leaves_over(
 {
     let mut tables = Vec::with_capacity(alloc, linked.targets.len())?;
     for (text, targets) in linked.targets.as_slice().iter().enumerate() {
-        tables.push(leaves_at(alloc, linked, called, below, text, targets.as_slice())?)?;
+        tables.push(leaves_at(alloc, linked, worthy, below, text, targets.as_slice())?)?;
     }
     Ok(tables)
 }
 
-/// For each text of a program and each name of the text, the leaf that it means, if it means one: a function of the same text that is short, and makes no call
-/// but of functions that are short and make none.
+/// For each text of a program and each name of the text, the leaf that it means, if it means one: a function of the same text that makes no block of memory and
+/// doesn't call itself, and that is short or called in one place alone. Calls of such functions are in place in it, at most one in another.
 ///
 /// # Errors
 ///
@@ -213,8 +329,8 @@ pub fn leaves_of(alloc: Global, linked: &Linked<'_>) -> Result<Vec<Vec<Option<VF
     requires { AreGood linked.now.functions }
     ensures { IfOk result (λ v. AreLeavesIn (program linked.now) (map (λ t. t.items) v.items)) }
 {
-    let called = called_functions(alloc, linked)?;
-    let first = leaves_over(alloc, linked, called.as_slice(), &[])?;
-    let second = leaves_over(alloc, linked, called.as_slice(), first.as_slice())?;
+    let worthy = worthy_functions(alloc, linked)?;
+    let first = leaves_over(alloc, linked, worthy.as_slice(), &[])?;
+    let second = leaves_over(alloc, linked, worthy.as_slice(), first.as_slice())?;
     Ok(second)
 }

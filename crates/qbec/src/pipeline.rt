@@ -37,6 +37,7 @@ use read_copies::read::read_copies;
 use rv_isa::code::MachineCode;
 use select::select::select;
 use sign_extensions::copies::copy_whole_words;
+use sinking::sink::sink;
 use std::alloc::{AllocError, Global};
 use tail_copies::copy::{copy_tails, join_blocks};
 use value_numbering::reuse::reuse_values;
@@ -86,6 +87,7 @@ enum Pass {
     Propagation,
     Hoisting,
     ValueNumbering,
+    Sinking,
     DeadCode,
     ReadCopies,
     ConstantHoisting,
@@ -94,13 +96,14 @@ enum Pass {
 }
 
 /// All of them, in the order in which they go over a function.
-const PASSES: [Pass; 11] = [
+const PASSES: [Pass; 12] = [
     Pass::SignExtensions,
     Pass::Joining,
     Pass::Propagation,
     Pass::Hoisting,
     Pass::ValueNumbering,
     Pass::Propagation,
+    Pass::Sinking,
     Pass::DeadCode,
     Pass::ReadCopies,
     Pass::ConstantHoisting,
@@ -118,6 +121,7 @@ fn passed(alloc: Global, pass: Pass, function: VFunc) -> Result<VFunc, AllocErro
         Pass::Propagation => propagate(alloc, function),
         Pass::Hoisting => hoist(alloc, function),
         Pass::ValueNumbering => reuse_values(alloc, function),
+        Pass::Sinking => sink(alloc, function),
         Pass::DeadCode => remove_dead_code(alloc, function),
         Pass::ReadCopies => read_copies(alloc, function),
         Pass::ConstantHoisting => hoist_constants(alloc, function),
@@ -151,7 +155,7 @@ fn with_calls_placed(
 }
 
 /// The function in virtual code: with calls of these leaves in place, and by all passes in their order. `leaves` has for names of the function's text the code
-/// of the function that the name means, where that makes no call.
+/// of the function that the name means, where that is a leaf.
 ///
 /// # Errors
 ///
@@ -270,7 +274,7 @@ fn promoted_words(
     }
 }
 
-/// The code of a function, with calls of these leaves in place, if it makes no other call and no block of memory.
+/// The code of a function, with calls of these leaves in place, if it is a leaf.
 ///
 /// # Errors
 ///

@@ -12,8 +12,8 @@ leaf_code-requires c =
     (subst (λ (fs : List (InText (Bor Func))). slice_get fs c.args.number ≡ Some c.in-Some.found.now) c.as_slice.ensures
     (got_at c.as_slice.result.now c.args.number c.in-Some.found.now _ c.in-Some.ensures.lookup.0 c.in-Some.ensures.lookup.1))
 
-pub returns-then-is_worth : goal.returns-then-is_worth
-returns-then-is_worth c =
+pub returns-then-is_marked : goal.returns-then-is_marked
+returns-then-is_marked c =
     let at =
     subst (λ (fs : List (InText (Bor Func))). slice_get fs c.args.number ≡ Some c.in-Some.found.now) c.as_slice.ensures
     (got_at c.as_slice.result.now c.args.number c.in-Some.found.now _ c.in-Some.ensures.lookup.0 c.in-Some.ensures.lookup.1)

@@ -1,0 +1,7 @@
+use Rattle.std.proofs.Common.{◌≡◌, ◌++◌, map, drop}
+use Rattle.vcode.specs.Replaced.{with_argument}
+use Rattle.inlining.specs.Moved.{moved}
+use Rattle.inlining.proofs.moved.push_moved.Given as goal
+
+abbrev pub invariant-loop-arg : goal.invariant-loop-arg
+invariant-loop-arg l = l.to ++ map (with_argument (moved l.base)) (drop l.arg-index l.args) ≡ l.fn.to ++ map (with_argument (moved l.fn.base)) l.fn.args
