@@ -199,7 +199,7 @@ fn check_scanned_file(
     }
 }
 
-// Linear scan is asked once for each function, and each time its answer is accepted.
+// Linear scan is asked for each function, and once more where the function doesn't fit with calls in place; each time its answer is accepted.
 fn check_watched(
     case: &Case,
     allocator: &Watched,
@@ -218,7 +218,10 @@ fn check_watched(
         "registers are named",
         allocator.named >= case.bounds.registers,
     )?;
-    report.holds("once for each function", allocator.asked == functions)
+    report.holds(
+        "once or twice for each function",
+        functions <= allocator.asked && allocator.asked <= functions.saturating_mul(2),
+    )
 }
 
 // The status and the line of a run that ended so.

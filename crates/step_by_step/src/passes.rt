@@ -8,6 +8,7 @@ use inlining::calls::place_calls;
 use propagation::propagate::propagate;
 use read_copies::read::read_copies;
 use sign_extensions::copies::copy_whole_words;
+use sinking::sink::sink;
 use std::alloc::{AllocError, Global};
 use tail_copies::copy::{copy_tails, join_blocks};
 use value_numbering::reuse::reuse_values;
@@ -68,6 +69,12 @@ pub fn with_computations_hoisted(alloc: Global, text: &str) -> Option<String> {
 pub fn with_values_reused(alloc: Global, text: &str) -> Option<String> {
     let function = virtual_function(alloc, text)?;
     shown(alloc, reuse_values(alloc, function))
+}
+
+/// The function with numbers set where they are wanted.
+pub fn with_numbers_sunk(alloc: Global, text: &str) -> Option<String> {
+    let function = virtual_function(alloc, text)?;
+    shown(alloc, sink(alloc, function))
 }
 
 /// The function without its dead lines.

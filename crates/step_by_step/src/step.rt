@@ -22,6 +22,7 @@ pub enum Step {
     Propagation,
     Hoisting,
     ValueNumbering,
+    Sinking,
     DeadCode,
     ReadCopies,
     Loops,
@@ -49,7 +50,7 @@ pub enum Step {
 }
 
 /// All of them, in the order of the compiler.
-pub const STEPS: [Step; 37] = [
+pub const STEPS: [Step; 38] = [
     Step::Tokens,
     Step::Reading,
     Step::Checking,
@@ -63,6 +64,7 @@ pub const STEPS: [Step; 37] = [
     Step::Propagation,
     Step::Hoisting,
     Step::ValueNumbering,
+    Step::Sinking,
     Step::DeadCode,
     Step::ReadCopies,
     Step::Loops,
@@ -106,6 +108,7 @@ impl Step {
             Step::Propagation => "propagation",
             Step::Hoisting => "hoisting",
             Step::ValueNumbering => "value_numbering",
+            Step::Sinking => "sinking",
             Step::DeadCode => "dead_code",
             Step::ReadCopies => "read_copies",
             Step::Loops => "loops",
@@ -149,6 +152,7 @@ impl Step {
             Step::Propagation => passes::forwarded(alloc, case.given),
             Step::Hoisting => passes::with_computations_hoisted(alloc, case.given),
             Step::ValueNumbering => passes::with_values_reused(alloc, case.given),
+            Step::Sinking => passes::with_numbers_sunk(alloc, case.given),
             Step::DeadCode => passes::without_dead_lines(alloc, case.given),
             Step::ReadCopies => passes::with_copies_read(alloc, case.given),
             Step::Loops => nests::nests(alloc, case.given),

@@ -6,13 +6,14 @@ use std::alloc::Global;
 use text_maker::maker::TextMaker;
 
 /// The passes on virtual code, in the order of the compiler.
-const PASSES: [Step; 11] = [
+const PASSES: [Step; 12] = [
     Step::SignExtensions,
     Step::Joining,
     Step::Propagation,
     Step::Hoisting,
     Step::ValueNumbering,
     Step::Propagation,
+    Step::Sinking,
     Step::DeadCode,
     Step::ReadCopies,
     Step::ConstantHoisting,

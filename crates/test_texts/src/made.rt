@@ -5,6 +5,10 @@ use text_maker::maker::TextMaker;
 
 const MAIN: &str = "export function w $main() {\n@s\n";
 
+/// A function that multiplies by 3 as often as it is told, and calls itself for that.
+const TRIPLED: &str =
+    "function l $g(l %x, l %k) {\n@s\njnz %k, @m, @e\n@m\n%k =l sub %k, 1\n%x =l mul %x, 3\n%x =l call $g(l %x, l %k)\n@e\nret %x\n}\n";
+
 /// How many numbers live through all of a wide function.
 const KEPT: u64 = 500;
 
@@ -56,6 +60,7 @@ fn push_rule(text: &mut TextMaker, rule: &str, size: u64) {
         "far" => far(text, size),
         "wide" => wide(text, size),
         "calls" => calls(text, size),
+        "once" => once(text, size),
         _ => {}
     }
 }
@@ -242,4 +247,27 @@ fn calls(text: &mut TextMaker, count: u64) {
     text.add("%x =w copy 1\n");
     text.repeat("%x =w call $f(w %x)\n", count);
     text.add("ret %x\n}\n");
+}
+
+// A function of so many steps, gone through twice, that is called in one place, in a loop.
+fn once(text: &mut TextMaker, count: u64) {
+    text.add(TRIPLED);
+    text.add("function l $f(l %x) {\n@s\n%y =l copy %x\n%k =w copy 2\n@t\n");
+    for number in 0..count {
+        push_once_step(text, number);
+    }
+    text.add("%k =w sub %k, 1\njnz %k, @t, @e\n@e\n%x =l add %x, %y\nret %x\n}\n");
+    text.add(MAIN);
+    text.add("%x =l copy 1\n%n =w copy 3\n@t\n%x =l call $f(l %x)\n");
+    text.add("%n =w sub %n, 1\njnz %n, @t, @e\n@e\n%y =l shr %x, 8\n");
+    text.add("%x =l xor %x, %y\nret %x\n}\n");
+}
+
+// Every tenth step calls another function.
+fn push_once_step(text: &mut TextMaker, number: u64) {
+    text.add_with_numbers("%z =l mul %y, #\n%x =l add %x, %z\n", &[number]);
+    text.add("%y =l xor %y, %x\n");
+    if number % 10 == 9 {
+        text.add("%y =l call $g(l %y, l 2)\n");
+    }
 }

@@ -1,5 +1,6 @@
-//! Random programs of many small functions. What is called is small, and calls stand in loops: so most calls of leaves can be done in place. As in other random
-//! programs, all temporaries are assigned before anything else, divisors are odd and small, places lie inside the datum, and loops are counted.
+//! Random programs of many small functions. What is called is small, and calls stand in loops: so most calls of leaves can be done in place. Half of the leaves make
+//! calls themselves, of leaves before them, by name and by pointer, and of `write`. As in other random programs, all temporaries are assigned before anything else,
+//! divisors are odd and small, places lie inside the datum, and loops are counted.
 use crate::random_text::{Random, Signature, random_signature};
 use std::alloc::{AllocError, Global};
 use text_maker::maker::TextMaker;
@@ -8,6 +9,12 @@ use text_maker::maker::TextMaker;
 const LEAVES: u64 = 12;
 
 const CALLERS: u64 = 4;
+
+/// So many leaves make no calls; those behind them call these.
+const QUIET: u64 = 6;
+
+/// The leaves behind so many call these too.
+const INNER: u64 = 9;
 
 /// How many temporaries of each class a function has.
 const COUNT: u64 = 3;
@@ -169,29 +176,72 @@ fn push_return(text: &mut TextMaker, random: &mut Random, class: &str) {
     text.add("\n");
 }
 
+// Lines, and now and then a call: of one of so many functions, or of `write`.
+fn push_leaf_lines(
+    text: &mut TextMaker,
+    random: &mut Random,
+    known: &[Signature],
+    callees: u64,
+    most: u64,
+) {
+    push_lines(text, random, most);
+    if callees > 0 {
+        match random.below(4) {
+            0 => push_write(text, random),
+            1 | 2 => push_leaf_call(text, random, known, callees),
+            _ => {}
+        }
+    }
+}
+
+// A byte is put out; the answer is now and then left out.
+fn push_write(text: &mut TextMaker, random: &mut Random) {
+    text.add("storeb ");
+    push_value(text, random, "w");
+    text.add(", $byte\n");
+    if random.below(2) == 0 {
+        push_result(text, random, "l");
+    }
+    text.add("call $write(w 1, l $byte, l 1)\n");
+}
+
+fn push_leaf_call(text: &mut TextMaker, random: &mut Random, known: &[Signature], callees: u64) {
+    let at = random.below(callees) as usize;
+    if let Some(callee) = known.get(at) {
+        push_callee(text, random, callee);
+        push_arguments(text, random, callee);
+    }
+}
+
 // Two ways that meet.
-fn push_two_ways(text: &mut TextMaker, random: &mut Random) {
+fn push_two_ways(text: &mut TextMaker, random: &mut Random, known: &[Signature], callees: u64) {
     push_branch(text, random, 0);
-    push_lines(text, random, 4);
+    push_leaf_lines(text, random, known, callees, 4);
     text.add("jmp @join\n@two0\n");
-    push_lines(text, random, 4);
+    push_leaf_lines(text, random, known, callees, 4);
     text.add("@join\n");
 }
 
 // A way out before the end.
-fn push_early_return(text: &mut TextMaker, random: &mut Random, class: &str) {
+fn push_early_return(
+    text: &mut TextMaker,
+    random: &mut Random,
+    known: &[Signature],
+    callees: u64,
+    class: &str,
+) {
     push_branch(text, random, 0);
-    push_lines(text, random, 3);
+    push_leaf_lines(text, random, known, callees, 3);
     push_return(text, random, class);
     text.add("@two0\n");
 }
 
 // A loop of one to four rounds.
-fn push_loop(text: &mut TextMaker, random: &mut Random) {
+fn push_loop(text: &mut TextMaker, random: &mut Random, known: &[Signature], callees: u64) {
     text.add("%n =w and ");
     push_value(text, random, "w");
     text.add(", 3\n%n =w add %n, 1\n@loop\n");
-    push_lines(text, random, 5);
+    push_leaf_lines(text, random, known, callees, 5);
     text.add("%n =w sub %n, 1\njnz %n, @loop, @out\n@out\n");
 }
 
@@ -207,17 +257,29 @@ fn push_head(text: &mut TextMaker, random: &mut Random, own: &Signature) {
     push_temporaries(text, random, own.params.as_slice());
 }
 
-// A small function that makes no call.
-fn push_leaf(text: &mut TextMaker, random: &mut Random, own: &Signature) {
+// How many functions one of this number may call: none, those that make no calls, or those that call only these too.
+fn callees_of(number: u64) -> u64 {
+    if number < QUIET {
+        0
+    } else if number < INNER {
+        QUIET
+    } else {
+        INNER
+    }
+}
+
+// A small function, whose calls are of few functions before it.
+fn push_leaf(text: &mut TextMaker, random: &mut Random, known: &[Signature], own: &Signature) {
+    let callees = callees_of(own.number);
     push_head(text, random, own);
-    push_lines(text, random, 5);
+    push_leaf_lines(text, random, known, callees, 5);
     match random.below(4) {
-        0 => push_two_ways(text, random),
-        1 => push_early_return(text, random, own.result),
-        2 => push_loop(text, random),
+        0 => push_two_ways(text, random, known, callees),
+        1 => push_early_return(text, random, known, callees, own.result),
+        2 => push_loop(text, random, known, callees),
         _ => {}
     }
-    push_lines(text, random, 4);
+    push_leaf_lines(text, random, known, callees, 4);
     push_return(text, random, own.result);
     text.add("}\n");
 }
@@ -315,7 +377,7 @@ fn push_functions(
     for number in 0..LEAVES.wrapping_add(CALLERS) {
         let own = random_signature(alloc, random, number)?;
         if number < LEAVES {
-            push_leaf(text, random, &own);
+            push_leaf(text, random, known.as_slice(), &own);
         } else {
             push_caller(text, random, known.as_slice(), &own);
         }
@@ -330,7 +392,9 @@ fn push_table(text: &mut TextMaker, known: &[Signature]) {
     for function in known {
         text.add_with_numbers(" $f#", &[function.number]);
     }
-    text.add(" }\ndata $d = align 16 { l 1 -2 3 4294967296 -5 2147483648 7 -8 }\n");
+    text.add(
+        " }\ndata $d = align 16 { l 1 -2 3 4294967296 -5 2147483648 7 -8 }\ndata $byte = { z 1 }\n",
+    );
 }
 
 // The function that exits with all bytes of the sum together.
@@ -344,7 +408,7 @@ fn push_main(text: &mut TextMaker, random: &mut Random, known: &[Signature]) {
     text.add("storel %sum, $d\n%a =l call $write(w 1, l $d, l 64)\nret %sum\n}\n");
 }
 
-/// A program of a dozen leaves, a few functions that call them in loops, and `main`. It puts out 64 bytes and exits.
+/// A program of a dozen leaves, a few functions that call them in loops, and `main`. It puts out the bytes that leaves do and 64 more, and exits.
 pub fn small_functions(alloc: Global, seed: u64) -> Result<String, AllocError> {
     let mut random = Random::new(seed);
     let mut text = TextMaker::new(alloc);
