@@ -9,3 +9,5 @@ pub mod RunLemmas
 pub mod OutputLaws
 pub mod PieceLaws
 pub mod LabelLemmas
+pub mod SlotLemmas
+pub mod RowLemmas

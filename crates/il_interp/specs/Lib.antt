@@ -8,3 +8,6 @@ pub mod Prepared
 pub mod Room
 pub mod Begun
 pub mod Pieces
+pub mod Slots
+pub mod Rows
+pub mod Targets

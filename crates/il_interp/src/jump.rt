@@ -1,18 +1,22 @@
 //! Jumps.
-ghost use Rattle.std.specs.Prelude.{◌≡◌, List, map, Some, None, slice_get, IfOk, OnOk, MatchBool, MatchOption, nat_eq, true};
+ghost use Rattle.std.specs.Prelude.{◌≡◌, ℕ, List, map, Some, None, slice_get, IfOk, IfSome, OnOk, MatchBool, MatchOption, nat_eq, true};
 ghost use Rattle.std.specs.List.{find};
 ghost use Rattle.il_ast.specs.declared.block.PhiArg.{PhiArg as PhiArgOf};
 ghost use Rattle.il_ast.specs.declared.instruction.Jump.TheVariants.{Return};
 ghost use Rattle.il_ast.specs.Start.{globals_of};
-ghost use Rattle.il_ast.specs.Memory.{free_all};
+ghost use Rattle.il_ast.specs.declared.value.Value.{Value as ValueOf};
+ghost use Rattle.il_ast.specs.declared.value.Value.TheVariants.{Integer};
+ghost use Rattle.il_ast.specs.Memory.{Memory, free_all};
 ghost use Rattle.il_ast.specs.Effect.{branch_to, phi_value, phi_values, with_phis, enter, jump_effect};
 ghost use Rattle.il_ast.specs.Meaning.{end_of};
 ghost use Rattle.obj_link.specs.Shown.{shown};
 ghost use Rattle.obj_link.specs.ProgramOf.{program};
 ghost use Rattle.il_types.specs.Arguments.{are_distinct, are_all_distinct};
 ghost use Rattle.il_interp.specs.Prepared.{program_of};
+ghost use Rattle.il_interp.specs.Targets.{Leads};
 ghost use Rattle.il_interp.specs.Machine.{env_of, locals_of, received, return_to, react, stepped};
 
+use crate::numbers::{in_class, number_at};
 use crate::operand::operand;
 use crate::prepare::{edges_at, place_at};
 use crate::prepared::Prepared;
@@ -61,6 +65,21 @@ fn phi_value(
     }
 }
 
+/// The number that a phi takes, where its argument is the one at `place`, and an integer.
+#[tactic(auto, using(crate::proofs::RowLemmas::operand_is))]
+fn phi_number(temps: &Slots, from: Label, place: usize, phi: &Phi) -> Option<u64>
+    requires { are_distinct phi.now.args ≡ true }
+    ensures { IfSome result (λ number. (globals : List ValueOf) → phi_value globals temps.now from phi.now ≡ Some (Integer number)) }
+{
+    match argument_at(phi.args.as_slice(), from, place) {
+        Some(arg) => match number_at(temps, &arg.value) {
+            Some(number) => Some(in_class(phi.to.class, number)),
+            None => None,
+        },
+        None => None,
+    }
+}
+
 /// The place that is noted for a phi, or 0.
 fn place_of(places: Option<&Seq<usize>>, phi: usize) -> usize {
     match places {
@@ -89,9 +108,12 @@ fn read_phis(
     values.clear();
     for phi in phis {
         let place = place_of(places, values.len());
-        match phi_value(linked, text, temps, from, place, phi) {
-            Some(value) => values.push(value)?,
-            None => return Ok(false),
+        match phi_number(temps, from, place, phi) {
+            Some(number) => values.push(Value::Integer(number))?,
+            None => match phi_value(linked, text, temps, from, place, phi) {
+                Some(value) => values.push(value)?,
+                None => return Ok(false),
+            },
         }
     }
     Ok(true)
@@ -245,6 +267,34 @@ fn places_to<'a>(prepared: &'a Prepared<'_>, frame: &Frame, first: bool) -> Opti
     }
 }
 
+/// The label that a jump leads to, and whether it is the first that the jump has; none where that is
+/// undefined.
+fn target(
+    linked: &Linked<'_>,
+    function: &InText<&Func>,
+    frame: &Frame,
+    jump: Jump,
+) -> Option<(Label, bool)>
+    ensures { (from : ℕ) (m : Memory) → Leads jump (jump_effect (env_of (program linked.now) (shown function.now)) from (locals_of frame.now) m jump) (λ label. enter (env_of (program linked.now) (shown function.now)) from (locals_of frame.now) m label) result }
+{
+    match jump {
+        Jump::Goto(label) => Some((label, true)),
+        Jump::Branch {
+            on,
+            nonzero,
+            otherwise,
+        } => match operand(linked, function.text, &frame.temps, Class::W, on) {
+            Some(found) => {
+                let label = branch_to(found, nonzero, otherwise);
+                Some((label, label.number() == nonzero.number()))
+            }
+            None => None,
+        },
+        Jump::Return(_) => None,
+        Jump::Halt => None,
+    }
+}
+
 /// A jump from the block of a label.
 pub fn jump(
     prepared: &Prepared<'_>,
@@ -258,29 +308,16 @@ pub fn jump(
     ensures { IfOk result (λ end. react (program_of prepared.now) state.old (jump_effect (env_of (program_of prepared.now) (shown function.now)) from (locals_of state.old.frame) state.old.memory jump) ≡ stepped state.new end) }
 {
     match jump {
-        Jump::Goto(label) => {
-            let places = places_to(prepared, &state.frame, true);
-            enter(prepared, function, from, state, label, places, values)
-        }
-        Jump::Branch {
-            on,
-            nonzero,
-            otherwise,
-        } => match operand(
-            prepared.linked,
-            function.text,
-            &state.frame.temps,
-            Class::W,
-            on,
-        ) {
-            Some(found) => {
-                let label = branch_to(found, nonzero, otherwise);
-                let places = places_to(prepared, &state.frame, label.number() == nonzero.number());
-                enter(prepared, function, from, state, label, places, values)
-            }
-            None => Ok(Some(End::Undefined)),
-        },
         Jump::Return(value) => Ok(returns(prepared.linked, function, from, state, value)),
         Jump::Halt => Ok(Some(End::Halt)),
+        Jump::Goto(_) | Jump::Branch { .. } => {
+            match target(prepared.linked, function, &state.frame, jump) {
+                Some((label, first)) => {
+                    let places = places_to(prepared, &state.frame, first);
+                    enter(prepared, function, from, state, label, places, values)
+                }
+                None => Ok(Some(End::Undefined)),
+            }
+        }
     }
 }

@@ -31,6 +31,7 @@ mod integers;
 pub mod interpret;
 mod jump;
 mod native;
+mod numbers;
 mod object;
 mod operand;
 pub mod operate;

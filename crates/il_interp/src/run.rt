@@ -6,7 +6,7 @@ ghost use Rattle.il_interp.specs.Machine.{machine};
 
 use crate::prepared::Prepared;
 use crate::state::State;
-use crate::turn::turn;
+use crate::turn::turns_in_block;
 use il_ast::value::End;
 use std::alloc::{AllocError, Global};
 
@@ -33,10 +33,12 @@ pub fn go_on(
     ensures { IfOk result (λ end. (n : ℕ) → machine (program_of prepared.now) (turns + n) state.old ≡ rest_of (program_of prepared.now) state.new end n) }
 {
     let mut values = Vec::new(alloc);
-    for _done in 0..turns {
-        match turn(alloc, prepared, state, &mut values)? {
+    let mut left = turns;
+    while left > 0 {
+        let (done, end) = turns_in_block(alloc, prepared, state, &mut values, left)?;
+        match end {
             Some(end) => return Ok(Some(end)),
-            None => {}
+            None => left -= done,
         }
     }
     Ok(None)

@@ -1,7 +1,7 @@
 use Rattle.std.proofs.Common.{◌∙◌, ap, map, refl, List, [], ℕ}
 use Rattle.std.specs.Borrow.{Bor}
 use Rattle.obj_link.specs.ProgramOf.{program}
-use Rattle.il_interp.specs.Machine.{On, Over}
+use Rattle.il_interp.specs.Machine.{Over}
 use Rattle.il_interp.specs.Begun.{begun_next}
 use Rattle.il_interp.proofs.PieceLaws.{begins_empty, begun_means}
 use Rattle.il_interp.proofs.RunLemmas.{behaves, run_means}

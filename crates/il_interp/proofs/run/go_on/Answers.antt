@@ -1,22 +1,18 @@
-use Rattle.std.proofs.Common.{◌+◌, ◌∙◌, ap, arith}
+use Rattle.std.proofs.Common.{◌+◌, ◌-◌, ◌∙◌, ap, sym}
 use Rattle.il_interp.specs.Prepared.{program_of}
-use Rattle.il_interp.specs.Machine.{machine, stepped}
-use Rattle.il_interp.proofs.RunLemmas.{all_done, goes_on, is_over}
+use Rattle.il_interp.specs.Machine.{machine}
+use Rattle.il_interp.specs.Pieces.{rest_of}
+use Rattle.il_interp.proofs.RowLemmas.{gone_on}
 use Rattle.il_interp.proofs.run.go_on.Goals as goal
-
-pub returns : goal.returns
-returns c = λ n.
-    all_done (program_of c.args.prepared.now) c.args.turns c.loop-done._done n c.loop-done.state
-    (machine (program_of c.args.prepared.now) (c.args.turns + n) c.args.state.now) (omega arith) (c.loop-done.invariant n)
 
 pub returns-in-Some : goal.returns-in-Some
 returns-in-Some c = λ n.
-    is_over (program_of c.args.prepared.now) c.args.turns c.loop-done._done n c.loop-done.state
-    (machine (program_of c.args.prepared.now) (c.args.turns + n) c.args.state.now) c.turn.new.state.output c.in-Some.end c.loop-done-test.true (c.loop-done.invariant n)
-    (c.in_ok-end.ensures ∙ ap (stepped c.turn.new.state) c.in-Some.is)
+    sym (gone_on (program_of c.args.prepared.now) c.loop-left.left c.in_ok-done.done n c.loop-left.state c.turns_in_block.new.state c.in_ok-done.end
+    (machine (program_of c.args.prepared.now) (c.args.turns + n) c.args.state.now) c.in_ok-done.ensures.few (c.loop-left.invariant n) c.in_ok-done.ensures.means)
+    ∙ ap (λ e. rest_of (program_of c.args.prepared.now) c.turns_in_block.new.state e (c.loop-left.left - c.in_ok-done.done + n)) c.in-Some.is
 
-pub loop-done-preserved : goal.loop-done-preserved
-loop-done-preserved c = λ n.
-    goes_on (program_of c.args.prepared.now) c.args.turns c.loop-done._done n c.loop-done.state c.turn.new.state
-    (machine (program_of c.args.prepared.now) (c.args.turns + n) c.args.state.now) c.loop-done-test.true (c.loop-done.invariant n)
-    (c.in_ok-end.ensures ∙ ap (stepped c.turn.new.state) c.in-None.is)
+pub loop-left-preserved : goal.loop-left-preserved
+loop-left-preserved c = λ n.
+    sym (ap (λ e. rest_of (program_of c.args.prepared.now) c.turns_in_block.new.state e (c.loop-left.left - c.in_ok-done.done + n)) c.in-None.is)
+    ∙ gone_on (program_of c.args.prepared.now) c.loop-left.left c.in_ok-done.done n c.loop-left.state c.turns_in_block.new.state c.in_ok-done.end
+    (machine (program_of c.args.prepared.now) (c.args.turns + n) c.args.state.now) c.in_ok-done.ensures.few (c.loop-left.invariant n) c.in_ok-done.ensures.means

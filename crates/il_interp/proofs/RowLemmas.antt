@@ -1,0 +1,144 @@
+-- Instructions on integers, one further.
+use Rattle.std.proofs.Common.{◌≡◌, ℕ, zero, suc, ◌+◌, ◌-◌, ◌%◌, ◌^◌, ◌<◌, ◌≤◌, List, [], ◌∷◌, length, get_or, refl, ap, sym, ◌∙◌, arith}
+use Rattle.std.specs.Prelude.{slice_get, slice_set, Option, Some, None}
+use Rattle.std.specs.Option.{option_and_then}
+use Rattle.il_ast.specs.declared.operation.Class.{Class}
+use Rattle.il_ast.specs.declared.operation.Class.TheVariants.{W, L}
+use Rattle.il_ast.specs.declared.operation.BinaryOp.{BinaryOp}
+use Rattle.il_ast.specs.declared.operand.Dest.{Dest}
+use Rattle.il_ast.specs.declared.operand.Val.{Val}
+use Rattle.il_ast.specs.declared.instruction.Lined.{Lined}
+use Rattle.il_ast.specs.declared.instruction.Inst.{Inst}
+use Rattle.il_ast.specs.declared.instruction.Inst.TheVariants.{Binary}
+use Rattle.il_ast.specs.declared.block.Block.{Block}
+use Rattle.il_ast.specs.declared.function.Func.{Func}
+use Rattle.il_ast.specs.declared.program.InText.{InText}
+use Rattle.il_ast.specs.declared.program.Program.{Program}
+use Rattle.il_ast.specs.declared.value.Value.{Value}
+use Rattle.il_ast.specs.declared.value.Value.TheVariants.{Integer}
+use Rattle.il_ast.specs.declared.value.End.{End}
+use Rattle.il_ast.specs.declared.value.End.TheVariants.{Undefined}
+use Rattle.il_ast.specs.Meaning.{Behaviour}
+use Rattle.il_ast.specs.Values.{modulus, in_place}
+use Rattle.il_ast.specs.Memory.{Memory}
+use Rattle.il_ast.specs.Operations.{left_class, right_class, on_integers, operate_two}
+use Rattle.il_ast.specs.Effect.{effect, turn_of, turn_in, inst_effect, after_inst, assigned, operand, value_at, Done}
+use Rattle.il_interp.specs.declared.state.State.{State}
+use Rattle.il_interp.specs.Pieces.{rest_of}
+use Rattle.il_interp.specs.Machine.{On, Over, stepped, act_of, env_of, react, turn_in_function, step, go_on, machine}
+use Rattle.il_interp.specs.Rows.{in_class, Does, further_on, GoesOn}
+
+-- ---- one operation
+
+pub reduced : (k : Class) (n : ℕ) → n < 2 ^ 64 → n % modulus k ≡ in_class k n
+reduced W n lt = refl
+reduced L n lt = omega (arith, lt)
+
+in_its_place : (k : Class) (n : ℕ) → in_place k (Integer n) ≡ Some (Integer (in_class k n))
+in_its_place W n = refl
+in_its_place L n = refl
+
+-- the value of an operand that is an integer
+pub operand_is : (globals : List Value) (temps : List (Option Value)) (k : Class) (v : Val) (n : ℕ) → value_at globals temps v ≡ Some (Integer n)
+    → operand globals temps k v ≡ Some (Integer (in_class k n))
+operand_is globals temps k v n h = ap (option_and_then (in_place k)) h ∙ in_its_place k n
+
+operated : (m : Memory) (op : BinaryOp) (c : Class) (l r : Option Value) (a b made : ℕ) → l ≡ Some (Integer a) → r ≡ Some (Integer b) → on_integers op c a b ≡ Some made
+    → option_and_then (λ u. option_and_then (λ v. operate_two m op c u v) r) l ≡ Some (Integer made)
+unfolding operate_two
+operated m op c l r a b made hl hr h =
+    ap (option_and_then (λ u. option_and_then (λ v. operate_two m op c u v) r)) hl
+    ∙ (ap (option_and_then (λ v. operate_two m op c (Integer a) v)) hr ∙ ap (λ o. option_and_then (λ n. Some (Integer n)) o) h)
+
+pub does_binary : (old new : List (Option Value)) (to : Dest) (op : BinaryOp) (left right : Val) (a b made : ℕ)
+    → ((globals : List Value) → value_at globals old left ≡ Some (Integer a)) → ((globals : List Value) → value_at globals old right ≡ Some (Integer b))
+    → on_integers op to.class (in_class (left_class op to.class) a) (in_class (right_class op to.class) b) ≡ Some made
+    → new ≡ slice_set old to.temp (Some (Integer made)) → Does old (Binary to op left right) new
+unfolding inst_effect
+does_binary old new to op left right a b made hl hr h n globals owned m =
+    ap (assigned (record { temps = old; owned = owned }) m to.temp)
+    (operated m op to.class (operand globals old (left_class op to.class) left) (operand globals old (right_class op to.class) right)
+    (in_class (left_class op to.class) a) (in_class (right_class op to.class) b) made
+    (operand_is globals old (left_class op to.class) left a (hl globals)) (operand_is globals old (right_class op to.class) right b (hr globals)) h)
+    ∙ ap (λ temps. Done 1 (record { temps = temps; owned = owned }) m) (sym n)
+
+-- ---- one turn of a row
+
+pub stays : (insts : List (Lined Inst)) (temps : List (Option Value)) (next : ℕ) → GoesOn insts temps next temps next
+stays insts temps next p f b st hf hb hi ht hn n =
+    let none : next - next + n ≡ n = omega arith in
+    ap (λ k. machine p k st) none ∙ (ap (λ k. machine p n (further_on st k st.frame.temps)) hn ∙ ap (λ ts. machine p n (further_on st next ts)) ht)
+
+turn_is : (insts : List (Lined Inst)) (at : ℕ) (x : Lined Inst) (cur new : List (Option Value)) (p : Program) (f : InText Func) (b : Block) (st : State)
+    → slice_get p.functions st.frame.function ≡ Some f → slice_get f.item.blocks st.frame.block ≡ Some b → b.insts ≡ insts
+    → slice_get insts at ≡ Some x → Does cur x.item new → step p (further_on st at cur) ≡ On (further_on st (at + 1) new)
+unfolding step effect
+turn_is insts at x cur new p f b st hf hb hi hx d =
+    ap (turn_in_function p (further_on st at cur)) hf
+    ∙ (ap (λ o. react p (further_on st at cur) (turn_of (env_of p f) (act_of (further_on st at cur).frame) st.memory o)) hb
+    ∙ (ap (λ o. react p (further_on st at cur) (turn_in (env_of p f) (act_of (further_on st at cur).frame) st.memory b o)) (ap (λ xs. slice_get xs at) hi ∙ hx)
+    ∙ ap (λ e. react p (further_on st at cur) (after_inst st.frame.block at (record { temps = cur; owned = st.frame.owned }) e)) (d (env_of p f).globals st.frame.owned st.memory)))
+
+pub one_further : (insts : List (Lined Inst)) (old cur new : List (Option Value)) (next at : ℕ) (x : Lined Inst) → next ≤ at → slice_get insts at ≡ Some x
+    → Does cur x.item new → GoesOn insts old next cur at → GoesOn insts old next new (at + 1)
+unfolding machine
+one_further insts old cur new next at x le hx d inv p f b st hf hb hi ht hn n =
+    let count : at + 1 - next + n ≡ at - next + suc n = omega (arith, le) in
+    ap (λ k. machine p k st) count
+    ∙ (inv p f b st hf hb hi ht hn (suc n) ∙ ap (go_on (machine p n)) (turn_is insts at x cur new p f b st hf hb hi hx d))
+
+-- what changed nothing is left out
+pub the_same : (insts : List (Lined Inst)) (old cur new : List (Option Value)) (next at : ℕ) → new ≡ cur → GoesOn insts old next cur at → GoesOn insts old next new at
+the_same insts old cur new next at e inv p f b st hf hb hi ht hn n = inv p f b st hf hb hi ht hn n ∙ ap (λ ts. machine p n (further_on st at ts)) (sym e)
+
+pub read_at : {A : Type 0} (xs : List A) (i : ℕ) (d : A) → i < length xs → slice_get xs i ≡ Some (get_or xs i d)
+read_at [] i d lt = absurd (omega arith)
+read_at (y ∷ ys) zero d lt = refl
+read_at (y ∷ ys) (suc i) d lt = read_at ys i d (omega arith)
+
+-- ---- a row, and the turn behind it
+
+rests : (p : Program) (new : State) (end : Option End) (n : ℕ) → go_on (machine p n) (stepped new end) ≡ rest_of p new end n
+rests p new None n = refl
+rests p new (Some e) n = refl
+
+one_turn : (p : Program) (n : ℕ) (st new : State) (end : Option End) → step p st ≡ stepped new end → machine p (suc n) st ≡ rest_of p new end n
+unfolding machine
+one_turn p n st new end h = ap (go_on (machine p n)) h ∙ rests p new end n
+
+block_turn : (p : Program) (f : InText Func) (b : Block) (st new : State) (end : Option End)
+    → slice_get p.functions st.frame.function ≡ Some f → slice_get f.item.blocks st.frame.block ≡ Some b
+    → react p st (turn_of (env_of p f) (act_of st.frame) st.memory (Some b)) ≡ stepped new end → step p st ≡ stepped new end
+unfolding step effect
+block_turn p f b st new end hf hb h =
+    ap (turn_in_function p st) hf ∙ (ap (λ o. react p st (turn_of (env_of p f) (act_of st.frame) st.memory o)) hb ∙ h)
+
+pub row_and_turn : (p : Program) (f : InText Func) (b : Block) (st new : State) (end : Option End) (insts : List (Lined Inst)) (next : ℕ) (temps : List (Option Value)) (n : ℕ)
+    → slice_get p.functions st.frame.function ≡ Some f → slice_get f.item.blocks st.frame.block ≡ Some b → b.insts ≡ insts → GoesOn insts st.frame.temps st.frame.next temps next
+    → react p (further_on st next temps) (turn_of (env_of p f) (act_of (further_on st next temps).frame) st.memory (Some b)) ≡ stepped new end
+    → machine p (next - st.frame.next + 1 + n) st ≡ rest_of p new end n
+row_and_turn p f b st new end insts next temps n hf hb hi goes h =
+    let count : next - st.frame.next + 1 + n ≡ next - st.frame.next + suc n = omega arith in
+    ap (λ k. machine p k st) count
+    ∙ (goes p f b st hf hb hi refl refl (suc n) ∙ one_turn p n (further_on st next temps) new end (block_turn p f b (further_on st next temps) new end hf hb h))
+
+undefined_turn : (p : Program) (st : State) (n : ℕ) → step p st ≡ Over st.output Undefined → machine p (1 + n) st ≡ record { output = st.output; ending = Undefined }
+undefined_turn p st n h = let count : 1 + n ≡ suc n = omega arith in ap (λ k. machine p k st) count ∙ one_turn p n st st (Some Undefined) h
+
+pub no_function : (p : Program) (st : State) (n : ℕ) → slice_get p.functions st.frame.function ≡ None → machine p (1 + n) st ≡ record { output = st.output; ending = Undefined }
+unfolding step
+no_function p st n h = undefined_turn p st n (ap (turn_in_function p st) h)
+
+pub no_block : (p : Program) (f : InText Func) (st : State) (n : ℕ) → slice_get p.functions st.frame.function ≡ Some f → slice_get f.item.blocks st.frame.block ≡ None
+    → machine p (1 + n) st ≡ record { output = st.output; ending = Undefined }
+unfolding step effect
+no_block p f st n hf hb =
+    undefined_turn p st n (ap (turn_in_function p st) hf ∙ ap (λ o. react p st (turn_of (env_of p f) (act_of st.frame) st.memory o)) hb)
+
+-- ---- rows, one after another
+
+pub gone_on : (p : Program) (left done n : ℕ) (st new : State) (end : Option End) (whole : Behaviour) → done ≤ left → machine p (left + n) st ≡ whole
+    → ((k : ℕ) → machine p (done + k) st ≡ rest_of p new end k) → rest_of p new end (left - done + n) ≡ whole
+gone_on p left done n st new end whole le inv h =
+    let count : done + (left - done + n) ≡ left + n = omega (arith, le) in
+    sym (h (left - done + n)) ∙ (ap (λ k. machine p k st) count ∙ inv)

@@ -1,0 +1,15 @@
+use Rattle.std.proofs.Common.{◌<◌, arith, length, get_or}
+use Rattle.il_interp.proofs.RowLemmas.{one_further, read_at}
+use Rattle.il_interp.proofs.numbers.operate_in_row.Goals.{then-most-count, else-most-count}
+use Rattle.il_interp.proofs.numbers.operate_in_row.Goals as goal
+
+pub loop-at-preserved : goal.loop-at-preserved
+loop-at-preserved c =
+    let inside : c.loop-at.at < length c.args.insts.now =
+    elim c.if-most-count.branch [
+      | then-most-count w ↦ omega (arith, c.loop-at-test.true, w.end-is, w.if-most-count.true, c.if-next-count.false)
+      | else-most-count w ↦ omega (arith, c.loop-at-test.true, w.end-is)
+    ] in
+    one_further c.args.insts.now c.args.temps.now c.loop-at.temps c.instruction.new.temps c.args.next c.loop-at.at
+    (get_or c.args.insts.now c.loop-at.at c.index-insts-at.result) c.loop-at.auto.at
+    (read_at c.args.insts.now c.loop-at.at c.index-insts-at.result inside) c.if-not-instruction.ensures c.loop-at.invariant

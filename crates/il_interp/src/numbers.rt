@@ -1,0 +1,115 @@
+//! Operations on integers, which are done one after another within a block.
+ghost use Rattle.std.specs.Prelude.{◌≡◌, ◌-◌, ◌≤◌, List, Some, IfSome, MatchBool};
+ghost use Rattle.il_ast.specs.declared.instruction.Inst.TheVariants.{Binary};
+ghost use Rattle.il_ast.specs.declared.value.Value.{Value as ValueOf};
+ghost use Rattle.il_ast.specs.declared.value.Value.TheVariants.{Integer};
+ghost use Rattle.il_ast.specs.Effect.{value_at};
+ghost use Rattle.il_ast.specs.Operations.{left_class, right_class, on_integers};
+ghost use Rattle.il_interp.specs.Rows.{in_class, Does, GoesOn};
+
+use crate::integers::{on_longs, on_words};
+use crate::slots::Slots;
+use il_ast::condition::numbers_hold;
+use il_ast::instruction::{Inst, Lined};
+use il_ast::operand::{Dest, Val};
+use il_ast::operation::{BinaryOp, Class};
+
+/// The number that an operand is, where that is an integer: none for a pointer, a function or a
+/// global name, and for a temporary that isn't assigned yet.
+pub fn number_at(temps: &Slots, value: &Val) -> Option<u64>
+    ensures { IfSome result (λ number. (globals : List ValueOf) → value_at globals temps.now value.now ≡ Some (Integer number)) }
+{
+    match value {
+        Val::Int(number) => Some(*number),
+        Val::Temp(temp) => temps.number(temp.number()),
+        Val::Global(_) => None,
+    }
+}
+
+/// What a place of a class takes of an integer: the low 32 bits for a word.
+pub fn in_class(class: Class, number: u64) -> u64
+    ensures { result ≡ in_class class number }
+{
+    match class {
+        Class::W => number % 0x1_0000_0000,
+        Class::L => number,
+    }
+}
+
+/// The operation on two integers, as their places take them; none where it is undefined.
+#[tactic(auto, using(crate::proofs::RowLemmas::reduced))]
+fn on_numbers(op: BinaryOp, class: Class, a: u64, b: u64) -> Option<u64>
+    ensures { result ≡ on_integers op class (in_class (left_class op class) a) (in_class (right_class op class) b) }
+{
+    match op {
+        BinaryOp::Compare(on, compared) => Some(u64::from(numbers_hold(on, compared, a, b))),
+        _ => match class {
+            Class::W => {
+                match on_words(op, (a % 0x1_0000_0000) as u32, (b % 0x1_0000_0000) as u32) {
+                    Some(n) => Some(u64::from(n)),
+                    None => None,
+                }
+            }
+            Class::L => on_longs(op, a, b),
+        },
+    }
+}
+
+/// `to = op left, right`, where both are integers and the operation is defined. Answers whether it
+/// was done.
+fn binary(temps: &mut Slots, to: &Dest, op: &BinaryOp, left: &Val, right: &Val) -> bool
+    ensures { MatchBool result (Does temps.old (Binary to.now op.now left.now right.now) temps.new) (temps.new ≡ temps.old) }
+{
+    match number_at(temps, left) {
+        Some(a) => match number_at(temps, right) {
+            Some(b) => match on_numbers(*op, to.class, a, b) {
+                Some(made) => {
+                    temps.set_number(to.temp.number(), made);
+                    true
+                }
+                None => false,
+            },
+            None => false,
+        },
+        None => false,
+    }
+}
+
+/// Does an operation on integers. Answers whether the instruction was one, and was done.
+fn instruction(temps: &mut Slots, inst: &Inst) -> bool
+    ensures { MatchBool result (Does temps.old inst.now temps.new) (temps.new ≡ temps.old) }
+{
+    match inst {
+        Inst::Binary {
+            to,
+            op,
+            left,
+            right,
+        } => binary(temps, to, op, left, right),
+        _ => false,
+    }
+}
+
+/// Does the operations on integers that stand in a block from a place on, at most so many. Answers
+/// the place behind them.
+pub fn operate_in_row(insts: &[Lined<Inst>], temps: &mut Slots, next: usize, most: u64) -> usize
+    ensures more { next ≤ result }
+    ensures few { result - next ≤ most }
+    ensures goes { GoesOn insts.now temps.old next temps.new result }
+{
+    let count = insts.len();
+    if next >= count {
+        return next;
+    }
+    let end = if most < (count - next) as u64 {
+        next + most as usize
+    } else {
+        count
+    };
+    for at in next..end {
+        if !instruction(temps, &insts[at].item) {
+            return at;
+        }
+    }
+    end
+}
