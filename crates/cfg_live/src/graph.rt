@@ -1,5 +1,6 @@
 //! The graph of a function's points.
 use crate::uses::Uses;
+use il_ast::few::Few;
 use il_ast::list::Seq;
 
 /// The points of a function, numbered from 0 in the order of its text: its lines but for ticks, and its jumps.
@@ -8,5 +9,5 @@ pub struct Graph {
     /// what each point reads and writes
     pub uses: Seq<Uses>,
     /// for each point, the points that may come next
-    pub nexts: Seq<Seq<usize>>,
+    pub nexts: Seq<Few<usize>>,
 }

@@ -28,7 +28,7 @@ fn blank_rows(alloc: Global, points: usize, registers: usize) -> Result<Vec<BitS
     ensures as_many { IfOk result (λ v. length v.items ≡ points) }
     ensures blank { IfOk result (λ v. AreBlank registers v.items) }
 {
-    let mut rows = Vec::new(alloc);
+    let mut rows = Vec::with_capacity(alloc, points)?;
     for _ in 0..points {
         push_blank(alloc, &mut rows, registers)?;
     }

@@ -1,7 +1,7 @@
 //! An order of the points in which most of the growth of live sets comes at once.
 use crate::graph::Graph;
 use bitset::BitSet;
-use il_ast::list::Seq;
+use il_ast::few::Few;
 use std::alloc::{AllocError, Global};
 
 /// A place on a walk through the graph.
@@ -26,7 +26,7 @@ fn push_enters(ahead: &mut Vec<Place>, points: &[usize]) -> Result<(), AllocErro
     Ok(())
 }
 
-fn enter(walk: &mut Walk, edges: &[Seq<usize>], point: usize) -> Result<(), AllocError> {
+fn enter(walk: &mut Walk, edges: &[Few<usize>], point: usize) -> Result<(), AllocError> {
     if point >= walk.seen.len() || walk.seen.contains(point) {
         return Ok(());
     }
@@ -38,7 +38,7 @@ fn enter(walk: &mut Walk, edges: &[Seq<usize>], point: usize) -> Result<(), Allo
     }
 }
 
-fn pass(walk: &mut Walk, edges: &[Seq<usize>], place: Place) -> Result<(), AllocError> {
+fn pass(walk: &mut Walk, edges: &[Few<usize>], place: Place) -> Result<(), AllocError> {
     match place {
         Place::Enter(point) => enter(walk, edges, point),
         Place::Leave(point) => {
@@ -48,7 +48,7 @@ fn pass(walk: &mut Walk, edges: &[Seq<usize>], place: Place) -> Result<(), Alloc
     }
 }
 
-fn walk_from(walk: &mut Walk, edges: &[Seq<usize>], point: usize) -> Result<(), AllocError> {
+fn walk_from(walk: &mut Walk, edges: &[Few<usize>], point: usize) -> Result<(), AllocError> {
     walk.ahead.push(Place::Enter(point))?;
     for _ in 0..u64::MAX {
         match walk.ahead.pop() {
@@ -62,13 +62,13 @@ fn walk_from(walk: &mut Walk, edges: &[Seq<usize>], point: usize) -> Result<(), 
 /// The points in the order in which a walk along these edges leaves them, depth first, from each root in turn.
 fn postorder(
     alloc: Global,
-    edges: &[Seq<usize>],
+    edges: &[Few<usize>],
     roots: &[usize],
 ) -> Result<Vec<usize>, AllocError> {
     let mut walk = Walk {
-        ahead: Vec::new(alloc),
+        ahead: Vec::with_capacity(alloc, edges.len())?,
         seen: BitSet::new(alloc, edges.len())?,
-        left: Vec::new(alloc),
+        left: Vec::with_capacity(alloc, edges.len())?,
     };
     for root in roots {
         walk_from(&mut walk, edges, *root)?;
@@ -76,15 +76,15 @@ fn postorder(
     Ok(walk.left)
 }
 
-fn no_edges(alloc: Global, points: usize) -> Result<Vec<Seq<usize>>, AllocError> {
-    let mut edges = Vec::new(alloc);
+fn no_edges(alloc: Global, points: usize) -> Result<Vec<Few<usize>>, AllocError> {
+    let mut edges = Vec::with_capacity(alloc, points)?;
     for _ in 0..points {
-        edges.push(Seq::new(alloc))?;
+        edges.push(Few::new(alloc))?;
     }
     Ok(edges)
 }
 
-fn push_edges(edges: &mut [Seq<usize>], next: &[usize], point: usize) -> Result<(), AllocError> {
+fn push_edges(edges: &mut [Few<usize>], next: &[usize], point: usize) -> Result<(), AllocError> {
     for behind in next {
         match edges.get_mut(*behind) {
             Some(before) => before.push(point)?,
@@ -99,7 +99,7 @@ fn push_edges(edges: &mut [Seq<usize>], next: &[usize], point: usize) -> Result<
 /// # Errors
 ///
 /// Only where memory was refused.
-pub(crate) fn befores(alloc: Global, graph: &Graph) -> Result<Vec<Seq<usize>>, AllocError> {
+pub(crate) fn befores(alloc: Global, graph: &Graph) -> Result<Vec<Few<usize>>, AllocError> {
     let mut edges = no_edges(alloc, graph.nexts.len())?;
     for (point, next) in graph.nexts.as_slice().iter().enumerate() {
         push_edges(edges.as_mut_slice(), next.as_slice(), point)?;
@@ -116,9 +116,9 @@ pub(crate) fn befores(alloc: Global, graph: &Graph) -> Result<Vec<Seq<usize>>, A
 pub(crate) fn successors_first(
     alloc: Global,
     graph: &Graph,
-    befores: &[Seq<usize>],
+    befores: &[Few<usize>],
 ) -> Result<Vec<usize>, AllocError> {
-    let mut points = Vec::new(alloc);
+    let mut points = Vec::with_capacity(alloc, graph.nexts.len())?;
     for point in 0..graph.nexts.len() {
         points.push(point)?;
     }

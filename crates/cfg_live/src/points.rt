@@ -4,6 +4,7 @@ ghost use Rattle.cfg_live.specs.Points.{with_line, with_lines, with_block, with_
 
 use crate::graph::Graph;
 use crate::uses::{Uses, jump_reads, line_reads, line_writes};
+use il_ast::few::Few;
 use il_ast::list::Seq;
 use std::alloc::{AllocError, Global};
 use vcode::code::Block;
@@ -61,6 +62,15 @@ fn push_blocks(
     Ok(())
 }
 
+/// How many points these blocks have at most, for which room is reserved.
+fn most_points(blocks: &[Block<u32>]) -> usize {
+    let mut points: usize = 0;
+    for block in blocks {
+        points = points.saturating_add(block.lines.len()).saturating_add(1);
+    }
+    points
+}
+
 /// What each point reads and writes, and the first point of each block.
 fn uses_and_starts(
     alloc: Global,
@@ -69,13 +79,13 @@ fn uses_and_starts(
     ensures uses { IfOk result (λ v. v.0.items ≡ uses blocks.now) }
     ensures starts { IfOk result (λ v. v.1.items ≡ starts blocks.now) }
 {
-    let mut uses = Vec::new(alloc);
-    let mut firsts = Vec::new(alloc);
+    let mut uses = Vec::with_capacity(alloc, most_points(blocks))?;
+    let mut firsts = Vec::with_capacity(alloc, blocks.len())?;
     push_blocks(alloc, &mut uses, &mut firsts, blocks)?;
     Ok((uses, firsts))
 }
 
-fn push_start(next: &mut Seq<usize>, first: Option<usize>) -> Result<(), AllocError>
+fn push_start(next: &mut Few<usize>, first: Option<usize>) -> Result<(), AllocError>
     ensures { OnOk result (next.new ≡ with_start next.old first) }
 {
     match first {
@@ -84,10 +94,10 @@ fn push_start(next: &mut Seq<usize>, first: Option<usize>) -> Result<(), AllocEr
     }
 }
 
-fn next_of_jump(alloc: Global, firsts: &[usize], jump: &Jump<u32>) -> Result<Seq<usize>, AllocError>
+fn next_of_jump(alloc: Global, firsts: &[usize], jump: &Jump<u32>) -> Result<Few<usize>, AllocError>
     ensures { IfOk result (λ v. v ≡ jump_next firsts.now jump.now) }
 {
-    let mut next = Seq::new(alloc);
+    let mut next = Few::new(alloc);
     match jump {
         Jump::Goto(block) => push_start(&mut next, firsts.get(*block).copied())?,
         Jump::Branch { met, otherwise, .. } => {
@@ -100,13 +110,13 @@ fn next_of_jump(alloc: Global, firsts: &[usize], jump: &Jump<u32>) -> Result<Seq
     Ok(next)
 }
 
-fn push_next(alloc: Global, nexts: &mut Vec<Seq<usize>>, line: &Line<u32>) -> Result<(), AllocError>
+fn push_next(alloc: Global, nexts: &mut Vec<Few<usize>>, line: &Line<u32>) -> Result<(), AllocError>
     ensures { OnOk result (nexts.new.items ≡ next_line nexts.old.items line.now) }
 {
     if let Line::Tick { .. } = line {
         return Ok(());
     }
-    let mut next = Seq::new(alloc);
+    let mut next = Few::new(alloc);
     next.push(nexts.len() + 1)?;
     nexts.push(next)?;
     Ok(())
@@ -114,7 +124,7 @@ fn push_next(alloc: Global, nexts: &mut Vec<Seq<usize>>, line: &Line<u32>) -> Re
 
 fn push_next_lines(
     alloc: Global,
-    nexts: &mut Vec<Seq<usize>>,
+    nexts: &mut Vec<Few<usize>>,
     lines: &[Line<u32>],
 ) -> Result<(), AllocError>
     ensures { OnOk result (nexts.new.items ≡ next_lines nexts.old.items lines.now) }
@@ -128,7 +138,7 @@ fn push_next_lines(
 fn push_next_block(
     alloc: Global,
     firsts: &[usize],
-    nexts: &mut Vec<Seq<usize>>,
+    nexts: &mut Vec<Few<usize>>,
     block: &Block<u32>,
 ) -> Result<(), AllocError>
     ensures { OnOk result (nexts.new.items ≡ next_block firsts.now nexts.old.items block.now) }
@@ -142,7 +152,7 @@ fn push_next_block(
 fn push_next_blocks(
     alloc: Global,
     firsts: &[usize],
-    nexts: &mut Vec<Seq<usize>>,
+    nexts: &mut Vec<Few<usize>>,
     blocks: &[Block<u32>],
 ) -> Result<(), AllocError>
     ensures { OnOk result (nexts.new.items ≡ next_blocks firsts.now nexts.old.items blocks.now) }
@@ -163,7 +173,7 @@ pub fn graph(alloc: Global, function: &VFunc) -> Result<Graph, AllocError>
 {
     let blocks = function.code.blocks.as_slice();
     let (uses, firsts) = uses_and_starts(alloc, blocks)?;
-    let mut nexts = Vec::new(alloc);
+    let mut nexts = Vec::with_capacity(alloc, uses.len())?;
     push_next_blocks(alloc, &firsts, &mut nexts, blocks)?;
     Ok(Graph {
         uses: Seq::from_vec(uses),

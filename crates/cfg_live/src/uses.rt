@@ -2,7 +2,7 @@
 ghost use Rattle.std.specs.Prelude.{◌≡◌, ◌++◌, [], ◌∷◌, drop, OnOk, IfOk};
 ghost use Rattle.cfg_live.specs.Registers.{with_operand, with_args, line_reads, line_writes, jump_reads};
 
-use il_ast::list::Seq;
+use il_ast::few::Few;
 use std::alloc::{AllocError, Global};
 use vcode::line::{Jump, Line};
 use vcode::place::{Argument, Operand};
@@ -10,11 +10,11 @@ use vcode::place::{Argument, Operand};
 /// The registers that a point reads, and the one that it writes.
 #[derive(Drop)]
 pub struct Uses {
-    pub reads: Seq<u32>,
+    pub reads: Few<u32>,
     pub writes: Option<u32>,
 }
 
-fn push_operand(reads: &mut Seq<u32>, operand: &Operand<u32>) -> Result<(), AllocError>
+fn push_operand(reads: &mut Few<u32>, operand: &Operand<u32>) -> Result<(), AllocError>
     ensures { OnOk result (reads.new ≡ with_operand reads.old operand.now) }
 {
     match operand {
@@ -24,7 +24,7 @@ fn push_operand(reads: &mut Seq<u32>, operand: &Operand<u32>) -> Result<(), Allo
     }
 }
 
-fn push_args(reads: &mut Seq<u32>, args: &[Argument<u32>]) -> Result<(), AllocError>
+fn push_args(reads: &mut Few<u32>, args: &[Argument<u32>]) -> Result<(), AllocError>
     ensures { OnOk result (reads.new ≡ with_args reads.old args.now) }
 {
     for arg in args {
@@ -34,10 +34,10 @@ fn push_args(reads: &mut Seq<u32>, args: &[Argument<u32>]) -> Result<(), AllocEr
 }
 
 /// The registers that a line reads, those of its operands in order.
-pub(crate) fn line_reads(alloc: Global, line: &Line<u32>) -> Result<Seq<u32>, AllocError>
+pub(crate) fn line_reads(alloc: Global, line: &Line<u32>) -> Result<Few<u32>, AllocError>
     ensures { IfOk result (λ v. v ≡ line_reads line.now) }
 {
-    let mut reads = Seq::new(alloc);
+    let mut reads = Few::new(alloc);
     match line {
         Line::Tick { .. } => {}
         Line::Set { value, .. } => push_operand(&mut reads, value)?,
@@ -83,10 +83,10 @@ pub fn line_writes(line: &Line<u32>) -> Option<u32>
 }
 
 /// The registers that a jump reads.
-pub(crate) fn jump_reads(alloc: Global, jump: &Jump<u32>) -> Result<Seq<u32>, AllocError>
+pub(crate) fn jump_reads(alloc: Global, jump: &Jump<u32>) -> Result<Few<u32>, AllocError>
     ensures { IfOk result (λ v. v ≡ jump_reads jump.now) }
 {
-    let mut reads = Seq::new(alloc);
+    let mut reads = Few::new(alloc);
     match jump {
         Jump::Goto(_) => {}
         Jump::Branch { on, .. } => {

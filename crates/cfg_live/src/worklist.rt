@@ -1,12 +1,12 @@
 //! The points whose sets may have to grow.
 use bitset::BitSet;
-use il_ast::list::Seq;
+use il_ast::few::Few;
 use std::alloc::{AllocError, Global};
 
 /// The points that wait to be visited: those of the latest sweep that it has not come to yet, and on a stack those behind which a set grew.
 #[derive(Drop)]
 pub(crate) struct Worklist {
-    befores: Vec<Seq<usize>>,
+    befores: Vec<Few<usize>>,
     waiting: BitSet,
     stack: Vec<usize>,
 }
@@ -46,7 +46,7 @@ impl Worklist {
     /// # Errors
     ///
     /// Only where memory was refused.
-    pub(crate) fn new(alloc: Global, befores: Vec<Seq<usize>>) -> Result<Self, AllocError> {
+    pub(crate) fn new(alloc: Global, befores: Vec<Few<usize>>) -> Result<Self, AllocError> {
         let waiting = all_points(alloc, befores.len())?;
         Ok(Worklist {
             befores,

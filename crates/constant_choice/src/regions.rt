@@ -1,4 +1,5 @@
 //! Loops that hang together.
+use il_ast::few::Few;
 use loops::depths::{sources, target};
 use std::alloc::{AllocError, Global};
 use vcode::code::Block;
@@ -82,7 +83,7 @@ fn join_all(
 #[derive(Drop)]
 struct Ways {
     depths: Vec<u32>,
-    sources: Vec<Vec<usize>>,
+    sources: Vec<Few<usize>>,
 }
 
 fn join_neighbours(

@@ -1,4 +1,5 @@
 //! Loops, by jumps back in the text.
+use il_ast::few::Few;
 use loops::depths::{sources, target};
 use std::alloc::{AllocError, Global};
 use vcode::code::Block;
@@ -18,7 +19,7 @@ pub(crate) struct Nest {
 /// The blocks that lead to each block, and the number of the last loop that each was found in.
 #[derive(Drop)]
 struct Search {
-    sources: Vec<Vec<usize>>,
+    sources: Vec<Few<usize>>,
     found: Vec<usize>,
 
     /// how many more blocks may be found
@@ -94,7 +95,7 @@ fn members(
 /// The only block outside a loop that leads to its head.
 fn before(search: &Search, head: usize, number: usize) -> Option<usize> {
     let mut before = None;
-    for source in search.sources.get(head)?.iter() {
+    for source in search.sources.get(head)?.as_slice() {
         if search.found.get(*source) != Some(&number) {
             if before.is_some() {
                 return None;
@@ -113,7 +114,7 @@ fn is_found(search: &Search, block: usize, number: usize) -> bool {
 fn only_source(search: &Search, block: usize) -> Option<usize> {
     let sources = search.sources.get(block)?;
     if sources.len() == 1 {
-        sources.get(0).copied()
+        sources.as_slice().get(0).copied()
     } else {
         None
     }

@@ -31,13 +31,16 @@ pub struct View<'a> {
     pub leaders: &'a [Option<usize>],
 }
 
+/// How many registers there are that arguments are passed in.
+const ARGUMENTS: usize = 8;
+
 /// What a region saves over the slot, in half instructions, and what its moves cost.
 #[derive(Clone, Copy)]
 pub struct Balance {
     gain: u64,
 
-    /// what of the gain comes only in the one register that the value comes in
-    through: u64,
+    /// what else it saves in the register of each argument, by which the value comes or goes
+    through: [u64; ARGUMENTS],
 
     loads: u64,
 
@@ -50,11 +53,19 @@ pub struct Balance {
     has_new: bool,
 }
 
+fn sums(left: [u64; ARGUMENTS], right: [u64; ARGUMENTS]) -> [u64; ARGUMENTS] {
+    let mut sums = left;
+    for argument in 0..ARGUMENTS {
+        sums[argument] = left[argument].saturating_add(right[argument]);
+    }
+    sums
+}
+
 impl Balance {
     fn none() -> Balance {
         Balance {
             gain: 0,
-            through: 0,
+            through: [0; ARGUMENTS],
             loads: 0,
             eager: 0,
             lazy: 0,
@@ -65,7 +76,7 @@ impl Balance {
     fn joined(self, other: Balance) -> Balance {
         Balance {
             gain: self.gain.saturating_add(other.gain),
-            through: self.through.saturating_add(other.through),
+            through: sums(self.through, other.through),
             loads: self.loads.saturating_add(other.loads),
             eager: self.eager.saturating_add(other.eager),
             lazy: self.lazy.saturating_add(other.lazy),
@@ -87,19 +98,38 @@ impl Balance {
         }
     }
 
-    /// What is left of the gain, in the register of the machine that the value comes in.
-    pub fn best(&self) -> u64 {
-        self.gain
-            .saturating_add(self.through)
-            .saturating_sub(self.loads)
+    /// What is left of a gain.
+    fn left_of(&self, gain: u64) -> u64 {
+        gain.saturating_sub(self.loads)
             .saturating_sub(self.stores())
     }
 
-    /// What is left of the gain in any other.
+    /// What it saves besides, in the register of that argument.
+    pub fn through(&self, argument: usize) -> u64 {
+        if argument < ARGUMENTS {
+            self.through[argument]
+        } else {
+            0
+        }
+    }
+
+    /// What is left of the gain, in the register of that argument.
+    pub fn net_in(&self, argument: usize) -> u64 {
+        self.left_of(self.gain.saturating_add(self.through(argument)))
+    }
+
+    /// What is left of it in the register that saves most.
+    pub fn best(&self) -> u64 {
+        let mut most = 0u64;
+        for through in self.through {
+            most = most.max(through);
+        }
+        self.left_of(self.gain.saturating_add(most))
+    }
+
+    /// What is left of it in any register.
     pub fn net(&self) -> u64 {
-        self.gain
-            .saturating_sub(self.loads)
-            .saturating_sub(self.stores())
+        self.left_of(self.gain)
     }
 }
 
@@ -409,11 +439,17 @@ fn exits(view: View, nodes: &Nodes, leader: usize, node: &Node) -> [Exit; 2] {
 
 // ---- what it saves
 
+fn add_through(balance: &mut Balance, argument: usize, weight: u64) {
+    if argument < ARGUMENTS {
+        balance.through[argument] = balance.through[argument].saturating_add(weight);
+    }
+}
+
 fn gains(accesses: &[Access], save: u64) -> Balance {
     let mut balance = Balance::none();
     for access in accesses {
         balance.gain = balance.gain.saturating_add(access.weight);
-        balance.through = balance.through.saturating_add(access.through);
+        add_through(&mut balance, access.argument as usize, access.through);
         if access.is_new() {
             balance.eager = balance.eager.saturating_add(save);
             balance.has_new = true;

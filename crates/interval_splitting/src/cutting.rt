@@ -319,7 +319,7 @@ fn best_of(
     Ok(best)
 }
 
-/// What accesses cost in the slot, and those of them that would cost nothing in the one register that the value comes in.
+/// What accesses cost in the slot, and those of them that would cost nothing in registers of arguments.
 fn costs(accesses: &[Access]) -> (u64, u64) {
     let mut all = 0u64;
     let mut through = 0u64;

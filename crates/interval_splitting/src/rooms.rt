@@ -7,7 +7,11 @@ use std::alloc::{AllocError, Global};
 /// The positions at which a register of the machine is taken, one bit each.
 #[derive(Drop)]
 pub struct Room {
-    words: Vec<u64>,
+    /// those of the first 64, which stand here so that small functions take no memory for them
+    first: u64,
+
+    /// those behind
+    more: Vec<u64>,
 
     /// whether some value stands in it
     pub is_used: bool,
@@ -28,11 +32,11 @@ fn mask(range: Range, k: usize) -> u64 {
     low & high
 }
 
-fn is_free(words: &[u64], range: Range) -> bool {
+fn is_free(room: &Room, range: Range) -> bool {
     for k in range.start / 64..range.end / 64 + 1 {
-        match words.get(k) {
+        match room.word(k) {
             Some(word) => {
-                if *word & mask(range, k) != 0 {
+                if word & mask(range, k) != 0 {
                     return false;
                 }
             }
@@ -42,42 +46,56 @@ fn is_free(words: &[u64], range: Range) -> bool {
     true
 }
 
-fn take(words: &mut [u64], range: Range) {
+fn take(room: &mut Room, range: Range) {
     for k in range.start / 64..range.end / 64 + 1 {
-        match words.get_mut(k) {
-            Some(word) => *word |= mask(range, k),
-            None => {}
-        }
+        room.add(k, mask(range, k));
     }
 }
 
 impl Room {
+    /// The k-th 64 positions, if there are that many.
+    fn word(&self, k: usize) -> Option<u64> {
+        match k.checked_sub(1) {
+            Some(behind) => self.more.get(behind).copied(),
+            None => Some(self.first),
+        }
+    }
+
+    /// Takes some of the k-th 64 positions, if there are that many.
+    fn add(&mut self, k: usize, positions: u64) {
+        match k.checked_sub(1) {
+            Some(behind) => match self.more.get_mut(behind) {
+                Some(word) => *word |= positions,
+                None => {}
+            },
+            None => self.first |= positions,
+        }
+    }
+
     /// A register that is free at so many positions.
     ///
     /// # Errors
     ///
     /// Only where memory was refused.
     pub fn new(alloc: Global, positions: usize) -> Result<Room, AllocError> {
-        let mut words = Vec::new(alloc);
-        words.resize((positions / 64).saturating_add(1), 0u64)?;
+        let more = vec![in alloc; 0u64; positions / 64]?;
         Ok(Room {
-            words,
+            first: 0,
+            more,
             is_used: false,
         })
     }
 
     /// Whether it is free at all positions of the ranges.
     pub fn is_free(&self, ranges: &[Range]) -> bool {
-        ranges
-            .iter()
-            .all(|range| is_free(self.words.as_slice(), *range))
+        ranges.iter().all(|range| is_free(self, *range))
     }
 
     /// Takes it at all positions of the ranges.
     pub fn take(&mut self, ranges: &[Range]) {
         self.is_used = true;
         for range in ranges {
-            take(self.words.as_mut_slice(), *range);
+            take(self, *range);
         }
     }
 }
@@ -88,7 +106,7 @@ impl Room {
 ///
 /// Only where memory was refused.
 pub fn rooms(alloc: Global, count: usize, points: usize) -> Result<Vec<Room>, AllocError> {
-    let mut rooms = Vec::new(alloc);
+    let mut rooms = Vec::with_capacity(alloc, count)?;
     for _ in 0..count {
         let room = Room::new(alloc, points.saturating_mul(2))?;
         rooms.push(room)?;
@@ -156,7 +174,27 @@ pub fn room_for(rooms: &[Room], candidate: &Candidate, ranges: &[Range]) -> Opti
     unused
 }
 
-/// The register that the value comes in, if it is free.
+/// The register of the argument by which the value comes or goes, the one that saves most among those that are free.
+fn part_by_argument(rooms: &[Room], balance: Balance, ranges: &[Range]) -> Option<usize> {
+    let mut most = 0u64;
+    let mut best = None;
+    for argument in 0..8u8 {
+        let number = usize::from(argument);
+        let through = balance.through(number);
+        if most < through && 0 < balance.net_in(number) {
+            match part_by_hint(rooms, Some(argument), ranges) {
+                Some(k) => {
+                    most = through;
+                    best = Some(k);
+                }
+                None => {}
+            }
+        }
+    }
+    best
+}
+
+/// The register that the hint names, if it is free.
 fn part_by_hint(rooms: &[Room], hint: Option<u8>, ranges: &[Range]) -> Option<usize> {
     let k = hinted(hint?);
     if rooms.get(k)?.is_free(ranges) {
@@ -166,19 +204,23 @@ fn part_by_hint(rooms: &[Room], hint: Option<u8>, ranges: &[Range]) -> Option<us
     }
 }
 
-/// A register for a part of a lifetime, over no call: the one that the value comes in, or another that is free at these positions and saves something.
+/// A register for a part of a lifetime, over no call: one that the value comes or goes in, or another that is free at these positions and saves something.
 pub(crate) fn room_for_part(
     rooms: &[Room],
     hint: Option<u8>,
     balance: Balance,
     ranges: &[Range],
 ) -> Option<usize> {
-    match part_by_hint(rooms, hint, ranges) {
+    match part_by_argument(rooms, balance, ranges) {
         Some(k) => return Some(k),
         None => {}
     }
     if balance.net() == 0 {
         return None;
+    }
+    match part_by_hint(rooms, hint, ranges) {
+        Some(k) => return Some(k),
+        None => {}
     }
     let mut unused = None;
     for (k, room) in rooms.iter().enumerate() {

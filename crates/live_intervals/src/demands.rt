@@ -34,10 +34,7 @@ impl Demand {
         Demand {
             weight: 0,
             is_param: false,
-            hint: Hint {
-                argument: 0,
-                weight: 0,
-            },
+            hint: Hint::none(),
         }
     }
 
@@ -52,6 +49,14 @@ impl Demand {
 }
 
 impl Hint {
+    /// None of them.
+    fn none() -> Hint {
+        Hint {
+            argument: 8,
+            weight: 0,
+        }
+    }
+
     /// The same register with both weights, or the one that weighs more.
     fn joined(self, other: Hint) -> Hint {
         if self.argument == other.argument {
@@ -109,7 +114,7 @@ fn push_access(
     register: u32,
     kind: Kind,
     weight: u64,
-    through: u64,
+    through: Hint,
 ) -> Result<(), AllocError> {
     // there is an item for each point so far, and one before them
     let point = counting.calls.len().saturating_sub(1);
@@ -118,7 +123,8 @@ fn push_access(
         point,
         kind,
         weight,
-        through,
+        through: through.weight,
+        argument: through.argument,
     })?;
     Ok(())
 }
@@ -128,7 +134,7 @@ fn add(counting: &mut Counting, register: u32, kind: Kind, weight: u64) -> Resul
         Some(demand) => demand.weight = demand.weight.saturating_add(weight),
         None => {}
     }
-    push_access(counting, register, kind, weight, 0)
+    push_access(counting, register, kind, weight, Hint::none())
 }
 
 /// It goes through the register of this argument, so often.
@@ -160,7 +166,19 @@ fn read(counting: &mut Counting, operand: &Operand<u32>, weight: u64) -> Result<
     }
 }
 
-/// What is read to where any place reaches it as well as another.
+/// What the register of an argument saves where values come or go by it, so often.
+fn passed(argument: u8, often: u64) -> Hint {
+    if argument < 8 {
+        Hint {
+            argument,
+            weight: often.saturating_mul(2),
+        }
+    } else {
+        Hint::none()
+    }
+}
+
+/// What is read to where any place reaches it as well as another, but for the register that it is passed in.
 fn pass(
     counting: &mut Counting,
     operand: &Operand<u32>,
@@ -172,7 +190,8 @@ fn pass(
             if argument < 8 {
                 add_hint(counting, *register, argument, often);
             }
-            push_access(counting, *register, Kind::Read, 0, 0)
+            let through = passed(argument, often);
+            push_access(counting, *register, Kind::Read, 0, through)
         }
         _ => Ok(()),
     }
@@ -198,9 +217,9 @@ fn param(counting: &mut Counting, register: u32, argument: u8) -> Result<(), All
     }
     if argument < 8 {
         add_hint(counting, register, argument, 1);
-        push_access(counting, register, Kind::Entry, 0, 2)
+        push_access(counting, register, Kind::Entry, 0, passed(argument, 1))
     } else {
-        push_access(counting, register, Kind::Entry, 2, 0)
+        push_access(counting, register, Kind::Entry, 2, Hint::none())
     }
 }
 
@@ -220,8 +239,13 @@ fn receive(
     match to {
         Some(destination) => {
             add_hint(counting, destination.place, 0, often);
-            let through = often.saturating_mul(2);
-            push_access(counting, destination.place, Kind::Write, 0, through)
+            push_access(
+                counting,
+                destination.place,
+                Kind::Write,
+                0,
+                passed(0, often),
+            )
         }
         None => Ok(()),
     }

@@ -163,7 +163,7 @@ fn first_lifetimes(
     starts: &Starts,
     end: usize,
 ) -> Result<Vec<Lifetime>, AllocError> {
-    let mut lifetimes = Vec::new(alloc);
+    let mut lifetimes = Vec::with_capacity(alloc, registers as usize)?;
     for register in 0..registers {
         let ranges = first_ranges(alloc, starts.is_throughout(register), end)?;
         lifetimes.push(Lifetime { ranges })?;

@@ -1,5 +1,6 @@
 //! The blocks of a function: where they stand in its text, how often they run, and which lead to which.
 use crate::lifetimes::jump_point;
+use il_ast::few::Few;
 use loops::depths::{frequency, sources, target};
 use std::alloc::{AllocError, Global};
 use vcode::code::Block;
@@ -27,7 +28,7 @@ pub struct Text {
     pub stretches: Vec<Stretch>,
 
     /// the blocks that lead to each block
-    sources: Vec<Vec<usize>>,
+    sources: Vec<Few<usize>>,
 
     /// the block of each point
     block_of: Vec<usize>,
@@ -71,7 +72,7 @@ fn stretches(
     blocks: &[Block<u32>],
     depths: &[u32],
 ) -> Result<Vec<Stretch>, AllocError> {
-    let mut stretches = Vec::new(alloc);
+    let mut stretches = Vec::with_capacity(alloc, blocks.len())?;
     let mut first = 0usize;
     for (number, block) in blocks.iter().enumerate() {
         let jump = jump_point(first, block.lines.as_slice());

@@ -2,6 +2,7 @@
 ghost use Rattle.std.specs.Prelude.{◌≡◌, ◌<◌, ◌≤◌, slice_get};
 ghost use Rattle.loops.specs.Targets.{targets};
 
+use il_ast::few::Few;
 use std::alloc::{AllocError, Global};
 use vcode::code::Block;
 use vcode::line::Jump;
@@ -107,7 +108,7 @@ fn back_edges(alloc: Global, blocks: &[Block<u32>]) -> Result<Vec<Edge>, AllocEr
     visits.resize(blocks.len(), Visit::New)?;
     let mut search = Search {
         visits,
-        way: Vec::new(alloc),
+        way: Vec::with_capacity(alloc, blocks.len())?,
         back: Vec::new(alloc),
     };
     enter(&mut search, 0)?;
@@ -118,20 +119,17 @@ fn back_edges(alloc: Global, blocks: &[Block<u32>]) -> Result<Vec<Edge>, AllocEr
     Ok(search.back)
 }
 
-fn push_target(edges: &mut [Vec<usize>], from: usize, to: Option<usize>) -> Result<(), AllocError> {
+fn push_target(edges: &mut [Few<usize>], from: usize, to: Option<usize>) -> Result<(), AllocError> {
     match to {
         Some(to) => match edges.get_mut(to) {
-            Some(sources) => {
-                sources.push(from)?;
-                Ok(())
-            }
+            Some(sources) => sources.push(from),
             None => Ok(()),
         },
         None => Ok(()),
     }
 }
 
-fn push_targets(edges: &mut [Vec<usize>], blocks: &[Block<u32>]) -> Result<(), AllocError> {
+fn push_targets(edges: &mut [Few<usize>], blocks: &[Block<u32>]) -> Result<(), AllocError> {
     for (from, block) in blocks.iter().enumerate() {
         push_target(edges, from, target(&block.jump, 0))?;
         push_target(edges, from, target(&block.jump, 1))?;
@@ -144,10 +142,10 @@ fn push_targets(edges: &mut [Vec<usize>], blocks: &[Block<u32>]) -> Result<(), A
 /// # Errors
 ///
 /// Only where memory was refused.
-pub fn sources(alloc: Global, blocks: &[Block<u32>]) -> Result<Vec<Vec<usize>>, AllocError> {
-    let mut edges = Vec::new(alloc);
+pub fn sources(alloc: Global, blocks: &[Block<u32>]) -> Result<Vec<Few<usize>>, AllocError> {
+    let mut edges = Vec::with_capacity(alloc, blocks.len())?;
     for _ in 0..blocks.len() {
-        edges.push(Vec::new(alloc))?;
+        edges.push(Few::new(alloc))?;
     }
     push_targets(edges.as_mut_slice(), blocks)?;
     Ok(edges)
@@ -195,7 +193,7 @@ fn push_new(
 fn count_loop(
     alloc: Global,
     nests: &mut [Nest],
-    edges: &[Vec<usize>],
+    edges: &[Few<usize>],
     edge: Edge,
     steps: usize,
 ) -> Result<usize, AllocError> {
@@ -236,7 +234,7 @@ pub fn depths(alloc: Global, blocks: &[Block<u32>]) -> Result<Vec<u32>, AllocErr
     for edge in back_edges(alloc, blocks)?.iter() {
         steps = count_loop(alloc, nests.as_mut_slice(), edges.as_slice(), *edge, steps)?;
     }
-    let mut depths = Vec::new(alloc);
+    let mut depths = Vec::with_capacity(alloc, blocks.len())?;
     for nest in nests.iter() {
         depths.push(nest.depth)?;
     }

@@ -4,6 +4,7 @@ use crate::numbers::Numbers;
 use crate::place::placed;
 use cfg_live::live::live;
 use cfg_live::sets::Live;
+use il_ast::few::Few;
 use il_ast::list::Seq;
 use loops::depths::sources;
 use std::alloc::{AllocError, Global};
@@ -37,7 +38,7 @@ fn point_behind(point: usize, block: &Block<u32>) -> usize {
     point.saturating_add(1)
 }
 
-fn count_sources(sources: &[Vec<usize>], block: usize) -> usize {
+fn count_sources(sources: &[Few<usize>], block: usize) -> usize {
     match sources.get(block) {
         Some(sources) => sources.len(),
         None => 0,

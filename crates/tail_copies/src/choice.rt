@@ -1,5 +1,6 @@
 //! Which blocks are worth copies: a guess that nothing proved rests on.
 use block_chains::chains::reached;
+use il_ast::few::Few;
 use loops::depths::sources;
 use std::alloc::{AllocError, Global};
 use vcode::code::Block;
@@ -35,7 +36,7 @@ fn is_short(block: &Block<u32>, most: u64) -> bool {
 
 fn is_worth(
     blocks: &[Block<u32>],
-    sources: &[Vec<usize>],
+    sources: &[Few<usize>],
     from: usize,
     to: usize,
     most: u64,
