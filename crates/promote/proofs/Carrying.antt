@@ -26,7 +26,7 @@ use Rattle.il_ast.specs.Memory.{Memory, parts, cells_for, plain_bytes, are_parts
 use Rattle.il_ast.specs.Operations.{operand_class, extended, extension_bytes, widened, operate_one}
 use Rattle.promote.specs.Uses.{extension_size}
 use Rattle.promote.specs.Promoted.{storing, extending, loading}
-use Rattle.promote.proofs.Hiding.{Marks, Clean, IfClean}
+use Rattle.promote.proofs.Hiding.{Marks, moved, moved_if, Clean, IfClean}
 use Rattle.promote.proofs.Ranges.{extended_fits}
 
 -- ---- bytes
@@ -106,10 +106,10 @@ whole_back hs (Function f) new h e = let same : parts (Function f) ≡ new = cc 
 
 -- ---- what a store puts
 
--- the value that the temporary gets, of which memory would get the same cells
+-- the value that the temporary gets, but for the numbers of blocks; memory would get the same cells of it
 pub record Put (hs : Marks) (m : Memory) (size : Size) (v : Value) (new : List Cell) : Type 0 where
   pub value : Value
-  pub is : operate_one m (storing size) L v ≡ Some value
+  pub is : operate_one m (storing size) L (moved hs v) ≡ Some (moved hs value)
   pub clean : Clean hs value
   pub cells : cells_for (byte_count size) value ≡ Some new
 
@@ -149,13 +149,13 @@ put_there hs m Long v new h e = record { value = v; is = refl; clean = h; cells 
 
 -- ---- what a load takes
 
--- taken from the temporary as the load takes it from these cells
+-- taken from the temporary as the load takes it from these cells, but for the numbers of blocks
 abbrev pub Takes : Marks → Memory → UnaryOp → Class → Value → Option Value → Type 0
-Takes hs m op c v o = (option_and_then (operate_one m (loading op c) c) (in_place (operand_class (loading op c) c) v) ≡ o) × IfClean hs o
+Takes hs m op c v o = (option_and_then (operate_one m (loading op c) c) (in_place (operand_class (loading op c) c) (moved hs v)) ≡ moved_if hs o) × IfClean hs o
 
 pub take_long : (hs : Marks) (m : Memory) (v : Value) (new : List Cell) → Clean hs v → cells_for 8 v ≡ Some new → Takes hs m LoadLong L v (value_of new)
 unfolding operate_one
-take_long hs m v new h e = let back = whole_back hs v new h e in (sym back, subst (IfClean hs) (sym back) h)
+take_long hs m v new h e = let back = whole_back hs v new h e in (sym (ap (moved_if hs) back), subst (IfClean hs) (sym back) h)
 
 -- an integer that cells of this extension's bytes hold
 from_cells : (hs : Marks) (m : Memory) (e : Extension) (c : Class) (n : ℕ) (new : List Cell) → cells_for (extension_bytes e) (Integer n) ≡ Some new → option_and_then (operate_one m (extending e c) c) (in_place (operand_class (extending e c) c) (Integer n)) ≡ Some (Integer (extended e c (n % 256 ^ extension_bytes e))) → Takes hs m (Load e) c (Integer n) (option_and_then (widened e c) (value_of new))
@@ -163,7 +163,7 @@ from_cells hs m e c n new made is =
     let same : map Plain (bytes_of (extension_bytes e) n) ≡ new = cc in
     let back : option_and_then (widened e c) (value_of new) ≡ Some (Integer (extended e c (n % 256 ^ extension_bytes e))) =
     ap (λ cs. option_and_then (widened e c) (value_of cs)) (sym same) ∙ ap (option_and_then (widened e c)) (integer_back (extension_bytes e) n) in
-    (is ∙ sym back, subst (IfClean hs) (sym back) (extended_fits e c (n % 256 ^ extension_bytes e)))
+    (is ∙ sym (ap (moved_if hs) back), subst (IfClean hs) (sym back) (extended_fits e c (n % 256 ^ extension_bytes e)))
 
 word_again : (n : ℕ) → n % 2 ^ 32 ≡ cast_unsigned w32 (cast_signed w32 (n % 4294967296 % 2 ^ 32))
 word_again n =

@@ -1,9 +1,10 @@
--- Memory with hidden blocks: those that are live have blank cells. What is clean doesn't point there.
-use Rattle.std.proofs.Common.{◌≡◌, ℕ, zero, suc, ◌+◌, ◌*◌, ◌/◌, ◌^◌, ◌<◌, ◌≤◌, Bool, true, false, nat_eq, nat_le, cond, List, [], ◌∷◌, ◌++◌, map, length, take, drop, replicate, refl, sym, ◌∙◌, ap, subst, arith, lit<, mod-lt}
+-- Memory without its hidden blocks: the others have numbers of their own there. What is clean doesn't point to a hidden block.
+use Rattle.std.proofs.Common.{◌≡◌, ℕ, zero, suc, ◌+◌, ◌*◌, ◌/◌, ◌^◌, ◌<◌, ◌≤◌, Bool, true, false, not, ◌&&◌, ◌||◌, nat_eq, nat_le, cond, List, [], ◌∷◌, ◌++◌, map, length, take, drop, replicate, refl, sym, ◌∙◌, ap, subst, arith, lit<, mod-lt}
 use Rattle.std.specs.Prelude.{slice_get, slice_set, Option, Some, None}
 use Rattle.std.specs.Option.{option_map, option_and_then, option_flatten}
 use Rattle.std.proofs.lemmas.Bool.Decides.{nat_tests}
-use Rattle.std.proofs.lemmas.List.{length-set, length-replicate}
+use Rattle.std.proofs.lemmas.List.{length-set, length-map, take-map, drop-map, map-append}
+use Rattle.std.proofs.Math.Dec.{eqb-zero-suc, eqb-suc-zero, eqb-suc-suc}
 use Rattle.std.proofs.Math.Nat.{pow-succ'}
 use Rattle.std.proofs.lemmas.Option.{slice_get_within}
 use Rattle.std.proofs.lemmas.Bool.{eqb-true}
@@ -11,25 +12,53 @@ use Rattle.il_ast.specs.declared.value.Value.{Value}
 use Rattle.il_ast.specs.declared.value.Value.TheVariants.{Integer, Pointer, Function}
 use Rattle.il_ast.specs.declared.value.Cell.{Cell}
 use Rattle.il_ast.specs.declared.value.Cell.TheVariants.{Plain, Part, Blank}
-use Rattle.il_ast.specs.Values.{bytes_of, number_of}
+use Rattle.il_ast.specs.Values.{bytes_of, number_of, same_value}
 use Rattle.il_ast.specs.Memory.{Memory, block_at, parts, cells_for, plain_bytes, are_parts_from, value_of, span, put, cells_at, write_at, load, store, apart_or_same, copy, fresh, free, free_all}
 
 -- for each block ever made whether it is hidden
 abbrev pub Marks : Type 0
 Marks = List Bool
 
-abbrev pub blank : Option (List Cell) → Option (List Cell)
-blank None = None
-blank (Some cells) = Some (replicate (length cells) Blank)
+-- the number of block b where the hidden ones are gone: how many that aren't hidden stand before it
+abbrev counted : Bool → ℕ → ℕ
+counted true n = n
+counted false n = suc n
 
-abbrev pub shown_as : Bool → Option (List Cell) → Option (List Cell)
-shown_as true b = blank b
-shown_as false b = b
+abbrev pub place : Marks → ℕ → ℕ
+place [] b = b
+place (h ∷ hs) zero = 0
+place (h ∷ hs) (suc b) = counted h (place hs b)
 
-abbrev pub hide : Marks → Memory → Memory
-hide [] m = m
-hide (h ∷ hs) [] = []
-hide (h ∷ hs) (b ∷ m) = shown_as h b ∷ hide hs m
+-- values and cells there
+abbrev pub moved : Marks → Value → Value
+moved hs (Integer n) = Integer n
+moved hs (Pointer b o) = Pointer (place hs b) o
+moved hs (Function f) = Function f
+
+abbrev pub moved_if : Marks → Option Value → Option Value
+moved_if hs o = option_map (moved hs) o
+
+abbrev pub moved_cell : Marks → Cell → Cell
+moved_cell hs (Plain b) = Plain b
+moved_cell hs (Part v i) = Part (moved hs v) i
+moved_cell hs Blank = Blank
+
+abbrev pub moved_cells : Marks → List Cell → List Cell
+moved_cells hs cells = map (moved_cell hs) cells
+
+abbrev pub moved_block : Marks → Option (List Cell) → Option (List Cell)
+moved_block hs b = option_map (moved_cells hs) b
+
+-- the blocks that the marks hs don't hide, moved by the marks ks
+abbrev pub shown_by : (ks hs : Marks) → Memory → Memory
+shown_by ks [] m = []
+shown_by ks (h ∷ hs) [] = []
+shown_by ks (true ∷ hs) (b ∷ m) = shown_by ks hs m
+shown_by ks (false ∷ hs) (b ∷ m) = moved_block ks b ∷ shown_by ks hs m
+
+-- the memory without the hidden blocks
+abbrev pub shown : Marks → Memory → Memory
+shown hs m = shown_by hs hs m
 
 -- ---- lists
 
@@ -53,65 +82,77 @@ get_set P (z ∷ zs) zero (suc j) x y new old e = old y e
 get_set P (z ∷ zs) (suc i) zero x y new old e = old y e
 get_set P (z ∷ zs) (suc i) (suc j) x y new old e = get_set P zs i j x y new old e
 
--- ---- what is hidden
+-- ---- blocks that are hidden, and others
 
-pub get_shown : (hs : Marks) (m : Memory) (b : ℕ) → slice_get hs b ≡ Some false → slice_get (hide hs m) b ≡ slice_get m b
-get_shown [] m b e = absurd (let no : ⊥ = cc in no)
-get_shown (h ∷ hs) [] b e = refl
-get_shown (h ∷ hs) (c ∷ m) zero e = let same : h ≡ false = cc in ap (λ x. Some (shown_as x c)) same
-get_shown (h ∷ hs) (c ∷ m) (suc b) e = get_shown hs m b e
+get_shown : (ks hs : Marks) (m : Memory) (b : ℕ) → slice_get hs b ≡ Some false → slice_get (shown_by ks hs m) (place hs b) ≡ option_map (moved_block ks) (slice_get m b)
+get_shown ks [] m b e = absurd (let no : ⊥ = cc in no)
+get_shown ks (h ∷ hs) [] b e = refl
+get_shown ks (true ∷ hs) (c ∷ m) zero e = absurd (let no : ⊥ = cc in no)
+get_shown ks (false ∷ hs) (c ∷ m) zero e = refl
+get_shown ks (true ∷ hs) (c ∷ m) (suc b) e = get_shown ks hs m b e
+get_shown ks (false ∷ hs) (c ∷ m) (suc b) e = get_shown ks hs m b e
 
-set_shown : (hs : Marks) (m : Memory) (b : ℕ) (x : Option (List Cell)) → slice_get hs b ≡ Some false → hide hs (slice_set m b x) ≡ slice_set (hide hs m) b x
-set_shown [] m b x e = absurd (let no : ⊥ = cc in no)
-set_shown (h ∷ hs) [] b x e = refl
-set_shown (h ∷ hs) (c ∷ m) zero x e = let same : h ≡ false = cc in ap (λ k. shown_as k x ∷ hide hs m) same
-set_shown (h ∷ hs) (c ∷ m) (suc b) x e = ap (λ r. shown_as h c ∷ r) (set_shown hs m b x e)
+set_shown : (ks hs : Marks) (m : Memory) (b : ℕ) (x : Option (List Cell)) → slice_get hs b ≡ Some false → shown_by ks hs (slice_set m b x) ≡ slice_set (shown_by ks hs m) (place hs b) (moved_block ks x)
+set_shown ks [] m b x e = absurd (let no : ⊥ = cc in no)
+set_shown ks (h ∷ hs) [] b x e = refl
+set_shown ks (true ∷ hs) (c ∷ m) zero x e = absurd (let no : ⊥ = cc in no)
+set_shown ks (false ∷ hs) (c ∷ m) zero x e = refl
+set_shown ks (true ∷ hs) (c ∷ m) (suc b) x e = set_shown ks hs m b x e
+set_shown ks (false ∷ hs) (c ∷ m) (suc b) x e = ap (λ r. moved_block ks c ∷ r) (set_shown ks hs m b x e)
 
-pub set_hidden : (hs : Marks) (m : Memory) (b : ℕ) (x y : Option (List Cell)) → slice_get hs b ≡ Some true → slice_get m b ≡ Some y → blank x ≡ blank y → hide hs (slice_set m b x) ≡ hide hs m
-set_hidden [] m b x y e g s = absurd (let no : ⊥ = cc in no)
-set_hidden (h ∷ hs) [] b x y e g s = refl
-set_hidden (h ∷ hs) (c ∷ m) zero x y e g s =
-    let same : h ≡ true = cc in
-    let old : c ≡ y = cc in
-    ap (λ k. shown_as k x ∷ hide hs m) same
-    ∙ (ap (λ k. k ∷ hide hs m) s ∙ (ap (λ k. blank k ∷ hide hs m) (sym old) ∙ ap (λ k. shown_as k c ∷ hide hs m) (sym same)))
-set_hidden (h ∷ hs) (c ∷ m) (suc b) x y e g s = ap (λ r. shown_as h c ∷ r) (set_hidden hs m b x y e g s)
+set_hidden_by : (ks hs : Marks) (m : Memory) (b : ℕ) (x : Option (List Cell)) → slice_get hs b ≡ Some true → shown_by ks hs (slice_set m b x) ≡ shown_by ks hs m
+set_hidden_by ks [] m b x e = absurd (let no : ⊥ = cc in no)
+set_hidden_by ks (h ∷ hs) [] b x e = refl
+set_hidden_by ks (true ∷ hs) (c ∷ m) zero x e = refl
+set_hidden_by ks (false ∷ hs) (c ∷ m) zero x e = absurd (let no : ⊥ = cc in no)
+set_hidden_by ks (true ∷ hs) (c ∷ m) (suc b) x e = set_hidden_by ks hs m b x e
+set_hidden_by ks (false ∷ hs) (c ∷ m) (suc b) x e = ap (λ r. moved_block ks c ∷ r) (set_hidden_by ks hs m b x e)
 
-none_as : (h : Bool) → shown_as h None ≡ None
-none_as true = refl
-none_as false = refl
+pub set_hidden : (hs : Marks) (m : Memory) (b : ℕ) (x : Option (List Cell)) → slice_get hs b ≡ Some true → shown hs (slice_set m b x) ≡ shown hs m
+set_hidden hs m b x e = set_hidden_by hs hs m b x e
 
-free_hides : (hs : Marks) (m : Memory) (b : ℕ) → hide hs (free m b) ≡ free (hide hs m) b
-free_hides [] m b = refl
-free_hides (h ∷ hs) [] b = refl
-free_hides (h ∷ hs) (c ∷ m) zero = ap (λ k. k ∷ hide hs m) (none_as h)
-free_hides (h ∷ hs) (c ∷ m) (suc b) = ap (λ r. shown_as h c ∷ r) (free_hides hs m b)
+-- blocks that aren't hidden have the same number just where they are the same
+pub place_same : (hs : Marks) (a b : ℕ) → slice_get hs a ≡ Some false → slice_get hs b ≡ Some false → nat_eq (place hs a) (place hs b) ≡ nat_eq a b
+place_same [] a b h k = absurd (let no : ⊥ = cc in no)
+place_same (g ∷ hs) zero zero h k = refl
+place_same (true ∷ hs) zero (suc b) h k = absurd (let no : ⊥ = cc in no)
+place_same (false ∷ hs) zero (suc b) h k = eqb-zero-suc (place hs b) ∙ sym (eqb-zero-suc b)
+place_same (true ∷ hs) (suc a) zero h k = absurd (let no : ⊥ = cc in no)
+place_same (false ∷ hs) (suc a) zero h k = eqb-suc-zero (place hs a) ∙ sym (eqb-suc-zero a)
+place_same (true ∷ hs) (suc a) (suc b) h k = place_same hs a b h k ∙ sym (eqb-suc-suc a b)
+place_same (false ∷ hs) (suc a) (suc b) h k = eqb-suc-suc (place hs a) (place hs b) ∙ (place_same hs a b h k ∙ sym (eqb-suc-suc a b))
 
-pub free_all_hides : (hs : Marks) (m : Memory) (bs : List ℕ) → hide hs (free_all m bs) ≡ free_all (hide hs m) bs
-free_all_hides hs m [] = refl
-free_all_hides hs m (b ∷ bs) = free_all_hides hs (free m b) bs ∙ ap (λ k. free_all k bs) (free_hides hs m b)
+-- where nothing is hidden all is as it was
+place_none : (n b : ℕ) → place (replicate n false) b ≡ b
+place_none zero b = refl
+place_none (suc n) zero = refl
+place_none (suc n) (suc b) = ap suc (place_none n b)
 
-pub length_hide : (hs : Marks) (m : Memory) → length (hide hs m) ≡ length m
-length_hide [] m = refl
-length_hide (h ∷ hs) [] = refl
-length_hide (h ∷ hs) (b ∷ m) = ap suc (length_hide hs m)
+pub moved_none : (n : ℕ) (v : Value) → moved (replicate n false) v ≡ v
+moved_none n (Integer k) = refl
+moved_none n (Pointer b o) = ap (λ k. Pointer k o) (place_none n b)
+moved_none n (Function f) = refl
 
-length_blanks : (n : ℕ) → length (replicate n Blank) ≡ n
-length_blanks n = length-replicate n Blank
+cell_none : (n : ℕ) (c : Cell) → moved_cell (replicate n false) c ≡ c
+cell_none n (Plain b) = refl
+cell_none n (Part v i) = ap (λ u. Part u i) (moved_none n v)
+cell_none n Blank = refl
 
-blank_as : (h : Bool) (n : ℕ) → shown_as h (Some (replicate n Blank)) ≡ Some (replicate n Blank)
-blank_as true n = ap (λ k. Some (replicate k Blank)) (length_blanks n)
-blank_as false n = refl
+cells_none : (n : ℕ) (cs : List Cell) → moved_cells (replicate n false) cs ≡ cs
+cells_none n [] = refl
+cells_none n (c ∷ cs) = ap (λ x. x ∷ moved_cells (replicate n false) cs) (cell_none n c) ∙ ap (λ r. c ∷ r) (cells_none n cs)
 
-pub fresh_hides : (hs : Marks) (m : Memory) (h : Bool) (n : ℕ) → length hs ≡ length m → hide (hs ++ h ∷ []) (fresh m n) ≡ fresh (hide hs m) n
-fresh_hides [] [] h n e = ap (λ k. k ∷ []) (blank_as h n)
-fresh_hides [] (b ∷ m) h n e = absurd (omega (arith, e))
-fresh_hides (g ∷ hs) [] h n e = absurd (omega (arith, e))
-fresh_hides (g ∷ hs) (b ∷ m) h n e = ap (λ r. shown_as g b ∷ r) (fresh_hides hs m h n (omega (arith, e)))
+block_none : (n : ℕ) (b : Option (List Cell)) → moved_block (replicate n false) b ≡ b
+block_none n None = refl
+block_none n (Some cells) = ap (λ cs. Some cs) (cells_none n cells)
 
-pub nothing_hidden : (m : Memory) → hide (replicate (length m) false) m ≡ m
-nothing_hidden [] = refl
-nothing_hidden (b ∷ m) = ap (λ r. b ∷ r) (nothing_hidden m)
+shown_none : (n : ℕ) (m : Memory) → shown_by (replicate n false) (replicate (length m) false) m ≡ m
+shown_none n [] = refl
+shown_none n (b ∷ m) =
+    ap (λ x. x ∷ shown_by (replicate n false) (replicate (length m) false) m) (block_none n b) ∙ ap (λ r. b ∷ r) (shown_none n m)
+
+pub nothing_hidden : (m : Memory) → shown (replicate (length m) false) m ≡ m
+nothing_hidden m = shown_none (length m) m
 
 -- ---- clean values and cells
 
@@ -167,6 +208,46 @@ clean_block_later : (hs ks : Marks) → Extends hs ks → (x : Option (List Cell
 clean_block_later hs ks h None c = tt
 clean_block_later hs ks h (Some cells) c = clean_cells_later hs ks h cells c
 
+place_later : (hs ks : Marks) → Extends hs ks → (b : ℕ) (x : Bool) → slice_get hs b ≡ Some x → place ks b ≡ place hs b
+place_later [] ks h b x e = absurd (let no : ⊥ = cc in no)
+place_later (g ∷ hs) [] h b x e = absurd (let first = h zero g refl in let no : ⊥ = cc in no)
+place_later (g ∷ hs) (k ∷ ks) h zero x e = refl
+place_later (g ∷ hs) (k ∷ ks) h (suc b) x e =
+    let first : Some k ≡ Some g = h zero g refl in
+    let same : k ≡ g = cc in
+    ap (λ z. counted z (place ks b)) same ∙ ap (counted g) (place_later hs ks (λ c y f. h (suc c) y f) b x e)
+
+pub moved_later : (hs ks : Marks) → Extends hs ks → (v : Value) → Clean hs v → moved ks v ≡ moved hs v
+moved_later hs ks h (Integer n) c = refl
+moved_later hs ks h (Pointer b o) c = ap (λ n. Pointer n o) (place_later hs ks h b false c)
+moved_later hs ks h (Function f) c = refl
+
+cell_moved_later : (hs ks : Marks) → Extends hs ks → (c : Cell) → CleanCell hs c → moved_cell ks c ≡ moved_cell hs c
+cell_moved_later hs ks h (Plain b) c = refl
+cell_moved_later hs ks h (Part v i) c = ap (λ u. Part u i) (moved_later hs ks h v c)
+cell_moved_later hs ks h Blank c = refl
+
+cells_moved_later : (hs ks : Marks) → Extends hs ks → (cs : List Cell) → CleanCells hs cs → moved_cells ks cs ≡ moved_cells hs cs
+cells_moved_later hs ks h [] c = refl
+cells_moved_later hs ks h (x ∷ cs) c =
+    ap (λ y. y ∷ moved_cells ks cs) (cell_moved_later hs ks h x c.0) ∙ ap (λ r. moved_cell hs x ∷ r) (cells_moved_later hs ks h cs c.1)
+
+block_moved_later : (hs ks : Marks) → Extends hs ks → (x : Option (List Cell)) → IfCleanCells hs x → moved_block ks x ≡ moved_block hs x
+block_moved_later hs ks h None c = refl
+block_moved_later hs ks h (Some cells) c = ap (λ cs. Some cs) (cells_moved_later hs ks h cells c)
+
+-- blocks that the marks hs don't hide have cells that are clean by the marks ks
+abbrev CleanBy : (ks hs : Marks) → Memory → Type 0
+CleanBy ks hs m = (b : ℕ) (x : Option (List Cell)) → slice_get hs b ≡ Some false → slice_get m b ≡ Some x → IfCleanCells ks x
+
+shown_later : (ks js hs : Marks) (m : Memory) → Extends ks js → CleanBy ks hs m → shown_by js hs m ≡ shown_by ks hs m
+shown_later ks js [] m ext c = refl
+shown_later ks js (h ∷ hs) [] ext c = refl
+shown_later ks js (true ∷ hs) (x ∷ m) ext c = shown_later ks js hs m ext (λ b y e g. c (suc b) y e g)
+shown_later ks js (false ∷ hs) (x ∷ m) ext c =
+    ap (λ y. y ∷ shown_by js hs m) (block_moved_later ks js ext x (c zero x refl refl))
+    ∙ ap (λ r. moved_block ks x ∷ r) (shown_later ks js hs m ext (λ b y e g. c (suc b) y e g))
+
 pub clean_both : (hs : Marks) (xs ys : List Cell) → CleanCells hs xs → CleanCells hs ys → CleanCells hs (xs ++ ys)
 clean_both hs [] ys h k = k
 clean_both hs (x ∷ xs) ys h k = (h.0, clean_both hs xs ys h.1 k)
@@ -203,6 +284,93 @@ cells_clean hs n (Integer k) h = clean_bytes hs n k
 cells_clean hs n (Pointer b o) h = if_clean hs (nat_eq n 8) (parts (Pointer b o)) (clean_parts hs (Pointer b o) h)
 cells_clean hs n (Function f) h = if_clean hs (nat_eq n 8) (parts (Function f)) (clean_parts hs (Function f) h)
 
+-- ---- cells that are moved
+
+bytes_moved : (hs : Marks) (bs : List ℕ) → moved_cells hs (map Plain bs) ≡ map Plain bs
+bytes_moved hs [] = refl
+bytes_moved hs (b ∷ bs) = ap (λ r. Plain b ∷ r) (bytes_moved hs bs)
+
+blanks_moved : (hs : Marks) (n : ℕ) → moved_cells hs (replicate n Blank) ≡ replicate n Blank
+blanks_moved hs zero = refl
+blanks_moved hs (suc n) = ap (λ r. Blank ∷ r) (blanks_moved hs n)
+
+if_moved : (hs : Marks) (b : Bool) (cells : List Cell) → cond b (Some (moved_cells hs cells)) None ≡ moved_block hs (cond b (Some cells) None)
+if_moved hs true cells = refl
+if_moved hs false cells = refl
+
+cells_moved : (hs : Marks) (n : ℕ) (v : Value) → cells_for n (moved hs v) ≡ moved_block hs (cells_for n v)
+cells_moved hs n (Integer k) = ap (λ cs. Some cs) (sym (bytes_moved hs (bytes_of n k)))
+cells_moved hs n (Pointer b o) = if_moved hs (nat_eq n 8) (parts (Pointer b o))
+cells_moved hs n (Function f) = if_moved hs (nat_eq n 8) (parts (Function f))
+
+same_moved : (hs : Marks) (u v : Value) → Clean hs u → Clean hs v → same_value (moved hs u) (moved hs v) ≡ same_value u v
+same_moved hs (Integer a) (Integer b) h k = refl
+same_moved hs (Integer a) (Pointer b q) h k = refl
+same_moved hs (Integer a) (Function g) h k = refl
+same_moved hs (Pointer a o) (Integer b) h k = refl
+same_moved hs (Pointer a o) (Pointer b q) h k = ap (λ x. x && nat_eq o q) (place_same hs a b h k)
+same_moved hs (Pointer a o) (Function g) h k = refl
+same_moved hs (Function f) (Integer b) h k = refl
+same_moved hs (Function f) (Pointer b q) h k = refl
+same_moved hs (Function f) (Function g) h k = refl
+
+parts_moved : (hs : Marks) (k : ℕ) (v : Value) (cs : List Cell) → Clean hs v → CleanCells hs cs → are_parts_from k (moved hs v) (moved_cells hs cs) ≡ are_parts_from k v cs
+parts_moved hs k v [] h c = refl
+parts_moved hs k v (Plain b ∷ cs) h c = refl
+parts_moved hs k v (Part u i ∷ cs) h c =
+    ap (λ x. x && (nat_eq i k && are_parts_from (k + 1) (moved hs v) (moved_cells hs cs))) (same_moved hs u v c.0 h)
+    ∙ ap (λ x. same_value u v && (nat_eq i k && x)) (parts_moved hs (k + 1) v cs h c.1)
+parts_moved hs k v (Blank ∷ cs) h c = refl
+
+pub plain_moved : (hs : Marks) (cs : List Cell) → plain_bytes (moved_cells hs cs) ≡ plain_bytes cs
+plain_moved hs [] = refl
+plain_moved hs (Plain b ∷ cs) = ap (option_map (λ bytes. b ∷ bytes)) (plain_moved hs cs)
+plain_moved hs (Part v i ∷ cs) = refl
+plain_moved hs (Blank ∷ cs) = refl
+
+pub integer_moved : (hs : Marks) (o : Option ℕ) → option_map Integer o ≡ moved_if hs (option_map Integer o)
+integer_moved hs None = refl
+integer_moved hs (Some n) = refl
+
+if_value : (hs : Marks) (b : Bool) (v : Value) → cond b (Some (moved hs v)) None ≡ moved_if hs (cond b (Some v) None)
+if_value hs true v = refl
+if_value hs false v = refl
+
+value_moved : (hs : Marks) (cs : List Cell) → CleanCells hs cs → value_of (moved_cells hs cs) ≡ moved_if hs (value_of cs)
+value_moved hs [] c = refl
+value_moved hs (Plain b ∷ cs) c =
+    ap (λ o. option_map Integer (option_map number_of o)) (plain_moved hs (Plain b ∷ cs))
+    ∙ integer_moved hs (option_map number_of (plain_bytes (Plain b ∷ cs)))
+value_moved hs (Part v i ∷ cs) c =
+    ap (λ b. cond b (Some (moved hs v)) None) (parts_moved hs 0 v (Part v i ∷ cs) c.0 c) ∙ if_value hs (are_parts_from 0 v (Part v i ∷ cs)) v
+value_moved hs (Blank ∷ cs) c = refl
+
+span_moved : (hs : Marks) (o n : ℕ) (x : Option (List Cell)) → option_and_then (span o n) (moved_block hs x) ≡ moved_block hs (option_and_then (span o n) x)
+span_moved hs o n None = refl
+span_moved hs o n (Some cells) =
+    ap (λ k. cond (nat_le (o + n) k) (Some (take n (drop o (moved_cells hs cells)))) None) (length-map cells (moved_cell hs))
+    ∙ (ap (λ cs. cond (nat_le (o + n) (length cells)) (Some cs) None) (ap (take n) (drop-map (moved_cell hs) o cells) ∙ take-map (moved_cell hs) n (drop o cells))
+    ∙ if_moved hs (nat_le (o + n) (length cells)) (take n (drop o cells)))
+
+-- the cells with new ones from offset o
+abbrev placed : ℕ → ℕ → List Cell → List Cell → List Cell
+placed o n new cells = take o cells ++ (new ++ drop (o + n) cells)
+
+placed_moved : (hs : Marks) (o n : ℕ) (new cells : List Cell) → placed o n (moved_cells hs new) (moved_cells hs cells) ≡ moved_cells hs (placed o n new cells)
+placed_moved hs o n new cells =
+    ap (λ cs. cs ++ (moved_cells hs new ++ drop (o + n) (moved_cells hs cells))) (take-map (moved_cell hs) o cells)
+    ∙ (ap (λ cs. moved_cells hs (take o cells) ++ (moved_cells hs new ++ cs)) (drop-map (moved_cell hs) (o + n) cells)
+    ∙ (ap (λ cs. moved_cells hs (take o cells) ++ cs) (sym (map-append (moved_cell hs) new (drop (o + n) cells)))
+    ∙ sym (map-append (moved_cell hs) (take o cells) (new ++ drop (o + n) cells))))
+
+put_moved : (hs : Marks) (o : ℕ) (new : List Cell) (x : Option (List Cell)) → option_and_then (put o (moved_cells hs new)) (moved_block hs x) ≡ moved_block hs (option_and_then (put o new) x)
+put_moved hs o new None = refl
+put_moved hs o new (Some cells) =
+    ap (λ k. cond (nat_le (o + k) (length (moved_cells hs cells))) (Some (placed o k (moved_cells hs new) (moved_cells hs cells))) None) (length-map new (moved_cell hs))
+    ∙ (ap (λ k. cond (nat_le (o + length new) k) (Some (placed o (length new) (moved_cells hs new) (moved_cells hs cells))) None) (length-map cells (moved_cell hs))
+    ∙ (ap (λ cs. cond (nat_le (o + length new) (length cells)) (Some cs) None) (placed_moved hs o (length new) new cells)
+    ∙ if_moved hs (nat_le (o + length new) (length cells)) (placed o (length new) new cells)))
+
 -- ---- loads
 
 block_clean_at : (hs : Marks) (m : Memory) (b : ℕ) → CleanMemory hs m → slice_get hs b ≡ Some false → (o : Option (Option (List Cell))) → slice_get m b ≡ o → IfCleanCells hs (option_flatten o)
@@ -212,8 +380,12 @@ block_clean_at hs m b h e (Some x) s = h b x e s
 block_clean : (hs : Marks) (m : Memory) (b : ℕ) → CleanMemory hs m → slice_get hs b ≡ Some false → IfCleanCells hs (block_at m b)
 block_clean hs m b h e = block_clean_at hs m b h e (slice_get m b) refl
 
-pub block_shown : (hs : Marks) (m : Memory) (b : ℕ) → slice_get hs b ≡ Some false → block_at (hide hs m) b ≡ block_at m b
-block_shown hs m b e = ap option_flatten (get_shown hs m b e)
+flat_moved : (hs : Marks) (o : Option (Option (List Cell))) → option_flatten (option_map (moved_block hs) o) ≡ moved_block hs (option_flatten o)
+flat_moved hs None = refl
+flat_moved hs (Some x) = refl
+
+pub block_shown : (hs : Marks) (m : Memory) (b : ℕ) → slice_get hs b ≡ Some false → block_at (shown hs m) (place hs b) ≡ moved_block hs (block_at m b)
+block_shown hs m b e = ap option_flatten (get_shown hs hs m b e) ∙ flat_moved hs (slice_get m b)
 
 span_clean : (hs : Marks) (o n : ℕ) (x : Option (List Cell)) → IfCleanCells hs x → IfCleanCells hs (option_and_then (span o n) x)
 span_clean hs o n None h = tt
@@ -223,14 +395,19 @@ span_clean hs o n (Some cells) h =
 cells_at_clean : (hs : Marks) (m : Memory) (b o n : ℕ) → CleanMemory hs m → slice_get hs b ≡ Some false → IfCleanCells hs (cells_at m b o n)
 cells_at_clean hs m b o n h e = span_clean hs o n (block_at m b) (block_clean hs m b h e)
 
-pub cells_at_shown : (hs : Marks) (m : Memory) (b o n : ℕ) → slice_get hs b ≡ Some false → cells_at (hide hs m) b o n ≡ cells_at m b o n
-cells_at_shown hs m b o n e = ap (option_and_then (span o n)) (block_shown hs m b e)
+pub cells_at_shown : (hs : Marks) (m : Memory) (b o n : ℕ) → slice_get hs b ≡ Some false → cells_at (shown hs m) (place hs b) o n ≡ moved_block hs (cells_at m b o n)
+cells_at_shown hs m b o n e = ap (option_and_then (span o n)) (block_shown hs m b e) ∙ span_moved hs o n (block_at m b)
 
-pub load_shown : (hs : Marks) (m : Memory) (n : ℕ) (p : Value) → Clean hs p → load (hide hs m) n p ≡ load m n p
+values_moved : (hs : Marks) (x : Option (List Cell)) → IfCleanCells hs x → option_and_then value_of (moved_block hs x) ≡ moved_if hs (option_and_then value_of x)
+values_moved hs None c = refl
+values_moved hs (Some cells) c = value_moved hs cells c
+
+pub load_shown : (hs : Marks) (m : Memory) (n : ℕ) (p : Value) → CleanMemory hs m → Clean hs p → load (shown hs m) n (moved hs p) ≡ moved_if hs (load m n p)
 unfolding load
-load_shown hs m n (Integer k) h = refl
-load_shown hs m n (Pointer b o) h = ap (option_and_then value_of) (cells_at_shown hs m b o n h)
-load_shown hs m n (Function f) h = refl
+load_shown hs m n (Integer k) c h = refl
+load_shown hs m n (Pointer b o) c h =
+    ap (option_and_then value_of) (cells_at_shown hs m b o n h) ∙ values_moved hs (cells_at m b o n) (cells_at_clean hs m b o n c h)
+load_shown hs m n (Function f) c h = refl
 
 -- a number of up to eight bytes
 power_step : (b x p : ℕ) → b < 256 → x < p → b + 256 * x < 256 * p
@@ -347,25 +524,26 @@ wrote : (hs : Marks) (m : Memory) (b : ℕ) (x : Option (List Cell)) → CleanMe
 wrote hs m b None h e c = tt
 wrote hs m b (Some cells) h e c = set_changed hs m b cells h e c
 
-wrote_hides : (hs : Marks) (m : Memory) (b : ℕ) (x : Option (List Cell)) → slice_get hs b ≡ Some false → option_map (λ cells. slice_set (hide hs m) b (Some cells)) x ≡ option_map (hide hs) (option_map (λ cells. slice_set m b (Some cells)) x)
-wrote_hides hs m b None e = refl
-wrote_hides hs m b (Some cells) e = ap (λ k. Some k) (sym (set_shown hs m b (Some cells) e))
+wrote_shows : (hs : Marks) (m : Memory) (b : ℕ) (x : Option (List Cell)) → slice_get hs b ≡ Some false → option_map (λ cells. slice_set (shown hs m) (place hs b) (Some cells)) (moved_block hs x) ≡ option_map (shown hs) (option_map (λ cells. slice_set m b (Some cells)) x)
+wrote_shows hs m b None e = refl
+wrote_shows hs m b (Some cells) e = ap (λ k. Some k) (sym (set_shown hs hs m b (Some cells) e))
 
 write_changed : (hs : Marks) (m : Memory) (b o : ℕ) (new : List Cell) → CleanMemory hs m → slice_get hs b ≡ Some false → CleanCells hs new → IfChanged hs m (write_at m b o new)
 write_changed hs m b o new h e c = wrote hs m b (option_and_then (put o new) (block_at m b)) h e (put_clean hs o new (block_at m b) c (block_clean hs m b h e))
 
-write_hides : (hs : Marks) (m : Memory) (b o : ℕ) (new : List Cell) → slice_get hs b ≡ Some false → write_at (hide hs m) b o new ≡ option_map (hide hs) (write_at m b o new)
-write_hides hs m b o new e =
-    ap (λ x. option_map (λ cells. slice_set (hide hs m) b (Some cells)) (option_and_then (put o new) x)) (block_shown hs m b e)
-    ∙ wrote_hides hs m b (option_and_then (put o new) (block_at m b)) e
+write_shows : (hs : Marks) (m : Memory) (b o : ℕ) (new : List Cell) → slice_get hs b ≡ Some false → write_at (shown hs m) (place hs b) o (moved_cells hs new) ≡ option_map (shown hs) (write_at m b o new)
+write_shows hs m b o new e =
+    ap (λ x. option_map (λ cells. slice_set (shown hs m) (place hs b) (Some cells)) (option_and_then (put o (moved_cells hs new)) x)) (block_shown hs m b e)
+    ∙ (ap (option_map (λ cells. slice_set (shown hs m) (place hs b) (Some cells))) (put_moved hs o new (block_at m b))
+    ∙ wrote_shows hs m b (option_and_then (put o new) (block_at m b)) e)
 
 writes_changed : (hs : Marks) (m : Memory) (b o : ℕ) (x : Option (List Cell)) → CleanMemory hs m → slice_get hs b ≡ Some false → IfCleanCells hs x → IfChanged hs m (option_and_then (write_at m b o) x)
 writes_changed hs m b o None h e c = tt
 writes_changed hs m b o (Some new) h e c = write_changed hs m b o new h e c
 
-writes_hide : (hs : Marks) (m : Memory) (b o : ℕ) (x : Option (List Cell)) → slice_get hs b ≡ Some false → option_and_then (write_at (hide hs m) b o) x ≡ option_map (hide hs) (option_and_then (write_at m b o) x)
-writes_hide hs m b o None e = refl
-writes_hide hs m b o (Some new) e = write_hides hs m b o new e
+writes_show : (hs : Marks) (m : Memory) (b o : ℕ) (x : Option (List Cell)) → slice_get hs b ≡ Some false → option_and_then (write_at (shown hs m) (place hs b) o) (moved_block hs x) ≡ option_map (shown hs) (option_and_then (write_at m b o) x)
+writes_show hs m b o None e = refl
+writes_show hs m b o (Some new) e = write_shows hs m b o new e
 
 pub store_changed : (hs : Marks) (m : Memory) (n : ℕ) (p v : Value) → CleanMemory hs m → Clean hs p → Clean hs v → IfChanged hs m (store m n p v)
 unfolding store
@@ -373,11 +551,11 @@ store_changed hs m n (Integer k) v h c d = tt
 store_changed hs m n (Pointer b o) v h c d = writes_changed hs m b o (cells_for n v) h c (cells_clean hs n v d)
 store_changed hs m n (Function f) v h c d = tt
 
-pub store_hides : (hs : Marks) (m : Memory) (n : ℕ) (p v : Value) → Clean hs p → store (hide hs m) n p v ≡ option_map (hide hs) (store m n p v)
+pub store_shows : (hs : Marks) (m : Memory) (n : ℕ) (p v : Value) → Clean hs p → store (shown hs m) n (moved hs p) (moved hs v) ≡ option_map (shown hs) (store m n p v)
 unfolding store
-store_hides hs m n (Integer k) v c = refl
-store_hides hs m n (Pointer b o) v c = writes_hide hs m b o (cells_for n v) c
-store_hides hs m n (Function f) v c = refl
+store_shows hs m n (Integer k) v c = refl
+store_shows hs m n (Pointer b o) v c = ap (option_and_then (write_at (shown hs m) (place hs b) o)) (cells_moved hs n v) ∙ writes_show hs m b o (cells_for n v) c
+store_shows hs m n (Function f) v c = refl
 
 nothing_changed : (hs : Marks) (m : Memory) → CleanMemory hs m → Changed hs m m
 nothing_changed hs m h = record { long = refl; clean = h; kept = λ b e. refl }
@@ -386,9 +564,9 @@ if_changed : (hs : Marks) (m : Memory) (b : Bool) (o : Option Memory) → IfChan
 if_changed hs m true o h = h
 if_changed hs m false o h = tt
 
-if_hides : (hs : Marks) (b : Bool) (o p : Option Memory) → p ≡ option_map (hide hs) o → cond b p None ≡ option_map (hide hs) (cond b o None)
-if_hides hs true o p h = h
-if_hides hs false o p h = refl
+if_shows : (hs : Marks) (b : Bool) (o p : Option Memory) → p ≡ option_map (shown hs) o → cond b p None ≡ option_map (shown hs) (cond b o None)
+if_shows hs true o p h = h
+if_shows hs false o p h = refl
 
 pub copy_changed : (hs : Marks) (m : Memory) (n : ℕ) (p q : Value) → CleanMemory hs m → Clean hs p → Clean hs q → IfChanged hs m (copy m n p q)
 unfolding copy
@@ -401,16 +579,17 @@ copy_changed hs m (suc n) (Pointer a o) (Function f) h c d = tt
 copy_changed hs m (suc n) (Integer k) q h c d = tt
 copy_changed hs m (suc n) (Function f) q h c d = tt
 
-pub copy_hides : (hs : Marks) (m : Memory) (n : ℕ) (p q : Value) → Clean hs p → Clean hs q → copy (hide hs m) n p q ≡ option_map (hide hs) (copy m n p q)
+pub copy_shows : (hs : Marks) (m : Memory) (n : ℕ) (p q : Value) → Clean hs p → Clean hs q → copy (shown hs m) n (moved hs p) (moved hs q) ≡ option_map (shown hs) (copy m n p q)
 unfolding copy
-copy_hides hs m zero p q c d = refl
-copy_hides hs m (suc n) (Pointer a o) (Pointer b q) c d =
-    if_hides hs (apart_or_same (suc n) a o b q) (option_and_then (write_at m b q) (cells_at m a o (suc n))) (option_and_then (write_at (hide hs m) b q) (cells_at (hide hs m) a o (suc n)))
-    (ap (option_and_then (write_at (hide hs m) b q)) (cells_at_shown hs m a o (suc n) c) ∙ writes_hide hs m b q (cells_at m a o (suc n)) d)
-copy_hides hs m (suc n) (Pointer a o) (Integer k) c d = refl
-copy_hides hs m (suc n) (Pointer a o) (Function f) c d = refl
-copy_hides hs m (suc n) (Integer k) q c d = refl
-copy_hides hs m (suc n) (Function f) q c d = refl
+copy_shows hs m zero p q c d = refl
+copy_shows hs m (suc n) (Pointer a o) (Pointer b q) c d =
+    ap (λ t. cond (not t || (nat_eq o q || (nat_le (o + suc n) q || nat_le (q + suc n) o))) (option_and_then (write_at (shown hs m) (place hs b) q) (cells_at (shown hs m) (place hs a) o (suc n))) None) (place_same hs a b c d)
+    ∙ if_shows hs (apart_or_same (suc n) a o b q) (option_and_then (write_at m b q) (cells_at m a o (suc n))) (option_and_then (write_at (shown hs m) (place hs b) q) (cells_at (shown hs m) (place hs a) o (suc n)))
+    (ap (option_and_then (write_at (shown hs m) (place hs b) q)) (cells_at_shown hs m a o (suc n) c) ∙ writes_show hs m b q (cells_at m a o (suc n)) d)
+copy_shows hs m (suc n) (Pointer a o) (Integer k) c d = refl
+copy_shows hs m (suc n) (Pointer a o) (Function f) c d = refl
+copy_shows hs m (suc n) (Integer k) q c d = refl
+copy_shows hs m (suc n) (Function f) q c d = refl
 
 -- ---- fresh blocks
 
@@ -419,6 +598,50 @@ get_end P [] x y zero new old e = let same : x ≡ y = cc in subst P same new
 get_end P [] x y (suc b) new old e = absurd (let no : ⊥ = cc in no)
 get_end P (z ∷ zs) x y zero new old e = old y e
 get_end P (z ∷ zs) x y (suc b) new old e = get_end P zs x y b new old e
+
+get_old : {X : Type 0} (xs ys : List X) (b : ℕ) (x : X) → slice_get xs b ≡ Some x → slice_get (xs ++ ys) b ≡ Some x
+get_old [] ys b x e = absurd (let no : ⊥ = cc in no)
+get_old (z ∷ zs) ys zero x e = e
+get_old (z ∷ zs) ys (suc b) x e = get_old zs ys b x e
+
+pub marks_grow : (hs : Marks) (h : Bool) → Extends hs (hs ++ h ∷ [])
+marks_grow hs h b x e = get_old hs (h ∷ []) b x e
+
+hidden_last : (ks hs : Marks) (m : Memory) (n : ℕ) → length hs ≡ length m → shown_by ks (hs ++ true ∷ []) (fresh m n) ≡ shown_by ks hs m
+hidden_last ks [] [] n e = refl
+hidden_last ks [] (b ∷ m) n e = absurd (omega (arith, e))
+hidden_last ks (g ∷ hs) [] n e = absurd (omega (arith, e))
+hidden_last ks (true ∷ hs) (b ∷ m) n e = hidden_last ks hs m n (omega (arith, e))
+hidden_last ks (false ∷ hs) (b ∷ m) n e = ap (λ r. moved_block ks b ∷ r) (hidden_last ks hs m n (omega (arith, e)))
+
+shown_last : (ks hs : Marks) (m : Memory) (n : ℕ) → length hs ≡ length m → shown_by ks (hs ++ false ∷ []) (fresh m n) ≡ fresh (shown_by ks hs m) n
+shown_last ks [] [] n e = ap (λ cs. Some cs ∷ []) (blanks_moved ks n)
+shown_last ks [] (b ∷ m) n e = absurd (omega (arith, e))
+shown_last ks (g ∷ hs) [] n e = absurd (omega (arith, e))
+shown_last ks (true ∷ hs) (b ∷ m) n e = shown_last ks hs m n (omega (arith, e))
+shown_last ks (false ∷ hs) (b ∷ m) n e = ap (λ r. moved_block ks b ∷ r) (shown_last ks hs m n (omega (arith, e)))
+
+-- a fresh block that is hidden leaves the other memory as it was
+pub fresh_hidden : (hs : Marks) (m : Memory) (n : ℕ) → length hs ≡ length m → CleanMemory hs m → shown (hs ++ true ∷ []) (fresh m n) ≡ shown hs m
+fresh_hidden hs m n e c = hidden_last (hs ++ true ∷ []) hs m n e ∙ shown_later hs (hs ++ true ∷ []) hs m (marks_grow hs true) c
+
+-- another is made there too
+pub fresh_shown : (hs : Marks) (m : Memory) (n : ℕ) → length hs ≡ length m → CleanMemory hs m → shown (hs ++ false ∷ []) (fresh m n) ≡ fresh (shown hs m) n
+fresh_shown hs m n e c =
+    shown_last (hs ++ false ∷ []) hs m n e ∙ ap (λ k. fresh k n) (shown_later hs (hs ++ false ∷ []) hs m (marks_grow hs false) c)
+
+place_last : (ks hs : Marks) (m : Memory) (h : Bool) (n : ℕ) → length hs ≡ length m → n ≡ length m → place (hs ++ h ∷ []) n ≡ length (shown_by ks hs m)
+place_last ks [] [] h zero e f = refl
+place_last ks [] [] h (suc n) e f = absurd (omega (arith, f))
+place_last ks [] (b ∷ m) h n e f = absurd (omega (arith, e))
+place_last ks (g ∷ hs) [] h n e f = absurd (omega (arith, e))
+place_last ks (g ∷ hs) (b ∷ m) h zero e f = absurd (omega (arith, f))
+place_last ks (true ∷ hs) (b ∷ m) h (suc n) e f = place_last ks hs m h n (omega (arith, e)) (omega (arith, f))
+place_last ks (false ∷ hs) (b ∷ m) h (suc n) e f = ap suc (place_last ks hs m h n (omega (arith, e)) (omega (arith, f)))
+
+-- a fresh block's number is the length of the memory before, there too
+pub place_fresh : (hs : Marks) (m : Memory) (h : Bool) → length hs ≡ length m → place (hs ++ h ∷ []) (length m) ≡ length (shown hs m)
+place_fresh hs m h e = place_last hs hs m h (length m) e refl
 
 end_mark : (hs : Marks) (h : Bool) (b : ℕ) → b < length hs → slice_get (hs ++ h ∷ []) b ≡ slice_get hs b
 end_mark [] h b lt = absurd (omega arith)
@@ -443,3 +666,70 @@ free_all_clean hs m (b ∷ bs) h = free_all_clean hs (free m b) bs (free_clean h
 pub length_free : (m : Memory) (bs : List ℕ) → length (free_all m bs) ≡ length m
 length_free m [] = refl
 length_free m (b ∷ bs) = length_free (free m b) bs ∙ length-set m b None
+
+-- ---- the blocks of an activation
+
+-- a block that there is, made since the first `first` ones
+pub record Made (hs : Marks) (first b : ℕ) : Type 0 where
+  pub since : first ≤ b
+  pub mark : Bool
+  pub is : slice_get hs b ≡ Some mark
+
+abbrev pub AllMade : Marks → ℕ → List ℕ → Type 0
+AllMade hs first [] = Unit {0}
+AllMade hs first (b ∷ bs) = Made hs first b × AllMade hs first bs
+
+-- the number of block b, if it isn't hidden, and then others
+abbrev number_if : Marks → ℕ → Option Bool → List ℕ → List ℕ
+number_if hs b None ns = ns
+number_if hs b (Some true) ns = ns
+number_if hs b (Some false) ns = place hs b ∷ ns
+
+-- the numbers of those of these blocks that aren't hidden
+abbrev pub places : Marks → List ℕ → List ℕ
+places hs [] = []
+places hs (b ∷ bs) = number_if hs b (slice_get hs b) (places hs bs)
+
+pub made_later : (hs ks : Marks) (first : ℕ) (bs : List ℕ) → Extends hs ks → AllMade hs first bs → AllMade ks first bs
+made_later hs ks first [] ext h = tt
+made_later hs ks first (b ∷ bs) ext h = (
+  record { since = h.0.since; mark = h.0.mark; is = ext b h.0.mark h.0.is },
+  made_later hs ks first bs ext h.1,
+)
+
+number_later : (hs ks : Marks) (b : ℕ) (x : Bool) (ns : List ℕ) → Extends hs ks → slice_get hs b ≡ Some x → number_if ks b (slice_get ks b) ns ≡ number_if hs b (slice_get hs b) ns
+number_later hs ks b true ns ext e = ap (λ o. number_if ks b o ns) (ext b true e) ∙ sym (ap (λ o. number_if hs b o ns) e)
+number_later hs ks b false ns ext e =
+    ap (λ o. number_if ks b o ns) (ext b false e) ∙ (ap (λ n. n ∷ ns) (place_later hs ks ext b false e) ∙ sym (ap (λ o. number_if hs b o ns) e))
+
+pub places_later : (hs ks : Marks) (first : ℕ) (bs : List ℕ) → Extends hs ks → AllMade hs first bs → places ks bs ≡ places hs bs
+places_later hs ks first [] ext h = refl
+places_later hs ks first (b ∷ bs) ext h =
+    number_later hs ks b h.0.mark (places ks bs) ext h.0.is ∙ ap (number_if hs b (slice_get hs b)) (places_later hs ks first bs ext h.1)
+
+number_both : (hs : Marks) (b : ℕ) (o : Option Bool) (xs ys : List ℕ) → number_if hs b o (xs ++ ys) ≡ number_if hs b o xs ++ ys
+number_both hs b None xs ys = refl
+number_both hs b (Some true) xs ys = refl
+number_both hs b (Some false) xs ys = refl
+
+pub places_both : (hs : Marks) (bs cs : List ℕ) → places hs (bs ++ cs) ≡ places hs bs ++ places hs cs
+places_both hs [] cs = refl
+places_both hs (b ∷ bs) cs = ap (number_if hs b (slice_get hs b)) (places_both hs bs cs) ∙ number_both hs b (slice_get hs b) (places hs bs) (places hs cs)
+
+-- a block that is made, at the end of those of an activation
+pub places_hidden : (hs : Marks) (b : ℕ) → slice_get hs b ≡ Some true → places hs (b ∷ []) ≡ []
+places_hidden hs b e = ap (λ o. number_if hs b o []) e
+
+pub places_shown : (hs : Marks) (b : ℕ) → slice_get hs b ≡ Some false → places hs (b ∷ []) ≡ place hs b ∷ []
+places_shown hs b e = ap (λ o. number_if hs b o []) e
+
+free_shows : (hs : Marks) (m : Memory) (b : ℕ) (x : Bool) (ns : List ℕ) → slice_get hs b ≡ Some x → free_all (shown hs (free m b)) ns ≡ free_all (shown hs m) (number_if hs b (slice_get hs b) ns)
+free_shows hs m b true ns e =
+    ap (λ k. free_all k ns) (set_hidden hs m b None e) ∙ sym (ap (λ o. free_all (shown hs m) (number_if hs b o ns)) e)
+free_shows hs m b false ns e =
+    ap (λ k. free_all k ns) (set_shown hs hs m b None e) ∙ sym (ap (λ o. free_all (shown hs m) (number_if hs b o ns)) e)
+
+pub free_all_shows : (hs : Marks) (m : Memory) (first : ℕ) (bs : List ℕ) → AllMade hs first bs → shown hs (free_all m bs) ≡ free_all (shown hs m) (places hs bs)
+free_all_shows hs m first [] h = refl
+free_all_shows hs m first (b ∷ bs) h =
+    free_all_shows hs (free m b) first bs h.1 ∙ free_shows hs m b h.0.mark (places hs bs) h.0.is

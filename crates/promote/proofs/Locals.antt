@@ -1,5 +1,5 @@
 -- Allocs, and loads and stores of promoted temporaries, on both sides.
-use Rattle.std.proofs.Common.{◌≡◌, ◌⊎◌, inl, inr, ℕ, zero, suc, ◌+◌, ◌-◌, ◌/◌, ◌<◌, ◌≤◌, Bool, true, false, nat_eq, nat_le, cond, List, [], ◌∷◌, ◌++◌, map, length, take, drop, replicate, length-append, refl, sym, ◌∙◌, ap, subst, arith}
+use Rattle.std.proofs.Common.{◌≡◌, ◌⊎◌, inl, inr, ℕ, zero, suc, ◌+◌, ◌-◌, ◌/◌, ◌%◌, ◌^◌, ◌<◌, ◌≤◌, Bool, true, false, nat_eq, nat_le, cond, List, [], ◌∷◌, ◌++◌, map, length, take, drop, replicate, length-append, refl, sym, ◌∙◌, ap, subst, arith}
 use Rattle.std.specs.Prelude.{slice_get, slice_set, Option, Some, None}
 use Rattle.std.specs.Option.{option_map, option_and_then, option_flatten}
 use Rattle.std.proofs.lemmas.Bool.Decides.{nat_tests}
@@ -32,20 +32,20 @@ use Rattle.il_ast.specs.Effect.{operand, InstEffect, Done, assigned, changed, st
 use Rattle.promote.specs.declared.mention.Role.TheVariants.{Accessed, Used}
 use Rattle.promote.specs.Uses.{value_mentions, operand_role, extension_size, same_size, suits, destination_mentions, arg_mentions, item_mentions}
 use Rattle.promote.specs.declared.mention.Mention.{Mention}
-use Rattle.promote.specs.Promoted.{Widths, storing, loading, extending, promoted, stored_in, taken_from}
+use Rattle.promote.specs.Promoted.{Widths, storing, loading, extending, promoted, made_in, stored_in, taken_from}
 use Rattle.promote.proofs.Choosing.{same_true}
 use Rattle.promote.proofs.Respect.{Respected, respected_first, respected_then}
 use Rattle.promote.proofs.Rules.{store_class}
-use Rattle.promote.proofs.Hiding.{Marks, hide, blank, get_set_other, set_hidden, length_hide, fresh_hides, Clean, IfClean, CleanMemory, Extends, fresh_clean}
+use Rattle.promote.proofs.Hiding.{Marks, moved, moved_if, shown, get_set_other, set_hidden, Clean, IfClean, CleanMemory, Extends, marks_grow, fresh_hidden, fresh_shown, place, place_fresh, fresh_clean, Made, AllMade, made_later, places, places_later, places_both, places_hidden, places_shown}
 use Rattle.promote.proofs.Carrying.{Put, put_there, take_long, take_short, extension_count}
-use Rattle.promote.proofs.Sides.{Shows, Held, Sides, KeptHidden, sides_later, sides_assign, sides_alloc, sides_store, marks_grow, fresh_kept, get_last}
-use Rattle.promote.proofs.Instructions.{Setting, AllFrom, State, held_as, DestPlain, GoesSo, PlainValue, suited_plain, plain_value, plain_args, operand_alike, operand_clean, assigned_so, kept_hidden, unary_so, binary_so, store_so, blit_so, calls_so}
+use Rattle.promote.proofs.Sides.{Shows, Held, Sides, KeptHidden, sides_later, sides_assign, sides_alloc, sides_store, fresh_kept, get_last}
+use Rattle.promote.proofs.Instructions.{Setting, State, held_as, across, DestPlain, GoesSo, PlainValue, suited_plain, plain_value, plain_args, operand_alike, operand_clean, assigned_so, kept_hidden, unary_so, binary_so, store_so, blit_so, calls_so}
 
 -- ---- allocs
 
-pub from_both : (first : ℕ) (bs : List ℕ) (b : ℕ) → AllFrom first bs → first ≤ b → AllFrom first (bs ++ b ∷ [])
-from_both first [] b h le = (le, tt)
-from_both first (x ∷ bs) b h le = (h.0, from_both first bs b h.1 le)
+one_made : (hs : Marks) (first : ℕ) (bs : List ℕ) (b : ℕ) → AllMade hs first bs → Made hs first b → AllMade hs first (bs ++ b ∷ [])
+one_made hs first [] b h k = (k, tt)
+one_made hs first (x ∷ bs) b h k = (h.0, one_made hs first bs b h.1 k)
 
 grown_more : (c : Setting) (hs : Marks) (h : Bool) → Extends c.marks hs → Extends c.marks (hs ++ h ∷ [])
 grown_more c hs h g b x e = marks_grow hs h b x (g b x e)
@@ -56,36 +56,70 @@ one_longer [] (b ∷ ys) x y e = absurd (omega (arith, e))
 one_longer (a ∷ xs) [] x y e = absurd (omega (arith, e))
 one_longer (a ∷ xs) (b ∷ ys) x y e = ap suc (one_longer xs ys x y (omega (arith, e)))
 
-alloc_is : (c : Setting) (hs : Marks) (m : Memory) (us : List (Option Value)) (owned : List ℕ) (h : Bool) (to : Dest) (alignment : Alignment) (n : ℕ) → length hs ≡ length m → inst_effect c.globals (held_as us owned) (hide hs m) (Alloc to alignment n) ≡ Done 1 (held_as (slice_set us to.temp (Some (Pointer (length m) 0))) (owned ++ length m ∷ [])) (hide (hs ++ h ∷ []) (fresh m n))
-unfolding inst_effect
-alloc_is c hs m us owned h to alignment n l =
-    ap (λ k. Done 1 (held_as (slice_set us to.temp (Some (Pointer k 0))) (owned ++ k ∷ [])) (fresh (hide hs m) n)) (length_hide hs m)
-    ∙ ap (Done 1 (held_as (slice_set us to.temp (Some (Pointer (length m) 0))) (owned ++ length m ∷ []))) (sym (fresh_hides hs m h n l))
+-- the blocks of the activation, with one more
+places_more : (hs : Marks) (m : Memory) (first : ℕ) (owned : List ℕ) (h : Bool) → AllMade hs first owned → places (hs ++ h ∷ []) (owned ++ length m ∷ []) ≡ places hs owned ++ places (hs ++ h ∷ []) (length m ∷ [])
+places_more hs m first owned h made =
+    places_both (hs ++ h ∷ []) owned (length m ∷ []) ∙ ap (λ ns. ns ++ places (hs ++ h ∷ []) (length m ∷ [])) (places_later hs (hs ++ h ∷ []) first owned (marks_grow hs h) made)
+
+append_none : (ns : List ℕ) → ns ++ [] ≡ ns
+append_none [] = refl
+append_none (n ∷ ns) = ap (λ r. n ∷ r) (append_none ns)
 
 alloc_state : (c : Setting) (hs : Marks) (m : Memory) (ts us vs ws : List (Option Value)) (owned : List ℕ) (h : Bool) (n : ℕ) → State c hs m ts us owned → Sides c.widths (hs ++ h ∷ []) (length c.memory) (fresh m n) vs ws → State c (hs ++ h ∷ []) (fresh m n) vs ws (owned ++ length m ∷ [])
 alloc_state c hs m ts us vs ws owned h n st sides =
     let longer : length (fresh m n) ≡ length m + 1 = length-append m (Some (replicate n Blank) ∷ []) in
     let low = st.low in
+    let ks = hs ++ h ∷ [] in
     record {
       alike = one_longer hs m h (Some (replicate n Blank)) st.alike;
       grown = grown_more c hs h st.grown;
-      clean = fresh_clean hs (hs ++ h ∷ []) m h n refl (marks_grow hs h) st.alike st.clean;
+      clean = fresh_clean hs ks m h n refl (marks_grow hs h) st.alike st.clean;
       kept = kept_hidden c hs m (fresh m n) st.grown st.kept (fresh_kept hs m n st.alike);
       low = omega (arith, longer, low);
-      mine = from_both (length c.memory) owned (length m) st.mine st.low;
+      mine = one_made ks (length c.memory) owned (length m) (made_later hs ks (length c.memory) owned (marks_grow hs h) st.mine)
+          (record { since = st.low; mark = h; is = get_last hs h (length m) (sym st.alike) });
       sides = sides;
     }
 
-alloc_so : (c : Setting) (hs : Marks) (m : Memory) (ts us : List (Option Value)) (owned : List ℕ) → State c hs m ts us owned → (to : Dest) (alignment : Alignment) (n : ℕ) (o : Option Size) → c.widths to.temp ≡ o → GoesSo c hs (inst_effect c.globals (held_as ts owned) m (Alloc to alignment n)) (inst_effect c.globals (held_as us owned) (hide hs m) (Alloc to alignment n))
+-- an alloc that stays
+kept_is : (c : Setting) (hs : Marks) (m : Memory) (ts us : List (Option Value)) (owned : List ℕ) (to : Dest) (alignment : Alignment) (n : ℕ) → State c hs m ts us owned → inst_effect c.globals (across hs us owned) (shown hs m) (Alloc to alignment n) ≡ Done 1 (across (hs ++ false ∷ []) (slice_set us to.temp (Some (moved (hs ++ false ∷ []) (Pointer (length m) 0)))) (owned ++ length m ∷ [])) (shown (hs ++ false ∷ []) (fresh m n))
+unfolding inst_effect
+kept_is c hs m ts us owned to alignment n st =
+    let ks = hs ++ false ∷ [] in
+    let number : place ks (length m) ≡ length (shown hs m) = place_fresh hs m false st.alike in
+    let mine : places ks (owned ++ length m ∷ []) ≡ places hs owned ++ place ks (length m) ∷ [] =
+    places_more hs m (length c.memory) owned false st.mine
+    ∙ ap (λ ns. places hs owned ++ ns) (places_shown ks (length m) (get_last hs false (length m) (sym st.alike))) in
+    ap (λ k. Done 1 (held_as (slice_set us to.temp (Some (Pointer k 0))) (places hs owned ++ k ∷ [])) (fresh (shown hs m) n)) (sym number)
+    ∙ (ap (λ ns. Done 1 (held_as (slice_set us to.temp (Some (Pointer (place ks (length m)) 0))) ns) (fresh (shown hs m) n)) (sym mine)
+    ∙ ap (Done 1 (across ks (slice_set us to.temp (Some (moved ks (Pointer (length m) 0)))) (owned ++ length m ∷ []))) (sym (fresh_shown hs m n st.alike st.clean)))
+
+-- an alloc that is gone
+zero_is : (c : Class) → option_and_then (in_place c) (Some (Integer (0 % 2 ^ 64))) ≡ Some (Integer 0)
+zero_is W = refl
+zero_is L = refl
+
+gone_is : (c : Setting) (hs : Marks) (m : Memory) (ts us : List (Option Value)) (owned : List ℕ) (to : Dest) (n : ℕ) → State c hs m ts us owned → inst_effect c.globals (across hs us owned) (shown hs m) (Unary to Copy (Int 0)) ≡ Done 1 (across (hs ++ true ∷ []) (slice_set us to.temp (Some (Integer 0))) (owned ++ length m ∷ [])) (shown (hs ++ true ∷ []) (fresh m n))
+unfolding inst_effect operate_one
+gone_is c hs m ts us owned to n st =
+    let ks = hs ++ true ∷ [] in
+    let mine : places ks (owned ++ length m ∷ []) ≡ places hs owned =
+    places_more hs m (length c.memory) owned true st.mine
+    ∙ (ap (λ ns. places hs owned ++ ns) (places_hidden ks (length m) (get_last hs true (length m) (sym st.alike))) ∙ append_none (places hs owned)) in
+    ap (λ o. assigned (across hs us owned) (shown hs m) to.temp (option_and_then (operate_one (shown hs m) Copy to.class) o)) (zero_is to.class)
+    ∙ (ap (λ ns. Done 1 (held_as (slice_set us to.temp (Some (Integer 0))) ns) (shown hs m)) (sym mine)
+    ∙ ap (Done 1 (across ks (slice_set us to.temp (Some (Integer 0))) (owned ++ length m ∷ []))) (sym (fresh_hidden hs m n st.alike st.clean)))
+
+alloc_so : (c : Setting) (hs : Marks) (m : Memory) (ts us : List (Option Value)) (owned : List ℕ) → State c hs m ts us owned → (to : Dest) (alignment : Alignment) (n : ℕ) (o : Option Size) → c.widths to.temp ≡ o → GoesSo c hs (inst_effect c.globals (held_as ts owned) m (Alloc to alignment n)) (inst_effect c.globals (across hs us owned) (shown hs m) (made_in o to alignment n))
 unfolding inst_effect
 alloc_so c hs m ts us owned st to alignment n None p =
     let v = Pointer (length m) 0 in
     let ks = hs ++ false ∷ [] in
     record {
       marks = ks;
-      temps = slice_set us to.temp (Some v);
-      is = alloc_is c hs m us owned false to alignment n st.alike;
-      state = alloc_state c hs m ts us (slice_set ts to.temp (Some v)) (slice_set us to.temp (Some v)) owned false n st
+      temps = slice_set us to.temp (Some (moved ks v));
+      is = kept_is c hs m ts us owned to alignment n st;
+      state = alloc_state c hs m ts us (slice_set ts to.temp (Some v)) (slice_set us to.temp (Some (moved ks v))) owned false n st
           (sides_assign c.widths ks (length c.memory) (fresh m n) ts us to.temp v p (get_last hs false (length m) (sym st.alike))
           (sides_later c.widths hs ks (length c.memory) m (fresh m n) ts us (marks_grow hs false) (fresh_kept hs m n st.alike) st.sides));
     }
@@ -93,10 +127,10 @@ alloc_so c hs m ts us owned st to alignment n (Some s) p =
     let v = Pointer (length m) 0 in
     record {
       marks = hs ++ true ∷ [];
-      temps = slice_set us to.temp (Some v);
-      is = alloc_is c hs m us owned true to alignment n st.alike;
-      state = alloc_state c hs m ts us (slice_set ts to.temp (Some v)) (slice_set us to.temp (Some v)) owned true n st
-          (sides_alloc c.widths hs (length c.memory) m ts us to.temp n s p st.alike st.low st.sides);
+      temps = slice_set us to.temp (Some (Integer 0));
+      is = gone_is c hs m ts us owned to n st;
+      state = alloc_state c hs m ts us (slice_set ts to.temp (Some v)) (slice_set us to.temp (Some (Integer 0))) owned true n st
+          (sides_alloc c.widths hs (length c.memory) m ts us (Integer 0) to.temp n s p st.alike st.low st.sides);
     }
 
 -- ---- loads
@@ -104,7 +138,7 @@ alloc_so c hs m ts us owned st to alignment n (Some s) p =
 -- what memory has for a promoted temporary
 record Read (hs : Marks) (m : Memory) (s : Size) (v : Value) (u : Option (Option Value)) : Type 0 where
   value : Value
-  is : u ≡ Some (Some value)
+  is : u ≡ Some (Some (moved hs value))
   clean : Clean hs value
   new : List Cell
   made : cells_for (byte_count s) value ≡ Some new
@@ -140,7 +174,7 @@ read_held hs first m s v u h = by_block (slice_get m h.block) refl
 abbrev LoadsSo : Marks → Memory → UnaryOp → Class → Value → Option (Option Value) → Type 0
 LoadsSo hs m op c v u =
     (operate_one m op c v ≡ None)
-    ⊎ ((option_and_then (operate_one (hide hs m) (loading op c) c) (option_and_then (in_place (operand_class (loading op c) c)) (option_flatten u)) ≡ operate_one m op c v)
+    ⊎ ((option_and_then (operate_one (shown hs m) (loading op c) c) (option_and_then (in_place (operand_class (loading op c) c)) (option_flatten u)) ≡ moved_if hs (operate_one m op c v))
     × IfClean hs (operate_one m op c v))
 
 loads_long : (hs : Marks) (first : ℕ) (m : Memory) (v : Value) (u : Option (Option Value)) → Held hs first m Long v u → LoadsSo hs m LoadLong L v u
@@ -150,9 +184,9 @@ loads_long hs first m v u h = by_read (read_held hs first m Long v u h)
     by_read : (load m 8 v ≡ None) ⊎ Read hs m Long v u → LoadsSo hs m LoadLong L v u
     by_read (inl none) = inl none
     by_read (inr r) =
-        let t = take_long hs (hide hs m) r.value r.new r.clean r.made in
+        let t = take_long hs (shown hs m) r.value r.new r.clean r.made in
         inr (
-          ap (λ o. option_and_then (operate_one (hide hs m) Copy L) (option_and_then (in_place L) (option_flatten o))) r.is ∙ (t.0 ∙ sym r.got),
+          ap (λ o. option_and_then (operate_one (shown hs m) Copy L) (option_and_then (in_place L) (option_flatten o))) r.is ∙ (t.0 ∙ sym (ap (moved_if hs) r.got)),
           subst (IfClean hs) (sym r.got) t.1,
         )
 
@@ -166,9 +200,9 @@ loads_short hs first m e c v u h = by_read (read_held hs first m (extension_size
         let made : cells_for (extension_bytes e) r.value ≡ Some r.new = ap (λ n. cells_for n r.value) (sym (extension_count e)) ∙ r.made in
         let got : option_and_then (widened e c) (load m (extension_bytes e) v) ≡ option_and_then (widened e c) (value_of r.new) =
         ap (λ n. option_and_then (widened e c) (load m n v)) (sym (extension_count e)) ∙ ap (option_and_then (widened e c)) r.got in
-        let t = take_short hs (hide hs m) e c r.value r.new made in
+        let t = take_short hs (shown hs m) e c r.value r.new made in
         inr (
-          ap (λ o. option_and_then (operate_one (hide hs m) (extending e c) c) (option_and_then (in_place (operand_class (extending e c) c)) (option_flatten o))) r.is ∙ (t.0 ∙ sym got),
+          ap (λ o. option_and_then (operate_one (shown hs m) (extending e c) c) (option_and_then (in_place (operand_class (extending e c) c)) (option_flatten o))) r.is ∙ (t.0 ∙ sym (ap (moved_if hs) got)),
           subst (IfClean hs) (sym got) t.1,
         )
 
@@ -191,16 +225,16 @@ from_long (Load e) c s r = refl
 -- the other side's result; the first side's, of what the temporary holds; and that the two go together
 abbrev taken_second : Setting → Marks → Memory → List (Option Value) → Dest → UnaryOp → ℕ → Option Value
 taken_second c hs m us to op p =
-    option_and_then (operate_one (hide hs m) (loading op to.class) to.class) (operand c.globals us (operand_class (loading op to.class) to.class) (Temp p))
+    option_and_then (operate_one (shown hs m) (loading op to.class) to.class) (operand c.globals us (operand_class (loading op to.class) to.class) (Temp p))
 
 abbrev taken_first : Memory → Dest → UnaryOp → Class → Option (Option Value) → Option Value
 taken_first m to op x o = option_and_then (operate_one m op to.class) (option_and_then (in_place x) (option_flatten o))
 
 abbrev TakenSo : Setting → Marks → Memory → (ts us : List (Option Value)) → List ℕ → Dest → UnaryOp → ℕ → Option Value → Type 0
 TakenSo c hs m ts us owned to op p o =
-    GoesSo c hs (assigned (held_as ts owned) m to.temp o) (assigned (held_as us owned) (hide hs m) to.temp (taken_second c hs m us to op p))
+    GoesSo c hs (assigned (held_as ts owned) m to.temp o) (assigned (across hs us owned) (shown hs m) to.temp (taken_second c hs m us to op p))
 
-load_so : (c : Setting) (hs : Marks) (m : Memory) (ts us : List (Option Value)) (owned : List ℕ) → State c hs m ts us owned → (to : Dest) (op : UnaryOp) (p : ℕ) (s : Size) → c.widths to.temp ≡ None → c.widths p ≡ Some s → suits s (operand_role op to.class) ≡ true → GoesSo c hs (inst_effect c.globals (held_as ts owned) m (Unary to op (Temp p))) (inst_effect c.globals (held_as us owned) (hide hs m) (Unary to (loading op to.class) (Temp p)))
+load_so : (c : Setting) (hs : Marks) (m : Memory) (ts us : List (Option Value)) (owned : List ℕ) → State c hs m ts us owned → (to : Dest) (op : UnaryOp) (p : ℕ) (s : Size) → c.widths to.temp ≡ None → c.widths p ≡ Some s → suits s (operand_role op to.class) ≡ true → GoesSo c hs (inst_effect c.globals (held_as ts owned) m (Unary to op (Temp p))) (inst_effect c.globals (across hs us owned) (shown hs m) (Unary to (loading op to.class) (Temp p)))
 unfolding inst_effect
 load_so c hs m ts us owned st to op p s k q r = by_slot (slice_get ts p) refl
   where
@@ -275,22 +309,19 @@ kept_new c m b x le k d e =
     let other : nat_eq d b ≡ false = grind (arith, nat_tests) in
     get_set_other m b d x other ∙ k d e
 
-blank_same : (xs ys : List Cell) → length xs ≡ length ys → blank (Some xs) ≡ blank (Some ys)
-blank_same xs ys e = ap (λ n. Some (replicate n Blank)) e
-
 -- the store is done, and the other side has the value in its temporary
-stored_so : (c : Setting) (hs : Marks) (m : Memory) (ts us : List (Option Value)) (owned : List ℕ) → State c hs m ts us owned → (size : Size) (p b : ℕ) (v : Value) (cells new : List Cell) → c.widths p ≡ Some size → slice_get ts p ≡ Some (Some (Pointer b 0)) → length c.memory ≤ b → slice_get hs b ≡ Some true → slice_get m b ≡ Some (Some cells) → cells_for (byte_count size) v ≡ Some new → length new ≤ length cells → Put hs (hide hs m) size v new → GoesSo c hs (Done 1 (held_as ts owned) (slice_set m b (Some (over new cells)))) (assigned (held_as us owned) (hide hs m) p (operate_one (hide hs m) (storing size) L v))
+stored_so : (c : Setting) (hs : Marks) (m : Memory) (ts us : List (Option Value)) (owned : List ℕ) → State c hs m ts us owned → (size : Size) (p b : ℕ) (v : Value) (cells new : List Cell) → c.widths p ≡ Some size → slice_get ts p ≡ Some (Some (Pointer b 0)) → length c.memory ≤ b → slice_get hs b ≡ Some true → slice_get m b ≡ Some (Some cells) → cells_for (byte_count size) v ≡ Some new → length new ≤ length cells → Put hs (shown hs m) size v new → GoesSo c hs (Done 1 (held_as ts owned) (slice_set m b (Some (over new cells)))) (assigned (across hs us owned) (shown hs m) p (operate_one (shown hs m) (storing size) L (moved hs v)))
 stored_so c hs m ts us owned st size p b v cells new q at low hidden there made le r =
     let count = cells_count (byte_count size) v new made in
     let now = slice_set m b (Some (over new cells)) in
-    let same : hide hs now ≡ hide hs m = set_hidden hs m b (Some (over new cells)) (Some cells) hidden there (blank_same (over new cells) cells (over_long new cells le)) in
+    let same : shown hs now ≡ shown hs m = set_hidden hs m b (Some (over new cells)) hidden in
     let more = st.low in
     let long : length now ≡ length m = length-set m b (Some (over new cells)) in
     record {
       marks = hs;
-      temps = slice_set us p (Some r.value);
-      is = ap (assigned (held_as us owned) (hide hs m) p) r.is
-          ∙ ap (λ k. Done 1 (held_as (slice_set us p (Some r.value)) owned) k) (sym same);
+      temps = slice_set us p (Some (moved hs r.value));
+      is = ap (assigned (across hs us owned) (shown hs m) p) r.is
+          ∙ ap (λ k. Done 1 (across hs (slice_set us p (Some (moved hs r.value))) owned) k) (sym same);
       state =
           record {
             alike = st.alike ∙ sym long;
@@ -299,19 +330,19 @@ stored_so c hs m ts us owned st size p b v cells new q at low hidden there made 
             kept = kept_new c m b (Some (over new cells)) low st.kept;
             low = omega (arith, more, long);
             mine = st.mine;
-            sides = sides_store c.widths hs (length c.memory) m ts us p b size (over new cells) r.value q at
+            sides = sides_store c.widths hs (length c.memory) m ts us p b size (over new cells) (moved hs r.value) q at
                 (inr (record { value = r.value; is = refl; clean = r.clean; new = new; made = r.cells; begins = over_begins (byte_count size) new cells count le }))
                 st.sides;
           };
     }
 
--- the two sides' effects, of the value that is stored; and that they go together, where the first side's memory is so
+-- the two sides' effects, of the value that is stored, which the other side moves; and that they go together, where the first side's memory is so
 abbrev put_first : Setting → Memory → List (Option Value) → List ℕ → Size → ℕ → Option Value → InstEffect
 put_first c m ts owned size p x =
     changed (held_as ts owned) 1 (option_and_then (λ v. option_and_then (λ k. store m (byte_count size) k v) (operand c.globals ts L (Temp p))) x)
 
 abbrev put_second : Marks → Memory → List (Option Value) → List ℕ → Size → ℕ → Option Value → InstEffect
-put_second hs m us owned size p x = assigned (held_as us owned) (hide hs m) p (option_and_then (operate_one (hide hs m) (storing size) L) x)
+put_second hs m us owned size p x = assigned (across hs us owned) (shown hs m) p (option_and_then (operate_one (shown hs m) (storing size) L) (moved_if hs x))
 
 abbrev PutSo : Setting → Marks → Memory → (ts us : List (Option Value)) → List ℕ → Size → ℕ → Value → Option Memory → Type 0
 PutSo c hs m ts us owned size p v o = GoesSo c hs (changed (held_as ts owned) 1 o) (put_second hs m us owned size p (Some v))
@@ -328,7 +359,7 @@ value_put_so c hs m ts us owned st size p q v clean = by_slot (slice_get ts p) r
     by_fit b cells new false at low hidden there made le = tt
     by_fit b cells new true at low hidden there made le =
         let fits : length new ≤ length cells = let k : 0 + length new ≤ length cells = grind (arith, nat_tests) in omega arith in
-        stored_so c hs m ts us owned st size p b v cells new q at low hidden there made fits (put_there hs (hide hs m) size v new clean made)
+        stored_so c hs m ts us owned st size p b v cells new q at low hidden there made fits (put_there hs (shown hs m) size v new clean made)
 
     by_block : (b : ℕ) (new : List Cell) (o : Option (Option (List Cell))) → slice_get ts p ≡ Some (Some (Pointer b 0)) → length c.memory ≤ b → slice_get hs b ≡ Some true → slice_get m b ≡ o → cells_for (byte_count size) v ≡ Some new → PutSo c hs m ts us owned size p v (option_map (λ cs. slice_set m b (Some cs)) (option_and_then (put 0 new) (option_flatten o)))
     by_block b new None at low hidden there made = tt
@@ -348,16 +379,16 @@ value_put_so c hs m ts us owned st size p q v clean = by_slot (slice_get ts p) r
         let at : slice_get ts p ≡ Some (Some (Pointer h.block 0)) = e ∙ ap (λ z. Some (Some z)) is in
         subst (λ o. PutSo c hs m ts us owned size p v (put_at m size v o)) (sym at) (by_cells h.block (cells_for (byte_count size) v) at h.new h.hidden refl)
 
-promoted_store_so : (c : Setting) (hs : Marks) (m : Memory) (ts us : List (Option Value)) (owned : List ℕ) → State c hs m ts us owned → (size : Size) (a : Val) (p : ℕ) → PlainValue c.widths a → c.widths p ≡ Some size → GoesSo c hs (inst_effect c.globals (held_as ts owned) m (Store size a (Temp p))) (inst_effect c.globals (held_as us owned) (hide hs m) (Unary (record { temp = p; class = L }) (storing size) a))
+promoted_store_so : (c : Setting) (hs : Marks) (m : Memory) (ts us : List (Option Value)) (owned : List ℕ) → State c hs m ts us owned → (size : Size) (a : Val) (p : ℕ) → PlainValue c.widths a → c.widths p ≡ Some size → GoesSo c hs (inst_effect c.globals (held_as ts owned) m (Store size a (Temp p))) (inst_effect c.globals (across hs us owned) (shown hs m) (Unary (record { temp = p; class = L }) (storing size) a))
 unfolding inst_effect
 promoted_store_so c hs m ts us owned st size a p plain q =
     subst (GoesSo c hs (put_first c m ts owned size p (operand c.globals ts (stored_class size) a))) (sym second_is)
     (by_operand (operand c.globals ts (stored_class size) a) (operand_clean c hs m ts us owned st (stored_class size) a plain))
   where
-    second_is : put_second hs m us owned size p (operand c.globals us (operand_class (storing size) L) a) ≡ put_second hs m us owned size p (operand c.globals ts (stored_class size) a)
+    second_is : assigned (across hs us owned) (shown hs m) p (option_and_then (operate_one (shown hs m) (storing size) L) (operand c.globals us (operand_class (storing size) L) a)) ≡ put_second hs m us owned size p (operand c.globals ts (stored_class size) a)
     second_is =
-        ap (λ k. put_second hs m us owned size p (operand c.globals us k a)) (store_class size)
-        ∙ ap (put_second hs m us owned size p) (operand_alike c hs m ts us owned st (stored_class size) a plain)
+        ap (λ k. assigned (across hs us owned) (shown hs m) p (option_and_then (operate_one (shown hs m) (storing size) L) (operand c.globals us k a))) (store_class size)
+        ∙ ap (λ x. assigned (across hs us owned) (shown hs m) p (option_and_then (operate_one (shown hs m) (storing size) L) x)) (operand_alike c hs m ts us owned st (stored_class size) a plain)
 
     by_operand : (x : Option Value) → IfClean hs x → GoesSo c hs (put_first c m ts owned size p x) (put_second hs m us owned size p x)
     by_operand None clean = tt
@@ -365,12 +396,12 @@ promoted_store_so c hs m ts us owned st size a p plain q =
 
 -- ---- every instruction
 
-store_by : (c : Setting) (hs : Marks) (m : Memory) (ts us : List (Option Value)) (owned : List ℕ) → State c hs m ts us owned → (size : Size) (a : Val) (p : ℕ) (o : Option Size) → PlainValue c.widths a → c.widths p ≡ o → ((s : Size) → c.widths p ≡ Some s → same_size size s ≡ true) → GoesSo c hs (inst_effect c.globals (held_as ts owned) m (Store size a (Temp p))) (inst_effect c.globals (held_as us owned) (hide hs m) (stored_in o size a p))
+store_by : (c : Setting) (hs : Marks) (m : Memory) (ts us : List (Option Value)) (owned : List ℕ) → State c hs m ts us owned → (size : Size) (a : Val) (p : ℕ) (o : Option Size) → PlainValue c.widths a → c.widths p ≡ o → ((s : Size) → c.widths p ≡ Some s → same_size size s ≡ true) → GoesSo c hs (inst_effect c.globals (held_as ts owned) m (Store size a (Temp p))) (inst_effect c.globals (across hs us owned) (shown hs m) (stored_in o size a p))
 store_by c hs m ts us owned st size a p None plain e h = store_so c hs m ts us owned st size a (Temp p) plain e
 store_by c hs m ts us owned st size a p (Some s) plain e h =
     promoted_store_so c hs m ts us owned st size a p plain (e ∙ ap (λ k. Some k) (sym (same_true size s (h s e))))
 
-unary_by : (c : Setting) (hs : Marks) (m : Memory) (ts us : List (Option Value)) (owned : List ℕ) → State c hs m ts us owned → (to : Dest) (op : UnaryOp) (p : ℕ) (o : Option Size) → c.widths to.temp ≡ None → c.widths p ≡ o → ((s : Size) → c.widths p ≡ Some s → suits s (operand_role op to.class) ≡ true) → GoesSo c hs (inst_effect c.globals (held_as ts owned) m (Unary to op (Temp p))) (inst_effect c.globals (held_as us owned) (hide hs m) (taken_from o to op p))
+unary_by : (c : Setting) (hs : Marks) (m : Memory) (ts us : List (Option Value)) (owned : List ℕ) → State c hs m ts us owned → (to : Dest) (op : UnaryOp) (p : ℕ) (o : Option Size) → c.widths to.temp ≡ None → c.widths p ≡ o → ((s : Size) → c.widths p ≡ Some s → suits s (operand_role op to.class) ≡ true) → GoesSo c hs (inst_effect c.globals (held_as ts owned) m (Unary to op (Temp p))) (inst_effect c.globals (across hs us owned) (shown hs m) (taken_from o to op p))
 unary_by c hs m ts us owned st to op p None plain e h = unary_so c hs m ts us owned st to op (Temp p) plain e
 unary_by c hs m ts us owned st to op p (Some s) plain e h = load_so c hs m ts us owned st to op p s plain e (h s e)
 
@@ -378,7 +409,7 @@ plain_dest : (w : Widths) (to : Option Dest) (ms : List Mention) → Respected w
 plain_dest w None ms h = tt
 plain_dest w (Some d) ms h = suited_plain w d.temp h.0
 
-pub inst_so : (c : Setting) (hs : Marks) (m : Memory) (ts us : List (Option Value)) (owned : List ℕ) → State c hs m ts us owned → (i : Inst) → Respected c.widths (item_mentions i) → GoesSo c hs (inst_effect c.globals (held_as ts owned) m i) (inst_effect c.globals (held_as us owned) (hide hs m) (promoted c.widths i))
+pub inst_so : (c : Setting) (hs : Marks) (m : Memory) (ts us : List (Option Value)) (owned : List ℕ) → State c hs m ts us owned → (i : Inst) → Respected c.widths (item_mentions i) → GoesSo c hs (inst_effect c.globals (held_as ts owned) m i) (inst_effect c.globals (across hs us owned) (shown hs m) (promoted c.widths i))
 inst_so c hs m ts us owned st (Unary to op (Int n)) h = unary_so c hs m ts us owned st to op (Int n) (suited_plain c.widths to.temp h.0) tt
 inst_so c hs m ts us owned st (Unary to op (Temp p)) h = unary_by c hs m ts us owned st to op p (c.widths p) (suited_plain c.widths to.temp h.0) refl h.1.0
 inst_so c hs m ts us owned st (Unary to op (Global g)) h = unary_so c hs m ts us owned st to op (Global g) (suited_plain c.widths to.temp h.0) tt

@@ -12,6 +12,7 @@ use Rattle.il_ast.specs.declared.operand.Val.TheVariants.{Int, Temp, Global}
 use Rattle.il_ast.specs.declared.operand.Arg.{Arg}
 use Rattle.il_ast.specs.declared.operand.Dest.{Dest}
 use Rattle.il_ast.specs.declared.operation.UnaryOp.{UnaryOp}
+use Rattle.il_ast.specs.declared.operation.Alignment.{Alignment}
 use Rattle.il_ast.specs.declared.instruction.Inst.{Inst}
 use Rattle.il_ast.specs.declared.instruction.Inst.TheVariants.{Unary, Binary, Alloc, Store, Blit, Call}
 use Rattle.il_ast.specs.declared.instruction.Jump.{Jump}
@@ -28,7 +29,7 @@ use Rattle.promote.specs.declared.mention.Role.{Role}
 use Rattle.promote.specs.declared.mention.Role.TheVariants.{Made, Accessed, Used}
 use Rattle.promote.specs.declared.mention.Mention.{Mention}
 use Rattle.promote.specs.Uses.{mention, value_mentions, operand_role, destination_mentions, arg_mentions, item_mentions, inst_mentions, jump_mentions, end_mentions, phi_arg_mentions, phi_mentions, block_mentions, param_mentions, mentions_of, roles, begins_made, width_in}
-use Rattle.promote.specs.Promoted.{Widths, promoted, promoted_line, promoted_block, taken_from, stored_in}
+use Rattle.promote.specs.Promoted.{Widths, promoted, promoted_line, promoted_block, taken_from, made_in, stored_in}
 use Rattle.promote.proofs.Choosing.{width_promotable}
 
 -- ---- the temporaries of mentions
@@ -239,12 +240,16 @@ unary_alike : (to : Dest) (op : UnaryOp) (p : ℕ) (o : Option Size) → temps_i
 unary_alike to op p None = refl
 unary_alike to op p (Some s) = refl
 
+alloc_alike : (to : Dest) (alignment : Alignment) (size : ℕ) (o : Option Size) → temps_in_inst (made_in o to alignment size) ≡ to.temp ∷ []
+alloc_alike to alignment size None = refl
+alloc_alike to alignment size (Some s) = refl
+
 item_alike : (w : Widths) (i : Inst) → Alike w (item_mentions i) (temps_in_inst (promoted w i))
 item_alike w (Unary to op (Int n)) = alike_same w (item_mentions (Unary to op (Int n))) (temps_in_inst (promoted w (Unary to op (Int n)))) (of_item (Unary to op (Int n)))
 item_alike w (Unary to op (Temp p)) = alike_same w (item_mentions (Unary to op (Temp p))) (temps_in_inst (promoted w (Unary to op (Temp p)))) (of_item (Unary to op (Temp p)) ∙ sym (unary_alike to op p (w p)))
 item_alike w (Unary to op (Global g)) = alike_same w (item_mentions (Unary to op (Global g))) (temps_in_inst (promoted w (Unary to op (Global g)))) (of_item (Unary to op (Global g)))
 item_alike w (Binary to op a b) = alike_same w (item_mentions (Binary to op a b)) (temps_in_inst (promoted w (Binary to op a b))) (of_item (Binary to op a b))
-item_alike w (Alloc to alignment size) = alike_same w (item_mentions (Alloc to alignment size)) (temps_in_inst (promoted w (Alloc to alignment size))) refl
+item_alike w (Alloc to alignment size) = alike_same w (item_mentions (Alloc to alignment size)) (temps_in_inst (promoted w (Alloc to alignment size))) (sym (alloc_alike to alignment size (w to.temp)))
 item_alike w (Store size a (Int n)) = alike_same w (item_mentions (Store size a (Int n))) (temps_in_inst (promoted w (Store size a (Int n)))) (of_item (Store size a (Int n)))
 item_alike w (Store size a (Temp p)) = store_alike w size a p (w p) refl
 item_alike w (Store size a (Global g)) = alike_same w (item_mentions (Store size a (Global g))) (temps_in_inst (promoted w (Store size a (Global g)))) (of_item (Store size a (Global g)))

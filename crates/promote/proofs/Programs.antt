@@ -4,6 +4,7 @@ use Rattle.std.specs.Prelude.{slice_get, Option, Some, None}
 use Rattle.std.specs.List.{flat_map}
 use Rattle.std.specs.Option.{option_and_then}
 use Rattle.std.proofs.lemmas.List.{length-map, length-replicate}
+use Rattle.std.proofs.lemmas.Bool.Decides.{nat_tests}
 use Rattle.il_ast.specs.declared.operation.Class.{Class}
 use Rattle.il_ast.specs.declared.operation.Class.TheVariants.{W, L}
 use Rattle.il_ast.specs.declared.operation.Size.{Size}
@@ -32,19 +33,19 @@ use Rattle.il_ast.specs.Cost.{need}
 use Rattle.il_ast.specs.Effect.{Call}
 use Rattle.il_ast.specs.Run.{Spent, nothing, one_call, Outcome, Returned, Ended, after, Callees, body}
 use Rattle.il_ast.specs.Start.{target_value, values_of, globals_of, address_cells, item_cells, field_cells, object_cells, word_cells, pointers_from, list_cells, start_memory}
-use Rattle.il_ast.specs.Meaning.{call_fits, answered, put_out, write_bytes, write_integer, write_call, exit_call, call_function, call_named, callees, stack_room, main_args, main_classes, params_of, main_call, outcome, behaviour_of, meaning}
+use Rattle.il_ast.specs.Meaning.{call_fits, answered, put_out, write_bytes, write_integer, write_call, exit_call, call_function, call_named, callees, stack_room, main_args, main_classes, params_of, main_call, Behaviour, outcome, end_of, behaviour_of, meaning}
 use Rattle.promote.specs.Uses.{mentions_of, width_in}
 use Rattle.promote.specs.Promoted.{IsPromoted}
 use Rattle.promote.specs.Programs.{ArePromoted, IsProgramPromoted, AreBytes, AreWords, ItemsHaveBytes, FieldsHaveBytes, ObjectsHaveBytes, AreAmong, HasBytes, SameOutcome}
 use Rattle.promote.proofs.Respect.{all_respected}
-use Rattle.promote.proofs.Rules.{same_need}
-use Rattle.promote.proofs.Hiding.{Marks, hide, nothing_hidden, Clean, IfClean, CleanAll, CleanMemory, CleanCells, IfCleanCells, Extends, clean_later, clean_both, clean_blanks, clean_bytes, clean_parts, cells_at_shown}
-use Rattle.promote.proofs.Instructions.{Setting}
+use Rattle.promote.proofs.Rules.{least_need}
+use Rattle.promote.proofs.Hiding.{Marks, moved, moved_if, moved_block, place, shown, nothing_hidden, moved_none, moved_later, plain_moved, Clean, IfClean, CleanAll, CleanMemory, CleanCells, IfCleanCells, Extends, clean_later, clean_both, clean_blanks, clean_bytes, clean_parts, cells_at_shown}
+use Rattle.promote.proofs.Instructions.{Setting, AllStay, moved_call}
 use Rattle.promote.proofs.Runs.{BackSo, EndedSo, OutcomeSo, CalleesSo, outcome_after, body_so}
 
 -- ---- predefined functions
 
-back_here : (hs : Marks) (m : Memory) (s : Spent) (v : Value) → length hs ≡ length m → CleanMemory hs m → Clean hs v → BackSo hs m s (Some v) m (Returned s (Some v) (hide hs m))
+back_here : (hs : Marks) (m : Memory) (s : Spent) (v : Value) → length hs ≡ length m → CleanMemory hs m → Clean hs v → BackSo hs m s (Some v) m (Returned s (Some (moved hs v)) (shown hs m))
 back_here hs m s v alike clean value =
     record {
       marks = hs;
@@ -57,10 +58,14 @@ back_here hs m s v alike clean value =
       low = omega arith;
     }
 
-answered_so : (hs : Marks) (m : Memory) (out : List ℕ) (n : ℕ) → length hs ≡ length m → CleanMemory hs m → n < 2 ^ 64 → OutcomeSo hs m (answered out n m) (answered out n (hide hs m))
+answered_so : (hs : Marks) (m : Memory) (out : List ℕ) (n : ℕ) → length hs ≡ length m → CleanMemory hs m → n < 2 ^ 64 → OutcomeSo hs m (answered out n m) (answered out n (shown hs m))
 answered_so hs m out n alike clean fits = back_here hs m (record one_call { output = out }) (Integer n) alike clean fits
 
-put_out_so : (hs : Marks) (m : Memory) (n : ℕ) (o : Option (List ℕ)) → length hs ≡ length m → CleanMemory hs m → n < 2 ^ 64 → OutcomeSo hs m (put_out n m o) (put_out n (hide hs m) o)
+bytes_shown : (hs : Marks) (o : Option (List Cell)) → option_and_then plain_bytes (moved_block hs o) ≡ option_and_then plain_bytes o
+bytes_shown hs None = refl
+bytes_shown hs (Some cells) = plain_moved hs cells
+
+put_out_so : (hs : Marks) (m : Memory) (n : ℕ) (o : Option (List ℕ)) → length hs ≡ length m → CleanMemory hs m → n < 2 ^ 64 → OutcomeSo hs m (put_out n m o) (put_out n (shown hs m) o)
 put_out_so hs m n None alike clean fits = tt
 put_out_so hs m n (Some bytes) alike clean fits = answered_so hs m bytes n alike clean fits
 
@@ -68,34 +73,35 @@ cond_so : (hs : Marks) (m : Memory) (b : Bool) (x y u v : Outcome) → OutcomeSo
 cond_so hs m true x y u v h k = h
 cond_so hs m false x y u v h k = k
 
-write_bytes_so : (hs : Marks) (m : Memory) (p : Value) (n : ℕ) → length hs ≡ length m → CleanMemory hs m → n < 2 ^ 64 → Clean hs p → OutcomeSo hs m (write_bytes p n m) (write_bytes p n (hide hs m))
+write_bytes_so : (hs : Marks) (m : Memory) (p : Value) (n : ℕ) → length hs ≡ length m → CleanMemory hs m → n < 2 ^ 64 → Clean hs p → OutcomeSo hs m (write_bytes p n m) (write_bytes (moved hs p) n (shown hs m))
 write_bytes_so hs m (Pointer b o) n alike clean fits h =
-    cond_so hs m (nat_eq n 0) (answered [] 0 m) (put_out n m (option_and_then plain_bytes (cells_at m b o n))) (answered [] 0 (hide hs m))
-    (put_out n (hide hs m) (option_and_then plain_bytes (cells_at (hide hs m) b o n))) (answered_so hs m [] 0 alike clean (lit< tt))
-    (subst (λ x. OutcomeSo hs m (put_out n m (option_and_then plain_bytes (cells_at m b o n))) (put_out n (hide hs m) (option_and_then plain_bytes x))) (sym (cells_at_shown hs m b o n h))
+    cond_so hs m (nat_eq n 0) (answered [] 0 m) (put_out n m (option_and_then plain_bytes (cells_at m b o n))) (answered [] 0 (shown hs m))
+    (put_out n (shown hs m) (option_and_then plain_bytes (cells_at (shown hs m) (place hs b) o n))) (answered_so hs m [] 0 alike clean (lit< tt))
+    (subst (λ x. OutcomeSo hs m (put_out n m (option_and_then plain_bytes (cells_at m b o n))) (put_out n (shown hs m) x))
+    (sym (ap (option_and_then plain_bytes) (cells_at_shown hs m b o n h) ∙ bytes_shown hs (cells_at m b o n)))
     (put_out_so hs m n (option_and_then plain_bytes (cells_at m b o n)) alike clean fits))
 write_bytes_so hs m (Integer k) n alike clean fits h =
-    cond_so hs m (nat_eq n 0) (answered [] 0 m) (Ended nothing Undefined) (answered [] 0 (hide hs m)) (Ended nothing Undefined) (answered_so hs m [] 0 alike clean (lit< tt)) tt
+    cond_so hs m (nat_eq n 0) (answered [] 0 m) (Ended nothing Undefined) (answered [] 0 (shown hs m)) (Ended nothing Undefined) (answered_so hs m [] 0 alike clean (lit< tt)) tt
 write_bytes_so hs m (Function f) n alike clean fits h =
-    cond_so hs m (nat_eq n 0) (answered [] 0 m) (Ended nothing Undefined) (answered [] 0 (hide hs m)) (Ended nothing Undefined) (answered_so hs m [] 0 alike clean (lit< tt)) tt
+    cond_so hs m (nat_eq n 0) (answered [] 0 m) (Ended nothing Undefined) (answered [] 0 (shown hs m)) (Ended nothing Undefined) (answered_so hs m [] 0 alike clean (lit< tt)) tt
 
-write_integer_so : (hs : Marks) (m : Memory) (p n : Value) → length hs ≡ length m → CleanMemory hs m → Clean hs p → Clean hs n → OutcomeSo hs m (write_integer p n m) (write_integer p n (hide hs m))
+write_integer_so : (hs : Marks) (m : Memory) (p n : Value) → length hs ≡ length m → CleanMemory hs m → Clean hs p → Clean hs n → OutcomeSo hs m (write_integer p n m) (write_integer (moved hs p) (moved hs n) (shown hs m))
 write_integer_so hs m p (Integer n) alike clean h k = write_bytes_so hs m p n alike clean k h
 write_integer_so hs m p (Pointer b o) alike clean h k = tt
 write_integer_so hs m p (Function f) alike clean h k = tt
 
-write_so : (hs : Marks) (m : Memory) (args : List Value) → length hs ≡ length m → CleanMemory hs m → CleanAll hs args → OutcomeSo hs m (write_call args m) (write_call args (hide hs m))
+write_so : (hs : Marks) (m : Memory) (args : List Value) → length hs ≡ length m → CleanMemory hs m → CleanAll hs args → OutcomeSo hs m (write_call args m) (write_call (map (moved hs) args) (shown hs m))
 write_so hs m [] alike clean h = tt
 write_so hs m (Integer d ∷ []) alike clean h = tt
 write_so hs m (Integer d ∷ p ∷ []) alike clean h = tt
 write_so hs m (Integer d ∷ p ∷ n ∷ []) alike clean h =
-    cond_so hs m (nat_eq d 1) (write_integer p n m) (answered [] (2 ^ 64 - 9) m) (write_integer p n (hide hs m)) (answered [] (2 ^ 64 - 9) (hide hs m))
+    cond_so hs m (nat_eq d 1) (write_integer p n m) (answered [] (2 ^ 64 - 9) m) (write_integer (moved hs p) (moved hs n) (shown hs m)) (answered [] (2 ^ 64 - 9) (shown hs m))
     (write_integer_so hs m p n alike clean h.1.0 h.1.1.0) (answered_so hs m [] (2 ^ 64 - 9) alike clean (lit< tt))
 write_so hs m (Integer d ∷ p ∷ n ∷ x ∷ rest) alike clean h = tt
 write_so hs m (Pointer b o ∷ rest) alike clean h = tt
 write_so hs m (Function f ∷ rest) alike clean h = tt
 
-exit_so : (hs : Marks) (m : Memory) (args : List Value) → OutcomeSo hs m (exit_call args) (exit_call args)
+exit_so : (hs : Marks) (m : Memory) (args : List Value) → OutcomeSo hs m (exit_call args) (exit_call (map (moved hs) args))
 exit_so hs m [] = tt
 exit_so hs m (Integer s ∷ []) = refl
 exit_so hs m (Integer s ∷ x ∷ rest) = tt
@@ -107,9 +113,16 @@ exit_so hs m (Function f ∷ rest) = tt
 abbrev pub NamesClean : Program → Marks → Type 0
 NamesClean p hs = (t : ℕ) → CleanAll hs (globals_of p t)
 
+abbrev pub NamesStay : Program → Marks → Type 0
+NamesStay p hs = (t : ℕ) → AllStay hs (globals_of p t)
+
 all_later : (hs ks : Marks) → Extends hs ks → (vs : List Value) → CleanAll hs vs → CleanAll ks vs
 all_later hs ks h [] c = tt
 all_later hs ks h (v ∷ vs) c = (clean_later hs ks h v c.0, all_later hs ks h vs c.1)
+
+stay_later : (hs ks : Marks) → Extends hs ks → (vs : List Value) → CleanAll hs vs → AllStay hs vs → AllStay ks vs
+stay_later hs ks h [] c s = tt
+stay_later hs ks h (v ∷ vs) c s = (moved_later hs ks h v c.0 ∙ s.0, stay_later hs ks h vs c.1 s.1)
 
 -- a call, by what it takes of the function
 abbrev called : Call → Callees → (t room : ℕ) → Memory → Func → List Param → Option Class → ℕ → List Value → Outcome
@@ -117,26 +130,42 @@ called call f t room m g params result n globals =
     cond (call_fits call (map (λ (x : Param). x.class) params) result)
     (cond (nat_lt room n) (Ended nothing Stack) (after one_call (body (record { func = g; globals = globals }) f t (room - n) call.args m))) (Ended nothing Undefined)
 
-function_so : (p q : Program) (base : Marks) (f g : Callees) → q.targets ≡ p.targets → NamesClean p base → CalleesSo base f g → (call : Call) (t room : ℕ) (hs : Marks) (m : Memory) (x y : InText Func) → Extends base hs → length hs ≡ length m → CleanMemory hs m → CleanAll hs call.args → y.text ≡ x.text → IsPromoted x.item y.item → OutcomeSo hs m (call_function p f call t room m (Some x)) (call_function q g call t room (hide hs m) (Some y))
-function_so p q base f g targets names callees call t room hs m x y from alike clean args text r =
+-- the second body runs where the first has room
+room_so : (hs : Marks) (m : Memory) (room more n k : ℕ) (o p : Outcome) → room ≤ more → k ≤ n → (n ≤ room → OutcomeSo hs m o p) → (b c : Bool) → nat_lt room n ≡ b → nat_lt more k ≡ c → OutcomeSo hs m (cond b (Ended nothing Stack) o) (cond c (Ended nothing Stack) p)
+room_so hs m room more n k o p le less h true c e f = tt
+room_so hs m room more n k o p le less h false false e f = h (let enough : n ≤ room = grind (arith, nat_tests) in enough)
+room_so hs m room more n k o p le less h false true e f =
+    absurd (let enough : n ≤ room = grind (arith, nat_tests) in let few : more < k = grind (arith, nat_tests) in omega arith)
+
+function_so : (p q : Program) (base : Marks) (f g : Callees) → q.targets ≡ p.targets → NamesClean p base → NamesStay p base → CalleesSo base f g → (call : Call) (t room more : ℕ) (hs : Marks) (m : Memory) (x y : InText Func) → room ≤ more → Extends base hs → length hs ≡ length m → CleanMemory hs m → CleanAll hs call.args → y.text ≡ x.text → IsPromoted x.item y.item → OutcomeSo hs m (call_function p f call t room m (Some x)) (call_function q g (moved_call hs call) t more (shown hs m) (Some y))
+function_so p q base f g targets names still callees call t room more hs m x y le from alike clean args text r =
     let w = width_in (mentions_of x.item) in
     let globals : globals_of q y.text ≡ globals_of p x.text = ap (λ ts. values_of (slice_get ts y.text)) targets ∙ ap (λ n. values_of (slice_get p.targets n)) text in
-    let c : Setting = record { widths = w; globals = globals_of p x.text; marks = hs; memory = m; alike = alike; names = all_later base hs from (globals_of p x.text) (names x.text) } in
+    let c : Setting =
+    record {
+      widths = w;
+      globals = globals_of p x.text;
+      marks = hs;
+      memory = m;
+      alike = alike;
+      names = all_later base hs from (globals_of p x.text) (names x.text);
+      still = stay_later base hs from (globals_of p x.text) (names x.text) (still x.text);
+    } in
+    let less : need y.item ≤ need x.item = least_need w x.item y.item r in
+    let first : ℕ → Outcome = λ k. after one_call (body (record { func = x.item; globals = globals_of p x.text }) f t k call.args m) in
+    let second : ℕ → Outcome = λ k. after one_call (body (record { func = y.item; globals = globals_of p x.text }) g t k (map (moved hs) call.args) (shown hs m)) in
     subst (OutcomeSo hs m (call_function p f call t room m (Some x)))
-    (sym (ap (λ ps. called call g t room (hide hs m) y.item ps y.item.result (need y.item) (globals_of q y.text)) r.params
-    ∙ (ap (λ k. called call g t room (hide hs m) y.item x.item.params k (need y.item) (globals_of q y.text)) r.result
-    ∙ (ap (λ n. called call g t room (hide hs m) y.item x.item.params x.item.result n (globals_of q y.text)) (same_need w x.item y.item r)
-    ∙ ap (called call g t room (hide hs m) y.item x.item.params x.item.result (need x.item)) globals))))
+    (sym (ap (λ ps. called (moved_call hs call) g t more (shown hs m) y.item ps y.item.result (need y.item) (globals_of q y.text)) r.params
+    ∙ (ap (λ k. called (moved_call hs call) g t more (shown hs m) y.item x.item.params k (need y.item) (globals_of q y.text)) r.result
+    ∙ ap (called (moved_call hs call) g t more (shown hs m) y.item x.item.params x.item.result (need y.item)) globals)))
     (cond_so hs m (call_fits call (map (λ (x : Param). x.class) x.item.params) x.item.result)
-    (cond (nat_lt room (need x.item)) (Ended nothing Stack) (after one_call (body (record { func = x.item; globals = globals_of p x.text }) f t (room - need x.item) call.args m)))
-    (Ended nothing Undefined)
-    (cond (nat_lt room (need x.item)) (Ended nothing Stack) (after one_call (body (record { func = y.item; globals = globals_of p x.text }) g t (room - need x.item) call.args (hide hs m))))
-    (Ended nothing Undefined)
-    (cond_so hs m (nat_lt room (need x.item)) (Ended nothing Stack) (after one_call (body (record { func = x.item; globals = globals_of p x.text }) f t (room - need x.item) call.args m))
-    (Ended nothing Stack) (after one_call (body (record { func = y.item; globals = globals_of p x.text }) g t (room - need x.item) call.args (hide hs m))) refl
-    (outcome_after hs m one_call (body (record { func = x.item; globals = globals_of p x.text }) f t (room - need x.item) call.args m)
-    (body (record { func = y.item; globals = globals_of p x.text }) g t (room - need x.item) call.args (hide hs m))
-    (body_so c x.item y.item base f g t (room - need x.item) call.args r (all_respected (mentions_of x.item)) from callees clean args))) tt)
+    (cond (nat_lt room (need x.item)) (Ended nothing Stack) (first (room - need x.item))) (Ended nothing Undefined)
+    (cond (nat_lt more (need y.item)) (Ended nothing Stack) (second (more - need y.item))) (Ended nothing Undefined)
+    (room_so hs m room more (need x.item) (need y.item) (first (room - need x.item)) (second (more - need y.item)) le less
+    (λ enough. outcome_after hs m one_call (body (record { func = x.item; globals = globals_of p x.text }) f t (room - need x.item) call.args m)
+    (body (record { func = y.item; globals = globals_of p x.text }) g t (more - need y.item) (map (moved hs) call.args) (shown hs m))
+    (body_so c x.item y.item base f g t (room - need x.item) (more - need y.item) call.args (omega (arith, le, less, enough)) r (all_respected (mentions_of x.item)) from callees clean args))
+    (nat_lt room (need x.item)) (nat_lt more (need y.item)) refl refl) tt)
 
 -- a function by its number, on both sides
 abbrev AtBoth : Option (InText Func) → Option (InText Func) → Type 0
@@ -150,27 +179,27 @@ at_both (f ∷ fs) [] k h = absurd h
 at_both (f ∷ fs) (g ∷ gs) zero h = (g, refl, h.0, h.1)
 at_both (f ∷ fs) (g ∷ gs) (suc k) h = at_both fs gs k h.2
 
-defined_so : (p q : Program) (base : Marks) (f g : Callees) → q.targets ≡ p.targets → NamesClean p base → CalleesSo base f g → (call : Call) (t room : ℕ) (hs : Marks) (m : Memory) (x y : Option (InText Func)) → Extends base hs → length hs ≡ length m → CleanMemory hs m → CleanAll hs call.args → AtBoth x y → OutcomeSo hs m (call_function p f call t room m x) (call_function q g call t room (hide hs m) y)
-defined_so p q base f g targets names callees call t room hs m None y from alike clean args h = tt
-defined_so p q base f g targets names callees call t room hs m (Some x) y from alike clean args h =
-    subst (λ o. OutcomeSo hs m (call_function p f call t room m (Some x)) (call_function q g call t room (hide hs m) o)) (sym h.1)
-    (function_so p q base f g targets names callees call t room hs m x h.0 from alike clean args h.2 h.3)
+defined_so : (p q : Program) (base : Marks) (f g : Callees) → q.targets ≡ p.targets → NamesClean p base → NamesStay p base → CalleesSo base f g → (call : Call) (t room more : ℕ) (hs : Marks) (m : Memory) (x y : Option (InText Func)) → room ≤ more → Extends base hs → length hs ≡ length m → CleanMemory hs m → CleanAll hs call.args → AtBoth x y → OutcomeSo hs m (call_function p f call t room m x) (call_function q g (moved_call hs call) t more (shown hs m) y)
+defined_so p q base f g targets names still callees call t room more hs m None y le from alike clean args h = tt
+defined_so p q base f g targets names still callees call t room more hs m (Some x) y le from alike clean args h =
+    subst (λ o. OutcomeSo hs m (call_function p f call t room m (Some x)) (call_function q g (moved_call hs call) t more (shown hs m) o)) (sym h.1)
+    (function_so p q base f g targets names still callees call t room more hs m x h.0 le from alike clean args h.2 h.3)
 
-named_so : (p q : Program) (base : Marks) (f g : Callees) → IsProgramPromoted p q → NamesClean p base → CalleesSo base f g → (call : Call) (t room : ℕ) (hs : Marks) (m : Memory) (k : Callee) → Extends base hs → length hs ≡ length m → CleanMemory hs m → CleanAll hs call.args → OutcomeSo hs m (call_named p f call t room m k) (call_named q g call t room (hide hs m) k)
-named_so p q base f g both names callees call t room hs m (Defined k) from alike clean args =
-    defined_so p q base f g both.targets names callees call t room hs m (slice_get p.functions k) (slice_get q.functions k) from alike clean args
+named_so : (p q : Program) (base : Marks) (f g : Callees) → IsProgramPromoted p q → NamesClean p base → NamesStay p base → CalleesSo base f g → (call : Call) (t room more : ℕ) (hs : Marks) (m : Memory) (k : Callee) → room ≤ more → Extends base hs → length hs ≡ length m → CleanMemory hs m → CleanAll hs call.args → OutcomeSo hs m (call_named p f call t room m k) (call_named q g (moved_call hs call) t more (shown hs m) k)
+named_so p q base f g both names still callees call t room more hs m (Defined k) le from alike clean args =
+    defined_so p q base f g both.targets names still callees call t room more hs m (slice_get p.functions k) (slice_get q.functions k) le from alike clean args
     (at_both p.functions q.functions k both.functions)
-named_so p q base f g both names callees call t room hs m SystemWrite from alike clean args =
-    cond_so hs m (call_fits call (W ∷ L ∷ L ∷ []) (Some L)) (write_call call.args m) (Ended nothing Undefined) (write_call call.args (hide hs m)) (Ended nothing Undefined)
+named_so p q base f g both names still callees call t room more hs m SystemWrite le from alike clean args =
+    cond_so hs m (call_fits call (W ∷ L ∷ L ∷ []) (Some L)) (write_call call.args m) (Ended nothing Undefined) (write_call (map (moved hs) call.args) (shown hs m)) (Ended nothing Undefined)
     (write_so hs m call.args alike clean args) tt
-named_so p q base f g both names callees call t room hs m SystemExit from alike clean args =
-    cond_so hs m (call_fits call (W ∷ []) None) (exit_call call.args) (Ended nothing Undefined) (exit_call call.args) (Ended nothing Undefined) (exit_so hs m call.args) tt
+named_so p q base f g both names still callees call t room more hs m SystemExit le from alike clean args =
+    cond_so hs m (call_fits call (W ∷ []) None) (exit_call call.args) (Ended nothing Undefined) (exit_call (map (moved hs) call.args)) (Ended nothing Undefined) (exit_so hs m call.args) tt
 
-pub callees_so : (p q : Program) (base : Marks) → IsProgramPromoted p q → NamesClean p base → (k : ℕ) → CalleesSo base (callees p k) (callees q k)
+pub callees_so : (p q : Program) (base : Marks) → IsProgramPromoted p q → NamesClean p base → NamesStay p base → (k : ℕ) → CalleesSo base (callees p k) (callees q k)
 unfolding callees
-callees_so p q base both names zero call t room hs m from alike clean args = refl
-callees_so p q base both names (suc k) call t room hs m from alike clean args =
-    named_so p q base (callees p k) (callees q k) both names (callees_so p q base both names k) call t room hs m call.callee from alike clean args
+callees_so p q base both names still zero call t room more hs m le from alike clean args = refl
+callees_so p q base both names still (suc k) call t room more hs m le from alike clean args =
+    named_so p q base (callees p k) (callees q k) both names still (callees_so p q base both names still k) call t room more hs m call.callee le from alike clean args
 
 -- ---- the start
 
@@ -277,6 +306,14 @@ names_start p words h t =
     let long = start_long p words in
     option_clean (length (start_memory p words)) (length p.objects) (slice_get p.targets t) (omega (arith, long)) (h.names t)
 
+all_stay : (n : ℕ) (vs : List Value) → AllStay (replicate n false) vs
+all_stay n [] = tt
+all_stay n (v ∷ vs) = (moved_none n v, all_stay n vs)
+
+all_moved : (n : ℕ) (vs : List Value) → map (moved (replicate n false)) vs ≡ vs
+all_moved n [] = refl
+all_moved n (v ∷ vs) = ap (λ u. u ∷ map (moved (replicate n false)) vs) (moved_none n v) ∙ ap (λ r. v ∷ r) (all_moved n vs)
+
 start_clean : (p : Program) (words : List (List ℕ)) → HasBytes p words → CleanMemory (start_marks p words) (start_memory p words)
 start_clean p words h b x e =
     let long = start_long p words in
@@ -330,33 +367,47 @@ same_ended : (s : Spent) (e : End) (o : Outcome) → EndedSo s e o → SameOutco
 same_ended s (Exit n) o h = h
 same_ended s Halt o h = h
 same_ended s Undefined o h = tt
-same_ended s Stack o h = h
+same_ended s Stack o h = tt
 same_ended s Turns o h = h
 
+end_moved : (hs : Marks) (v : Option Value) → end_of (moved_if hs v) ≡ end_of v
+end_moved hs None = refl
+end_moved hs (Some (Integer n)) = refl
+end_moved hs (Some (Pointer b o)) = refl
+end_moved hs (Some (Function f)) = refl
+
 same_so : (hs : Marks) (m : Memory) (o p : Outcome) → OutcomeSo hs m o p → SameOutcome o p
-same_so hs m (Returned s v now) p h = (hide h.marks now, h.is)
+same_so hs m (Returned s v now) p h = (moved_if h.marks v, shown h.marks now, h.is, end_moved h.marks v)
 same_so hs m (Ended s e) p h = same_ended s e p h
+
+abbrev called_with : Call → List Value → Call
+called_with call vs = record call { args = vs }
 
 pub outcome_stays : (p q : Program) (words : List (List ℕ)) (n : ℕ) → IsProgramPromoted p q → HasBytes p words → SameOutcome (outcome p words n) (outcome q words n)
 unfolding outcome
 outcome_stays p q words n both h =
     let hs = start_marks p words in
     let m = start_memory p words in
-    let shown : hide hs m ≡ start_memory q words = nothing_hidden m ∙ sym (start_same p q words both) in
-    subst (λ x. SameOutcome (outcome p words n) (callees q (suc n) (main_call q words) n stack_room x)) shown
-    (subst (λ call. SameOutcome (outcome p words n) (callees q (suc n) call n stack_room (hide hs m))) (sym (main_same p q words both))
-    (same_so hs m (callees p (suc n) (main_call p words) n stack_room m) (callees q (suc n) (main_call p words) n stack_room (hide hs m))
-    (callees_so p q hs both (names_start p words h) (suc n) (main_call p words) n stack_room hs m (λ b x e. e) (length-replicate (length m) false)
-    (start_clean p words h) (main_clean p words h (params_of (slice_get p.functions p.main))))))
+    let same : shown hs m ≡ start_memory q words = nothing_hidden m ∙ sym (start_same p q words both) in
+    let call : moved_call hs (main_call p words) ≡ main_call q words =
+    ap (λ vs. called_with (main_call p words) vs) (all_moved (length m) (main_call p words).args) ∙ sym (main_same p q words both) in
+    subst (λ x. SameOutcome (outcome p words n) (callees q (suc n) (main_call q words) n stack_room x)) same
+    (subst (λ call. SameOutcome (outcome p words n) (callees q (suc n) call n stack_room (shown hs m))) call
+    (same_so hs m (callees p (suc n) (main_call p words) n stack_room m) (callees q (suc n) (moved_call hs (main_call p words)) n stack_room (shown hs m))
+    (callees_so p q hs both (names_start p words h) (λ t. all_stay (length m) (globals_of p t)) (suc n) (main_call p words) n stack_room stack_room hs m (omega arith) (λ b x e. e)
+    (length-replicate (length m) false) (start_clean p words h) (main_clean p words h (params_of (slice_get p.functions p.main))))))
 
-same_behaviour : (o p : Outcome) → SameOutcome o p → ((behaviour_of o).ending ≡ Undefined → ⊥) → behaviour_of p ≡ behaviour_of o
-same_behaviour (Returned s v m) p h defined = ap behaviour_of h.1
-same_behaviour (Ended s (Exit n)) p h defined = ap behaviour_of h
-same_behaviour (Ended s Halt) p h defined = ap behaviour_of h
-same_behaviour (Ended s Undefined) p h defined = absurd (defined refl)
-same_behaviour (Ended s Stack) p h defined = ap behaviour_of h
-same_behaviour (Ended s Turns) p h defined = ap behaviour_of h
+abbrev behaving : List ℕ → End → Behaviour
+behaving output ending = record { output = output; ending = ending }
 
-pub meaning_stays : (p q : Program) (words : List (List ℕ)) (n : ℕ) → IsProgramPromoted p q → HasBytes p words → ((meaning p words n).ending ≡ Undefined → ⊥) → meaning q words n ≡ meaning p words n
+same_behaviour : (o p : Outcome) → SameOutcome o p → ((behaviour_of o).ending ≡ Undefined → ⊥) → ((behaviour_of o).ending ≡ Stack → ⊥) → behaviour_of p ≡ behaviour_of o
+same_behaviour (Returned s v m) p h defined enough = ap behaviour_of h.2 ∙ ap (behaving s.output) h.3
+same_behaviour (Ended s (Exit n)) p h defined enough = ap behaviour_of h
+same_behaviour (Ended s Halt) p h defined enough = ap behaviour_of h
+same_behaviour (Ended s Undefined) p h defined enough = absurd (defined refl)
+same_behaviour (Ended s Stack) p h defined enough = absurd (enough refl)
+same_behaviour (Ended s Turns) p h defined enough = ap behaviour_of h
+
+pub meaning_stays : (p q : Program) (words : List (List ℕ)) (n : ℕ) → IsProgramPromoted p q → HasBytes p words → ((meaning p words n).ending ≡ Undefined → ⊥) → ((meaning p words n).ending ≡ Stack → ⊥) → meaning q words n ≡ meaning p words n
 unfolding meaning
-meaning_stays p q words n both h defined = same_behaviour (outcome p words n) (outcome q words n) (outcome_stays p q words n both h) defined
+meaning_stays p q words n both h defined enough = same_behaviour (outcome p words n) (outcome q words n) (outcome_stays p q words n both h) defined enough

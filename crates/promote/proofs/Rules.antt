@@ -1,10 +1,11 @@
 -- Once temporaries are promoted, a function keeps all rules that it kept, and its limits.
-use Rattle.std.proofs.Common.{◌≡◌, ℕ, ◌+◌, ◌*◌, Bool, true, false, not, ◌&&◌, ◌||◌, nat_eq, nat_le, List, [], ◌∷◌, ◌++◌, map, length, refl, sym, ◌∙◌, ap}
+use Rattle.std.proofs.Common.{◌≡◌, ℕ, ◌+◌, ◌*◌, ◌≤◌, Bool, true, false, not, ◌&&◌, ◌||◌, nat_eq, nat_le, List, [], ◌∷◌, ◌++◌, map, length, refl, sym, ◌∙◌, ap, subst, arith}
 use Rattle.std.specs.Prelude.{max, nat_lt, Option, Some, None, is_none}
 use Rattle.std.specs.List.{list_all, list_any, flat_map, sum_by, fold}
 use Rattle.std.proofs.Math.Path.{fun_ext}
 use Rattle.std.proofs.lemmas.List.Folds.{list_any-append}
 use Rattle.std.proofs.lemmas.Bool.{not-false, not_from_true, eqb-true}
+use Rattle.std.proofs.lemmas.Bool.Decides.{nat_tests}
 use Rattle.il_ast.specs.declared.limits.TheConstants.{FUNCTION_WEIGHT}
 use Rattle.il_ast.specs.declared.operation.Class.{Class}
 use Rattle.il_ast.specs.declared.operation.Class.TheVariants.{W, L}
@@ -13,6 +14,7 @@ use Rattle.il_ast.specs.declared.operation.Size.TheVariants.{Byte, Half, Word, L
 use Rattle.il_ast.specs.declared.operation.Extension.TheVariants.{SignedWord, UnsignedWord, SignedHalf, UnsignedHalf, SignedByte, UnsignedByte}
 use Rattle.il_ast.specs.declared.operation.UnaryOp.{UnaryOp}
 use Rattle.il_ast.specs.declared.operation.UnaryOp.TheVariants.{Neg, Copy, Extend, LoadLong, Load}
+use Rattle.il_ast.specs.declared.operation.Alignment.{Alignment as Aligned}
 use Rattle.il_ast.specs.declared.operand.Val.{Val}
 use Rattle.il_ast.specs.declared.operand.Val.TheVariants.{Int, Temp, Global}
 use Rattle.il_ast.specs.declared.operand.Dest.{Dest}
@@ -41,7 +43,7 @@ use Rattle.il_types.specs.Locals.{first_repeated, param_sites, label_sites, phi_
 use Rattle.il_types.specs.Rules.{broken_in_function, has_few_args, is_within}
 use Rattle.promote.specs.declared.mention.Role.TheVariants.{Used}
 use Rattle.promote.specs.Uses.{item_mentions, inst_mentions, end_mentions, phi_mentions, block_mentions, param_mentions, mentions_of}
-use Rattle.promote.specs.Promoted.{Widths, Rewrites, promoted, promoted_line, promoted_block, taken_from, stored_in, storing, loading}
+use Rattle.promote.specs.Promoted.{Widths, Rewrites, promoted, promoted_line, promoted_block, taken_from, made_in, stored_in, storing, loading}
 use Rattle.promote.proofs.Respect.{Suited, Respected, respected_first, respected_then}
 
 -- ---- lists of changed items
@@ -122,7 +124,7 @@ when_none b n e = ap (λ x. when x n) e
 abbrev line_of : Widths → Lined Inst → Lined Inst
 line_of w i = promoted_line w i
 
--- a measure of an instruction that promotion leaves as it is
+-- a measure of an instruction that promotion of loads and stores leaves as it is
 abbrev Stays : {X : Type 0} → (Inst → X) → Type 0
 Stays {X} f = (size : Size) (a at : Val) (p : ℕ) (to : Dest) (op op2 : UnaryOp) → (f (Store size a at) ≡ f (Unary to op a)) × (f (Unary to op a) ≡ f (Unary to op2 a))
 
@@ -134,24 +136,32 @@ stays_store : {X : Type 0} (f : Inst → X) → Stays f → (size : Size) (a : V
 stays_store f h size a p None = refl
 stays_store f h size a p (Some s) = sym (h size a (Temp p) p (record { temp = p; class = L }) (storing size) (storing size)).0
 
-stays : {X : Type 0} (w : Widths) (f : Inst → X) → Stays f → (i : Inst) → f (promoted w i) ≡ f i
-stays w f h (Unary to op (Int n)) = refl
-stays w f h (Unary to op (Temp p)) = stays_unary f h to op p (w p)
-stays w f h (Unary to op (Global g)) = refl
-stays w f h (Binary to op a b) = refl
-stays w f h (Alloc to alignment size) = refl
-stays w f h (Store size a (Int n)) = refl
-stays w f h (Store size a (Temp p)) = stays_store f h size a p (w p)
-stays w f h (Store size a (Global g)) = refl
-stays w f h (Blit from to count) = refl
-stays w f h (Call to callee args) = refl
+-- that of an alloc, where it is gone too
+abbrev Gone : {X : Type 0} → (Inst → X) → Type 0
+Gone {X} f = (to : Dest) (alignment : Aligned) (size : ℕ) → f (Unary to Copy (Int 0)) ≡ f (Alloc to alignment size)
 
-in_insts_stay : (w : Widths) (f : Inst → Bool) → Stays f → (bs : List Block) → in_insts f (map (promoted_block w) bs) ≡ in_insts f bs
-in_insts_stay w f h =
+stays_alloc : {X : Type 0} (f : Inst → X) → Gone f → (to : Dest) (alignment : Aligned) (size : ℕ) (o : Option Size) → f (made_in o to alignment size) ≡ f (Alloc to alignment size)
+stays_alloc f h to alignment size None = refl
+stays_alloc f h to alignment size (Some s) = h to alignment size
+
+stays : {X : Type 0} (w : Widths) (f : Inst → X) → Stays f → Gone f → (i : Inst) → f (promoted w i) ≡ f i
+stays w f h k (Unary to op (Int n)) = refl
+stays w f h k (Unary to op (Temp p)) = stays_unary f h to op p (w p)
+stays w f h k (Unary to op (Global g)) = refl
+stays w f h k (Binary to op a b) = refl
+stays w f h k (Alloc to alignment size) = stays_alloc f k to alignment size (w to.temp)
+stays w f h k (Store size a (Int n)) = refl
+stays w f h k (Store size a (Temp p)) = stays_store f h size a p (w p)
+stays w f h k (Store size a (Global g)) = refl
+stays w f h k (Blit from to count) = refl
+stays w f h k (Call to callee args) = refl
+
+in_insts_stay : (w : Widths) (f : Inst → Bool) → Stays f → Gone f → (bs : List Block) → in_insts f (map (promoted_block w) bs) ≡ in_insts f bs
+in_insts_stay w f h k =
     first_map (λ (b : Block). first (λ (i : Lined Inst). when (f i.item) i.line) b.insts)
     (λ (b : Block). first (λ (i : Lined Inst). when (f i.item) i.line) b.insts) (promoted_block w)
     (λ b. first_map (λ (i : Lined Inst). when (f i.item) i.line) (λ (i : Lined Inst). when (f i.item) i.line) (promoted_line w)
-    (λ i. ap (λ x. when x i.line) (stays w f h i.item)) b.insts)
+    (λ i. ap (λ x. when x i.line) (stays w f h k i.item)) b.insts)
 
 -- ---- costs
 
@@ -160,14 +170,54 @@ weight_stays w =
     sum_map block_weight block_weight (promoted_block w)
     (λ b. ap (λ n. 1 + end_weight b.jump + sum_by (λ (p : Phi). length p.args) b.phis + n)
     (sum_map (λ (i : Lined Inst). inst_weight i.item) (λ (i : Lined Inst). inst_weight i.item) (promoted_line w)
-    (λ i. stays w inst_weight (λ size a at p to op op2. (refl, refl)) i.item) b.insts))
+    (λ i. stays w inst_weight (λ size a at p to op op2. (refl, refl)) (λ to alignment size. refl) i.item) b.insts))
 
-pub area_stays : (w : Widths) (bs : List Block) → sum_by (λ (b : Block). sum_by (λ (i : Lined Inst). alloc_bytes i.item) b.insts) (map (promoted_block w) bs) ≡ sum_by (λ (b : Block). sum_by (λ (i : Lined Inst). alloc_bytes i.item) b.insts) bs
-area_stays w =
-    sum_map (λ (b : Block). sum_by (λ (i : Lined Inst). alloc_bytes i.item) b.insts)
+-- a sum with lesser items
+fold_less : {X : Type 0} (p q : X → ℕ) (f : X → X) → ((x : X) → p (f x) ≤ q x) → (xs : List X) (n k : ℕ) → n ≤ k → fold (λ (a : ℕ) (x : X). a + p x) n (map f xs) ≤ fold (λ (a : ℕ) (x : X). a + q x) k xs
+fold_less p q f h [] n k le = le
+fold_less {X} p q f h (x ∷ xs) n k le = let one = h x in fold_less p q f h xs (n + p (f x)) (k + q x) (omega (arith, le, one))
+
+sum_less : {X : Type 0} (p q : X → ℕ) (f : X → X) → ((x : X) → p (f x) ≤ q x) → (xs : List X) → sum_by p (map f xs) ≤ sum_by q xs
+sum_less p q f h xs = fold_less p q f h xs 0 0 (omega arith)
+
+same_most : (n k : ℕ) → n ≡ k → n ≤ k
+same_most n k e = omega (arith, e)
+
+-- the bytes of an alloc are gone with it
+made_bytes : (to : Dest) (alignment : Aligned) (size : ℕ) (o : Option Size) → alloc_bytes (made_in o to alignment size) ≤ alloc_bytes (Alloc to alignment size)
+made_bytes to alignment size None = omega arith
+made_bytes to alignment size (Some s) = omega arith
+
+unary_bytes : (to : Dest) (op : UnaryOp) (p : ℕ) (o : Option Size) → alloc_bytes (taken_from o to op p) ≡ 0
+unary_bytes to op p None = refl
+unary_bytes to op p (Some s) = refl
+
+store_bytes : (size : Size) (a : Val) (p : ℕ) (o : Option Size) → alloc_bytes (stored_in o size a p) ≡ 0
+store_bytes size a p None = refl
+store_bytes size a p (Some s) = refl
+
+bytes_less : (w : Widths) (i : Inst) → alloc_bytes (promoted w i) ≤ alloc_bytes i
+bytes_less w (Unary to op (Int n)) = omega arith
+bytes_less w (Unary to op (Temp p)) = same_most (alloc_bytes (promoted w (Unary to op (Temp p)))) 0 (unary_bytes to op p (w p))
+bytes_less w (Unary to op (Global g)) = omega arith
+bytes_less w (Binary to op a b) = omega arith
+bytes_less w (Alloc to alignment size) = made_bytes to alignment size (w to.temp)
+bytes_less w (Store size a (Int n)) = omega arith
+bytes_less w (Store size a (Temp p)) = same_most (alloc_bytes (promoted w (Store size a (Temp p)))) 0 (store_bytes size a p (w p))
+bytes_less w (Store size a (Global g)) = omega arith
+bytes_less w (Blit from to count) = omega arith
+bytes_less w (Call to callee args) = omega arith
+
+area_less : (w : Widths) (bs : List Block) → sum_by (λ (b : Block). sum_by (λ (i : Lined Inst). alloc_bytes i.item) b.insts) (map (promoted_block w) bs) ≤ sum_by (λ (b : Block). sum_by (λ (i : Lined Inst). alloc_bytes i.item) b.insts) bs
+area_less w =
+    sum_less (λ (b : Block). sum_by (λ (i : Lined Inst). alloc_bytes i.item) b.insts)
     (λ (b : Block). sum_by (λ (i : Lined Inst). alloc_bytes i.item) b.insts) (promoted_block w)
-    (λ b. sum_map (λ (i : Lined Inst). alloc_bytes i.item) (λ (i : Lined Inst). alloc_bytes i.item) (promoted_line w)
-    (λ i. stays w alloc_bytes (λ size a at p to op op2. (refl, refl)) i.item) b.insts)
+    (λ b. sum_less (λ (i : Lined Inst). alloc_bytes i.item) (λ (i : Lined Inst). alloc_bytes i.item) (promoted_line w)
+    (λ i. bytes_less w i.item) b.insts)
+
+least_area : (w : Widths) (f g : Func) → Rewrites w f g → alloc_area g ≤ alloc_area f
+least_area w f g r =
+    subst (λ bs. sum_by (λ (b : Block). sum_by (λ (i : Lined Inst). alloc_bytes i.item) b.insts) bs ≤ alloc_area f) (sym r.blocks) (area_less w f.blocks)
 
 pub phis_stay : (w : Widths) (bs : List Block) → sum_by (λ (b : Block). length b.phis) (map (promoted_block w) bs) ≡ sum_by (λ (b : Block). length b.phis) bs
 phis_stay w = sum_map (λ (b : Block). length b.phis) (λ (b : Block). length b.phis) (promoted_block w) (λ b. refl)
@@ -175,7 +225,7 @@ phis_stay w = sum_map (λ (b : Block). length b.phis) (λ (b : Block). length b.
 largest_line : (w : Widths) (is : List (Lined Inst)) → largest_in (map (promoted_line w) is) ≡ largest_in is
 largest_line w [] = refl
 largest_line w (i ∷ is) =
-    ap (λ n. max n (largest_in (map (promoted_line w) is))) (stays w args_on_stack (λ size a at p to op op2. (refl, refl)) i.item)
+    ap (λ n. max n (largest_in (map (promoted_line w) is))) (stays w args_on_stack (λ size a at p to op op2. (refl, refl)) (λ to alignment size. refl) i.item)
     ∙ ap (max (args_on_stack i.item)) (largest_line w is)
 
 pub largest_stays : (w : Widths) (bs : List Block) → largest_of (map (promoted_block w) bs) ≡ largest_of bs
@@ -188,16 +238,20 @@ same_weight w f g r =
     ap (λ (ps : List Param). length ps + sum_by block_weight g.blocks) r.params
     ∙ ap (λ n. length f.params + n) (ap (sum_by block_weight) r.blocks ∙ weight_stays w f.blocks)
 
-pub same_need : (w : Widths) (f g : Func) → Rewrites w f g → need g ≡ need f
-same_need w f g r =
-    let area : alloc_area g ≡ alloc_area f =
-    ap (sum_by (λ (b : Block). sum_by (λ (i : Lined Inst). alloc_bytes i.item) b.insts)) r.blocks ∙ area_stays w f.blocks in
+round_less : (n k : ℕ) → n ≤ k → round_16 n ≤ round_16 k
+round_less n k le = omega (arith, le)
+
+pub least_need : (w : Widths) (f g : Func) → Rewrites w f g → need g ≤ need f
+least_need w f g r =
+    let area = least_area w f g r in
+    let temps : length g.temps ≡ length f.temps = ap length r.temps in
     let phis : phi_count g ≡ phi_count f = ap (sum_by (λ (b : Block). length b.phis)) r.blocks ∙ phis_stay w f.blocks in
     let largest : largest_of g.blocks ≡ largest_of f.blocks = ap largest_of r.blocks ∙ largest_stays w f.blocks in
-    ap (λ n. round_16 (n + 8 * (length g.temps + phi_count g + largest_of g.blocks + 16))) area
-    ∙ (ap (λ n. round_16 (alloc_area f + 8 * (n + phi_count g + largest_of g.blocks + 16))) (ap length r.temps)
-    ∙ (ap (λ n. round_16 (alloc_area f + 8 * (length f.temps + n + largest_of g.blocks + 16))) phis
-    ∙ ap (λ n. round_16 (alloc_area f + 8 * (length f.temps + phi_count f + n + 16))) largest))
+    round_less (alloc_area g + 8 * (length g.temps + phi_count g + largest_of g.blocks + 16)) (alloc_area f + 8 * (length f.temps + phi_count f + largest_of f.blocks + 16))
+    (sum_most (alloc_area g) (alloc_area f) (length g.temps) (length f.temps) (phi_count g) (phi_count f) (largest_of g.blocks) (largest_of f.blocks) area temps phis largest)
+  where
+    sum_most : (a b c d e f g h : ℕ) → a ≤ b → c ≡ d → e ≡ f → g ≡ h → a + 8 * (c + e + g + 16) ≤ b + 8 * (d + f + h + 16)
+    sum_most a b c d e f g h le x y z = omega (arith, le, x, y, z)
 
 -- ---- where temporaries are assigned
 
@@ -223,6 +277,10 @@ unary_any : (p : Definer → Bool) (line : ℕ) (to : Dest) (op : UnaryOp) (t : 
 unary_any p line to op t None = refl
 unary_any p line to op t (Some s) = refl
 
+alloc_any : (p : Definer → Bool) (line : ℕ) (to : Dest) (alignment : Aligned) (size : ℕ) (o : Option Size) → list_any p (item_definers line (made_in o to alignment size)) ≡ list_any p (definer line to ∷ [])
+alloc_any p line to alignment size None = refl
+alloc_any p line to alignment size (Some s) = refl
+
 store_any : (w : Widths) (p : Definer → Bool) → Misses w p → (line : ℕ) (size : Size) (a : Val) (t : ℕ) (o : Option Size) → w t ≡ o → list_any p (item_definers line (stored_in o size a t)) ≡ false
 store_any w p h line size a t None e = refl
 store_any w p h line size a t (Some s) e = or_none (p (definer line (record { temp = t; class = L }))) (h line t s e)
@@ -232,7 +290,7 @@ item_any w p h line (Unary to op (Int n)) = refl
 item_any w p h line (Unary to op (Temp t)) = unary_any p line to op t (w t)
 item_any w p h line (Unary to op (Global g)) = refl
 item_any w p h line (Binary to op a b) = refl
-item_any w p h line (Alloc to alignment size) = refl
+item_any w p h line (Alloc to alignment size) = alloc_any p line to alignment size (w to.temp)
 item_any w p h line (Store size a (Int n)) = refl
 item_any w p h line (Store size a (Temp t)) = store_any w p h line size a t (w t) refl
 item_any w p h line (Store size a (Global g)) = refl
@@ -308,7 +366,7 @@ item_implies w p line (Unary to op (Int n)) e = e
 item_implies w p line (Unary to op (Temp t)) e = unary_any p line to op t (w t) ∙ e
 item_implies w p line (Unary to op (Global g)) e = e
 item_implies w p line (Binary to op a b) e = e
-item_implies w p line (Alloc to alignment size) e = e
+item_implies w p line (Alloc to alignment size) e = alloc_any p line to alignment size (w to.temp) ∙ e
 item_implies w p line (Store size a at) e = absurd (let no : ⊥ = cc in no)
 item_implies w p line (Blit from to count) e = e
 item_implies w p line (Call to callee args) e = e
@@ -340,9 +398,9 @@ fits_same ds es h L (Temp t) = ap not (h t)
 fits_same ds es h W (Global g) = refl
 fits_same ds es h L (Global g) = refl
 
--- a test of operands that a `w` place passes with every temporary that an `l` place passes with
+-- a test of operands that a `w` place passes with every temporary that an `l` place passes with, and each place with 0
 abbrev Passes : (Operand → Option ℕ) → Type 0
-Passes f = (line t : ℕ) → f (operand_at line L (Temp t)) ≡ None → f (operand_at line W (Temp t)) ≡ None
+Passes f = (line t : ℕ) (c : Class) → (f (operand_at line L (Temp t)) ≡ None → f (operand_at line W (Temp t)) ≡ None) × (f (operand_at line c (Int 0)) ≡ None)
 
 pub store_class : (size : Size) → operand_class (storing size) L ≡ stored_class size
 store_class Byte = refl
@@ -357,11 +415,11 @@ load_none : (f : Operand → Option ℕ) → Passes f → (line : ℕ) (op : Una
 load_none f h line Neg c t e = e
 load_none f h line Copy c t e = e
 load_none f h line (Extend x) c t e = e
-load_none f h line LoadLong W t e = both_none (f (operand_at line W (Temp t))) (h line t (none_parts (f (operand_at line L (Temp t))) None e).0)
+load_none f h line LoadLong W t e = both_none (f (operand_at line W (Temp t))) ((h line t W).0 (none_parts (f (operand_at line L (Temp t))) None e).0)
 load_none f h line LoadLong L t e = e
-load_none f h line (Load SignedWord) W t e = both_none (f (operand_at line W (Temp t))) (h line t (none_parts (f (operand_at line L (Temp t))) None e).0)
-load_none f h line (Load UnsignedWord) W t e = both_none (f (operand_at line W (Temp t))) (h line t (none_parts (f (operand_at line L (Temp t))) None e).0)
-load_none f h line (Load x) c t e = both_none (f (operand_at line W (Temp t))) (h line t (none_parts (f (operand_at line L (Temp t))) None e).0)
+load_none f h line (Load SignedWord) W t e = both_none (f (operand_at line W (Temp t))) ((h line t W).0 (none_parts (f (operand_at line L (Temp t))) None e).0)
+load_none f h line (Load UnsignedWord) W t e = both_none (f (operand_at line W (Temp t))) ((h line t W).0 (none_parts (f (operand_at line L (Temp t))) None e).0)
+load_none f h line (Load x) c t e = both_none (f (operand_at line W (Temp t))) ((h line t W).0 (none_parts (f (operand_at line L (Temp t))) None e).0)
 
 -- the tests f and g agree on operands that f lets pass
 abbrev Follows : (f g : Operand → Option ℕ) → Type 0
@@ -379,12 +437,16 @@ store_none f g h line size a t (Some s) e =
     both_none (g (operand_at line (operand_class (storing size) L) a))
     (ap (λ c. g (operand_at line c a)) (store_class size) ∙ h (operand_at line (stored_class size) a) parts.0)
 
+made_none : (g : Operand → Option ℕ) → Passes g → (line : ℕ) (to : Dest) (alignment : Aligned) (size : ℕ) (o : Option Size) → first g (item_operands line (made_in o to alignment size)) ≡ None
+made_none g k line to alignment size None = refl
+made_none g k line to alignment size (Some s) = both_none (g (operand_at line to.class (Int 0))) (k line 0 to.class).1
+
 item_none : (w : Widths) (f g : Operand → Option ℕ) → Follows f g → Passes g → (line : ℕ) (i : Inst) → first f (item_operands line i) ≡ None → first g (item_operands line (promoted w i)) ≡ None
 item_none w f g h k line (Unary to op (Int n)) e = none_each f g h (item_operands line (Unary to op (Int n))) e
 item_none w f g h k line (Unary to op (Temp t)) e = unary_none f g h k line to op t (w t) e
 item_none w f g h k line (Unary to op (Global s)) e = none_each f g h (item_operands line (Unary to op (Global s))) e
 item_none w f g h k line (Binary to op a b) e = none_each f g h (item_operands line (Binary to op a b)) e
-item_none w f g h k line (Alloc to alignment size) e = refl
+item_none w f g h k line (Alloc to alignment size) e = made_none g k line to alignment size (w to.temp)
 item_none w f g h k line (Store size a (Int n)) e = none_each f g h (item_operands line (Store size a (Int n))) e
 item_none w f g h k line (Store size a (Temp t)) e = store_none f g h line size a t (w t) e
 item_none w f g h k line (Store size a (Global s)) e = none_each f g h (item_operands line (Store size a (Global s))) e
@@ -595,12 +657,16 @@ stored_right Half a t line (Some s) = refl
 stored_right Word a t line (Some s) = refl
 stored_right Long a t line (Some s) = refl
 
+made_right : (to : Dest) (alignment : Aligned) (size line : ℕ) (o : Option Size) → when (has_wrong_result (Alloc to alignment size)) line ≡ None → when (has_wrong_result (made_in o to alignment size)) line ≡ None
+made_right to alignment size line None e = e
+made_right to alignment size line (Some s) e = refl
+
 wrong_result_stays : (i : Inst) (line : ℕ) (w : Widths) → when (has_wrong_result i) line ≡ None → when (has_wrong_result (promoted w i)) line ≡ None
 wrong_result_stays (Unary to op (Int n)) line w e = e
 wrong_result_stays (Unary to op (Temp t)) line w e = taken_right to op t line (w t) e
 wrong_result_stays (Unary to op (Global g)) line w e = e
 wrong_result_stays (Binary to op a b) line w e = e
-wrong_result_stays (Alloc to alignment size) line w e = e
+wrong_result_stays (Alloc to alignment size) line w e = made_right to alignment size line (w to.temp) e
 wrong_result_stays (Store size a (Int n)) line w e = e
 wrong_result_stays (Store size a (Temp t)) line w e = stored_right size a t line (w t)
 wrong_result_stays (Store size a (Global g)) line w e = e
@@ -621,11 +687,54 @@ results_right w (b ∷ bs) e =
     none_both (first (λ (i : Lined Inst). when (has_wrong_result i.item) i.line) (map (promoted_line w) b.insts)) (in_insts has_wrong_result (map (promoted_block w) bs))
     (insts_right w b.insts parts.0) (results_right w bs parts.1)
 
-alloc_stays : (w : Widths) (bs : List Block) → wrong_alloc_in (map (promoted_block w) bs) ≡ wrong_alloc_in bs
-alloc_stays w [] = refl
-alloc_stays w (b ∷ bs) =
-    ap (λ o. or_else o (in_insts is_alloc (map (promoted_block w) bs))) (in_insts_stay w has_wrong_size (λ size a at p to op op2. (refl, refl)) (b ∷ []))
-    ∙ ap (or_else (in_insts has_wrong_size (b ∷ []))) (in_insts_stay w is_alloc (λ size a at p to op op2. (refl, refl)) bs)
+-- a test that nothing but allocs fail
+abbrev AllocsAlone : (Inst → Bool) → Type 0
+AllocsAlone f = (to : Dest) (op : UnaryOp) (a : Val) → f (Unary to op a) ≡ false
+
+unary_alone : (f : Inst → Bool) → AllocsAlone f → (to : Dest) (op : UnaryOp) (p : ℕ) (o : Option Size) → f (taken_from o to op p) ≡ false
+unary_alone f h to op p None = h to op (Temp p)
+unary_alone f h to op p (Some s) = h to (loading op to.class) (Temp p)
+
+store_alone : (f : Inst → Bool) → AllocsAlone f → (size : Size) (a : Val) (p : ℕ) (o : Option Size) → f (Store size a (Temp p)) ≡ false → f (stored_in o size a p) ≡ false
+store_alone f h size a p None e = e
+store_alone f h size a p (Some s) e = h (record { temp = p; class = L }) (storing size) a
+
+made_alone : (f : Inst → Bool) → AllocsAlone f → (to : Dest) (alignment : Aligned) (size : ℕ) (o : Option Size) → f (Alloc to alignment size) ≡ false → f (made_in o to alignment size) ≡ false
+made_alone f h to alignment size None e = e
+made_alone f h to alignment size (Some s) e = h to Copy (Int 0)
+
+item_alone : (w : Widths) (f : Inst → Bool) → AllocsAlone f → (i : Inst) → f i ≡ false → f (promoted w i) ≡ false
+item_alone w f h (Unary to op (Int n)) e = e
+item_alone w f h (Unary to op (Temp p)) e = unary_alone f h to op p (w p)
+item_alone w f h (Unary to op (Global g)) e = e
+item_alone w f h (Binary to op a b) e = e
+item_alone w f h (Alloc to alignment size) e = made_alone f h to alignment size (w to.temp) e
+item_alone w f h (Store size a (Int n)) e = e
+item_alone w f h (Store size a (Temp p)) e = store_alone f h size a p (w p) e
+item_alone w f h (Store size a (Global g)) e = e
+item_alone w f h (Blit from to count) e = e
+item_alone w f h (Call to callee args) e = e
+
+insts_alone : (w : Widths) (f : Inst → Bool) → AllocsAlone f → (is : List (Lined Inst)) → first (λ (i : Lined Inst). when (f i.item) i.line) is ≡ None → first (λ (i : Lined Inst). when (f i.item) i.line) (map (promoted_line w) is) ≡ None
+insts_alone w f h [] e = refl
+insts_alone w f h (i ∷ is) e =
+    let parts = none_parts (when (f i.item) i.line) (first (λ (i : Lined Inst). when (f i.item) i.line) is) e in
+    none_both (when (f (promoted w i.item)) i.line) (first (λ (i : Lined Inst). when (f i.item) i.line) (map (promoted_line w) is))
+    (when_none (f (promoted w i.item)) i.line (item_alone w f h i.item (when_false (f i.item) i.line parts.0))) (insts_alone w f h is parts.1)
+
+blocks_alone : (w : Widths) (f : Inst → Bool) → AllocsAlone f → (bs : List Block) → in_insts f bs ≡ None → in_insts f (map (promoted_block w) bs) ≡ None
+blocks_alone w f h [] e = refl
+blocks_alone w f h (b ∷ bs) e =
+    let parts = none_parts (first (λ (i : Lined Inst). when (f i.item) i.line) b.insts) (in_insts f bs) e in
+    none_both (first (λ (i : Lined Inst). when (f i.item) i.line) (map (promoted_line w) b.insts)) (in_insts f (map (promoted_block w) bs))
+    (insts_alone w f h b.insts parts.0) (blocks_alone w f h bs parts.1)
+
+alloc_stays : (w : Widths) (bs : List Block) → wrong_alloc_in bs ≡ None → wrong_alloc_in (map (promoted_block w) bs) ≡ None
+alloc_stays w [] e = refl
+alloc_stays w (b ∷ bs) e =
+    let parts = none_parts (in_insts has_wrong_size (b ∷ [])) (in_insts is_alloc bs) e in
+    none_both (in_insts has_wrong_size (promoted_block w b ∷ [])) (in_insts is_alloc (map (promoted_block w) bs))
+    (blocks_alone w has_wrong_size (λ to op a. refl) (b ∷ []) parts.0) (blocks_alone w is_alloc (λ to op a. refl) bs parts.1)
 
 -- a block returns what is right by the second test, where it is by the first
 value_none : (p q : Val → Bool) → ((a : Val) → p a ≡ false → q a ≡ false) → (line : ℕ) (a : Option Val) → breaks_in p line a ≡ None → breaks_in q line a ≡ None
@@ -674,10 +783,10 @@ result_fits w f g r None a = refl
 result_fits w f g r (Some c) a = sym (fits_in w f g r c a)
 
 misfit_narrow : (ds : List Definer) → Passes (misfit ds)
-misfit_narrow ds line t e = refl
+misfit_narrow ds line t c = (λ e. refl, refl)
 
 undefined_narrow : (ds : List Definer) → Passes (undefined_at ds)
-undefined_narrow ds line t e = e
+undefined_narrow ds line t c = (λ e. e, refl)
 
 misfit_follows : (w : Widths) (f g : Func) → Rewrites w f g → Follows (misfit (definers_of f)) (misfit (definers_of g))
 misfit_follows w f g r o e = ap (λ b. when (not b) o.line) (fits_in w f g r o.class o.value) ∙ e
@@ -742,31 +851,32 @@ rules_stay w f g r h rules OneType = two_types_stay w f g r h (rules OneType) (r
 rules_stay w f g r h rules OperandFits = misplaced_stays w f g r (rules OperandFits)
 rules_stay w f g r h rules PhiCoversPredecessors =
     ap (λ (bs : List Block). first (uncovered_in bs) bs) r.blocks ∙ (all_uncovered w f.blocks ∙ rules PhiCoversPredecessors)
-rules_stay w f g r h rules AllocInEntry = ap wrong_alloc_in r.blocks ∙ (alloc_stays w f.blocks ∙ rules AllocInEntry)
+rules_stay w f g r h rules AllocInEntry = ap wrong_alloc_in r.blocks ∙ alloc_stays w f.blocks (rules AllocInEntry)
 rules_stay w f g r h rules ReturnFits = wrong_return_stays w f g r (rules ReturnFits)
 rules_stay w f g r h rules DefinedTemporaries = undefined_stays w f g r (rules DefinedTemporaries)
 rules_stay w f g r h rules DataFields = refl
 rules_stay w f g r h rules Alignment = refl
 rules_stay w f g r h rules BlitSize =
-    ap (in_insts is_long_blit) r.blocks ∙ (in_insts_stay w is_long_blit (λ size a at p to op op2. (refl, refl)) f.blocks ∙ rules BlitSize)
+    ap (in_insts is_long_blit) r.blocks ∙ (in_insts_stay w is_long_blit (λ size a at p to op op2. (refl, refl)) (λ to alignment size. refl) f.blocks ∙ rules BlitSize)
 
 few_args_stay : (w : Widths) (bs : List Block) → list_all (λ (b : Block). list_all (λ (i : Lined Inst). has_few_args i.item) b.insts) (map (promoted_block w) bs) ≡ list_all (λ (b : Block). list_all (λ (i : Lined Inst). has_few_args i.item) b.insts) bs
 few_args_stay w =
     all_map (λ (b : Block). list_all (λ (i : Lined Inst). has_few_args i.item) b.insts) (λ (b : Block). list_all (λ (i : Lined Inst). has_few_args i.item) b.insts) (promoted_block w)
     (λ b. all_map (λ (i : Lined Inst). has_few_args i.item) (λ (i : Lined Inst). has_few_args i.item) (promoted_line w)
-    (λ i. stays w has_few_args (λ size a at p to op op2. (refl, refl)) i.item) b.insts)
+    (λ i. stays w has_few_args (λ size a at p to op op2. (refl, refl)) (λ to alignment size. refl) i.item) b.insts)
 
 abbrev within : (weight temps params area : ℕ) → Bool → Bool
 within heavy temps params area few = nat_le heavy FUNCTION_WEIGHT && (nat_le temps 4000 && (nat_le params 64 && (nat_le area 1048576 && few)))
 
-pub limits_stay : (w : Widths) (f g : Func) → Rewrites w f g → is_within g ≡ is_within f
-limits_stay w f g r =
+within_parts : (heavy temps params area less : ℕ) (few : Bool) → less ≤ area → within heavy temps params area few ≡ true → within heavy temps params less few ≡ true
+within_parts heavy temps params area less few le h = grind (arith, nat_tests)
+
+pub limits_stay : (w : Widths) (f g : Func) → Rewrites w f g → is_within f ≡ true → is_within g ≡ true
+limits_stay w f g r h =
     let few : list_all (λ (b : Block). list_all (λ (i : Lined Inst). has_few_args i.item) b.insts) g.blocks ≡ list_all (λ (b : Block). list_all (λ (i : Lined Inst). has_few_args i.item) b.insts) f.blocks =
     ap (list_all (λ (b : Block). list_all (λ (i : Lined Inst). has_few_args i.item) b.insts)) r.blocks ∙ few_args_stay w f.blocks in
-    let area : alloc_area g ≡ alloc_area f =
-    ap (sum_by (λ (b : Block). sum_by (λ (i : Lined Inst). alloc_bytes i.item) b.insts)) r.blocks ∙ area_stays w f.blocks in
     ap (λ n. within n (length g.temps) (length g.params) (alloc_area g) (list_all (λ (b : Block). list_all (λ (i : Lined Inst). has_few_args i.item) b.insts) g.blocks)) (same_weight w f g r)
     ∙ (ap (λ n. within (weight f) n (length g.params) (alloc_area g) (list_all (λ (b : Block). list_all (λ (i : Lined Inst). has_few_args i.item) b.insts) g.blocks)) (ap length r.temps)
     ∙ (ap (λ n. within (weight f) (length f.temps) n (alloc_area g) (list_all (λ (b : Block). list_all (λ (i : Lined Inst). has_few_args i.item) b.insts) g.blocks)) (ap length r.params)
-    ∙ (ap (λ n. within (weight f) (length f.temps) (length f.params) n (list_all (λ (b : Block). list_all (λ (i : Lined Inst). has_few_args i.item) b.insts) g.blocks)) area
-    ∙ ap (within (weight f) (length f.temps) (length f.params) (alloc_area f)) few)))
+    ∙ (ap (within (weight f) (length f.temps) (length f.params) (alloc_area g)) few
+    ∙ within_parts (weight f) (length f.temps) (length f.params) (alloc_area f) (alloc_area g) (list_all (λ (b : Block). list_all (λ (i : Lined Inst). has_few_args i.item) b.insts) f.blocks) (least_area w f g r) h)))

@@ -1,7 +1,7 @@
--- Temporaries on both sides: those that aren't promoted are equal, and a promoted one has what its block begins with.
+-- Temporaries on both sides: those that aren't promoted are the same, but for the numbers of blocks, and a promoted one has what its block begins with.
 use Rattle.std.proofs.Common.{◌≡◌, ◌⊎◌, inl, inr, ℕ, zero, suc, ◌+◌, ◌<◌, ◌≤◌, Bool, true, false, nat_eq, nat_le, cond, List, [], ◌∷◌, ◌++◌, length, take, drop, replicate, refl, sym, ◌∙◌, ap, subst, arith}
 use Rattle.std.specs.Prelude.{slice_get, slice_set, Option, Some, None}
-use Rattle.std.specs.Option.{option_and_then}
+use Rattle.std.specs.Option.{option_map, option_and_then}
 use Rattle.std.proofs.lemmas.Bool.Decides.{nat_tests}
 use Rattle.std.proofs.lemmas.List.{length-set}
 use Rattle.std.proofs.lemmas.Option.{slice_get_within}
@@ -16,12 +16,12 @@ use Rattle.il_ast.specs.Values.{byte_count}
 use Rattle.il_ast.specs.Memory.{Memory, cells_for, value_of, span, fresh}
 use Rattle.promote.specs.Promoted.{Widths}
 use Rattle.promote.proofs.Respect.{other_number, self}
-use Rattle.promote.proofs.Hiding.{Marks, Clean, IfClean, Extends, clean_later, get_set_other, get_set_same, get_set}
+use Rattle.promote.proofs.Hiding.{Marks, moved, moved_if, Clean, IfClean, Extends, clean_later, moved_later, marks_grow, get_set_other, get_set_same, get_set}
 
 -- the value was put there, and the block begins with its cells
 pub record Stored (hs : Marks) (s : Size) (cells : List Cell) (u : Option (Option Value)) : Type 0 where
   pub value : Value
-  pub is : u ≡ Some (Some value)
+  pub is : u ≡ Some (Some (moved hs value))
   pub clean : Clean hs value
   pub new : List Cell
   pub made : cells_for (byte_count s) value ≡ Some new
@@ -45,7 +45,7 @@ IfHeld hs first m s (Some v) u = Held hs first m s v u
 
 pub record Sides (w : Widths) (hs : Marks) (first : ℕ) (m : Memory) (ts us : List (Option Value)) : Type 0 where
   pub long : length us ≡ length ts
-  pub same : (t : ℕ) → w t ≡ None → slice_get us t ≡ slice_get ts t
+  pub same : (t : ℕ) → w t ≡ None → slice_get us t ≡ option_map (moved_if hs) (slice_get ts t)
   pub clean : (t : ℕ) (y : Option Value) → w t ≡ None → slice_get ts t ≡ Some y → IfClean hs y
   pub held : (t : ℕ) (s : Size) (y : Option Value) → w t ≡ Some s → slice_get ts t ≡ Some y → IfHeld hs first m s y (slice_get us t)
   pub apart : (t r : ℕ) (s q : Size) (v : Value) → w t ≡ Some s → w r ≡ Some q → slice_get ts t ≡ Some (Some v) → slice_get ts r ≡ Some (Some v) → t ≡ r
@@ -55,7 +55,7 @@ pub record Sides (w : Widths) (hs : Marks) (first : ℕ) (m : Memory) (ts us : L
 stored_later : (hs ks : Marks) (s : Size) (cells : List Cell) (u : Option (Option Value)) → Extends hs ks → Shows hs s cells u → Shows ks s cells u
 stored_later hs ks s cells u h (inl none) = inl none
 stored_later hs ks s cells u h (inr x) =
-    inr (record { value = x.value; is = x.is; clean = clean_later hs ks h x.value x.clean; new = x.new; made = x.made; begins = x.begins })
+    inr (record { value = x.value; is = x.is ∙ ap (λ v. Some (Some v)) (sym (moved_later hs ks h x.value x.clean)); clean = clean_later hs ks h x.value x.clean; new = x.new; made = x.made; begins = x.begins })
 
 -- hidden blocks are as they were
 abbrev pub KeptHidden : Marks → Memory → Memory → Type 0
@@ -76,11 +76,16 @@ if_clean_later : (hs ks : Marks) (y : Option Value) → Extends hs ks → IfClea
 if_clean_later hs ks None h c = tt
 if_clean_later hs ks (Some v) h c = clean_later hs ks h v c
 
+slot_later : (hs ks : Marks) → Extends hs ks → (o : Option (Option Value)) → ((y : Option Value) → o ≡ Some y → IfClean hs y) → option_map (moved_if hs) o ≡ option_map (moved_if ks) o
+slot_later hs ks h None c = refl
+slot_later hs ks h (Some None) c = refl
+slot_later hs ks h (Some (Some v)) c = ap (λ u. Some (Some u)) (sym (moved_later hs ks h v (c (Some v) refl)))
+
 pub sides_later : (w : Widths) (hs ks : Marks) (first : ℕ) (m now : Memory) (ts us : List (Option Value)) → Extends hs ks → KeptHidden hs m now → Sides w hs first m ts us → Sides w ks first now ts us
 sides_later w hs ks first m now ts us h k x =
     record {
       long = x.long;
-      same = x.same;
+      same = λ t p. x.same t p ∙ slot_later hs ks h (slice_get ts t) (λ y e. x.clean t y p e);
       clean = λ t y p e. if_clean_later hs ks y h (x.clean t y p e);
       held = λ t s y p e. held_later hs ks first m now s y (slice_get us t) h k (x.held t s y p e);
       apart = x.apart;
@@ -88,14 +93,14 @@ sides_later w hs ks first m now ts us h k x =
 
 -- ---- a temporary that isn't promoted is assigned
 
-set_alike : {X : Type 0} (xs ys : List X) (i j : ℕ) (x : X) → length ys ≡ length xs → slice_get ys j ≡ slice_get xs j → slice_get (slice_set ys i x) j ≡ slice_get (slice_set xs i x) j
-set_alike [] [] i j x n e = refl
-set_alike [] (y ∷ ys) i j x n e = absurd (omega (arith, n))
-set_alike (z ∷ zs) [] i j x n e = absurd (omega (arith, n))
-set_alike (z ∷ zs) (y ∷ ys) zero zero x n e = refl
-set_alike (z ∷ zs) (y ∷ ys) zero (suc j) x n e = e
-set_alike (z ∷ zs) (y ∷ ys) (suc i) zero x n e = e
-set_alike (z ∷ zs) (y ∷ ys) (suc i) (suc j) x n e = set_alike zs ys i j x (omega (arith, n)) e
+set_alike : {X : Type 0} (f : X → X) (xs ys : List X) (i j : ℕ) (x : X) → length ys ≡ length xs → slice_get ys j ≡ option_map f (slice_get xs j) → slice_get (slice_set ys i (f x)) j ≡ option_map f (slice_get (slice_set xs i x) j)
+set_alike f [] [] i j x n e = refl
+set_alike f [] (y ∷ ys) i j x n e = absurd (omega (arith, n))
+set_alike f (z ∷ zs) [] i j x n e = absurd (omega (arith, n))
+set_alike f (z ∷ zs) (y ∷ ys) zero zero x n e = refl
+set_alike f (z ∷ zs) (y ∷ ys) zero (suc j) x n e = e
+set_alike f (z ∷ zs) (y ∷ ys) (suc i) zero x n e = e
+set_alike f (z ∷ zs) (y ∷ ys) (suc i) (suc j) x n e = set_alike f zs ys i j x (omega (arith, n)) e
 
 differs_by : (w : Widths) (r t : ℕ) (s : Size) (b : Bool) → nat_eq r t ≡ b → w r ≡ Some s → w t ≡ None → b ≡ false
 differs_by w r t s false e h k = refl
@@ -104,15 +109,15 @@ differs_by w r t s true e h k = let same : w r ≡ w t = ap w (eqb-true r t e) i
 pub differs : (w : Widths) (r t : ℕ) (s : Size) → w r ≡ Some s → w t ≡ None → nat_eq r t ≡ false
 differs w r t s h k = differs_by w r t s (nat_eq r t) refl h k
 
-pub sides_assign : (w : Widths) (hs : Marks) (first : ℕ) (m : Memory) (ts us : List (Option Value)) (t : ℕ) (v : Value) → w t ≡ None → Clean hs v → Sides w hs first m ts us → Sides w hs first m (slice_set ts t (Some v)) (slice_set us t (Some v))
+pub sides_assign : (w : Widths) (hs : Marks) (first : ℕ) (m : Memory) (ts us : List (Option Value)) (t : ℕ) (v : Value) → w t ≡ None → Clean hs v → Sides w hs first m ts us → Sides w hs first m (slice_set ts t (Some v)) (slice_set us t (Some (moved hs v)))
 sides_assign w hs first m ts us t v p c x =
     record {
-      long = length-set us t (Some v) ∙ (x.long ∙ sym (length-set ts t (Some v)));
-      same = λ r q. set_alike ts us t r (Some v) x.long (x.same r q);
+      long = length-set us t (Some (moved hs v)) ∙ (x.long ∙ sym (length-set ts t (Some v)));
+      same = λ r q. set_alike (moved_if hs) ts us t r (Some v) x.long (x.same r q);
       clean = λ r y q e. get_set (IfClean hs) ts t r (Some v) y c (λ z g. x.clean r z q g) e;
       held = λ r s y q e.
           let other = differs w r t s q p in
-          subst (IfHeld hs first m s y) (sym (get_set_other us t r (Some v) other))
+          subst (IfHeld hs first m s y) (sym (get_set_other us t r (Some (moved hs v)) other))
           (x.held r s y q (sym (get_set_other ts t r (Some v) other) ∙ e));
       apart = λ a b s q z f g e h.
           x.apart a b s q z f g (sym (get_set_other ts t a (Some v) (differs w a t s f p)) ∙ e)
@@ -120,11 +125,6 @@ sides_assign w hs first m ts us t v p c x =
     }
 
 -- ---- a fresh block
-
-get_old : {X : Type 0} (xs ys : List X) (b : ℕ) (x : X) → slice_get xs b ≡ Some x → slice_get (xs ++ ys) b ≡ Some x
-get_old [] ys b x e = absurd (let no : ⊥ = cc in no)
-get_old (z ∷ zs) ys zero x e = e
-get_old (z ∷ zs) ys (suc b) x e = get_old zs ys b x e
 
 get_before : {X : Type 0} (xs ys : List X) (b : ℕ) → b < length xs → slice_get (xs ++ ys) b ≡ slice_get xs b
 get_before [] ys b h = absurd (omega arith)
@@ -136,9 +136,6 @@ get_last [] x zero e = refl
 get_last [] x (suc n) e = absurd (omega (arith, e))
 get_last (z ∷ zs) x zero e = absurd (omega (arith, e))
 get_last (z ∷ zs) x (suc n) e = get_last zs x n (omega (arith, e))
-
-pub marks_grow : (hs : Marks) (h : Bool) → Extends hs (hs ++ h ∷ [])
-marks_grow hs h b x e = get_old hs (h ∷ []) b x e
 
 pub fresh_kept : (hs : Marks) (m : Memory) (n : ℕ) → length hs ≡ length m → KeptHidden hs m (fresh m n)
 fresh_kept hs m n l b e = let in_marks = slice_get_within hs b true e in get_before m (Some (replicate n Blank) ∷ []) b (omega (arith, in_marks, l))
@@ -193,10 +190,10 @@ flipped_by w r t s true e h k = let same : w r ≡ w t = ap w (eqb-true r t e) i
 flipped : (w : Widths) (r t : ℕ) (s : Size) → w r ≡ None → w t ≡ Some s → nat_eq r t ≡ false
 flipped w r t s h k = flipped_by w r t s (nat_eq r t) refl h k
 
-held_alloc : (w : Widths) (hs : Marks) (first : ℕ) (m : Memory) (ts us : List (Option Value)) (t n : ℕ) (s q : Size) → length hs ≡ length m → first ≤ length m → Sides w (hs ++ true ∷ []) first (fresh m n) ts us → (r : ℕ) (z : Option Value) → w t ≡ Some s → w r ≡ Some q → slice_get (slice_set ts t (Some (Pointer (length m) 0))) r ≡ Some z → (nat_eq r t ≡ true) ⊎ (nat_eq r t ≡ false) → IfHeld (hs ++ true ∷ []) first (fresh m n) q z (slice_get (slice_set us t (Some (Pointer (length m) 0))) r)
-held_alloc w hs first m ts us t n s q l low y r z p f e (inl same) =
+held_alloc : (w : Widths) (hs : Marks) (first : ℕ) (m : Memory) (ts us : List (Option Value)) (u : Value) (t n : ℕ) (s q : Size) → length hs ≡ length m → first ≤ length m → Sides w (hs ++ true ∷ []) first (fresh m n) ts us → (r : ℕ) (z : Option Value) → w t ≡ Some s → w r ≡ Some q → slice_get (slice_set ts t (Some (Pointer (length m) 0))) r ≡ Some z → (nat_eq r t ≡ true) ⊎ (nat_eq r t ≡ false) → IfHeld (hs ++ true ∷ []) first (fresh m n) q z (slice_get (slice_set us t (Some u)) r)
+held_alloc w hs first m ts us u t n s q l low y r z p f e (inl same) =
     let is = (get_set_new ts t r (Some (Pointer (length m) 0)) z same e).0 in
-    subst (λ o. IfHeld (hs ++ true ∷ []) first (fresh m n) q o (slice_get (slice_set us t (Some (Pointer (length m) 0))) r)) is
+    subst (λ o. IfHeld (hs ++ true ∷ []) first (fresh m n) q o (slice_get (slice_set us t (Some u)) r)) is
     (record {
       block = length m;
       is = refl;
@@ -205,11 +202,11 @@ held_alloc w hs first m ts us t n s q l low y r z p f e (inl same) =
       shows = λ cells g.
           let made : slice_get (fresh m n) (length m) ≡ Some (Some (replicate n Blank)) = get_last m (Some (replicate n Blank)) (length m) refl in
           let those : replicate n Blank ≡ cells = cc in
-          subst (λ cs. Shows (hs ++ true ∷ []) q cs (slice_get (slice_set us t (Some (Pointer (length m) 0))) r)) those
-          (blank_shows (hs ++ true ∷ []) q n (slice_get (slice_set us t (Some (Pointer (length m) 0))) r));
+          subst (λ cs. Shows (hs ++ true ∷ []) q cs (slice_get (slice_set us t (Some u)) r)) those
+          (blank_shows (hs ++ true ∷ []) q n (slice_get (slice_set us t (Some u)) r));
     })
-held_alloc w hs first m ts us t n s q l low y r z p f e (inr other) =
-    subst (IfHeld (hs ++ true ∷ []) first (fresh m n) q z) (sym (get_set_other us t r (Some (Pointer (length m) 0)) other))
+held_alloc w hs first m ts us u t n s q l low y r z p f e (inr other) =
+    subst (IfHeld (hs ++ true ∷ []) first (fresh m n) q z) (sym (get_set_other us t r (Some u) other))
     (y.held r q z f (sym (get_set_other ts t r (Some (Pointer (length m) 0)) other) ∙ e))
 
 apart_alloc : (w : Widths) (ts : List (Option Value)) (t : ℕ) (v : Value) → ((t r : ℕ) (s q : Size) (v : Value) → w t ≡ Some s → w r ≡ Some q → slice_get ts t ≡ Some (Some v) → slice_get ts r ≡ Some (Some v) → t ≡ r) → ((r : ℕ) (q : Size) → w r ≡ Some q → slice_get ts r ≡ Some (Some v) → ⊥) → (a b : ℕ) (q k : Size) (z : Value) → w a ≡ Some q → w b ≡ Some k → slice_get (slice_set ts t (Some v)) a ≡ Some (Some z) → slice_get (slice_set ts t (Some v)) b ≡ Some (Some z) → (nat_eq a t ≡ true) ⊎ (nat_eq a t ≡ false) → (nat_eq b t ≡ true) ⊎ (nat_eq b t ≡ false) → a ≡ b
@@ -223,17 +220,19 @@ apart_alloc w ts t v old none a b q k z f g e h (inr one) (inl two) =
 apart_alloc w ts t v old none a b q k z f g e h (inr one) (inr two) =
     old a b q k z f g (sym (get_set_other ts t a (Some v) one) ∙ e) (sym (get_set_other ts t b (Some v) two) ∙ h)
 
-pub sides_alloc : (w : Widths) (hs : Marks) (first : ℕ) (m : Memory) (ts us : List (Option Value)) (t n : ℕ) (s : Size) → w t ≡ Some s → length hs ≡ length m → first ≤ length m → Sides w hs first m ts us → Sides w (hs ++ true ∷ []) first (fresh m n) (slice_set ts t (Some (Pointer (length m) 0))) (slice_set us t (Some (Pointer (length m) 0)))
-sides_alloc w hs first m ts us t n s p l low x =
+pub sides_alloc : (w : Widths) (hs : Marks) (first : ℕ) (m : Memory) (ts us : List (Option Value)) (u : Value) (t n : ℕ) (s : Size) → w t ≡ Some s → length hs ≡ length m → first ≤ length m → Sides w hs first m ts us → Sides w (hs ++ true ∷ []) first (fresh m n) (slice_set ts t (Some (Pointer (length m) 0))) (slice_set us t (Some u))
+sides_alloc w hs first m ts us u t n s p l low x =
     let ks = hs ++ true ∷ [] in
     let v = Pointer (length m) 0 in
     let y = sides_later w hs ks first m (fresh m n) ts us (marks_grow hs true) (fresh_kept hs m n l) x in
     let none : (r : ℕ) (q : Size) → w r ≡ Some q → slice_get ts r ≡ Some (Some v) → ⊥ = older w hs first m ts us l x in
     record {
-      long = length-set us t (Some v) ∙ (x.long ∙ sym (length-set ts t (Some v)));
-      same = λ r q. set_alike ts us t r (Some v) x.long (x.same r q);
+      long = length-set us t (Some u) ∙ (x.long ∙ sym (length-set ts t (Some v)));
+      same = λ r q.
+          let other = flipped w r t s q p in
+          get_set_other us t r (Some u) other ∙ (y.same r q ∙ ap (option_map (moved_if ks)) (sym (get_set_other ts t r (Some v) other)));
       clean = λ r z q e. y.clean r z q (sym (get_set_other ts t r (Some v) (flipped w r t s q p)) ∙ e);
-      held = λ r q z f e. held_alloc w hs first m ts us t n s q l low y r z p f e (number_cases r t);
+      held = λ r q z f e. held_alloc w hs first m ts us u t n s q l low y r z p f e (number_cases r t);
       apart = λ a b q k z f g e h. apart_alloc w ts t v x.apart none a b q k z f g e h (number_cases a t) (number_cases b t);
     }
 

@@ -19,6 +19,7 @@ use Rattle.il_ast.specs.declared.block.PhiArg.{PhiArg}
 use Rattle.il_ast.specs.declared.block.Block.{Block}
 use Rattle.il_ast.specs.declared.function.Func.{Func}
 use Rattle.il_ast.specs.declared.value.Value.{Value}
+use Rattle.il_ast.specs.declared.value.Value.TheVariants.{Integer, Pointer, Function}
 use Rattle.il_ast.specs.declared.value.End.{End}
 use Rattle.il_ast.specs.declared.value.End.TheVariants.{Exit, Halt, Undefined, Stack, Turns}
 use Rattle.il_ast.specs.Memory.{Memory, free, free_all}
@@ -26,23 +27,23 @@ use Rattle.il_ast.specs.Effect.{Activation, Env, Call, operand, InstEffect, Done
 use Rattle.promote.specs.Uses.{phi_arg_mentions, phi_mentions, inst_mentions, jump_mentions, end_mentions, block_mentions, param_mentions, mentions_of}
 use Rattle.promote.specs.Promoted.{Widths, Rewrites, promoted, promoted_line, promoted_block}
 use Rattle.promote.proofs.Respect.{Respected, respected_first, respected_then, respected_at}
-use Rattle.promote.proofs.Hiding.{Marks, hide, IfClean, CleanAll, CleanMemory, Extends, free_all_hides, free_all_clean, length_free, get_set_other}
+use Rattle.promote.proofs.Hiding.{Marks, moved, moved_if, shown, IfClean, CleanAll, CleanMemory, Extends, AllMade, free_all_shows, free_all_clean, length_free, get_set_other}
 use Rattle.promote.proofs.Sides.{KeptHidden}
-use Rattle.promote.proofs.Instructions.{Setting, AllFrom, State, held_as, DestPlain, GoesSo, PlainValue, plain_value, suited_plain, operand_alike, operand_clean, state_assign}
+use Rattle.promote.proofs.Instructions.{Setting, State, held_as, across, moved_call, moved_all, cons_moved, DestPlain, GoesSo, PlainValue, plain_value, suited_plain, operand_alike, operand_clean, state_assign}
 use Rattle.promote.proofs.Locals.{inst_so}
 
--- the same place, with the other side's temporaries
-abbrev pub beside : Activation → List (Option Value) → Activation
-beside a us = record { block = a.block; next = a.next; locals = held_as us a.locals.owned }
+-- the same place, with what the activation holds on the other side
+abbrev pub beside : Marks → Activation → List (Option Value) → Activation
+beside hs a us = record { block = a.block; next = a.next; locals = across hs us a.locals.owned }
 
 pub record WentSo (c : Setting) (weight : ℕ) (a : Activation) (m : Memory) (e : Effect) : Type 0 where
   pub marks : Marks
   pub temps : List (Option Value)
-  pub is : e ≡ Goes weight (beside a temps) (hide marks m)
+  pub is : e ≡ Goes weight (beside marks a temps) (shown marks m)
   pub state : State c marks m a.locals.temps temps a.locals.owned
 
 pub record CallsSo (c : Setting) (hs : Marks) (m : Memory) (us : List (Option Value)) (weight : ℕ) (call : Call) (to : Option Dest) (a : Activation) (e : Effect) : Type 0 where
-  pub is : e ≡ Calls weight call to (beside a us)
+  pub is : e ≡ Calls weight (moved_call hs call) to (beside hs a us)
   pub state : State c hs m a.locals.temps us a.locals.owned
   pub args : CleanAll hs call.args
   pub plain : DestPlain c.widths to
@@ -57,7 +58,7 @@ pub record Left (c : Setting) (hs : Marks) (m : Memory) : Type 0 where
 
 pub record ReturnsSo (c : Setting) (v : Option Value) (m : Memory) (e : Effect) : Type 0 where
   pub marks : Marks
-  pub is : e ≡ Returns v (hide marks m)
+  pub is : e ≡ Returns (moved_if marks v) (shown marks m)
   pub clean : IfClean marks v
   pub left : Left c marks m
 
@@ -77,11 +78,11 @@ TurnSo c hs m us (Ends x) e = EndsSo x e
 
 -- ---- instructions
 
-after_so : (c : Setting) (hs : Marks) (m : Memory) (ts us : List (Option Value)) (owned : List ℕ) (b k : ℕ) → State c hs m ts us owned → (e e2 : InstEffect) → GoesSo c hs e e2 → TurnSo c hs m us (after_inst b k (held_as ts owned) e) (after_inst b k (held_as us owned) e2)
+after_so : (c : Setting) (hs : Marks) (m : Memory) (ts us : List (Option Value)) (owned : List ℕ) (b k : ℕ) → State c hs m ts us owned → (e e2 : InstEffect) → GoesSo c hs e e2 → TurnSo c hs m us (after_inst b k (held_as ts owned) e) (after_inst b k (across hs us owned) e2)
 after_so c hs m ts us owned b k st (Done weight now n) e2 h =
-    record { marks = h.marks; temps = h.temps; is = ap (after_inst b k (held_as us owned)) h.is; state = h.state }
+    record { marks = h.marks; temps = h.temps; is = ap (after_inst b k (across hs us owned)) h.is; state = h.state }
 after_so c hs m ts us owned b k st (Asks weight call to) e2 h =
-    record { is = ap (after_inst b k (held_as us owned)) h.0; state = st; args = h.1; plain = h.2 }
+    record { is = ap (after_inst b k (across hs us owned)) h.0; state = st; args = h.1; plain = h.2 }
 after_so c hs m ts us owned b k st Fails e2 h = tt
 
 -- ---- phis
@@ -122,7 +123,7 @@ found_plain : (w : Widths) (from : ℕ) (args : List PhiArg) → PlainPhiArgs w 
 found_plain w from [] h = tt
 found_plain w from (a ∷ args) h = found_by w a (find (λ (a : PhiArg). nat_eq a.from from) args) (nat_eq a.from from) h.0 (found_plain w from args h.1)
 
-arg_alike : (c : Setting) (hs : Marks) (m : Memory) (ts us : List (Option Value)) (owned : List ℕ) → State c hs m ts us owned → (k : Class) (o : Option PhiArg) → IfPlainArg c.widths o → option_and_then (λ (a : PhiArg). operand c.globals us k a.value) o ≡ option_and_then (λ (a : PhiArg). operand c.globals ts k a.value) o
+arg_alike : (c : Setting) (hs : Marks) (m : Memory) (ts us : List (Option Value)) (owned : List ℕ) → State c hs m ts us owned → (k : Class) (o : Option PhiArg) → IfPlainArg c.widths o → option_and_then (λ (a : PhiArg). operand c.globals us k a.value) o ≡ moved_if hs (option_and_then (λ (a : PhiArg). operand c.globals ts k a.value) o)
 arg_alike c hs m ts us owned st k None h = refl
 arg_alike c hs m ts us owned st k (Some a) h = operand_alike c hs m ts us owned st k a.value h
 
@@ -139,12 +140,13 @@ cons_clean hs None ys h k = tt
 cons_clean hs (Some v) None h k = tt
 cons_clean hs (Some v) (Some vs) h k = (h, k)
 
-phis_alike : (c : Setting) (hs : Marks) (m : Memory) (ts us : List (Option Value)) (owned : List ℕ) → State c hs m ts us owned → (from : ℕ) (ps : List Phi) → PlainPhis c.widths ps → phi_values c.globals us from ps ≡ phi_values c.globals ts from ps
+phis_alike : (c : Setting) (hs : Marks) (m : Memory) (ts us : List (Option Value)) (owned : List ℕ) → State c hs m ts us owned → (from : ℕ) (ps : List Phi) → PlainPhis c.widths ps → phi_values c.globals us from ps ≡ moved_all hs (phi_values c.globals ts from ps)
 phis_alike c hs m ts us owned st from [] h = refl
 phis_alike c hs m ts us owned st from (p ∷ ps) h =
     ap (option_and_then (λ v. option_map (λ vs. v ∷ vs) (phi_values c.globals us from ps)))
     (arg_alike c hs m ts us owned st p.to.class (find (λ (a : PhiArg). nat_eq a.from from) p.args) (found_plain c.widths from p.args h.1))
-    ∙ ap (λ y. option_and_then (λ v. option_map (λ vs. v ∷ vs) y) (phi_value c.globals ts from p)) (phis_alike c hs m ts us owned st from ps h.2)
+    ∙ (ap (λ y. option_and_then (λ v. option_map (λ vs. v ∷ vs) y) (moved_if hs (phi_value c.globals ts from p))) (phis_alike c hs m ts us owned st from ps h.2)
+    ∙ cons_moved hs (phi_value c.globals ts from p) (phi_values c.globals ts from ps))
 
 phis_clean : (c : Setting) (hs : Marks) (m : Memory) (ts us : List (Option Value)) (owned : List ℕ) → State c hs m ts us owned → (from : ℕ) (ps : List Phi) → PlainPhis c.widths ps → IfCleanAll hs (phi_values c.globals ts from ps)
 phis_clean c hs m ts us owned st from [] h = tt
@@ -153,17 +155,17 @@ phis_clean c hs m ts us owned st from (p ∷ ps) h =
     (arg_clean c hs m ts us owned st p.to.class (find (λ (a : PhiArg). nat_eq a.from from) p.args) (found_plain c.widths from p.args h.1))
     (phis_clean c hs m ts us owned st from ps h.2)
 
-state_phis : (c : Setting) (hs : Marks) (m : Memory) (ts us : List (Option Value)) (owned : List ℕ) (ps : List Phi) (vs : List Value) → State c hs m ts us owned → PlainPhis c.widths ps → CleanAll hs vs → State c hs m (with_phis ts ps vs) (with_phis us ps vs) owned
+state_phis : (c : Setting) (hs : Marks) (m : Memory) (ts us : List (Option Value)) (owned : List ℕ) (ps : List Phi) (vs : List Value) → State c hs m ts us owned → PlainPhis c.widths ps → CleanAll hs vs → State c hs m (with_phis ts ps vs) (with_phis us ps (map (moved hs) vs)) owned
 state_phis c hs m ts us owned [] vs st h k = st
 state_phis c hs m ts us owned (p ∷ ps) [] st h k = st
 state_phis c hs m ts us owned (p ∷ ps) (v ∷ vs) st h k =
-    state_phis c hs m (slice_set ts p.to.temp (Some v)) (slice_set us p.to.temp (Some v)) owned ps vs
+    state_phis c hs m (slice_set ts p.to.temp (Some v)) (slice_set us p.to.temp (Some (moved hs v))) owned ps vs
     (state_assign c hs m ts us owned p.to.temp v st h.0 k.0) h.2 k.1
 
-entered_so : (c : Setting) (hs : Marks) (m : Memory) (ts us : List (Option Value)) (owned : List ℕ) (k : ℕ) (ps : List Phi) (o : Option (List Value)) → State c hs m ts us owned → PlainPhis c.widths ps → IfCleanAll hs o → TurnSo c hs m us (entered (held_as ts owned) m k ps o) (entered (held_as us owned) (hide hs m) k ps o)
+entered_so : (c : Setting) (hs : Marks) (m : Memory) (ts us : List (Option Value)) (owned : List ℕ) (k : ℕ) (ps : List Phi) (o : Option (List Value)) → State c hs m ts us owned → PlainPhis c.widths ps → IfCleanAll hs o → TurnSo c hs m us (entered (held_as ts owned) m k ps o) (entered (across hs us owned) (shown hs m) k ps (moved_all hs o))
 entered_so c hs m ts us owned k ps None st h i = tt
 entered_so c hs m ts us owned k ps (Some vs) st h i =
-    record { marks = hs; temps = with_phis us ps vs; is = refl; state = state_phis c hs m ts us owned ps vs st h i }
+    record { marks = hs; temps = with_phis us ps (map (moved hs) vs); is = refl; state = state_phis c hs m ts us owned ps vs st h i }
 
 -- ---- blocks
 
@@ -191,39 +193,46 @@ pub record Pair (c : Setting) (f g : Func) : Type 0 where
   pub rewrites : Rewrites c.widths f g
   pub respected : Respected c.widths (mentions_of f)
 
-enter_at_so : (c : Setting) (f g : Func) (hs : Marks) (m : Memory) (ts us : List (Option Value)) (owned : List ℕ) (from k : ℕ) (o : Option Block) → Pair c f g → State c hs m ts us owned → slice_get f.blocks k ≡ o → TurnSo c hs m us (enter_at (first_env c f) from (held_as ts owned) m k o) (enter_at (first_env c g) from (held_as us owned) (hide hs m) k (option_map (promoted_block c.widths) o))
+enter_at_so : (c : Setting) (f g : Func) (hs : Marks) (m : Memory) (ts us : List (Option Value)) (owned : List ℕ) (from k : ℕ) (o : Option Block) → Pair c f g → State c hs m ts us owned → slice_get f.blocks k ≡ o → TurnSo c hs m us (enter_at (first_env c f) from (held_as ts owned) m k o) (enter_at (first_env c g) from (across hs us owned) (shown hs m) k (option_map (promoted_block c.widths) o))
 enter_at_so c f g hs m ts us owned from k None p st e = tt
 enter_at_so c f g hs m ts us owned from k (Some b) p st e =
     let plain = plain_phis c.widths b.phis (respected_first c.widths (flat_map phi_mentions b.phis) (flat_map inst_mentions b.insts ++ end_mentions b.jump) (block_respected c.widths f k b p.respected e)) in
-    subst (λ x. TurnSo c hs m us (entered (held_as ts owned) m k b.phis (phi_values c.globals ts from b.phis)) (entered (held_as us owned) (hide hs m) k b.phis x))
+    subst (λ x. TurnSo c hs m us (entered (held_as ts owned) m k b.phis (phi_values c.globals ts from b.phis)) (entered (across hs us owned) (shown hs m) k b.phis x))
     (sym (phis_alike c hs m ts us owned st from b.phis plain))
     (entered_so c hs m ts us owned k b.phis (phi_values c.globals ts from b.phis) st plain (phis_clean c hs m ts us owned st from b.phis plain))
 
-enter_place_so : (c : Setting) (f g : Func) (hs : Marks) (m : Memory) (ts us : List (Option Value)) (owned : List ℕ) (from : ℕ) (o : Option ℕ) → Pair c f g → State c hs m ts us owned → TurnSo c hs m us (enter_place (first_env c f) from (held_as ts owned) m o) (enter_place (first_env c g) from (held_as us owned) (hide hs m) o)
+enter_place_so : (c : Setting) (f g : Func) (hs : Marks) (m : Memory) (ts us : List (Option Value)) (owned : List ℕ) (from : ℕ) (o : Option ℕ) → Pair c f g → State c hs m ts us owned → TurnSo c hs m us (enter_place (first_env c f) from (held_as ts owned) m o) (enter_place (first_env c g) from (across hs us owned) (shown hs m) o)
 enter_place_so c f g hs m ts us owned from None p st = tt
 enter_place_so c f g hs m ts us owned from (Some k) p st =
-    subst (λ x. TurnSo c hs m us (enter_at (first_env c f) from (held_as ts owned) m k (slice_get f.blocks k)) (enter_at (first_env c g) from (held_as us owned) (hide hs m) k x))
+    subst (λ x. TurnSo c hs m us (enter_at (first_env c f) from (held_as ts owned) m k (slice_get f.blocks k)) (enter_at (first_env c g) from (across hs us owned) (shown hs m) k x))
     (sym (block_is c.widths f g k p.rewrites)) (enter_at_so c f g hs m ts us owned from k (slice_get f.blocks k) p st refl)
 
-enter_so : (c : Setting) (f g : Func) (hs : Marks) (m : Memory) (ts us : List (Option Value)) (owned : List ℕ) (from l : ℕ) → Pair c f g → State c hs m ts us owned → TurnSo c hs m us (enter (first_env c f) from (held_as ts owned) m l) (enter (first_env c g) from (held_as us owned) (hide hs m) l)
+enter_so : (c : Setting) (f g : Func) (hs : Marks) (m : Memory) (ts us : List (Option Value)) (owned : List ℕ) (from l : ℕ) → Pair c f g → State c hs m ts us owned → TurnSo c hs m us (enter (first_env c f) from (held_as ts owned) m l) (enter (first_env c g) from (across hs us owned) (shown hs m) l)
 enter_so c f g hs m ts us owned from l p st =
-    subst (λ x. TurnSo c hs m us (enter_place (first_env c f) from (held_as ts owned) m (place_of f.blocks l)) (enter_place (first_env c g) from (held_as us owned) (hide hs m) x))
+    subst (λ x. TurnSo c hs m us (enter_place (first_env c f) from (held_as ts owned) m (place_of f.blocks l)) (enter_place (first_env c g) from (across hs us owned) (shown hs m) x))
     (sym (ap (λ bs. place_of bs l) p.rewrites.blocks ∙ place_stays c.widths f.blocks l)) (enter_place_so c f g hs m ts us owned from (place_of f.blocks l) p st)
 
-branch_so : (c : Setting) (f g : Func) (hs : Marks) (m : Memory) (ts us : List (Option Value)) (owned : List ℕ) (from nonzero otherwise : ℕ) (o : Option Value) → Pair c f g → State c hs m ts us owned → TurnSo c hs m us (branched (first_env c f) from (held_as ts owned) m nonzero otherwise o) (branched (first_env c g) from (held_as us owned) (hide hs m) nonzero otherwise o)
+branch_moved : (hs : Marks) (v : Value) (nonzero otherwise : ℕ) → branch_to (moved hs v) nonzero otherwise ≡ branch_to v nonzero otherwise
+branch_moved hs (Integer n) nonzero otherwise = refl
+branch_moved hs (Pointer b o) nonzero otherwise = refl
+branch_moved hs (Function f) nonzero otherwise = refl
+
+branch_so : (c : Setting) (f g : Func) (hs : Marks) (m : Memory) (ts us : List (Option Value)) (owned : List ℕ) (from nonzero otherwise : ℕ) (o : Option Value) → Pair c f g → State c hs m ts us owned → TurnSo c hs m us (branched (first_env c f) from (held_as ts owned) m nonzero otherwise o) (branched (first_env c g) from (across hs us owned) (shown hs m) nonzero otherwise (moved_if hs o))
 branch_so c f g hs m ts us owned from nonzero otherwise None p st = tt
-branch_so c f g hs m ts us owned from nonzero otherwise (Some v) p st = enter_so c f g hs m ts us owned from (branch_to v nonzero otherwise) p st
+branch_so c f g hs m ts us owned from nonzero otherwise (Some v) p st =
+    subst (λ l. TurnSo c hs m us (enter (first_env c f) from (held_as ts owned) m (branch_to v nonzero otherwise)) (enter (first_env c g) from (across hs us owned) (shown hs m) l))
+    (sym (branch_moved hs v nonzero otherwise)) (enter_so c f g hs m ts us owned from (branch_to v nonzero otherwise) p st)
 
 -- ---- returns
 
-free_kept : (c : Setting) (m : Memory) (bs : List ℕ) → AllFrom (length c.memory) bs → KeptHidden c.marks c.memory m → KeptHidden c.marks c.memory (free_all m bs)
-free_kept c m [] h k = k
-free_kept c m (b ∷ bs) h k =
-    free_kept c (free m b) bs h.1
+free_kept : (c : Setting) (hs : Marks) (m : Memory) (bs : List ℕ) → AllMade hs (length c.memory) bs → KeptHidden c.marks c.memory m → KeptHidden c.marks c.memory (free_all m bs)
+free_kept c hs m [] h k = k
+free_kept c hs m (b ∷ bs) h k =
+    free_kept c hs (free m b) bs h.1
     (λ d e.
     let within = slice_get_within c.marks d true e in
     let alike = c.alike in
-    let from = h.0 in
+    let from = h.0.since in
     let lt : d < b = omega (arith, within, alike, from) in
     let other : nat_eq d b ≡ false = grind (arith, nat_tests) in
     get_set_other m b d None other ∙ k d e)
@@ -236,62 +245,62 @@ freed c hs m ts us owned st =
       alike = st.alike ∙ sym (length_free m owned);
       grown = st.grown;
       clean = free_all_clean hs m owned st.clean;
-      kept = free_kept c m owned st.mine st.kept;
+      kept = free_kept c hs m owned st.mine st.kept;
       low = omega (arith, low, long);
     }
 
-returned_so : (c : Setting) (hs : Marks) (m : Memory) (ts us : List (Option Value)) (owned : List ℕ) (o : Option Value) → State c hs m ts us owned → IfClean hs o → TurnSo c hs m us (returned (held_as ts owned) m o) (returned (held_as us owned) (hide hs m) o)
+returned_so : (c : Setting) (hs : Marks) (m : Memory) (ts us : List (Option Value)) (owned : List ℕ) (o : Option Value) → State c hs m ts us owned → IfClean hs o → TurnSo c hs m us (returned (held_as ts owned) m o) (returned (across hs us owned) (shown hs m) (moved_if hs o))
 returned_so c hs m ts us owned None st h = tt
 returned_so c hs m ts us owned (Some v) st h =
-    record { marks = hs; is = ap (Returns (Some v)) (sym (free_all_hides hs m owned)); clean = h; left = freed c hs m ts us owned st }
+    record { marks = hs; is = ap (Returns (Some (moved hs v))) (sym (free_all_shows hs m (length c.memory) owned st.mine)); clean = h; left = freed c hs m ts us owned st }
 
-value_so : (c : Setting) (f g : Func) (hs : Marks) (m : Memory) (ts us : List (Option Value)) (owned : List ℕ) (k : Option Class) (a : Val) → State c hs m ts us owned → PlainValue c.widths a → TurnSo c hs m us (return_value (first_env c f) (held_as ts owned) m k a) (return_value (first_env c g) (held_as us owned) (hide hs m) k a)
+value_so : (c : Setting) (f g : Func) (hs : Marks) (m : Memory) (ts us : List (Option Value)) (owned : List ℕ) (k : Option Class) (a : Val) → State c hs m ts us owned → PlainValue c.widths a → TurnSo c hs m us (return_value (first_env c f) (held_as ts owned) m k a) (return_value (first_env c g) (across hs us owned) (shown hs m) k a)
 value_so c f g hs m ts us owned None a st h = tt
 value_so c f g hs m ts us owned (Some k) a st h =
-    subst (λ x. TurnSo c hs m us (returned (held_as ts owned) m (operand c.globals ts k a)) (returned (held_as us owned) (hide hs m) x)) (sym (operand_alike c hs m ts us owned st k a h))
+    subst (λ x. TurnSo c hs m us (returned (held_as ts owned) m (operand c.globals ts k a)) (returned (across hs us owned) (shown hs m) x)) (sym (operand_alike c hs m ts us owned st k a h))
     (returned_so c hs m ts us owned (operand c.globals ts k a) st (operand_clean c hs m ts us owned st k a h))
 
 -- ---- jumps
 
-jump_so : (c : Setting) (f g : Func) (hs : Marks) (m : Memory) (ts us : List (Option Value)) (owned : List ℕ) (from : ℕ) (j : Jump) → Pair c f g → State c hs m ts us owned → Respected c.widths (jump_mentions j) → TurnSo c hs m us (jump_effect (first_env c f) from (held_as ts owned) m j) (jump_effect (first_env c g) from (held_as us owned) (hide hs m) j)
+jump_so : (c : Setting) (f g : Func) (hs : Marks) (m : Memory) (ts us : List (Option Value)) (owned : List ℕ) (from : ℕ) (j : Jump) → Pair c f g → State c hs m ts us owned → Respected c.widths (jump_mentions j) → TurnSo c hs m us (jump_effect (first_env c f) from (held_as ts owned) m j) (jump_effect (first_env c g) from (across hs us owned) (shown hs m) j)
 jump_so c f g hs m ts us owned from (Goto l) p st h = enter_so c f g hs m ts us owned from l p st
 jump_so c f g hs m ts us owned from (Branch a nonzero otherwise) p st h =
-    subst (λ x. TurnSo c hs m us (branched (first_env c f) from (held_as ts owned) m nonzero otherwise (operand c.globals ts W a)) (branched (first_env c g) from (held_as us owned) (hide hs m) nonzero otherwise x))
+    subst (λ x. TurnSo c hs m us (branched (first_env c f) from (held_as ts owned) m nonzero otherwise (operand c.globals ts W a)) (branched (first_env c g) from (across hs us owned) (shown hs m) nonzero otherwise x))
     (sym (operand_alike c hs m ts us owned st W a (plain_value c.widths a h)))
     (branch_so c f g hs m ts us owned from nonzero otherwise (operand c.globals ts W a) p st)
 jump_so c f g hs m ts us owned from (Return None) p st h =
-    record { marks = hs; is = ap (Returns None) (sym (free_all_hides hs m owned)); clean = tt; left = freed c hs m ts us owned st }
+    record { marks = hs; is = ap (Returns None) (sym (free_all_shows hs m (length c.memory) owned st.mine)); clean = tt; left = freed c hs m ts us owned st }
 jump_so c f g hs m ts us owned from (Return (Some a)) p st h =
-    subst (λ k. TurnSo c hs m us (return_value (first_env c f) (held_as ts owned) m f.result a) (return_value (first_env c g) (held_as us owned) (hide hs m) k a)) (sym p.rewrites.result)
+    subst (λ k. TurnSo c hs m us (return_value (first_env c f) (held_as ts owned) m f.result a) (return_value (first_env c g) (across hs us owned) (shown hs m) k a)) (sym p.rewrites.result)
     (value_so c f g hs m ts us owned f.result a st (plain_value c.widths a h))
 jump_so c f g hs m ts us owned from HaltJump p st h = refl
 
-end_so : (c : Setting) (f g : Func) (hs : Marks) (m : Memory) (ts us : List (Option Value)) (owned : List ℕ) (from : ℕ) (j : Option (Lined Jump)) → Pair c f g → State c hs m ts us owned → Respected c.widths (end_mentions j) → TurnSo c hs m us (end_effect (first_env c f) from (held_as ts owned) m j) (end_effect (first_env c g) from (held_as us owned) (hide hs m) j)
+end_so : (c : Setting) (f g : Func) (hs : Marks) (m : Memory) (ts us : List (Option Value)) (owned : List ℕ) (from : ℕ) (j : Option (Lined Jump)) → Pair c f g → State c hs m ts us owned → Respected c.widths (end_mentions j) → TurnSo c hs m us (end_effect (first_env c f) from (held_as ts owned) m j) (end_effect (first_env c g) from (across hs us owned) (shown hs m) j)
 end_so c f g hs m ts us owned from None p st h = tt
 end_so c f g hs m ts us owned from (Some j) p st h = jump_so c f g hs m ts us owned from j.item p st h
 
 -- ---- turns
 
-in_so : (c : Setting) (f g : Func) (hs : Marks) (m : Memory) (ts us : List (Option Value)) (owned : List ℕ) (k n : ℕ) (b : Block) (o : Option (Lined Inst)) → Pair c f g → State c hs m ts us owned → Respected c.widths (block_mentions b) → slice_get b.insts n ≡ o → TurnSo c hs m us (turn_in (first_env c f) (record { block = k; next = n; locals = held_as ts owned }) m b o) (turn_in (first_env c g) (record { block = k; next = n; locals = held_as us owned }) (hide hs m) (promoted_block c.widths b) (option_map (promoted_line c.widths) o))
+in_so : (c : Setting) (f g : Func) (hs : Marks) (m : Memory) (ts us : List (Option Value)) (owned : List ℕ) (k n : ℕ) (b : Block) (o : Option (Lined Inst)) → Pair c f g → State c hs m ts us owned → Respected c.widths (block_mentions b) → slice_get b.insts n ≡ o → TurnSo c hs m us (turn_in (first_env c f) (record { block = k; next = n; locals = held_as ts owned }) m b o) (turn_in (first_env c g) (record { block = k; next = n; locals = across hs us owned }) (shown hs m) (promoted_block c.widths b) (option_map (promoted_line c.widths) o))
 in_so c f g hs m ts us owned k n b (Some i) p st h e =
     let rest = respected_then c.widths (flat_map phi_mentions b.phis) (flat_map inst_mentions b.insts ++ end_mentions b.jump) h in
-    after_so c hs m ts us owned k n st (inst_effect c.globals (held_as ts owned) m i.item) (inst_effect c.globals (held_as us owned) (hide hs m) (promoted c.widths i.item))
+    after_so c hs m ts us owned k n st (inst_effect c.globals (held_as ts owned) m i.item) (inst_effect c.globals (across hs us owned) (shown hs m) (promoted c.widths i.item))
     (inst_so c hs m ts us owned st i.item (respected_at c.widths inst_mentions b.insts n i (respected_first c.widths (flat_map inst_mentions b.insts) (end_mentions b.jump) rest) e))
 in_so c f g hs m ts us owned k n b None p st h e =
     let rest = respected_then c.widths (flat_map phi_mentions b.phis) (flat_map inst_mentions b.insts ++ end_mentions b.jump) h in
     end_so c f g hs m ts us owned b.label b.jump p st (respected_then c.widths (flat_map inst_mentions b.insts) (end_mentions b.jump) rest)
 
-of_so : (c : Setting) (f g : Func) (hs : Marks) (m : Memory) (ts us : List (Option Value)) (owned : List ℕ) (k n : ℕ) (o : Option Block) → Pair c f g → State c hs m ts us owned → slice_get f.blocks k ≡ o → TurnSo c hs m us (turn_of (first_env c f) (record { block = k; next = n; locals = held_as ts owned }) m o) (turn_of (first_env c g) (record { block = k; next = n; locals = held_as us owned }) (hide hs m) (option_map (promoted_block c.widths) o))
+of_so : (c : Setting) (f g : Func) (hs : Marks) (m : Memory) (ts us : List (Option Value)) (owned : List ℕ) (k n : ℕ) (o : Option Block) → Pair c f g → State c hs m ts us owned → slice_get f.blocks k ≡ o → TurnSo c hs m us (turn_of (first_env c f) (record { block = k; next = n; locals = held_as ts owned }) m o) (turn_of (first_env c g) (record { block = k; next = n; locals = across hs us owned }) (shown hs m) (option_map (promoted_block c.widths) o))
 of_so c f g hs m ts us owned k n None p st e = tt
 of_so c f g hs m ts us owned k n (Some b) p st e =
-    subst (λ x. TurnSo c hs m us (turn_in (first_env c f) (record { block = k; next = n; locals = held_as ts owned }) m b (slice_get b.insts n)) (turn_in (first_env c g) (record { block = k; next = n; locals = held_as us owned }) (hide hs m) (promoted_block c.widths b) x))
+    subst (λ x. TurnSo c hs m us (turn_in (first_env c f) (record { block = k; next = n; locals = held_as ts owned }) m b (slice_get b.insts n)) (turn_in (first_env c g) (record { block = k; next = n; locals = across hs us owned }) (shown hs m) (promoted_block c.widths b) x))
     (sym (slice_get-map (promoted_line c.widths) b.insts n))
     (in_so c f g hs m ts us owned k n b (slice_get b.insts n) p st (block_respected c.widths f k b p.respected e) refl)
 
-pub turn_so : (c : Setting) (f g : Func) (hs : Marks) (m : Memory) (a : Activation) (us : List (Option Value)) → Rewrites c.widths f g → Respected c.widths (mentions_of f) → State c hs m a.locals.temps us a.locals.owned → TurnSo c hs m us (effect (record { func = f; globals = c.globals }) a m) (effect (record { func = g; globals = c.globals }) (beside a us) (hide hs m))
+pub turn_so : (c : Setting) (f g : Func) (hs : Marks) (m : Memory) (a : Activation) (us : List (Option Value)) → Rewrites c.widths f g → Respected c.widths (mentions_of f) → State c hs m a.locals.temps us a.locals.owned → TurnSo c hs m us (effect (record { func = f; globals = c.globals }) a m) (effect (record { func = g; globals = c.globals }) (beside hs a us) (shown hs m))
 unfolding effect
 turn_so c f g hs m a us r h st =
     let ts = a.locals.temps in
     let owned = a.locals.owned in
-    subst (λ x. TurnSo c hs m us (turn_of (first_env c f) a m (slice_get f.blocks a.block)) (turn_of (first_env c g) (beside a us) (hide hs m) x)) (sym (block_is c.widths f g a.block r))
+    subst (λ x. TurnSo c hs m us (turn_of (first_env c f) a m (slice_get f.blocks a.block)) (turn_of (first_env c g) (beside hs a us) (shown hs m) x)) (sym (block_is c.widths f g a.block r))
     (of_so c f g hs m ts us owned a.block a.next (slice_get f.blocks a.block) (record { rewrites = r; respected = h }) st refl)

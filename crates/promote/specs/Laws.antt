@@ -1,5 +1,5 @@
 -- What is proved of functions in which temporaries are promoted.
-use Rattle.std.specs.Prelude.{◌≡◌, None}
+use Rattle.std.specs.Prelude.{◌≡◌, ◌≤◌, true, None}
 use Rattle.il_ast.specs.declared.function.Func.{Func}
 use Rattle.il_ast.specs.Cost.{weight, need}
 use Rattle.il_types.specs.declared.rule.Rule.{Rule}
@@ -15,12 +15,11 @@ RulesStay =
     → (rule : Rule)
     → broken_in_function rule g ≡ None
 
--- the function is within the limits just where it was before, weighs as much, and needs as much
--- stack
+-- the function is within the limits where it was before, weighs as much, and needs no more stack
 pub record CostsStay (f g : Func) : Type 0 where
-  pub limits : is_within g ≡ is_within f
+  pub limits : is_within f ≡ true → is_within g ≡ true
   pub weight : weight g ≡ weight f
-  pub need : need g ≡ need f
+  pub need : need g ≤ need f
 
 abbrev pub LimitsStay : Type 0
 LimitsStay = (f g : Func) → IsPromoted f g → CostsStay f g

@@ -1,5 +1,5 @@
 -- Programs in whose functions temporaries are promoted: they mean what they did.
-use Rattle.std.specs.Prelude.{◌≡◌, ◌≢◌, ℕ, ◌<◌, ◌^◌, List, [], ◌∷◌, length, slice_get, Some}
+use Rattle.std.specs.Prelude.{◌≡◌, ◌≢◌, ℕ, ◌<◌, ◌^◌, List, [], ◌∷◌, length, slice_get, Option, Some}
 use Rattle.il_ast.specs.declared.datum.Item.{Item}
 use Rattle.il_ast.specs.declared.datum.Item.TheVariants.{Int, Bytes, Address}
 use Rattle.il_ast.specs.declared.datum.Field.{Field}
@@ -10,10 +10,11 @@ use Rattle.il_ast.specs.declared.program.Target.{Target}
 use Rattle.il_ast.specs.declared.program.Target.TheVariants.{Code, Object}
 use Rattle.il_ast.specs.declared.program.InText.{InText}
 use Rattle.il_ast.specs.declared.program.Program.{Program}
+use Rattle.il_ast.specs.declared.value.Value.{Value}
 use Rattle.il_ast.specs.declared.value.End.TheVariants.{Exit, Halt, Undefined, Stack, Turns}
 use Rattle.il_ast.specs.Memory.{Memory}
 use Rattle.il_ast.specs.Run.{Outcome, Returned, Ended}
-use Rattle.il_ast.specs.Meaning.{outcome, meaning}
+use Rattle.il_ast.specs.Meaning.{end_of, outcome, meaning}
 use Rattle.promote.specs.Promoted.{IsPromoted}
 
 -- ---- programs
@@ -72,14 +73,15 @@ pub record HasBytes (p : Program) (words : List (List ℕ)) : Type 0 where
 
 -- ---- the law
 
--- the same is spent, put out and returned, or the same end comes; nothing is asked where the first
--- became undefined
+-- the same is spent and put out, and a value that means the same end of `main` is returned, or the
+-- same end comes; nothing is asked where the first became undefined or ran out of stack
 abbrev pub SameOutcome : Outcome → Outcome → Type 0
-SameOutcome (Returned s v m) o = (n : Memory) × (o ≡ Returned s v n)
+SameOutcome (Returned s v m) o =
+    (u : Option Value) × (n : Memory) × (o ≡ Returned s u n) × (end_of u ≡ end_of v)
 SameOutcome (Ended s Undefined) o = Unit {0}
 SameOutcome (Ended s (Exit n)) o = o ≡ Ended s (Exit n)
 SameOutcome (Ended s Halt) o = o ≡ Ended s Halt
-SameOutcome (Ended s Stack) o = o ≡ Ended s Stack
+SameOutcome (Ended s Stack) o = Unit {0}
 SameOutcome (Ended s Turns) o = o ≡ Ended s Turns
 
 abbrev pub OutcomeStays : Type 0
@@ -89,11 +91,13 @@ OutcomeStays =
     → HasBytes p words
     → SameOutcome (outcome p words n) (outcome q words n)
 
--- the same output and end, at all turns at which the program doesn't become undefined
+-- the same output and end, at all turns at which the program doesn't become undefined or run out of
+-- stack
 abbrev pub MeaningStays : Type 0
 MeaningStays =
     (p q : Program) (words : List (List ℕ)) (n : ℕ)
     → IsProgramPromoted p q
     → HasBytes p words
     → (meaning p words n).ending ≢ Undefined
+    → (meaning p words n).ending ≢ Stack
     → meaning q words n ≡ meaning p words n

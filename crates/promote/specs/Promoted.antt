@@ -8,6 +8,7 @@ use Rattle.il_ast.specs.declared.operation.Extension.{Extension}
 use Rattle.il_ast.specs.declared.operation.Extension.TheVariants.{SignedWord, UnsignedWord, UnsignedHalf, UnsignedByte}
 use Rattle.il_ast.specs.declared.operation.UnaryOp.{UnaryOp}
 use Rattle.il_ast.specs.declared.operation.UnaryOp.TheVariants.{Neg, Copy, Extend, LoadLong, Load}
+use Rattle.il_ast.specs.declared.operation.Alignment.{Alignment}
 use Rattle.il_ast.specs.declared.operand.Val.{Val}
 use Rattle.il_ast.specs.declared.operand.Val.TheVariants.{Int, Temp, Global}
 use Rattle.il_ast.specs.declared.operand.Dest.{Dest}
@@ -42,6 +43,11 @@ loading (Extend e) c = Extend e
 loading LoadLong c = Copy
 loading (Load e) c = extending e c
 
+-- a promoted temporary has no block of memory, and begins as 0
+abbrev pub made_in : Option Size → Dest → Alignment → ℕ → Inst
+made_in None to alignment size = Alloc to alignment size
+made_in (Some s) to alignment size = Unary to Copy (Int 0)
+
 abbrev pub stored_in : Option Size → Size → Val → ℕ → Inst
 stored_in None size a p = Store size a (Temp p)
 stored_in (Some s) size a p = Unary (record { temp = p; class = L }) (storing size) a
@@ -60,11 +66,12 @@ promoted_unary w to op (Int n) = Unary to op (Int n)
 promoted_unary w to op (Temp p) = taken_from (w p) to op p
 promoted_unary w to op (Global g) = Unary to op (Global g)
 
--- loads and stores of promoted temporaries are copies and extensions; nothing else changes
+-- loads and stores of promoted temporaries are copies and extensions, and their allocs are gone;
+-- nothing else changes
 abbrev pub promoted : Widths → Inst → Inst
 promoted w (Unary to op a) = promoted_unary w to op a
 promoted w (Binary to op a b) = Binary to op a b
-promoted w (Alloc to alignment size) = Alloc to alignment size
+promoted w (Alloc to alignment size) = made_in (w to.temp) to alignment size
 promoted w (Store size a at) = promoted_store w size a at
 promoted w (Blit from to count) = Blit from to count
 promoted w (Call to callee args) = Call to callee args

@@ -7,17 +7,17 @@ pub fn rules_stay()
     ensures { RulesStay }
 {}
 
-/// Limits, weight and need are as before.
+/// A function within the limits is still within them, weighs as much as before, and needs no more stack.
 pub fn limits_stay()
     ensures { LimitsStay }
 {}
 
-/// The call of `main` goes as before, with the same spent and the same result, for all argument words and turns at which it didn't become undefined.
+/// The call of `main` goes as before, with the same spent and the same end, for all argument words and turns at which it didn't become undefined or run out of stack.
 pub fn outcome_stays()
     ensures { OutcomeStays }
 {}
 
-/// A program has the output and the end that it had, for all argument words and turns at which it didn't become undefined.
+/// A program has the output and the end that it had, for all argument words and turns at which it didn't become undefined or run out of stack.
 pub fn meaning_stays()
     ensures { MeaningStays }
 {}

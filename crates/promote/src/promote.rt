@@ -11,8 +11,8 @@ use std::alloc::{AllocError, Global};
 
 /// The function with every temporary promoted that can be.
 ///
-/// Loads and stores of the promoted temporaries are copies and extensions; nothing else changes. The time is linear in the function. Want of memory is the only
-/// error.
+/// Loads and stores of the promoted temporaries are copies and extensions, and their `alloc`s copies of 0; nothing else changes. The time is linear in the
+/// function. Want of memory is the only error.
 pub fn promote(alloc: Global, function: &Func) -> Result<Func, AllocError>
     ensures { IfOk result (λ now. IsPromoted function.now now) }
 {

@@ -1,6 +1,6 @@
 //! Blocks in which temporaries are promoted.
 ghost use Rattle.std.specs.Prelude.{◌≡◌, map, IfOk};
-ghost use Rattle.promote.specs.Promoted.{storing, extending, loading, promoted_store, promoted_unary, promoted, promoted_line, promoted_block};
+ghost use Rattle.promote.specs.Promoted.{storing, extending, loading, made_in, promoted_store, promoted_unary, promoted, promoted_line, promoted_block};
 ghost use Rattle.promote.specs.Tables.{widths_by};
 
 use crate::copying::copied_few;
@@ -9,7 +9,7 @@ use il_ast::block::{Block, Phi};
 use il_ast::instruction::{Inst, Jump, Lined};
 use il_ast::list::Seq;
 use il_ast::operand::{Dest, Val};
-use il_ast::operation::{Class, Extension, Size, UnaryOp};
+use il_ast::operation::{Alignment, Class, Extension, Size, UnaryOp};
 use std::alloc::{AllocError, Global};
 
 /// The blocks in which the temporaries of the table are promoted.
@@ -84,7 +84,7 @@ fn promoted_insts(
     Ok(Seq::from_vec(now))
 }
 
-/// The instruction, in which a load or store of a promoted temporary is a copy or an extension.
+/// The instruction, in which a load, a store or an alloc of a promoted temporary is a copy or an extension.
 fn promoted(alloc: Global, table: &[Standing], inst: &Inst) -> Result<Inst, AllocError>
     ensures { IfOk result (λ now. now ≡ promoted (widths_by table.now) inst.now) }
 {
@@ -105,11 +105,7 @@ fn promoted(alloc: Global, table: &[Standing], inst: &Inst) -> Result<Inst, Allo
             to,
             alignment,
             size,
-        } => Inst::Alloc {
-            to: *to,
-            alignment: *alignment,
-            size: *size,
-        },
+        } => made_in(table, *to, *alignment, *size),
         Inst::Store { size, value, at } => promoted_store(table, *size, *value, *at),
         Inst::Blit { from, to, count } => Inst::Blit {
             from: *from,
@@ -122,6 +118,24 @@ fn promoted(alloc: Global, table: &[Standing], inst: &Inst) -> Result<Inst, Allo
             args: copied_few(alloc, args.as_slice())?,
         },
     })
+}
+
+/// A promoted temporary has no block of memory, and begins as 0.
+fn made_in(table: &[Standing], to: Dest, alignment: Alignment, size: u64) -> Inst
+    ensures { result ≡ made_in (widths_by table.now to.temp) to alignment size }
+{
+    match width_at(table, to.temp.number()) {
+        Some(_) => Inst::Unary {
+            to,
+            op: UnaryOp::Copy,
+            value: Val::Int(0),
+        },
+        None => Inst::Alloc {
+            to,
+            alignment,
+            size,
+        },
+    }
 }
 
 fn promoted_unary(table: &[Standing], to: Dest, op: UnaryOp, value: Val) -> Inst

@@ -29,7 +29,7 @@ use Rattle.qbec.specs.Promoted.{EachPromoted, with_functions}
 pub still_good : (f g : Func) → IsPromoted f g → IsGoodFunction f → IsGoodFunction g
 still_good f g is good =
     let w = width_in (mentions_of f) in
-    record { rules = rules_stay w f g is (all_respected (mentions_of f)) good.rules; limits = limits_stay w f g is ∙ good.limits }
+    record { rules = rules_stay w f g is (all_respected (mentions_of f)) good.rules; limits = limits_stay w f g is good.limits }
 
 pub same_weights : (f g : Func) → IsPromoted f g → weight g ≡ weight f
 same_weights f g is = same_weight (width_in (mentions_of f)) f g is

@@ -4,6 +4,7 @@ use Rattle.il_ast.specs.declared.program.Program.{Program}
 use Rattle.il_ast.specs.declared.value.End.{End}
 use Rattle.il_ast.specs.declared.value.End.TheVariants.{Exit, Halt, Undefined, Stack, Turns}
 use Rattle.il_ast.specs.Run.{Spent, Outcome, Returned, Ended, price}
+use Rattle.il_ast.specs.Laws.{IsFailure}
 use Rattle.il_ast.specs.Meaning.{Behaviour, outcome, meaning, behaviour_of, spent_of}
 use Rattle.il_ast.proofs.Pacing.{output_comes_first}
 use Rattle.rv_isa.specs.State.{State}
@@ -17,19 +18,29 @@ record Alike (o r : Outcome) : Type 0 where
   behaviour : behaviour_of r ≡ behaviour_of o
   spent : spent_of r ≡ spent_of o
 
-alike : (o r : Outcome) → SameOutcome o r → Alike o r ⊎ ((s : Spent) × (o ≡ Ended s Undefined))
-alike (Returned s v m) r h = inl (record { behaviour = ap behaviour_of h.1; spent = ap spent_of h.1 })
+-- an end of which nothing is asked
+record Fails (o : Outcome) : Type 0 where
+  spent : Spent
+  ending : End
+  is : o ≡ Ended spent ending
+  failure : IsFailure ending
+
+abbrev behaving : List ℕ → End → Behaviour
+behaving output ending = record { output = output; ending = ending }
+
+alike : (o r : Outcome) → SameOutcome o r → Alike o r ⊎ Fails o
+alike (Returned s v m) r h = inl (record { behaviour = ap behaviour_of h.2 ∙ ap (behaving s.output) h.3; spent = ap spent_of h.2 })
 alike (Ended s (Exit n)) r h = inl (record { behaviour = ap behaviour_of h; spent = ap spent_of h })
 alike (Ended s Halt) r h = inl (record { behaviour = ap behaviour_of h; spent = ap spent_of h })
-alike (Ended s Undefined) r h = inr (s, refl)
-alike (Ended s Stack) r h = inl (record { behaviour = ap behaviour_of h; spent = ap spent_of h })
+alike (Ended s Undefined) r h = inr (record { spent = s; ending = Undefined; is = refl; failure = tt })
+alike (Ended s Stack) r h = inr (record { spent = s; ending = Stack; is = refl; failure = tt })
 alike (Ended s Turns) r h = inl (record { behaviour = ap behaviour_of h; spent = ap spent_of h })
 
--- at an end other than Undefined
-alike_at : (o r : Outcome) (e : End) → SameOutcome o r → (behaviour_of o).ending ≡ e → (e ≡ Undefined → ⊥) → Alike o r
-alike_at o r e same is defined = elim (alike o r same) [
+-- at an end that is no failure
+alike_at : (o r : Outcome) (e : End) → SameOutcome o r → (behaviour_of o).ending ≡ e → (IsFailure e → ⊥) → Alike o r
+alike_at o r e same is fine = elim (alike o r same) [
   | inl both ↦ both
-  | inr ended ↦ absurd (defined (sym is ∙ ap (λ x. (behaviour_of x).ending) ended.1))
+  | inr ended ↦ absurd (fine (subst (λ x. IsFailure x) (sym (ap (λ x. (behaviour_of x).ending) ended.is) ∙ is) ended.failure))
 ]
 
 -- ---- at one number of turns
@@ -66,40 +77,37 @@ puts_so p q words n s both out = subst (λ (b : Behaviour). PutsOut s b.output) 
 
 -- ---- at every number of turns
 
--- where two programs go the same way, but for what one does that is undefined, the machine that executes the other executes the one
+-- where two programs go the same way, but where the one becomes undefined or runs out of stack, the machine that executes the other executes the one
 pub executes_so : (p q : Program) (words : List (List ℕ)) (s : State) → s.output ≡ [] → ((n : ℕ) → SameOutcome (outcome p words n) (outcome q words n)) → Executes q words s → Executes p words s
 unfolding meaning
 executes_so p q words s silent same run =
     record {
       exits =
           λ n status is.
-          (let both = defined n (Exit status) is (λ h. cc) in
+          (let both = fine n (Exit status) is (λ h. h) in
           stops_so p q words n s (Exited status) both (run.exits n status (ends_so (outcome p words n) (outcome q words n) (Exit status) both is)));
       halts =
           λ n is.
-          (let both = defined n Halt is (λ h. cc) in
+          (let both = fine n Halt is (λ h. h) in
           stops_so p q words n s Broken both (run.halts n (ends_so (outcome p words n) (outcome q words n) Halt both is)));
       goes_on = goes;
-      undefined = fails;
-      stack =
-          λ n is.
-          (let both = defined n Stack is (λ h. cc) in
-          puts_so p q words n s both (run.stack n (ends_so (outcome p words n) (outcome q words n) Stack both is)));
+      undefined = λ n is. fails n Undefined (run.undefined n) is;
+      stack = λ n is. fails n Stack (run.stack n) is;
     }
   where
-    defined : (n : ℕ) (e : End) → (behaviour_of (outcome p words n)).ending ≡ e → (e ≡ Undefined → ⊥) → Alike (outcome p words n) (outcome q words n)
-    defined n e is h = alike_at (outcome p words n) (outcome q words n) e (same n) is h
+    fine : (n : ℕ) (e : End) → (behaviour_of (outcome p words n)).ending ≡ e → (IsFailure e → ⊥) → Alike (outcome p words n) (outcome q words n)
+    fine n e is h = alike_at (outcome p words n) (outcome q words n) e (same n) is h
 
     goes : (n : ℕ) → (behaviour_of (outcome p words n)).ending ≡ Turns → GoesOnSo p words n s
     goes n is =
-        let both = defined n Turns is (λ h. cc) in
+        let both = fine n Turns is (λ h. h) in
         goes_so p q words n s both (run.goes_on n (ends_so (outcome p words n) (outcome q words n) Turns both is))
 
-    -- what comes before is put out while the program goes on, which both do alike
-    fails : (n : ℕ) → (behaviour_of (outcome p words n)).ending ≡ Undefined → PutsOut s (behaviour_of (outcome p words n)).output
-    fails n is = elim (alike (outcome p words n) (outcome q words n) (same n)) [
-      | inl both ↦ puts_so p q words n s both (run.undefined n (ends_so (outcome p words n) (outcome q words n) Undefined both is))
+    -- what comes before a failure is put out while the program goes on, which both do alike
+    fails : (n : ℕ) (e : End) → ((behaviour_of (outcome q words n)).ending ≡ e → PutsOut s (behaviour_of (outcome q words n)).output) → (behaviour_of (outcome p words n)).ending ≡ e → PutsOut s (behaviour_of (outcome p words n)).output
+    fails n e out is = elim (alike (outcome p words n) (outcome q words n) (same n)) [
+      | inl both ↦ puts_so p q words n s both (out (ends_so (outcome p words n) (outcome q words n) e both is))
       | inr ended ↦
-          subst (λ o. PutsOut s (behaviour_of o).output) (sym ended.1)
-          (put_out_before p words n s silent goes ended.0.output (output_comes_first p words n ended.0 Undefined ended.1 tt))
+          subst (λ o. PutsOut s (behaviour_of o).output) (sym ended.is)
+          (put_out_before p words n s silent goes ended.spent.output (output_comes_first p words n ended.spent ended.ending ended.is ended.failure))
     ]
