@@ -30,8 +30,12 @@ use Rattle.vcode.specs.Becomes.{with_these}
 use Rattle.vcode.proofs.Results.{Serves, Owed, owed_each}
 use Rattle.propagation.specs.declared.fact.Fact.{Fact}
 use Rattle.propagation.specs.declared.fact.Fact.TheVariants.{Same, Sum, Test}
+use Rattle.propagation.specs.declared.claim.Claim.{Claim}
+use Rattle.propagation.specs.declared.claim.Entry.{Entry}
+use Rattle.propagation.specs.Claimed.{claims_at, making, claimed, known_at}
 use Rattle.propagation.specs.Facts.{Facts, operand_below, fact_below, kept_if, AreBelow}
-use Rattle.propagation.specs.Forwarded.{is_short, copied, propagate, regrouped, grouped, is_add, folded, operands_of, further, from_base, with_address, with_line, test_of, tested_by, with_test, with_branch, numbers_hold, decided, with_jump, writes_it, fact_of, leaves, after, AreForwarded, IsForwarded, AllForwarded}
+use Rattle.propagation.specs.Forwarded.{is_short, copied, propagate, regrouped, grouped, folded, operands_of, further, from_base, with_address, with_line, test_of, tested_by, with_test, with_branch, numbers_hold, decided, with_jump, AreForwarded, IsForwarded, AllForwarded}
+use Rattle.propagation.specs.After.{is_add, writes_it, fact_of, leaves, after}
 use Rattle.propagation.specs.Shortened.{shortened}
 use Rattle.propagation.proofs.Computing.{unchanged, any_cheaper}
 use Rattle.propagation.proofs.Running.{runs}
@@ -331,13 +335,13 @@ short_costs (Call to callee args) = omega arith
 put_costs : (fs : Facts) (l m : Line ℕ) → m ≡ shortened (with_line fs l) → line_cost m ≤ line_cost l
 put_costs fs l m is = let same = ap line_cost is in let short = short_costs (with_line fs l) in let put = line_costs fs l in omega (arith, same, short, put)
 
-lines_measured : (n : ℕ) (whole : List (Line ℕ)) (fs : Facts) (lines new : List (Line ℕ)) (j k : Jump ℕ) → AreForwarded n whole fs lines new j k → Measured false lines new
-lines_measured n whole fs [] [] j k f = Empty
-lines_measured n whole fs [] (m ∷ new) j k f = absurd f
-lines_measured n whole fs (l ∷ lines) [] j k f = absurd f
-lines_measured n whole fs (l ∷ lines) (m ∷ new) j k f =
+lines_measured : (n : ℕ) (es : List Entry) (whole : List (Line ℕ)) (fs : Facts) (lines new : List (Line ℕ)) (j k : Jump ℕ) → AreForwarded n es whole fs lines new j k → Measured false lines new
+lines_measured n es whole fs [] [] j k f = Empty
+lines_measured n es whole fs [] (m ∷ new) j k f = absurd f
+lines_measured n es whole fs (l ∷ lines) [] j k f = absurd f
+lines_measured n es whole fs (l ∷ lines) (m ∷ new) j k f =
     Put (ap measure f.0 ∙ unchanged measure (λ to op other a p q. refl, λ to op a b p. refl) (with_line fs l) ∙ measure_carried fs l) (λ e. put_costs fs l m f.0)
-    (lines_measured n whole (after n m fs) lines new j k f.1)
+    (lines_measured n es whole (after n m fs) lines new j k f.1)
 
 -- lines that pay for every jump that costs no more pay for the one that is made of it
 jump_paid : (lines : List (Line ℕ)) (fs : Facts) (j : Jump ℕ) → ((k : Jump ℕ) → jump_cost k ≤ jump_cost j → affords 0 k lines ≡ true) → affords 0 (with_jump lines fs j) lines ≡ true
@@ -356,11 +360,11 @@ jump_paid lines fs (Return (Some a)) h = h (Return (Some (with_returned (propaga
 jump_paid lines fs Halt h = h Halt (omega arith)
 
 -- what is known after all lines, and the jump that it makes
-jump_made : (n : ℕ) (whole : List (Line ℕ)) (fs : Facts) (lines new : List (Line ℕ)) (j k : Jump ℕ) → AreForwarded n whole fs lines new j k → (gs : Facts) × (k ≡ with_jump whole gs j)
-jump_made n whole fs [] [] j k f = (fs, f)
-jump_made n whole fs [] (m ∷ new) j k f = absurd f
-jump_made n whole fs (l ∷ lines) [] j k f = absurd f
-jump_made n whole fs (l ∷ lines) (m ∷ new) j k f = jump_made n whole (after n m fs) lines new j k f.1
+jump_made : (n : ℕ) (es : List Entry) (whole : List (Line ℕ)) (fs : Facts) (lines new : List (Line ℕ)) (j k : Jump ℕ) → AreForwarded n es whole fs lines new j k → (gs : Facts) × (k ≡ with_jump whole gs j)
+jump_made n es whole fs [] [] j k f = (fs, f.0)
+jump_made n es whole fs [] (m ∷ new) j k f = absurd f
+jump_made n es whole fs (l ∷ lines) [] j k f = absurd f
+jump_made n es whole fs (l ∷ lines) (m ∷ new) j k f = jump_made n es whole (after n m fs) lines new j k f.1
 
 kept_below : (n : ℕ) (b : Bool) (test : Fact → Bool) (o : Option Fact) (f : Fact) → kept_if (λ g. b && (fact_below n g && test g)) o ≡ Some f → fact_below n f ≡ true
 kept_below n b test None f h = absurd (let no : ⊥ = cc in no)
@@ -375,39 +379,44 @@ kept_below n b test (Some g) f h = by (b && (fact_below n g && test g)) refl h
 after_below : (n : ℕ) (l : Line ℕ) (fs : Facts) → AreBelow n (after n l fs)
 after_below n l fs r f h = kept_below n (nat_lt r n) (leaves l) (if writes_it l r then fact_of l else fs r) f h
 
-lines_low : (n : ℕ) (whole : List (Line ℕ)) (fs : Facts) (lines new : List (Line ℕ)) (j k : Jump ℕ) → AreForwarded n whole fs lines new j k → AreBelow n fs
+lines_low : (n : ℕ) (es : List Entry) (whole : List (Line ℕ)) (fs : Facts) (lines new : List (Line ℕ)) (j k : Jump ℕ) → AreForwarded n es whole fs lines new j k → AreBelow n fs
     → (list_all (line_keeps (is_below n)) lines && jump_keeps (is_below n) j) ≡ true
     → (list_all (line_keeps (is_below n)) new && jump_keeps (is_below n) k) ≡ true
-lines_low n whole fs [] [] j k f below h = ap (jump_keeps (is_below n)) f ∙ jump_low whole n fs below j h
-lines_low n whole fs [] (m ∷ new) j k f below h = absurd f
-lines_low n whole fs (l ∷ lines) [] j k f below h = absurd f
-lines_low n whole fs (l ∷ lines) (m ∷ new) j k f below h =
+lines_low n es whole fs [] [] j k f below h = ap (jump_keeps (is_below n)) f.0 ∙ jump_low whole n fs below j h
+lines_low n es whole fs [] (m ∷ new) j k f below h = absurd f
+lines_low n es whole fs (l ∷ lines) [] j k f below h = absurd f
+lines_low n es whole fs (l ∷ lines) (m ∷ new) j k f below h =
     let s = and_parts (line_keeps (is_below n) l && list_all (line_keeps (is_below n)) lines) (jump_keeps (is_below n) j) h in
     let t = and_parts (line_keeps (is_below n) l) (list_all (line_keeps (is_below n)) lines) s.0 in
-    let rest = lines_low n whole (after n m fs) lines new j k f.1 (after_below n m fs) (and_from (list_all (line_keeps (is_below n)) lines) (jump_keeps (is_below n) j) t.1 s.1) in
+    let rest = lines_low n es whole (after n m fs) lines new j k f.1 (after_below n m fs) (and_from (list_all (line_keeps (is_below n)) lines) (jump_keeps (is_below n) j) t.1 s.1) in
     let u = and_parts (list_all (line_keeps (is_below n)) new) (jump_keeps (is_below n) k) rest in
     and_from (line_keeps (is_below n) m && list_all (line_keeps (is_below n)) new) (jump_keeps (is_below n) k)
     (and_from (line_keeps (is_below n) m) (list_all (line_keeps (is_below n)) new) (ap (line_keeps (is_below n)) f.0 ∙ (unchanged (line_keeps (is_below n)) (λ to op new a p q. refl, λ to op a b p. refl) (with_line fs l) ∙ line_low n fs below l t.0)) u.0) u.1
 
+known_below : (n : ℕ) (claims : List Claim) (fs : Facts) → AreBelow n fs → AreBelow n (claimed n fs claims)
+known_below n [] fs below = below
+known_below n (c ∷ claims) fs below = known_below n claims (after n (making c) fs) (after_below n (making c) fs)
+
 -- ---- the whole
 
-block_serves : (n : ℕ) (b c : Block ℕ) → IsForwarded n b c → Serves n n b c
-block_serves n b c f =
-    let made = jump_made n c.lines (λ r. None) b.lines c.lines b.jump c.jump f in
-    let measured = lines_measured n c.lines (λ r. None) b.lines c.lines b.jump c.jump f in
+block_serves : (n : ℕ) (es : List Entry) (i : ℕ) (b c : Block ℕ) → IsForwarded n es i b c → Serves n n b c
+block_serves n es i b c f =
+    let made = jump_made n es c.lines (known_at n es i) b.lines c.lines b.jump c.jump f in
+    let measured = lines_measured n es c.lines (known_at n es i) b.lines c.lines b.jump c.jump f in
     record {
       within = within_tested b c measured
           (λ paid. ap (λ (k : Jump ℕ). affords 0 k c.lines) made.1
           ∙ jump_paid c.lines made.0 b.jump (λ k low. still_affords measured b.jump k low 0 0 (omega arith) paid));
       inside = λ m h. ap (leads_inside m) made.1 ∙ jump_inside c.lines n m made.0 b.jump h;
-      names = lines_low n c.lines (λ r. None) b.lines c.lines b.jump c.jump f (λ r g h. absurd (let no : ⊥ = cc in no));
+      names = lines_low n es c.lines (known_at n es i) b.lines c.lines b.jump c.jump f (known_below n (claims_at es i) (λ r. None) (λ r g h. absurd (let no : ⊥ = cc in no)));
     }
 
-blocks_serve : (n : ℕ) (blocks new : List (Block ℕ)) → AllForwarded n blocks new → Each (Serves n n) blocks new
-blocks_serve n [] [] h = NoBlocks
-blocks_serve n [] (c ∷ new) h = absurd h
-blocks_serve n (b ∷ blocks) [] h = absurd h
-blocks_serve n (b ∷ blocks) (c ∷ new) h = OneMore (block_serves n b c h.0) (blocks_serve n blocks new h.1)
+blocks_serve : (n : ℕ) (es : List Entry) (i : ℕ) (blocks new : List (Block ℕ)) → AllForwarded n es i blocks new → Each (Serves n n) blocks new
+blocks_serve n es i [] [] h = NoBlocks
+blocks_serve n es i [] (c ∷ new) h = absurd h
+blocks_serve n es i (b ∷ blocks) [] h = absurd h
+blocks_serve n es i (b ∷ blocks) (c ∷ new) h = OneMore (block_serves n es i b c h.0) (blocks_serve n es (i + 1) blocks new h.1)
 
-pub owed : (v : VFunc) (new : List (Block ℕ)) → AllForwarded v.registers v.code.blocks new → Owed v v.registers new
-owed v new all = owed_each v v.registers new (omega arith) (blocks_serve v.registers v.code.blocks new all) (runs v.registers v.code (with_these v.code new) all refl refl)
+pub owed : (v : VFunc) (es : List Entry) (new : List (Block ℕ)) → claims_at es 0 ≡ [] → AllForwarded v.registers es 0 v.code.blocks new → Owed v v.registers new
+owed v es new none all =
+    owed_each v v.registers new (omega arith) (blocks_serve v.registers es 0 v.code.blocks new all) (runs v.registers es v.code (with_these v.code new) none all refl refl)

@@ -11,10 +11,12 @@ use Rattle.vcode.proofs.Lists.{item_next}
 use Rattle.cfg_live.specs.Registers.{line_writes}
 use Rattle.propagation.specs.declared.fact.Fact.{Fact}
 use Rattle.propagation.specs.declared.table.FactTable.{FactTable}
+use Rattle.propagation.specs.declared.claim.Entry.{Entry}
 use Rattle.propagation.specs.Facts.{Facts, fact_names, asks_memory, fact_below, kept_if}
 use Rattle.propagation.specs.FactTable.{facts_of, changed, over}
 use Rattle.propagation.specs.Shortened.{shortened}
-use Rattle.propagation.specs.Forwarded.{with_line, changes_memory, fact_of, after, AreForwarded, IsForwarded, AllForwarded}
+use Rattle.propagation.specs.Forwarded.{with_line, AreForwarded, IsForwarded, AllForwarded}
+use Rattle.propagation.specs.After.{changes_memory, fact_of, after}
 
 -- ---- what is known after a line
 
@@ -115,16 +117,16 @@ pub append_one : {X : Type 0} (xs : List X) (x : X) (ys : List X) → (xs ++ x �
 append_one [] x ys = refl
 append_one (z ∷ xs) x ys = ap (λ zs. z ∷ zs) (append_one xs x ys)
 
-pub lines_on : (n : ℕ) (whole : List (Line ℕ)) (t u : FactTable) (lines : List (Line ℕ)) (i : ℕ) (l m : Line ℕ) (rest : List (Line ℕ)) (j k : Jump ℕ) → i < length lines → l ≡ get_or lines i l
-    → m ≡ shortened (with_line (facts_of t) l) → ((q : ℕ) → facts_of u q ≡ after n m (facts_of t) q) → AreForwarded n whole (facts_of u) (drop (i + 1) lines) rest j k
-    → AreForwarded n whole (facts_of t) (drop i lines) (m ∷ rest) j k
-lines_on n whole t u lines i l m rest j k low at is known h =
-    subst (λ (xs : List (Line ℕ)). AreForwarded n whole (facts_of t) xs (m ∷ rest) j k) (sym (item_next lines i l low at))
-    (is, subst (λ (fs : Facts). AreForwarded n whole fs (drop (i + 1) lines) rest j k) (fun_ext known) h)
+pub lines_on : (n : ℕ) (es : List Entry) (whole : List (Line ℕ)) (t u : FactTable) (lines : List (Line ℕ)) (i : ℕ) (l m : Line ℕ) (rest : List (Line ℕ)) (j k : Jump ℕ) → i < length lines → l ≡ get_or lines i l
+    → m ≡ shortened (with_line (facts_of t) l) → ((q : ℕ) → facts_of u q ≡ after n m (facts_of t) q) → AreForwarded n es whole (facts_of u) (drop (i + 1) lines) rest j k
+    → AreForwarded n es whole (facts_of t) (drop i lines) (m ∷ rest) j k
+lines_on n es whole t u lines i l m rest j k low at is known h =
+    subst (λ (xs : List (Line ℕ)). AreForwarded n es whole (facts_of t) xs (m ∷ rest) j k) (sym (item_next lines i l low at))
+    (is, subst (λ (fs : Facts). AreForwarded n es whole fs (drop (i + 1) lines) rest j k) (fun_ext known) h)
 
 -- ---- blocks
 
-pub blocks_on : (n : ℕ) (blocks : List (Block ℕ)) (i : ℕ) (b c : Block ℕ) (rest : List (Block ℕ)) → i < length blocks → b ≡ get_or blocks i b → IsForwarded n b c
-    → AllForwarded n (drop (i + 1) blocks) rest → AllForwarded n (drop i blocks) (c ∷ rest)
-blocks_on n blocks i b c rest low at is h =
-    subst (λ (xs : List (Block ℕ)). AllForwarded n xs (c ∷ rest)) (sym (item_next blocks i b low at)) (is, h)
+pub blocks_on : (n : ℕ) (es : List Entry) (blocks : List (Block ℕ)) (i : ℕ) (b c : Block ℕ) (rest : List (Block ℕ)) → i < length blocks → b ≡ get_or blocks i b → IsForwarded n es i b c
+    → AllForwarded n es (i + 1) (drop (i + 1) blocks) rest → AllForwarded n es i (drop i blocks) (c ∷ rest)
+blocks_on n es blocks i b c rest low at is h =
+    subst (λ (xs : List (Block ℕ)). AllForwarded n es i xs (c ∷ rest)) (sym (item_next blocks i b low at)) (is, h)

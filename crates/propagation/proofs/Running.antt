@@ -1,5 +1,5 @@
 -- Code that is put by what is known follows the code, in the same states, in which all that is known is true.
-use Rattle.std.proofs.Common.{◌≡◌, ℕ, zero, suc, ◌+◌, ◌%◌, ◌^◌, ◌<◌, Bool, true, false, not, ◌&&◌, ◌||◌, nat_eq, nat_lt, if◌then◌else◌, List, [], ◌∷◌, Option, Some, None, slice_get, refl, sym, ◌∙◌, ap, subst, arith}
+use Rattle.std.proofs.Common.{◌≡◌, ℕ, zero, suc, ◌+◌, ◌%◌, ◌^◌, ◌<◌, Bool, true, false, not, ◌&&◌, nat_eq, nat_lt, if◌then◌else◌, List, [], ◌∷◌, Option, Some, None, slice_get, refl, sym, ◌∙◌, ap, subst, arith}
 use Rattle.std.specs.Option.{option_map, option_and_then, option_map_or}
 use Rattle.std.proofs.lemmas.Bool.{and_parts, not-true, or_parts}
 use Rattle.std.proofs.lemmas.Bool.Decides.{nat_tests}
@@ -34,13 +34,13 @@ use Rattle.vcode.specs.declared.code.Code.{Code}
 use Rattle.vcode.specs.Cost.{is_immediate, affords}
 use Rattle.vcode.specs.Addresses.{low, distance, beyond}
 use Rattle.vcode.specs.Operations.{operate, loaded, passed as passed_value}
-use Rattle.vcode.specs.Places.{Values, assign, virtual}
+use Rattle.vcode.specs.Places.{Values, assign, virtual, unknown}
 use Rattle.vcode.specs.Coded.{classes_in}
-use Rattle.vcode.specs.Step.{State, begin, value_of, read, operated, address_of, compared, step}
+use Rattle.vcode.specs.Step.{State, begin, bound, value_of, read, read_result, operated, address_of, compared, step}
 use Rattle.vcode.specs.Replaced.{Replacing, with_base, with_comparison}
 use Rattle.vcode.specs.Writes.{line_writes}
-use Rattle.vcode.specs.Acts.{Act, Gives, given, left, act, written, Way, Lost, Enters, Answers, Halts, entering, answering, way}
-use Rattle.vcode.specs.Follows.{Alike, Follows, Jumps, Both}
+use Rattle.vcode.specs.Acts.{Act, Gives, given, left, act, written, Way, Enters, entering, answering, way}
+use Rattle.vcode.specs.Follows.{Alike, LeadAlike, Follows, Jumps, Both}
 use Rattle.vcode.specs.Facts.{Facts as About, claimed}
 use Rattle.vcode.proofs.SameReads.{SameValue, two_same}
 use Rattle.vcode.proofs.SameActs.{reads_every, act_same}
@@ -50,10 +50,14 @@ use Rattle.vcode.proofs.Factual.{fact_line, Claimed, fact_jump, facts_rewrite}
 use Rattle.vcode.proofs.Rewriting.{rewrites_keep}
 use Rattle.propagation.specs.declared.fact.Fact.{Fact}
 use Rattle.propagation.specs.declared.fact.Fact.TheVariants.{Same, Sum, Test}
+use Rattle.propagation.specs.declared.claim.Claim.{Claim}
+use Rattle.propagation.specs.declared.claim.Entry.{Entry}
+use Rattle.propagation.specs.Claimed.{claims_at, making, claimed as claimed_in, known_at, AreKnown, LeadsWell}
 use Rattle.propagation.specs.Facts.{Facts, names_it, fact_names, asks_memory, kept_if, fact_below, summed, Truth, AreTrue}
 use Rattle.propagation.specs.Shortened.{shortened}
 use Rattle.propagation.proofs.Computing.{numbers_compared, unchanged, shortened_act}
-use Rattle.propagation.specs.Forwarded.{is_short, copied, propagate, regrouped, grouped, is_add, folded, further, from_base, with_address, sum_of, with_line, test_of, tested_by, with_test, with_branch, numbers_hold, decided, with_jump, changes_memory, writes_it, fact_of, leaves, after, AreForwarded, AllForwarded}
+use Rattle.propagation.specs.Forwarded.{is_short, copied, propagate, regrouped, grouped, folded, further, from_base, with_address, with_line, test_of, tested_by, with_test, with_branch, numbers_hold, decided, with_jump, AreForwarded, AllForwarded}
+use Rattle.propagation.specs.After.{is_add, sum_of, changes_memory, writes_it, fact_of, leaves, after}
 
 -- a state with these registers and this memory
 abbrev in_state : Memory → Values ℕ → State ℕ
@@ -623,51 +627,117 @@ true_after globals n m s u old moved all r f h = by (writes_it m r) refl p.from
 
 -- ---- the code follows
 
--- what is known, where nothing is claimed at the start of a block
-abbrev known : About
-known = record { Known = Facts; hold = λ fs globals memory values. AreTrue globals (in_state memory values) fs; at_start = λ k r. None }
+-- ---- what is claimed is true
 
-nothing_claimed : (globals : List Value) (memory : Memory) (values : Values ℕ) (x : Way) → Claimed known globals memory values x
-nothing_claimed globals memory values Lost = tt
-nothing_claimed globals memory values (Enters k) = λ r f h. absurd (let no : ⊥ = cc in no)
-nothing_claimed globals memory values (Answers o) = tt
-nothing_claimed globals memory values Halts = tt
-
-line_follows : (n : ℕ) (fs : Facts) (l m : Line ℕ) → m ≡ shortened (with_line fs l) → Alike (claimed known) fs (after n m fs) l m
-line_follows n fs l m is =
-    fact_line known fs (after n m fs) l m writes (λ globals memory ev all works. same globals memory ev all)
-    (λ globals memory ev all o next may.
-    subst (λ (x : Option ℕ). AreTrue globals (in_state next (written x o ev)) (after n m fs)) writes
-    (true_after globals n m (in_state memory ev) (in_state next (written (line_writes m) o ev)) fs
-    (line_moves globals (in_state memory ev) m o next (subst (λ (a : Act). MayLeave memory a o next) (sym (same globals memory ev all)) may)) all))
+-- what is known by claims that are known is known, or was before
+claims_true : (globals : List Value) (n : ℕ) (s : State ℕ) (gs : Facts) → AreTrue globals s gs → (claims : List Claim) (fs : Facts) → AreTrue globals s fs → AreKnown gs claims → AreTrue globals s (claimed_in n fs claims)
+claims_true globals n s gs all [] fs old known = old
+claims_true globals n s gs all (c ∷ claims) fs old known = claims_true globals n s gs all claims (after n (making c) fs) here known.1
   where
-    writes : line_writes m ≡ line_writes l
-    writes = ap line_writes is ∙ unchanged line_writes (λ to op other a p q. refl, λ to op a b p. refl) (with_line fs l) ∙ put_writes fs l
+    by : (r : ℕ) (f : Fact) (b : Bool) → writes_it (making c) r ≡ b → (if b then fact_of (making c) else fs r) ≡ Some f → Truth globals s r f
+    by r f true e h =
+        let same : c.register ≡ r = grind (arith, nat_tests) in
+        let is : Same c.value ≡ f = some_fact (Same c.value) f h in
+        subst (λ (x : Fact). Truth globals s r x) is (subst (λ (q : ℕ). Truth globals s q (Same c.value)) same (all c.register (Same c.value) known.0))
+      where
+        some_fact : (x y : Fact) → Some x ≡ Some y → x ≡ y
+        some_fact x y p = cc
+    by r f false e h = old r f h
 
-    same : (globals : List Value) (memory : Memory) (ev : Values ℕ) → AreTrue globals (in_state memory ev) fs → act globals memory ev m ≡ act globals memory ev l
-    same globals memory ev all = ap (act globals memory ev) is ∙ shortened_act globals memory ev (with_line fs l) ∙ line_same globals (in_state memory ev) fs all l
+    here : AreTrue globals s (after n (making c) fs)
+    here r f h = by r f (writes_it (making c) r) refl (passed n (making c) fs r f h).from
 
-module _ (n : ℕ) (v w : Code ℕ) where
-  lines_follow : (whole : List (Line ℕ)) (fs : Facts) (lines new : List (Line ℕ)) (j k : Jump ℕ) → AreForwarded n whole fs lines new j k → Follows (claimed known) v w fs lines j new k
-  lines_follow whole fs [] [] j k h =
-      Jumps
-      (fact_jump known v.result fs j k (λ globals memory ev all. ap (way globals v.result memory ev) h ∙ jump_same whole globals v.result (in_state memory ev) fs all j)
-      (λ globals memory ev all. nothing_claimed globals memory ev (way globals v.result memory ev j)))
+nothing_true : (globals : List Value) (s : State ℕ) → AreTrue globals s (λ r. None)
+nothing_true globals s r f h = absurd (let no : ⊥ = cc in no)
+
+-- ---- the code follows
+
+module _ (n : ℕ) (es : List Entry) where
+  -- what is known, and what of it is claimed at the start of a block
+  abbrev known : About
+  known = record { Known = Facts; hold = λ fs globals memory values. AreTrue globals (in_state memory values) fs; at_start = known_at n es }
+
+  at_target : (globals : List Value) (memory : Memory) (values : Values ℕ) (fs : Facts) (k : ℕ) → AreTrue globals (in_state memory values) fs → AreKnown fs (claims_at es k)
+      → AreTrue globals (in_state memory values) (known_at n es k)
+  at_target globals memory values fs k all claims =
+      claims_true globals n (in_state memory values) fs all (claims_at es k) (λ r. None) (nothing_true globals (in_state memory values)) claims
+
+  either_target : (globals : List Value) (memory : Memory) (values : Values ℕ) (fs : Facts) (met otherwise : ℕ) (o : Option Value) → AreTrue globals (in_state memory values) fs
+      → AreKnown fs (claims_at es met) → AreKnown fs (claims_at es otherwise) → Claimed known globals memory values (entering met otherwise o)
+  either_target globals memory values fs met otherwise None all one other = tt
+  either_target globals memory values fs met otherwise (Some (Integer m)) all one other = by (nat_eq m 0)
+    where
+      by : (b : Bool) → Claimed known globals memory values (Enters (if b then otherwise else met))
+      by true = at_target globals memory values fs otherwise all other
+      by false = at_target globals memory values fs met all one
+  either_target globals memory values fs met otherwise (Some (Pointer b o)) all one other = tt
+  either_target globals memory values fs met otherwise (Some (Function f)) all one other = tt
+
+  answering_claims : (globals : List Value) (memory : Memory) (values : Values ℕ) (o : Option Value) → Claimed known globals memory values (answering o)
+  answering_claims globals memory values None = tt
+  answering_claims globals memory values (Some v) = tt
+
+  leads_true : (globals : List Value) (result : Option Class) (memory : Memory) (values : Values ℕ) (fs : Facts) → AreTrue globals (in_state memory values) fs → (k : Jump ℕ) → LeadsWell es fs k
+      → Claimed known globals memory values (way globals result memory values k)
+  leads_true globals result memory values fs all (Goto k) well = at_target globals memory values fs k all well
+  leads_true globals result memory values fs all (Branch on met otherwise) well =
+      either_target globals memory values fs met otherwise (operated memory (Compare on.condition on.class) (value_of globals values on.left) (value_of globals values on.right)) all well.0 well.1
+  leads_true globals result memory values fs all (Return None) well = tt
+  leads_true globals None memory values fs all (Return (Some a)) well = tt
+  leads_true globals (Some c) memory values fs all (Return (Some a)) well = answering_claims globals memory values (read_result globals values c a)
+  leads_true globals result memory values fs all Halt well = tt
+
+  line_follows : (fs : Facts) (l m : Line ℕ) → m ≡ shortened (with_line fs l) → Alike (claimed known) fs (after n m fs) l m
+  line_follows fs l m is =
+      fact_line known fs (after n m fs) l m writes (λ globals memory ev all works. same globals memory ev all)
+      (λ globals memory ev all o next may.
+      subst (λ (x : Option ℕ). AreTrue globals (in_state next (written x o ev)) (after n m fs)) writes
+      (true_after globals n m (in_state memory ev) (in_state next (written (line_writes m) o ev)) fs
+      (line_moves globals (in_state memory ev) m o next (subst (λ (a : Act). MayLeave memory a o next) (sym (same globals memory ev all)) may)) all))
+    where
+      writes : line_writes m ≡ line_writes l
+      writes = ap line_writes is ∙ unchanged line_writes (λ to op other a p q. refl, λ to op a b p. refl) (with_line fs l) ∙ put_writes fs l
+
+      same : (globals : List Value) (memory : Memory) (ev : Values ℕ) → AreTrue globals (in_state memory ev) fs → act globals memory ev m ≡ act globals memory ev l
+      same globals memory ev all = ap (act globals memory ev) is ∙ shortened_act globals memory ev (with_line fs l) ∙ line_same globals (in_state memory ev) fs all l
+
+  jump_follows : (result : Option Class) (whole : List (Line ℕ)) (fs : Facts) (j k : Jump ℕ) → k ≡ with_jump whole fs j → LeadsWell es fs k → LeadAlike (claimed known) result fs j k
+  jump_follows result whole fs j k is well =
+      fact_jump known result fs j k same
+      (λ globals memory ev all. subst (λ (x : Way). Claimed known globals memory ev x) (same globals memory ev all) (leads_true globals result memory ev fs all k well))
+    where
+      same : (globals : List Value) (memory : Memory) (ev : Values ℕ) → AreTrue globals (in_state memory ev) fs → way globals result memory ev k ≡ way globals result memory ev j
+      same globals memory ev all = ap (way globals result memory ev) is ∙ jump_same whole globals result (in_state memory ev) fs all j
+
+module _ (n : ℕ) (es : List Entry) (v w : Code ℕ) where
+  lines_follow : (whole : List (Line ℕ)) (fs : Facts) (lines new : List (Line ℕ)) (j k : Jump ℕ) → AreForwarded n es whole fs lines new j k → Follows (claimed (known n es)) v w fs lines j new k
+  lines_follow whole fs [] [] j k h = Jumps (jump_follows n es v.result whole fs j k h.0 h.1)
   lines_follow whole fs [] (m ∷ new) j k h = absurd h
   lines_follow whole fs (l ∷ lines) [] j k h = absurd h
-  lines_follow whole fs (l ∷ lines) (m ∷ new) j k h = Both (line_follows n fs l m h.0) (lines_follow whole (after n m fs) lines new j k h.1)
+  lines_follow whole fs (l ∷ lines) (m ∷ new) j k h = Both (line_follows n es fs l m h.0) (lines_follow whole (after n m fs) lines new j k h.1)
 
-  block_follows : (blocks new : List (Block ℕ)) → AllForwarded n blocks new → (k : ℕ) (b : Block ℕ) → slice_get blocks k ≡ Some b
-      → (d : Block ℕ) × ((slice_get new k ≡ Some d) × Follows (claimed known) v w (λ r. None) b.lines b.jump d.lines d.jump)
-  block_follows [] new all k b e = absurd (let no : ⊥ = cc in no)
-  block_follows (d ∷ blocks) [] all k b e = absurd all
-  block_follows (d ∷ blocks) (c ∷ new) all zero b e =
+  block_follows : (blocks new : List (Block ℕ)) (i : ℕ) → AllForwarded n es i blocks new → (k at : ℕ) (b : Block ℕ) → at ≡ i + k → slice_get blocks k ≡ Some b
+      → (d : Block ℕ) × ((slice_get new k ≡ Some d) × Follows (claimed (known n es)) v w (known_at n es at) b.lines b.jump d.lines d.jump)
+  block_follows [] new i all k at b p e = absurd (let no : ⊥ = cc in no)
+  block_follows (d ∷ blocks) [] i all k at b p e = absurd all
+  block_follows (d ∷ blocks) (c ∷ new) i all zero at b p e =
       let same : d ≡ b = cc in
-      (c, (refl, subst (λ (x : Block ℕ). Follows (claimed known) v w (λ r. None) x.lines x.jump c.lines c.jump) same (lines_follow c.lines (λ r. None) d.lines c.lines d.jump c.jump all.0)))
-  block_follows (d ∷ blocks) (c ∷ new) all (suc k) b e = block_follows blocks new all.1 k b e
+      let here : i ≡ at = omega (arith, p) in (
+        c,
+        (
+          refl,
+          subst (λ (q : ℕ). Follows (claimed (known n es)) v w (known_at n es q) b.lines b.jump c.lines c.jump) here
+              (subst (λ (x : Block ℕ). Follows (claimed (known n es)) v w (known_at n es i) x.lines x.jump c.lines c.jump) same (lines_follow c.lines (known_at n es i) d.lines c.lines d.jump c.jump all.0)),
+        ),
+      )
+  block_follows (d ∷ blocks) (c ∷ new) i all (suc k) at b p e = block_follows blocks new (i + 1) all.1 k at b (omega (arith, p)) e
 
-pub runs : (n : ℕ) (v w : Code ℕ) → AllForwarded n v.blocks w.blocks → w.result ≡ v.result → w.params ≡ v.params → (globals : List Value)
+pub runs : (n : ℕ) (es : List Entry) (v w : Code ℕ) → claims_at es 0 ≡ [] → AllForwarded n es 0 v.blocks w.blocks → w.result ≡ v.result → w.params ≡ v.params → (globals : List Value)
     → KeepsCode (classes_in v.params) (begin virtual v) (step virtual globals v) (begin virtual w) (step virtual globals w)
-runs n v w all result params globals =
-    rewrites_keep (claimed known) v w
-    (facts_rewrite known v w result params (λ globals i. λ r f h. absurd (let no : ⊥ = cc in no)) (block_follows n v w v.blocks w.blocks all)) globals
+runs n es v w none all result params globals =
+    rewrites_keep (claimed (known n es)) v w
+    (facts_rewrite (known n es) v w result params
+    (λ globals i.
+    subst (λ (cs : List Claim). AreTrue globals (in_state i.memory (bound virtual unknown v.params i.args)) (claimed_in n (λ r. None) cs)) (sym none)
+    (nothing_true globals (in_state i.memory (bound virtual unknown v.params i.args))))
+    (λ k b e. block_follows n es v w v.blocks w.blocks 0 all k k b (omega arith) e)) globals

@@ -1,5 +1,5 @@
 -- Code in which operands and branches are put by what is known of registers.
-use Rattle.std.specs.Prelude.{◌≡◌, ℕ, ◌+◌, ◌%◌, ◌^◌, Bool, true, false, not, ◌&&◌, nat_eq, nat_lt, if◌then◌else◌, List, [], ◌∷◌, map, Option, Some, None}
+use Rattle.std.specs.Prelude.{◌≡◌, ℕ, ◌+◌, ◌%◌, ◌^◌, Bool, true, false, not, ◌&&◌, nat_eq, if◌then◌else◌, List, [], ◌∷◌, map, Option, Some, None}
 use Rattle.std.specs.Option.{option_map, option_map_or}
 use Rattle.il_ast.specs.declared.operation.Class.{Class}
 use Rattle.il_ast.specs.declared.operation.Condition.{Condition}
@@ -11,21 +11,20 @@ use Rattle.vcode.specs.declared.place.Address.{Address}
 use Rattle.vcode.specs.declared.place.Operand.TheVariants.{At, Number, Name}
 use Rattle.vcode.specs.declared.line.Line.{Line}
 use Rattle.vcode.specs.declared.line.Line.TheVariants.{Tick, Set, Operate, Load, Store, Alloc, Blit, Call}
-use Rattle.rv_isa.specs.declared.instruction.RegOp.TheVariants.{Add}
 use Rattle.vcode.specs.Addresses.{distance, beyond}
 use Rattle.vcode.specs.declared.line.Operation.{Operation}
-use Rattle.vcode.specs.declared.line.Operation.TheVariants.{Reg, Compare}
 use Rattle.vcode.specs.declared.line.Comparison.{Comparison}
 use Rattle.vcode.specs.declared.line.Jump.{Jump}
 use Rattle.vcode.specs.declared.line.Jump.TheVariants.{Goto, Branch, Return, Halt}
 use Rattle.vcode.specs.declared.code.Block.{Block}
-use Rattle.vcode.specs.declared.function.VFunc.{VFunc}
 use Rattle.vcode.specs.Cost.{is_immediate, affords}
 use Rattle.vcode.specs.Replaced.{with_base, with_argument, with_returned, with_comparison}
-use Rattle.cfg_live.specs.Registers.{line_writes}
 use Rattle.propagation.specs.declared.fact.Fact.{Fact}
 use Rattle.propagation.specs.declared.fact.Fact.TheVariants.{Same, Sum, Test}
-use Rattle.propagation.specs.Facts.{Facts, fact_names, asks_memory, fact_below, kept_if}
+use Rattle.propagation.specs.declared.claim.Entry.{Entry}
+use Rattle.propagation.specs.Facts.{Facts}
+use Rattle.propagation.specs.After.{is_add, after}
+use Rattle.propagation.specs.Claimed.{known_at, LeadsWell}
 use Rattle.propagation.specs.Shortened.{shortened}
 
 -- ---- operands
@@ -57,10 +56,6 @@ regrouped o r m = (At r, Number m)
 abbrev pub grouped : Facts → (a b : Operand ℕ) → Operand ℕ × Operand ℕ
 grouped fs (At r) (Number m) = regrouped (fs r) r m
 grouped fs a b = (a, b)
-
-abbrev pub is_add : Operation → Bool
-is_add (Reg Add) = true
-is_add op = false
 
 abbrev pub folded : Facts → Operation → (a b : Operand ℕ) → Operand ℕ × Operand ℕ
 folded fs op a b = if is_add op then grouped fs a b else (a, b)
@@ -145,69 +140,29 @@ with_jump lines fs (Branch on met otherwise) =
 with_jump lines fs (Return a) = Return (option_map (with_returned (propagate fs)) a)
 with_jump lines fs Halt = Halt
 
--- ---- what is known after a line
-
-abbrev pub changes_memory : Line ℕ → Bool
-changes_memory (Store size a at) = true
-changes_memory (Alloc to size) = true
-changes_memory (Blit from to count) = true
-changes_memory (Call to callee args) = true
-changes_memory l = false
-
-abbrev pub writes_it : Line ℕ → ℕ → Bool
-writes_it l r = option_map_or (λ k. nat_eq k r) (line_writes l) false
-
--- a sum of a register and a number
-abbrev pub sum_of : (a b : Operand ℕ) → Option Fact
-sum_of (At r) (Number n) = Some (Sum (At r) n)
-sum_of a b = None
-
--- what a line makes known of the register that it writes
-abbrev pub fact_of : Line ℕ → Option Fact
-fact_of (Set to a) = Some (Same a)
-fact_of (Operate to (Reg op) a b) = if is_add (Reg op) then sum_of a b else None
-fact_of (Operate to (Compare on k) a b) =
-    Some (Test (record { condition = on; class = k; left = a; right = b }))
-fact_of l = None
-
--- a line leaves a fact true that names no register that it writes, and asks no memory that it
--- changes
-abbrev pub leaves : Line ℕ → Fact → Bool
-leaves l f =
-    not (option_map_or (fact_names f) (line_writes l) false)
-    && not (changes_memory l && asks_memory f)
-
--- what is known after a line, of n registers: what it makes known, and what was known, each if the
--- line leaves it true
-abbrev pub after : (n : ℕ) → Line ℕ → Facts → Facts
-after n l fs r =
-    kept_if (λ f. nat_lt r n && (fact_below n f && leaves l f))
-    (if writes_it l r then fact_of l else fs r)
-
 -- ---- blocks
 
 -- the lines and the jump, put by what is known, which is `fs` before them, and the lines then in
--- their short form; `whole` is all lines of the new block
-abbrev pub AreForwarded : (n : ℕ) → (whole : List (Line ℕ)) → Facts → (lines new : List (Line ℕ)) →
-    (jump next : Jump ℕ) → Type 0
-AreForwarded n whole fs [] [] j k = k ≡ with_jump whole fs j
-AreForwarded n whole fs [] (m ∷ new) j k = ⊥
-AreForwarded n whole fs (l ∷ lines) [] j k = ⊥
-AreForwarded n whole fs (l ∷ lines) (m ∷ new) j k =
-    (m ≡ shortened (with_line fs l)) × AreForwarded n whole (after n m fs) lines new j k
+-- their short form; `whole` is all lines of the new block; what is claimed where it leads is known
+abbrev pub AreForwarded : (n : ℕ) → List Entry → (whole : List (Line ℕ)) → Facts →
+    (lines new : List (Line ℕ)) → (jump next : Jump ℕ) → Type 0
+AreForwarded n entries whole fs [] [] j k =
+    (k ≡ with_jump whole fs j) × LeadsWell entries fs k
+AreForwarded n entries whole fs [] (m ∷ new) j k = ⊥
+AreForwarded n entries whole fs (l ∷ lines) [] j k = ⊥
+AreForwarded n entries whole fs (l ∷ lines) (m ∷ new) j k =
+    (m ≡ shortened (with_line fs l)) × AreForwarded n entries whole (after n m fs) lines new j k
 
--- nothing is known where a block begins
-abbrev pub IsForwarded : (n : ℕ) → (b c : Block ℕ) → Type 0
-IsForwarded n b c = AreForwarded n c.lines (λ r. None) b.lines c.lines b.jump c.jump
+-- a block, from what is claimed where it begins
+abbrev pub IsForwarded : (n : ℕ) → List Entry → (block : ℕ) → (b c : Block ℕ) → Type 0
+IsForwarded n entries k b c =
+    AreForwarded n entries c.lines (known_at n entries k) b.lines c.lines b.jump c.jump
 
-abbrev pub AllForwarded : (n : ℕ) → (blocks new : List (Block ℕ)) → Type 0
-AllForwarded n [] [] = Unit {0}
-AllForwarded n [] (c ∷ new) = ⊥
-AllForwarded n (b ∷ blocks) [] = ⊥
-AllForwarded n (b ∷ blocks) (c ∷ new) = IsForwarded n b c × AllForwarded n blocks new
-
-pub record IsForwardedFrom (v w : VFunc) : Type 0 where
-  pub result : w.code.result ≡ v.code.result
-  pub params : w.code.params ≡ v.code.params
-  pub registers : w.registers ≡ v.registers
-  pub blocks : AllForwarded v.registers v.code.blocks w.code.blocks
+-- blocks from this one on
+abbrev pub AllForwarded : (n : ℕ) → List Entry → (block : ℕ) → (blocks new : List (Block ℕ)) →
+    Type 0
+AllForwarded n entries k [] [] = Unit {0}
+AllForwarded n entries k [] (c ∷ new) = ⊥
+AllForwarded n entries k (b ∷ blocks) [] = ⊥
+AllForwarded n entries k (b ∷ blocks) (c ∷ new) =
+    IsForwarded n entries k b c × AllForwarded n entries (k + 1) blocks new

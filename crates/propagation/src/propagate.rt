@@ -1,12 +1,17 @@
 //! Blocks and functions, put by what is known.
-ghost use Rattle.std.specs.Prelude.{◌≡◌, ◌+◌, ◌*◌, ◌^◌, ◌<◌, ◌≤◌, [], ℕ, List, length, IfOk, None};
+ghost use Rattle.std.specs.Prelude.{◌≡◌, ◌+◌, ◌*◌, ◌^◌, ◌<◌, ◌≤◌, [], ℕ, List, length, IfOk, IfSome, None};
 ghost use Rattle.il_ast.specs.Passes.{Keeps};
 ghost use Rattle.vcode.specs.declared.line.Line.{Line as ALine};
 ghost use Rattle.vcode.specs.declared.line.Jump.{Jump as AJump};
 ghost use Rattle.vcode.specs.Coded.{virtual_code};
+ghost use Rattle.propagation.specs.declared.claim.Entry.{Entry};
 ghost use Rattle.propagation.specs.FactTable.{facts_of, IsTable};
-ghost use Rattle.propagation.specs.Forwarded.{changes_memory, sum_of, fact_of, after, AreForwarded, IsForwarded, AllForwarded, IsForwardedFrom};
+ghost use Rattle.propagation.specs.Claimed.{claimed};
+ghost use Rattle.propagation.specs.Forwarded.{AreForwarded, IsForwarded, AllForwarded};
+ghost use Rattle.propagation.specs.After.{changes_memory, sum_of, fact_of, after};
 
+use crate::claim::{Claim, Entry, claims_at, leads_well};
+use crate::entries::entries;
 use crate::fact::Fact;
 use crate::replace::{is_add, jump, line as forwarded};
 use crate::strength_reduction::shortened;
@@ -86,6 +91,26 @@ fn pass(table: &mut FactTable, line: &Line<u32>)
     }
 }
 
+/// These claims are made where a block begins.
+fn claim_all(table: &mut FactTable, claims: &[Claim])
+    requires table { IsTable table.old }
+    requires runs { table.old.clock + length claims.now < 2 ^ 128 }
+    ensures table { IsTable table.new }
+    ensures facts { facts_of table.new ≡ claimed (length table.old.written.items) (facts_of table.old) claims.now }
+    ensures clock { table.new.clock ≡ table.old.clock + length claims.now }
+    ensures count { length table.new.written.items ≡ length table.old.written.items }
+{
+    for claim in claims {
+        pass(
+            table,
+            &Line::Set {
+                to: claim.register,
+                value: claim.value,
+            },
+        );
+    }
+}
+
 /// The lines, put by what is known before each of them.
 fn forwarded_lines(
     alloc: Global,
@@ -97,7 +122,7 @@ fn forwarded_lines(
     ensures table { IsTable table.new }
     ensures clock { IfOk result (λ v. table.new.clock ≡ table.old.clock + length lines.now) }
     ensures count { length table.new.written.items ≡ length table.old.written.items }
-    ensures lines { IfOk result (λ v. (whole : List (ALine ℕ)) (j k : AJump ℕ) → AreForwarded (length table.old.written.items) whole (facts_of table.new) [] [] j k → AreForwarded (length table.old.written.items) whole (facts_of table.old) lines.now v.items j k) }
+    ensures lines { IfOk result (λ v. (entries : List Entry) (whole : List (ALine ℕ)) (j k : AJump ℕ) → AreForwarded (length table.old.written.items) entries whole (facts_of table.new) [] [] j k → AreForwarded (length table.old.written.items) entries whole (facts_of table.old) lines.now v.items j k) }
 {
     let mut made = Vec::new(alloc);
     for line in lines {
@@ -109,58 +134,97 @@ fn forwarded_lines(
     Ok(made)
 }
 
+/// The block from what is claimed where it begins, if what is claimed where it leads is known.
 fn forwarded_block(
     alloc: Global,
+    entries: &[Entry],
     table: &mut FactTable,
     number: usize,
     block: &Block<u32>,
-) -> Result<Block<u32>, AllocError>
+) -> Result<Option<Block<u32>>, AllocError>
     requires table { IsTable table.old }
     requires later { table.old.clock ≤ number * 2 ^ 64 }
     ensures table { IsTable table.new }
-    ensures clock { IfOk result (λ v. table.new.clock ≤ (number + 1) * 2 ^ 64) }
+    ensures clock { IfOk result (λ o. IfSome o (λ v. table.new.clock ≤ (number + 1) * 2 ^ 64)) }
     ensures count { length table.new.written.items ≡ length table.old.written.items }
-    ensures block { IfOk result (λ v. IsForwarded (length table.old.written.items) block.now v) }
+    ensures block { IfOk result (λ o. IfSome o (λ v. IsForwarded (length table.old.written.items) entries.now number block.now v)) }
 {
+    let claims = claims_at(entries, number);
+    let lines = block.lines.as_slice();
+    if claims.len() > usize::MAX - lines.len() {
+        return Ok(None);
+    }
     table.begin(number);
-    let lines = forwarded_lines(alloc, table, block.lines.as_slice())?;
+    claim_all(table, claims);
+    let lines = forwarded_lines(alloc, table, lines)?;
     let jump = jump(table, &lines, &block.jump);
-    Ok(Block {
+    if !leads_well(table, entries, &jump) {
+        return Ok(None);
+    }
+    Ok(Some(Block {
         lines: Seq::from_vec(lines),
         jump,
-    })
+    }))
 }
 
 fn forwarded_blocks(
     alloc: Global,
+    entries: &[Entry],
     table: &mut FactTable,
     blocks: &[Block<u32>],
-) -> Result<Seq<Block<u32>>, AllocError>
+) -> Result<Option<Seq<Block<u32>>>, AllocError>
     requires table { IsTable table.old }
     requires starts { table.old.clock ≡ 0 }
-    ensures { IfOk result (λ v. AllForwarded (length table.old.written.items) blocks.now v) }
+    ensures { IfOk result (λ o. IfSome o (λ v. AllForwarded (length table.old.written.items) entries.now 0 blocks.now v)) }
 {
     let mut made = Vec::new(alloc);
     for (number, block) in blocks.iter().enumerate() {
-        made.push(forwarded_block(alloc, table, number, block)?)?;
+        match forwarded_block(alloc, entries, table, number, block)? {
+            Some(block) => made.push(block)?,
+            None => return Ok(None),
+        }
     }
-    Ok(Seq::from_vec(made))
+    Ok(Some(Seq::from_vec(made)))
 }
 
-/// The function with operands that are known copies replaced by what they are copies of; with sums and addresses of known sums with numbers put as one sum or
+/// The function by these claims, if they are right.
+fn propagated(
+    alloc: Global,
+    function: &VFunc,
+    entries: &[Entry],
+) -> Result<Option<VFunc>, AllocError>
+    ensures { IfOk result (λ o. IfSome o (λ w. Keeps (virtual_code function.now) (virtual_code w))) }
+{
+    if claims_at(entries, 0).len() != 0 {
+        return Ok(None);
+    }
+    let mut table = FactTable::new(alloc, function.registers)?;
+    match forwarded_blocks(alloc, entries, &mut table, function.code.blocks.as_slice())? {
+        Some(blocks) => {
+            let made = function.with_blocks(alloc, function.registers, blocks)?;
+            Ok(Some(made))
+        }
+        None => Ok(None),
+    }
+}
+
+/// The function with operands that are known copies or numbers replaced by what they are; with sums and addresses of known sums with numbers put as one sum or
 /// address; with operations on numbers and by powers of two in their short forms; with branches on results of comparisons put as branches on the comparisons, where
-/// the ticks of the block pay for it; and with branches on two numbers put as jumps: block by block, each fact as long as no line makes it false. It takes time and
-/// memory as the text is long.
+/// the ticks of the block pay for it; and with branches on two numbers put as jumps. Each fact counts as long as no line makes it false: along its block, and that
+/// a register holds a number also in blocks where each way that leads there knows it. It takes time and memory as the text is long.
 ///
 /// # Errors
 ///
 /// Only where memory was refused.
 pub fn propagate(alloc: Global, function: VFunc) -> Result<VFunc, AllocError>
-    ensures kept { IfOk result (λ w. Keeps (virtual_code function) (virtual_code w)) }
-    ensures forwarded { IfOk result (λ w. IsForwardedFrom function w) }
+    ensures { IfOk result (λ w. Keeps (virtual_code function) (virtual_code w)) }
 {
-    let mut table = FactTable::new(alloc, function.registers)?;
-    let blocks = forwarded_blocks(alloc, &mut table, function.code.blocks.as_slice())?;
-    let made = function.with_blocks(alloc, function.registers, blocks)?;
-    Ok(made)
+    let entries = entries(alloc, &function)?;
+    if let Some(made) = propagated(alloc, &function, entries.as_slice())? {
+        return Ok(made);
+    }
+    match propagated(alloc, &function, &[])? {
+        Some(made) => Ok(made),
+        None => Ok(function),
+    }
 }

@@ -7,7 +7,8 @@ ghost use Rattle.vcode.specs.Addresses.{distance};
 ghost use Rattle.vcode.specs.Cost.{is_immediate};
 ghost use Rattle.vcode.specs.Replaced.{with_base, with_returned, with_comparison};
 ghost use Rattle.propagation.specs.FactTable.{facts_of};
-ghost use Rattle.propagation.specs.Forwarded.{is_short, propagate, regrouped, grouped, is_add, operands_of, further, with_address, with_line, tested_by, afforded, with_test, with_branch, numbers_hold, with_outcome, with_jump};
+ghost use Rattle.propagation.specs.Forwarded.{is_short, propagate, regrouped, grouped, operands_of, further, with_address, with_line, tested_by, afforded, with_test, with_branch, numbers_hold, with_outcome, with_jump};
+ghost use Rattle.propagation.specs.After.{is_add};
 
 use crate::fact::Fact;
 use crate::table::FactTable;
@@ -20,7 +21,7 @@ use vcode::line::{Comparison, Jump, Line, Operation};
 use vcode::place::{Address, Operand};
 use vcode::replace::{Replace, address as with_base, comparison, line as put_operands, returned};
 
-fn is_short(operand: &Operand<u32>) -> bool
+pub(crate) fn is_short(operand: &Operand<u32>) -> bool
     ensures { result ≡ is_short operand.now }
 {
     match operand {

@@ -9,5 +9,5 @@ pub returns : goal.returns
 returns c =
     let n = length c.args.table.now.written.items in
     let none : drop c.loop-number.number c.args.blocks.now ≡ [] = drop_all c.loop-number.number c.args.blocks.now (let past = c.loop-number-test.false in omega arith) in
-    subst (λ (xs : List (Block ℕ)). AllForwarded n c.args.blocks.now xs) (append_none c.loop-number.made.items ∙ sym c.from_vec.ensures)
-    (c.loop-number.invariant.made [] (subst (λ (xs : List (Block ℕ)). AllForwarded n xs []) (sym none) tt))
+    subst (λ (xs : List (Block ℕ)). AllForwarded n c.args.entries.now 0 c.args.blocks.now xs) (append_none c.loop-number.made.items ∙ sym c.from_vec.ensures)
+    (c.loop-number.invariant.made [] (subst (λ (xs : List (Block ℕ)). AllForwarded n c.args.entries.now c.loop-number.number xs []) (sym none) tt))

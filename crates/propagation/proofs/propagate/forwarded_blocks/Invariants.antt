@@ -11,6 +11,6 @@ invariant-loop-number l =
       clock : l.table.clock ≤ l.number * 2 ^ 64;
       count : length l.table.written.items ≡ length l.fn.table.written.items;
       made :
-          (rest : List (Block ℕ)) → AllForwarded (length l.fn.table.written.items) (drop l.number l.blocks) rest
-          → AllForwarded (length l.fn.table.written.items) l.fn.blocks (l.made.items ++ rest);
+          (rest : List (Block ℕ)) → AllForwarded (length l.fn.table.written.items) l.fn.entries l.number (drop l.number l.blocks) rest
+          → AllForwarded (length l.fn.table.written.items) l.fn.entries 0 l.fn.blocks (l.made.items ++ rest);
     }

@@ -1,6 +1,7 @@
 use Rattle.std.proofs.Common.{◌≡◌, ◌<◌, ◌^◌, ◌+◌, ℕ, List, ◌++◌, length, drop}
 use Rattle.vcode.specs.declared.line.Line.{Line}
 use Rattle.vcode.specs.declared.line.Jump.{Jump}
+use Rattle.propagation.specs.declared.claim.Entry.{Entry}
 use Rattle.propagation.specs.FactTable.{facts_of, IsTable}
 use Rattle.propagation.specs.Forwarded.{AreForwarded}
 use Rattle.propagation.proofs.propagate.forwarded_lines.Given as goal
@@ -13,6 +14,6 @@ invariant-loop-line l =
       runs : l.fn.table.clock + length l.fn.lines < 2 ^ 128;
       count : length l.table.written.items ≡ length l.fn.table.written.items;
       made :
-          (rest whole : List (Line ℕ)) (j k : Jump ℕ) → AreForwarded (length l.fn.table.written.items) whole (facts_of l.table) (drop l.line-index l.lines) rest j k
-          → AreForwarded (length l.fn.table.written.items) whole (facts_of l.fn.table) l.fn.lines (l.made.items ++ rest) j k;
+          (es : List Entry) (rest whole : List (Line ℕ)) (j k : Jump ℕ) → AreForwarded (length l.fn.table.written.items) es whole (facts_of l.table) (drop l.line-index l.lines) rest j k
+          → AreForwarded (length l.fn.table.written.items) es whole (facts_of l.fn.table) l.fn.lines (l.made.items ++ rest) j k;
     }
