@@ -1,6 +1,6 @@
 -- An activation of a function: where its places are, and what holds in each state of its run.
 use Rattle.std.proofs.Common.{◌≡◌, ◌≢◌, ℕ, ◌+◌, ◌-◌, ◌*◌, ◌%◌, ◌^◌, ◌<◌, ◌≤◌, Bool, true, false, List, [], ◌∷◌, refl, sym, ◌∙◌, ap, arith, lit<}
-use Rattle.std.specs.Prelude.{◌&&◌, ◌||◌, not, length, nat_eq, nat_lt, nat_le, if◌then◌else◌, slice_get, Option, Some}
+use Rattle.std.specs.Prelude.{◌&&◌, ◌||◌, not, length, nat_eq, nat_lt, nat_le, if◌then◌else◌, slice_get, Option, Some, None}
 use Rattle.std.specs.List.{list_all}
 use Rattle.std.proofs.lemmas.Bool.{and_parts}
 use Rattle.std.proofs.lemmas.Bool.Decides.{nat_tests}
@@ -43,6 +43,12 @@ pub record Setting : Type 0 where
   pub sp : ℕ
   pub before : Spots
   pub start : State
+  -- the stack pointer at the begin of the calls that are made
+  pub floor : ℕ
+  -- so many instructions are left for what comes behind the last jump
+  pub reserve : ℕ
+  -- the blocks that jumps may lead to
+  pub reached : ℕ → Bool
 
 abbrev pub site : Setting → Site
 site c = record { ground = c.world.memory_map; label = c.label; global = c.global }
@@ -70,6 +76,7 @@ pub record IsSetting (c : Setting) : Type 0 where
   pub slots_near : c.layout.slots < 1024
   pub savable : list_all can_save c.saved ≡ true
   pub small : c.layout.size < 2 ^ 21
+  pub enough : 24 ≤ c.reserve
 
 -- ---- places
 
@@ -132,11 +139,12 @@ pub record Framed (c : Setting) (numbers : Numbers) (memory : Spots) (u : State)
   pub pointer : u.registers 2 ≡ bottom c
   pub places : (p : Location) (v : ℕ) → is_place c.slots p ≡ true → numbers p ≡ Some v → value_at c u p ≡ v
   pub spots : HoldsSpots c.world.memory_map memory u
-  pub clear : (x : ℕ) → bottom c ≤ x → x < c.sp - c.area → memory x ≡ NoAccess
+  pub clear : (x : ℕ) → c.world.bottom ≤ x → x < c.sp - c.area → memory x ≡ NoAccess
   pub reach : (x : ℕ) → c.sp ≤ x → c.before x ≡ NoAccess → memory x ≡ NoAccess
   pub saved : (k r : ℕ) → slice_get c.saved k ≡ Some r → number_at u.bytes (save_at c k) 8 ≡ c.start.registers r
   pub thread : (n : ℕ) → is_held n ≡ true → n ≢ 2 → is_among n c.saved ≡ false → u.registers n ≡ c.start.registers n
   pub others : (x : ℕ) → c.sp ≤ x → c.before x ≡ NoAccess → u.bytes x ≡ c.start.bytes x
+  pub unset : (i : ℕ) → c.slots ≤ i → numbers (Slot i) ≡ None
 
 some_is : (a b : ℕ) → Some a ≡ Some b → a ≡ b
 some_is a b e = cc
@@ -228,6 +236,7 @@ register_assigned c numbers memory s u r v o framed is may h value =
       saved = λ k q e. ap (λ (m : ℕ → ℕ). number_at m (save_at c k) 8) h.bytes ∙ framed.saved k q e;
       thread = λ n kept other out. h.others n (held_below n kept) (not_written c.saved n r lo kept out may) ∙ framed.thread n kept other out;
       others = λ x above away. ap (λ (m : ℕ → ℕ). m x) h.bytes ∙ framed.others x above away;
+      unset = λ i far. framed.unset i far;
     }
 
 -- a slot is written
@@ -250,7 +259,7 @@ slot_spots c is numbers memory s u i v few framed h x n known = by_test (nat_lt 
         let to : x < slot_at c i + 8 = grind (arith, nat_tests) in
         let fits = is.fits in
         let above = is.above in
-        absurd (byte_has_access (memory x) NoAccess n known (framed.clear x (omega (arith, from)) (omega (arith, to, fits, above, few))))
+        absurd (byte_has_access (memory x) NoAccess n known (framed.clear x (omega (arith, from, above)) (omega (arith, to, fits, above, few))))
 
 slot_place : (c : Setting) (numbers : Numbers) (memory : Spots) (s u : State) (i v : ℕ) (o : Option ℕ) → v < 2 ^ 64 → Framed c numbers memory s
     → OnStack s (slot_at c i) v u → ((x : ℕ) → o ≡ Some x → v ≡ x)
@@ -277,6 +286,14 @@ slot_place c numbers memory s u i v o small framed h value (Slot k) x good known
         let less : i < k = omega (arith, le, differs) in
         at_k ∙ (read_above s.bytes (slot_at c i) 8 v (slot_at c k) 8 (omega (arith, less)) ∙ framed.places (Slot k) x good is)
 
+-- a slot beyond those that there are stays unset
+pub beyond : (slots i k : ℕ) (o : Option ℕ) (numbers : Numbers) → i < slots → slots ≤ k → numbers (Slot k) ≡ None → put (Slot i) o numbers (Slot k) ≡ None
+beyond slots i k o numbers few far e = by_test (nat_eq k i) refl
+  where
+    by_test : (t : Bool) → nat_eq k i ≡ t → (if t then o else numbers (Slot k)) ≡ None
+    by_test true d = let same = eq_is k i d in absurd (let no : ⊥ = omega (arith, same, few, far) in no)
+    by_test false d = e
+
 slot_assigned : (c : Setting) → IsSetting c → (numbers : Numbers) (memory : Spots) (s u : State) (i v : ℕ) (o : Option ℕ) → v < 2 ^ 64 → i < c.slots
     → Framed c numbers memory s → OnStack s (slot_at c i) v u → ((x : ℕ) → o ≡ Some x → v ≡ x) → Framed c (put (Slot i) o numbers) memory u
 slot_assigned c is numbers memory s u i v o small few framed h value =
@@ -297,6 +314,7 @@ slot_assigned c is numbers memory s u i v o small few framed h value =
       others = λ x high away.
           ap (λ (m : ℕ → ℕ). m x) h.bytes
           ∙ (stored_above s.bytes (slot_at c i) 8 v x (omega (arith, high, fits, above, few)) ∙ framed.others x high away);
+      unset = λ k far. beyond c.slots i k o numbers few far (framed.unset k far);
     }
 
 pub assigned : (c : Setting) → IsSetting c → (numbers : Numbers) (memory : Spots) (s u : State) (p : Location) (v : ℕ) (o : Option ℕ)

@@ -38,7 +38,6 @@ use Rattle.abi_frames.specs.Layout.{most_in_lines}
 use Rattle.abi_frames.specs.Emission.{prepare_items, call_through, receive_items, lines_items, jump_items}
 use Rattle.operation_code.proofs.Leading.{StandAt, Reaches, Leads, leads_nowhere, leads_so}
 use Rattle.abi_frames.proofs.Activations.{Setting, IsSetting, site, bottom, operand_in, Framed, operand_known, Assigned, MayWrite, assigned, assigned_output, is_among}
-use Rattle.abi_frames.proofs.Saving.{call_saves}
 use Rattle.abi_frames.proofs.Pacing.{few_standing}
 use Rattle.rv_isa.specs.declared.labelled.Item.TheVariants.{Label}
 use Rattle.abi_frames.proofs.LineCode.{leads_set_line}
@@ -179,6 +178,7 @@ resumed c f b to callee args lines fs k u a at given d wants before t x now back
       room = omega (arith, room, bytes);
       used_is = λ e. a.used_is e ∙ nothing_taken a.used;
       passes = later_fits (length args - 8) (most_in_lines lines) c.layout.saves a.passes;
+      stood = a.stood;
     }
 
 -- how a number stands in a place is how it is passed
@@ -210,7 +210,7 @@ address_saved : (c : Setting) (f : Code Location) → CodeStands c f → (b : Bl
     (args : List (Argument Location)) (lines : List (Line Location)) (fs : FlatState) (k : ℕ) (u : State) → At c f b (Call to callee args ∷ lines) fs k u
     → is_among 1 c.saved ≡ true
 address_saved c f is b to callee args lines fs k u a =
-    subst (λ rs. is_among 1 rs ≡ true) (sym is.saved) (call_saves f fs.block (fs.next + 0) b (Call to callee args) a.block (a.ahead 0) refl)
+    (a.stood.calls (fs.next + 0) (Call to callee args) (a.ahead 0) refl).1
 
 returned : (c : Setting) (f : Code Location) → CodeStands c f → (j : FlatGiven) (r : FlatOutcome) (n : ℕ) → Follows c f j r n
     → (b : Block Location) (to : Option (Destination Location)) (callee : Operand Location) (args : List (Argument Location)) (lines : List (Line Location))
@@ -218,7 +218,7 @@ returned : (c : Setting) (f : Code Location) → CodeStands c f → (j : FlatGiv
     → (d : Departs c to callee args at given ((lines_items c.layout (a.used + 0) lines ++ jump_items c.layout c.saved (fs.block + 1) b.jump) ++ (Label (fs.block + 1) ∷ a.rest)) u)
     → (t : Spent) (x : Option ℕ) (now : Spots) → Returns c.world (bottom c) (option_map (λ (q : Destination Location). q.class) to) fs.memory d.v t x now
     → SameReach fs.memory now → (log : Log)
-    → LoggedNext (λ s rest. Logged (step_of c f j) n s rest r) r (resumes fs to (FlatReturned t x now)) log → AllPerform c.world (bottom c) log
+    → LoggedNext (λ s rest. Logged (step_of c f j) n s rest r) r (resumes fs to (FlatReturned t x now)) log → AllPerform c.world c.floor log
     → Performed c f r
 returned c f is j r n go b None callee args lines fs k u a at given d t x now back stays log goes all =
     let framed = framed_back c is.setting fs.numbers fs.memory now u d.v back.after a.framed d.same back.back stays (address_saved c f is b None callee args lines fs k u a) in
@@ -295,7 +295,7 @@ went : (c : Setting) (f : Code Location) → CodeStands c f → (j : FlatGiven) 
     (fs : FlatState) (k : ℕ) (u : State) → (a : At c f b (Call to callee args ∷ lines) fs k u) → (at : ℕ) (given : FlatGiven)
     → (d : Departs c to callee args at given ((lines_items c.layout (a.used + 0) lines ++ jump_items c.layout c.saved (fs.block + 1) b.jump) ++ (Label (fs.block + 1) ∷ a.rest)) u)
     → (o : FlatOutcome) → Performs c.world (bottom c) (option_map (λ (q : Destination Location). q.class) to) fs.memory d.v o → ReachStays fs.memory o
-    → (log : Log) → LoggedNext (λ s rest. Logged (step_of c f j) n s rest r) r (resumes fs to o) log → AllPerform c.world (bottom c) log
+    → (log : Log) → LoggedNext (λ s rest. Logged (step_of c f j) n s rest r) r (resumes fs to o) log → AllPerform c.world c.floor log
     → Performed c f r
 went c f is j r n go b to callee args lines fs k u a at given d (FlatReturned t x now) there stays log goes all =
     returned c f is j r n go b to callee args lines fs k u a at given d t x now there stays log goes all
@@ -332,11 +332,14 @@ called : (c : Setting) (f : Code Location) → CodeStands c f → (j : FlatGiven
     → (b : Block Location) (to : Option (Destination Location)) (callee : Operand Location) (args : List (Argument Location)) (lines : List (Line Location))
     (fs : FlatState) (k : ℕ) (u : State) → At c f b (Call to callee args ∷ lines) fs k u → (at : ℕ) (xs : List ℕ)
     → number_of c.addresses fs.numbers callee ≡ Some at → read_all c.addresses fs.numbers args ≡ Some xs
-    → (log : Log) → Then c f j r n log (calls j fs to args (Some at) (Some xs)) → AllPerform c.world (bottom c) log → Performed c f r
+    → (log : Log) → Then c f j r n log (calls j fs to args (Some at) (Some xs)) → AllPerform c.world c.floor log → Performed c f r
 called c f is j r n go b to callee args lines fs k u a at xs is_at is_xs [] goes all = absurd goes
 called c f is j r n go b to callee args lines fs k u a at xs is_at is_xs (l ∷ log) goes all =
     let asked : l.asked ≡ asked_by j fs to args at xs = goes.0 in
-    let performs = subst (λ (i : FlatAsked). PerformsAt c.world i.at (bottom c) i.classes i.wants i.given l.went) asked all.0 in
+    let level : c.floor ≡ bottom c = (a.stood.calls (fs.next + 0) (Call to callee args) (a.ahead 0) refl).0 in
+    let performs =
+    subst (λ (i : FlatAsked). PerformsAt c.world i.at (bottom c) i.classes i.wants i.given l.went) asked
+    (subst (λ (p : ℕ). PerformsAt c.world l.asked.at p l.asked.classes l.asked.wants l.asked.given l.went) level all.0) in
     let even : at % 4 ≡ 0 = subst (λ (i : FlatAsked). i.at % 4 ≡ 0) asked all.1 in
     let stays = subst (λ (i : FlatAsked). ReachStays i.given.memory l.went) asked all.2 in
     let d = departs c f is b to callee args lines fs k u a at xs (j.turns - fs.spent.turns) j.room is_at is_xs even in
@@ -347,7 +350,7 @@ pub call_case : (c : Setting) (f : Code Location) → CodeStands c f → (j : Fl
     → (b : Block Location) (to : Option (Destination Location)) (callee : Operand Location) (args : List (Argument Location)) (lines : List (Line Location))
     (fs : FlatState) (k : ℕ) (u : State) → At c f b (Call to callee args ∷ lines) fs k u → (log : Log)
     → Then c f j r n log (calls j fs to args (number_of c.addresses fs.numbers callee) (read_all c.addresses fs.numbers args))
-    → AllPerform c.world (bottom c) log → Performed c f r
+    → AllPerform c.world c.floor log → Performed c f r
 call_case c f is j r n go b to callee args lines fs k u a log goes all =
     by_operands (number_of c.addresses fs.numbers callee) refl (read_all c.addresses fs.numbers args) refl goes
   where

@@ -418,7 +418,7 @@ spots_then c is numbers memory s u v args framed h fits same x n known =
         let saves = is.saves_fit in
         let frame = is.fits in
         let above = is.above in
-        absurd (byte_has_access (memory x) n known (framed.clear x lo (omega (arith, hi, saves, frame, above))))
+        absurd (byte_has_access (memory x) n known (framed.clear x (omega (arith, lo, above)) (omega (arith, hi, saves, frame, above))))
 
 pub ready : (c : Setting) → IsSetting c → (numbers : Numbers) (memory : Spots) (s u v : State) (rest : List Item) (at turns room : ℕ)
     (args : List (Argument Location)) (xs : List ℕ) → Framed c numbers memory s → Passed c s args u → Gone (site c) rest at u v
@@ -497,7 +497,7 @@ places_back c is numbers memory now s v w framed same back (Slot i) x good known
     number_same w.bytes s.bytes (slot_at c i) 8
     (λ y lo hi.
     byte_back c memory now s v w same back y (omega (arith, lo, saves))
-    (framed.clear y (omega (arith, lo)) (omega (arith, hi, few, frame, above))))
+    (framed.clear y (omega (arith, lo, above)) (omega (arith, hi, few, frame, above))))
     ∙ framed.places (Slot i) x good known
 
 saved_back : (c : Setting) → IsSetting c → (numbers : Numbers) (memory now : Spots) (s v w : State) → Framed c numbers memory s → SameFrame c s v
@@ -510,7 +510,7 @@ saved_back c is numbers memory now s v w framed same back k r few e =
     number_same w.bytes s.bytes (save_at c k) 8
     (λ y lo hi.
     byte_back c memory now s v w same back y (omega (arith, lo))
-    (framed.clear y (omega (arith, lo)) (omega (arith, hi, few, saves, frame, above))))
+    (framed.clear y (omega (arith, lo, above)) (omega (arith, hi, few, saves, frame, above))))
     ∙ framed.saved k r e
 
 one_is : (n : ℕ) → is_held n ≡ true → is_kept n ≡ false → n ≡ 1
@@ -537,6 +537,7 @@ framed_back c is numbers memory now s v w framed same back stays address =
           back.kept n k ∙ (same.registers n k ∙ framed.thread n held other out);
       others = λ x hi away.
           byte_back c memory now s v w same back x (omega (arith, hi, saves, frame, above)) (framed.reach x hi away) ∙ framed.others x hi away;
+      unset = λ i far. framed.unset i far;
     }
   where
     two_ways : (b : Bool) → b ≡ true → b ≡ false → ⊥

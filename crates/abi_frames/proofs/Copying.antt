@@ -21,7 +21,7 @@ use Rattle.abi_frames.specs.Performs.{AllPerform}
 use Rattle.abi_frames.specs.Emission.{line_items}
 use Rattle.operation_code.proofs.Leading.{leads_so}
 use Rattle.abi_frames.proofs.StackAccesses.{UsableFrom}
-use Rattle.abi_frames.proofs.Activations.{Setting, site, bottom, operand_in, Framed, operand_known}
+use Rattle.abi_frames.proofs.Activations.{Setting, site, operand_in, Framed, operand_known}
 use Rattle.abi_frames.proofs.MemoryChanges.{Changed, changed, there_at, usable_from, inside_is, outside_is}
 use Rattle.abi_frames.proofs.CopyCode.{Apart, Copied, leads_blit_line}
 use Rattle.abi_frames.proofs.Simulation.{CodeStands, At, Performed, Log, Follows, Then, undefined, reach, advance, nothing_taken}
@@ -93,7 +93,7 @@ unchanged c memory s u from to holds h = record {
 
 copies : (c : Setting) (f : Code Location) → CodeStands c f → (j : FlatGiven) (r : FlatOutcome) (n : ℕ) → Follows c f j r n
     → (b : Block Location) (x y : Operand Location) (count : ℕ) (lines : List (Line Location)) (fs : FlatState) (k : ℕ) (u : State)
-    → (a : At c f b (Blit x y count ∷ lines) fs k u) → (log : Log) → AllPerform c.world (bottom c) log
+    → (a : At c f b (Blit x y count ∷ lines) fs k u) → (log : Log) → AllPerform c.world c.floor log
     → (p q : ℕ) (now : Spots) → number_of c.addresses fs.numbers x ≡ Some p → number_of c.addresses fs.numbers y ≡ Some q
     → Apart count p q → UsableFrom c.world.memory_map p count → UsableFrom c.world.memory_map q count
     → ((t : State) → Copied u count p q t → Changed fs.memory now u t)
@@ -122,7 +122,7 @@ copies c f is j r n go b x y count lines fs k u a log all p q now is_x is_y apar
 -- where the code on bytes copies
 blit_at : (c : Setting) (f : Code Location) → CodeStands c f → (j : FlatGiven) (r : FlatOutcome) (n : ℕ) → Follows c f j r n
     → (b : Block Location) (x y : Operand Location) (count : ℕ) (lines : List (Line Location)) (fs : FlatState) (k : ℕ) (u : State)
-    → At c f b (Blit x y count ∷ lines) fs k u → (log : Log) → AllPerform c.world (bottom c) log
+    → At c f b (Blit x y count ∷ lines) fs k u → (log : Log) → AllPerform c.world c.floor log
     → (p q : ℕ) → number_of c.addresses fs.numbers x ≡ Some p → number_of c.addresses fs.numbers y ≡ Some q
     → Then c f j r n log (changes fs (copied fs.memory count p q)) → Performed c f r
 unfolding copied
@@ -160,7 +160,7 @@ pub blit_case : (c : Setting) (f : Code Location) → CodeStands c f → (j : Fl
     → Then c f j r n log
     (changes fs
     (option_and_then (λ p. option_and_then (λ q. copied fs.memory count p q) (number_of c.addresses fs.numbers y)) (number_of c.addresses fs.numbers x)))
-    → AllPerform c.world (bottom c) log → Performed c f r
+    → AllPerform c.world c.floor log → Performed c f r
 blit_case c f is j r n go b x y count lines fs k u a log goes all =
     by_operands (number_of c.addresses fs.numbers x) refl (number_of c.addresses fs.numbers y) refl goes
   where

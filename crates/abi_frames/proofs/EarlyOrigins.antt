@@ -38,6 +38,7 @@ bare_setting c is =
       slots_near = lit< tt;
       savable = refl;
       small = lit< tt;
+      enough = is.enough;
     }
 
 -- ---- numbers of parameters

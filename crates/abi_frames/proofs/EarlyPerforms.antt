@@ -41,7 +41,8 @@ use Rattle.abi_frames.specs.Functions.{entry_items}
 use Rattle.abi_frames.specs.EarlyReturns.{spares, is_tick, is_passed, value_is_passed, no_frame, operand_origin, value_origin, is_bare, is_short, quick_label, begin_label, test_items, quick_items, early_items}
 use Rattle.abi_frames.specs.Laws.{IsCode}
 use Rattle.operation_code.proofs.Leading.{Site, StandAt}
-use Rattle.abi_frames.proofs.Activations.{Setting, IsSetting, site, bottom, operand_in, can_save, Framed}
+use Rattle.abi_frames.proofs.Saving.{few_saved_registers}
+use Rattle.abi_frames.proofs.Activations.{Setting, IsSetting, site, operand_in, can_save, Framed}
 use Rattle.abi_frames.proofs.LineCode.{Scratched, operand_same}
 use Rattle.abi_frames.proofs.FrameEnds.{Ends}
 use Rattle.abi_frames.proofs.JumpCode.{Arrives, jumps_branch, way_by, meets}
@@ -50,7 +51,7 @@ use Rattle.abi_frames.proofs.Sizes.{ValueShort, quick_size, test_size, le_is}
 use Rattle.abi_frames.proofs.Entering.{ArePassed, argument_in}
 use Rattle.abi_frames.proofs.Simulation.{CodeStands, Performed, step_of, Log, Then, undefined}
 use Rattle.abi_frames.proofs.Simulating.{closed_known, closed_there, follows, enter}
-use Rattle.abi_frames.proofs.Starting.{stand_after, blocks_stand, first_label, BlockCode, classes, are_passed, ready_passes, setting, is_setting, block_stands, begins, begin_size}
+use Rattle.abi_frames.proofs.Starting.{stand_after, blocks_stand, first_label, BlockCode, classes, are_passed, ready_passes, setting, is_setting, all_lead, never, block_stands, begins, begin_size}
 use Rattle.abi_frames.proofs.EarlyOrigins.{bare, bare_setting, operand_origin_known}
 use Rattle.abi_frames.proofs.EarlyFacts.{Ways, IsEarly, around}
 use Rattle.abi_frames.proofs.EarlyWays.{AllSame, silent_run, ticks_spare, QuickBack, quick_result, ends_nothing, ends_value, later_framed, later_ready}
@@ -140,7 +141,9 @@ pub record EarlyCall (c : Setting) (f : Code Location) (slots : ℕ) (j : FlatGi
   pub ready : Ready c.world c.start.pc c.sp (classes f.params) j c.start
   pub clear : Clear c.world.bottom c.sp c.before
   pub size : longest_size (prologue c.layout c.saved ++ entry_items c.layout f.params) ≤ 225
-  pub all : AllPerform c.world (bottom c) log
+  pub all : AllPerform c.world c.floor log
+  pub reserve : c.reserve ≡ 24
+  pub reached : (i : ℕ) → c.reached i ≡ true
 
 passed_args : (c : Setting) (f : Code Location) (slots : ℕ) (j : FlatGiven) (e : EarlyReturn) (r : FlatOutcome) (log : Log) → EarlyCall c f slots j e r log → ArePassed c 0 f.params j.args
 passed_args c f slots j e r log call =
@@ -311,6 +314,7 @@ starts_later c u is = record {
   slots_near = is.slots_near;
   savable = is.savable;
   small = is.small;
+  enough = is.enough;
 }
 
 -- the function with its frame
@@ -331,14 +335,15 @@ other_way c f slots j e r log call a n goes =
     let few_a = a.few in
     let few_b = m.few in
     let size = call.size in
-    enter c f call.stands.code j r n (follows c f call.stands.code j r n) 0 (flat_begin f (c.sp - c.area) j) (a.steps + m.steps) m.after
+    let kept = call.reserve in
+    enter c f call.stands.code j r n (follows c f call.stands.code j r n) 0 (flat_begin f (c.sp - c.area) j) (a.steps + m.steps) m.after (call.reached 0)
     (record {
       place = first_label (site c) c.layout c.saved f.blocks call.stands.rest m.after.pc call.stands.leave m.stands;
       fixed = m.fixed;
       framed = subst (λ (q : Spots). Framed c (passed_numbers f j) q m.after) call.before framed.0;
       comes = comes_then a.comes m.comes;
       output = framed.1 ∙ sym (append-nil c.start.output);
-      price = omega (arith, few_a, few_b, size);
+      price = omega (arith, few_a, few_b, size, kept);
       pace = omega arith;
     })
     (λ z. refl) log goes call.all
@@ -455,15 +460,17 @@ performs_early w at label global addresses f slots copies e early is world globa
     let quick = after_label (site c) (quick_label y) (quick_items y e.value) at_quick.place at_quick.stands in
     let code : CodeStands c f = record {
       setting = good;
-      blocks = λ i b h.
-          block_stands c f slots refl refl refl is b i h
+      own = λ i. true;
+      handed = λ i b h there other. absurd (never other);
+      blocks = λ i b h there own.
+          block_stands c f slots refl refl refl refl refl is b i h (all_lead b.jump)
           (subst (λ k. BlockCode (site c) y rs b k) (zero-add i)
           (blocks_stand (site c) y rs 0 f.blocks p_end at_blocks.place (sym (zero-add (length f.blocks))) at_blocks.stands i b h));
       result = refl;
       falls = refl;
       rest = p_quick;
       leave = leave;
-      saved = refl;
+      few_saved = few_saved_registers f;
       area = refl;
       pointer = ready.stack_pointer;
       aligned = ready.return_address;
@@ -485,6 +492,8 @@ performs_early w at label global addresses f slots copies e early is world globa
       clear = clear;
       size = begin_size f slots copies is;
       all = all;
+      reserve = refl;
+      reached = λ i. refl;
     } in
     let level : sp ≡ sp - 0 = omega arith in
     let tested = (jumps_branch (bare c) (bare_setting c good) s (begin_label y) e.on (if e.when_met then quick_label y else begin_label y)

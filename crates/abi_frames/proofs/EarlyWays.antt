@@ -238,6 +238,7 @@ later_framed c u w params k numbers good same h = (
     saved = λ i r e. h.framed.saved i r e ∙ same.registers r (savable r (each can_save c.saved i r good e)).below;
     thread = λ n kept other out. h.framed.thread n kept other out ∙ same.registers n (held_below n kept);
     others = λ x hi away. h.framed.others x hi away ∙ ap (λ (m : ℕ → ℕ). m x) same.bytes;
+    unset = h.framed.unset;
   },
   h.output ∙ same.output,
 )

@@ -1,6 +1,6 @@
 -- Arguments come to the places of their parameters: from registers, and from the stack of the caller.
 use Rattle.std.proofs.Common.{◌≡◌, ◌≢◌, ℕ, zero, suc, ◌+◌, ◌-◌, ◌*◌, ◌%◌, ◌^◌, ◌<◌, ◌≤◌, Bool, true, false, List, [], ◌∷◌, ◌++◌, refl, sym, ◌∙◌, ap, subst, arith, lit<, lit≤, zero-add}
-use Rattle.std.specs.Prelude.{◌||◌, ◌&&◌, not, nat_eq, nat_lt, nat_le, if◌then◌else◌, length, slice_get, Some, None}
+use Rattle.std.specs.Prelude.{Option, ◌||◌, ◌&&◌, not, nat_eq, nat_lt, nat_le, if◌then◌else◌, length, slice_get, Some, None}
 use Rattle.std.specs.List.{list_all, list_any}
 use Rattle.std.proofs.lemmas.Bool.{and_parts, and_from}
 use Rattle.std.proofs.lemmas.Bool.Decides.{nat_tests}
@@ -21,7 +21,7 @@ use Rattle.abi_frames.specs.Functions.{caller_pointer, from_register, from_stack
 use Rattle.operation_code.proofs.Leading.{Leads, leads_nowhere, leads_then, leads_so, leads_fixed, leads_again, Sets, IsReg}
 use Rattle.abi_frames.proofs.StackAccesses.{UsableFrom, Writes, leads_load, leads_store_slot, near_address, is_2, is_28}
 use Rattle.operation_code.proofs.Instructions.{leads_sum, leads_constant}
-use Rattle.abi_frames.proofs.Activations.{Setting, IsSetting, site, bottom, slot_at, save_at, value_at, is_held, held_below, place_is, place_reg, slot_is, slot_in_frame, Framed, Assigned, MayWrite, assigned, assigned_output}
+use Rattle.abi_frames.proofs.Activations.{beyond, Setting, IsSetting, site, bottom, slot_at, save_at, value_at, is_held, held_below, place_is, place_reg, slot_is, slot_in_frame, Framed, Assigned, MayWrite, assigned, assigned_output}
 use Rattle.abi_frames.proofs.Saving.{AllMayWrite}
 use Rattle.abi_frames.proofs.Arranging.{leads_copy, InRegisters, leads_passed}
 use Rattle.abi_frames.proofs.Sources.{source, sources_stand, source_at, AllApart, apart_more, source_is}
@@ -201,8 +201,8 @@ took_keeps_registers c s (Slot j) v u n low other h = h.registers n (omega (arit
 
 -- a frame in which these numbers are known
 framed_with : (c : Setting) (m n : Numbers) (u : State) → ((p : Location) (v : ℕ) → is_place c.slots p ≡ true → n p ≡ Some v → value_at c u p ≡ v)
-    → Framed c m c.before u → Framed c n c.before u
-framed_with c m n u places framed = record {
+    → ((i : ℕ) → c.slots ≤ i → n (Slot i) ≡ None) → Framed c m c.before u → Framed c n c.before u
+framed_with c m n u places unset framed = record {
   pointer = framed.pointer;
   places = places;
   spots = framed.spots;
@@ -211,7 +211,25 @@ framed_with c m n u places framed = record {
   saved = framed.saved;
   thread = framed.thread;
   others = framed.others;
+  unset = unset;
 }
+
+-- parameters have no slot beyond those that there are
+put_unset : (slots : ℕ) (p : Location) (o : Option ℕ) (numbers : Numbers) → is_place slots p ≡ true → ((i : ℕ) → slots ≤ i → numbers (Slot i) ≡ None)
+    → (i : ℕ) → slots ≤ i → put p o numbers (Slot i) ≡ None
+put_unset slots (InRegister r) o numbers good h i far = h i far
+put_unset slots (Slot k) o numbers good h i far = beyond slots k i o numbers (slot_is slots k good) far (h i far)
+
+bound_unset : (slots : ℕ) (numbers : Numbers) (ds : List (Destination Location)) (xs : List ℕ) → list_all (λ (d : Destination Location). is_place slots d.place) ds ≡ true
+    → ((i : ℕ) → slots ≤ i → numbers (Slot i) ≡ None) → (i : ℕ) → slots ≤ i → bound numbers ds xs (Slot i) ≡ None
+bound_unset slots numbers [] xs good h i far = h i far
+bound_unset slots numbers (d ∷ ds) [] good h i far = h i far
+bound_unset slots numbers (d ∷ ds) (x ∷ xs) good h i far =
+    let parts = and_parts (is_place slots d.place) (list_all (λ (e : Destination Location). is_place slots e.place) ds) good in
+    bound_unset slots (put d.place (Some (held d.class x)) numbers) ds xs parts.1 (put_unset slots d.place (Some (held d.class x)) numbers parts.0 h) i far
+
+no_place : (slots i : ℕ) → slots ≤ i → is_place slots (Slot i) ≡ false
+no_place slots i far = grind (arith, nat_tests)
 
 same_is : (p q : Location) → same_location p q ≡ true → p ≡ q
 same_is (InRegister a) (InRegister b) h = ap InRegister (eq_is a b h)
@@ -232,13 +250,15 @@ record Holding (c : Setting) (params from : ℕ) (s : State) (p : Location) (v :
 holding : (c : Setting) → IsSetting c → (params from : ℕ) (s : State) (p : Location) (v : ℕ) (u : State) → is_place c.slots p ≡ true → MayWrite c.saved p
     → ((i : ℕ) → from ≤ i → i < 8 → p ≢ InRegister (10 + i)) → Entering c params from nothing s → Took c s p v u → Holding c params from s p v u
 holding c is params from s p v u good may away entering took =
-    let all : Numbers = λ q. Some (value_at c s q) in
-    let before : Framed c all c.before s = framed_with c nothing all s (λ q x g e. some_is (value_at c s q) x e) entering.framed in
+    let all : Numbers = λ q. if is_place c.slots q then Some (value_at c s q) else None in
+    let before : Framed c all c.before s =
+    framed_with c nothing all s (λ q x g e. some_is (value_at c s q) x (sym (ap (λ (t : Bool). if t then Some (value_at c s q) else None) g) ∙ e))
+    (λ i far. ap (λ (t : Bool). if t then Some (value_at c s (Slot i)) else None) (no_place c.slots i far)) entering.framed in
     let after : Framed c (put p (Some v) all) c.before u =
     assigned c is all c.before s u p v (Some v) good may before took.assigned (λ x e. some_is v x e) in
     record {
       entering = record {
-        framed = framed_with c (put p (Some v) all) nothing u (λ q x g e. absurd (none_is x e)) after;
+        framed = framed_with c (put p (Some v) all) nothing u (λ q x g e. absurd (none_is x e)) (λ i far. refl) after;
         output = assigned_output c s p v u took.assigned ∙ entering.output;
         registers = λ i lo hi.
             took_keeps_registers c s p v u (10 + i) (omega (arith, hi)) (away i lo hi) took.assigned ∙ entering.registers i lo hi;
@@ -249,10 +269,12 @@ holding c is params from s p v u good may away entering took =
       kept = λ q g other. by_test q g other after (same_location q p) refl;
     }
   where
-    by_test : (q : Location) → is_place c.slots q ≡ true → p ≢ q → Framed c (put p (Some v) (λ x. Some (value_at c s x))) c.before u
+    by_test : (q : Location) → is_place c.slots q ≡ true → p ≢ q → Framed c (put p (Some v) (λ x. if is_place c.slots x then Some (value_at c s x) else None)) c.before u
         → (t : Bool) → same_location q p ≡ t → value_at c u q ≡ value_at c s q
     by_test q g other after true e = absurd (other (sym (same_is q p e)))
-    by_test q g other after false e = after.places q (value_at c s q) g (ap (λ t. if t then Some v else Some (value_at c s q)) e)
+    by_test q g other after false e =
+        after.places q (value_at c s q) g
+        (ap (λ (t : Bool). if t then Some v else if is_place c.slots q then Some (value_at c s q) else None) e ∙ ap (λ (t : Bool). if t then Some (value_at c s q) else None) g)
 
 -- ---- the arguments of a group
 
@@ -393,6 +415,7 @@ entering_moved c is params args s u entering h =
         saved = λ k r e. ap (λ (m : ℕ → ℕ). number_at m (save_at c k) 8) bytes ∙ framed.saved k r e;
         thread = λ n held other out. by_test n held (nat_lt n 10) refl ∙ framed.thread n held other out;
         others = λ x hi away. ap (λ (m : ℕ → ℕ). m x) bytes ∙ framed.others x hi away;
+        unset = λ i far. refl;
       };
       output = h.output ∙ entering.output;
       registers = λ i lo hi. absurd (let no : ⊥ = omega (arith, lo, hi) in no);
@@ -657,7 +680,7 @@ leads_entry c is params xs s can distinct passed entering =
     let hold = all_hold c is n params r t u w can.places apart one two three in
     record {
       framed = framed_with c nothing (bound nothing params xs) w (λ p v good known. bound_hold c w 0 params xs nothing hold passed (λ q x e. absurd (none_is x e)) p v known)
-          three.entering.framed;
+          (bound_unset c.slots nothing params xs can.places (λ i far. refl)) three.entering.framed;
       output = three.entering.output;
       registers = three.entering.registers;
       stack = three.entering.stack;

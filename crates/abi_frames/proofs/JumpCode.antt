@@ -88,7 +88,7 @@ jumps_so c falls next is s l m P Q same so first = record {
       };
 }
 
-moved_scratched : (g : Ground) (most to : ℕ) (s : State) → (m : Moves g most to s) → Scratched s m.after
+pub moved_scratched : (g : Ground) (most to : ℕ) (s : State) → (m : Moves g most to s) → Scratched s m.after
 moved_scratched g most to s m = record { registers = λ n lo. m.registers n (λ e. absurd (omega (arith, e, lo))); bytes = m.bytes; output = m.output }
 
 eq_is : (a b : ℕ) → nat_eq a b ≡ true → a ≡ b

@@ -5,7 +5,6 @@ use Rattle.std.specs.List.{list_all}
 use Rattle.std.proofs.lemmas.Bool.{and_parts, and_from}
 use Rattle.std.proofs.lemmas.Bool.Decides.{nat_tests}
 use Rattle.std.proofs.lemmas.List.Folds.{list_all-append}
-use Rattle.il_ast.specs.declared.limits.TheConstants.{FUNCTION_WEIGHT}
 use Rattle.rv_isa.specs.declared.instruction.RegOp.{RegOp}
 use Rattle.rv_isa.specs.declared.instruction.RegOp.TheVariants.{Sub, Slt, Sltu}
 use Rattle.il_ast.specs.declared.operation.Condition.{Condition}
@@ -42,7 +41,7 @@ use Rattle.vcode.specs.declared.code.Block.{Block}
 use Rattle.vcode.specs.declared.code.Code.{Code}
 use Rattle.vcode.specs.Cost.{is_immediate}
 use Rattle.vcode.specs.Named.{is_place, operand_keeps, line_keeps, jump_keeps, block_keeps, wanted_keeps}
-use Rattle.vcode.specs.Regular.{leads_inside, is_target, alloc_bytes, code_weight}
+use Rattle.vcode.specs.Regular.{leads_inside, is_target, alloc_bytes}
 use Rattle.abi_frames.specs.Layout.{layout, saved_registers}
 use Rattle.abi_frames.specs.declared.layout.Layout.{Layout}
 use Rattle.vcode.specs.Addresses.{low}
@@ -66,8 +65,7 @@ use Rattle.abi_frames.specs.Laws.{IsCode}
 use Rattle.operation_code.proofs.Leading.{longest-append}
 use Rattle.abi_frames.proofs.Activations.{place_is, can_save}
 use Rattle.abi_frames.proofs.FrameEnds.{savable}
-use Rattle.abi_frames.proofs.Saving.{can_save_all, few_saved_registers}
-use Rattle.abi_frames.proofs.Outgoing.{slots_near}
+use Rattle.abi_frames.proofs.Saving.{can_save_all}
 use Rattle.abi_frames.proofs.Sizes.{ValueShort}
 
 -- ---- code without a label of its own, whose jumps go to labels below n
@@ -81,7 +79,7 @@ pub times-append : (l : ℕ) (is js : List Item) → times_labelled l (is ++ js)
 times-append l [] js = sym (zero-add (times_labelled l js))
 times-append l (i ∷ is) js = let rest = times-append l is js in omega (arith, rest)
 
-all_both : (test : Item → Bool) (is js : List Item) → list_all test is ≡ true → list_all test js ≡ true → list_all test (is ++ js) ≡ true
+pub all_both : (test : Item → Bool) (is js : List Item) → list_all test is ≡ true → list_all test js ≡ true → list_all test (is ++ js) ≡ true
 all_both test is js h k = list_all-append test is js ∙ and_from (list_all test is) (list_all test js) h k
 
 pub plainly_then : (n : ℕ) (is js : List Item) → Plainly n is → Plainly n js → Plainly n (is ++ js)
@@ -91,7 +89,7 @@ plainly_then n is js h k = record {
   registers = all_both has_good_registers is js h.registers k.registers;
 }
 
-plainly_nothing : (n : ℕ) → Plainly n []
+pub plainly_nothing : (n : ℕ) → Plainly n []
 plainly_nothing n = record { labels = refl; none = λ l. refl; registers = refl }
 
 -- registers that code may name
@@ -588,7 +586,7 @@ line_plainly n y used slots (Call to callee args) known =
     let operands = and_parts (operand_keeps (is_place slots) callee) (list_all (λ (a : Argument Location). operand_keeps (is_place slots) a.value) args) parts.1 in
     call_plainly n y slots to callee args parts.0 operands.0 operands.1
 
-lines_plainly : (n : ℕ) (y : Layout) (used slots : ℕ) (lines : List (Line Location)) → list_all (line_keeps (is_place slots)) lines ≡ true
+pub lines_plainly : (n : ℕ) (y : Layout) (used slots : ℕ) (lines : List (Line Location)) → list_all (line_keeps (is_place slots)) lines ≡ true
     → Plainly n (lines_items y used lines)
 lines_plainly n y used slots [] known = plainly_nothing n
 lines_plainly n y used slots (l ∷ lines) known =
@@ -598,7 +596,7 @@ lines_plainly n y used slots (l ∷ lines) known =
 
 -- ---- jumps
 
-lt_from : (a b : ℕ) → a < b → nat_lt a b ≡ true
+pub lt_from : (a b : ℕ) → a < b → nat_lt a b ≡ true
 lt_from a b h = grind (arith, nat_tests)
 
 target_below : (blocks n k : ℕ) → blocks < n → is_target blocks k ≡ true → nat_lt k n ≡ true
@@ -606,7 +604,7 @@ target_below blocks n k h e =
     let below = (and_parts (nat_lt 0 k) (nat_lt k blocks) e).1 in
     grind (arith, nat_tests)
 
-goto_plainly : (n k : ℕ) → nat_lt k n ≡ true → Plainly n (GoTo k ∷ [])
+pub goto_plainly : (n k : ℕ) → nat_lt k n ≡ true → Plainly n (GoTo k ∷ [])
 goto_plainly n k h = record { labels = and_from (nat_lt k n) true h refl; none = λ l. refl; registers = refl }
 
 result_plainly : (n : ℕ) (y : Layout) (slots : ℕ) (k : Option Class) (a : ReturnValue Location) → operand_keeps (is_place slots) a.value ≡ true
@@ -693,11 +691,11 @@ restores_plainly n o (r ∷ rs) good =
     plainly_then n (load_8 r 2 o ∷ []) (restore_all (o + 8) rs) (load_plainly n r 2 o (save_nameable r parts.0) (nameable 2 (lit< tt)))
     (restores_plainly n (o + 8) rs parts.1)
 
-prologue_plainly : (n : ℕ) (y : Layout) (rs : List ℕ) → list_all can_save rs ≡ true → Plainly n (prologue y rs)
+pub prologue_plainly : (n : ℕ) (y : Layout) (rs : List ℕ) → list_all can_save rs ≡ true → Plainly n (prologue y rs)
 prologue_plainly n y rs good =
     plainly_then n (lower_pointer y.size) (save_all y.saves rs) (lower_plainly n y.size) (saves_plainly n y.saves rs good)
 
-epilogue_plainly : (n : ℕ) (y : Layout) (rs : List ℕ) → list_all can_save rs ≡ true → Plainly n (epilogue y rs)
+pub epilogue_plainly : (n : ℕ) (y : Layout) (rs : List ℕ) → list_all can_save rs ≡ true → Plainly n (epilogue y rs)
 epilogue_plainly n y rs good =
     plainly_then n (restore_all y.saves rs) (raise_pointer y.size ++ (go_back ∷ [])) (restores_plainly n y.saves rs good)
     (plainly_then n (raise_pointer y.size) (go_back ∷ []) (raise_plainly n y.size) (record { labels = refl; none = λ l. refl; registers = refl }))
@@ -711,7 +709,7 @@ leave_plainly n y rs next good leave = by_test (y.copies && not (y.falls && nat_
     by_test true = epilogue_plainly n y rs good
     by_test false = goto_items_plainly n y next y.leave (lt_from y.leave n leave)
 
-jump_plainly : (n : ℕ) (y : Layout) (rs : List ℕ) (next slots blocks : ℕ) (j : Jump Location) → list_all can_save rs ≡ true → y.leave < n → blocks < n → jump_keeps (is_place slots) j ≡ true
+pub jump_plainly : (n : ℕ) (y : Layout) (rs : List ℕ) (next slots blocks : ℕ) (j : Jump Location) → list_all can_save rs ≡ true → y.leave < n → blocks < n → jump_keeps (is_place slots) j ≡ true
     → leads_inside blocks j ≡ true → Plainly n (jump_items y rs next j)
 jump_plainly n y rs next slots blocks (Goto k) good leave more known inside = goto_items_plainly n y next k (target_below blocks n k more inside)
 jump_plainly n y rs next slots blocks (Branch c met otherwise) good leave more known inside =
@@ -732,7 +730,7 @@ jump_plainly n y rs next slots blocks Halt good leave more known inside = record
 -- ---- blocks
 
 -- 1 for each number from k on, as many as there are blocks
-abbrev numbered : (k blocks l : ℕ) → ℕ
+abbrev pub numbered : (k blocks l : ℕ) → ℕ
 numbered k blocks l = if nat_le k l && nat_lt l (k + blocks) then 1 else 0
 
 pub record BlocksLabelled (n k : ℕ) (blocks : List (Block Location)) (is : List Item) : Type 0 where
@@ -740,13 +738,13 @@ pub record BlocksLabelled (n k : ℕ) (blocks : List (Block Location)) (is : Lis
   pub once : (l : ℕ) → times_labelled l is ≡ numbered k (length blocks) l
   pub registers : list_all has_good_registers is ≡ true
 
-no_blocks : (k l : ℕ) → 0 ≡ numbered k 0 l
+pub no_blocks : (k l : ℕ) → 0 ≡ numbered k 0 l
 no_blocks k l = grind (arith, nat_tests)
 
-one_more : (k n l : ℕ) → (if nat_eq k l then 1 else 0) + numbered (k + 1) n l ≡ numbered k (n + 1) l
+pub one_more : (k n l : ℕ) → (if nat_eq k l then 1 else 0) + numbered (k + 1) n l ≡ numbered k (n + 1) l
 one_more k n l = grind (arith, nat_tests)
 
-length-more : (b : Block Location) (blocks : List (Block Location)) → length (b ∷ blocks) ≡ length blocks + 1
+pub length-more : (b : Block Location) (blocks : List (Block Location)) → length (b ∷ blocks) ≡ length blocks + 1
 length-more b blocks = omega arith
 
 blocks_labelled : (n : ℕ) (y : Layout) (rs : List ℕ) (slots all k : ℕ) (blocks : List (Block Location)) → list_all can_save rs ≡ true → y.leave < n → all < n → k + length blocks ≤ all
@@ -809,7 +807,7 @@ arguments_plainly n y slots test k (d ∷ ds) known =
     by_test true good = argument_plainly n y slots k d.place good
     by_test false good = plainly_nothing n
 
-entry_plainly : (n : ℕ) (y : Layout) (slots : ℕ) (ds : List (Destination Location)) → list_all (λ (d : Destination Location). is_place slots d.place) ds ≡ true
+pub entry_plainly : (n : ℕ) (y : Layout) (slots : ℕ) (ds : List (Destination Location)) → list_all (λ (d : Destination Location). is_place slots d.place) ds ≡ true
     → Plainly n (arguments_items y goes_away 0 ds ++ (passed_items y (sources 8 0 ds) ++ arguments_items y is_on_stack 0 ds))
 entry_plainly n y slots ds known =
     plainly_then n (arguments_items y goes_away 0 ds) (passed_items y (sources 8 0 ds) ++ arguments_items y is_on_stack 0 ds)
@@ -817,7 +815,7 @@ entry_plainly n y slots ds known =
     (plainly_then n (passed_items y (sources 8 0 ds)) (arguments_items y is_on_stack 0 ds)
     (passed_plainly n y slots (sources 8 0 ds) (sources_stand slots 8 0 ds (lit≤ tt))) (arguments_plainly n y slots is_on_stack 0 ds known))
 
-pointer_plainly : (n : ℕ) (y : Layout) (params : ℕ) → Plainly n (pointer_items y params)
+pub pointer_plainly : (n : ℕ) (y : Layout) (params : ℕ) → Plainly n (pointer_items y params)
 pointer_plainly n y params = by_test (nat_lt 8 params)
   where
     by_test : (b : Bool) → Plainly n (if b then caller_pointer y else [])
@@ -840,7 +838,7 @@ begin_plainly n y rs slots params good known =
 all_numbered : (n l : ℕ) → l < n + 1 → numbered 0 n l + (if nat_eq n l then 1 else 0) ≡ 1
 all_numbered n l h = grind (arith, nat_tests)
 
-some_size : (y : Layout) (rs : List ℕ) → 0 < longest_size (epilogue y rs)
+pub some_size : (y : Layout) (rs : List ℕ) → 0 < longest_size (epilogue y rs)
 some_size y rs =
     let all = longest-append (restore_all y.saves rs) (raise_pointer y.size ++ (go_back ∷ [])) in
     let more = longest-append (raise_pointer y.size) (go_back ∷ []) in
@@ -926,12 +924,12 @@ quick_plainly n y (Some a) short =
     plainly_then n (result_items (no_frame y) y.result a) (go_back ∷ []) (result_plainly n (no_frame y) 0 y.result a short.0) (go_back_plainly n)
 
 -- a label with nothing of its own
-record Once (n l : ℕ) (is : List Item) : Type 0 where
-  labels : list_all (has_label_below n) is ≡ true
-  once : (k : ℕ) → times_labelled k is ≡ (if nat_eq l k then 1 else 0)
-  registers : list_all has_good_registers is ≡ true
+pub record Once (n l : ℕ) (is : List Item) : Type 0 where
+  pub labels : list_all (has_label_below n) is ≡ true
+  pub once : (k : ℕ) → times_labelled k is ≡ (if nat_eq l k then 1 else 0)
+  pub registers : list_all has_good_registers is ≡ true
 
-label_then : (n l : ℕ) (is : List Item) → l < n → Plainly n is → Once n l (Label l ∷ is)
+pub label_then : (n l : ℕ) (is : List Item) → l < n → Plainly n is → Once n l (Label l ∷ is)
 label_then n l is few plain = record {
   labels = and_from (nat_lt l n) (list_all (has_label_below n) is) (lt_from l n few) plain.labels;
   once = λ k. let none = plain.none k in omega (arith, none);

@@ -34,4 +34,9 @@ pub mod EarlyOrigins
 pub mod EarlyFacts
 pub mod EarlyWays
 pub mod EarlyPerforms
+pub mod BareStanding
+pub mod BareFacts
+pub mod BareJoining
+pub mod BarePerforms
+pub mod BareLabelling
 pub mod Promising

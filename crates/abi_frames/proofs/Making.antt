@@ -81,6 +81,7 @@ opened_framed c is numbers memory u used size room framed =
       saved = framed.saved;
       thread = framed.thread;
       others = framed.others;
+      unset = framed.unset;
     }
   where
     a : ℕ
@@ -125,7 +126,7 @@ named_case : (c : Setting) (f : Code Location) → CodeStands c f → (j : FlatG
       memory = opened fs.memory (c.sp - c.area + fs.used) size;
       used = fs.used + round_16 size;
     }))
-    → AllPerform c.world (bottom c) log → Performed c f r
+    → AllPerform c.world c.floor log → Performed c f r
 named_case c f is j r n go b to size lines fs k u a log goes all =
     let p : ℕ = c.sp - c.area + fs.used in
     let v : ℕ = bottom c + (c.layout.area + a.used) in
@@ -158,7 +159,7 @@ unnamed_case : (c : Setting) (f : Code Location) → CodeStands c f → (j : Fla
     → (b : Block Location) (size : ℕ) (lines : List (Line Location)) (fs : FlatState) (k : ℕ) (u : State)
     → At c f b (Alloc None size ∷ lines) fs k u → (log : Log)
     → Then c f j r n log (goes_on (record fs { memory = opened fs.memory (c.sp - c.area + fs.used) size; used = fs.used + round_16 size }))
-    → AllPerform c.world (bottom c) log → Performed c f r
+    → AllPerform c.world c.floor log → Performed c f r
 unnamed_case c f is j r n go b size lines fs k u a log goes all =
     let now : Spots = opened fs.memory (c.sp - c.area + fs.used) size in
     let same : fs.used ≡ a.used = a.used_is refl in
@@ -180,6 +181,6 @@ pub alloc_case : (c : Setting) (f : Code Location) → CodeStands c f → (j : F
       memory = opened fs.memory (c.sp - c.area + fs.used) size;
       used = fs.used + round_16 size;
     }))
-    → AllPerform c.world (bottom c) log → Performed c f r
+    → AllPerform c.world c.floor log → Performed c f r
 alloc_case c f is j r n go b None size lines fs k u a log goes all = unnamed_case c f is j r n go b size lines fs k u a log goes all
 alloc_case c f is j r n go b (Some to) size lines fs k u a log goes all = named_case c f is j r n go b to size lines fs k u a log goes all

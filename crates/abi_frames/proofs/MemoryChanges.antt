@@ -32,7 +32,7 @@ frame_bytes c is numbers memory now s u framed h o inside =
     let fits = is.fits in
     let above = is.above in
     number_same u.bytes s.bytes (bottom c + o) 8
-    (λ x lo hi. h.spared x (framed.clear x (omega (arith, lo)) (omega (arith, hi, inside, fits, above))))
+    (λ x lo hi. h.spared x (framed.clear x (omega (arith, lo, above)) (omega (arith, hi, inside, fits, above))))
 
 place_same : (c : Setting) → IsSetting c → (numbers : Numbers) (memory now : Spots) (s u : State) → Framed c numbers memory s → Changed memory now s u
     → (p : Location) (v : ℕ) → is_place c.slots p ≡ true → numbers p ≡ Some v → value_at c u p ≡ v
@@ -58,6 +58,7 @@ changed c is numbers memory now s u framed h =
           frame_bytes c is numbers memory now s u framed h (c.layout.saves + 8 * k) (omega (arith, few, saves)) ∙ framed.saved k r e;
       thread = λ n kept other out. h.registers n (held_below n kept) ∙ framed.thread n kept other out;
       others = λ x hi away. h.spared x (framed.reach x hi away) ∙ framed.others x hi away;
+      unset = framed.unset;
     }
 
 -- ---- bytes that may be accessed

@@ -8,6 +8,7 @@ use Rattle.rv_isa.specs.Labels.{IsLabelled, longest_size}
 use Rattle.rv_isa.specs.Labelled.{Stand}
 use Rattle.vcode.specs.declared.place.Location.{Location}
 use Rattle.vcode.specs.declared.code.Code.{Code}
+use Rattle.vcode.specs.declared.function.LFunc.{LFunc}
 use Rattle.vcode.specs.Regular.{area, code_weight}
 use Rattle.abi_frames.specs.declared.price.TheConstants.{COPIED_RESTORES}
 use Rattle.abi_frames.specs.declared.early.EarlyReturn.{EarlyReturn}
@@ -17,12 +18,19 @@ use Rattle.abi_frames.specs.Calls.{World, IsWorld}
 use Rattle.abi_frames.specs.Performs.{KeepsFrame}
 use Rattle.abi_frames.specs.Layout.{layout, saved_registers, frame_bound, frame_size}
 use Rattle.abi_frames.specs.EarlyReturns.{early_return, early_items, items_with, price, copies_end, labels_with}
-use Rattle.abi_frames.specs.Laws.{IsCode, FramesAreLabelled, FramesAreSmall, FramesPerform}
+use Rattle.abi_frames.specs.Laws.{IsCode, FramesAreLabelled, FramesAreSmall, FramesPerform, WaysAreLabelled, WaysPerform}
+use Rattle.abi_frames.proofs.BarePerforms.{performs_bare}
+use Rattle.abi_frames.proofs.BareLabelling.{bare_labelled}
 use Rattle.abi_frames.proofs.Sizes.{function_small, early_size, le_is}
 use Rattle.abi_frames.proofs.Labelling.{function_labelled, early_labelled}
 use Rattle.abi_frames.proofs.Starting.{frame_fits, performs}
 use Rattle.abi_frames.proofs.EarlyFacts.{IsEarly, early_is}
 use Rattle.abi_frames.proofs.EarlyPerforms.{left_short, right_short, value_short, test_fits, performs_early}
+
+-- a function in location code
+pub code_of : (l : LFunc) → IsCode l.code l.slots
+code_of l =
+    record { few = l.few; regular = l.regular; known = l.known; near = l.near; apart = l.apart; light = l.light }
 
 -- ---- sizes
 
@@ -109,3 +117,22 @@ dear_copies f slots o dear =
     by_test : (s t : Bool) → t ≡ false → (s && t) ≡ false
     by_test true t e = e
     by_test false t e = refl
+
+-- ---- with ways that need no frame
+
+pub ways_are_labelled : WaysAreLabelled
+ways_are_labelled f slots copies parts enter is ways size =
+    let light = le_is (code_weight f) FUNCTION_WEIGHT is.light in
+    bare_labelled f slots copies parts enter ways is (omega (arith, size, light))
+
+pub ways_perform : WaysPerform
+ways_perform f slots copies parts enter is ways =
+    let frame = frame_fits f slots is in
+    record {
+      fits = frame.fits;
+      area_fits = omega arith;
+      some = omega arith;
+      aligned = omega arith;
+      keeps = λ w at label global addresses world globals near aligned stands.
+          performs_bare w at label global addresses f slots copies parts enter ways is world globals near stands;
+    }

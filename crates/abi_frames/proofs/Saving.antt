@@ -13,7 +13,7 @@ use Rattle.vcode.specs.declared.code.Code.{Code}
 use Rattle.vcode.specs.Named.{is_place}
 use Rattle.abi_frames.specs.Calls.{is_kept}
 use Rattle.abi_frames.specs.Layout.{is_register, writes, block_writes, is_written, written_of, callee_saved, is_call, block_calls, makes_call, saved_registers}
-use Rattle.abi_frames.proofs.Activations.{can_save, is_among, place_is, MayWrite}
+use Rattle.abi_frames.proofs.Activations.{can_save, is_held, is_among, place_is, MayWrite}
 
 -- ---- those of a list that the code writes
 
@@ -69,6 +69,15 @@ can_save_all f = by_test (makes_call f) (written_all can_save f callee_saved ref
   where
     by_test : (b : Bool) → list_all can_save (written_of f callee_saved) ≡ true
         → list_all can_save ((if b then 1 ∷ [] else []) ++ written_of f callee_saved) ≡ true
+    by_test true e = e
+    by_test false e = e
+
+pub held_all : (f : Code Location) → list_all is_held (saved_registers f) ≡ true
+unfolding saved_registers
+held_all f = by_test (makes_call f) (written_all is_held f callee_saved refl)
+  where
+    by_test : (b : Bool) → list_all is_held (written_of f callee_saved) ≡ true
+        → list_all is_held ((if b then 1 ∷ [] else []) ++ written_of f callee_saved) ≡ true
     by_test true e = e
     by_test false e = e
 

@@ -1,6 +1,6 @@
 -- The machine follows the code on bytes, line by line: what holds at a line, and that it holds at the next one, until the code is over.
 use Rattle.std.proofs.Common.{◌≡◌, ◌≢◌, ℕ, zero, suc, ◌+◌, ◌-◌, ◌*◌, ◌<◌, ◌≤◌, Bool, true, false, List, [], ◌∷◌, ◌++◌, refl, sym, ◌∙◌, ap, subst, arith, lit<, zero-add, append_assoc, append-nil}
-use Rattle.std.specs.Prelude.{not, ◌&&◌, nat_eq, nat_lt, if◌then◌else◌, length, slice_get, Option, Some, None, Err}
+use Rattle.std.specs.Prelude.{not, ◌&&◌, nat_eq, nat_lt, if◌then◌else◌, slice_get, Option, Some, None, Err}
 use Rattle.std.specs.Option.{option_map, option_and_then}
 use Rattle.std.specs.List.{list_all, list_any}
 use Rattle.std.proofs.lemmas.Bool.{and_parts}
@@ -50,18 +50,16 @@ use Rattle.abi_frames.specs.Calls.{ResultIn, passed}
 use Rattle.abi_frames.specs.Performs.{AllPerform}
 use Rattle.abi_frames.specs.Layout.{most_in_lines}
 use Rattle.abi_frames.specs.Emission.{passed_class, line_items, lines_items, jump_items, goto_items, branch_items, result_items, leave_items, epilogue}
-use Rattle.operation_code.proofs.Leading.{Site, StandAt, Leads, leads_so, Sets}
+use Rattle.operation_code.proofs.Leading.{StandAt, Leads, leads_so, Sets}
 use Rattle.abi_frames.proofs.Addressing.{is_based}
-use Rattle.abi_frames.proofs.Activations.{Setting, site, bottom, save_at, operand_in, Framed, operand_known, Assigned, assigned, assigned_output, held_below, held_not_10}
+use Rattle.abi_frames.proofs.Activations.{Setting, site, save_at, operand_in, Framed, operand_known, Assigned, assigned, assigned_output, held_below, held_not_10}
 use Rattle.abi_frames.proofs.LineCode.{leads_set_line, leads_operate_line, leads_load_line}
 use Rattle.abi_frames.proofs.FrameEnds.{ends_frame}
 use Rattle.abi_frames.proofs.LineCode.{Scratched}
 use Rattle.abi_frames.proofs.Pacing.{landing, standing, few_standing, lands_on, falls_on}
-use Rattle.abi_frames.specs.declared.layout.Layout.{Layout}
 use Rattle.abi_frames.proofs.Calling.{PassedSo, passed_so}
 use Rattle.abi_frames.proofs.JumpCode.{Arrives, jumps_goto, meets, jumps_branch, leads_result, way_by}
 use Rattle.abi_frames.proofs.Sizes.{result_size, goto_size, branch_items_size, epilogue_size, le_is}
-use Rattle.abi_frames.proofs.Saving.{few_saved_registers}
 use Rattle.abi_frames.proofs.Storing.{store_case}
 use Rattle.abi_frames.proofs.CallCase.{call_case}
 use Rattle.abi_frames.proofs.Simulation.{CodeStands, allowed, At, AtJump, Landed, Performed, step_of, nothing_taken, later_fits, Log, Follows, Then, undefined, framed_same, reach, next_index, advance, may_write}
@@ -103,6 +101,7 @@ ticked c f b turn w lines fs k u t a turns weight calls output =
       room = omega (arith, room, bytes);
       used_is = λ e. a.used_is e ∙ nothing_taken a.used;
       passes = later_fits 0 (most_in_lines lines) c.layout.saves a.passes;
+      stood = a.stood;
     }
 
 out_of_turns : (c : Setting) (f : Code Location) (b : Block Location) (lines : List (Line Location)) (fs : FlatState) (k : ℕ) (u : State) (r : FlatOutcome)
@@ -123,7 +122,7 @@ out_of_turns c f b lines fs k u r a e =
 
 tick_case : (c : Setting) (f : Code Location) (j : FlatGiven) (r : FlatOutcome) (n : ℕ) → Follows c f j r n
     → (b : Block Location) (turn : Bool) (w : ℕ) (lines : List (Line Location)) (fs : FlatState) (k : ℕ) (u : State) → At c f b (Tick turn w ∷ lines) fs k u
-    → (log : Log) → Then c f j r n log (ticks j fs turn w) → AllPerform c.world (bottom c) log → Performed c f r
+    → (log : Log) → Then c f j r n log (ticks j fs turn w) → AllPerform c.world c.floor log → Performed c f r
 tick_case c f j r n go b false w lines fs k u a log goes all =
     go b lines (record fs { next = fs.next + 1; spent = both fs.spent (weighs w) }) k u
     (ticked c f b false w lines fs k u (both fs.spent (weighs w)) a refl refl (omega arith) (append-nil fs.spent.output)) log goes all
@@ -142,7 +141,7 @@ set_case : (c : Setting) (f : Code Location) → CodeStands c f → (j : FlatGiv
     → (b : Block Location) (to : Location) (x : Operand Location) (lines : List (Line Location)) (fs : FlatState) (k : ℕ) (u : State)
     → At c f b (Set to x ∷ lines) fs k u → (log : Log)
     → Then c f j r n log (goes_on (record fs { numbers = put to (number_of c.addresses fs.numbers x) fs.numbers }))
-    → AllPerform c.world (bottom c) log → Performed c f r
+    → AllPerform c.world c.floor log → Performed c f r
 set_case c f is j r n go b to x lines fs k u a log goes all =
     let numbers : Numbers = put to (number_of c.addresses fs.numbers x) fs.numbers in
     let known = and_parts (is_place c.slots to) (operand_keeps (is_place c.slots) x)
@@ -173,7 +172,7 @@ operate_case : (c : Setting) (f : Code Location) → CodeStands c f → (j : Fla
     → (b : Block Location) (to : Location) (op : Operation) (x y : Operand Location) (lines : List (Line Location)) (fs : FlatState) (k : ℕ) (u : State)
     → At c f b (Operate to op x y ∷ lines) fs k u → (log : Log)
     → Then c f j r n log (goes_on (record fs { numbers = put to (operated op (number_of c.addresses fs.numbers x) (number_of c.addresses fs.numbers y)) fs.numbers }))
-    → AllPerform c.world (bottom c) log → Performed c f r
+    → AllPerform c.world c.floor log → Performed c f r
 operate_case c f is j r n go b to op x y lines fs k u a log goes all =
     let given = operated op (number_of c.addresses fs.numbers x) (number_of c.addresses fs.numbers y) in
     let numbers : Numbers = put to given fs.numbers in
@@ -197,7 +196,7 @@ operate_case c f is j r n go b to op x y lines fs k u a log goes all =
 -- a load
 loaded : (c : Setting) (f : Code Location) → CodeStands c f → (j : FlatGiven) (r : FlatOutcome) (n : ℕ) → Follows c f j r n
     → (b : Block Location) (to : Location) (op : LoadOp) (x : Address Location) (lines : List (Line Location)) (fs : FlatState) (k : ℕ) (u : State)
-    → At c f b (Load to op x ∷ lines) fs k u → (log : Log) → AllPerform c.world (bottom c) log
+    → At c f b (Load to op x ∷ lines) fs k u → (log : Log) → AllPerform c.world c.floor log
     → (p v : ℕ) → address_of c.addresses fs.numbers x ≡ Some p → known_number fs.memory p (load_size op) ≡ Some v
     → Then c f j r n log (goes_on (record fs { numbers = put to (Some (load_value op v)) fs.numbers })) → Performed c f r
 loaded c f is j r n go b to op x lines fs k u a log all p v is_x is_v goes =
@@ -224,7 +223,7 @@ loaded c f is j r n go b to op x lines fs k u a log all p v is_x is_v goes =
 
 load_case : (c : Setting) (f : Code Location) → CodeStands c f → (j : FlatGiven) (r : FlatOutcome) (n : ℕ) → Follows c f j r n
     → (b : Block Location) (to : Location) (op : LoadOp) (x : Address Location) (lines : List (Line Location)) (fs : FlatState) (k : ℕ) (u : State)
-    → At c f b (Load to op x ∷ lines) fs k u → (log : Log) → AllPerform c.world (bottom c) log
+    → At c f b (Load to op x ∷ lines) fs k u → (log : Log) → AllPerform c.world c.floor log
     → Then c f j r n log
     (sets fs to (option_and_then (λ p. option_map (load_value op) (known_number fs.memory p (load_size op))) (address_of c.addresses fs.numbers x)))
     → Performed c f r
@@ -243,7 +242,7 @@ load_case c f is j r n go b to op x lines fs k u a log all goes = by_address (ad
 line_case : (c : Setting) (f : Code Location) → CodeStands c f → (j : FlatGiven) (r : FlatOutcome) (n : ℕ) → Follows c f j r n
     → (b : Block Location) (l : Line Location) (lines : List (Line Location)) (fs : FlatState) (k : ℕ) (u : State)
     → At c f b (l ∷ lines) fs k u → (log : Log) → Then c f j r n log (flat_line c.addresses (c.sp - c.area) j fs l)
-    → AllPerform c.world (bottom c) log → Performed c f r
+    → AllPerform c.world c.floor log → Performed c f r
 unfolding flat_line
 line_case c f is j r n go b (Tick turn w) lines fs k u a log goes all = tick_case c f j r n go b turn w lines fs k u a log goes all
 line_case c f is j r n go b (Set to x) lines fs k u a log goes all = set_case c f is j r n go b to x lines fs k u a log goes all
@@ -327,14 +326,14 @@ not_first blocks i n h e =
     absurd (let no : ⊥ = grind (arith, nat_tests) in no)
 
 pub enter : (c : Setting) (f : Code Location) → CodeStands c f → (j : FlatGiven) (r : FlatOutcome) (n : ℕ) → Follows c f j r n
-    → (i : ℕ) (fs : FlatState) (k : ℕ) (u : State) → Landed c (c.label i) (landing f i) fs k u → (i ≡ 0 → fs.used ≡ 0) → (log : Log)
-    → Logged (step_of c f j) n (record fs { block = i; next = 0 }) log r → AllPerform c.world (bottom c) log → Performed c f r
-enter c f is j r n go i fs k u a new log goes all = by_block (slice_get f.blocks i) refl
+    → (i : ℕ) (fs : FlatState) (k : ℕ) (u : State) → c.reached i ≡ true → Landed c (c.label i) (landing f i) fs k u → (i ≡ 0 → fs.used ≡ 0) → (log : Log)
+    → Logged (step_of c f j) n (record fs { block = i; next = 0 }) log r → AllPerform c.world c.floor log → Performed c f r
+enter c f is j r n go i fs k u there a new log goes all = by_block (slice_get f.blocks i) refl
   where
-    by_block : (o : Option (Block Location)) → slice_get f.blocks i ≡ o → Performed c f r
-    by_block None e = undefined_next c f j r n (record fs { block = i; next = 0 }) log (no_block c f j (record fs { block = i; next = 0 }) e) goes
-    by_block (Some b) e =
-        let stands = is.blocks i b e in
+    by_owner : (b : Block Location) → slice_get f.blocks i ≡ Some b → (t : Bool) → is.own i ≡ t → Performed c f r
+    by_owner b e false o = is.handed i b e there o j r n fs k u a new log goes all
+    by_owner b e true o =
+        let stands = is.blocks i b e there o in
         let paced = lands_on f i b e stands.paced in
         let pace = a.pace in
         let price = a.price in
@@ -361,7 +360,12 @@ enter c f is j r n go i fs k u a new log goes all = by_block (slice_get f.blocks
           room = omega (arith, room);
           used_is = λ h. none_used i fs.used b.lines new stands.made_first h;
           passes = stands.passes;
+          stood = stands;
         }) log goes all
+
+    by_block : (o : Option (Block Location)) → slice_get f.blocks i ≡ o → Performed c f r
+    by_block None e = undefined_next c f j r n (record fs { block = i; next = 0 }) log (no_block c f j (record fs { block = i; next = 0 }) e) goes
+    by_block (Some b) e = by_owner b e (is.own i) refl
 
 -- ---- the return
 
@@ -389,8 +393,8 @@ end_case c f is fs k w x rest stands a held =
     let left = m.holds in
     let few = m.few in
     let some = m.some in
-    let few_saved : length c.saved ≤ 13 = subst (λ rs. length rs ≤ 13) (sym is.saved) (few_saved_registers f) in
-    let size = epilogue_size c.layout c.saved few_saved in
+    let size = epilogue_size c.layout c.saved is.few_saved in
+    let enough = is.setting.enough in
     let price = a.price in
     let pace = a.pace in
     let now : Spots = closed fs.memory (c.sp - c.area) (area f) in
@@ -398,7 +402,7 @@ end_case c f is fs k w x rest stands a held =
       steps = k + m.steps;
       after = m.after;
       comes = comes_then a.comes m.comes;
-      price = omega (arith, few, size, price);
+      price = omega (arith, few, size, enough, price);
       pace = omega (arith, some, pace);
       output = left.output ∙ a.output;
       result = held m.after left.result;
@@ -417,7 +421,7 @@ end_case c f is fs k w x rest stands a held =
 
 -- from a jump to the frame's end, or a copy of that
 leave_case : (c : Setting) (f : Code Location) → CodeStands c f → (fs : FlatState) (k : ℕ) (w : State) (x : Option ℕ) (next : ℕ) (rest : List Item)
-    → StandAt (site c) (leave_items c.layout c.saved next ++ (Label next ∷ rest)) w.pc → Landed c w.pc FUNCTION_WEIGHT fs k w → k + 26 ≤ allowed fs
+    → StandAt (site c) (leave_items c.layout c.saved next ++ (Label next ∷ rest)) w.pc → Landed c w.pc FUNCTION_WEIGHT fs k w → k + 2 + c.reserve ≤ allowed fs
     → ((t : State) → t.registers 10 ≡ w.registers 10 → ResultIn f.result x t)
     → Performed c f (FlatReturned fs.spent x (closed fs.memory (c.sp - c.area) (area f)))
 leave_case c f is fs k w x next rest stands a paid held = by_test (c.layout.copies && not (c.layout.falls && nat_eq c.layout.leave next)) stands
@@ -481,6 +485,7 @@ result_framed c numbers memory u w n framed h = record {
   saved = λ k r e. ap (λ (m : ℕ → ℕ). number_at m (save_at c k) 8) h.bytes ∙ framed.saved k r e;
   thread = λ m kept other out. h.others m (held_below m kept) (held_not_10 m kept) ∙ framed.thread m kept other out;
   others = λ x hi away. ap (λ (m : ℕ → ℕ). m x) h.bytes ∙ framed.others x hi away;
+  unset = λ i far. refl;
 }
 
 return_value : (c : Setting) (f : Code Location) → CodeStands c f → (r : FlatOutcome) (y : ReturnValue Location) (fs : FlatState) (k : ℕ) (u : State)
@@ -577,7 +582,7 @@ halt_case c f r fs k u a e =
 
 branch_case : (c : Setting) (f : Code Location) → CodeStands c f → (j : FlatGiven) (r : FlatOutcome) (n : ℕ) → Follows c f j r n
     → (on : Comparison Location) (met otherwise : ℕ) (fs : FlatState) (k : ℕ) (u : State) → AtJump c f (Branch on met otherwise) fs k u → (log : Log)
-    → Then c f j r n log (branches fs met otherwise (compared c.addresses fs on)) → AllPerform c.world (bottom c) log → Performed c f r
+    → Then c f j r n log (branches fs met otherwise (compared c.addresses fs on)) → AllPerform c.world c.floor log → Performed c f r
 unfolding computed
 branch_case c f is j r n go on met otherwise fs k u a log goes all =
     by_values (number_of c.addresses fs.numbers on.left) refl (number_of c.addresses fs.numbers on.right) refl goes
@@ -598,9 +603,12 @@ branch_case c f is j r n go on met otherwise fs k u a log goes all =
     targets : (is_target a.blocks met ≡ true) × (is_target a.blocks otherwise ≡ true)
     targets = and_parts (is_target a.blocks met) (is_target a.blocks otherwise) a.inside
 
+    ways : (c.reached met ≡ true) × (c.reached otherwise ≡ true)
+    ways = and_parts (c.reached met) (c.reached otherwise) a.goes
+
     by_test : (t : Bool) → meets c u on ≡ t → Then c f j r n log (enters fs (if nat_eq (truth t) 0 then otherwise else met)) → Performed c f r
-    by_test false e e_goes = enter c f is j r n go otherwise fs (k + m.steps) m.after (at_way false e) (not_first a.blocks otherwise fs.used targets.1) log e_goes all
-    by_test true e e_goes = enter c f is j r n go met fs (k + m.steps) m.after (at_way true e) (not_first a.blocks met fs.used targets.0) log e_goes all
+    by_test false e e_goes = enter c f is j r n go otherwise fs (k + m.steps) m.after ways.1 (at_way false e) (not_first a.blocks otherwise fs.used targets.1) log e_goes all
+    by_test true e e_goes = enter c f is j r n go met fs (k + m.steps) m.after ways.0 (at_way true e) (not_first a.blocks met fs.used targets.0) log e_goes all
 
     by_values : (o : Option ℕ) → number_of c.addresses fs.numbers on.left ≡ o → (p : Option ℕ) → number_of c.addresses fs.numbers on.right ≡ p
         → Then c f j r n log (branches fs met otherwise (option_and_then (λ x. option_map (λ y. computed (Compare on.condition on.class) x y) p) o)) → Performed c f r
@@ -616,14 +624,14 @@ branch_case c f is j r n go on met otherwise fs k u a log goes all =
 
 goto_case : (c : Setting) (f : Code Location) → CodeStands c f → (j : FlatGiven) (r : FlatOutcome) (n : ℕ) → Follows c f j r n
     → (i : ℕ) (fs : FlatState) (k : ℕ) (u : State) → AtJump c f (Goto i) fs k u → (log : Log)
-    → Then c f j r n log (enters fs i) → AllPerform c.world (bottom c) log → Performed c f r
+    → Then c f j r n log (enters fs i) → AllPerform c.world c.floor log → Performed c f r
 goto_case c f is j r n go i fs k u a log goes all =
     let m = (jumps_goto (site c) c.layout u (fs.block + 1) i).from a.rest a.stands a.fixed in
-    enter c f is j r n go i fs (k + m.steps) m.after (lands c f is (Goto i) fs k u i (longest_size (goto_items c.layout (fs.block + 1) i)) a (goto_size c.layout (fs.block + 1) i) m) (not_first a.blocks i fs.used a.inside) log goes all
+    enter c f is j r n go i fs (k + m.steps) m.after a.goes (lands c f is (Goto i) fs k u i (longest_size (goto_items c.layout (fs.block + 1) i)) a (goto_size c.layout (fs.block + 1) i) m) (not_first a.blocks i fs.used a.inside) log goes all
 
 jump_case : (c : Setting) (f : Code Location) → CodeStands c f → (j : FlatGiven) (r : FlatOutcome) (n : ℕ) → Follows c f j r n
     → (x : Jump Location) (fs : FlatState) (k : ℕ) (u : State) → AtJump c f x fs k u → (log : Log)
-    → Then c f j r n log (flat_jump f c.addresses (c.sp - c.area) fs x) → AllPerform c.world (bottom c) log → Performed c f r
+    → Then c f j r n log (flat_jump f c.addresses (c.sp - c.area) fs x) → AllPerform c.world c.floor log → Performed c f r
 unfolding flat_jump
 jump_case c f is j r n go (Goto i) fs k u a log goes all = goto_case c f is j r n go i fs k u a log goes all
 jump_case c f is j r n go (Branch on met otherwise) fs k u a log goes all = branch_case c f is j r n go on met otherwise fs k u a log goes all
@@ -663,6 +671,7 @@ at_jump c f b fs k u a =
       paid = le_is (jump_cost b.jump) a.credit a.paid;
       blocks = a.blocks;
       inside = a.inside;
+      goes = a.stood.goes;
       price = price;
       pace = omega (arith, pace);
     }

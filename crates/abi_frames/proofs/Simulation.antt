@@ -1,6 +1,6 @@
 -- What holds at each line while the machine follows the code on bytes, and what is to be shown of it.
-use Rattle.std.proofs.Common.{◌≡◌, ℕ, suc, ◌+◌, ◌-◌, ◌*◌, ◌%◌, ◌<◌, ◌≤◌, Bool, true, false, refl, List, ◌∷◌, ◌++◌, sym, ◌∙◌, ap, subst, arith, lit<, append_assoc}
-use Rattle.std.specs.Prelude.{◌&&◌, ◌||◌, nat_le, slice_get, Some, max}
+use Rattle.std.proofs.Common.{◌≡◌, ℕ, suc, ◌+◌, ◌-◌, ◌*◌, ◌%◌, ◌<◌, ◌≤◌, Bool, true, false, refl, List, ◌∷◌, ◌++◌, ◌∙◌, ap, subst, arith, lit<, append_assoc}
+use Rattle.std.specs.Prelude.{◌&&◌, ◌||◌, nat_le, length, slice_get, Some, max}
 use Rattle.std.specs.List.{list_all, list_any, sum_by}
 use Rattle.std.proofs.lemmas.Bool.{and_parts}
 use Rattle.std.proofs.lemmas.List.Sums.{sum_by-cons}
@@ -28,13 +28,13 @@ use Rattle.flat_code.specs.Spots.{Spots}
 use Rattle.flat_code.specs.Flat.{FlatGiven, FlatAsked, FlatOutcome, FlatEnded, flat_after}
 use Rattle.flat_code.specs.Step.{FlatState, FlatEvent, Numbers, flat_step}
 use Rattle.abi_frames.specs.Performs.{Performs, AllPerform}
-use Rattle.abi_frames.specs.Layout.{args_on_stack, most_in_lines, is_register, writes, saved_registers, falls_through}
+use Rattle.abi_frames.specs.Layout.{args_on_stack, most_in_lines, is_register, writes, is_call, falls_through}
 use Rattle.abi_frames.specs.Emission.{line_items, lines_items, jump_items, epilogue}
 use Rattle.rv_isa.specs.declared.labelled.Item.TheVariants.{Label}
-use Rattle.abi_frames.proofs.Pacing.{standing}
+use Rattle.abi_frames.proofs.Pacing.{landing, standing}
 use Rattle.operation_code.proofs.Leading.{StandAt, Reaches, Leads}
-use Rattle.abi_frames.proofs.Activations.{Setting, IsSetting, site, bottom, slot_at, save_at, value_at, place_is, Framed, held_below, MayWrite}
-use Rattle.abi_frames.proofs.Saving.{line_may}
+use Rattle.abi_frames.proofs.Activations.{Setting, IsSetting, site, bottom, slot_at, save_at, value_at, place_is, Framed, held_below, is_among, MayWrite}
+use Rattle.abi_frames.specs.BareWays.{leads}
 use Rattle.abi_frames.proofs.LineCode.{Scratched}
 use Rattle.abi_frames.proofs.Sizes.{line_size, le_is}
 
@@ -52,18 +52,10 @@ pub record BlockStands (c : Setting) (b : Block Location) (i : ℕ) : Type 0 whe
   pub room : sum_by alloc_bytes b.lines ≤ c.area
   pub made_first : 0 < i → list_any is_alloc b.lines ≡ false
   pub passes : 8 * most_in_lines b.lines ≤ c.layout.saves
-
-pub record CodeStands (c : Setting) (f : Code Location) : Type 0 where
-  pub setting : IsSetting c
-  pub blocks : (i : ℕ) (b : Block Location) → slice_get f.blocks i ≡ Some b → BlockStands c b i
-  pub result : c.layout.result ≡ f.result
-  pub falls : c.layout.falls ≡ falls_through f
-  pub rest : List Item
-  pub leave : StandAt (site c) (epilogue c.layout c.saved ++ rest) (c.label c.layout.leave)
-  pub saved : c.saved ≡ saved_registers f
-  pub area : c.area ≡ area f
-  pub pointer : c.start.registers 2 ≡ c.sp
-  pub aligned : c.start.registers 1 % 4 ≡ 0
+  pub goes : leads c.reached b.jump ≡ true
+  pub may : (q : ℕ) (l : Line Location) → slice_get b.lines q ≡ Some l → (to : Location) → is_place c.slots to ≡ true
+      → ((n : ℕ) → is_register n to ≡ writes n l) → MayWrite c.saved to
+  pub calls : (q : ℕ) (l : Line Location) → slice_get b.lines q ≡ Some l → is_call l ≡ true → (c.floor ≡ bottom c) × (is_among 1 c.saved ≡ true)
 
 -- the instructions that are paid for, less those of the frame's end
 abbrev pub allowed : FlatState → ℕ
@@ -85,13 +77,14 @@ pub record At (c : Setting) (f : Code Location) (b : Block Location) (lines : Li
   pub jump_known : jump_keeps (is_place c.slots) b.jump ≡ true
   pub credit : ℕ
   pub paid : affords credit b.jump lines ≡ true
-  pub price : k + credit + 24 ≤ allowed fs
+  pub price : k + credit + c.reserve ≤ allowed fs
   pub pace : fs.spent.turns + sum_by turns_of lines ≤ FUNCTION_WEIGHT * k + standing f fs.block
   pub blocks : ℕ
   pub inside : leads_inside blocks b.jump ≡ true
   pub room : used + sum_by alloc_bytes lines ≤ c.area
   pub used_is : list_any is_alloc lines ≡ true → fs.used ≡ used
   pub passes : 8 * most_in_lines lines ≤ c.layout.saves
+  pub stood : BlockStands c b fs.block
 
 pub record AtJump (c : Setting) (f : Code Location) (j : Jump Location) (fs : FlatState) (k : ℕ) (u : State) : Type 0 where
   pub rest : List Item
@@ -105,7 +98,8 @@ pub record AtJump (c : Setting) (f : Code Location) (j : Jump Location) (fs : Fl
   pub paid : jump_cost j ≤ credit
   pub blocks : ℕ
   pub inside : leads_inside blocks j ≡ true
-  pub price : k + credit + 24 ≤ allowed fs
+  pub goes : leads c.reached j ≡ true
+  pub price : k + credit + c.reserve ≤ allowed fs
   pub pace : fs.spent.turns ≤ FUNCTION_WEIGHT * k + standing f fs.block
 
 -- the machine is where it goes on after a jump; so many turns may have begun beside those that instructions pay for
@@ -115,7 +109,7 @@ pub record Landed (c : Setting) (to extra : ℕ) (fs : FlatState) (k : ℕ) (u :
   pub framed : Framed c fs.numbers fs.memory u
   pub comes : Comes c.start k u
   pub output : u.output ≡ c.start.output ++ fs.spent.output
-  pub price : k + 24 ≤ allowed fs
+  pub price : k + c.reserve ≤ allowed fs
   pub pace : fs.spent.turns ≤ FUNCTION_WEIGHT * k + extra
 
 -- ---- what is to be shown
@@ -133,11 +127,32 @@ Log = List (Entry FlatAsked FlatOutcome)
 abbrev pub Follows : Setting → Code Location → FlatGiven → FlatOutcome → ℕ → Type 0
 Follows c f j r n =
     (b : Block Location) (lines : List (Line Location)) (fs : FlatState) (k : ℕ) (u : State) → At c f b lines fs k u → (log : Log)
-    → Logged (step_of c f j) n fs log r → AllPerform c.world (bottom c) log → Performed c f r
+    → Logged (step_of c f j) n fs log r → AllPerform c.world c.floor log → Performed c f r
 
 -- and after an event
 abbrev pub Then : Setting → Code Location → FlatGiven → FlatOutcome → ℕ → Log → FlatEvent → Type 0
 Then c f j r n log e = LoggedEvent (λ t rest. Logged (step_of c f j) n t rest r) r e log
+
+-- Where a jump has come to the block i, what is still to be done is done.
+abbrev pub Handed : Setting → Code Location → (i : ℕ) → Type 0
+Handed c f i =
+    (j : FlatGiven) (r : FlatOutcome) (n : ℕ) (fs : FlatState) (k : ℕ) (u : State) → Landed c (c.label i) (landing f i) fs k u → (i ≡ 0 → fs.used ≡ 0)
+    → (log : Log) → Logged (step_of c f j) n (record fs { block = i; next = 0 }) log r → AllPerform c.world c.floor log → Performed c f r
+
+-- of the blocks that jumps may lead to, some stand here, and the others are handed over
+pub record CodeStands (c : Setting) (f : Code Location) : Type 0 where
+  pub setting : IsSetting c
+  pub own : ℕ → Bool
+  pub blocks : (i : ℕ) (b : Block Location) → slice_get f.blocks i ≡ Some b → c.reached i ≡ true → own i ≡ true → BlockStands c b i
+  pub handed : (i : ℕ) (b : Block Location) → slice_get f.blocks i ≡ Some b → c.reached i ≡ true → own i ≡ false → Handed c f i
+  pub result : c.layout.result ≡ f.result
+  pub falls : c.layout.falls ≡ falls_through f
+  pub rest : List Item
+  pub leave : StandAt (site c) (epilogue c.layout c.saved ++ rest) (c.label c.layout.leave)
+  pub few_saved : length c.saved ≤ 13
+  pub area : c.area ≡ area f
+  pub pointer : c.start.registers 2 ≡ c.sp
+  pub aligned : c.start.registers 1 % 4 ≡ 0
 
 pub undefined : (c : Setting) (f : Code Location) (t : Spent) (r : FlatOutcome) → FlatEnded t Undefined ≡ r → Performed c f r
 undefined c f t r e = subst (λ o. Performed c f o) e tt
@@ -148,7 +163,7 @@ pub may_write : (c : Setting) (f : Code Location) → CodeStands c f → (b : Bl
     (k : ℕ) (u : State) → At c f b (l ∷ lines) fs k u → (to : Location) → is_place c.slots to ≡ true → ((n : ℕ) → is_register n to ≡ writes n l)
     → MayWrite c.saved to
 may_write c f is b l lines fs k u a to good writes_it =
-    subst (λ rs. MayWrite rs to) (sym is.saved) (line_may f c.slots fs.block (fs.next + 0) b l a.block (a.ahead 0) to good writes_it)
+    a.stood.may (fs.next + 0) l (a.ahead 0) to good writes_it
 
 -- ---- frames of states that differ in scratch registers
 
@@ -170,6 +185,7 @@ framed_same c numbers memory s u framed h = record {
   saved = λ k r e. ap (λ (m : ℕ → ℕ). number_at m (save_at c k) 8) h.bytes ∙ framed.saved k r e;
   thread = λ n kept other out. h.registers n (held_below n kept) ∙ framed.thread n kept other out;
   others = λ x hi away. ap (λ (m : ℕ → ℕ). m x) h.bytes ∙ framed.others x hi away;
+  unset = framed.unset;
 }
 
 -- ---- lines
@@ -250,4 +266,5 @@ advance c f b l lines fs k u numbers memory used a calm takes pays m =
       room = omega (arith, room, bytes);
       used_is = λ e. takes ∙ ap (λ n. n + alloc_bytes l) (a.used_is (later_alloc l lines e));
       passes = later_fits (args_on_stack l) (most_in_lines lines) c.layout.saves a.passes;
+      stood = a.stood;
     }

@@ -16,6 +16,8 @@ use Rattle.rv_isa.specs.declared.labelled.Item.{Item}
 use Rattle.rv_isa.specs.declared.labelled.Item.TheVariants.{Label}
 use Rattle.vcode.specs.declared.place.Location.{Location}
 use Rattle.vcode.specs.declared.place.Destination.{Destination}
+use Rattle.vcode.specs.declared.line.Jump.{Jump}
+use Rattle.vcode.specs.declared.line.Jump.TheVariants.{Goto, Branch, Return, Halt}
 use Rattle.vcode.specs.declared.code.Block.{Block}
 use Rattle.vcode.specs.declared.code.Code.{Code}
 use Rattle.vcode.specs.Named.{is_place, block_keeps, line_keeps, jump_keeps}
@@ -27,13 +29,14 @@ use Rattle.flat_code.specs.Step.{Numbers, bound, held, flat_begin, flat_step}
 use Rattle.abi_frames.specs.Calls.{World, IsWorld, GoodStack, Ready, HoldsSpots, passed}
 use Rattle.abi_frames.specs.Performs.{KeepsFrame}
 use Rattle.abi_frames.specs.Layout.{layout, outgoing, saved_registers, frame_size, frame_bound}
-use Rattle.abi_frames.proofs.Saving.{can_save_all, few_saved_registers, AllMayWrite, all_params_may}
+use Rattle.abi_frames.proofs.Saving.{can_save_all, few_saved_registers, AllMayWrite, all_params_may, line_may, call_saves}
+use Rattle.abi_frames.specs.BareWays.{leads}
 use Rattle.abi_frames.specs.declared.layout.Layout.{Layout}
 use Rattle.abi_frames.specs.Emission.{lines_items, jump_items, blocks_items, prologue, epilogue, lower_pointer, save_all}
 use Rattle.abi_frames.specs.Functions.{entry_items, function_items}
 use Rattle.abi_frames.specs.Laws.{IsCode}
 use Rattle.operation_code.proofs.Leading.{Site, StandAt, Leads, leads_then, leads_so, longest-append}
-use Rattle.abi_frames.proofs.Activations.{Setting, IsSetting, site, bottom, can_save, held_below}
+use Rattle.abi_frames.proofs.Activations.{Setting, IsSetting, site, bottom, can_save, held_below, is_among, MayWrite}
 use Rattle.abi_frames.proofs.FrameEnds.{savable, PointerMoved, leads_lower, AllSaved, leads_save_all}
 use Rattle.abi_frames.proofs.Outgoing.{few_outgoing, block_passes}
 use Rattle.abi_frames.proofs.Sizes.{prologue_size, entry_size, le_is}
@@ -134,7 +137,7 @@ each test (y ∷ xs) (suc i) x h e = each test xs i x (and_parts (test y) (list_
 byte_has_access : (m : Spot) (k : ℕ) → m ≡ ThisByte k → m ≡ NoAccess → ⊥
 byte_has_access m k e f = let no : ⊥ = cc in no
 
-begun_spots : (c : Setting) → IsSetting c → (u w : State) → Clear c.world.bottom c.sp c.before → HoldsSpots c.world.memory_map c.before c.start
+pub begun_spots : (c : Setting) → IsSetting c → (u w : State) → Clear c.world.bottom c.sp c.before → HoldsSpots c.world.memory_map c.before c.start
     → u.bytes ≡ c.start.bytes → AllSaved c c.layout.saves c.saved u w → (x n : ℕ) → c.before x ≡ ThisByte n → w.bytes x ≡ n
 begun_spots c is u w clear holds same saved x n known =
     by_test (nat_lt x (bottom c + c.layout.saves)) refl (nat_le (bottom c + (c.layout.saves + 8 * length c.saved)) x) refl
@@ -178,13 +181,14 @@ begun c is pointer clear holds =
         pointer = two.registers 2 (lit< tt) ∙ at_u;
         places = λ p v good known. absurd (let no : ⊥ = cc in no);
         spots = record { known = begun_spots c is u w clear holds one.bytes two; usable = holds.usable };
-        clear = λ x lo hi. clear x (omega (arith, lo, above)) (omega (arith, hi));
+        clear = λ x lo hi. clear x lo (omega (arith, hi));
         reach = λ x hi away. away;
         saved = λ k r e.
             let good = savable r (each can_save c.saved k r is.savable e) in
             two.saved k r e ∙ one.others r good.below good.not_pointer;
         thread = λ m kept other out. two.registers m (held_below m kept) ∙ one.others m (held_below m kept) other;
         others = λ x hi away. stays x hi;
+        unset = λ i far. refl;
       };
       output = two.output ∙ one.output;
       registers = λ k from few. two.registers (10 + k) (omega (arith, few)) ∙ one.others (10 + k) (omega (arith, few)) (λ e. absurd (omega (arith, e)));
@@ -205,7 +209,7 @@ same_held : (k : Class) (n : ℕ) → passed k n ≡ held k n
 same_held W n = refl
 same_held L n = refl
 
-length-classes : (ds : List (Destination Location)) → length (classes ds) ≡ length ds
+pub length-classes : (ds : List (Destination Location)) → length (classes ds) ≡ length ds
 length-classes [] = refl
 length-classes (d ∷ ds) = let rest = length-classes ds in omega (arith, rest)
 
@@ -233,6 +237,16 @@ ready_passes c at ks j ready i n a e f = by_test (nat_lt i 8) refl
     by_test true h = ready.in_registers i n a (grind (arith, nat_tests)) e f
     by_test false h = ready.on_stack i n a (grind (arith, nat_tests)) e f
 
+-- jumps may lead to any block
+pub all_lead : (j : Jump Location) → leads (λ i. true) j ≡ true
+all_lead (Goto k) = refl
+all_lead (Branch on met otherwise) = refl
+all_lead (Return a) = refl
+all_lead Halt = refl
+
+pub never : true ≡ false → ⊥
+never e = let no : ⊥ = cc in no
+
 -- ---- the promise
 
 abbrev pub setting : World → (label global : ℕ → ℕ) → List ℕ → Code Location → (slots : ℕ) → (copies : Bool) → (sp : ℕ) → Spots → State → Setting
@@ -249,6 +263,9 @@ setting w label global addresses f slots copies sp before s =
       sp = sp;
       before = before;
       start = s;
+      floor = sp - frame_size f slots;
+      reserve = 24;
+      reached = λ i. true;
     }
 
 -- how large the frame is
@@ -288,13 +305,14 @@ is_setting w label global addresses f slots copies sp room before s is world glo
       slots_near = omega (arith, few, saved);
       savable = can_save_all f;
       small = omega (arith, few, small, slots_few, saved);
+      enough = omega arith;
     }
 
 -- the bytes of a block are among all, and only the first block takes some
-abbrev block_bytes : Block Location → ℕ
+abbrev pub block_bytes : Block Location → ℕ
 block_bytes b = sum_by alloc_bytes b.lines
 
-block_within : (blocks : List (Block Location)) (i : ℕ) (b : Block Location) → slice_get blocks i ≡ Some b → block_bytes b ≤ sum_by block_bytes blocks
+pub block_within : (blocks : List (Block Location)) (i : ℕ) (b : Block Location) → slice_get blocks i ≡ Some b → block_bytes b ≤ sum_by block_bytes blocks
 block_within [] i b e = absurd (let no : ⊥ = cc in no)
 block_within (d ∷ blocks) zero b e =
     let same = ap block_bytes (some_block d b e) in
@@ -309,16 +327,16 @@ not_true : (b : Bool) → not b ≡ true → b ≡ false
 not_true true h = absurd (let no : ⊥ = cc in no)
 not_true false h = refl
 
-made_first : (blocks : List (Block Location)) (i : ℕ) (b : Block Location) → allocs_first blocks ≡ true → slice_get blocks i ≡ Some b → 0 < i
+pub made_first : (blocks : List (Block Location)) (i : ℕ) (b : Block Location) → allocs_first blocks ≡ true → slice_get blocks i ≡ Some b → 0 < i
     → list_any is_alloc b.lines ≡ false
 made_first [] i b h e some = absurd (let no : ⊥ = cc in no)
 made_first (d ∷ blocks) zero b h e some = absurd (omega (arith, some))
 made_first (d ∷ blocks) (suc i) b h e some =
     not_true (list_any is_alloc b.lines) (each (λ (x : Block Location). not (list_any is_alloc x.lines)) blocks i b h e)
 
-pub block_stands : (c : Setting) (f : Code Location) (slots : ℕ) → c.slots ≡ slots → c.area ≡ area f → c.layout.saves ≡ 8 * outgoing f → IsCode f slots → (b : Block Location) (i : ℕ) → slice_get f.blocks i ≡ Some b
-    → BlockCode (site c) c.layout c.saved b i → BlockStands c b i
-block_stands c f slots same same_area same_saves is b i e code =
+pub block_stands : (c : Setting) (f : Code Location) (slots : ℕ) → c.slots ≡ slots → c.area ≡ area f → c.layout.saves ≡ 8 * outgoing f → c.saved ≡ saved_registers f → c.floor ≡ bottom c → IsCode f slots → (b : Block Location) (i : ℕ)
+    → slice_get f.blocks i ≡ Some b → leads c.reached b.jump ≡ true → BlockCode (site c) c.layout c.saved b i → BlockStands c b i
+block_stands c f slots same same_area same_saves same_saved level is b i e goes code =
     let known = and_parts (list_all (λ (d : Destination Location). is_place slots d.place) f.params) (list_all (block_keeps (is_place slots)) f.blocks) is.known in
     let keeps : block_keeps (is_place slots) b ≡ true = each (block_keeps (is_place slots)) f.blocks i b known.1 e in
     let keeps_here : block_keeps (is_place c.slots) b ≡ true = subst (λ n. block_keeps (is_place n) b ≡ true) (sym same) keeps in
@@ -340,6 +358,9 @@ block_stands c f slots same same_area same_saves is b i e code =
       room = omega (arith, within, same_area);
       made_first = made_first f.blocks i b is.regular.first e;
       passes = omega (arith, passes, same_saves);
+      goes = goes;
+      may = λ q l there to good it. subst (λ rs. MayWrite rs to) (sym same_saved) (line_may f c.slots i q b l e there to good it);
+      calls = λ q l there call. (level, subst (λ rs. is_among 1 rs ≡ true) (sym same_saved) (call_saves f i q b l e there call));
     }
 
 -- from the call to the first block
@@ -392,14 +413,16 @@ performs w at label global addresses f slots copies is world globals near stands
     let leave = stand_after (site c) (blocks_items y rs 0 f.blocks) (Label y.leave ∷ last) blocks.place blocks.stands in
     let code : CodeStands c f = record {
       setting = good;
-      blocks = λ i b e.
-          block_stands c f slots refl refl refl is b i e
+      own = λ i. true;
+      handed = λ i b e there other. absurd (never other);
+      blocks = λ i b e there own.
+          block_stands c f slots refl refl refl refl refl is b i e (all_lead b.jump)
           (subst (λ k. BlockCode (site c) y rs b k) (zero-add i) (blocks_stand (site c) y rs 0 f.blocks last blocks.place (sym (zero-add (length f.blocks))) blocks.stands i b e));
       result = refl;
       falls = refl;
       rest = [];
       leave = leave_stands (site c) y.leave last leave.place leave.stands;
-      saved = refl;
+      few_saved = few_saved_registers f;
       area = refl;
       pointer = ready.stack_pointer;
       aligned = ready.return_address;
@@ -411,7 +434,7 @@ performs w at label global addresses f slots copies is world globals near stands
     ready.fixed in
     let few = m.few in
     let size = begin_size f slots copies is in
-    enter c f code j r n (follows c f code j r n) 0 (flat_begin f (sp - area f) j) m.steps m.after
+    enter c f code j r n (follows c f code j r n) 0 (flat_begin f (sp - area f) j) m.steps m.after refl
     (record {
       place = first_label (site c) y rs f.blocks last m.after.pc refl m.stands;
       fixed = m.fixed;

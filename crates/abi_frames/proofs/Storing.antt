@@ -160,7 +160,7 @@ stored_changes c memory s u a n v z holds there same h = record {
 
 stores : (c : Setting) (f : Code Location) → CodeStands c f → (j : FlatGiven) (r : FlatOutcome) (n : ℕ) → Follows c f j r n
     → (b : Block Location) (size : Size) (x : Operand Location) (y : Address Location) (lines : List (Line Location)) (fs : FlatState) (k : ℕ) (u : State)
-    → (a : At c f b (Store size x y ∷ lines) fs k u) → (log : Log) → AllPerform c.world (bottom c) log
+    → (a : At c f b (Store size x y ∷ lines) fs k u) → (log : Log) → AllPerform c.world c.floor log
     → (v p : ℕ) → number_of c.addresses fs.numbers x ≡ Some v → address_of c.addresses fs.numbers y ≡ Some p
     → all_there fs.memory p (byte_count size) ≡ true
     → Then c f j r n log (goes_on (record fs { memory = with_number fs.memory p (byte_count size) (taken (stored_class size) v) })) → Performed c f r
@@ -192,7 +192,7 @@ pub store_case : (c : Setting) (f : Code Location) → CodeStands c f → (j : F
     (option_and_then
     (λ v. option_and_then (λ p. stored_spots fs.memory p (byte_count size) v) (address_of c.addresses fs.numbers y))
     (read c.addresses fs.numbers (stored_class size) x)))
-    → AllPerform c.world (bottom c) log → Performed c f r
+    → AllPerform c.world c.floor log → Performed c f r
 store_case c f is j r n go b size x y lines fs k u a log goes all =
     by_operands (number_of c.addresses fs.numbers x) refl (address_of c.addresses fs.numbers y) refl goes
   where

@@ -1,5 +1,5 @@
 -- What is proved of the code of frames.
-use Rattle.std.specs.Prelude.{ℕ, ◌+◌, ◌*◌, ◌<◌, ◌≤◌, IsTrue, nat_le, length}
+use Rattle.std.specs.Prelude.{ℕ, ◌+◌, ◌*◌, ◌<◌, ◌≤◌, Bool, List, IsTrue, nat_le, length}
 use Rattle.il_ast.specs.declared.limits.TheConstants.{FUNCTION_WEIGHT}
 use Rattle.vcode.specs.declared.limits.TheConstants.{PLACES}
 use Rattle.rv_isa.specs.Labels.{IsLabelled, longest_size}
@@ -9,7 +9,9 @@ use Rattle.vcode.specs.Places.{located}
 use Rattle.vcode.specs.Named.{keeps_places, is_place, are_near, are_distinct}
 use Rattle.vcode.specs.Regular.{IsRegular, code_weight}
 use Rattle.abi_frames.specs.Frames.{IsFrameOf}
-use Rattle.abi_frames.specs.EarlyReturns.{early_return, frame_items, labels_with}
+use Rattle.abi_frames.specs.declared.ways.Part.{Part}
+use Rattle.abi_frames.specs.EarlyReturns.{early_return, frame_items, price, labels_with}
+use Rattle.abi_frames.specs.BareWays.{are_ways, bare_items, bare_labels}
 
 -- the code of a function, with places as location code has them
 pub record IsCode (f : Code Location) (slots : ℕ) : Type 0 where
@@ -40,3 +42,22 @@ abbrev pub FramesPerform : Type 0
 FramesPerform =
     (f : Code Location) (slots : ℕ) → IsCode f slots
     → IsFrameOf f slots (frame_items f slots)
+
+-- ---- with ways that need no frame, whichever were chosen
+
+abbrev pub WaysAreLabelled : Type 0
+WaysAreLabelled =
+    (f : Code Location) (slots : ℕ) (copies : Bool) (parts : List Part) (enter : ℕ) → IsCode f slots
+    → IsTrue (are_ways f parts enter)
+    → longest_size (bare_items f slots copies parts enter) ≤ price f
+    → IsLabelled
+    (record {
+      items = bare_items f slots copies parts enter;
+      labels = bare_labels (length f.blocks);
+    })
+
+abbrev pub WaysPerform : Type 0
+WaysPerform =
+    (f : Code Location) (slots : ℕ) (copies : Bool) (parts : List Part) (enter : ℕ) → IsCode f slots
+    → IsTrue (are_ways f parts enter)
+    → IsFrameOf f slots (bare_items f slots copies parts enter)

@@ -9,3 +9,4 @@ pub mod Laws
 pub mod Examples
 pub mod Frames
 pub mod EarlyReturns
+pub mod BareWays

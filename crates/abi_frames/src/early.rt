@@ -185,7 +185,7 @@ fn all_spare(operand: &Operand<Location>, lines: &[Line<Location>]) -> bool
 }
 
 /// Registers that places may be, numbers and names.
-fn is_bare(operand: &Operand<Location>) -> bool
+pub(crate) fn is_bare(operand: &Operand<Location>) -> bool
     ensures { result ≡ is_bare operand.now }
 {
     match operand {

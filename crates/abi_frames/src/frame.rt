@@ -1,6 +1,6 @@
 //! Functions with their frames.
 ghost use Rattle.il_ast.specs.declared.limits.TheConstants.{ALLOC_BYTES};
-ghost use Rattle.std.specs.Prelude.{◌≡◌, ◌+◌, ◌*◌, ◌^◌, ◌<◌, ◌≤◌, IsTrue, [], ◌∷◌, ◌++◌, false, true, length, map, nat_le, OnOk, IfOk};
+ghost use Rattle.std.specs.Prelude.{◌≡◌, ◌+◌, ◌*◌, ◌^◌, ◌<◌, ◌≤◌, IsTrue, [], ◌∷◌, ◌++◌, false, true, length, map, nat_le, OnOk, IfOk, IfSome};
 ghost use Rattle.rv_isa.specs.Labels.{longest_size};
 ghost use Rattle.std.specs.List.{list_all, sum_by};
 ghost use Rattle.vcode.specs.Regular.{area, alloc_bytes, passes_few, code_weight};
@@ -9,8 +9,10 @@ ghost use Rattle.abi_frames.specs.Emission.{lines_items, jump_items, epilogue, b
 ghost use Rattle.abi_frames.specs.Functions.{function_items};
 ghost use Rattle.abi_frames.specs.EarlyReturns.{test_items, quick_items, early_items, items_by, items_with, copies_end, labels_with};
 ghost use Rattle.rv_isa.specs.declared.labelled.Item.TheVariants.{Label};
+ghost use Rattle.abi_frames.specs.BareWays.{are_ways, bare_items, bare_labels};
 ghost use Rattle.abi_frames.specs.Frames.{IsFrameOf};
 
+use crate::choice::{Ways, choose};
 use crate::early::{EarlyReturn, early_return, push_quick, push_test};
 use crate::ends::{push_epilogue, push_prologue};
 use crate::entry::push_entry;
@@ -21,6 +23,7 @@ use crate::price::{COPIED_RESTORES, is_within, price};
 use crate::room::{area_of, outgoing_of};
 use crate::saved::saved_registers;
 use crate::turns::falls_through;
+use crate::ways::{are_ways, push_ways};
 use flat_code::function::FlatFunc;
 use rv_isa::labelled::{Item, LabelledCode};
 use std::alloc::{AllocError, Global};
@@ -43,7 +46,7 @@ fn push_body(
     push_jump(items, layout, saved, next, &block.jump)
 }
 
-fn push_block(
+pub(crate) fn push_block(
     items: &mut Vec<Item>,
     layout: &Layout,
     saved: &[u8],
@@ -77,7 +80,11 @@ fn push_blocks(
     Ok(())
 }
 
-fn push_end(items: &mut Vec<Item>, layout: &Layout, saved: &[u8]) -> Result<(), AllocError>
+pub(crate) fn push_end(
+    items: &mut Vec<Item>,
+    layout: &Layout,
+    saved: &[u8],
+) -> Result<(), AllocError>
     requires few { length saved.now ≤ 13 }
     ensures { OnOk result (items.new.items ≡ items.old.items ++ (Label layout.now.leave ∷ epilogue layout.now saved.now)) }
 {
@@ -280,6 +287,120 @@ fn frame_items(
     }
 }
 
+/// The code of a function that begins its frame at once, or returns early on one way.
+fn usual_frame(alloc: Global, function: &FlatFunc) -> Result<LabelledCode, AllocError>
+    ensures promise { IfOk result (λ c. IsFrameOf function.now.located.code function.now.located.slots c.items) }
+    ensures size { IfOk result (λ c. longest_size c.items ≤ 32 * code_weight function.now.located.code + 256) }
+{
+    let saved = saved_registers(alloc, &function.located.code)?;
+    let layout = layout_of(function, saved.as_slice());
+    let early = early_return(&function.located.code, layout.size);
+    let blocks = function.located.code.blocks.as_slice();
+    let items = frame_items(alloc, function, saved.as_slice(), &layout, &early)?;
+    Ok(LabelledCode::new(items, labels(blocks.len(), &early)))
+}
+
+/// The code with ways that need no frame.
+fn bare_items(
+    alloc: Global,
+    function: &FlatFunc,
+    saved: &[u8],
+    shared: &Layout,
+    ways: &Ways,
+) -> Result<Vec<Item>, AllocError>
+    requires registers { saved.now ≡ saved_registers function.now.located.code }
+    requires plan { shared.now ≡ layout function.now.located.code function.now.located.slots shared.now.copies }
+    requires small { length function.now.located.code.blocks + 1 < 2 ^ 62 }
+    ensures { IfOk result (λ v. v.items ≡ bare_items function.now.located.code function.now.located.slots shared.now.copies ways.now.parts.items ways.now.enter) }
+{
+    let mut items = Vec::new(alloc);
+    push_ways(
+        &mut items,
+        shared,
+        saved,
+        function.located.code.params.as_slice(),
+        function.located.code.blocks.as_slice(),
+        ways.parts.as_slice(),
+        ways.enter,
+    )?;
+    Ok(items)
+}
+
+/// How many labels the code has with ways that need no frame.
+fn bare_labels(blocks: usize) -> usize
+    requires { blocks < 2 ^ 62 }
+    ensures { result ≡ bare_labels blocks }
+{
+    2 * blocks + 2
+}
+
+/// The code with these ways, if it is within the price.
+fn bare_within(
+    alloc: Global,
+    function: &FlatFunc,
+    saved: &[u8],
+    shared: &Layout,
+    ways: &Ways,
+) -> Result<Option<LabelledCode>, AllocError>
+    requires registers { saved.now ≡ saved_registers function.now.located.code }
+    requires plan { shared.now ≡ layout function.now.located.code function.now.located.slots shared.now.copies }
+    requires right { IsTrue (are_ways function.now.located.code ways.now.parts.items ways.now.enter) }
+    ensures promise { IfOk result (λ o. IfSome o (λ c. IsFrameOf function.now.located.code function.now.located.slots c.items)) }
+    ensures size { IfOk result (λ o. IfSome o (λ c. longest_size c.items ≤ 32 * code_weight function.now.located.code + 256)) }
+{
+    let blocks = function.located.code.blocks.as_slice();
+    let items = bare_items(alloc, function, saved, shared, ways)?;
+    let most = price(&function.located.code);
+    if is_within(items.as_slice(), most) {
+        Ok(Some(LabelledCode::new(items, bare_labels(blocks.len()))))
+    } else {
+        Ok(None)
+    }
+}
+
+/// The code with the ways that were chosen, if they are right and the code is within the price.
+fn bare_by(
+    alloc: Global,
+    function: &FlatFunc,
+    saved: &[u8],
+    shared: &Layout,
+    ways: &Ways,
+) -> Result<Option<LabelledCode>, AllocError>
+    requires registers { saved.now ≡ saved_registers function.now.located.code }
+    requires plan { shared.now ≡ layout function.now.located.code function.now.located.slots shared.now.copies }
+    ensures promise { IfOk result (λ o. IfSome o (λ c. IsFrameOf function.now.located.code function.now.located.slots c.items)) }
+    ensures size { IfOk result (λ o. IfSome o (λ c. longest_size c.items ≤ 32 * code_weight function.now.located.code + 256)) }
+{
+    if are_ways(&function.located.code, ways.parts.as_slice(), ways.enter) {
+        bare_within(alloc, function, saved, shared, ways)
+    } else {
+        Ok(None)
+    }
+}
+
+/// The code of a function with ways that need no frame, if it has some, a frame on others, and no early return.
+fn bare_frame(alloc: Global, function: &FlatFunc) -> Result<Option<LabelledCode>, AllocError>
+    ensures promise { IfOk result (λ o. IfSome o (λ c. IsFrameOf function.now.located.code function.now.located.slots c.items)) }
+    ensures size { IfOk result (λ o. IfSome o (λ c. longest_size c.items ≤ 32 * code_weight function.now.located.code + 256)) }
+{
+    let code = &function.located.code;
+    let saved = saved_registers(alloc, code)?;
+    let shared = layout_of(function, saved.as_slice());
+    if shared.size == 0 || early_return(code, shared.size).is_some() {
+        return Ok(None);
+    }
+    match choose(alloc, code.blocks.as_slice())? {
+        Some(ways) => bare_by(
+            alloc,
+            function,
+            saved.as_slice(),
+            &layout_with(&shared, saved.len() <= COPIED_RESTORES),
+            &ways,
+        ),
+        None => Ok(None),
+    }
+}
+
 /// The machine code of a function, with at most 32 words for each unit of its weight, and 256. Wherever it stands, it performs what the
 /// function's code on bytes runs.
 ///
@@ -290,10 +411,8 @@ pub fn frame(alloc: Global, function: &FlatFunc) -> Result<LabelledCode, AllocEr
     ensures promise { IfOk result (λ c. IsFrameOf function.now.located.code function.now.located.slots c.items) }
     ensures size { IfOk result (λ c. longest_size c.items ≤ 32 * code_weight function.now.located.code + 256) }
 {
-    let saved = saved_registers(alloc, &function.located.code)?;
-    let layout = layout_of(function, saved.as_slice());
-    let early = early_return(&function.located.code, layout.size);
-    let blocks = function.located.code.blocks.as_slice();
-    let items = frame_items(alloc, function, saved.as_slice(), &layout, &early)?;
-    Ok(LabelledCode::new(items, labels(blocks.len(), &early)))
+    match bare_frame(alloc, function)? {
+        Some(code) => Ok(code),
+        None => usual_frame(alloc, function),
+    }
 }

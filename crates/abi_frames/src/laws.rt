@@ -1,6 +1,6 @@
 //! What is proved of the code of frames, each as the contract of a function that does nothing.
 ghost use Rattle.abi_frames.specs.Examples.{Examples};
-ghost use Rattle.abi_frames.specs.Laws.{FramesAreLabelled, FramesAreSmall, FramesPerform};
+ghost use Rattle.abi_frames.specs.Laws.{FramesAreLabelled, FramesAreSmall, FramesPerform, WaysAreLabelled, WaysPerform};
 
 /// The labelled code of a function has at most 32 words for each unit of its weight, and 256.
 pub fn frames_are_small()
@@ -15,6 +15,16 @@ pub fn frames_perform()
 /// The labelled code of a function keeps the invariants of such code.
 pub fn frames_are_labelled()
     ensures { FramesAreLabelled }
+{}
+
+/// Labelled code with ways that need no frame performs what the code on bytes runs too.
+pub fn ways_perform()
+    ensures { WaysPerform }
+{}
+
+/// Such code keeps the invariants of labelled code, where it is within the price.
+pub fn ways_are_labelled()
+    ensures { WaysAreLabelled }
 {}
 
 /// The premises of these laws hold of small functions.

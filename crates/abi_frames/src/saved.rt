@@ -36,7 +36,7 @@ fn makes_in(to: &Option<Location>, number: u8) -> bool
     }
 }
 
-fn writes(line: &Line<Location>, number: u8) -> bool
+pub(crate) fn writes(line: &Line<Location>, number: u8) -> bool
     ensures { result ≡ writes number line.now }
 {
     match line {

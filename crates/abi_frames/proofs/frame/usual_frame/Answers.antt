@@ -3,18 +3,11 @@ use Rattle.rv_isa.specs.Labels.{IsLabelled, longest_size}
 use Rattle.rv_isa.specs.declared.labelled.Item.{Item}
 use Rattle.vcode.specs.declared.place.Location.{Location}
 use Rattle.vcode.specs.declared.code.Block.{Block}
-use Rattle.vcode.specs.declared.function.LFunc.{LFunc}
 use Rattle.vcode.specs.Regular.{code_weight}
 use Rattle.abi_frames.specs.EarlyReturns.{early_by, early_return, items_with, copies_end, frame_items, labels_with}
 use Rattle.abi_frames.specs.Frames.{IsFrameOf}
-use Rattle.abi_frames.specs.Laws.{IsCode}
-use Rattle.abi_frames.proofs.Promising.{frames_are_labelled, frames_are_small, frames_perform}
-use Rattle.abi_frames.proofs.frame.frame.Goals as goal
-
--- a function in location code
-code_of : (l : LFunc) → IsCode l.code l.slots
-code_of l =
-    record { few = l.few; regular = l.regular; known = l.known; near = l.near; apart = l.apart; light = l.light }
+use Rattle.abi_frames.proofs.Promising.{code_of, frames_are_labelled, frames_are_small, frames_perform}
+use Rattle.abi_frames.proofs.frame.usual_frame.Goals as goal
 
 pub new-requires : goal.new-requires
 unfolding early_return

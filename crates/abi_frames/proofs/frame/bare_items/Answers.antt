@@ -1,0 +1,24 @@
+use Rattle.std.proofs.Common.{◌≡◌, ◌≤◌, ◌∙◌, sym, ap, subst, arith, List, ℕ}
+use Rattle.std.specs.Prelude.{length, slice_get, Some}
+use Rattle.std.proofs.lemmas.Option.{slice_get_within}
+use Rattle.vcode.specs.declared.place.Location.{Location}
+use Rattle.vcode.specs.declared.code.Block.{Block}
+use Rattle.abi_frames.specs.declared.layout.Layout.{Layout}
+use Rattle.abi_frames.specs.BareWays.{CanStand}
+use Rattle.abi_frames.proofs.Saving.{few_saved_registers}
+use Rattle.abi_frames.proofs.Promising.{code_of}
+use Rattle.abi_frames.proofs.BareLabelling.{can_stand}
+use Rattle.abi_frames.proofs.frame.bare_items.Goals as goal
+
+pub push_ways-requires-clause-can : goal.push_ways-requires-clause-can
+push_ways-requires-clause-can c = λ i b e.
+    let l = c.args.function.now.located in
+    let here : slice_get l.code.blocks i ≡ Some b = ap (λ (bs : List (Block Location)). slice_get bs i) (sym c.as_slice-2.ensures) ∙ e in
+    let small = c.requires.small in
+    let low = slice_get_within l.code.blocks i b here in
+    subst (λ (y : Layout). CanStand y i b) (sym c.requires.plan)
+    (can_stand l.code l.slots c.args.shared.now.copies (code_of l) small i b here (omega (arith, low, small)))
+
+pub push_ways-requires-clause-few_saved : goal.push_ways-requires-clause-few_saved
+push_ways-requires-clause-few_saved c =
+    subst (λ (rs : List ℕ). length rs ≤ 13) (sym c.requires.registers) (few_saved_registers c.args.function.now.located.code)

@@ -1,0 +1,10 @@
+use Rattle.std.proofs.Common.{length, refl}
+use Rattle.std.proofs.lemmas.Option.{slice_get_read}
+use Rattle.abi_frames.proofs.ways.push_fronts.Goals as goal
+
+pub push_front-requires-clause-can : goal.push_front-requires-clause-can
+push_front-requires-clause-can c =
+    let blocks = c.args.blocks.now in
+    let i = c.loop-number.number in
+    let b = c.index-blocks-number.result in
+    c.requires.can i b (slice_get_read blocks (length blocks) i b refl c.loop-number-test.true c.index-blocks-number.is)
