@@ -1,6 +1,7 @@
 //! Graphs of many blocks of points, whose shapes are hard on a search for live registers.
 use cfg_live::graph::Graph;
 use cfg_live::uses::Uses;
+use il_ast::few::Few;
 use il_ast::list::Seq;
 use std::alloc::{AllocError, Global};
 
@@ -57,7 +58,7 @@ fn next_blocks(shape: Shape, blocks: u32, block: u32) -> (u32, Option<u32>) {
 }
 
 fn push_start(
-    next: &mut Seq<usize>,
+    next: &mut Few<usize>,
     shape: Shape,
     blocks: u32,
     block: u32,
@@ -71,9 +72,9 @@ fn next_of_last(
     shape: Shape,
     blocks: u32,
     block: u32,
-) -> Result<Seq<usize>, AllocError> {
+) -> Result<Few<usize>, AllocError> {
     let (ahead, other) = next_blocks(shape, blocks, block);
-    let mut next = Seq::new(alloc);
+    let mut next = Few::new(alloc);
     push_start(&mut next, shape, blocks, ahead)?;
     match other {
         Some(other) => push_start(&mut next, shape, blocks, other)?,
@@ -103,7 +104,7 @@ fn registers(shape: Shape, block: u32, point: u32) -> (Option<u32>, Option<u32>)
 /// What a point of a block reads and writes.
 fn uses(alloc: Global, shape: Shape, block: u32, point: u32) -> Result<Uses, AllocError> {
     let (read, writes) = registers(shape, block, point);
-    let mut reads = Seq::new(alloc);
+    let mut reads = Few::new(alloc);
     match read {
         Some(register) => reads.push(register)?,
         None => {}
@@ -111,8 +112,8 @@ fn uses(alloc: Global, shape: Shape, block: u32, point: u32) -> Result<Uses, All
     Ok(Uses { reads, writes })
 }
 
-fn one(alloc: Global, point: usize) -> Result<Seq<usize>, AllocError> {
-    let mut next = Seq::new(alloc);
+fn one(alloc: Global, point: usize) -> Result<Few<usize>, AllocError> {
+    let mut next = Few::new(alloc);
     next.push(point)?;
     Ok(next)
 }

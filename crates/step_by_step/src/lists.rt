@@ -1,11 +1,11 @@
 //! Lists of numbers in texts.
-use il_ast::list::Seq;
+use il_ast::few::Few;
 use std::alloc::Global;
 use text_maker::maker::TextMaker;
 
 /// The numbers in a list.
-pub fn numbers(alloc: Global, list: &str) -> Option<Seq<usize>> {
-    let mut numbers = Seq::new(alloc);
+pub fn numbers(alloc: Global, list: &str) -> Option<Few<usize>> {
+    let mut numbers = Few::new(alloc);
     for word in list.split_whitespace() {
         numbers.push(word.parse::<usize>().ok()?).ok()?;
     }
@@ -13,8 +13,8 @@ pub fn numbers(alloc: Global, list: &str) -> Option<Seq<usize>> {
 }
 
 /// The registers in a list.
-pub fn registers(alloc: Global, list: &str) -> Option<Seq<u32>> {
-    let mut registers = Seq::new(alloc);
+pub fn registers(alloc: Global, list: &str) -> Option<Few<u32>> {
+    let mut registers = Few::new(alloc);
     for word in list.split_whitespace() {
         registers.push(word.parse::<u32>().ok()?).ok()?;
     }

@@ -1,11 +1,12 @@
 //! Loops of functions.
 use crate::lists::add_numbers;
 use code_text::function::virtual_function;
+use il_ast::few::Few;
 use loops::depths::{depths, frequency, sources};
 use std::alloc::{AllocError, Global};
 use text_maker::maker::TextMaker;
 
-fn add_block(text: &mut TextMaker, block: usize, depths: &[u32], sources: &[Vec<usize>]) {
+fn add_block(text: &mut TextMaker, block: usize, depths: &[u32], sources: &[Few<usize>]) {
     text.add_with_numbers("#:", &[block as u64]);
     if let Some(depth) = depths.get(block) {
         let depth = *depth;
@@ -18,7 +19,7 @@ fn add_block(text: &mut TextMaker, block: usize, depths: &[u32], sources: &[Vec<
     text.add("\n");
 }
 
-fn lines(alloc: Global, depths: &[u32], sources: &[Vec<usize>]) -> Result<String, AllocError> {
+fn lines(alloc: Global, depths: &[u32], sources: &[Few<usize>]) -> Result<String, AllocError> {
     let mut text = TextMaker::new(alloc);
     for block in 0..depths.len().max(sources.len()) {
         add_block(&mut text, block, depths, sources);

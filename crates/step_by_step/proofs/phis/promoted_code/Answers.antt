@@ -1,4 +1,3 @@
-use Rattle.std.proofs.Common.{◌∙◌}
 use Rattle.promote.specs.Uses.{mentions_of, width_in}
 use Rattle.promote.proofs.Respect.{all_respected}
 use Rattle.promote.proofs.Rules.{rules_stay, limits_stay}
@@ -11,5 +10,5 @@ code_of-requires c =
     let w = width_in (mentions_of f) in
     record {
       rules = rules_stay w f g c.in-Ok.ensures (all_respected (mentions_of f)) c.requires.rules;
-      limits = limits_stay w f g c.in-Ok.ensures ∙ c.requires.limits;
+      limits = limits_stay w f g c.in-Ok.ensures c.requires.limits;
     }
