@@ -275,21 +275,20 @@ pub(crate) fn push_line(
     ensures { OnOk result (items.new.items ≡ items.old.items ++ line_items layout.now used line.now) }
 {
     match line {
-        Line::Set { to, value } => push_set(items, layout, to, value)?,
+        Line::Set { to, value } => push_set(items, layout, to, value),
         Line::Operate {
             to,
             operation,
             left,
             right,
-        } => push_operate(items, layout, to, operation, left, right)?,
-        Line::Load { to, op, at } => push_load_line(items, layout, to, *op, at)?,
-        Line::Call { to, callee, args } => push_call(items, layout, to, callee, args.as_slice())?,
-        Line::Store { size, value, at } => push_store_line(items, layout, *size, value, at)?,
-        Line::Alloc { to, .. } => push_alloc(items, layout, used, to)?,
-        Line::Blit { from, to, count } => push_blit(items, layout, from, to, *count)?,
-        Line::Tick { .. } => {}
+        } => push_operate(items, layout, to, operation, left, right),
+        Line::Load { to, op, at } => push_load_line(items, layout, to, *op, at),
+        Line::Call { to, callee, args } => push_call(items, layout, to, callee, args.as_slice()),
+        Line::Store { size, value, at } => push_store_line(items, layout, *size, value, at),
+        Line::Alloc { to, .. } => push_alloc(items, layout, used, to),
+        Line::Blit { from, to, count } => push_blit(items, layout, from, to, *count),
+        Line::Tick { .. } => Ok(()),
     }
-    Ok(())
 }
 
 /// Puts the code of a block's lines at the end.

@@ -56,7 +56,6 @@ fn push_item(
 }
 
 /// Puts the words of items at the end, for labels at `places` in the forms that are chosen by the places `far`.
-#[tactic(auto, using(crate::proofs::Standing::more_length, crate::proofs::Distances::size_longest))]
 pub fn push_words(
     words: &mut Vec<u32>,
     far: &[usize],
@@ -89,7 +88,6 @@ fn push_hole(holes: &mut Vec<Hole>, place: usize, item: &Item) -> Result<(), All
 }
 
 /// Puts the holes of items at the end, for the forms that are chosen by the places `far`.
-#[tactic(auto, using(crate::proofs::Distances::size_longest))]
 pub fn push_holes(holes: &mut Vec<Hole>, far: &[usize], items: &[Item]) -> Result<(), AllocError>
     requires near { longest_size items.now < 2 ^ 28 }
     ensures { OnOk result (holes.new.items ≡ holes_with far.now 0 0 holes.old.items items.now) }

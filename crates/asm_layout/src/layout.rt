@@ -16,7 +16,6 @@ use std::alloc::{AllocError, Global};
 /// Wherever the words stand, with addresses filled in, the labelled code stands. They are the words of `specs/Forms.antt`: each jump and branch has the
 /// shortest form that would reach its label if all items took their longest one. There is one word at least, and no more
 /// than the items' longest forms take. Memory is all that can be wanting.
-#[tactic(auto, using(crate::proofs::Whole::lays_out, crate::proofs::Whole::is_code, crate::proofs::Whole::not_longer, crate::proofs::Whole::forms_fit))]
 pub fn layout(alloc: Global, code: LabelledCode) -> Result<MachineCode, AllocError>
     ensures laid { IfOk result (λ out. LaysOut code.items out.words out.holes) }
     ensures words { IfOk result (λ out. out.words ≡ words_of code) }

@@ -4,6 +4,7 @@ use certificates::certificate::Certificate;
 use certificates::strategy::Strategy;
 use cfg_live::sets::Live;
 use qbec::compile::compile;
+use qbec::error::CompileError;
 use regalloc::linear_scan::LinearScan;
 use std::alloc::{AllocError, Global};
 use vcode::code::Block;
@@ -114,19 +115,28 @@ impl Strategy for Counted {
     }
 }
 
+impl Counted {
+    fn shown(&self) -> Result<String, AllocError> {
+        let functions = self.functions;
+        let unanswered = self.unanswered;
+        let refused = self.refused;
+        let slots = self.slots;
+        format!(in self.alloc;
+            "{functions} functions, {unanswered} without a certificate, {refused} refused; {slots} operands in slots"
+        )
+    }
+}
+
+// Why a text isn't compiled, if it isn't.
+fn refusal(alloc: Global, text: &[u8], allocator: &mut dyn Strategy) -> Option<CompileError> {
+    compile(alloc, &[text], allocator).err()
+}
+
 /// What the checker says of linear scan's answers for the functions of a text.
 pub fn accepted(alloc: Global, text: &[u8]) -> Result<String, AllocError> {
     let mut counted = Counted::new(alloc);
-    match compile(alloc, &[text], &mut counted) {
-        Ok(_) => {
-            let functions = counted.functions;
-            let unanswered = counted.unanswered;
-            let refused = counted.refused;
-            let slots = counted.slots;
-            format!(in alloc;
-                "{functions} functions, {unanswered} without a certificate, {refused} refused; {slots} operands in slots"
-            )
-        }
-        Err(error) => format!(in alloc; "{error:?}"),
+    match refusal(alloc, text, &mut counted) {
+        None => counted.shown(),
+        Some(error) => format!(in alloc; "{error:?}"),
     }
 }

@@ -6,7 +6,7 @@ use std::alloc::{AllocError, Global};
 use std::marker::Model;
 
 /// A set of numbers below a length that is fixed when it is made.
-#[derive(Debug, Drop)]
+#[derive(Drop)]
 pub struct BitSet {
     length: usize,
     words: Vec<u64>,

@@ -62,6 +62,10 @@ listed_starts list rows registers p (b ∷ blocks) =
 abbrev pub no_moves : Uses → List Transfer
 no_moves u = []
 
+-- a certificate before anything is listed
+abbrev pub nothing_listed : Certificate
+nothing_listed = record { params = []; everywhere = []; starts = []; moves = []; places = [] }
+
 -- each register at its place everywhere, and where a block begins the live ones alone
 abbrev pub listed : Code ℕ → ℕ → List Bits → List Location → Certificate
 listed v registers rows list =

@@ -3,7 +3,7 @@ ghost use Rattle.std.specs.Prelude.{◌≡◌, ◌<◌, ◌^◌, ◌++◌, [], �
 ghost use Rattle.std.specs.Option.{option_map_or};
 ghost use Rattle.cfg_live.specs.Points.{uses};
 ghost use Rattle.cfg_live.specs.Rows.{holds};
-ghost use Rattle.certificates.specs.Listed.{place_in, with_place, with_places, with_written, point_places, has, live_places, listed_params, end_point, listed_starts, no_moves, listed};
+ghost use Rattle.certificates.specs.Listed.{place_in, with_place, with_places, with_written, point_places, has, live_places, listed_params, end_point, listed_starts, no_moves, nothing_listed, listed};
 
 use crate::certificate::{Certificate, Equality, Transfer};
 use cfg_live::numbering::jump_point;
@@ -211,6 +211,39 @@ fn push_places(
     Ok(())
 }
 
+/// Fills a certificate that has nothing yet.
+fn fill(
+    alloc: Global,
+    certificate: &mut Certificate,
+    function: &VFunc,
+    live: &Live,
+    list: &[Location],
+) -> Result<(), AllocError>
+    requires { certificate.old ≡ nothing_listed }
+    ensures { OnOk result (certificate.new ≡ listed function.now.code function.now.registers live.now list.now) }
+{
+    let blocks = function.code.blocks.as_slice();
+    push_params(
+        &mut certificate.params,
+        list,
+        function.code.params.as_slice(),
+    )?;
+    let graph = graph(alloc, function)?;
+    let points = graph.uses.as_slice();
+    // the graph has them all, so each has a number
+    let _points = graph.uses.len();
+    push_starts(
+        alloc,
+        &mut certificate.starts,
+        list,
+        live,
+        function.registers,
+        blocks,
+    )?;
+    push_moves(alloc, &mut certificate.moves, points)?;
+    push_places(alloc, &mut certificate.places, list, points)
+}
+
 /// The certificate that gives register i place `list[i]` everywhere, without moves; where a block starts it names the live registers alone. A register
 /// that the list is too short for has no place.
 ///
@@ -225,24 +258,13 @@ pub fn certificate_of(
 ) -> Result<Certificate, AllocError>
     ensures { IfOk result (λ c. c ≡ listed function.now.code function.now.registers live.now list.now) }
 {
-    let blocks = function.code.blocks.as_slice();
-    let mut params = Seq::new(alloc);
-    push_params(&mut params, list, function.code.params.as_slice())?;
-    let graph = graph(alloc, function)?;
-    let points = graph.uses.as_slice();
-    // the graph has them all, so each has a number
-    let _points = graph.uses.len();
-    let mut starts = Seq::new(alloc);
-    push_starts(alloc, &mut starts, list, live, function.registers, blocks)?;
-    let mut moves = Seq::new(alloc);
-    push_moves(alloc, &mut moves, points)?;
-    let mut places = Seq::new(alloc);
-    push_places(alloc, &mut places, list, points)?;
-    Ok(Certificate {
-        params,
+    let mut certificate = Certificate {
+        params: Seq::new(alloc),
         everywhere: Seq::new(alloc),
-        starts,
-        moves,
-        places,
-    })
+        starts: Seq::new(alloc),
+        moves: Seq::new(alloc),
+        places: Seq::new(alloc),
+    };
+    fill(alloc, &mut certificate, function, live, list)?;
+    Ok(certificate)
 }

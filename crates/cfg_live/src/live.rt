@@ -1,5 +1,5 @@
 //! Live registers.
-ghost use Rattle.std.specs.Prelude.{◌≡◌, ◌+◌, length, OnOk, IfOk};
+ghost use Rattle.std.specs.Prelude.{◌≡◌, ◌≤◌, ◌+◌, length, OnOk, IfOk};
 ghost use Rattle.cfg_live.specs.Points.{graph_of};
 ghost use Rattle.cfg_live.specs.Rows.{AreBlank, AreLive};
 
@@ -35,6 +35,26 @@ fn blank_rows(alloc: Global, points: usize, registers: usize) -> Result<Vec<BitS
     Ok(rows)
 }
 
+/// Lets empty sets, one for each point at least, grow to those of the live registers.
+fn fill(
+    alloc: Global,
+    rows: &mut [BitSet],
+    graph: &Graph,
+    registers: usize,
+) -> Result<(), AllocError>
+    requires blank { AreBlank registers rows.old }
+    requires uses { length graph.now.uses ≤ length rows.old }
+    requires nexts { length graph.now.nexts ≤ length rows.old }
+    ensures as_many { OnOk result (length rows.new ≡ length rows.old) }
+    ensures live { OnOk result (AreLive graph.now registers rows.new) }
+{
+    let befores = befores(alloc, graph)?;
+    let order = successors_first(alloc, graph, &befores)?;
+    let mut list = Worklist::new(alloc, befores)?;
+    let mut set = BitSet::new(alloc, registers)?;
+    spread(rows, &mut set, graph, &mut list, &order)
+}
+
 /// The live registers of each point of a graph whose points name registers below `registers`: exactly those that some path from there reads before it
 /// writes them. Other registers are live nowhere.
 ///
@@ -46,13 +66,9 @@ fn blank_rows(alloc: Global, points: usize, registers: usize) -> Result<Vec<BitS
 pub fn live_in(alloc: Global, graph: &Graph, registers: u32) -> Result<Live, AllocError>
     ensures { IfOk result (λ l. AreLive graph.now registers l) }
 {
-    let befores = befores(alloc, graph)?;
-    let order = successors_first(alloc, graph, &befores)?;
-    let mut list = Worklist::new(alloc, befores)?;
     let points = graph.uses.len().max(graph.nexts.len());
-    let mut set = BitSet::new(alloc, registers as usize)?;
     let mut rows = blank_rows(alloc, points, registers as usize)?;
-    spread(rows.as_mut_slice(), &mut set, graph, &mut list, &order)?;
+    fill(alloc, rows.as_mut_slice(), graph, registers as usize)?;
     Ok(Live { rows })
 }
 

@@ -59,20 +59,31 @@ fn walk_from(walk: &mut Walk, edges: &[Few<usize>], point: usize) -> Result<(), 
     Ok(())
 }
 
+/// Walks from each root in turn.
+fn walk_all(walk: &mut Walk, edges: &[Few<usize>], roots: &[usize]) -> Result<(), AllocError> {
+    for root in roots {
+        walk_from(walk, edges, *root)?;
+    }
+    Ok(())
+}
+
+/// A walk with nothing to do, through so many points.
+fn empty_walk(alloc: Global, points: usize) -> Result<Walk, AllocError> {
+    Ok(Walk {
+        ahead: Vec::with_capacity(alloc, points)?,
+        seen: BitSet::new(alloc, points)?,
+        left: Vec::with_capacity(alloc, points)?,
+    })
+}
+
 /// The points in the order in which a walk along these edges leaves them, depth first, from each root in turn.
 fn postorder(
     alloc: Global,
     edges: &[Few<usize>],
     roots: &[usize],
 ) -> Result<Vec<usize>, AllocError> {
-    let mut walk = Walk {
-        ahead: Vec::with_capacity(alloc, edges.len())?,
-        seen: BitSet::new(alloc, edges.len())?,
-        left: Vec::with_capacity(alloc, edges.len())?,
-    };
-    for root in roots {
-        walk_from(&mut walk, edges, *root)?;
-    }
+    let mut walk = empty_walk(alloc, edges.len())?;
+    walk_all(&mut walk, edges, roots)?;
     Ok(walk.left)
 }
 

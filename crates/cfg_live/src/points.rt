@@ -94,19 +94,30 @@ fn push_start(next: &mut Few<usize>, first: Option<usize>) -> Result<(), AllocEr
     }
 }
 
+fn push_jump_starts(
+    next: &mut Few<usize>,
+    firsts: &[usize],
+    jump: &Jump<u32>,
+) -> Result<(), AllocError>
+    requires { next.old ≡ [] }
+    ensures { OnOk result (next.new ≡ jump_next firsts.now jump.now) }
+{
+    match jump {
+        Jump::Goto(block) => push_start(next, firsts.get(*block).copied()),
+        Jump::Branch { met, otherwise, .. } => {
+            push_start(next, firsts.get(*met).copied())?;
+            push_start(next, firsts.get(*otherwise).copied())
+        }
+        Jump::Return(_) => Ok(()),
+        Jump::Halt => Ok(()),
+    }
+}
+
 fn next_of_jump(alloc: Global, firsts: &[usize], jump: &Jump<u32>) -> Result<Few<usize>, AllocError>
     ensures { IfOk result (λ v. v ≡ jump_next firsts.now jump.now) }
 {
     let mut next = Few::new(alloc);
-    match jump {
-        Jump::Goto(block) => push_start(&mut next, firsts.get(*block).copied())?,
-        Jump::Branch { met, otherwise, .. } => {
-            push_start(&mut next, firsts.get(*met).copied())?;
-            push_start(&mut next, firsts.get(*otherwise).copied())?;
-        }
-        Jump::Return(_) => {}
-        Jump::Halt => {}
-    }
+    push_jump_starts(&mut next, firsts, jump)?;
     Ok(next)
 }
 

@@ -33,33 +33,50 @@ fn push_args(reads: &mut Few<u32>, args: &[Argument<u32>]) -> Result<(), AllocEr
     Ok(())
 }
 
+fn push_both(
+    reads: &mut Few<u32>,
+    left: &Operand<u32>,
+    right: &Operand<u32>,
+) -> Result<(), AllocError>
+    ensures { OnOk result (reads.new ≡ with_operand (with_operand reads.old left.now) right.now) }
+{
+    push_operand(reads, left)?;
+    push_operand(reads, right)
+}
+
+fn push_call(
+    reads: &mut Few<u32>,
+    callee: &Operand<u32>,
+    args: &[Argument<u32>],
+) -> Result<(), AllocError>
+    ensures { OnOk result (reads.new ≡ with_args (with_operand reads.old callee.now) args.now) }
+{
+    push_operand(reads, callee)?;
+    push_args(reads, args)
+}
+
+fn push_line_reads(reads: &mut Few<u32>, line: &Line<u32>) -> Result<(), AllocError>
+    requires { reads.old ≡ [] }
+    ensures { OnOk result (reads.new ≡ line_reads line.now) }
+{
+    match line {
+        Line::Tick { .. } => Ok(()),
+        Line::Set { value, .. } => push_operand(reads, value),
+        Line::Operate { left, right, .. } => push_both(reads, left, right),
+        Line::Load { at, .. } => push_operand(reads, &at.base),
+        Line::Store { value, at, .. } => push_both(reads, value, &at.base),
+        Line::Alloc { .. } => Ok(()),
+        Line::Blit { from, to, .. } => push_both(reads, from, to),
+        Line::Call { callee, args, .. } => push_call(reads, callee, args.as_slice()),
+    }
+}
+
 /// The registers that a line reads, those of its operands in order.
 pub(crate) fn line_reads(alloc: Global, line: &Line<u32>) -> Result<Few<u32>, AllocError>
     ensures { IfOk result (λ v. v ≡ line_reads line.now) }
 {
     let mut reads = Few::new(alloc);
-    match line {
-        Line::Tick { .. } => {}
-        Line::Set { value, .. } => push_operand(&mut reads, value)?,
-        Line::Operate { left, right, .. } => {
-            push_operand(&mut reads, left)?;
-            push_operand(&mut reads, right)?;
-        }
-        Line::Load { at, .. } => push_operand(&mut reads, &at.base)?,
-        Line::Store { value, at, .. } => {
-            push_operand(&mut reads, value)?;
-            push_operand(&mut reads, &at.base)?;
-        }
-        Line::Alloc { .. } => {}
-        Line::Blit { from, to, .. } => {
-            push_operand(&mut reads, from)?;
-            push_operand(&mut reads, to)?;
-        }
-        Line::Call { callee, args, .. } => {
-            push_operand(&mut reads, callee)?;
-            push_args(&mut reads, args.as_slice())?;
-        }
-    }
+    push_line_reads(&mut reads, line)?;
     Ok(reads)
 }
 
@@ -82,20 +99,24 @@ pub fn line_writes(line: &Line<u32>) -> Option<u32>
     }
 }
 
+fn push_jump_reads(reads: &mut Few<u32>, jump: &Jump<u32>) -> Result<(), AllocError>
+    requires { reads.old ≡ [] }
+    ensures { OnOk result (reads.new ≡ jump_reads jump.now) }
+{
+    match jump {
+        Jump::Goto(_) => Ok(()),
+        Jump::Branch { on, .. } => push_both(reads, &on.left, &on.right),
+        Jump::Return(None) => Ok(()),
+        Jump::Return(Some(returned)) => push_operand(reads, &returned.value),
+        Jump::Halt => Ok(()),
+    }
+}
+
 /// The registers that a jump reads.
 pub(crate) fn jump_reads(alloc: Global, jump: &Jump<u32>) -> Result<Few<u32>, AllocError>
     ensures { IfOk result (λ v. v ≡ jump_reads jump.now) }
 {
     let mut reads = Few::new(alloc);
-    match jump {
-        Jump::Goto(_) => {}
-        Jump::Branch { on, .. } => {
-            push_operand(&mut reads, &on.left)?;
-            push_operand(&mut reads, &on.right)?;
-        }
-        Jump::Return(None) => {}
-        Jump::Return(Some(returned)) => push_operand(&mut reads, &returned.value)?,
-        Jump::Halt => {}
-    }
+    push_jump_reads(&mut reads, jump)?;
     Ok(reads)
 }

@@ -136,5 +136,5 @@ pub fn asked<'a>(
         "trace" => trace_of(alloc, found, handed),
         _ => return Ok(None),
     };
-    Ok(Some(command?))
+    command.map(Some)
 }

@@ -21,6 +21,10 @@ pub(crate) const TEXT: &str = "FILE";
 
 pub(crate) const WORDS: &str = "WORDS";
 
+/// What stands above the help of the program.
+const COMPILES: &str =
+    "Compiles programs in the QBE intermediate language (its integer part) to static RV64IM executables";
+
 /// What stands below the help of the program and of its commands.
 const STATUSES: &str =
     "Exit status: the program's own of run, interp and trace, 0 of build, dis, check and symbols; 134 where the program halts, 124 at the limit, 125 where it faults, is undefined or runs out of stack, 126 where qbec refuses or can't go on. Each but the program's own comes with a line on standard error that says why.
@@ -117,12 +121,8 @@ fn with_argument<'a>(
 fn program<'a>(alloc: Global) -> Result<Command<'a>, AllocError>
     ensures { IfOk result (λ c. IsRead c program_app) }
 {
-    Command::new(alloc, "qbec")
-        .about(
-            "Compiles programs in the QBE intermediate language (its integer part) to static RV64IM executables",
-        )
+    titled(alloc, "qbec", COMPILES, STATUSES)
         .version("1.0")
-        .after_help(STATUSES)
         .no_binary_name(true)
         .subcommand_required(true)
         .disable_help_subcommand(true)

@@ -13,7 +13,7 @@ use rv_machine::stop::Stop;
 use std::alloc::{AllocError, AllocFailed};
 
 /// Why a command did not end well. [`crate::tell::tell`] writes its line.
-#[derive(Debug, Drop)]
+#[derive(Drop)]
 pub enum Failure<'a> {
     /// The program came to `hlt`, or to `ebreak`.
     Halt,

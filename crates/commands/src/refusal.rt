@@ -8,7 +8,7 @@ use il_types::rule::BrokenRule;
 use qbec::error::CompileError;
 
 /// Why texts, a file or argument words are refused.
-#[derive(Debug, Drop)]
+#[derive(Drop)]
 pub enum Refusal {
     /// A text is not in the grammar. Texts and lines are numbered from 1.
     Syntax { text: usize, line: usize },

@@ -18,14 +18,14 @@ use qbec::texts::checked_text;
 use std::alloc::{AllocError, Global};
 
 /// Why texts are refused: the refusal, and the same in words at a line.
-#[derive(Debug, Drop)]
+#[derive(Drop)]
 pub struct Finding {
     pub refusal: CompileError,
     pub note: Note,
 }
 
 /// What is found of texts.
-#[derive(Debug, Drop)]
+#[derive(Drop)]
 pub enum Verdict {
     /// They are a program; these are likely mistakes in it.
     Sound(Vec<Note>),

@@ -3,7 +3,7 @@ use std::alloc::AllocError;
 use text_maker::maker::TextMaker;
 
 /// What is said of a line of one of several texts, which are numbered from 0.
-#[derive(Debug, Drop)]
+#[derive(Drop)]
 pub struct Note {
     pub text: usize,
     pub line: usize,

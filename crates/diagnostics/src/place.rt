@@ -8,7 +8,7 @@ use il_ast::temp::Temp;
 use std::alloc::{AllocError, Global};
 
 /// A value at a line, in a place of a class.
-#[derive(Clone, Copy, Debug)]
+#[derive(Clone, Copy)]
 pub struct Use {
     pub line: usize,
     pub class: Class,
@@ -16,7 +16,7 @@ pub struct Use {
 }
 
 /// A temporary that is assigned at a line, with a class.
-#[derive(Clone, Copy, Debug)]
+#[derive(Clone, Copy)]
 pub struct Definer {
     pub line: usize,
     pub temp: Temp,

@@ -4,7 +4,7 @@ use crate::flags::Flags;
 use std::marker::Model;
 
 /// A segment as it stands in memory: file bytes from its address on, and then zeros up to its size.
-#[derive(Debug, Drop)]
+#[derive(Drop)]
 pub struct Segment {
     address: u64,
     flags: Flags,
@@ -72,7 +72,7 @@ impl Segment {
 }
 
 /// What a file loads as: its segments in rising order, and the address of the first instruction.
-#[derive(Debug, Drop)]
+#[derive(Drop)]
 pub struct Loaded {
     entry: u64,
     segments: Vec<Segment>,

@@ -15,7 +15,7 @@ use vcode::line::{Line, Operation};
 use vcode::place::Operand;
 
 /// A computation at the end of a block, into a register that the function doesn't have.
-#[derive(Clone, Copy, Debug)]
+#[derive(Clone, Copy)]
 pub struct Plan {
     pub block: usize,
     pub register: u32,
@@ -68,13 +68,14 @@ fn is_worth(plan: &Plan) -> bool {
     }
 }
 
+fn is_same(one: &Plan, other: &Plan) -> bool {
+    one.operation == other.operation && one.left == other.left && one.right == other.right
+}
+
 /// The register of a computation that is planned for this loop already.
 fn planned(plans: &Plans, wanted: &Plan) -> Option<u32> {
     for plan in plans.list.iter().skip(plans.first) {
-        if plan.operation == wanted.operation
-            && plan.left == wanted.left
-            && plan.right == wanted.right
-        {
+        if is_same(plan, wanted) {
             return Some(plan.register);
         }
     }
@@ -390,6 +391,32 @@ fn plan_nest(
     plan_steps(plans, written, reads, nest)
 }
 
+/// Plans for the loops in this order.
+fn plan_in_order(
+    plans: &mut Plans,
+    written: &mut Written,
+    reads: &[u32],
+    blocks: &[Block<u32>],
+    nests: &[Nest],
+    order: &[(usize, usize)],
+) -> Result<(), AllocError> {
+    for (_, number) in order {
+        if let Some(nest) = nests.get(*number) {
+            plan_nest(plans, written, reads, blocks, nest)?;
+        }
+    }
+    Ok(())
+}
+
+/// Plans for the loops, the outer ones before the inner ones.
+fn plan_nests(alloc: Global, plans: &mut Plans, function: &VFunc) -> Result<(), AllocError> {
+    let blocks = function.code.blocks.as_slice();
+    let mut written = Written::new(alloc, function.registers)?;
+    let reads = count_reads(alloc, function.registers, blocks)?;
+    let (nests, order) = nests_of(alloc, blocks)?;
+    plan_in_order(plans, &mut written, &reads, blocks, &nests, &order)
+}
+
 fn credits(alloc: Global, blocks: &[Block<u32>]) -> Result<Vec<u128>, AllocError> {
     let mut credits = Vec::with_capacity(alloc, blocks.len())?;
     for block in blocks {
@@ -446,35 +473,43 @@ fn push_plans(blocks: &mut [BlockPlans], plans: &[Plan]) -> Result<(), AllocErro
     Ok(())
 }
 
+/// No plans yet, and what the ticks of each block leave.
+fn no_plans(alloc: Global, function: &VFunc) -> Result<Plans, AllocError> {
+    let credits = credits(alloc, function.code.blocks.as_slice())?;
+    Ok(Plans {
+        list: Vec::new(alloc),
+        first: 0,
+        next: function.registers,
+        credits,
+        sums: Vec::new(alloc),
+    })
+}
+
+/// What the plans choose for the blocks.
+fn choice_of(
+    alloc: Global,
+    plans: &mut Plans,
+    blocks: &[Block<u32>],
+) -> Result<Vec<BlockPlans>, AllocError> {
+    let mut lists = by_block(alloc, plans, blocks)?;
+    push_plans(lists.as_mut_slice(), plans.list.as_slice())?;
+    Ok(lists)
+}
+
 /// Computations for the ends of blocks in front of loops, and for extensions that are shifted to the left; none where there is nothing to do.
 ///
 /// # Errors
 ///
 /// Only where memory was refused.
 pub fn choose_plans(alloc: Global, function: &VFunc) -> Result<Option<Choice>, AllocError> {
-    let blocks = function.code.blocks.as_slice();
-    let (nests, order) = nests_of(alloc, blocks)?;
-    let mut written = Written::new(alloc, function.registers)?;
-    let mut plans = Plans {
-        list: Vec::new(alloc),
-        first: 0,
-        next: function.registers,
-        credits: credits(alloc, blocks)?,
-        sums: Vec::new(alloc),
-    };
-    let reads = count_reads(alloc, function.registers, blocks)?;
-    for (_, number) in order.iter() {
-        if let Some(nest) = nests.get(*number) {
-            plan_nest(&mut plans, &mut written, reads.as_slice(), blocks, nest)?;
-        }
-    }
-    let mut lists = by_block(alloc, &mut plans, blocks)?;
+    let mut plans = no_plans(alloc, function)?;
+    plan_nests(alloc, &mut plans, function)?;
+    let blocks = choice_of(alloc, &mut plans, function.code.blocks.as_slice())?;
     if plans.next == function.registers {
         return Ok(None);
     }
-    push_plans(lists.as_mut_slice(), plans.list.as_slice())?;
     Ok(Some(Choice {
-        blocks: lists,
+        blocks,
         registers: plans.next,
     }))
 }

@@ -119,18 +119,22 @@ fn leaves_word(lines: &[Line<u32>], register: u32) -> bool {
     leaves
 }
 
+fn is_word(line: &Line<u32>, register: u32) -> bool {
+    match line {
+        Line::Operate {
+            to,
+            operation: Operation::RegW(_),
+            ..
+        } => *to == register,
+        _ => false,
+    }
+}
+
 /// Whether one of the first lines leaves a word in the register.
 fn from_word(lines: &[Line<u32>], number: usize, register: u32) -> bool {
     let mut leaves = false;
     for line in lines.iter().take(number) {
-        match line {
-            Line::Operate {
-                to,
-                operation: Operation::RegW(_),
-                ..
-            } if *to == register => leaves = true,
-            _ => {}
-        }
+        leaves |= is_word(line, register);
     }
     leaves
 }
@@ -218,6 +222,15 @@ pub(crate) fn find_growth(written: &mut Written, blocks: &[Block<u32>], nest: &N
 
 // ---- products
 
+/// What an operation with this number multiplies by.
+fn factor_of(operation: Operation, number: u64) -> Option<u64> {
+    match operation {
+        Operation::Reg(RegOp::Sll) if number < 12 => Some(1u64 << number),
+        Operation::Reg(RegOp::Mul) => Some(number),
+        _ => None,
+    }
+}
+
 /// The product of a register that grows, and a number, which a line computes.
 pub(crate) fn product_of(written: &Written, line: &Line<u32>) -> Option<(u32, Product)> {
     match line {
@@ -227,11 +240,7 @@ pub(crate) fn product_of(written: &Written, line: &Line<u32>) -> Option<(u32, Pr
             left: Operand::At(index),
             right: Operand::Number(number),
         } => {
-            let factor = match operation {
-                Operation::Reg(RegOp::Sll) if *number < 12 => 1u64 << *number,
-                Operation::Reg(RegOp::Mul) => *number,
-                _ => return None,
-            };
+            let factor = factor_of(*operation, *number)?;
             written.own_growth(*index)?;
             Some((
                 *to,
@@ -376,6 +385,25 @@ fn is_wanted(
         && is_spared(written, reads, nest, sums, linear.factor)
 }
 
+/// Plans what is added to in the place of the sum of that number, if it is worth that; says whether it does.
+fn plan_if_wanted(
+    plans: &mut Plans,
+    written: &Written,
+    reads: &[u32],
+    nest: &Nest,
+    number: usize,
+) -> Result<bool, AllocError> {
+    let linear = match plans.sums.get(number) {
+        Some(linear) => *linear,
+        None => return Ok(false),
+    };
+    if is_wanted(plans, written, reads, nest, number, &linear) {
+        plan_step(plans, written, nest.before, &linear)
+    } else {
+        Ok(false)
+    }
+}
+
 /// Plans what is added to in the place of sums with products.
 ///
 /// # Errors
@@ -389,14 +417,8 @@ pub(crate) fn plan_steps(
 ) -> Result<(), AllocError> {
     let mut made = 0usize;
     for number in 0..plans.sums.len() {
-        let linear = match plans.sums.get(number) {
-            Some(linear) => *linear,
-            None => break,
-        };
-        if made < MOST && is_wanted(plans, written, reads, nest, number, &linear) {
-            if plan_step(plans, written, nest.before, &linear)? {
-                made = made.saturating_add(1);
-            }
+        if made < MOST && plan_if_wanted(plans, written, reads, nest, number)? {
+            made = made.saturating_add(1);
         }
     }
     Ok(())

@@ -221,6 +221,41 @@ fn push_back(
     }
 }
 
+fn push_nests(
+    alloc: Global,
+    search: &mut Search,
+    code: &[Block<u32>],
+    nests: &mut Vec<Nest>,
+) -> Result<(), AllocError> {
+    for (number, block) in code.iter().enumerate() {
+        for choice in 0..2usize {
+            let to = target(&block.jump, choice);
+            push_back(alloc, search, code, nests, number, to)?;
+        }
+    }
+    Ok(())
+}
+
+/// No block is found yet.
+fn no_search(alloc: Global, blocks: &[Block<u32>]) -> Result<Search, AllocError> {
+    let mut found = Vec::new(alloc);
+    found.resize(blocks.len(), 0usize)?;
+    Ok(Search {
+        sources: sources(alloc, blocks)?,
+        found,
+        steps: blocks.len().saturating_mul(STEPS_A_BLOCK),
+    })
+}
+
+fn find_nests(
+    alloc: Global,
+    nests: &mut Vec<Nest>,
+    blocks: &[Block<u32>],
+) -> Result<(), AllocError> {
+    let mut search = no_search(alloc, blocks)?;
+    push_nests(alloc, &mut search, blocks, nests)
+}
+
 /// The order of the loops by their sizes, the largest first.
 fn order(alloc: Global, nests: &[Nest]) -> Result<Vec<(usize, usize)>, AllocError> {
     let mut order = Vec::with_capacity(alloc, nests.len())?;
@@ -240,32 +275,8 @@ pub(crate) fn nests_of(
     alloc: Global,
     blocks: &[Block<u32>],
 ) -> Result<(Vec<Nest>, Vec<(usize, usize)>), AllocError> {
-    let mut found = Vec::new(alloc);
-    found.resize(blocks.len(), 0usize)?;
-    let mut search = Search {
-        sources: sources(alloc, blocks)?,
-        found,
-        steps: blocks.len().saturating_mul(STEPS_A_BLOCK),
-    };
     let mut nests = Vec::new(alloc);
-    for (number, block) in blocks.iter().enumerate() {
-        push_back(
-            alloc,
-            &mut search,
-            blocks,
-            &mut nests,
-            number,
-            target(&block.jump, 0),
-        )?;
-        push_back(
-            alloc,
-            &mut search,
-            blocks,
-            &mut nests,
-            number,
-            target(&block.jump, 1),
-        )?;
-    }
+    find_nests(alloc, &mut nests, blocks)?;
     let order = order(alloc, nests.as_slice())?;
     Ok((nests, order))
 }

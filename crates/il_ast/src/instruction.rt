@@ -5,7 +5,7 @@ use crate::operand::{Arg, Dest, Val};
 use crate::operation::{Alignment, BinaryOp, Size, UnaryOp};
 
 /// An item with the number of the line that it begins on, from 1.
-#[derive(Debug, Drop)]
+#[derive(Drop)]
 pub struct Lined<T> {
     pub line: usize,
     pub item: T,
@@ -54,7 +54,7 @@ pub enum Inst {
 }
 
 /// What ends a block.
-#[derive(Clone, Copy, Debug, PartialEq, Eq)]
+#[derive(Clone, Copy, PartialEq, Eq)]
 pub enum Jump {
     /// `jmp`
     Goto(Label),

@@ -4,7 +4,7 @@ use crate::symbol::Symbol;
 use crate::temp::Temp;
 
 /// An operand: an integer modulo 2^64, a temporary, or a global name.
-#[derive(Clone, Copy, Debug, PartialEq, Eq)]
+#[derive(Clone, Copy, PartialEq, Eq)]
 pub enum Val {
     Int(u64),
     Temp(Temp),
@@ -18,14 +18,14 @@ impl Default for Val {
 }
 
 /// The temporary that an instruction assigns, with the class that is written there.
-#[derive(Clone, Copy, Debug, PartialEq, Eq)]
+#[derive(Clone, Copy, PartialEq, Eq)]
 pub struct Dest {
     pub temp: Temp,
     pub class: Class,
 }
 
 /// An argument of a call, with its class.
-#[derive(Clone, Copy, Debug, PartialEq, Eq)]
+#[derive(Clone, Copy, PartialEq, Eq)]
 pub struct Arg {
     pub class: Class,
     pub value: Val,

@@ -19,7 +19,7 @@ pub enum Value {
 }
 
 /// One byte's place in memory.
-#[derive(Clone, Copy, Debug, PartialEq, Eq)]
+#[derive(Clone, Copy, PartialEq, Eq)]
 pub enum Cell {
     /// a byte
     Plain(u8),

@@ -8,14 +8,14 @@ use crate::scan::{Ahead, scan};
 use std::marker::Model;
 
 /// The bytes of a text from `start` up to `end`.
-#[derive(Clone, Copy, PartialEq, Eq, Debug)]
+#[derive(Clone, Copy, PartialEq, Eq)]
 pub struct Span {
     pub start: usize,
     pub end: usize,
 }
 
 /// A token of a text.
-#[derive(Clone, Copy, Debug)]
+#[derive(Clone, Copy)]
 pub struct Token<'a> {
     pub kind: Kind,
     /// The bytes of the span.
@@ -26,7 +26,7 @@ pub struct Token<'a> {
 }
 
 /// A line, from 1, on which something is no token.
-#[derive(Clone, Copy, PartialEq, Eq, Debug, Drop)]
+#[derive(Clone, Copy, PartialEq, Eq, Drop)]
 pub struct LexError {
     pub line: usize,
 }

@@ -35,7 +35,6 @@ fn more_arguments(reader: &mut Reader<'_>, args: &mut Few<Arg>) -> Result<(), Un
 }
 
 /// Reads the arguments of a call, which may be none.
-#[tactic(auto, using(crate::proofs::Rounds::commas_pushed))]
 pub(crate) fn arguments(reader: &mut Reader<'_>) -> Result<Few<Arg>, Unread>
     ensures { Gives arguments reader.old reader.new result }
 {
@@ -67,7 +66,6 @@ fn more_phi_arguments(reader: &mut Reader<'_>, args: &mut Few<PhiArg>) -> Result
 }
 
 /// Reads the arguments of a phi.
-#[tactic(auto, using(crate::proofs::Rounds::commas_pushed))]
 pub(crate) fn phi_arguments(reader: &mut Reader<'_>) -> Result<Few<PhiArg>, Unread>
     ensures { Gives (commas (sees is_comma) comma (sees is_label) phi_argument) reader.old reader.new result }
 {

@@ -4,7 +4,7 @@ use il_ast::instruction::{Inst, Lined};
 use il_ast::operation::{Alignment, BinaryOp, UnaryOp};
 
 /// What the word behind a destination and `=` and a class asks for.
-#[derive(Clone, Copy, Debug, PartialEq, Eq)]
+#[derive(Clone, Copy, PartialEq, Eq)]
 pub enum Operation {
     /// `phi`
     Phi,

@@ -62,6 +62,13 @@ predecessors_further blocks i b l lt at =
     flat_map_more (predecessor_in l) [] (take i blocks) b
     ∙ sym (ap (predecessors_of l) (take_more blocks i b lt ∙ ap (λ x. take i blocks ++ x ∷ []) (sym at)))
 
+-- the same of a row, to which the block's label is added where its jump names the row's
+pub predecessors_on : (blocks : List Block) (i : ℕ) (b : Block) (l from : ℕ) (found more : List ℕ) → i < length blocks → b ≡ get_or blocks i b → from ≡ b.label → found ≡ predecessors_of l (take i blocks)
+    → more ≡ found ++ cond (jumps_to l b.jump) (from ∷ []) [] → more ≡ predecessors_of l (take (i + 1) blocks)
+predecessors_on blocks i b l from found more lt at names so_far added =
+    added ∙ (ap (λ xs. xs ++ cond (jumps_to l b.jump) (from ∷ []) []) so_far
+    ∙ (ap (λ n. predecessors_of l (take i blocks) ++ cond (jumps_to l b.jump) (n ∷ []) []) names ∙ predecessors_further blocks i b l lt at))
+
 -- the rows have the predecessors of each label
 pub all_uncovered : (rows : List (List ℕ)) (blocks : List Block) → ((l : ℕ) → row rows l ≡ predecessors_of l blocks) → first (uncovered_by rows) blocks ≡ first (uncovered_in blocks) blocks
 all_uncovered rows blocks h =

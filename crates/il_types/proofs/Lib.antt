@@ -1,5 +1,6 @@
 pub mod Largest
 pub mod FirstLemmas
+pub mod OneMore
 pub mod CoveringLemmas
 pub mod FaultLemmas
 pub mod TallyLemmas

@@ -9,7 +9,6 @@ use il_ast::list::Seq;
 use std::alloc::{AllocError, Global};
 
 /// For each label the labels of the blocks whose jump names it.
-#[tactic(auto, using(crate::proofs::CoveringLemmas::predecessors_further))]
 pub fn predecessors(alloc: Global, blocks: &[Block]) -> Result<Vec<Seq<usize>>, AllocError>
     ensures { IfOk result (λ rows. (l : ℕ) → row rows.items l ≡ predecessors_of l blocks.now) }
 {

@@ -4,7 +4,7 @@ use il_ast::operation::Class;
 use il_ast::temp::Temp;
 
 /// Where a temporary is assigned: a parameter, a phi or an instruction.
-#[derive(Clone, Copy, Debug)]
+#[derive(Clone, Copy)]
 pub struct Definer {
     pub line: usize,
     pub temp: Temp,
@@ -12,7 +12,7 @@ pub struct Definer {
 }
 
 /// An operand, in a place of a class.
-#[derive(Clone, Copy, Debug)]
+#[derive(Clone, Copy)]
 pub struct Operand {
     pub line: usize,
     pub class: Class,
@@ -20,7 +20,7 @@ pub struct Operand {
 }
 
 /// A place that names something by a number: a parameter, a label, a jump, a global name.
-#[derive(Clone, Copy, Debug)]
+#[derive(Clone, Copy)]
 pub struct Site {
     pub line: usize,
     pub number: usize,

@@ -32,7 +32,7 @@ fn parts_of_addresses(rt: HostRuntime) {
         assert_eq!(rt;
             encode(relocation.relocated(address)),
             word,
-            "{relocation:?}"
+            "{word:x}"
         );
     }
 }

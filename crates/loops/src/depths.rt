@@ -8,7 +8,7 @@ use vcode::code::Block;
 use vcode::line::Jump;
 
 /// From a block to another.
-#[derive(Clone, Copy, Debug, PartialEq, Eq, PartialOrd, Ord)]
+#[derive(Clone, Copy, PartialEq, Eq, PartialOrd, Ord)]
 struct Edge {
     to: usize,
     from: usize,
@@ -215,30 +215,48 @@ fn count_loop(
 /// Where loops are so many and so large that finding their blocks would take far longer than the text, the rest is left uncounted.
 const STEPS_A_BLOCK: usize = 64;
 
+/// Counts the loops of these jumps back for their blocks.
+fn count_loops(
+    alloc: Global,
+    nests: &mut [Nest],
+    edges: &[Few<usize>],
+    back: &[Edge],
+) -> Result<(), AllocError> {
+    let mut steps = nests.len().saturating_mul(STEPS_A_BLOCK);
+    for edge in back {
+        steps = count_loop(alloc, nests, edges, *edge, steps)?;
+    }
+    Ok(())
+}
+
+fn count_all(alloc: Global, nests: &mut [Nest], blocks: &[Block<u32>]) -> Result<(), AllocError> {
+    let edges = sources(alloc, blocks)?;
+    let back = back_edges(alloc, blocks)?;
+    count_loops(alloc, nests, edges.as_slice(), back.as_slice())
+}
+
+fn depths_of(alloc: Global, nests: &[Nest]) -> Result<Vec<u32>, AllocError> {
+    let mut depths = Vec::with_capacity(alloc, nests.len())?;
+    for nest in nests {
+        depths.push(nest.depth)?;
+    }
+    Ok(depths)
+}
+
 /// In how many loops each block lies.
 ///
 /// # Errors
 ///
 /// Only where memory was refused.
 pub fn depths(alloc: Global, blocks: &[Block<u32>]) -> Result<Vec<u32>, AllocError> {
+    let nest = Nest {
+        depth: 0,
+        head: None,
+    };
     let mut nests = Vec::new(alloc);
-    nests.resize(
-        blocks.len(),
-        Nest {
-            depth: 0,
-            head: None,
-        },
-    )?;
-    let edges = sources(alloc, blocks)?;
-    let mut steps = blocks.len().saturating_mul(STEPS_A_BLOCK);
-    for edge in back_edges(alloc, blocks)?.iter() {
-        steps = count_loop(alloc, nests.as_mut_slice(), edges.as_slice(), *edge, steps)?;
-    }
-    let mut depths = Vec::with_capacity(alloc, blocks.len())?;
-    for nest in nests.iter() {
-        depths.push(nest.depth)?;
-    }
-    Ok(depths)
+    nests.resize(blocks.len(), nest)?;
+    count_all(alloc, nests.as_mut_slice(), blocks)?;
+    depths_of(alloc, nests.as_slice())
 }
 
 /// How often a block is run that lies in so many loops, if each goes round ten times.

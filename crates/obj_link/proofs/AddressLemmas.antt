@@ -1,5 +1,5 @@
 -- Addresses rise.
-use Rattle.std.proofs.Common.{◌≡◌, ℕ, ◌+◌, ◌*◌, ◌<◌, ◌≤◌, List, [], ◌∷◌, length, drop, map, get_or, ap, arith}
+use Rattle.std.proofs.Common.{◌≡◌, ℕ, ◌+◌, ◌*◌, ◌<◌, ◌≤◌, List, [], ◌∷◌, ◌++◌, length, drop, map, get_or, ap, sym, ◌∙◌, append_assoc, arith}
 use Rattle.std.proofs.lemmas.List.{drop_more}
 use Rattle.std.specs.Borrow.{Bor}
 use Rattle.il_ast.specs.declared.datum.DataDef.{DataDef}
@@ -8,7 +8,7 @@ use Rattle.il_ast.specs.Cost.{round_16}
 use Rattle.rv_isa.specs.Words.{Words}
 use Rattle.obj_link.specs.Shown.{shown}
 use Rattle.obj_link.specs.Limits.{object_size}
-use Rattle.obj_link.specs.Placed.{functions_end, object_addresses, objects_end}
+use Rattle.obj_link.specs.Placed.{function_addresses, functions_end, object_addresses, objects_end}
 
 pub functions_rise : (at : ℕ) (codes : List Words) → at ≤ functions_end at codes
 functions_rise at [] = omega arith
@@ -46,3 +46,33 @@ object_room at i end xs d lt is e =
     let rise = objects_rise (at + size) (map shown (drop (i + 1) xs)) in
     let same : round_16 (object_size d.item.now) ≡ size = ap (λ (x : InText (Bor DataDef)). round_16 (object_size x.item.now)) is in
     omega arith
+
+-- the addresses before a function and its own, and those still to come, are all; and the last one ends where it did
+pub functions_on : (at : ℕ) (xs : List Words) (i : ℕ) (x : Words) (ws found more all : List ℕ) (end : ℕ) → i < length xs → x ≡ get_or xs i x → ws ≡ x.words → more ≡ found ++ at ∷ []
+    → (found ++ function_addresses at (drop i xs) ≡ all) × (functions_end at (drop i xs) ≡ end)
+    → (more ++ function_addresses (at + 4 * length ws) (drop (i + 1) xs) ≡ all) × (functions_end (at + 4 * length ws) (drop (i + 1) xs) ≡ end)
+functions_on at xs i x ws found more all end lt is are added whole =
+    let next : drop i xs ≡ x ∷ drop (i + 1) xs = drop_more xs i x lt ∙ ap (λ y. y ∷ drop (i + 1) xs) (sym is) in
+    let size : length x.words ≡ length ws = ap length (sym are) in
+    let step : function_addresses at (drop i xs) ≡ at ∷ function_addresses (at + 4 * length ws) (drop (i + 1) xs) =
+    ap (function_addresses at) next ∙ ap (λ n. at ∷ function_addresses (at + 4 * n) (drop (i + 1) xs)) size in
+    let last : functions_end at (drop i xs) ≡ functions_end (at + 4 * length ws) (drop (i + 1) xs) =
+    ap (functions_end at) next ∙ ap (λ n. functions_end (at + 4 * n) (drop (i + 1) xs)) size in (
+      ap (λ ys. ys ++ function_addresses (at + 4 * length ws) (drop (i + 1) xs)) added
+          ∙ (append_assoc found (at ∷ []) (function_addresses (at + 4 * length ws) (drop (i + 1) xs)) ∙ (ap (λ ys. found ++ ys) (sym step) ∙ whole.0)),
+      sym last ∙ whole.1,
+    )
+
+-- the same of data
+pub objects_on : (at : ℕ) (xs : List (InText (Bor DataDef))) (i : ℕ) (x : InText (Bor DataDef)) (size : ℕ) (found more all : List ℕ) (end : ℕ) → i < length xs → x ≡ get_or xs i x → size ≡ round_16 (object_size x.item.now) → more ≡ found ++ at ∷ []
+    → (found ++ object_addresses at (map shown (drop i xs)) ≡ all) × (objects_end at (map shown (drop i xs)) ≡ end)
+    → (more ++ object_addresses (at + size) (map shown (drop (i + 1) xs)) ≡ all) × (objects_end (at + size) (map shown (drop (i + 1) xs)) ≡ end)
+objects_on at xs i x size found more all end lt is sized added whole =
+    let rest : List (InText DataDef) = map shown (drop (i + 1) xs) in
+    let next : map shown (drop i xs) ≡ shown x ∷ rest = ap (map shown) (drop_more xs i x lt) ∙ ap (λ (y : InText (Bor DataDef)). shown y ∷ rest) (sym is) in
+    let step : object_addresses at (map shown (drop i xs)) ≡ at ∷ object_addresses (at + size) rest =
+    ap (object_addresses at) next ∙ ap (λ n. at ∷ object_addresses (at + n) rest) (sym sized) in
+    let last : objects_end at (map shown (drop i xs)) ≡ objects_end (at + size) rest = ap (objects_end at) next ∙ ap (λ n. objects_end (at + n) rest) (sym sized) in (
+      ap (λ ys. ys ++ object_addresses (at + size) rest) added ∙ (append_assoc found (at ∷ []) (object_addresses (at + size) rest) ∙ (ap (λ ys. found ++ ys) (sym step) ∙ whole.0)),
+      sym last ∙ whole.1,
+    )

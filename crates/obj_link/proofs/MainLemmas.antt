@@ -13,6 +13,7 @@ use Rattle.il_ast.specs.declared.program.InText.{InText}
 use Rattle.il_ast.specs.declared.program.Program.{Program}
 use Rattle.il_ast.specs.declared.program.Target.{Target}
 use Rattle.il_ast.specs.declared.program.Target.TheVariants.{Code, Object}
+use Rattle.il_ast.specs.declared.value.Callee.{Callee}
 use Rattle.il_ast.specs.declared.value.Callee.TheVariants.{Defined, SystemWrite, SystemExit}
 use Rattle.il_types.specs.declared.checked.Checked.{Checked}
 use Rattle.obj_link.specs.declared.linking.names.GlobalName.{GlobalName}
@@ -24,11 +25,22 @@ use Rattle.obj_link.specs.Program.{IsProgram}
 abbrev named : ℕ → InText Func → GlobalName
 named n f = record { text = f.text; symbol = f.item.name; exported = f.item.exported; target = Code (Defined n) }
 
+-- ---- options. `cc` reads all that is in scope, so it is asked here
+
+same_some : {A : Type 0} (x y : A) → Some x ≡ Some y → x ≡ y
+same_some x y e = cc
+
+none_some : {A B : Type 0} (x : A) → None ≡ Some x → B
+none_some x e = absurd (never e)
+  where
+    never : None ≡ Some x → ⊥
+    never h = cc
+
 -- ---- one that is there is found, where it is the only one
 
 here_first : (n : ℕ) (x f : InText Func) → Some x ≡ Some f → named n x ≡ named (n + zero) f
 here_first n x f at =
-    let same : x ≡ f = cc in
+    let same = same_some x f at in
     let none : n ≡ n + zero = omega arith in
     ap (named n) same ∙ ap (λ m. named m f) none
 
@@ -85,9 +97,15 @@ exported_main texts once none h =
     ap (λ o. option_or (option_map (λ (g : GlobalName). g.target) o) (predefined (codes "main"))) found in
     let there : main_of texts ≡ Some h.0 =
     ap (main_in fs) seen ∙ (ap (main_at h.0) h.2 ∙ ap (λ b. cond b (Some h.0) None) h.3.form) in
-    cc
+    none_some h.0 (sym none ∙ there)
 
 -- ---- what is found is there
+
+no_code : (m : ℕ) (c : Callee) → Object m ≡ Code c → ⊥
+no_code m c e = cc
+
+same_function : (n k : ℕ) → Code (Defined n) ≡ Code (Defined k) → n ≡ k
+same_function n k e = cc
 
 is_there : (p : GlobalName → Bool) (n : ℕ) (fs : List (InText Func)) (ds : List (InText DataDef)) (m : ℕ) (g : GlobalName) (k : ℕ) → find p (names_of_functions n fs ++ names_of_objects m ds) ≡ Some g → g.target ≡ Code (Defined k)
     → (j : ℕ) × (f : InText Func) × (k ≡ n + j) × (slice_get fs j ≡ Some f) × (p (named k f) ≡ true)
@@ -101,9 +119,8 @@ is_there p n [] (d ∷ ds) m g k found is = by_test (p datum) refl (is_there p n
         → (j : ℕ) × (f : InText Func) × (k ≡ n + j) × (slice_get [] j ≡ Some f) × (p (named k f) ≡ true)
     by_test true e later =
         let this : Some datum ≡ Some g = sym (ap (λ b. cond b (Some datum) (find p (names_of_objects (m + 1) ds))) e) ∙ found in
-        let same : datum ≡ g = cc in
-        let two : Object m ≡ Code (Defined k) = ap (λ (x : GlobalName). x.target) same ∙ is in
-        cc
+        let two : Object m ≡ Code (Defined k) = ap (λ (x : GlobalName). x.target) (same_some datum g this) ∙ is in
+        absurd (no_code m (Defined k) two)
     by_test false e later = later (sym (ap (λ b. cond b (Some datum) (find p (names_of_objects (m + 1) ds))) e) ∙ found) is
 is_there p n (x ∷ fs) ds m g k found is = by_test (p (named n x)) refl (λ e. is_there p (n + 1) fs ds m g k e is)
   where
@@ -114,9 +131,8 @@ is_there p n (x ∷ fs) ds m g k found is = by_test (p (named n x)) refl (λ e. 
         → (j : ℕ) × (f : InText Func) × (k ≡ n + j) × (slice_get (x ∷ fs) j ≡ Some f) × (p (named k f) ≡ true)
     by_test true e later =
         let this : Some (named n x) ≡ Some g = sym (ap (λ b. cond b (Some (named n x)) (find p tail)) e) ∙ found in
-        let same : named n x ≡ g = cc in
-        let one : Code (Defined n) ≡ Code (Defined k) = ap (λ (y : GlobalName). y.target) same ∙ is in
-        let number : n ≡ k = cc in
+        let one : Code (Defined n) ≡ Code (Defined k) = ap (λ (y : GlobalName). y.target) (same_some (named n x) g this) ∙ is in
+        let number = same_function n k one in
         (zero, x, omega (arith, number), refl, ap (λ i. p (named i x)) (sym number) ∙ e)
     by_test false e later =
         let there = later (sym (ap (λ b. cond b (Some (named n x)) (find p tail)) e) ∙ found) in
@@ -153,22 +169,22 @@ main_is texts k is = by_name (find p (names_of texts)) refl
         by_form : (b : Bool) → is_main there.1.item ≡ b → Answer
         by_form true form =
             let one : Some n ≡ Some k = sym (main ∙ ap (λ b. cond b (Some n) None) form) ∙ is in
-            let same : n ≡ k = cc in
+            let same = same_some n k one in
             let parts = and_parts there.1.item.exported (bytes_eq (symbol_name texts there.1.text there.1.item.name) (codes "main")) there.4 in (
               there.1,
               ap (slice_get fs) (sym same) ∙ here,
               record { exported = parts.0; name = (bytes_eq-Decides (symbol_name texts there.1.text there.1.item.name) (codes "main")).0 parts.1; form = form },
             )
-        by_form false form = let none : None ≡ Some k = sym (main ∙ ap (λ b. cond b (Some n) None) form) ∙ is in cc
+        by_form false form = none_some k (sym (main ∙ ap (λ b. cond b (Some n) None) form) ∙ is)
 
     by_target : (g : GlobalName) (t : Target) → find p (names_of texts) ≡ Some g → g.target ≡ t → Answer
     by_target g (Code (Defined n)) found at = of_function g n found at
-    by_target g (Code SystemWrite) found at = let none : None ≡ Some k = sym (ap (λ o. main_in fs (option_or (option_map (λ (x : GlobalName). x.target) o) (predefined (codes "main")))) found ∙ ap (λ t. main_in fs (Some t)) at) ∙ is in cc
-    by_target g (Code SystemExit) found at = let none : None ≡ Some k = sym (ap (λ o. main_in fs (option_or (option_map (λ (x : GlobalName). x.target) o) (predefined (codes "main")))) found ∙ ap (λ t. main_in fs (Some t)) at) ∙ is in cc
-    by_target g (Object n) found at = let none : None ≡ Some k = sym (ap (λ o. main_in fs (option_or (option_map (λ (x : GlobalName). x.target) o) (predefined (codes "main")))) found ∙ ap (λ t. main_in fs (Some t)) at) ∙ is in cc
+    by_target g (Code SystemWrite) found at = none_some k (sym (ap (λ o. main_in fs (option_or (option_map (λ (x : GlobalName). x.target) o) (predefined (codes "main")))) found ∙ ap (λ t. main_in fs (Some t)) at) ∙ is)
+    by_target g (Code SystemExit) found at = none_some k (sym (ap (λ o. main_in fs (option_or (option_map (λ (x : GlobalName). x.target) o) (predefined (codes "main")))) found ∙ ap (λ t. main_in fs (Some t)) at) ∙ is)
+    by_target g (Object n) found at = none_some k (sym (ap (λ o. main_in fs (option_or (option_map (λ (x : GlobalName). x.target) o) (predefined (codes "main")))) found ∙ ap (λ t. main_in fs (Some t)) at) ∙ is)
 
     by_name : (o : Option GlobalName) → find p (names_of texts) ≡ o → Answer
-    by_name None found = let none : None ≡ Some k = sym (ap (λ o. main_in fs (option_or (option_map (λ (x : GlobalName). x.target) o) (predefined (codes "main")))) found) ∙ is in cc
+    by_name None found = none_some k (sym (ap (λ o. main_in fs (option_or (option_map (λ (x : GlobalName). x.target) o) (predefined (codes "main")))) found) ∙ is)
     by_name (Some g) found = by_target g g.target found refl
 
 pub programs_export_main : (texts : List Checked) (p : Program) → IsProgram texts p → (f : InText Func) × (slice_get p.functions p.main ≡ Some f) × IsMain texts f

@@ -53,3 +53,9 @@ slice_get_at (y ∷ ys) (suc i) x lt at = slice_get_at ys i x (omega arith) at
 
 pub refused_in : (e : LinkError) (meaning : ℕ → ℕ → List ℕ → Option Target) (xs : List Checked) (i : ℕ) (x : Checked) → i < length xs → x ≡ get_or xs i x → RefusesSymbols e (meaning i) x.text.symbols → RefusesNames e meaning xs
 refused_in e meaning xs i x lt at h = refused_at e meaning xs i x (slice_get_at xs i x lt at) h
+
+-- a symbol that has no meaning
+pub unknown_at : (meaning : ℕ → List ℕ → Option Target) (xs : List (List ℕ)) (i : ℕ) (x seen name : List ℕ) (found : Option Target) → i < length xs → x ≡ get_or xs i x → seen ≡ x → name ≡ x → found ≡ meaning i seen → found ≡ None
+    → (s : ℕ) × (slice_get xs s ≡ Some name) × (meaning s name ≡ None)
+unknown_at meaning xs i x seen name found lt at sees named means none =
+    (i, slice_get_at xs i x lt at ∙ ap Some (sym named), ap (meaning i) (named ∙ sym sees) ∙ (sym means ∙ none))

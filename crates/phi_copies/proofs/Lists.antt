@@ -1,8 +1,8 @@
 -- Lists of temporaries: what stands where after a write, and that copies leave their number.
-use Rattle.std.proofs.Common.{◌≡◌, ◌≢◌, ℕ, zero, suc, ◌+◌, ◌-◌, ◌<◌, ◌≤◌, List, [], ◌∷◌, ◌++◌, length, take, drop, refl, sym, ◌∙◌, ap, arith}
+use Rattle.std.proofs.Common.{◌≡◌, ◌≢◌, ℕ, zero, suc, ◌+◌, ◌-◌, ◌<◌, ◌≤◌, List, [], ◌∷◌, ◌++◌, length, take, drop, map, get_or, refl, sym, ◌∙◌, ap, append_assoc, arith}
 use Rattle.std.specs.Prelude.{slice_get, slice_set, Option, Some, None}
 use Rattle.std.specs.Option.{option_map, option_and_then}
-use Rattle.std.proofs.lemmas.List.{length-set}
+use Rattle.std.proofs.lemmas.List.{length-set, drop_more}
 use Rattle.il_ast.specs.declared.block.Phi.{Phi}
 use Rattle.il_ast.specs.declared.value.Value.{Value}
 use Rattle.il_ast.specs.Effect.{operand, with_phis}
@@ -99,3 +99,13 @@ pub length_with_phis : (xs : List (Option Value)) (ps : List Phi) (vs : List Val
 length_with_phis xs [] vs = refl
 length_with_phis xs (p ∷ ps) [] = refl
 length_with_phis xs (p ∷ ps) (v ∷ vs) = length_with_phis (slice_set xs p.to.temp (Some v)) ps vs ∙ length-set xs p.to.temp (Some v)
+
+-- ---- one more element
+
+-- what is made of the elements before one and of it, and what is still to be made, are all
+pub made_on : {X Y : Type 0} (f : X → Y) (xs : List X) (i : ℕ) (x : X) (y : Y) (found more all : List Y) → i < length xs → x ≡ get_or xs i x → y ≡ f x → more ≡ found ++ y ∷ []
+    → found ++ map f (drop i xs) ≡ all → more ++ map f (drop (i + 1) xs) ≡ all
+made_on f xs i x y found more all lt is gives added whole =
+    let next = drop_more xs i x lt ∙ ap (λ z. z ∷ drop (i + 1) xs) (sym is) in
+    ap (λ ys. ys ++ map f (drop (i + 1) xs)) added
+    ∙ (append_assoc found (y ∷ []) (map f (drop (i + 1) xs)) ∙ (ap (λ z. found ++ z ∷ map f (drop (i + 1) xs)) gives ∙ (sym (ap (λ ys. found ++ map f ys) next) ∙ whole)))

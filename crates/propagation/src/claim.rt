@@ -11,7 +11,7 @@ use vcode::line::Jump;
 use vcode::place::Operand;
 
 /// The register holds what the operand does.
-#[derive(Clone, Copy, Debug)]
+#[derive(Clone, Copy)]
 pub(crate) struct Claim {
     pub(crate) register: u32,
     pub(crate) value: Operand<u32>,

@@ -13,7 +13,7 @@ use vcode::place::Operand;
 const CLAIMS: usize = 128;
 
 /// What a register holds, and since when.
-#[derive(Clone, Copy, Debug)]
+#[derive(Clone, Copy)]
 struct Held {
     value: Operand<u32>,
     since: u64,

@@ -7,7 +7,7 @@ use crate::relocation::Relocation;
 use std::marker::Model;
 
 /// A word that waits for the address of a global.
-#[derive(Clone, Copy, PartialEq, Eq, Debug)]
+#[derive(Clone, Copy, PartialEq, Eq)]
 pub struct Hole {
     /// The number of the word.
     pub word: usize,
@@ -18,7 +18,7 @@ pub struct Hole {
 /// The words of a function.
 ///
 /// There is one at least. The holes lie in order and apart, each at one of the function's words.
-#[derive(Drop, Debug)]
+#[derive(Drop)]
 pub struct MachineCode {
     words: Vec<u32>,
     holes: Vec<Hole>,

@@ -8,7 +8,7 @@ use crate::ranges::{
 };
 
 /// An instruction of RV64IM, with operands in range.
-#[derive(Clone, Copy, PartialEq, Eq, Debug)]
+#[derive(Clone, Copy, PartialEq, Eq)]
 pub enum Instr {
     /// `lui`: the field times 4096, with a sign.
     Lui {
@@ -102,7 +102,7 @@ pub enum Instr {
 }
 
 /// What a branch compares.
-#[derive(Clone, Copy, PartialEq, Eq, Debug)]
+#[derive(Clone, Copy, PartialEq, Eq)]
 pub enum BranchOp {
     Beq,
     Bne,
@@ -125,7 +125,7 @@ pub enum LoadOp {
 }
 
 /// How many bytes a store writes.
-#[derive(Clone, Copy, PartialEq, Eq, Debug)]
+#[derive(Clone, Copy, PartialEq, Eq)]
 pub enum StoreOp {
     Sb,
     Sh,
@@ -134,7 +134,7 @@ pub enum StoreOp {
 }
 
 /// Operations on a register and an immediate.
-#[derive(Clone, Copy, PartialEq, Eq, Debug)]
+#[derive(Clone, Copy, PartialEq, Eq)]
 pub enum ImmOp {
     Addi,
     Slti,
@@ -145,7 +145,7 @@ pub enum ImmOp {
 }
 
 /// Shifts by a fixed amount.
-#[derive(Clone, Copy, PartialEq, Eq, Debug)]
+#[derive(Clone, Copy, PartialEq, Eq)]
 pub enum ShiftOp {
     Slli,
     Srli,
@@ -153,7 +153,7 @@ pub enum ShiftOp {
 }
 
 /// Shifts of 32 bits by a fixed amount.
-#[derive(Clone, Copy, PartialEq, Eq, Debug)]
+#[derive(Clone, Copy, PartialEq, Eq)]
 pub enum ShiftWOp {
     Slliw,
     Srliw,
@@ -161,7 +161,7 @@ pub enum ShiftWOp {
 }
 
 /// Operations on two registers.
-#[derive(Clone, Copy, PartialEq, Eq, Debug)]
+#[derive(Clone, Copy, PartialEq, Eq)]
 pub enum RegOp {
     Add,
     Sub,
@@ -184,7 +184,7 @@ pub enum RegOp {
 }
 
 /// Operations of 32 bits on two registers.
-#[derive(Clone, Copy, PartialEq, Eq, Debug)]
+#[derive(Clone, Copy, PartialEq, Eq)]
 pub enum RegWOp {
     Addw,
     Subw,

@@ -9,7 +9,7 @@ use crate::relocation::Relocation;
 use std::marker::Model;
 
 /// An item of labelled code. The items of a function stand one after another; laying them out may use x31 for long jumps.
-#[derive(Clone, Copy, PartialEq, Eq, Debug)]
+#[derive(Clone, Copy, PartialEq, Eq)]
 pub enum Item {
     /// An instruction with known operands.
     Plain(Instr),
@@ -32,7 +32,7 @@ pub enum Item {
 ///
 /// Its labels are the numbers below a count, and each stands in the code once. No item names x31,
 /// and the longest form of the code has a word at least and fewer than 2^28.
-#[derive(Drop, Debug)]
+#[derive(Drop)]
 pub struct LabelledCode {
     items: Vec<Item>,
     labels: usize,

@@ -1,8 +1,10 @@
 //! The class of each temporary of a function without phis, in a table.
-ghost use Rattle.std.specs.Prelude.{◌≡◌, ◌<◌, ◌+◌, ◌++◌, ℕ, length, map, IfOk, OnOk};
+ghost use Rattle.std.specs.Prelude.{◌≡◌, ◌<◌, ◌+◌, ◌++◌, ◌&&◌, ℕ, nat_eq, if◌then◌else◌, length, map, IfOk, OnOk};
 ghost use Rattle.std.specs.List.{flat_map};
 ghost use Rattle.il_ast.specs.declared.block.Phi.{Phi as PhiOf};
+ghost use Rattle.il_ast.specs.declared.operation.Class.TheVariants.{W};
 ghost use Rattle.il_ast.specs.Cost.{phi_count};
+ghost use Rattle.il_ast.specs.Values.{same_class};
 ghost use Rattle.select.specs.Classes.{classes_in};
 ghost use Rattle.select.specs.Tables.{listed, destinations_in, param_destination, phi_destination, item_destinations, inst_destinations, block_destinations, has_word, word_or_long, phi_classes};
 
@@ -76,6 +78,26 @@ fn destinations(alloc: Global, func: &Func) -> Result<Seq<Dest>, AllocError>
     Ok(assigned)
 }
 
+/// Notes that a temporary is assigned as a word, if it is.
+fn mark_word(table: &mut [Class], to: &Dest)
+    ensures length { length table.new ≡ length table.old }
+    ensures entries { (t : ℕ) → t < length table.old → listed table.new t ≡ (if nat_eq to.now.temp t && same_class to.now.class W then W else listed table.old t) }
+{
+    let number = to.temp.number();
+    if to.class == Class::W && number < table.len() {
+        table[number] = Class::W;
+    }
+}
+
+fn mark_words(table: &mut [Class], assigned: &[Dest])
+    ensures length { length table.new ≡ length table.old }
+    ensures entries { (t : ℕ) → t < length table.old → listed table.new t ≡ (if has_word t assigned.now then W else listed table.old t) }
+{
+    for to in assigned {
+        mark_word(table, to);
+    }
+}
+
 /// The classes of so many temporaries: a word where it is assigned as one.
 fn assigned_classes(
     alloc: Global,
@@ -86,12 +108,7 @@ fn assigned_classes(
     ensures entries { IfOk result (λ table. (t : ℕ) → t < temps → listed table.items t ≡ word_or_long (has_word t assigned.now)) }
 {
     let mut table = vec![in alloc; Class::L; temps]?;
-    for to in assigned {
-        let number = to.temp.number();
-        if to.class == Class::W && number < table.len() {
-            table[number] = Class::W;
-        }
-    }
+    mark_words(table.as_mut_slice(), assigned);
     Ok(table)
 }
 
@@ -114,13 +131,21 @@ fn push_phi_classes(table: &mut Seq<Class>, blocks: &[Block]) -> Result<(), Allo
     Ok(())
 }
 
+/// The classes of a function's temporaries.
+fn own_classes(alloc: Global, func: &Func) -> Result<Vec<Class>, AllocError>
+    ensures length { IfOk result (λ table. length table.items ≡ length func.now.temps) }
+    ensures entries { IfOk result (λ table. (t : ℕ) → t < length func.now.temps → listed table.items t ≡ word_or_long (has_word t (destinations_in func.now))) }
+{
+    let assigned = destinations(alloc, func)?;
+    assigned_classes(alloc, func.temps.len(), assigned.as_slice())
+}
+
 /// The class of each temporary of a function, and behind them that of each phi's own temporary.
 pub(crate) fn classes(alloc: Global, func: &Func) -> Result<Seq<Class>, AllocError>
     ensures length { IfOk result (λ table. length table ≡ length func.now.temps + phi_count func.now) }
     ensures entries { IfOk result (λ table. (t : ℕ) → listed table t ≡ classes_in func.now t) }
 {
-    let assigned = destinations(alloc, func)?;
-    let own = assigned_classes(alloc, func.temps.len(), assigned.as_slice())?;
+    let own = own_classes(alloc, func)?;
     let mut table = Seq::from_vec(own);
     push_phi_classes(&mut table, func.blocks.as_slice())?;
     Ok(table)

@@ -1,14 +1,17 @@
 //! Lines of instructions.
-ghost use Rattle.std.specs.Prelude.{◌≡◌, ◌++◌, OnOk};
+ghost use Rattle.std.specs.Prelude.{◌≡◌, ◌++◌, [], ◌∷◌, map, OnOk};
+ghost use Rattle.std.specs.Option.{option_map};
 ghost use Rattle.il_ast.specs.Cost.{inst_weight};
 ghost use Rattle.select.specs.Tables.{listed};
-ghost use Rattle.select.specs.Selected.{inst_lines};
-ghost use Rattle.select.specs.Narrow.{narrow, narrow_inst, narrow_turn, narrow_turns};
+ghost use Rattle.vcode.specs.declared.line.Line.TheVariants.{Call};
+ghost use Rattle.select.specs.Selected.{inst_lines, operand_of, destination_of, argument_of};
+ghost use Rattle.select.specs.Narrow.{narrow, narrow_inst, narrow_turn, narrow_turns, narrow_val, narrow_dest, narrow_arg};
 
 use crate::operand::{arguments, low_bits, operand, register, wanted};
 use crate::operation::{push_binary, push_unary};
 use il_ast::instruction::{Inst, Lined};
 use il_ast::list::Seq;
+use il_ast::operand::{Arg, Dest, Val};
 use il_ast::operation::Class;
 use std::alloc::{AllocError, Global};
 use vcode::line::Line;
@@ -23,6 +26,23 @@ fn weight(inst: &Inst) -> u32
         Inst::Blit { count, .. } => low_bits(1 + count.div_ceil(8)),
         _ => 1,
     }
+}
+
+fn push_call(
+    alloc: Global,
+    lines: &mut Seq<Line<u32>>,
+    to: Option<Dest>,
+    callee: Val,
+    args: &[Arg],
+) -> Result<(), AllocError>
+    ensures { OnOk result (lines.new ≡ lines.old ++ Call (option_map destination_of (option_map narrow_dest to)) (operand_of (narrow_val callee)) (map argument_of (map narrow_arg args.now)) ∷ []) }
+{
+    let args = arguments(alloc, args)?;
+    lines.push(Line::Call {
+        to: wanted(to),
+        callee: operand(callee),
+        args,
+    })
 }
 
 /// Puts the lines of an instruction behind the others.
@@ -73,14 +93,7 @@ fn push_inst(
             to: operand(*to),
             count: *count,
         }),
-        Inst::Call { to, callee, args } => {
-            let args = arguments(alloc, args.as_slice())?;
-            lines.push(Line::Call {
-                to: wanted(*to),
-                callee: operand(*callee),
-                args,
-            })
-        }
+        Inst::Call { to, callee, args } => push_call(alloc, lines, *to, *callee, args.as_slice()),
     }
 }
 

@@ -18,21 +18,21 @@ pub enum FileFault {
 }
 
 /// What a disk is asked to do with a file.
-#[derive(Clone, Copy, Debug, PartialEq, Eq)]
+#[derive(Clone, Copy, PartialEq, Eq)]
 pub enum Access {
     Read,
     Write,
 }
 
 /// A call of a disk that the device or the file system refused.
-#[derive(Debug, Drop)]
+#[derive(Drop)]
 pub struct RefusedCall {
     pub access: Access,
     pub path: String,
 }
 
 /// The calls of a disk that failed so far.
-#[derive(Debug, Drop)]
+#[derive(Drop)]
 pub struct Faults {
     /// those that the device or the file system refused, in order
     pub device: Vec<RefusedCall>,

@@ -19,6 +19,14 @@ fn with_copies(alloc: Global, function: &VFunc, marks: &[bool]) -> Result<VFunc,
     Ok(made)
 }
 
+fn copied(alloc: Global, function: &VFunc) -> Result<VFunc, AllocError>
+    ensures kept { IfOk result (λ w. Keeps (virtual_code function.now) (virtual_code w)) }
+    ensures copied { IfOk result (λ w. IsCopied function.now w) }
+{
+    let marks = whole_registers(alloc, &function.code, function.registers)?;
+    with_copies(alloc, function, marks.as_slice())
+}
+
 /// The function, in which each extension to a word of a register that holds whole words alone is a copy, and each word that is passed from such a register is claimed to
 /// stand extended. It takes time and memory as the text is long.
 ///
@@ -29,7 +37,5 @@ pub fn copy_whole_words(alloc: Global, function: VFunc) -> Result<VFunc, AllocEr
     ensures kept { IfOk result (λ w. Keeps (virtual_code function) (virtual_code w)) }
     ensures copied { IfOk result (λ w. IsCopied function w) }
 {
-    let marks = whole_registers(alloc, &function.code, function.registers)?;
-    let made = with_copies(alloc, &function, marks.as_slice())?;
-    Ok(made)
+    copied(alloc, &function)
 }

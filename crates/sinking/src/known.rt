@@ -10,7 +10,7 @@ use vcode::line::{Jump, Line};
 use vcode::place::Operand;
 
 /// The register holds the number.
-#[derive(Clone, Copy, Debug)]
+#[derive(Clone, Copy)]
 pub(crate) struct Known {
     pub(crate) register: u32,
     pub(crate) number: u64,

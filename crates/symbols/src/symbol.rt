@@ -6,14 +6,14 @@ use il_ast::symbol::Symbol as SymbolNumber;
 use il_types::checked::Checked;
 
 /// What a name stands for.
-#[derive(Clone, Copy, Debug, PartialEq, Eq)]
+#[derive(Clone, Copy, PartialEq, Eq)]
 pub enum Kind {
     Function,
     Object,
 }
 
 /// A name that a text defines, with what stands at its address in an executable.
-#[derive(Clone, Copy, Debug)]
+#[derive(Clone, Copy)]
 pub struct Symbol<'a> {
     pub address: u64,
     /// in bytes

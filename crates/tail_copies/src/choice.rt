@@ -50,6 +50,36 @@ fn is_worth(
     }
 }
 
+/// Whether the block goes to one that is worth a copy.
+fn is_chosen(
+    blocks: &[Block<u32>],
+    sources: &[Few<usize>],
+    number: usize,
+    block: &Block<u32>,
+    most: u64,
+) -> bool {
+    match &block.jump {
+        Jump::Goto(to) => is_worth(blocks, sources, number, *to, most),
+        Jump::Branch { .. } | Jump::Return(_) | Jump::Halt => false,
+    }
+}
+
+/// Says of each block whether it is chosen; answers whether one is.
+fn choose(
+    chosen: &mut Vec<bool>,
+    blocks: &[Block<u32>],
+    sources: &[Few<usize>],
+    most: u64,
+) -> Result<bool, AllocError> {
+    let mut is_any = false;
+    for (number, block) in blocks.iter().enumerate() {
+        let is_this = is_chosen(blocks, sources, number, block, most);
+        is_any = is_any || is_this;
+        chosen.push(is_this)?;
+    }
+    Ok(is_any)
+}
+
 /// For each block whether the block that it goes to is worth a copy; none where no block is.
 ///
 /// # Errors
@@ -62,16 +92,11 @@ pub(crate) fn chosen_tails(
 ) -> Result<Option<Vec<bool>>, AllocError> {
     let sources = sources(alloc, blocks)?;
     let mut chosen = Vec::with_capacity(alloc, blocks.len())?;
-    let mut is_any = false;
-    for (number, block) in blocks.iter().enumerate() {
-        let is_chosen = match &block.jump {
-            Jump::Goto(to) => is_worth(blocks, sources.as_slice(), number, *to, most),
-            Jump::Branch { .. } | Jump::Return(_) | Jump::Halt => false,
-        };
-        is_any = is_any || is_chosen;
-        chosen.push(is_chosen)?;
+    if choose(&mut chosen, blocks, sources.as_slice(), most)? {
+        Ok(Some(chosen))
+    } else {
+        Ok(None)
     }
-    if is_any { Ok(Some(chosen)) } else { Ok(None) }
 }
 
 /// The numbers of the blocks to which a way leads from the first, in their order.

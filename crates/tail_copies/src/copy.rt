@@ -1,5 +1,5 @@
 //! Functions with copies of blocks in the place of jumps to them.
-ghost use Rattle.std.specs.Prelude.{◌≡◌, ◌++◌, ◌≤◌, true, IfOk, OnOk};
+ghost use Rattle.std.specs.Prelude.{◌≡◌, ◌++◌, ◌≤◌, true, IfOk, IfSome, OnOk};
 ghost use Rattle.std.specs.List.{sum_by};
 ghost use Rattle.il_ast.specs.declared.limits.TheConstants.{FUNCTION_WEIGHT};
 ghost use Rattle.il_ast.specs.Passes.{Keeps};
@@ -114,12 +114,18 @@ fn with_these(alloc: Global, function: &VFunc, blocks: Vec<Block<u32>>) -> Resul
     Ok(made)
 }
 
+fn of_reached(alloc: Global, function: &VFunc) -> Result<Option<VFunc>, AllocError>
+    ensures { IfOk result (λ o. IfSome o (λ w. Keeps (virtual_code function.now) (virtual_code w))) }
+{
+    let order = reached_blocks(alloc, function.code.blocks.as_slice())?;
+    in_order(alloc, function, order.as_slice())
+}
+
 /// The function without the blocks to which no way leads.
 fn without_unreached(alloc: Global, function: VFunc) -> Result<VFunc, AllocError>
     ensures { IfOk result (λ w. Keeps (virtual_code function) (virtual_code w)) }
 {
-    let order = reached_blocks(alloc, function.code.blocks.as_slice())?;
-    match in_order(alloc, &function, order.as_slice())? {
+    match of_reached(alloc, &function)? {
         Some(made) => Ok(made),
         None => Ok(function),
     }
@@ -136,18 +142,37 @@ fn made_of(alloc: Global, function: &VFunc, blocks: Vec<Block<u32>>) -> Result<V
     Ok(reached)
 }
 
+/// The function with copies where blocks are chosen, unless it is too heavy then.
+fn with_copies(
+    alloc: Global,
+    function: &VFunc,
+    chosen: &[bool],
+) -> Result<Option<VFunc>, AllocError>
+    ensures { IfOk result (λ o. IfSome o (λ w. Keeps (virtual_code function.now) (virtual_code w))) }
+{
+    let blocks = all_longer(alloc, chosen, function.code.blocks.as_slice())?;
+    if are_light(blocks.as_slice()) {
+        Ok(Some(made_of(alloc, function, blocks)?))
+    } else {
+        Ok(None)
+    }
+}
+
+fn with_chosen(alloc: Global, function: &VFunc, most: u64) -> Result<Option<VFunc>, AllocError>
+    ensures { IfOk result (λ o. IfSome o (λ w. Keeps (virtual_code function.now) (virtual_code w))) }
+{
+    match chosen_tails(alloc, function.code.blocks.as_slice(), most)? {
+        Some(chosen) => with_copies(alloc, function, chosen.as_slice()),
+        None => Ok(None),
+    }
+}
+
 fn copied_once(alloc: Global, function: VFunc, most: u64) -> Result<VFunc, AllocError>
     ensures { IfOk result (λ w. Keeps (virtual_code function) (virtual_code w)) }
 {
-    let chosen = match chosen_tails(alloc, function.code.blocks.as_slice(), most)? {
-        Some(chosen) => chosen,
-        None => return Ok(function),
-    };
-    let blocks = all_longer(alloc, chosen.as_slice(), function.code.blocks.as_slice())?;
-    if are_light(blocks.as_slice()) {
-        made_of(alloc, &function, blocks)
-    } else {
-        Ok(function)
+    match with_chosen(alloc, &function, most)? {
+        Some(made) => Ok(made),
+        None => Ok(function),
     }
 }
 

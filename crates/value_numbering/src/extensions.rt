@@ -15,7 +15,7 @@ use vcode::line::{Line, Operation};
 use vcode::place::{Address, Operand};
 
 /// An operand's low bits, extended as this load extends what it reads.
-#[derive(Clone, Copy, Debug)]
+#[derive(Clone, Copy)]
 pub(crate) struct Extension {
     pub(crate) load: LoadOp,
     pub(crate) operand: Operand<u32>,

@@ -9,7 +9,7 @@ use vcode::line::{Line, Operation};
 use vcode::place::{Address, Operand};
 
 /// What a line computes.
-#[derive(Clone, Copy, Debug)]
+#[derive(Clone, Copy)]
 pub(crate) enum Expression {
     /// what the operand does
     Same(Operand<u32>),
@@ -26,7 +26,7 @@ pub(crate) enum Expression {
 }
 
 /// A register holds what an expression gives.
-#[derive(Clone, Copy, Debug)]
+#[derive(Clone, Copy)]
 pub(crate) struct Fact {
     pub(crate) register: u32,
     pub(crate) value: Expression,

@@ -11,14 +11,14 @@ use vcode::line::{Line, Operation};
 use vcode::place::Operand;
 
 /// So many times what an operand holds.
-#[derive(Clone, Copy, Debug)]
+#[derive(Clone, Copy)]
 pub(crate) struct Multiple {
     pub(crate) index: Operand<u32>,
     pub(crate) factor: u64,
 }
 
 /// A register that grows by a number, modulo 2^64.
-#[derive(Clone, Copy, Debug)]
+#[derive(Clone, Copy)]
 pub(crate) struct Increment {
     pub(crate) register: u32,
     pub(crate) by: u64,

@@ -15,7 +15,7 @@ use vcode::line::Comparison;
 use vcode::place::Operand;
 
 /// Of two operands, as signed numbers of a class, one is less.
-#[derive(Clone, Copy, Debug)]
+#[derive(Clone, Copy)]
 pub(crate) struct Order {
     pub(crate) class: Class,
     pub(crate) less: Operand<u32>,

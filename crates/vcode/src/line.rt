@@ -8,7 +8,7 @@ use rv_isa::instruction::{LoadOp, RegOp, RegWOp};
 use std::alloc::{AllocError, Global};
 
 /// An operation on two operands.
-#[derive(Clone, Copy, Debug, PartialEq, Eq)]
+#[derive(Clone, Copy, PartialEq, Eq)]
 pub enum Operation {
     /// of the machine, on 64 bits
     Reg(RegOp),
@@ -125,7 +125,7 @@ impl<P: Copy> Line<P> {
 }
 
 /// A comparison of two values of a class, as the source makes it.
-#[derive(Clone, Copy, Debug, PartialEq, Eq)]
+#[derive(Clone, Copy, PartialEq, Eq)]
 pub struct Comparison<P> {
     pub condition: Condition,
     pub class: Class,
@@ -134,7 +134,7 @@ pub struct Comparison<P> {
 }
 
 /// What ends a block. Blocks are named by their place in the function.
-#[derive(Clone, Copy, Debug, PartialEq, Eq)]
+#[derive(Clone, Copy, PartialEq, Eq)]
 pub enum Jump<P> {
     Goto(usize),
     /// to `met` where the comparison holds, else to `otherwise`

@@ -17,7 +17,7 @@ pub enum Location {
 }
 
 /// An operand over places P.
-#[derive(Clone, Copy, Debug, PartialEq, Eq)]
+#[derive(Clone, Copy, PartialEq, Eq)]
 pub enum Operand<P> {
     /// what the place holds
     At(P),
@@ -28,7 +28,7 @@ pub enum Operand<P> {
 }
 
 /// Where a load or a store reaches memory: that many bytes beyond the base.
-#[derive(Clone, Copy, Debug, PartialEq, Eq)]
+#[derive(Clone, Copy, PartialEq, Eq)]
 pub struct Address<P> {
     pub base: Operand<P>,
     pub offset: Immediate,
@@ -71,14 +71,14 @@ impl<P> Address<P> {
 }
 
 /// A place that takes a value of this class: a parameter, or the result of a call.
-#[derive(Clone, Copy, Debug, PartialEq, Eq)]
+#[derive(Clone, Copy, PartialEq, Eq)]
 pub struct Destination<P> {
     pub place: P,
     pub class: Class,
 }
 
 /// Whether a word that is passed still has to be sign-extended.
-#[derive(Clone, Copy, Debug, PartialEq, Eq)]
+#[derive(Clone, Copy, PartialEq, Eq)]
 pub enum Extension {
     /// its low 32 bits are sign-extended when it is passed
     Made,
@@ -87,7 +87,7 @@ pub enum Extension {
 }
 
 /// An argument of a call, which is passed as a value of this class.
-#[derive(Clone, Copy, Debug, PartialEq, Eq)]
+#[derive(Clone, Copy, PartialEq, Eq)]
 pub struct Argument<P> {
     pub class: Class,
     pub value: Operand<P>,
@@ -95,7 +95,7 @@ pub struct Argument<P> {
 }
 
 /// A value that a function returns, as one of the class of its result.
-#[derive(Clone, Copy, Debug, PartialEq, Eq)]
+#[derive(Clone, Copy, PartialEq, Eq)]
 pub struct ReturnValue<P> {
     pub value: Operand<P>,
     pub extension: Extension,

@@ -1,5 +1,5 @@
 //! What texts can see of one another.
-ghost use Rattle.std.specs.Prelude.{◌≡◌, ◌<◌, ◌≤◌, ℕ, List, cond, Some, OnOk, IfOk, MatchResult, IsTrue};
+ghost use Rattle.std.specs.Prelude.{◌≡◌, ◌<◌, ◌≤◌, ℕ, List, [], cond, slice_index_or, Some, OnOk, IfOk, MatchResult, IsTrue};
 ghost use Rattle.std.specs.Str.{bytes_eq};
 ghost use Rattle.obj_link.specs.Names.{symbol_name, predefined, visible, times_exported};
 ghost use Rattle.obj_link.specs.Tables.{seen, is_free};
@@ -7,6 +7,7 @@ ghost use Rattle.obj_link.specs.Refusals.{RefusesExports};
 
 use crate::linking::error::LinkError;
 use crate::linking::names::GlobalName;
+use il_ast::name::Name;
 use il_ast::program::Target;
 use il_ast::value::Callee;
 use il_types::checked::Checked;
@@ -81,10 +82,16 @@ fn symbol_name<'a>(texts: &'a [Checked], text: usize, symbol: usize) -> &'a [u8]
     ensures { result.now ≡ symbol_name texts.now text symbol }
 {
     match texts.get(text) {
-        Some(checked) => match checked.text.symbols.as_slice().get(symbol) {
-            Some(name) => name.as_slice(),
-            None => &[],
-        },
+        Some(checked) => name_at(checked.text.symbols.as_slice(), symbol),
+        None => &[],
+    }
+}
+
+fn name_at(symbols: &[Name], symbol: usize) -> &[u8]
+    ensures { result.now ≡ slice_index_or symbols.now symbol [] }
+{
+    match symbols.get(symbol) {
+        Some(name) => name.as_slice(),
         None => &[],
     }
 }

@@ -15,7 +15,7 @@ use std::alloc::{AllocError, Global};
 
 /// A definition of a global name: the text that it stands in, the name's number there, whether it is
 /// exported, and what it gives the name.
-#[derive(Clone, Copy, Debug)]
+#[derive(Clone, Copy)]
 pub struct GlobalName {
     pub text: usize,
     pub symbol: Symbol,
@@ -24,7 +24,6 @@ pub struct GlobalName {
 }
 
 /// All functions of texts, in order of texts and definitions.
-#[tactic(auto, using(crate::proofs::NameLemmas::functions_further))]
 pub fn functions<'a>(
     alloc: Global,
     texts: &'a [Checked],
@@ -58,7 +57,6 @@ fn collect_functions<'a>(
 }
 
 /// All data of texts, in order of texts and definitions.
-#[tactic(auto, using(crate::proofs::NameLemmas::objects_further))]
 pub fn objects<'a>(
     alloc: Global,
     texts: &'a [Checked],

@@ -16,7 +16,6 @@ use std::collections::HashMap;
 /// exported as.
 ///
 /// `LinkError::UnknownName` names one that has neither.
-#[tactic(auto, using(crate::proofs::TargetLemmas::texts_further, crate::proofs::TargetLemmas::refused_in))]
 pub fn targets<'a>(
     alloc: Global,
     texts: &'a [Checked],

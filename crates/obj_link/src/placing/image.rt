@@ -17,7 +17,7 @@ pub const PAGE: u64 = 4096;
 pub const SLOT: usize = 16;
 
 /// A linked program: the words of its code and the bytes of its data, at addresses that their sizes fix.
-#[derive(Debug, Drop)]
+#[derive(Drop)]
 pub struct Image {
     code: Vec<u32>,
     data_bytes: Vec<u8>,

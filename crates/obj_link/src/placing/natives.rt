@@ -1,7 +1,9 @@
 //! The words with which every program begins.
 
 ghost use Rattle.std.specs.Prelude.{◌≡◌, ◌++◌, OnOk};
-ghost use Rattle.rv_isa.specs.Formats.{i_type};
+ghost use Rattle.bits.specs.Words.{upper_field, lower_field};
+ghost use Rattle.rv_isa.specs.declared.abi.TheConstants.{FIRST_TEMPORARY};
+ghost use Rattle.rv_isa.specs.Formats.{i_type, u_type};
 ghost use Rattle.obj_link.specs.Natives.{start_words, write_words, exit_words, load_double, jump_to};
 
 use bits::split;
@@ -81,26 +83,39 @@ fn jump_to(rd: Register, rs1: Register) -> u32
     })
 }
 
+/// `lui` with the upper part of an address.
+fn load_upper(address: u32) -> u32
+    ensures { result ≡ u_type 0x37 FIRST_TEMPORARY (upper_field address) }
+{
+    encode(Instr::Lui {
+        rd: TEMPORARY,
+        field: UpperField {
+            value: split(address).upper,
+        },
+    })
+}
+
+/// `addiw` with the lower part of an address, behind its upper part.
+fn add_lower(address: u32) -> u32
+    ensures { result ≡ i_type 0x1b 0 FIRST_TEMPORARY FIRST_TEMPORARY (lower_field address) }
+{
+    encode(Instr::Addiw {
+        rd: TEMPORARY,
+        rs1: TEMPORARY,
+        immediate: Immediate {
+            value: split(address).lower as i16,
+        },
+    })
+}
+
 /// Puts the start code at the end, which calls `main` at this address.
 pub fn push_start(words: &mut Vec<u32>, main: u32) -> Result<(), AllocError>
     ensures { OnOk result (words.new.items ≡ words.old.items ++ start_words main) }
 {
-    let fields = split(main);
     words.push(count_of_words())?;
     words.push(add_immediate(SECOND_ARGUMENT, STACK_POINTER, Immediate { value: 8 }))?;
-    words.push(encode(Instr::Lui {
-        rd: TEMPORARY,
-        field: UpperField {
-            value: fields.upper,
-        },
-    }))?;
-    words.push(encode(Instr::Addiw {
-        rd: TEMPORARY,
-        rs1: TEMPORARY,
-        immediate: Immediate {
-            value: fields.lower as i16,
-        },
-    }))?;
+    words.push(load_upper(main))?;
+    words.push(add_lower(main))?;
     words.push(jump_to(RETURN_ADDRESS, TEMPORARY))?;
     words.push(add_immediate(SYSTEM_CALL, ZERO, EXIT))?;
     words.push(encode(Instr::Ecall))?;

@@ -94,8 +94,24 @@ fn image_of(alloc: Global, codes: &[MachineCode], linked: &Linked) -> Result<Ima
 {
     let start = objects_start(codes, linked);
     let addresses = addresses_of(alloc, start, codes, linked)?;
-    let words = code_of(alloc, &addresses, codes, linked)?;
-    let bytes = data_of(alloc, &addresses, linked)?;
+    image_at(alloc, &addresses, codes, linked)
+}
+
+/// The image, where functions and data stand at these addresses.
+fn image_at(
+    alloc: Global,
+    addresses: &Addresses,
+    codes: &[MachineCode],
+    linked: &Linked,
+) -> Result<Image, AllocError>
+    requires one_each { length codes.now ≡ length linked.now.functions }
+    requires fits { FitsBelow (program linked.now) codes.now }
+    requires codes { EveryCode codes.now }
+    requires addresses { addresses.now ≡ addresses_of (program linked.now) codes.now }
+    ensures { IfOk result (λ image. image ≡ contents_of (program linked.now) codes.now) }
+{
+    let words = code_of(alloc, addresses, codes, linked)?;
+    let bytes = data_of(alloc, addresses, linked)?;
     Ok(Image::new(words, bytes))
 }
 

@@ -1,4 +1,4 @@
-use Rattle.std.proofs.Common.{◌≡◌, ◌≤◌, ◌∙◌, sym, ap, subst, arith, List, ℕ}
+use Rattle.std.proofs.Common.{◌≡◌, ◌≤◌, ◌<◌, ◌+◌, ◌^◌, ◌∙◌, sym, ap, subst, arith, List, ℕ}
 use Rattle.std.specs.Prelude.{length, slice_get, Some}
 use Rattle.std.proofs.lemmas.Option.{slice_get_within}
 use Rattle.vcode.specs.declared.place.Location.{Location}
@@ -22,3 +22,12 @@ push_ways-requires-clause-can c = λ i b e.
 pub push_ways-requires-clause-few_saved : goal.push_ways-requires-clause-few_saved
 push_ways-requires-clause-few_saved c =
     subst (λ (rs : List ℕ). length rs ≤ 13) (sym c.requires.registers) (few_saved_registers c.args.function.now.located.code)
+
+pub push_ways-requires-clause-small : goal.push_ways-requires-clause-small
+push_ways-requires-clause-small c = subst (λ (y : Layout). y.leave + 1 < 2 ^ 62) (sym c.requires.plan) c.requires.small
+
+pub push_ways-requires-clause-all : goal.push_ways-requires-clause-all
+push_ways-requires-clause-all c =
+    let blocks = c.args.function.now.located.code.blocks in
+    let own : length blocks ≤ length blocks = omega (arith) in
+    subst (λ (bs : List (Block Location)). length bs ≤ c.args.shared.now.leave) (sym c.as_slice-2.ensures) (subst (λ (y : Layout). length blocks ≤ y.leave) (sym c.requires.plan) own)

@@ -1,6 +1,8 @@
+use Rattle.std.proofs.Common.{arith}
 use Rattle.std.proofs.Common.{sym, ◌∙◌, ◌+◌}
 use Rattle.alloc_check.specs.Certified.{jump_point}
 use Rattle.alloc_check.specs.Accepted.{end_point}
+use Rattle.std.proofs.lemmas.Grind.{common_steps}
 use Rattle.alloc_check.proofs.Counted.{beyond, none_there}
 use Rattle.cfg_live.proofs.Counting.{block_fits}
 use Rattle.alloc_check.proofs.points.are_points.Goals as goal
@@ -13,3 +15,6 @@ returns-in-None c =
     (beyond c.args.count (jump_point c.loop-block.point b.lines + 1) end (sym c.block_within.ensures ∙ c.in-None.is)
     (block_fits c.args.blocks.now c.loop-block.block-index c.loop-block.point end b c.loop-block-test.true c.block-item.is c.loop-block.invariant.points)) in
     record { count = sym other; few = λ e. cc }
+
+pub loop-block-preserved : goal.loop-block-preserved
+loop-block-preserved c = grind (arith, common_steps)

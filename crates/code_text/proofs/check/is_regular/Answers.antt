@@ -1,4 +1,4 @@
-use Rattle.std.proofs.Common.{◌≡◌, ℕ, ◌≤◌, nat_le, List, length, sym, ap, ◌∙◌, subst, arith}
+use Rattle.std.proofs.Common.{◌≤◌, nat_le, List, length, sym, ap, ◌∙◌, subst, arith}
 use Rattle.std.specs.List.{list_all, sum_by}
 use Rattle.std.proofs.lemmas.Bool.{le-leb}
 use Rattle.il_ast.specs.declared.limits.TheConstants.{FUNCTION_WEIGHT}

@@ -1,11 +1,11 @@
-use Rattle.std.proofs.Common.{◌≡◌, ℕ, false, List, drop, reverse, sym, ap, ◌∙◌}
+use Rattle.std.proofs.Common.{◌≡◌, ℕ, true, false, List, drop, reverse, sym, ap, ◌∙◌}
 use Rattle.std.proofs.Math.Path.{fun_ext}
 use Rattle.std.proofs.Math.Seq.{drop-length}
 use Rattle.vcode.specs.declared.line.Line.{Line}
 use Rattle.cfg_live.specs.Rows.{holds}
 use Rattle.dead_code.specs.Without.{Wanted, is_dead, wanted_at, as_wanted, kept_lines}
 use Rattle.dead_code.specs.Overlaid.{over}
-use Rattle.dead_code.proofs.Walking.{lines_above, wanted_on}
+use Rattle.dead_code.proofs.Walking.{lines_above, wanted_on, lines_over_dead, wanted_over_dead}
 use Rattle.dead_code.proofs.remove.kept_backward.Goals as goal
 
 pub loop-k-init : goal.loop-k-init
@@ -34,4 +34,20 @@ loop-k-preserved-in-Continue-branch-2 c =
       wanted =
           wanted_on out lines k l (over c.loop-k.overlay.said c.loop-k.overlay.wanted out) (over c.pass.new.self.said c.pass.new.self.wanted out) c.loop-k-test.true c.loop-k.auto.k
           c.index-lines-k.is stays c.loop-k.invariant.wanted (c.pass.ensures.over out);
+    }
+
+pub loop-k-preserved : goal.loop-k-preserved
+loop-k-preserved c =
+    let out : Wanted = holds c.args.live.now c.args.point in
+    let lines = c.args.lines.now in
+    let k = c.loop-k.k in
+    let l = c.index-lines-k.result in
+    let dead : is_dead (wanted_at out (drop k lines)) l ≡ true =
+    ap (λ (w : Wanted). is_dead w l) (sym c.loop-k.invariant.wanted) ∙ sym c.is_dead.ensures ∙ c.if-not-is_dead.false in
+    record {
+      length = c.loop-k.invariant.length;
+      lines = lines_over_dead out lines k l c.loop-k.kept.items c.loop-k-test.true c.loop-k.auto.k c.index-lines-k.is dead c.loop-k.invariant.lines;
+      wanted =
+          wanted_over_dead out lines k l (over c.loop-k.overlay.said c.loop-k.overlay.wanted out) c.loop-k-test.true c.loop-k.auto.k
+          c.index-lines-k.is dead c.loop-k.invariant.wanted;
     }

@@ -1,5 +1,6 @@
 use Rattle.std.proofs.Common.{length, ap, arith}
 use Rattle.std.proofs.lemmas.List.Sums.{sum_by-drop_more}
+use Rattle.std.proofs.lemmas.Grind.{common_steps}
 use Rattle.il_ast.specs.declared.block.Block.{Block}
 use Rattle.phi_copies.proofs.Counting.{is_small}
 use Rattle.phi_copies.proofs.map.count_phis.Goals as goal
@@ -12,3 +13,6 @@ overflow_add-number c =
     let all = c.loop-block.invariant.0 in
     let long = c.len-number-in-loop-block.ensures in
     omega (arith, small, more, here, all, long)
+
+pub loop-block-preserved : goal.loop-block-preserved
+loop-block-preserved c = grind (arith, common_steps)

@@ -1,5 +1,5 @@
 use Rattle.std.proofs.Common.{◌≡◌, ◌<◌, ◌^◌, FitsSigned, ◌∙◌, pos}
-use Rattle.std.specs.Int.{w64}
+use Rattle.std.specs.Int.{w64, w128}
 use Rattle.std.proofs.lemmas.Int.{to_z-of_z}
 use Rattle.rv_isa.proofs.HighHalf.{high_half, signed_by_unsigned, wide_signed, wide_unsigned}
 use Rattle.rv_isa.proofs.arithmetic.high_of_signed_by_unsigned.Goals as goal
@@ -11,3 +11,8 @@ returns c =
     let ea : c.from.result ≡ c.args.a = c.from.ensures ∙ to_z-of_z w64 c.args.a fa in
     high_half c.args.a (pos c.args.b) c.cast_unsigned.result (wide_signed c.args.a fa) (wide_unsigned c.args.b fb) (signed_by_unsigned c.args.a c.args.b fa fb)
     (rw (ea, c.from-2.ensures) at c.cast_unsigned.ensures)
+
+pub overflow_mul-from : goal.overflow_mul-from
+overflow_mul-from c =
+    let ea : c.from.result ≡ c.args.a = c.from.ensures ∙ to_z-of_z w64 c.args.a c.ranges.a in
+    rw (ea, c.from-2.ensures, to_z-of_z w128 c.args.a (wide_signed c.args.a c.ranges.a), to_z-of_z w128 (pos c.args.b) (wide_unsigned c.args.b c.ranges.b.fits)) (signed_by_unsigned c.args.a c.args.b c.ranges.a c.ranges.b.fits)

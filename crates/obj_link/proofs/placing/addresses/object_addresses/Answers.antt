@@ -1,5 +1,5 @@
 use Rattle.std.proofs.Common.{arith}
-use Rattle.obj_link.proofs.AddressLemmas.{object_room}
+use Rattle.obj_link.proofs.AddressLemmas.{object_room, objects_on}
 use Rattle.obj_link.proofs.placing.addresses.object_addresses.Goals as goal
 
 pub slot_size-at-requires : goal.slot_size-at-requires
@@ -11,3 +11,7 @@ pub overflow_add-at : goal.overflow_add-at
 overflow_add-at c =
     let room = object_room c.loop-object.at c.loop-object.object-index _ c.args.objects.now c.object-item.result c.loop-object-test.true c.object-item.is c.loop-object.invariant.1 in
     omega arith
+
+pub loop-object-preserved : goal.loop-object-preserved
+loop-object-preserved c =
+    objects_on c.loop-object.at c.args.objects.now c.loop-object.object-index c.object-item.result c.slot_size-at.result c.loop-object.found.items c.push.new.self.items _ _ c.loop-object-test.true c.object-item.is c.slot_size-at.ensures c.in_ok-push.ensures.items c.loop-object.invariant

@@ -1,0 +1,6 @@
+use Rattle.std.proofs.Common.{arith}
+use Rattle.std.proofs.lemmas.Grind.{common_steps}
+use Rattle.certificates.proofs.spill_all.slots.Goals as goal
+
+pub loop-register-preserved : goal.loop-register-preserved
+loop-register-preserved c = grind (arith, common_steps)
