@@ -29,10 +29,6 @@ fn parts_of_addresses(rt: HostRuntime) {
             global: 0,
             offset: Immediate { value: offset },
         };
-        assert_eq!(rt;
-            encode(relocation.relocated(address)),
-            word,
-            "{word:x}"
-        );
+        assert_eq!(rt; encode(relocation.relocated(address)), word, "{word:x}");
     }
 }
