@@ -32,10 +32,9 @@
 //! [`function`] reads functions, with the invariants of their types checked, and writes them. A text that is read is what is written of the function, but for the spacing around lines,
 //! so that each function has one text.
 //!
-//! The crate stands on `vcode` for the codes.
+//! The crate stands on `vcode` for the codes, and on `code_rules` for what a code has to keep.
 #![tactic(auto)]
 
-mod check;
 pub mod function;
 mod names;
 pub mod place;

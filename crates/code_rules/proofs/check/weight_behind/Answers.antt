@@ -3,7 +3,7 @@ use Rattle.std.specs.List.{sum_by}
 use Rattle.std.proofs.lemmas.List.{at_drop_all}
 use Rattle.std.proofs.lemmas.List.Sums.{sum_by-drop_more}
 use Rattle.vcode.specs.Regular.{weight_of}
-use Rattle.code_text.proofs.check.weight_behind.Goals as goal
+use Rattle.code_rules.proofs.check.weight_behind.Goals as goal
 
 pub loop-line-preserved : goal.loop-line-preserved
 loop-line-preserved g c =

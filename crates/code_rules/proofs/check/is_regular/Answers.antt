@@ -5,8 +5,8 @@ use Rattle.il_ast.specs.declared.limits.TheConstants.{FUNCTION_WEIGHT}
 use Rattle.vcode.specs.declared.code.Block.{Block}
 use Rattle.vcode.specs.Cost.{is_paid}
 use Rattle.vcode.specs.Regular.{leads_inside, allocs_first, alloc_bytes, passes_few}
-use Rattle.code_text.proofs.Turns.{are_paced}
-use Rattle.code_text.proofs.check.is_regular.Goals as goal
+use Rattle.code_rules.proofs.Turns.{are_paced}
+use Rattle.code_rules.proofs.check.is_regular.Goals as goal
 
 pub returns : goal.returns
 returns g c =

@@ -5,9 +5,9 @@ ghost use Rattle.il_ast.specs.declared.limits.TheConstants.{ALLOC_BYTES, FUNCTIO
 ghost use Rattle.vcode.specs.Cost.{is_paid};
 ghost use Rattle.vcode.specs.Named.{operand_keeps, wanted_keeps, made_keeps, line_keeps, jump_keeps, block_keeps, keeps_places, are_distinct};
 ghost use Rattle.vcode.specs.Regular.{IsRegular, is_target, leads_inside, is_alloc, allocs_first, alloc_bytes, passes_few, weight_of};
-ghost use Rattle.code_text.specs.Function.{IsFunction};
+ghost use Rattle.code_rules.specs.Function.{IsFunction};
 
-use crate::place::Place;
+use crate::place::CodePlace;
 use il_ast::limits::{ALLOC_BYTES, ARGUMENTS, FUNCTION_WEIGHT};
 use vcode::code::{Block, Code};
 use vcode::cost::is_paid;
@@ -17,7 +17,7 @@ use vcode::place::{Argument, Destination, Operand};
 
 // ---- the places that it names
 
-fn operand<P: Place>(count: u32, value: &Operand<P>) -> bool
+fn operand<P: CodePlace>(count: u32, value: &Operand<P>) -> bool
     ensures { result ≡ operand_keeps (P.exists count) value.now }
 {
     match value {
@@ -27,7 +27,7 @@ fn operand<P: Place>(count: u32, value: &Operand<P>) -> bool
     }
 }
 
-fn wanted<P: Place>(count: u32, to: &Option<Destination<P>>) -> bool
+fn wanted<P: CodePlace>(count: u32, to: &Option<Destination<P>>) -> bool
     ensures { result ≡ wanted_keeps (P.exists count) to.now }
 {
     match to {
@@ -36,7 +36,7 @@ fn wanted<P: Place>(count: u32, to: &Option<Destination<P>>) -> bool
     }
 }
 
-fn made<P: Place>(count: u32, to: &Option<P>) -> bool
+fn made<P: CodePlace>(count: u32, to: &Option<P>) -> bool
     ensures { result ≡ made_keeps (P.exists count) to.now }
 {
     match to {
@@ -45,13 +45,13 @@ fn made<P: Place>(count: u32, to: &Option<P>) -> bool
     }
 }
 
-fn args<P: Place>(count: u32, args: &[Argument<P>]) -> bool
+fn args<P: CodePlace>(count: u32, args: &[Argument<P>]) -> bool
     ensures { result ≡ list_all (λ a. operand_keeps (P.exists count) a.value) args.now }
 {
     args.iter().all(|arg| operand(count, &arg.value))
 }
 
-fn line<P: Place>(count: u32, line: &Line<P>) -> bool
+fn line<P: CodePlace>(count: u32, line: &Line<P>) -> bool
     ensures { result ≡ line_keeps (P.exists count) line.now }
 {
     match line {
@@ -75,7 +75,7 @@ fn line<P: Place>(count: u32, line: &Line<P>) -> bool
     }
 }
 
-fn jump<P: Place>(count: u32, jump: &Jump<P>) -> bool
+fn jump<P: CodePlace>(count: u32, jump: &Jump<P>) -> bool
     ensures { result ≡ jump_keeps (P.exists count) jump.now }
 {
     match jump {
@@ -87,31 +87,31 @@ fn jump<P: Place>(count: u32, jump: &Jump<P>) -> bool
     }
 }
 
-fn lines<P: Place>(count: u32, lines: &[Line<P>]) -> bool
+fn lines<P: CodePlace>(count: u32, lines: &[Line<P>]) -> bool
     ensures { result ≡ list_all (line_keeps (P.exists count)) lines.now }
 {
     lines.iter().all(|from| line(count, from))
 }
 
-fn block<P: Place>(count: u32, block: &Block<P>) -> bool
+fn block<P: CodePlace>(count: u32, block: &Block<P>) -> bool
     ensures { result ≡ block_keeps (P.exists count) block.now }
 {
     lines(count, block.lines.as_slice()) && jump(count, &block.jump)
 }
 
-fn blocks<P: Place>(count: u32, blocks: &[Block<P>]) -> bool
+fn blocks<P: CodePlace>(count: u32, blocks: &[Block<P>]) -> bool
     ensures { result ≡ list_all (block_keeps (P.exists count)) blocks.now }
 {
     blocks.iter().all(|from| block(count, from))
 }
 
-fn params<P: Place>(count: u32, params: &[Destination<P>]) -> bool
+fn params<P: CodePlace>(count: u32, params: &[Destination<P>]) -> bool
     ensures { result ≡ list_all (λ d. P.exists count d.place) params.now }
 {
     params.iter().all(|param| param.place.exists(count))
 }
 
-fn names_places<P: Place>(count: u32, code: &Code<P>) -> bool
+fn names_places<P: CodePlace>(count: u32, code: &Code<P>) -> bool
     ensures { result ≡ keeps_places (P.exists count) code.now }
 {
     params(count, code.params.as_slice()) && blocks(count, code.blocks.as_slice())
@@ -119,19 +119,19 @@ fn names_places<P: Place>(count: u32, code: &Code<P>) -> bool
 
 // ---- its parameters
 
-fn are_near<P: Place>(params: &[Destination<P>]) -> bool
+fn are_near<P: CodePlace>(params: &[Destination<P>]) -> bool
     ensures { result ≡ list_all (λ d. P.near d.place) params.now }
 {
     params.iter().all(|param| param.place.is_near())
 }
 
-fn is_among<P: Place>(place: P, params: &[Destination<P>]) -> bool
+fn is_among<P: CodePlace>(place: P, params: &[Destination<P>]) -> bool
     ensures { result ≡ list_any (λ e. P.apart.same place e.place) params.now }
 {
     params.iter().any(|param| place.is_same(param.place))
 }
 
-fn are_distinct<P: Place>(params: &[Destination<P>]) -> bool
+fn are_distinct<P: CodePlace>(params: &[Destination<P>]) -> bool
     ensures { result ≡ are_distinct P.apart params.now }
 {
     for (k, param) in params.iter().enumerate() {
@@ -150,7 +150,7 @@ fn is_target(blocks: usize, block: usize) -> bool
     0 < block && block < blocks
 }
 
-fn leads_inside<P: Place>(blocks: usize, jump: &Jump<P>) -> bool
+fn leads_inside<P: CodePlace>(blocks: usize, jump: &Jump<P>) -> bool
     ensures { result ≡ leads_inside blocks jump.now }
 {
     match jump {
@@ -163,14 +163,14 @@ fn leads_inside<P: Place>(blocks: usize, jump: &Jump<P>) -> bool
     }
 }
 
-fn are_inside<P: Place>(blocks: &[Block<P>]) -> bool
+fn are_inside<P: CodePlace>(blocks: &[Block<P>]) -> bool
     ensures { result ≡ list_all (λ b. leads_inside (length blocks.now) b.jump) blocks.now }
 {
     let count = blocks.len();
     blocks.iter().all(|block| leads_inside(count, &block.jump))
 }
 
-fn is_alloc<P: Place>(line: &Line<P>) -> bool
+fn is_alloc<P: CodePlace>(line: &Line<P>) -> bool
     ensures { result ≡ is_alloc line.now }
 {
     match line {
@@ -179,25 +179,25 @@ fn is_alloc<P: Place>(line: &Line<P>) -> bool
     }
 }
 
-fn allocates<P: Place>(lines: &[Line<P>]) -> bool
+fn allocates<P: CodePlace>(lines: &[Line<P>]) -> bool
     ensures { result ≡ list_any is_alloc lines.now }
 {
     lines.iter().any(|line| is_alloc(line))
 }
 
-fn makes_none<P: Place>(block: &Block<P>) -> bool
+fn makes_none<P: CodePlace>(block: &Block<P>) -> bool
     ensures { result ≡ not (list_any is_alloc block.now.lines) }
 {
     !allocates(block.lines.as_slice())
 }
 
-fn make_none<P: Place>(blocks: &[Block<P>]) -> bool
+fn make_none<P: CodePlace>(blocks: &[Block<P>]) -> bool
     ensures { result ≡ list_all (λ b. not (list_any is_alloc b.lines)) blocks.now }
 {
     blocks.iter().all(|block| makes_none(block))
 }
 
-fn allocs_first<P: Place>(blocks: &[Block<P>]) -> bool
+fn allocs_first<P: CodePlace>(blocks: &[Block<P>]) -> bool
     ensures { result ≡ allocs_first blocks.now }
 {
     match blocks.split_first() {
@@ -207,7 +207,7 @@ fn allocs_first<P: Place>(blocks: &[Block<P>]) -> bool
 }
 
 /// The bytes of stack for an `alloc`, if they are few enough.
-fn alloc_bytes<P: Place>(line: &Line<P>) -> Option<u64>
+fn alloc_bytes<P: CodePlace>(line: &Line<P>) -> Option<u64>
     ensures { IfSome result (λ bytes. bytes ≡ alloc_bytes line.now) }
 {
     match line {
@@ -222,7 +222,7 @@ fn alloc_bytes<P: Place>(line: &Line<P>) -> Option<u64>
     }
 }
 
-fn room_behind<P: Place>(room: u64, lines: &[Line<P>]) -> Option<u64>
+fn room_behind<P: CodePlace>(room: u64, lines: &[Line<P>]) -> Option<u64>
     ensures { IfSome result (λ left. sum_by alloc_bytes lines.now + left ≡ room) }
 {
     let mut left = room;
@@ -236,7 +236,7 @@ fn room_behind<P: Place>(room: u64, lines: &[Line<P>]) -> Option<u64>
     Some(left)
 }
 
-fn is_small<P: Place>(blocks: &[Block<P>]) -> bool
+fn is_small<P: CodePlace>(blocks: &[Block<P>]) -> bool
     ensures { result ≡ true → sum_by (λ b. sum_by alloc_bytes b.lines) blocks.now ≤ ALLOC_BYTES }
 {
     let mut left = ALLOC_BYTES;
@@ -251,7 +251,7 @@ fn is_small<P: Place>(blocks: &[Block<P>]) -> bool
 
 // ---- its ticks and its calls
 
-fn weight_of<P: Place>(line: &Line<P>) -> u64
+fn weight_of<P: CodePlace>(line: &Line<P>) -> u64
     ensures { result ≡ weight_of line.now }
 {
     match line {
@@ -260,7 +260,7 @@ fn weight_of<P: Place>(line: &Line<P>) -> u64
     }
 }
 
-fn weight_behind<P: Place>(whole: u64, lines: &[Line<P>]) -> Option<u64>
+fn weight_behind<P: CodePlace>(whole: u64, lines: &[Line<P>]) -> Option<u64>
     ensures { IfSome result (λ left. sum_by weight_of lines.now + left ≡ whole) }
 {
     let mut left = whole;
@@ -274,7 +274,7 @@ fn weight_behind<P: Place>(whole: u64, lines: &[Line<P>]) -> Option<u64>
     Some(left)
 }
 
-fn is_light<P: Place>(blocks: &[Block<P>]) -> bool
+fn is_light<P: CodePlace>(blocks: &[Block<P>]) -> bool
     ensures { result ≡ true → sum_by (λ b. sum_by weight_of b.lines) blocks.now ≤ FUNCTION_WEIGHT }
 {
     let mut left = FUNCTION_WEIGHT;
@@ -288,7 +288,7 @@ fn is_light<P: Place>(blocks: &[Block<P>]) -> bool
 }
 
 /// Whether so few lines stand in each block that few turns begin there.
-fn are_short<P: Place>(blocks: &[Block<P>]) -> bool
+fn are_short<P: CodePlace>(blocks: &[Block<P>]) -> bool
     ensures { result ≡ list_all (λ b. nat_le (length b.lines) FUNCTION_WEIGHT) blocks.now }
 {
     blocks
@@ -296,7 +296,7 @@ fn are_short<P: Place>(blocks: &[Block<P>]) -> bool
         .all(|block| block.lines.len() as u64 <= FUNCTION_WEIGHT)
 }
 
-fn passes_few<P: Place>(line: &Line<P>) -> bool
+fn passes_few<P: CodePlace>(line: &Line<P>) -> bool
     ensures { result ≡ passes_few line.now }
 {
     match line {
@@ -305,25 +305,25 @@ fn passes_few<P: Place>(line: &Line<P>) -> bool
     }
 }
 
-fn pass_few<P: Place>(block: &Block<P>) -> bool
+fn pass_few<P: CodePlace>(block: &Block<P>) -> bool
     ensures { result ≡ list_all passes_few block.now.lines }
 {
     block.lines.as_slice().iter().all(|line| passes_few(line))
 }
 
-fn all_pass_few<P: Place>(blocks: &[Block<P>]) -> bool
+fn all_pass_few<P: CodePlace>(blocks: &[Block<P>]) -> bool
     ensures { result ≡ list_all (λ b. list_all passes_few b.lines) blocks.now }
 {
     blocks.iter().all(|block| pass_few(block))
 }
 
-fn are_paid<P: Place>(blocks: &[Block<P>]) -> bool
+fn are_paid<P: CodePlace>(blocks: &[Block<P>]) -> bool
     ensures { result ≡ list_all is_paid blocks.now }
 {
     blocks.iter().all(|block| is_paid(block))
 }
 
-fn is_regular<P: Place>(code: &Code<P>) -> bool
+fn is_regular<P: CodePlace>(code: &Code<P>) -> bool
     ensures { result ≡ true → IsRegular code.now }
 {
     let blocks = code.blocks.as_slice();
@@ -349,7 +349,7 @@ fn is_regular<P: Place>(code: &Code<P>) -> bool
 }
 
 /// Whether the code may be that of a function with so many registers or slots.
-pub(crate) fn is_function<P: Place>(count: u32, code: &Code<P>) -> bool
+pub fn is_function<P: CodePlace>(count: u32, code: &Code<P>) -> bool
     ensures { result ≡ true → IsFunction P.exists P.near P.apart count code.now }
 {
     if count >= PLACES {
