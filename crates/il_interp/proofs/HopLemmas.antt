@@ -1,7 +1,7 @@
 -- Phis that take integers, jumps to them, and blocks that are done one after another.
-use Rattle.std.proofs.Common.{◌≡◌, ℕ, suc, ◌+◌, ◌-◌, List, refl, ap, sym, ◌∙◌, arith}
-use Rattle.std.specs.Prelude.{slice_get, Option, Some, None}
-use Rattle.std.specs.Option.{option_map}
+use Rattle.std.proofs.Common.{◌≡◌, ℕ, suc, ◌+◌, ◌-◌, ◌<◌, ◌≤◌, List, [], ◌∷◌, length, get_or, refl, ap, ap₂, sym, ◌∙◌, arith}
+use Rattle.std.specs.Prelude.{slice_get, slice_set, Option, Some, None}
+use Rattle.std.specs.Option.{option_and_then, option_map}
 use Rattle.il_ast.specs.declared.block.Block.{Block}
 use Rattle.il_ast.specs.declared.block.Phi.{Phi}
 use Rattle.il_ast.specs.declared.function.Func.{Func}
@@ -12,8 +12,9 @@ use Rattle.il_ast.specs.declared.program.InText.{InText}
 use Rattle.il_ast.specs.declared.program.Program.{Program}
 use Rattle.il_ast.specs.declared.value.End.{End}
 use Rattle.il_ast.specs.declared.value.Value.{Value}
+use Rattle.il_ast.specs.declared.value.Value.TheVariants.{Integer}
 use Rattle.il_ast.specs.Memory.{Memory}
-use Rattle.il_ast.specs.Effect.{Env, phi_values, with_phis, place_of, enter, enter_place, enter_at, entered, effect, turn_of, turn_in, end_effect, jump_effect}
+use Rattle.il_ast.specs.Effect.{phi_value, Env, phi_values, with_phis, place_of, enter, enter_place, enter_at, entered, effect, turn_of, turn_in, end_effect, jump_effect}
 use Rattle.il_interp.specs.declared.state.Frame.{Frame}
 use Rattle.il_interp.specs.declared.state.State.{State}
 use Rattle.il_interp.specs.Machine.{On, act_of, env_of, locals_of, react, stepped, turn_in_function, step, go_on, machine}
@@ -21,6 +22,24 @@ use Rattle.il_interp.specs.Pieces.{rest_of}
 use Rattle.il_interp.specs.Rows.{GoesOn}
 use Rattle.il_interp.specs.Hops.{Ends, Enters, GoesAlong, held_in, standing_in}
 use Rattle.il_interp.proofs.RowLemmas.{one_turn}
+
+-- ---- phis
+
+pub two_taken : (globals : List Value) (temps mid new : List (Option Value)) (from : ℕ) (one two : Phi) (a b : ℕ) → phi_value globals temps from one ≡ Some (Integer a)
+    → phi_value globals temps from two ≡ Some (Integer b) → mid ≡ slice_set temps one.to.temp (Some (Integer a)) → new ≡ slice_set mid two.to.temp (Some (Integer b))
+    → option_map (with_phis temps (one ∷ two ∷ [])) (phi_values globals temps from (one ∷ two ∷ [])) ≡ Some new
+two_taken globals temps mid new from one two a b ha hb hm hn =
+    let second : phi_values globals temps from (two ∷ []) ≡ Some (Integer b ∷ []) = ap (option_and_then (λ v. option_map (λ vs. v ∷ vs) (Some []))) hb in
+    let both : phi_values globals temps from (one ∷ two ∷ []) ≡ Some (Integer a ∷ Integer b ∷ []) =
+    ap (option_and_then (λ v. option_map (λ vs. v ∷ vs) (phi_values globals temps from (two ∷ [])))) ha ∙ ap (option_map (λ vs. Integer a ∷ vs)) second
+    in
+    ap (option_map (with_phis temps (one ∷ two ∷ []))) both ∙ ap Some (sym (hn ∙ ap (λ ts. slice_set ts two.to.temp (Some (Integer b))) hm))
+
+pub two_items : {A : Type 0} (xs : List A) (a b : A) → 2 ≤ length xs → length xs < 3 → a ≡ get_or xs 0 a → b ≡ get_or xs 1 b → xs ≡ a ∷ b ∷ []
+two_items [] a b le lt ha hb = absurd (omega (arith, le))
+two_items (x ∷ []) a b le lt ha hb = absurd (omega (arith, le))
+two_items (x ∷ y ∷ []) a b le lt ha hb = ap₂ (λ u v. u ∷ v ∷ []) (sym ha) (sym hb)
+two_items (x ∷ y ∷ z ∷ xs) a b le lt ha hb = absurd (omega (arith, lt))
 
 -- ---- jumps
 

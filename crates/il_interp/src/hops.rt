@@ -6,7 +6,7 @@ ghost use Rattle.obj_link.specs.Shown.{shown};
 ghost use Rattle.il_interp.specs.Prepared.{program_of};
 ghost use Rattle.il_interp.specs.Hops.{Ends, Enters, GoesAlong, held_in};
 
-use crate::jump::{branch_to, places_to};
+use crate::jump::places_to;
 use crate::numbers::{in_class, number_at, operate_in_row};
 use crate::operand::function_at;
 use crate::phi_numbers::take_numbers;
@@ -20,7 +20,6 @@ use il_ast::instruction::Jump;
 use il_ast::label::Label;
 use il_ast::operation::Class;
 use il_ast::program::InText;
-use il_ast::value::Value;
 use std::alloc::AllocError;
 
 /// The label that a jump leads to, and whether it is the first that the jump has; none for a return and for
@@ -35,11 +34,11 @@ fn target(temps: &Slots, jump: Jump) -> Option<(Label, bool)>
             nonzero,
             otherwise,
         } => match number_at(temps, &on) {
-            Some(number) => {
-                let found = Value::Integer(in_class(Class::W, number));
-                let label = branch_to(found, nonzero, otherwise);
-                Some((label, label.number() == nonzero.number()))
-            }
+            Some(number) => if in_class(Class::W, number) == 0 {
+                Some((otherwise, false))
+            } else {
+                Some((nonzero, true))
+            },
             None => None,
         },
         Jump::Return(_) => None,

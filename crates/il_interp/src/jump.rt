@@ -207,7 +207,7 @@ fn give_back(state: &mut State, value: Option<Value>) -> Option<End>
 }
 
 /// Where a branch goes.
-pub fn branch_to(value: Value, nonzero: Label, otherwise: Label) -> Label
+fn branch_to(value: Value, nonzero: Label, otherwise: Label) -> Label
     ensures { result ≡ branch_to value nonzero otherwise }
 {
     match value {

@@ -1,5 +1,5 @@
 //! Phis that take integers.
-ghost use Rattle.std.specs.Prelude.{◌≡◌, ℕ, List, map, Some, IfOk, IfSome, MatchBool, true, length};
+ghost use Rattle.std.specs.Prelude.{◌≡◌, [], ◌∷◌, List, map, Some, IfOk, IfSome, MatchBool, true};
 ghost use Rattle.std.specs.Option.{option_map};
 ghost use Rattle.il_ast.specs.declared.value.Value.{Value as ValueOf};
 ghost use Rattle.il_ast.specs.declared.value.Value.TheVariants.{Integer};
@@ -69,9 +69,8 @@ fn write_numbers(temps: &mut Slots, phis: &[Phi], numbers: &[u64])
     }
 }
 
-/// Gives phis their values where these all are integers, and their arguments the ones at `places`. Answers
-/// whether that was so.
-pub fn take_numbers(
+/// Gives phis their values where these all are integers, however many there are.
+fn take_all(
     temps: &mut Slots,
     from: Label,
     places: &[usize],
@@ -86,4 +85,64 @@ pub fn take_numbers(
         write_numbers(temps, phis, numbers.as_slice());
     }
     Ok(all)
+}
+
+/// The same of one phi.
+fn take_one(temps: &mut Slots, from: Label, places: &[usize], phi: &Phi) -> bool
+    requires { are_distinct phi.now.args ≡ true }
+    ensures { MatchBool result ((globals : List ValueOf) → option_map (with_phis temps.old (phi.now ∷ [])) (phi_values globals temps.old from (phi.now ∷ [])) ≡ Some temps.new) (temps.new ≡ temps.old) }
+{
+    let place = match places {
+        [place] => *place,
+        _ => return false,
+    };
+    match phi_number(temps, from, place, phi) {
+        Some(number) => {
+            temps.set_number(phi.to.temp.number(), number);
+            true
+        }
+        None => false,
+    }
+}
+
+/// The same of two.
+fn take_two(temps: &mut Slots, from: Label, places: &[usize], one: &Phi, two: &Phi) -> bool
+    requires one { are_distinct one.now.args ≡ true }
+    requires two { are_distinct two.now.args ≡ true }
+    ensures { MatchBool result ((globals : List ValueOf) → option_map (with_phis temps.old (one.now ∷ two.now ∷ [])) (phi_values globals temps.old from (one.now ∷ two.now ∷ [])) ≡ Some temps.new) (temps.new ≡ temps.old) }
+{
+    let (first, second) = match places {
+        [first, second] => (*first, *second),
+        _ => return false,
+    };
+    match phi_number(temps, from, first, one) {
+        Some(a) => match phi_number(temps, from, second, two) {
+            Some(b) => {
+                temps.set_number(one.to.temp.number(), a);
+                temps.set_number(two.to.temp.number(), b);
+                true
+            }
+            None => false,
+        },
+        None => false,
+    }
+}
+
+/// Gives phis their values where these all are integers, and their arguments the ones at `places`. Answers
+/// whether that was so.
+pub fn take_numbers(
+    temps: &mut Slots,
+    from: Label,
+    places: &[usize],
+    phis: &[Phi],
+    numbers: &mut Vec<u64>,
+) -> Result<bool, AllocError>
+    requires { are_all_distinct phis.now ≡ true }
+    ensures { IfOk result (λ all. MatchBool all ((globals : List ValueOf) → option_map (with_phis temps.old phis.now) (phi_values globals temps.old from phis.now) ≡ Some temps.new) (temps.new ≡ temps.old)) }
+{
+    match phis {
+        [one] => Ok(take_one(temps, from, places, one)),
+        [one, two] => Ok(take_two(temps, from, places, one, two)),
+        _ => take_all(temps, from, places, phis, numbers),
+    }
 }
