@@ -11,3 +11,4 @@ pub mod PieceLaws
 pub mod LabelLemmas
 pub mod SlotLemmas
 pub mod RowLemmas
+pub mod HopLemmas

@@ -17,7 +17,6 @@ use Rattle.il_ast.specs.declared.program.Program.{Program}
 use Rattle.il_ast.specs.declared.value.Value.{Value}
 use Rattle.il_ast.specs.declared.value.Value.TheVariants.{Integer}
 use Rattle.il_ast.specs.declared.value.End.{End}
-use Rattle.il_ast.specs.declared.value.End.TheVariants.{Undefined}
 use Rattle.il_ast.specs.Meaning.{Behaviour}
 use Rattle.il_ast.specs.Values.{modulus, in_place}
 use Rattle.il_ast.specs.Memory.{Memory}
@@ -25,7 +24,7 @@ use Rattle.il_ast.specs.Operations.{left_class, right_class, on_integers, operat
 use Rattle.il_ast.specs.Effect.{effect, turn_of, turn_in, inst_effect, after_inst, assigned, operand, value_at, Done}
 use Rattle.il_interp.specs.declared.state.State.{State}
 use Rattle.il_interp.specs.Pieces.{rest_of}
-use Rattle.il_interp.specs.Machine.{On, Over, stepped, act_of, env_of, react, turn_in_function, step, go_on, machine}
+use Rattle.il_interp.specs.Machine.{On, stepped, act_of, env_of, react, turn_in_function, step, go_on, machine}
 use Rattle.il_interp.specs.Rows.{in_class, Does, further_on, GoesOn}
 
 -- ---- one operation
@@ -96,44 +95,15 @@ read_at [] i d lt = absurd (omega arith)
 read_at (y ∷ ys) zero d lt = refl
 read_at (y ∷ ys) (suc i) d lt = read_at ys i d (omega arith)
 
--- ---- a row, and the turn behind it
+-- ---- one turn
 
 rests : (p : Program) (new : State) (end : Option End) (n : ℕ) → go_on (machine p n) (stepped new end) ≡ rest_of p new end n
 rests p new None n = refl
 rests p new (Some e) n = refl
 
-one_turn : (p : Program) (n : ℕ) (st new : State) (end : Option End) → step p st ≡ stepped new end → machine p (suc n) st ≡ rest_of p new end n
+pub one_turn : (p : Program) (n : ℕ) (st new : State) (end : Option End) → step p st ≡ stepped new end → machine p (suc n) st ≡ rest_of p new end n
 unfolding machine
 one_turn p n st new end h = ap (go_on (machine p n)) h ∙ rests p new end n
-
-block_turn : (p : Program) (f : InText Func) (b : Block) (st new : State) (end : Option End)
-    → slice_get p.functions st.frame.function ≡ Some f → slice_get f.item.blocks st.frame.block ≡ Some b
-    → react p st (turn_of (env_of p f) (act_of st.frame) st.memory (Some b)) ≡ stepped new end → step p st ≡ stepped new end
-unfolding step effect
-block_turn p f b st new end hf hb h =
-    ap (turn_in_function p st) hf ∙ (ap (λ o. react p st (turn_of (env_of p f) (act_of st.frame) st.memory o)) hb ∙ h)
-
-pub row_and_turn : (p : Program) (f : InText Func) (b : Block) (st new : State) (end : Option End) (insts : List (Lined Inst)) (next : ℕ) (temps : List (Option Value)) (n : ℕ)
-    → slice_get p.functions st.frame.function ≡ Some f → slice_get f.item.blocks st.frame.block ≡ Some b → b.insts ≡ insts → GoesOn insts st.frame.temps st.frame.next temps next
-    → react p (further_on st next temps) (turn_of (env_of p f) (act_of (further_on st next temps).frame) st.memory (Some b)) ≡ stepped new end
-    → machine p (next - st.frame.next + 1 + n) st ≡ rest_of p new end n
-row_and_turn p f b st new end insts next temps n hf hb hi goes h =
-    let count : next - st.frame.next + 1 + n ≡ next - st.frame.next + suc n = omega arith in
-    ap (λ k. machine p k st) count
-    ∙ (goes p f b st hf hb hi refl refl (suc n) ∙ one_turn p n (further_on st next temps) new end (block_turn p f b (further_on st next temps) new end hf hb h))
-
-undefined_turn : (p : Program) (st : State) (n : ℕ) → step p st ≡ Over st.output Undefined → machine p (1 + n) st ≡ record { output = st.output; ending = Undefined }
-undefined_turn p st n h = let count : 1 + n ≡ suc n = omega arith in ap (λ k. machine p k st) count ∙ one_turn p n st st (Some Undefined) h
-
-pub no_function : (p : Program) (st : State) (n : ℕ) → slice_get p.functions st.frame.function ≡ None → machine p (1 + n) st ≡ record { output = st.output; ending = Undefined }
-unfolding step
-no_function p st n h = undefined_turn p st n (ap (turn_in_function p st) h)
-
-pub no_block : (p : Program) (f : InText Func) (st : State) (n : ℕ) → slice_get p.functions st.frame.function ≡ Some f → slice_get f.item.blocks st.frame.block ≡ None
-    → machine p (1 + n) st ≡ record { output = st.output; ending = Undefined }
-unfolding step effect
-no_block p f st n hf hb =
-    undefined_turn p st n (ap (turn_in_function p st) hf ∙ ap (λ o. react p st (turn_of (env_of p f) (act_of st.frame) st.memory o)) hb)
 
 -- ---- rows, one after another
 

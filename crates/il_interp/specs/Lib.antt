@@ -10,4 +10,5 @@ pub mod Begun
 pub mod Pieces
 pub mod Slots
 pub mod Rows
+pub mod Hops
 pub mod Targets

@@ -4,8 +4,6 @@ ghost use Rattle.std.specs.List.{find};
 ghost use Rattle.il_ast.specs.declared.block.PhiArg.{PhiArg as PhiArgOf};
 ghost use Rattle.il_ast.specs.declared.instruction.Jump.TheVariants.{Return};
 ghost use Rattle.il_ast.specs.Start.{globals_of};
-ghost use Rattle.il_ast.specs.declared.value.Value.{Value as ValueOf};
-ghost use Rattle.il_ast.specs.declared.value.Value.TheVariants.{Integer};
 ghost use Rattle.il_ast.specs.Memory.{Memory, free_all};
 ghost use Rattle.il_ast.specs.Effect.{branch_to, phi_value, phi_values, with_phis, enter, jump_effect};
 ghost use Rattle.il_ast.specs.Meaning.{end_of};
@@ -16,8 +14,8 @@ ghost use Rattle.il_interp.specs.Prepared.{program_of};
 ghost use Rattle.il_interp.specs.Targets.{Leads};
 ghost use Rattle.il_interp.specs.Machine.{env_of, locals_of, received, return_to, react, stepped};
 
-use crate::numbers::{in_class, number_at};
 use crate::operand::operand;
+use crate::phi_numbers::phi_number;
 use crate::prepare::{edges_at, place_at};
 use crate::prepared::Prepared;
 use crate::slots::Slots;
@@ -26,7 +24,6 @@ use il_ast::block::{Phi, PhiArg};
 use il_ast::function::Func;
 use il_ast::instruction::Jump;
 use il_ast::label::Label;
-use il_ast::list::Seq;
 use il_ast::operand::{Dest, Val};
 use il_ast::operation::Class;
 use il_ast::program::InText;
@@ -65,28 +62,10 @@ fn phi_value(
     }
 }
 
-/// The number that a phi takes, where its argument is the one at `place`, and an integer.
-#[tactic(auto, using(crate::proofs::RowLemmas::operand_is))]
-fn phi_number(temps: &Slots, from: Label, place: usize, phi: &Phi) -> Option<u64>
-    requires { are_distinct phi.now.args ≡ true }
-    ensures { IfSome result (λ number. (globals : List ValueOf) → phi_value globals temps.now from phi.now ≡ Some (Integer number)) }
-{
-    match argument_at(phi.args.as_slice(), from, place) {
-        Some(arg) => match number_at(temps, &arg.value) {
-            Some(number) => Some(in_class(phi.to.class, number)),
-            None => None,
-        },
-        None => None,
-    }
-}
-
 /// The place that is noted for a phi, or 0.
-fn place_of(places: Option<&Seq<usize>>, phi: usize) -> usize {
-    match places {
-        Some(places) => match places.as_slice().get(phi) {
-            Some(place) => *place,
-            None => 0,
-        },
+fn place_of(places: &[usize], phi: usize) -> usize {
+    match places.get(phi) {
+        Some(place) => *place,
         None => 0,
     }
 }
@@ -98,7 +77,7 @@ fn read_phis(
     text: usize,
     temps: &Slots,
     from: Label,
-    places: Option<&Seq<usize>>,
+    places: &[usize],
     phis: &[Phi],
     values: &mut Vec<Value>,
 ) -> Result<bool, AllocError>
@@ -143,7 +122,7 @@ fn enter(
     from: Label,
     state: &mut State,
     label: Label,
-    places: Option<&Seq<usize>>,
+    places: &[usize],
     values: &mut Vec<Value>,
 ) -> Result<Option<End>, AllocError>
     requires { slice_get (program_of prepared.now).functions state.old.frame.function ≡ Some (shown function.now) }
@@ -260,10 +239,14 @@ fn returns(
 }
 
 /// Where to look for the arguments of phis after a jump to the first label that it has, or to the second.
-fn places_to<'a>(prepared: &'a Prepared<'_>, frame: &Frame, first: bool) -> Option<&'a Seq<usize>> {
+pub fn places_to<'a>(prepared: &'a Prepared<'_>, frame: &Frame, first: bool) -> &'a [usize] {
     match edges_at(prepared, frame.function, frame.block) {
-        Some(edges) => Some(if first { &edges.first } else { &edges.second }),
-        None => None,
+        Some(edges) => if first {
+            edges.first.as_slice()
+        } else {
+            edges.second.as_slice()
+        },
+        None => &[],
     }
 }
 

@@ -1,13 +1,14 @@
 //! Runs.
-ghost use Rattle.std.specs.Prelude.{◌≡◌, ◌+◌, ℕ, IfOk};
+ghost use Rattle.std.specs.Prelude.{◌≡◌, ◌+◌, ◌<◌, ◌≤◌, ℕ, IfOk};
 ghost use Rattle.il_interp.specs.Pieces.{rest_of};
 ghost use Rattle.il_interp.specs.Prepared.{program_of};
 ghost use Rattle.il_interp.specs.Machine.{machine};
 
+use crate::hops::hop_along;
 use crate::prepared::Prepared;
 use crate::state::State;
-use crate::turn::turns_in_block;
-use il_ast::value::End;
+use crate::turn::turn;
+use il_ast::value::{End, Value};
 use std::alloc::{AllocError, Global};
 
 /// Does so many turns, or as many as there are to the end. Answers the output and the end.
@@ -23,6 +24,29 @@ pub fn run(
     Ok((state.output.into_bytes(), end.unwrap_or(End::Turns)))
 }
 
+/// Does at most so many turns, at least one: those on integers that are due, and the one behind them.
+/// Answers how many, and the end, where the run is over.
+fn next_turns(
+    alloc: Global,
+    prepared: &Prepared<'_>,
+    state: &mut State,
+    numbers: &mut Vec<u64>,
+    values: &mut Vec<Value>,
+    most: u64,
+) -> Result<(u64, Option<End>), AllocError>
+    requires { 0 < most }
+    ensures some { IfOk result (λ r. 0 < r.0) }
+    ensures few { IfOk result (λ r. r.0 ≤ most) }
+    ensures means { IfOk result (λ r. (n : ℕ) → machine (program_of prepared.now) (r.0 + n) state.old ≡ rest_of (program_of prepared.now) state.new r.1 n) }
+{
+    let done = hop_along(prepared, &mut state.frame, numbers, most)?;
+    if done == most {
+        return Ok((done, None));
+    }
+    let end = turn(alloc, prepared, state, values)?;
+    Ok((done + 1, end))
+}
+
 /// Does so many turns, or as many as there are to the end. Answers the end, where the run is over.
 pub fn go_on(
     alloc: Global,
@@ -32,10 +56,11 @@ pub fn go_on(
 ) -> Result<Option<End>, AllocError>
     ensures { IfOk result (λ end. (n : ℕ) → machine (program_of prepared.now) (turns + n) state.old ≡ rest_of (program_of prepared.now) state.new end n) }
 {
+    let mut numbers = Vec::new(alloc);
     let mut values = Vec::new(alloc);
     let mut left = turns;
     while left > 0 {
-        let (done, end) = turns_in_block(alloc, prepared, state, &mut values, left)?;
+        let (done, end) = next_turns(alloc, prepared, state, &mut numbers, &mut values, left)?;
         match end {
             Some(end) => return Ok(Some(end)),
             None => left -= done,

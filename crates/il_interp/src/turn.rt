@@ -1,16 +1,14 @@
 //! One turn.
-ghost use Rattle.std.specs.Prelude.{◌≡◌, ℕ, ◌+◌, ◌<◌, ◌≤◌, ◌^◌, Some, slice_get, IfOk};
+ghost use Rattle.std.specs.Prelude.{◌≡◌, ◌+◌, ◌<◌, ◌^◌, Some, slice_get, IfOk};
 ghost use Rattle.il_ast.specs.Start.{globals_of};
 ghost use Rattle.il_ast.specs.Effect.{inst_effect, turn_of, turn_in, end_effect};
 ghost use Rattle.obj_link.specs.Shown.{shown};
 ghost use Rattle.il_interp.specs.Prepared.{program_of};
-ghost use Rattle.il_interp.specs.Machine.{act_of, env_of, locals_of, inst_next, machine, react, stepped, step};
-ghost use Rattle.il_interp.specs.Pieces.{rest_of};
+ghost use Rattle.il_interp.specs.Machine.{act_of, env_of, locals_of, inst_next, react, stepped, step};
 
 use crate::call::call;
 use crate::instruction::{allocate, binary, blit, store, unary};
 use crate::jump::jump;
-use crate::numbers::operate_in_row;
 use crate::operand::function_at;
 use crate::prepared::Prepared;
 use crate::state::State;
@@ -96,39 +94,5 @@ pub fn turn(
             None => Ok(Some(End::Undefined)),
         },
         None => Ok(Some(End::Undefined)),
-    }
-}
-
-/// Does at most so many turns, at least one, as far as the block goes in which the next one is due.
-/// Answers how many, and the end, where the run is over.
-pub fn turns_in_block(
-    alloc: Global,
-    prepared: &Prepared<'_>,
-    state: &mut State,
-    values: &mut Vec<Value>,
-    most: u64,
-) -> Result<(u64, Option<End>), AllocError>
-    requires { 0 < most }
-    ensures some { IfOk result (λ r. 0 < r.0) }
-    ensures few { IfOk result (λ r. r.0 ≤ most) }
-    ensures means { IfOk result (λ r. (n : ℕ) → machine (program_of prepared.now) (r.0 + n) state.old ≡ rest_of (program_of prepared.now) state.new r.1 n) }
-{
-    match function_at(prepared.linked, state.frame.function) {
-        Some(function) => match function.item.blocks.as_slice().get(state.frame.block) {
-            Some(block) => {
-                let from = state.frame.next;
-                let insts = block.insts.as_slice();
-                let next = operate_in_row(insts, &mut state.frame.temps, from, most);
-                state.frame.next = next;
-                let done = (next - from) as u64;
-                if done == most {
-                    return Ok((done, None));
-                }
-                let end = turn_in_block(alloc, prepared, function, block, state, values)?;
-                Ok((done + 1, end))
-            }
-            None => Ok((1, Some(End::Undefined))),
-        },
-        None => Ok((1, Some(End::Undefined))),
     }
 }

@@ -1,0 +1,27 @@
+use Rattle.std.proofs.Common.{◌≡◌, ◌∙◌, ◌+◌, ◌-◌, ◌≤◌, subst, arith}
+use Rattle.il_interp.specs.Prepared.{program_of}
+use Rattle.il_interp.specs.Hops.{GoesAlong}
+use Rattle.il_interp.proofs.HopLemmas.{along_further}
+use Rattle.il_interp.proofs.hops.hop_along.Goals as goal
+
+pub returns-then-not-goes_on-clause-means : goal.returns-then-not-goes_on-clause-means
+returns-then-not-goes_on-clause-means c =
+    let p = program_of c.args.prepared.now in
+    let old = c.args.frame.now in
+    let new = c.turns_in_block.new.frame in
+    let count : c.args.most - c.loop-left.left + c.in_ok-done.done ≡ c.args.most - (c.loop-left.left - c.in_ok-done.done) = omega (arith, c.in_ok-done.ensures.few, c.loop-left.invariant.0) in
+    subst (λ k. GoesAlong p old k new) count
+    (along_further p old c.loop-left.frame new (c.args.most - c.loop-left.left) c.in_ok-done.done c.loop-left.invariant.2 c.in_ok-done.ensures.means)
+
+pub loop-left-preserved : goal.loop-left-preserved
+loop-left-preserved c =
+    let p = program_of c.args.prepared.now in
+    let old = c.args.frame.now in
+    let new = c.turns_in_block.new.frame in
+    let fewer : c.loop-left.left - c.in_ok-done.done ≤ c.args.most = omega (arith, c.loop-left.invariant.0) in
+    let count : c.args.most - c.loop-left.left + c.in_ok-done.done ≡ c.args.most - (c.loop-left.left - c.in_ok-done.done) = omega (arith, c.in_ok-done.ensures.few, c.loop-left.invariant.0) in (
+      fewer,
+      c.in_ok-done.ensures.same ∙ c.loop-left.invariant.1,
+      subst (λ k. GoesAlong p old k new) count
+          (along_further p old c.loop-left.frame new (c.args.most - c.loop-left.left) c.in_ok-done.done c.loop-left.invariant.2 c.in_ok-done.ensures.means),
+    )

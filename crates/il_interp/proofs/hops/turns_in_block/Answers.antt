@@ -1,0 +1,36 @@
+use Rattle.std.proofs.Common.{◌≡◌, ◌∙◌, ◌-◌, ap, subst, sym, Bool, arith}
+use Rattle.std.proofs.lemmas.Option.{slice_get_past}
+use Rattle.std.specs.Prelude.{slice_get, None, MatchBool}
+use Rattle.obj_link.specs.Shown.{shown}
+use Rattle.il_interp.specs.Prepared.{program_of}
+use Rattle.il_interp.specs.Hops.{Ends, GoesAlong}
+use Rattle.il_interp.proofs.HopLemmas.{along_further, along_hop, along_row}
+use Rattle.il_interp.proofs.hops.turns_in_block.Goals as goal
+
+pub returns-then-branch-clause-means : goal.returns-then-branch-clause-means
+returns-then-branch-clause-means c =
+    let p = program_of c.args.prepared.now in
+    let f = shown c.args.function.now in
+    let b = c.args.block.now in
+    let old = c.args.frame.now in
+    let next = c.operate_in_row-next.result in
+    let row = record old { next = next; temps = c.operate_in_row-next.new.temps } in
+    let none : slice_get b.insts next ≡ None =
+    ap (λ is. slice_get is next) (sym c.as_slice-insts.ensures) ∙ slice_get_past c.as_slice-insts.result.now next (omega (arith, c.if-next-insts.false))
+    in
+    let hops = subst (λ (done : Bool). MatchBool done (Ends p f b row c.hop.new.frame) (c.hop.new.frame ≡ row)) c.if-branch.true c.in_ok-hop.ensures.ends in
+    along_further p old row c.hop.new.frame (next - old.next) 1
+    (along_row p f b c.as_slice-insts.result.now old next c.operate_in_row-next.new.temps c.requires.function c.requires.block (sym c.as_slice-insts.ensures) c.operate_in_row-next.ensures.goes)
+    (along_hop p f b row c.hop.new.frame c.requires.function c.requires.block none hops)
+
+pub returns-else-branch-clause-means : goal.returns-else-branch-clause-means
+returns-else-branch-clause-means c =
+    let p = program_of c.args.prepared.now in
+    let f = shown c.args.function.now in
+    let b = c.args.block.now in
+    let old = c.args.frame.now in
+    let next = c.operate_in_row-next.result in
+    let row = record old { next = next; temps = c.operate_in_row-next.new.temps } in
+    let stays = subst (λ (done : Bool). MatchBool done (Ends p f b row c.hop.new.frame) (c.hop.new.frame ≡ row)) c.if-branch.false c.in_ok-hop.ensures.ends in
+    subst (GoesAlong p old (next - old.next)) (sym stays)
+    (along_row p f b c.as_slice-insts.result.now old next c.operate_in_row-next.new.temps c.requires.function c.requires.block (sym c.as_slice-insts.ensures) c.operate_in_row-next.ensures.goes)

@@ -1,0 +1,175 @@
+//! Operations and jumps on integers, which are done one after another through blocks.
+ghost use Rattle.std.specs.Prelude.{◌≡◌, ◌<◌, ◌≤◌, ℕ, List, Some, true, slice_get, IfOk, IfSome, MatchBool};
+ghost use Rattle.il_ast.specs.Memory.{Memory};
+ghost use Rattle.il_ast.specs.Effect.{Env, enter, jump_effect};
+ghost use Rattle.obj_link.specs.Shown.{shown};
+ghost use Rattle.il_interp.specs.Prepared.{program_of};
+ghost use Rattle.il_interp.specs.Hops.{Ends, Enters, GoesAlong, held_in};
+
+use crate::jump::places_to;
+use crate::numbers::{in_class, number_at, operate_in_row};
+use crate::operand::function_at;
+use crate::phi_numbers::take_numbers;
+use crate::prepare::place_at;
+use crate::prepared::Prepared;
+use crate::slots::Slots;
+use crate::state::Frame;
+use il_ast::block::Block;
+use il_ast::function::Func;
+use il_ast::instruction::Jump;
+use il_ast::label::Label;
+use il_ast::operation::Class;
+use il_ast::program::InText;
+use std::alloc::AllocError;
+
+/// The label that a jump leads to, and whether it is the first that the jump has; none for a return and for
+/// a branch on what isn't an integer.
+fn target(temps: &Slots, jump: Jump) -> Option<(Label, bool)>
+    ensures { IfSome result (λ found. (env : Env) (from : ℕ) (owned : List ℕ) (m : Memory) → jump_effect env from (held_in temps.now owned) m jump ≡ enter env from (held_in temps.now owned) m found.0) }
+{
+    match jump {
+        Jump::Goto(label) => Some((label, true)),
+        Jump::Branch {
+            on,
+            nonzero,
+            otherwise,
+        } => match number_at(temps, &on) {
+            Some(number) => if in_class(Class::W, number) == 0 {
+                Some((otherwise, false))
+            } else {
+                Some((nonzero, true))
+            },
+            None => None,
+        },
+        Jump::Return(_) => None,
+        Jump::Halt => None,
+    }
+}
+
+/// A jump to a label from the block of another one, where all phis there take integers. Answers whether it
+/// was done. `places` has where to look for the argument of each phi.
+fn enter(
+    prepared: &Prepared<'_>,
+    function: &InText<&Func>,
+    from: Label,
+    frame: &mut Frame,
+    label: Label,
+    places: &[usize],
+    numbers: &mut Vec<u64>,
+) -> Result<bool, AllocError>
+    requires { slice_get (program_of prepared.now).functions frame.old.function ≡ Some (shown function.now) }
+    ensures same { IfOk result (λ done. frame.new.function ≡ frame.old.function) }
+    ensures enters { IfOk result (λ done. MatchBool done (Enters (program_of prepared.now) (shown function.now) from label frame.old frame.new) (frame.new ≡ frame.old)) }
+{
+    let place = match place_at(prepared, frame.function, label.number()) {
+        Some(place) => place,
+        None => return Ok(false),
+    };
+    match function.item.blocks.as_slice().get(place) {
+        Some(block) => {
+            let phis = block.phis.as_slice();
+            if take_numbers(&mut frame.temps, from, places, phis, numbers)? {
+                frame.block = place;
+                frame.next = 0;
+                Ok(true)
+            } else {
+                Ok(false)
+            }
+        }
+        None => Ok(false),
+    }
+}
+
+/// The jump of a block, where that is one to a label, and on integers alone. Answers whether it was done.
+fn hop(
+    prepared: &Prepared<'_>,
+    function: &InText<&Func>,
+    block: &Block,
+    frame: &mut Frame,
+    numbers: &mut Vec<u64>,
+) -> Result<bool, AllocError>
+    requires { slice_get (program_of prepared.now).functions frame.old.function ≡ Some (shown function.now) }
+    ensures same { IfOk result (λ done. frame.new.function ≡ frame.old.function) }
+    ensures ends { IfOk result (λ done. MatchBool done (Ends (program_of prepared.now) (shown function.now) block.now frame.old frame.new) (frame.new ≡ frame.old)) }
+{
+    match &block.jump {
+        Some(jump) => match target(&frame.temps, jump.item) {
+            Some((label, first)) => {
+                let places = places_to(prepared, frame, first);
+                enter(
+                    prepared,
+                    function,
+                    block.label,
+                    frame,
+                    label,
+                    places,
+                    numbers,
+                )
+            }
+            None => Ok(false),
+        },
+        None => Ok(false),
+    }
+}
+
+/// Does the turns of a block that are operations on integers, from where it stands on, and a jump on integers
+/// behind them, at most so many. Answers how many, and whether the jump was done.
+fn turns_in_block(
+    prepared: &Prepared<'_>,
+    function: &InText<&Func>,
+    block: &Block,
+    frame: &mut Frame,
+    numbers: &mut Vec<u64>,
+    most: u64,
+) -> Result<(u64, bool), AllocError>
+    requires function { slice_get (program_of prepared.now).functions frame.old.function ≡ Some (shown function.now) }
+    requires block { slice_get (shown function.now).item.blocks frame.old.block ≡ Some block.now }
+    ensures same { IfOk result (λ r. frame.new.function ≡ frame.old.function) }
+    ensures some { IfOk result (λ r. r.1 ≡ true → 0 < r.0) }
+    ensures few { IfOk result (λ r. r.0 ≤ most) }
+    ensures means { IfOk result (λ r. GoesAlong (program_of prepared.now) frame.old r.0 frame.new) }
+{
+    let from = frame.next;
+    let insts = block.insts.as_slice();
+    let next = operate_in_row(insts, &mut frame.temps, from, most);
+    frame.next = next;
+    let done = (next - from) as u64;
+    if done == most || next < insts.len() {
+        return Ok((done, false));
+    }
+    if hop(prepared, function, block, frame, numbers)? {
+        Ok((done + 1, true))
+    } else {
+        Ok((done, false))
+    }
+}
+
+/// Does turns while these are operations and jumps on integers, at most so many. Answers how many.
+#[inline(never)]
+pub fn hop_along(
+    prepared: &Prepared<'_>,
+    frame: &mut Frame,
+    numbers: &mut Vec<u64>,
+    most: u64,
+) -> Result<u64, AllocError>
+    ensures few { IfOk result (λ done. done ≤ most) }
+    ensures means { IfOk result (λ done. GoesAlong (program_of prepared.now) frame.old done frame.new) }
+{
+    let function = match function_at(prepared.linked, frame.function) {
+        Some(function) => function,
+        None => return Ok(0),
+    };
+    let mut left = most;
+    while left > 0 {
+        let block = match function.item.blocks.as_slice().get(frame.block) {
+            Some(block) => block,
+            None => return Ok(most - left),
+        };
+        let (done, goes_on) = turns_in_block(prepared, function, block, frame, numbers, left)?;
+        left -= done;
+        if !goes_on {
+            return Ok(most - left);
+        }
+    }
+    Ok(most)
+}
