@@ -1,47 +1,53 @@
 //! An order of the points in which most of the growth of live sets comes at once.
 use crate::graph::Graph;
-use bitset::BitSet;
 use il_ast::few::Few;
 use std::alloc::{AllocError, Global};
 
-/// A place on a walk through the graph.
-#[derive(Clone, Copy)]
-enum Place {
-    Enter(usize),
-    Leave(usize),
-}
-
-/// A walk through the graph, depth first: what is still to be done, the points that were entered, and those that were left, in that order.
+/// A walk through the graph, depth first: the way to where it stands, the points that were entered, and those that were left, in that order.
 #[derive(Drop)]
 struct Walk {
-    ahead: Vec<Place>,
-    seen: BitSet,
+    way: Vec<usize>,
+    is_seen: Vec<bool>,
     left: Vec<usize>,
 }
 
-fn push_enters(ahead: &mut Vec<Place>, points: &[usize]) -> Result<(), AllocError> {
-    for point in points {
-        ahead.push(Place::Enter(*point))?;
-    }
-    Ok(())
-}
-
-fn enter(walk: &mut Walk, edges: &[Few<usize>], point: usize) -> Result<(), AllocError> {
-    if point >= walk.seen.len() || walk.seen.contains(point) {
-        return Ok(());
-    }
-    walk.seen.insert(point);
-    walk.ahead.push(Place::Leave(point))?;
-    match edges.get(point) {
-        Some(next) => push_enters(&mut walk.ahead, next.as_slice()),
+fn enter(walk: &mut Walk, point: usize) -> Result<(), AllocError> {
+    match walk.is_seen.get_mut(point) {
+        Some(is_seen) => {
+            if !*is_seen {
+                *is_seen = true;
+                walk.way.push(point)?;
+            }
+            Ok(())
+        }
         None => Ok(()),
     }
 }
 
-fn pass(walk: &mut Walk, edges: &[Few<usize>], place: Place) -> Result<(), AllocError> {
-    match place {
-        Place::Enter(point) => enter(walk, edges, point),
-        Place::Leave(point) => {
+/// The last of these points that wasn't entered.
+fn unseen(is_seen: &[bool], points: &[usize]) -> Option<usize> {
+    for point in points.iter().rev() {
+        if is_seen.get(*point) == Some(&false) {
+            return Some(*point);
+        }
+    }
+    None
+}
+
+/// The next point on a way from this one.
+fn next_of(walk: &Walk, edges: &[Few<usize>], point: usize) -> Option<usize> {
+    match edges.get(point) {
+        Some(next) => unseen(walk.is_seen.as_slice(), next.as_slice()),
+        None => None,
+    }
+}
+
+/// Goes on from the point where the walk stands, or leaves it.
+fn pass(walk: &mut Walk, edges: &[Few<usize>], point: usize) -> Result<(), AllocError> {
+    match next_of(walk, edges, point) {
+        Some(next) => enter(walk, next),
+        None => {
+            let _left = walk.way.pop();
             walk.left.push(point)?;
             Ok(())
         }
@@ -49,41 +55,32 @@ fn pass(walk: &mut Walk, edges: &[Few<usize>], place: Place) -> Result<(), Alloc
 }
 
 fn walk_from(walk: &mut Walk, edges: &[Few<usize>], point: usize) -> Result<(), AllocError> {
-    walk.ahead.push(Place::Enter(point))?;
+    enter(walk, point)?;
     for _ in 0..u64::MAX {
-        match walk.ahead.pop() {
-            Some(place) => pass(walk, edges, place)?,
+        match walk.way.last().copied() {
+            Some(point) => pass(walk, edges, point)?,
             None => return Ok(()),
         }
     }
     Ok(())
 }
 
-/// Walks from each root in turn.
-fn walk_all(walk: &mut Walk, edges: &[Few<usize>], roots: &[usize]) -> Result<(), AllocError> {
-    for root in roots {
-        walk_from(walk, edges, *root)?;
-    }
-    Ok(())
-}
-
-/// A walk with nothing to do, through so many points.
-fn empty_walk(alloc: Global, points: usize) -> Result<Walk, AllocError> {
-    Ok(Walk {
-        ahead: Vec::with_capacity(alloc, points)?,
-        seen: BitSet::new(alloc, points)?,
+/// The points in an order in which each comes after those that may come next, but for loops: a depth-first postorder from the first point, and from each that no
+/// way led to so far. A function begins with the first point, so that its loops are entered at their heads.
+///
+/// # Errors
+///
+/// Only where memory was refused.
+pub(crate) fn successors_first(alloc: Global, graph: &Graph) -> Result<Vec<usize>, AllocError> {
+    let points = graph.nexts.len();
+    let mut walk = Walk {
+        way: Vec::with_capacity(alloc, points)?,
+        is_seen: vec![in alloc; false; points]?,
         left: Vec::with_capacity(alloc, points)?,
-    })
-}
-
-/// The points in the order in which a walk along these edges leaves them, depth first, from each root in turn.
-fn postorder(
-    alloc: Global,
-    edges: &[Few<usize>],
-    roots: &[usize],
-) -> Result<Vec<usize>, AllocError> {
-    let mut walk = empty_walk(alloc, edges.len())?;
-    walk_all(&mut walk, edges, roots)?;
+    };
+    for point in 0..points {
+        walk_from(&mut walk, graph.nexts.as_slice(), point)?;
+    }
     Ok(walk.left)
 }
 
@@ -116,23 +113,4 @@ pub(crate) fn befores(alloc: Global, graph: &Graph) -> Result<Vec<Few<usize>>, A
         push_edges(edges.as_mut_slice(), next.as_slice(), point)?;
     }
     Ok(edges)
-}
-
-/// The points in an order in which each comes after those that may come next, but for loops: a depth-first postorder. The walk begins where walks against the
-/// edges come to their ends, so that a loop is entered at its head whatever the order of the text.
-///
-/// # Errors
-///
-/// Only where memory was refused.
-pub(crate) fn successors_first(
-    alloc: Global,
-    graph: &Graph,
-    befores: &[Few<usize>],
-) -> Result<Vec<usize>, AllocError> {
-    let mut points = Vec::with_capacity(alloc, graph.nexts.len())?;
-    for point in 0..graph.nexts.len() {
-        points.push(point)?;
-    }
-    let roots = postorder(alloc, befores, &points)?;
-    postorder(alloc, graph.nexts.as_slice(), &roots)
 }
