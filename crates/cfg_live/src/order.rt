@@ -3,41 +3,74 @@ use crate::graph::Graph;
 use il_ast::few::Few;
 use std::alloc::{AllocError, Global};
 
-/// A walk through the graph, depth first: the way to where it stands, the points that were entered, and those that were left, in that order.
-#[derive(Drop)]
-struct Walk {
-    way: Vec<usize>,
-    is_seen: Vec<bool>,
-    left: Vec<usize>,
+/// How far a walk has come with a point.
+#[derive(Clone, Copy, PartialEq, Eq)]
+enum Visit {
+    New,
+    Open,
+    Left,
 }
 
-fn enter(walk: &mut Walk, point: usize) -> Result<(), AllocError> {
-    match walk.is_seen.get_mut(point) {
-        Some(is_seen) => {
-            if !*is_seen {
-                *is_seen = true;
-                walk.way.push(point)?;
-            }
-            Ok(())
-        }
-        None => Ok(()),
+/// A walk through the graph, depth first: the way to where it stands, the points that it left, in that order, and those to which ways led back.
+#[derive(Drop)]
+struct Walk {
+    visits: Vec<Visit>,
+    way: Vec<usize>,
+    left: Vec<usize>,
+    is_head: Vec<bool>,
+}
+
+/// An order of the points, and where its loops are entered.
+#[derive(Drop)]
+pub(crate) struct Order {
+    pub(crate) points: Vec<usize>,
+
+    /// for each point whether one that comes before it in the order may lead to it
+    pub(crate) is_head: Vec<bool>,
+}
+
+fn mark(visits: &mut [Visit], point: usize, visit: Visit) {
+    match visits.get_mut(point) {
+        Some(at) => *at = visit,
+        None => {}
     }
 }
 
-/// The last of these points that wasn't entered.
-fn unseen(is_seen: &[bool], points: &[usize]) -> Option<usize> {
+fn enter(walk: &mut Walk, point: usize) -> Result<(), AllocError> {
+    if walk.visits.get(point) == Some(&Visit::New) {
+        mark(walk.visits.as_mut_slice(), point, Visit::Open);
+        walk.way.push(point)?;
+    }
+    Ok(())
+}
+
+fn note_head(is_head: &mut [bool], point: usize) {
+    match is_head.get_mut(point) {
+        Some(at) => *at = true,
+        None => {}
+    }
+}
+
+/// The last of these points that wasn't entered. Those behind it that the walk stands in are heads.
+fn unseen(visits: &[Visit], is_head: &mut [bool], points: &[usize]) -> Option<usize> {
     for point in points.iter().rev() {
-        if is_seen.get(*point) == Some(&false) {
-            return Some(*point);
+        match visits.get(*point) {
+            Some(Visit::New) => return Some(*point),
+            Some(Visit::Open) => note_head(is_head, *point),
+            _ => {}
         }
     }
     None
 }
 
 /// The next point on a way from this one.
-fn next_of(walk: &Walk, edges: &[Few<usize>], point: usize) -> Option<usize> {
+fn next_of(walk: &mut Walk, edges: &[Few<usize>], point: usize) -> Option<usize> {
     match edges.get(point) {
-        Some(next) => unseen(walk.is_seen.as_slice(), next.as_slice()),
+        Some(next) => unseen(
+            walk.visits.as_slice(),
+            walk.is_head.as_mut_slice(),
+            next.as_slice(),
+        ),
         None => None,
     }
 }
@@ -48,6 +81,7 @@ fn pass(walk: &mut Walk, edges: &[Few<usize>], point: usize) -> Result<(), Alloc
         Some(next) => enter(walk, next),
         None => {
             let _left = walk.way.pop();
+            mark(walk.visits.as_mut_slice(), point, Visit::Left);
             walk.left.push(point)?;
             Ok(())
         }
@@ -65,23 +99,50 @@ fn walk_from(walk: &mut Walk, edges: &[Few<usize>], point: usize) -> Result<(), 
     Ok(())
 }
 
-/// The points in an order in which each comes after those that may come next, but for loops: a depth-first postorder from the first point, and from each that no
-/// way led to so far. A function begins with the first point, so that its loops are entered at their heads.
+/// A walk along these edges from each root in turn.
+fn walked(alloc: Global, edges: &[Few<usize>], roots: &[usize]) -> Result<Walk, AllocError> {
+    let points = edges.len();
+    let mut walk = Walk {
+        visits: vec![in alloc; Visit::New; points]?,
+        way: Vec::with_capacity(alloc, points)?,
+        left: Vec::with_capacity(alloc, points)?,
+        is_head: vec![in alloc; false; points]?,
+    };
+    for root in roots {
+        walk_from(&mut walk, edges, *root)?;
+    }
+    Ok(walk)
+}
+
+/// All points, those first where walks against the edges come to their ends.
+fn roots(alloc: Global, graph: &Graph) -> Result<Vec<usize>, AllocError> {
+    let mut points = Vec::with_capacity(alloc, graph.nexts.len())?;
+    for point in 0..graph.nexts.len() {
+        points.push(point)?;
+    }
+    let edges = befores(alloc, graph)?;
+    let walk = walked(alloc, edges.as_slice(), points.as_slice())?;
+    Ok(walk.left)
+}
+
+/// The points in an order in which each comes after those that may come next, but for loops: a depth-first postorder. The walk begins at the first point, where a
+/// function does; where not all are found from there, it begins where walks against the edges come to their ends, so that a loop is entered at its head whatever
+/// the order of the text.
 ///
 /// # Errors
 ///
 /// Only where memory was refused.
-pub(crate) fn successors_first(alloc: Global, graph: &Graph) -> Result<Vec<usize>, AllocError> {
-    let points = graph.nexts.len();
-    let mut walk = Walk {
-        way: Vec::with_capacity(alloc, points)?,
-        is_seen: vec![in alloc; false; points]?,
-        left: Vec::with_capacity(alloc, points)?,
-    };
-    for point in 0..points {
-        walk_from(&mut walk, graph.nexts.as_slice(), point)?;
+pub(crate) fn successors_first(alloc: Global, graph: &Graph) -> Result<Order, AllocError> {
+    let edges = graph.nexts.as_slice();
+    let mut walk = walked(alloc, edges, &[0])?;
+    if walk.left.len() < edges.len() {
+        let roots = roots(alloc, graph)?;
+        walk = walked(alloc, edges, roots.as_slice())?;
     }
-    Ok(walk.left)
+    Ok(Order {
+        points: walk.left,
+        is_head: walk.is_head,
+    })
 }
 
 fn no_edges(alloc: Global, points: usize) -> Result<Vec<Few<usize>>, AllocError> {

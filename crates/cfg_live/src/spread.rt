@@ -3,8 +3,8 @@ ghost use Rattle.std.specs.Prelude.{◌≡◌, ◌<◌, ℕ, length, OnOk};
 ghost use Rattle.cfg_live.specs.Rows.{AreSized, Stable, Went};
 
 use crate::graph::Graph;
-use crate::order::befores;
-use crate::sweep::{settle, sweep, sweep_along, visit};
+use crate::order::{Order, befores};
+use crate::sweep::{settle, sweep_along, visit};
 use crate::worklist::Worklist;
 use bitset::BitSet;
 use std::alloc::{AllocError, Global};
@@ -33,12 +33,37 @@ fn visit_listed(
     }
 }
 
-/// Visits the points in this order.
-fn sweep_listed(
+/// Visits a point, if it has a set. Where that grew and a loop begins there, it is noted.
+#[tactic(auto, using(crate::proofs::Marks::went_nowhere))]
+fn visit_noted(
     rows: &mut [BitSet],
     set: &mut BitSet,
     graph: &Graph,
-    list: &mut Worklist,
+    is_head: &[bool],
+    grown: &mut Vec<usize>,
+    point: usize,
+) -> Result<(), AllocError>
+    requires { AreSized set.old.length rows.old }
+    ensures length { set.new.length ≡ set.old.length }
+    ensures went { Went graph.now set.old.length rows.old rows.new }
+{
+    if point >= rows.len() {
+        return Ok(());
+    }
+    let grows = visit(rows, set, graph, point);
+    if grows && is_head.get(point) == Some(&true) {
+        grown.push(point)?;
+    }
+    Ok(())
+}
+
+/// Visits the points in this order, and notes where loops begin with a set that grew.
+fn sweep_noted(
+    rows: &mut [BitSet],
+    set: &mut BitSet,
+    graph: &Graph,
+    is_head: &[bool],
+    grown: &mut Vec<usize>,
     order: &[usize],
 ) -> Result<(), AllocError>
     requires { AreSized set.old.length rows.old }
@@ -46,7 +71,7 @@ fn sweep_listed(
     ensures went { Went graph.now set.old.length rows.old rows.new }
 {
     for point in order {
-        visit_listed(rows, set, graph, list, *point)?;
+        visit_noted(rows, set, graph, is_head, grown, *point)?;
     }
     Ok(())
 }
@@ -71,59 +96,82 @@ fn follow(
     Ok(())
 }
 
-/// Lets the sets grow until each point is stable: from the points on, in this order, behind which a set grew.
-fn spread_on(
+/// A list on which the points wait that lead to these.
+fn list_before(alloc: Global, graph: &Graph, grown: &[usize]) -> Result<Worklist, AllocError> {
+    let mut list = Worklist::new(alloc, befores(alloc, graph)?)?;
+    for point in grown {
+        list.add_before(*point)?;
+    }
+    Ok(list)
+}
+
+/// Visits the points that lead to these, and where sets grow, those that lead there.
+#[tactic(auto, using(crate::proofs::Marks::went_nowhere))]
+fn follow_grown(
     alloc: Global,
     rows: &mut [BitSet],
     set: &mut BitSet,
     graph: &Graph,
-    order: &[usize],
+    grown: &[usize],
 ) -> Result<(), AllocError>
     requires { AreSized set.old.length rows.old }
+    ensures length { set.new.length ≡ set.old.length }
     ensures went { Went graph.now set.old.length rows.old rows.new }
-    ensures stable { OnOk result ((p : ℕ) → p < length rows.new → Stable graph.now set.old.length rows.new p) }
 {
-    let mut list = Worklist::new(alloc, befores(alloc, graph)?)?;
-    sweep_listed(rows, set, graph, &mut list, order)?;
-    follow(rows, set, graph, &mut list)?;
-    settle(rows, set, graph);
-    Ok(())
-}
-
-/// Whether some point may come behind itself or a later one.
-fn leads_back(graph: &Graph) -> bool {
-    for (point, next) in graph.nexts.as_slice().iter().enumerate() {
-        if next.as_slice().iter().any(|behind| *behind <= point) {
-            return true;
-        }
+    if grown.is_empty() {
+        return Ok(());
     }
-    false
+    let mut list = list_before(alloc, graph, grown)?;
+    follow(rows, set, graph, &mut list)
 }
 
-/// Visits the points in this order, if there may be loops.
+/// Visits the points in this order, and again those to which loops lead with sets that grew.
+fn sweep_loops(
+    alloc: Global,
+    rows: &mut [BitSet],
+    set: &mut BitSet,
+    graph: &Graph,
+    order: &Order,
+) -> Result<(), AllocError>
+    requires { AreSized set.old.length rows.old }
+    ensures length { set.new.length ≡ set.old.length }
+    ensures went { Went graph.now set.old.length rows.old rows.new }
+{
+    let mut grown = Vec::new(alloc);
+    let points = order.points.as_slice();
+    sweep_noted(
+        rows,
+        set,
+        graph,
+        order.is_head.as_slice(),
+        &mut grown,
+        points,
+    )?;
+    follow_grown(alloc, rows, set, graph, grown.as_slice())
+}
+
+/// The same, if there are loops.
 #[tactic(auto, using(crate::proofs::Marks::went_nowhere))]
-fn sweep_loops(rows: &mut [BitSet], set: &mut BitSet, graph: &Graph, order: &[usize])
+fn sweep_any_loops(
+    alloc: Global,
+    rows: &mut [BitSet],
+    set: &mut BitSet,
+    graph: &Graph,
+    order: &Order,
+) -> Result<(), AllocError>
     requires { AreSized set.old.length rows.old }
     ensures length { set.new.length ≡ set.old.length }
     ensures went { Went graph.now set.old.length rows.old rows.new }
 {
-    if leads_back(graph) {
-        sweep_along(rows, set, graph, order);
+    if order.is_head.iter().any(|is_head| *is_head) {
+        sweep_loops(alloc, rows, set, graph, order)
+    } else {
+        Ok(())
     }
 }
 
-/// Visits the points in this order, twice where there may be loops.
-fn sweep_twice(rows: &mut [BitSet], set: &mut BitSet, graph: &Graph, order: &[usize])
-    requires { AreSized set.old.length rows.old }
-    ensures length { set.new.length ≡ set.old.length }
-    ensures went { Went graph.now set.old.length rows.old rows.new }
-{
-    sweep_along(rows, set, graph, order);
-    sweep_loops(rows, set, graph, order);
-}
-
-/// Lets the sets grow until each point is stable. In the sweeps along `order` nearly all of the growth is meant to come; where more does, points are visited behind
-/// which a set grew.
+/// Lets the sets grow until each point is stable. In a sweep along `order`, or two where there are loops, most of the growth is meant to come; then only points
+/// behind which a set grew are visited.
 ///
 /// # Errors
 ///
@@ -133,15 +181,14 @@ pub(crate) fn spread(
     rows: &mut [BitSet],
     set: &mut BitSet,
     graph: &Graph,
-    order: &[usize],
+    order: &Order,
 ) -> Result<(), AllocError>
     requires { AreSized set.old.length rows.old }
     ensures went { Went graph.now set.old.length rows.old rows.new }
     ensures stable { OnOk result ((p : ℕ) → p < length rows.new → Stable graph.now set.old.length rows.new p) }
 {
-    sweep_twice(rows, set, graph, order);
-    if sweep(rows, set, graph) {
-        return spread_on(alloc, rows, set, graph, order);
-    }
+    sweep_along(rows, set, graph, order.points.as_slice());
+    sweep_any_loops(alloc, rows, set, graph, order)?;
+    settle(rows, set, graph);
     Ok(())
 }

@@ -56,7 +56,7 @@ pub(crate) fn sweep_along(rows: &mut [BitSet], set: &mut BitSet, graph: &Graph, 
 }
 
 /// Visits each point, and says whether a set grew.
-pub(crate) fn sweep(rows: &mut [BitSet], set: &mut BitSet, graph: &Graph) -> bool
+fn sweep(rows: &mut [BitSet], set: &mut BitSet, graph: &Graph) -> bool
     requires { AreSized set.old.length rows.old }
     ensures length { set.new.length ≡ set.old.length }
     ensures went { Went graph.now set.old.length rows.old rows.new }

@@ -1,17 +1,15 @@
-use Rattle.std.proofs.Common.{◌∙◌, ◌<◌, subst, ℕ, length}
-use Rattle.std.specs.Prelude.{OnOk}
-use Rattle.cfg_live.specs.Rows.{Stable}
+use Rattle.std.proofs.Common.{◌∙◌}
 use Rattle.cfg_live.proofs.Marks.{went_then}
 use Rattle.cfg_live.proofs.spread.spread.Goals as goal
 
-pub returns-then-sweep-clause-went : goal.returns-then-sweep-clause-went
-returns-then-sweep-clause-went c =
-    went_then c.args.graph.now c.args.set.now.length c.sweep.new.set.length c.args.rows.now c.sweep.new.rows c.spread_on.new.rows
-    (went_then c.args.graph.now c.args.set.now.length c.sweep_twice.new.set.length c.args.rows.now c.sweep_twice.new.rows c.sweep.new.rows c.sweep_twice.ensures.went
-    c.sweep_twice.ensures.length c.sweep.ensures.went)
-    (c.sweep.ensures.length ∙ c.sweep_twice.ensures.length) c.spread_on.ensures.went
+pub returns-in_err-sweep_any_loops-clause-went : goal.returns-in_err-sweep_any_loops-clause-went
+returns-in_err-sweep_any_loops-clause-went c =
+    went_then c.args.graph.now c.args.set.now.length _ c.args.rows.now _ c.sweep_any_loops.new.rows c.sweep_along.ensures.went c.sweep_along.ensures.length
+    c.sweep_any_loops.ensures.went
 
-pub returns-then-sweep-clause-stable : goal.returns-then-sweep-clause-stable
-returns-then-sweep-clause-stable c =
-    subst (λ (n : ℕ). OnOk c.spread_on.result ((p : ℕ) → p < length c.spread_on.new.rows → Stable c.args.graph.now n c.spread_on.new.rows p))
-    (c.sweep.ensures.length ∙ c.sweep_twice.ensures.length) c.spread_on.ensures.stable
+pub returns-clause-went : goal.returns-clause-went
+returns-clause-went c =
+    went_then c.args.graph.now c.args.set.now.length c.sweep_any_loops.new.set.length c.args.rows.now c.sweep_any_loops.new.rows c.settle.new.rows
+    (went_then c.args.graph.now c.args.set.now.length c.sweep_along.new.set.length c.args.rows.now c.sweep_along.new.rows c.sweep_any_loops.new.rows
+    c.sweep_along.ensures.went c.sweep_along.ensures.length c.sweep_any_loops.ensures.went)
+    (c.sweep_any_loops.ensures.length ∙ c.sweep_along.ensures.length) c.settle.ensures.went
