@@ -3,6 +3,7 @@ pub mod Activations
 pub mod Addressing
 pub mod LineCode
 pub mod Saving
+pub mod Marking
 pub mod FrameEnds
 pub mod Sizes
 pub mod Branching

@@ -10,3 +10,4 @@ pub mod Examples
 pub mod Frames
 pub mod EarlyReturns
 pub mod BareWays
+pub mod Marked

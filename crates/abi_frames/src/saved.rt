@@ -1,7 +1,8 @@
 //! Which registers a function saves.
-ghost use Rattle.std.specs.Prelude.{◌≡◌, ◌++◌, ◌<◌, ◌≤◌, length, OnOk, IfOk};
+ghost use Rattle.std.specs.Prelude.{◌≡◌, ◌++◌, ◌<◌, ◌≤◌, ◌||◌, ℕ, false, filter, length, OnOk, IfOk};
 ghost use Rattle.std.specs.List.{list_any};
-ghost use Rattle.abi_frames.specs.Layout.{is_register, receives, makes_in, writes, block_writes, is_written, written_of, is_call, block_calls, return_address, saved_registers};
+ghost use Rattle.abi_frames.specs.Layout.{is_register, receives, makes_in, writes, block_writes, is_written, written_of, callee_saved, is_call, block_calls, return_address, saved_registers};
+ghost use Rattle.abi_frames.specs.Marked.{is_marked};
 
 use rv_isa::abi;
 use std::alloc::{AllocError, Global};
@@ -64,64 +65,109 @@ fn is_call(line: &Line<Location>) -> bool
     }
 }
 
-fn block_writes(block: &Block<Location>, number: u8) -> bool
-    ensures { result ≡ block_writes number block.now }
+/// How many registers are marked.
+const REGISTERS: usize = 32;
+
+/// Marks the register, if the place is one.
+fn mark(marks: &mut [bool], place: &Location)
+    ensures length { length marks.new ≡ length marks.old }
+    ensures marked { (n : ℕ) → n < length marks.old → is_marked marks.new n ≡ (is_marked marks.old n || is_register n place.now) }
 {
-    lines_write(block.lines.as_slice(), number)
+    if let Location::Register(register) = place {
+        if (*register as usize) < marks.len() {
+            marks[*register as usize] = true;
+        }
+    }
 }
 
-fn lines_write(lines: &[Line<Location>], number: u8) -> bool
-    ensures { result ≡ list_any (writes number) lines.now }
+/// Marks the register that the line writes.
+fn mark_line(marks: &mut [bool], line: &Line<Location>)
+    ensures length { length marks.new ≡ length marks.old }
+    ensures marked { (n : ℕ) → n < length marks.old → is_marked marks.new n ≡ (is_marked marks.old n || writes n line.now) }
+{
+    match line {
+        Line::Set { to, .. } | Line::Operate { to, .. } | Line::Load { to, .. } => mark(marks, to),
+        Line::Alloc { to, .. } => match to {
+            Some(place) => mark(marks, place),
+            None => {}
+        },
+        Line::Call { to, .. } => match to {
+            Some(wanted) => mark(marks, &wanted.place),
+            None => {}
+        },
+        Line::Tick { .. } | Line::Store { .. } | Line::Blit { .. } => {}
+    }
+}
+
+fn mark_lines(marks: &mut [bool], lines: &[Line<Location>])
+    ensures length { length marks.new ≡ length marks.old }
+    ensures marked { (n : ℕ) → n < length marks.old → is_marked marks.new n ≡ (is_marked marks.old n || list_any (writes n) lines.now) }
 {
     for line in lines {
-        if writes(line, number) {
-            return true;
-        }
+        mark_line(marks, line);
     }
-    false
 }
 
-fn blocks_write(blocks: &[Block<Location>], number: u8) -> bool
-    ensures { result ≡ list_any (block_writes number) blocks.now }
+fn mark_blocks(marks: &mut [bool], blocks: &[Block<Location>])
+    ensures length { length marks.new ≡ length marks.old }
+    ensures marked { (n : ℕ) → n < length marks.old → is_marked marks.new n ≡ (is_marked marks.old n || list_any (block_writes n) blocks.now) }
 {
     for block in blocks {
-        if block_writes(block, number) {
-            return true;
-        }
+        mark_lines(marks, block.lines.as_slice());
     }
-    false
 }
 
-fn params_take(params: &[Destination<Location>], number: u8) -> bool
-    ensures { result ≡ list_any (λ d. is_register number d.place) params.now }
+fn mark_params(marks: &mut [bool], params: &[Destination<Location>])
+    ensures length { length marks.new ≡ length marks.old }
+    ensures marked { (n : ℕ) → n < length marks.old → is_marked marks.new n ≡ (is_marked marks.old n || list_any (λ d. is_register n d.place) params.now) }
 {
     for parameter in params {
-        if is_register(&parameter.place, number) {
-            return true;
-        }
+        mark(marks, &parameter.place);
     }
-    false
 }
 
-fn is_written(code: &Code<Location>, number: u8) -> bool
-    ensures { result ≡ is_written code.now number }
+/// Marks the registers that the code writes.
+fn mark_written(marks: &mut [bool], code: &Code<Location>)
+    requires { (n : ℕ) → n < length marks.old → is_marked marks.old n ≡ false }
+    ensures length { length marks.new ≡ length marks.old }
+    ensures marked { (n : ℕ) → n < length marks.old → is_marked marks.new n ≡ is_written code.now n }
 {
-    params_take(code.params.as_slice(), number) || blocks_write(code.blocks.as_slice(), number)
+    mark_params(marks, code.params.as_slice());
+    mark_blocks(marks, code.blocks.as_slice());
 }
 
-fn push_written(
-    saved: &mut Vec<u8>,
-    code: &Code<Location>,
-    registers: &[u8],
-) -> Result<(), AllocError>
-    ensures { OnOk result (saved.new.items ≡ saved.old.items ++ written_of code.now registers.now) }
+/// Those of the registers that are marked.
+fn push_marked(saved: &mut Vec<u8>, marks: &[bool], registers: &[u8]) -> Result<(), AllocError>
+    ensures { OnOk result (saved.new.items ≡ saved.old.items ++ filter (is_marked marks.now) registers.now) }
 {
     for number in registers {
-        if is_written(code, *number) {
+        if marks.get(*number as usize) == Some(&true) {
             saved.push(*number)?;
         }
     }
     Ok(())
+}
+
+/// Those that the code writes of the registers that a callee keeps, by marks of which none is set yet.
+fn push_by_marks(
+    saved: &mut Vec<u8>,
+    code: &Code<Location>,
+    marks: &mut [bool],
+) -> Result<(), AllocError>
+    requires long { length marks.old ≡ 32 }
+    requires none { (n : ℕ) → n < length marks.old → is_marked marks.old n ≡ false }
+    ensures { OnOk result (saved.new.items ≡ saved.old.items ++ written_of code.now callee_saved) }
+{
+    mark_written(marks, code);
+    push_marked(saved, marks, abi::SAVED.as_slice())
+}
+
+/// Those that the code writes of the registers that a callee keeps.
+fn push_written(saved: &mut Vec<u8>, code: &Code<Location>) -> Result<(), AllocError>
+    ensures { OnOk result (saved.new.items ≡ saved.old.items ++ written_of code.now callee_saved) }
+{
+    let mut marks = [false; REGISTERS];
+    push_by_marks(saved, code, marks.as_mut_slice())
 }
 
 fn lines_call(lines: &[Line<Location>]) -> bool
@@ -167,6 +213,6 @@ pub(crate) fn saved_registers(alloc: Global, code: &Code<Location>) -> Result<Ve
 {
     let mut saved = Vec::new(alloc);
     push_return_address(&mut saved, code)?;
-    push_written(&mut saved, code, abi::SAVED.as_slice())?;
+    push_written(&mut saved, code)?;
     Ok(saved)
 }

@@ -67,6 +67,9 @@ fn join_words(words: &mut [u64], other: &[u64]) -> bool
     ensures union { UnionIn 0 (length words.old) other.now words.old words.new }
     ensures changed { ChangedIn 0 (length words.old) words.old words.new result }
 {
+    if words.len() < LANES {
+        return join_rest(words, other, 0);
+    }
     let vectors = words.len() / LANES;
     let first = join_vectors(words, other, vectors);
     let rest = join_rest(words, other, LANES * vectors);

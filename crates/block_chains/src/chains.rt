@@ -71,7 +71,7 @@ fn reach_targets(
 pub fn reached(alloc: Global, blocks: &[Block<u32>]) -> Result<Vec<bool>, AllocError> {
     // each is found once
     let mut reached = vec![in alloc; false; blocks.len()]?;
-    let mut found = Vec::new(alloc);
+    let mut found = Vec::with_capacity(alloc, blocks.len())?;
     reach(reached.as_mut_slice(), &mut found, Some(0))?;
     for _ in 0..blocks.len() {
         match found.pop() {
@@ -356,10 +356,10 @@ pub fn chained(alloc: Global, blocks: &[Block<u32>]) -> Result<Vec<usize>, Alloc
     let links = chains(alloc, blocks, reached.as_slice())?;
     let last = last_chain(links.as_slice(), blocks, reached.as_slice());
     let mut placing = Placing {
-        order: Vec::new(alloc),
+        order: Vec::with_capacity(alloc, blocks.len())?,
         held: Vec::new(alloc),
         is_placed: vec![in alloc; false; blocks.len()]?,
-        next: Vec::new(alloc),
+        next: Vec::with_capacity(alloc, blocks.len())?,
     };
     push_target(&mut placing, Some(0))?;
     place_chains(&mut placing, links.as_slice(), blocks, last)?;

@@ -4,11 +4,10 @@ ghost use Rattle.cfg_live.specs.Points.{graph_of};
 ghost use Rattle.cfg_live.specs.Rows.{AreBlank, AreLive};
 
 use crate::graph::Graph;
-use crate::order::{befores, successors_first};
+use crate::order::successors_first;
 use crate::points::graph;
 use crate::sets::Live;
 use crate::spread::spread;
-use crate::worklist::Worklist;
 use bitset::BitSet;
 use std::alloc::{AllocError, Global};
 use vcode::function::VFunc;
@@ -48,11 +47,9 @@ fn fill(
     ensures as_many { OnOk result (length rows.new ≡ length rows.old) }
     ensures live { OnOk result (AreLive graph.now registers rows.new) }
 {
-    let befores = befores(alloc, graph)?;
-    let order = successors_first(alloc, graph, &befores)?;
-    let mut list = Worklist::new(alloc, befores)?;
+    let order = successors_first(alloc, graph)?;
     let mut set = BitSet::new(alloc, registers)?;
-    spread(rows, &mut set, graph, &mut list, &order)
+    spread(alloc, rows, &mut set, graph, &order)
 }
 
 /// The live registers of each point of a graph whose points name registers below `registers`: exactly those that some path from there reads before it

@@ -1,47 +1,87 @@
 //! An order of the points in which most of the growth of live sets comes at once.
 use crate::graph::Graph;
-use bitset::BitSet;
 use il_ast::few::Few;
 use std::alloc::{AllocError, Global};
 
-/// A place on a walk through the graph.
-#[derive(Clone, Copy)]
-enum Place {
-    Enter(usize),
-    Leave(usize),
+/// How far a walk has come with a point.
+#[derive(Clone, Copy, PartialEq, Eq)]
+enum Visit {
+    New,
+    Open,
+    Left,
 }
 
-/// A walk through the graph, depth first: what is still to be done, the points that were entered, and those that were left, in that order.
+/// A walk through the graph, depth first: the way to where it stands, the points that it left, in that order, and those to which ways led back.
 #[derive(Drop)]
 struct Walk {
-    ahead: Vec<Place>,
-    seen: BitSet,
+    visits: Vec<Visit>,
+    way: Vec<usize>,
     left: Vec<usize>,
+    is_head: Vec<bool>,
 }
 
-fn push_enters(ahead: &mut Vec<Place>, points: &[usize]) -> Result<(), AllocError> {
-    for point in points {
-        ahead.push(Place::Enter(*point))?;
+/// An order of the points, and where its loops are entered.
+#[derive(Drop)]
+pub(crate) struct Order {
+    pub(crate) points: Vec<usize>,
+
+    /// for each point whether one that comes before it in the order may lead to it
+    pub(crate) is_head: Vec<bool>,
+}
+
+fn mark(visits: &mut [Visit], point: usize, visit: Visit) {
+    match visits.get_mut(point) {
+        Some(at) => *at = visit,
+        None => {}
+    }
+}
+
+fn enter(walk: &mut Walk, point: usize) -> Result<(), AllocError> {
+    if walk.visits.get(point) == Some(&Visit::New) {
+        mark(walk.visits.as_mut_slice(), point, Visit::Open);
+        walk.way.push(point)?;
     }
     Ok(())
 }
 
-fn enter(walk: &mut Walk, edges: &[Few<usize>], point: usize) -> Result<(), AllocError> {
-    if point >= walk.seen.len() || walk.seen.contains(point) {
-        return Ok(());
-    }
-    walk.seen.insert(point);
-    walk.ahead.push(Place::Leave(point))?;
-    match edges.get(point) {
-        Some(next) => push_enters(&mut walk.ahead, next.as_slice()),
-        None => Ok(()),
+fn note_head(is_head: &mut [bool], point: usize) {
+    match is_head.get_mut(point) {
+        Some(at) => *at = true,
+        None => {}
     }
 }
 
-fn pass(walk: &mut Walk, edges: &[Few<usize>], place: Place) -> Result<(), AllocError> {
-    match place {
-        Place::Enter(point) => enter(walk, edges, point),
-        Place::Leave(point) => {
+/// The last of these points that wasn't entered. Those behind it that the walk stands in are heads.
+fn unseen(visits: &[Visit], is_head: &mut [bool], points: &[usize]) -> Option<usize> {
+    for point in points.iter().rev() {
+        match visits.get(*point) {
+            Some(Visit::New) => return Some(*point),
+            Some(Visit::Open) => note_head(is_head, *point),
+            _ => {}
+        }
+    }
+    None
+}
+
+/// The next point on a way from this one.
+fn next_of(walk: &mut Walk, edges: &[Few<usize>], point: usize) -> Option<usize> {
+    match edges.get(point) {
+        Some(next) => unseen(
+            walk.visits.as_slice(),
+            walk.is_head.as_mut_slice(),
+            next.as_slice(),
+        ),
+        None => None,
+    }
+}
+
+/// Goes on from the point where the walk stands, or leaves it.
+fn pass(walk: &mut Walk, edges: &[Few<usize>], point: usize) -> Result<(), AllocError> {
+    match next_of(walk, edges, point) {
+        Some(next) => enter(walk, next),
+        None => {
+            let _left = walk.way.pop();
+            mark(walk.visits.as_mut_slice(), point, Visit::Left);
             walk.left.push(point)?;
             Ok(())
         }
@@ -49,42 +89,60 @@ fn pass(walk: &mut Walk, edges: &[Few<usize>], place: Place) -> Result<(), Alloc
 }
 
 fn walk_from(walk: &mut Walk, edges: &[Few<usize>], point: usize) -> Result<(), AllocError> {
-    walk.ahead.push(Place::Enter(point))?;
+    enter(walk, point)?;
     for _ in 0..u64::MAX {
-        match walk.ahead.pop() {
-            Some(place) => pass(walk, edges, place)?,
+        match walk.way.last().copied() {
+            Some(point) => pass(walk, edges, point)?,
             None => return Ok(()),
         }
     }
     Ok(())
 }
 
-/// Walks from each root in turn.
-fn walk_all(walk: &mut Walk, edges: &[Few<usize>], roots: &[usize]) -> Result<(), AllocError> {
-    for root in roots {
-        walk_from(walk, edges, *root)?;
-    }
-    Ok(())
-}
-
-/// A walk with nothing to do, through so many points.
-fn empty_walk(alloc: Global, points: usize) -> Result<Walk, AllocError> {
-    Ok(Walk {
-        ahead: Vec::with_capacity(alloc, points)?,
-        seen: BitSet::new(alloc, points)?,
+/// A walk along these edges from each root in turn.
+fn walked(alloc: Global, edges: &[Few<usize>], roots: &[usize]) -> Result<Walk, AllocError> {
+    let points = edges.len();
+    let mut walk = Walk {
+        visits: vec![in alloc; Visit::New; points]?,
+        way: Vec::with_capacity(alloc, points)?,
         left: Vec::with_capacity(alloc, points)?,
-    })
+        is_head: vec![in alloc; false; points]?,
+    };
+    for root in roots {
+        walk_from(&mut walk, edges, *root)?;
+    }
+    Ok(walk)
 }
 
-/// The points in the order in which a walk along these edges leaves them, depth first, from each root in turn.
-fn postorder(
-    alloc: Global,
-    edges: &[Few<usize>],
-    roots: &[usize],
-) -> Result<Vec<usize>, AllocError> {
-    let mut walk = empty_walk(alloc, edges.len())?;
-    walk_all(&mut walk, edges, roots)?;
+/// All points, those first where walks against the edges come to their ends.
+fn roots(alloc: Global, graph: &Graph) -> Result<Vec<usize>, AllocError> {
+    let mut points = Vec::with_capacity(alloc, graph.nexts.len())?;
+    for point in 0..graph.nexts.len() {
+        points.push(point)?;
+    }
+    let edges = befores(alloc, graph)?;
+    let walk = walked(alloc, edges.as_slice(), points.as_slice())?;
     Ok(walk.left)
+}
+
+/// The points in an order in which each comes after those that may come next, but for loops: a depth-first postorder. The walk begins at the first point, where a
+/// function does; where not all are found from there, it begins where walks against the edges come to their ends, so that a loop is entered at its head whatever
+/// the order of the text.
+///
+/// # Errors
+///
+/// Only where memory was refused.
+pub(crate) fn successors_first(alloc: Global, graph: &Graph) -> Result<Order, AllocError> {
+    let edges = graph.nexts.as_slice();
+    let mut walk = walked(alloc, edges, &[0])?;
+    if walk.left.len() < edges.len() {
+        let roots = roots(alloc, graph)?;
+        walk = walked(alloc, edges, roots.as_slice())?;
+    }
+    Ok(Order {
+        points: walk.left,
+        is_head: walk.is_head,
+    })
 }
 
 fn no_edges(alloc: Global, points: usize) -> Result<Vec<Few<usize>>, AllocError> {
@@ -116,23 +174,4 @@ pub(crate) fn befores(alloc: Global, graph: &Graph) -> Result<Vec<Few<usize>>, A
         push_edges(edges.as_mut_slice(), next.as_slice(), point)?;
     }
     Ok(edges)
-}
-
-/// The points in an order in which each comes after those that may come next, but for loops: a depth-first postorder. The walk begins where walks against the
-/// edges come to their ends, so that a loop is entered at its head whatever the order of the text.
-///
-/// # Errors
-///
-/// Only where memory was refused.
-pub(crate) fn successors_first(
-    alloc: Global,
-    graph: &Graph,
-    befores: &[Few<usize>],
-) -> Result<Vec<usize>, AllocError> {
-    let mut points = Vec::with_capacity(alloc, graph.nexts.len())?;
-    for point in 0..graph.nexts.len() {
-        points.push(point)?;
-    }
-    let roots = postorder(alloc, befores, &points)?;
-    postorder(alloc, graph.nexts.as_slice(), &roots)
 }

@@ -174,6 +174,18 @@ fn push_next_blocks(
     Ok(())
 }
 
+/// What each point of a function reads and writes.
+///
+/// # Errors
+///
+/// Only where memory was refused.
+pub fn uses_of(alloc: Global, function: &VFunc) -> Result<Vec<Uses>, AllocError>
+    ensures { IfOk result (λ v. v.items ≡ uses function.now.code.blocks) }
+{
+    let (uses, _firsts) = uses_and_starts(alloc, function.code.blocks.as_slice())?;
+    Ok(uses)
+}
+
 /// The points of a function: what each reads and writes, and which may come next. A jump leads to the first point of each block that it names.
 ///
 /// # Errors

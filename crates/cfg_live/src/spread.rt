@@ -1,12 +1,13 @@
-//! How the sets grow: in two sweeps along an order of the points, and from there where something is still to come.
+//! How the sets grow: in sweeps along an order of the points, and from there where something is still to come.
 ghost use Rattle.std.specs.Prelude.{◌≡◌, ◌<◌, ℕ, length, OnOk};
 ghost use Rattle.cfg_live.specs.Rows.{AreSized, Stable, Went};
 
 use crate::graph::Graph;
+use crate::order::{Order, befores};
 use crate::sweep::{settle, sweep_along, visit};
 use crate::worklist::Worklist;
 use bitset::BitSet;
-use std::alloc::AllocError;
+use std::alloc::{AllocError, Global};
 
 /// Visits a point, if it has a set. Where that grew, the points before it are to be visited.
 #[tactic(auto, using(crate::proofs::Marks::went_nowhere))]
@@ -32,12 +33,37 @@ fn visit_listed(
     }
 }
 
-/// Visits the points in this order.
-fn sweep_listed(
+/// Visits a point, if it has a set. Where that grew and a loop begins there, it is noted.
+#[tactic(auto, using(crate::proofs::Marks::went_nowhere))]
+fn visit_noted(
     rows: &mut [BitSet],
     set: &mut BitSet,
     graph: &Graph,
-    list: &mut Worklist,
+    is_head: &[bool],
+    grown: &mut Vec<usize>,
+    point: usize,
+) -> Result<(), AllocError>
+    requires { AreSized set.old.length rows.old }
+    ensures length { set.new.length ≡ set.old.length }
+    ensures went { Went graph.now set.old.length rows.old rows.new }
+{
+    if point >= rows.len() {
+        return Ok(());
+    }
+    let grows = visit(rows, set, graph, point);
+    if grows && is_head.get(point) == Some(&true) {
+        grown.push(point)?;
+    }
+    Ok(())
+}
+
+/// Visits the points in this order, and notes where loops begin with a set that grew.
+fn sweep_noted(
+    rows: &mut [BitSet],
+    set: &mut BitSet,
+    graph: &Graph,
+    is_head: &[bool],
+    grown: &mut Vec<usize>,
     order: &[usize],
 ) -> Result<(), AllocError>
     requires { AreSized set.old.length rows.old }
@@ -45,7 +71,7 @@ fn sweep_listed(
     ensures went { Went graph.now set.old.length rows.old rows.new }
 {
     for point in order {
-        visit_listed(rows, set, graph, list, *point)?;
+        visit_noted(rows, set, graph, is_head, grown, *point)?;
     }
     Ok(())
 }
@@ -70,26 +96,99 @@ fn follow(
     Ok(())
 }
 
-/// Lets the sets grow until each point is stable. In two sweeps along `order` most of the growth is meant to come; then only points behind which a set grew are
-/// visited, of which `list`, where all points wait, keeps account.
+/// A list on which the points wait that lead to these.
+fn list_before(alloc: Global, graph: &Graph, grown: &[usize]) -> Result<Worklist, AllocError> {
+    let mut list = Worklist::new(alloc, befores(alloc, graph)?)?;
+    for point in grown {
+        list.add_before(*point)?;
+    }
+    Ok(list)
+}
+
+/// Visits the points that lead to these, and where sets grow, those that lead there.
+#[tactic(auto, using(crate::proofs::Marks::went_nowhere))]
+fn follow_grown(
+    alloc: Global,
+    rows: &mut [BitSet],
+    set: &mut BitSet,
+    graph: &Graph,
+    grown: &[usize],
+) -> Result<(), AllocError>
+    requires { AreSized set.old.length rows.old }
+    ensures length { set.new.length ≡ set.old.length }
+    ensures went { Went graph.now set.old.length rows.old rows.new }
+{
+    if grown.is_empty() {
+        return Ok(());
+    }
+    let mut list = list_before(alloc, graph, grown)?;
+    follow(rows, set, graph, &mut list)
+}
+
+/// Visits the points in this order, and again those to which loops lead with sets that grew.
+fn sweep_loops(
+    alloc: Global,
+    rows: &mut [BitSet],
+    set: &mut BitSet,
+    graph: &Graph,
+    order: &Order,
+) -> Result<(), AllocError>
+    requires { AreSized set.old.length rows.old }
+    ensures length { set.new.length ≡ set.old.length }
+    ensures went { Went graph.now set.old.length rows.old rows.new }
+{
+    let mut grown = Vec::new(alloc);
+    let points = order.points.as_slice();
+    sweep_noted(
+        rows,
+        set,
+        graph,
+        order.is_head.as_slice(),
+        &mut grown,
+        points,
+    )?;
+    follow_grown(alloc, rows, set, graph, grown.as_slice())
+}
+
+/// The same, if there are loops.
+#[tactic(auto, using(crate::proofs::Marks::went_nowhere))]
+fn sweep_any_loops(
+    alloc: Global,
+    rows: &mut [BitSet],
+    set: &mut BitSet,
+    graph: &Graph,
+    order: &Order,
+) -> Result<(), AllocError>
+    requires { AreSized set.old.length rows.old }
+    ensures length { set.new.length ≡ set.old.length }
+    ensures went { Went graph.now set.old.length rows.old rows.new }
+{
+    if order.is_head.iter().any(|is_head| *is_head) {
+        sweep_loops(alloc, rows, set, graph, order)
+    } else {
+        Ok(())
+    }
+}
+
+/// Lets the sets grow until each point is stable. In a sweep along `order`, or two where there are loops, most of the growth is meant to come; then only points
+/// behind which a set grew are visited.
 ///
 /// # Errors
 ///
 /// Only where memory was refused.
 pub(crate) fn spread(
+    alloc: Global,
     rows: &mut [BitSet],
     set: &mut BitSet,
     graph: &Graph,
-    list: &mut Worklist,
-    order: &[usize],
+    order: &Order,
 ) -> Result<(), AllocError>
     requires { AreSized set.old.length rows.old }
     ensures went { Went graph.now set.old.length rows.old rows.new }
     ensures stable { OnOk result ((p : ℕ) → p < length rows.new → Stable graph.now set.old.length rows.new p) }
 {
-    sweep_along(rows, set, graph, order);
-    sweep_listed(rows, set, graph, list, order)?;
-    follow(rows, set, graph, list)?;
+    sweep_along(rows, set, graph, order.points.as_slice());
+    sweep_any_loops(alloc, rows, set, graph, order)?;
     settle(rows, set, graph);
     Ok(())
 }

@@ -3,22 +3,12 @@ use bitset::BitSet;
 use il_ast::few::Few;
 use std::alloc::{AllocError, Global};
 
-/// The points that wait to be visited: those of the latest sweep that it has not come to yet, and on a stack those behind which a set grew.
+/// The points that wait to be visited, on a stack: those behind which a set grew.
 #[derive(Drop)]
 pub(crate) struct Worklist {
     befores: Vec<Few<usize>>,
     waiting: BitSet,
     stack: Vec<usize>,
-}
-
-fn all_points(alloc: Global, points: usize) -> Result<BitSet, AllocError> {
-    let mut all = BitSet::new(alloc, points)?;
-    for point in 0..points {
-        if point < all.len() {
-            all.insert(point);
-        }
-    }
-    Ok(all)
 }
 
 fn add(waiting: &mut BitSet, stack: &mut Vec<usize>, point: usize) -> Result<(), AllocError> {
@@ -41,13 +31,13 @@ fn add_all(
 }
 
 impl Worklist {
-    /// Every point waits for a sweep. `befores` has for each point those behind which it may come.
+    /// No point waits. `befores` has for each point those behind which it may come.
     ///
     /// # Errors
     ///
     /// Only where memory was refused.
     pub(crate) fn new(alloc: Global, befores: Vec<Few<usize>>) -> Result<Self, AllocError> {
-        let waiting = all_points(alloc, befores.len())?;
+        let waiting = BitSet::new(alloc, befores.len())?;
         Ok(Worklist {
             befores,
             waiting,

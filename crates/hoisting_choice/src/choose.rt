@@ -316,10 +316,10 @@ fn plan_sum(
             };
             push_linear(plans, linear)?;
         }
-        written.add(*to, *left, *right);
+        written.add(*to, *left, *right)?;
     }
     if let Some((to, product)) = product_of(written, line) {
-        written.multiply(to, product);
+        written.multiply(to, product)?;
     }
     Ok(())
 }
@@ -380,7 +380,7 @@ fn plan_nest(
     nest: &Nest,
 ) -> Result<(), AllocError> {
     count_writes(written, blocks, nest);
-    find_growth(written, blocks, nest);
+    find_growth(written, blocks, nest)?;
     plans.first = plans.list.len();
     plans.sums.clear();
     for number in nest.blocks.iter() {
@@ -411,9 +411,12 @@ fn plan_in_order(
 /// Plans for the loops, the outer ones before the inner ones.
 fn plan_nests(alloc: Global, plans: &mut Plans, function: &VFunc) -> Result<(), AllocError> {
     let blocks = function.code.blocks.as_slice();
+    let (nests, order) = nests_of(alloc, blocks)?;
+    if nests.is_empty() {
+        return Ok(());
+    }
     let mut written = Written::new(alloc, function.registers)?;
     let reads = count_reads(alloc, function.registers, blocks)?;
-    let (nests, order) = nests_of(alloc, blocks)?;
     plan_in_order(plans, &mut written, &reads, blocks, &nests, &order)
 }
 

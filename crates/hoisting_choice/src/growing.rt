@@ -185,10 +185,10 @@ fn note_growth(
     nest: &Nest,
     line: &Line<u32>,
     at: Spot,
-) {
+) -> Result<(), AllocError> {
     if let Some((to, growth)) = growth_of(line, at) {
         if to != growth.from || grows_long(blocks, nest, to, &growth) {
-            written.grow(to, growth);
+            written.grow(to, growth)?;
         }
     }
     if let Line::Set {
@@ -200,13 +200,23 @@ fn note_growth(
             Some(growth) if growth.from == *to && grows_long(blocks, nest, *to, &growth) => {
                 written.grow(*to, Growth { at, ..growth })
             }
-            _ => {}
+            _ => Ok(()),
         }
+    } else {
+        Ok(())
     }
 }
 
 /// Notes the registers that the loop adds a number to.
-pub(crate) fn find_growth(written: &mut Written, blocks: &[Block<u32>], nest: &Nest) {
+///
+/// # Errors
+///
+/// Only where memory was refused.
+pub(crate) fn find_growth(
+    written: &mut Written,
+    blocks: &[Block<u32>],
+    nest: &Nest,
+) -> Result<(), AllocError> {
     for number in nest.blocks.iter() {
         if let Some(block) = blocks.get(*number) {
             for (line, item) in block.lines.as_slice().iter().enumerate() {
@@ -214,10 +224,11 @@ pub(crate) fn find_growth(written: &mut Written, blocks: &[Block<u32>], nest: &N
                     block: *number,
                     line,
                 };
-                note_growth(written, blocks, nest, item, at);
+                note_growth(written, blocks, nest, item, at)?;
             }
         }
     }
+    Ok(())
 }
 
 // ---- products

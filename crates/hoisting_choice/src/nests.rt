@@ -247,11 +247,32 @@ fn no_search(alloc: Global, blocks: &[Block<u32>]) -> Result<Search, AllocError>
     })
 }
 
+/// Whether the block of that number leads to itself or one before it.
+fn is_back(number: usize, to: Option<usize>) -> bool {
+    match to {
+        Some(to) => to <= number,
+        None => false,
+    }
+}
+
+/// Whether some block does.
+fn leads_back(blocks: &[Block<u32>]) -> bool {
+    for (number, block) in blocks.iter().enumerate() {
+        if is_back(number, target(&block.jump, 0)) || is_back(number, target(&block.jump, 1)) {
+            return true;
+        }
+    }
+    false
+}
+
 fn find_nests(
     alloc: Global,
     nests: &mut Vec<Nest>,
     blocks: &[Block<u32>],
 ) -> Result<(), AllocError> {
+    if !leads_back(blocks) {
+        return Ok(());
+    }
     let mut search = no_search(alloc, blocks)?;
     push_nests(alloc, &mut search, blocks, nests)
 }

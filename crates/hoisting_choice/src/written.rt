@@ -4,12 +4,18 @@ use std::alloc::{AllocError, Global};
 use vcode::line::{Line, Operation};
 use vcode::place::Operand;
 
-/// Of a register: the last loop that was looked at, how often that writes it, and the register in front of it that holds the same.
+/// Of a register: the last loop that was looked at, how often that writes it, the register in front of it that holds the same, and the number of what more is known.
 #[derive(Clone, Copy)]
 struct Writes {
     nest: usize,
     count: u32,
     instead: Option<u32>,
+    more: Option<usize>,
+}
+
+/// What more is known of a register that the loop writes once.
+#[derive(Clone, Copy)]
+struct More {
     /// what it is the sum of
     sum: Option<(Operand<u32>, Operand<u32>)>,
     growth: Option<Growth>,
@@ -45,6 +51,10 @@ const NOTHING: Writes = Writes {
     nest: 0,
     count: 0,
     instead: None,
+    more: None,
+};
+
+const NO_MORE: More = More {
     sum: None,
     growth: None,
     product: None,
@@ -54,6 +64,7 @@ const NOTHING: Writes = Writes {
 #[derive(Drop)]
 pub(crate) struct Written {
     writes: Vec<Writes>,
+    more: Vec<More>,
     nest: usize,
 }
 
@@ -66,11 +77,16 @@ impl Written {
     pub(crate) fn new(alloc: Global, registers: u32) -> Result<Written, AllocError> {
         let mut writes = Vec::new(alloc);
         writes.resize(registers as usize, NOTHING)?;
-        Ok(Written { writes, nest: 0 })
+        Ok(Written {
+            writes,
+            more: Vec::new(alloc),
+            nest: 0,
+        })
     }
 
     /// The next loop is looked at.
     pub(crate) fn begin(&mut self) {
+        self.more.clear();
         self.nest = self.nest.saturating_add(1);
     }
 
@@ -88,6 +104,36 @@ impl Written {
         if let Some(at) = self.writes.get_mut(register as usize) {
             *at = writes;
         }
+    }
+
+    fn more(&self, register: u32) -> More {
+        match self.of(register).more {
+            Some(number) => self.more.get(number).copied().unwrap_or(NO_MORE),
+            None => NO_MORE,
+        }
+    }
+
+    /// That more is known of the register, if the loop writes it once.
+    fn set_more(&mut self, register: u32, more: More) -> Result<(), AllocError> {
+        let writes = self.of(register);
+        if writes.count != 1 {
+            return Ok(());
+        }
+        if let Some(number) = writes.more {
+            if let Some(at) = self.more.get_mut(number) {
+                *at = more;
+            }
+            return Ok(());
+        }
+        let number = Some(self.more.len());
+        self.set(
+            register,
+            Writes {
+                more: number,
+                ..writes
+            },
+        );
+        self.more.extend_from_slice(&[more])
     }
 
     /// Counts what the lines write.
@@ -121,36 +167,45 @@ impl Written {
     }
 
     /// The register that the loop writes once is the sum of these.
-    pub(crate) fn add(&mut self, register: u32, left: Operand<u32>, right: Operand<u32>) {
-        let writes = self.of(register);
-        if writes.count == 1 {
-            self.set(
-                register,
-                Writes {
-                    sum: Some((left, right)),
-                    ..writes
-                },
-            );
-        }
+    ///
+    /// # Errors
+    ///
+    /// Only where memory was refused.
+    pub(crate) fn add(
+        &mut self,
+        register: u32,
+        left: Operand<u32>,
+        right: Operand<u32>,
+    ) -> Result<(), AllocError> {
+        let more = self.more(register);
+        self.set_more(
+            register,
+            More {
+                sum: Some((left, right)),
+                ..more
+            },
+        )
     }
 
     /// The register, which the loop writes once, takes the sum of a number and of another, or of itself.
-    pub(crate) fn grow(&mut self, register: u32, growth: Growth) {
-        let writes = self.of(register);
-        if writes.count == 1 {
-            self.set(
-                register,
-                Writes {
-                    growth: Some(growth),
-                    ..writes
-                },
-            );
-        }
+    ///
+    /// # Errors
+    ///
+    /// Only where memory was refused.
+    pub(crate) fn grow(&mut self, register: u32, growth: Growth) -> Result<(), AllocError> {
+        let more = self.more(register);
+        self.set_more(
+            register,
+            More {
+                growth: Some(growth),
+                ..more
+            },
+        )
     }
 
     /// What the loop adds to, where the register takes that.
     pub(crate) fn growth(&self, register: u32) -> Option<Growth> {
-        self.of(register).growth
+        self.more(register).growth
     }
 
     /// What the loop adds to the register itself.
@@ -162,30 +217,32 @@ impl Written {
     }
 
     /// The register that the loop writes once is this product.
-    pub(crate) fn multiply(&mut self, register: u32, product: Product) {
-        let writes = self.of(register);
-        if writes.count == 1 {
-            self.set(
-                register,
-                Writes {
-                    product: Some(product),
-                    ..writes
-                },
-            );
-        }
+    ///
+    /// # Errors
+    ///
+    /// Only where memory was refused.
+    pub(crate) fn multiply(&mut self, register: u32, product: Product) -> Result<(), AllocError> {
+        let more = self.more(register);
+        self.set_more(
+            register,
+            More {
+                product: Some(product),
+                ..more
+            },
+        )
     }
 
     /// The product of a register that grows which the operand is.
     pub(crate) fn product(&self, operand: Operand<u32>) -> Option<Product> {
         match operand {
-            Operand::At(register) => self.of(register).product,
+            Operand::At(register) => self.more(register).product,
             _ => None,
         }
     }
 
     /// What the register is the sum of.
     pub(crate) fn summands(&self, register: u32) -> Option<(Operand<u32>, Operand<u32>)> {
-        self.of(register).sum
+        self.more(register).sum
     }
 
     /// An operand that has the same value in front of the loop, if there is one.

@@ -1,6 +1,7 @@
 //! What stands for registers of the machine, and in which order.
 use crate::slots::Wish;
 use cfg_live::sets::Live;
+use il_ast::few::Few;
 use live_intervals::demands::{Demand, Demands, is_over_call};
 use live_intervals::facts::Facts;
 use live_intervals::groups::Group;
@@ -92,7 +93,7 @@ pub fn candidates(
     groups: &[Group],
     facts: &Facts,
 ) -> Result<Vec<Candidate>, AllocError> {
-    let mut candidates = Vec::new(alloc);
+    let mut candidates = Vec::with_capacity(alloc, groups.len())?;
     for (number, group) in groups.iter().enumerate() {
         if group.ranges.len() > 0 {
             candidates.push(candidate_of(group, number, &facts.demands))?;
@@ -109,7 +110,7 @@ fn push_single(
     lifetimes: &[Lifetime],
     register: u32,
 ) -> Result<(), AllocError> {
-    let mut members = Vec::new(alloc);
+    let mut members = Few::new(alloc);
     members.push(register)?;
     let mut ranges = Vec::new(alloc);
     match lifetimes.get(register as usize) {

@@ -130,6 +130,16 @@ fn push_moves(credit: &mut Credit, left: &[u64], stretch: Stretch) -> Result<(),
     Ok(())
 }
 
+impl Credit {
+    /// Nothing is paid for.
+    pub(crate) fn none(alloc: Global) -> Credit {
+        Credit {
+            moves: Vec::new(alloc),
+            before: Vec::new(alloc),
+        }
+    }
+}
+
 /// The moves that the ticks of each block pay for besides its lines and its jump.
 ///
 /// # Errors
@@ -142,8 +152,8 @@ pub(crate) fn credit_of(
 ) -> Result<Credit, AllocError> {
     let mut left = spend_blocks(alloc, blocks)?;
     let mut credit = Credit {
-        moves: Vec::new(alloc),
-        before: Vec::new(alloc),
+        moves: Vec::with_capacity(alloc, left.len())?,
+        before: Vec::with_capacity(alloc, left.len())?,
     };
     for stretch in text.stretches.iter() {
         settle(left.as_mut_slice(), *stretch);

@@ -28,11 +28,10 @@ impl Cutter {
     /// # Errors
     ///
     /// Only where memory was refused.
-    pub fn new(alloc: Global, function: &VFunc, facts: &Facts) -> Result<Cutter, AllocError> {
-        let blocks = function.code.blocks.as_slice();
+    pub fn new(alloc: Global, function: &VFunc) -> Result<Cutter, AllocError> {
         Ok(Cutter {
-            nodes: Nodes::new(alloc, blocks.len())?,
-            credit: credit_of(alloc, blocks, &facts.text)?,
+            nodes: Nodes::new(alloc, function.code.blocks.len())?,
+            credit: Credit::none(alloc),
             cuts: Cuts::new(alloc),
         })
     }
@@ -268,7 +267,7 @@ fn cut_members(
     Ok(())
 }
 
-/// Cuts the registers that the list has slots for, the most urgent first.
+/// Cuts the registers that the list has slots for, the most urgent first, as far as the ticks of the function pay for it.
 ///
 /// # Errors
 ///
@@ -280,7 +279,12 @@ pub fn cut_all(
     list: &[Location],
     ground: Ground,
     candidates: &[Candidate],
+    function: &VFunc,
 ) -> Result<(), AllocError> {
+    if candidates.is_empty() {
+        return Ok(());
+    }
+    cutter.credit = credit_of(alloc, function.code.blocks.as_slice(), &ground.facts.text)?;
     for candidate in candidates {
         match ground.groups.get(candidate.group) {
             Some(group) => {

@@ -2,6 +2,7 @@
 ghost use Rattle.std.specs.Prelude.{◌≤◌};
 
 use crate::accesses::{Access, Accesses, Kind, sorted};
+use crate::lifetimes::jump_point;
 use crate::positions::Range;
 use loops::depths::frequency;
 use std::alloc::{AllocError, Global};
@@ -371,6 +372,15 @@ fn blocks(
     Ok(())
 }
 
+/// How many points the blocks have.
+fn point_count(blocks: &[Block<u32>]) -> usize {
+    let mut points = 0usize;
+    for block in blocks {
+        points = jump_point(points, block.lines.as_slice()).saturating_add(1);
+    }
+    points
+}
+
 /// The demands of the registers of this code, whose blocks lie in so many loops each.
 ///
 /// # Errors
@@ -382,15 +392,14 @@ pub(crate) fn demands_of(
     registers: u32,
     depths: &[u32],
 ) -> Result<Demands, AllocError> {
-    let mut list = Vec::new(alloc);
-    list.resize(registers as usize, Demand::none())?;
-    let mut calls = Vec::new(alloc);
+    let points = point_count(code.blocks.as_slice());
+    let mut calls = Vec::with_capacity(alloc, points.saturating_add(1))?;
     calls.push(0)?;
     let mut counting = Counting {
-        registers: list,
+        registers: vec![in alloc; Demand::none(); registers as usize]?,
         copies: Vec::new(alloc),
         calls,
-        accesses: Vec::new(alloc),
+        accesses: Vec::with_capacity(alloc, points.saturating_mul(2))?,
     };
     params(&mut counting, code.params.as_slice())?;
     blocks(&mut counting, code.blocks.as_slice(), depths)?;

@@ -3,9 +3,10 @@ use crate::demands::{Demands, demands_of};
 use crate::lifetimes::{Lifetime, lifetimes};
 use crate::starts::{self, Starts, starts_of};
 use crate::text::{Text, text_of};
-use cfg_live::points::graph;
+use cfg_live::points::uses_of;
 use cfg_live::sets::Live;
-use loops::depths::depths;
+use cfg_live::uses::Uses;
+use loops::depths::{depths_along, sources};
 use std::alloc::{AllocError, Global};
 use vcode::function::VFunc;
 
@@ -14,6 +15,9 @@ use vcode::function::VFunc;
 pub struct Facts {
     /// its blocks
     pub text: Text,
+
+    /// what each of its points reads and writes
+    pub points: Vec<Uses>,
 
     /// what is live where blocks begin
     pub starts: Starts,
@@ -27,9 +31,10 @@ pub struct Facts {
 
 fn text_and_demands(alloc: Global, function: &VFunc) -> Result<(Text, Demands), AllocError> {
     let blocks = function.code.blocks.as_slice();
-    let depths = depths(alloc, blocks)?;
+    let sources = sources(alloc, blocks)?;
+    let depths = depths_along(alloc, blocks, sources.as_slice())?;
     let demands = demands_of(alloc, &function.code, function.registers, depths.as_slice())?;
-    let text = text_of(alloc, blocks, depths.as_slice())?;
+    let text = text_of(alloc, blocks, depths.as_slice(), sources)?;
     Ok((text, demands))
 }
 
@@ -38,10 +43,9 @@ fn lifetimes_of(
     function: &VFunc,
     starts: &Starts,
     text: &Text,
+    points: &[Uses],
 ) -> Result<Vec<Lifetime>, AllocError> {
-    let graph = graph(alloc, function)?;
     let params = function.code.params.as_slice();
-    let points = graph.uses.as_slice();
     lifetimes(alloc, function.registers, params, points, starts, text)
 }
 
@@ -66,9 +70,11 @@ pub fn facts_of(
         live_a_line,
     };
     let starts = starts_of(alloc, ground)?;
-    let lifetimes = lifetimes_of(alloc, function, &starts, &text)?;
+    let points = uses_of(alloc, function)?;
+    let lifetimes = lifetimes_of(alloc, function, &starts, &text, points.as_slice())?;
     Ok(Facts {
         text,
+        points,
         starts,
         lifetimes,
         demands,

@@ -1,7 +1,7 @@
 //! The blocks of a function: where they stand in its text, how often they run, and which lead to which.
 use crate::lifetimes::jump_point;
 use il_ast::few::Few;
-use loops::depths::{frequency, sources, target};
+use loops::depths::{frequency, target};
 use std::alloc::{AllocError, Global};
 use vcode::code::Block;
 
@@ -93,7 +93,7 @@ fn push_block(block_of: &mut Vec<usize>, block: usize, stretch: Stretch) -> Resu
     Ok(())
 }
 
-/// The blocks, which lie in so many loops each.
+/// The blocks, which lie in so many loops each, with those that lead to each of them.
 ///
 /// # Errors
 ///
@@ -102,15 +102,19 @@ pub(crate) fn text_of(
     alloc: Global,
     blocks: &[Block<u32>],
     depths: &[u32],
+    sources: Vec<Few<usize>>,
 ) -> Result<Text, AllocError> {
     let stretches = stretches(alloc, blocks, depths)?;
-    let mut block_of = Vec::new(alloc);
+    let points = stretches
+        .last()
+        .map_or(0, |last| last.jump.saturating_add(1));
+    let mut block_of = Vec::with_capacity(alloc, points)?;
     for (number, stretch) in stretches.iter().enumerate() {
         push_block(&mut block_of, number, *stretch)?;
     }
     Ok(Text {
         stretches,
-        sources: sources(alloc, blocks)?,
+        sources,
         block_of,
     })
 }

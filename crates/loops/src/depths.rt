@@ -115,7 +115,9 @@ fn back_edges(alloc: Global, blocks: &[Block<u32>]) -> Result<Vec<Edge>, AllocEr
     for _ in 0..blocks.len().saturating_mul(3) {
         search_on(&mut search, blocks)?;
     }
-    search.back.sort()?;
+    if 1 < search.back.len() {
+        search.back.sort()?;
+    }
     Ok(search.back)
 }
 
@@ -229,12 +231,6 @@ fn count_loops(
     Ok(())
 }
 
-fn count_all(alloc: Global, nests: &mut [Nest], blocks: &[Block<u32>]) -> Result<(), AllocError> {
-    let edges = sources(alloc, blocks)?;
-    let back = back_edges(alloc, blocks)?;
-    count_loops(alloc, nests, edges.as_slice(), back.as_slice())
-}
-
 fn depths_of(alloc: Global, nests: &[Nest]) -> Result<Vec<u32>, AllocError> {
     let mut depths = Vec::with_capacity(alloc, nests.len())?;
     for nest in nests {
@@ -243,20 +239,51 @@ fn depths_of(alloc: Global, nests: &[Nest]) -> Result<Vec<u32>, AllocError> {
     Ok(depths)
 }
 
+/// In how many loops each block lies, by these jumps back.
+fn depths_by(
+    alloc: Global,
+    edges: &[Few<usize>],
+    back: &[Edge],
+    blocks: usize,
+) -> Result<Vec<u32>, AllocError> {
+    let nest = Nest {
+        depth: 0,
+        head: None,
+    };
+    let mut nests = vec![in alloc; nest; blocks]?;
+    count_loops(alloc, nests.as_mut_slice(), edges, back)?;
+    depths_of(alloc, nests.as_slice())
+}
+
+/// In how many loops each block lies, to each of which these blocks lead.
+///
+/// # Errors
+///
+/// Only where memory was refused.
+pub fn depths_along(
+    alloc: Global,
+    blocks: &[Block<u32>],
+    sources: &[Few<usize>],
+) -> Result<Vec<u32>, AllocError> {
+    let back = back_edges(alloc, blocks)?;
+    if back.is_empty() {
+        return vec![in alloc; 0u32; blocks.len()];
+    }
+    depths_by(alloc, sources, back.as_slice(), blocks.len())
+}
+
 /// In how many loops each block lies.
 ///
 /// # Errors
 ///
 /// Only where memory was refused.
 pub fn depths(alloc: Global, blocks: &[Block<u32>]) -> Result<Vec<u32>, AllocError> {
-    let nest = Nest {
-        depth: 0,
-        head: None,
-    };
-    let mut nests = Vec::new(alloc);
-    nests.resize(blocks.len(), nest)?;
-    count_all(alloc, nests.as_mut_slice(), blocks)?;
-    depths_of(alloc, nests.as_slice())
+    let back = back_edges(alloc, blocks)?;
+    if back.is_empty() {
+        return vec![in alloc; 0u32; blocks.len()];
+    }
+    let edges = sources(alloc, blocks)?;
+    depths_by(alloc, edges.as_slice(), back.as_slice(), blocks.len())
 }
 
 /// How often a block is run that lies in so many loops, if each goes round ten times.

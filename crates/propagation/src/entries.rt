@@ -15,6 +15,9 @@ const ROUNDS: usize = 8;
 struct Guess {
     claims: Seq<Claim>,
     is_led_to: bool,
+
+    /// whether the block is still to be gone over with these
+    is_new: bool,
 }
 
 /// Those of the claims that are known.
@@ -31,13 +34,21 @@ fn still_known(alloc: Global, walk: &Walk, claims: &[Claim]) -> Result<Seq<Claim
 /// One more way leads to a block, at the end of what the walk went along; returns whether less is claimed of the block than before, or something for the first time.
 fn meet(alloc: Global, walk: &mut Walk, guess: &mut Guess) -> Result<bool, AllocError> {
     if guess.is_led_to {
-        let kept = still_known(alloc, walk, guess.claims.as_slice())?;
-        let is_less = kept.len() < guess.claims.len();
-        guess.claims = kept;
-        Ok(is_less)
+        if guess
+            .claims
+            .as_slice()
+            .iter()
+            .all(|claim| walk.knows(claim))
+        {
+            return Ok(false);
+        }
+        guess.claims = still_known(alloc, walk, guess.claims.as_slice())?;
+        guess.is_new = true;
+        Ok(true)
     } else {
         guess.claims = walk.known(alloc)?;
         guess.is_led_to = true;
+        guess.is_new = true;
         Ok(true)
     }
 }
@@ -72,15 +83,33 @@ fn lead(
     }
 }
 
-/// A block begins with what is claimed there. To one to which no way led so far one may yet lead, so nothing is claimed of that.
-fn begin(walk: &mut Walk, guesses: &mut [Guess], block: usize) -> Result<(), AllocError> {
+/// A block begins with what is claimed there, if that is less than when the block was gone over; says whether it is. To a block to which no way led so far one
+/// may yet lead, so nothing is claimed of that.
+fn begin(walk: &mut Walk, guesses: &mut [Guess], block: usize) -> Result<bool, AllocError> {
     match guesses.get_mut(block) {
-        Some(guess) => {
+        Some(guess) if guess.is_new => {
             guess.is_led_to = true;
-            walk.begin(guess.claims.as_slice())
+            guess.is_new = false;
+            walk.begin(guess.claims.as_slice())?;
+            Ok(true)
         }
-        None => Ok(()),
+        _ => Ok(false),
     }
+}
+
+/// Goes over a block, if that begins with less than when it was gone over; returns whether what is claimed of any changed.
+fn go(
+    alloc: Global,
+    walk: &mut Walk,
+    guesses: &mut [Guess],
+    number: usize,
+    block: &Block<u32>,
+) -> Result<bool, AllocError> {
+    if !begin(walk, guesses, number)? {
+        return Ok(false);
+    }
+    walk.go(block.lines.as_slice())?;
+    lead(alloc, walk, guesses, &block.jump)
 }
 
 /// Goes over all blocks; returns whether what is claimed of any changed.
@@ -92,11 +121,7 @@ fn round(
 ) -> Result<bool, AllocError> {
     let mut has_changed = false;
     for (number, block) in blocks.iter().enumerate() {
-        begin(walk, guesses, number)?;
-        walk.go(block.lines.as_slice())?;
-        if lead(alloc, walk, guesses, &block.jump)? {
-            has_changed = true;
-        }
+        has_changed = go(alloc, walk, guesses, number, block)? || has_changed;
     }
     Ok(has_changed)
 }
@@ -108,6 +133,7 @@ fn unknown(alloc: Global, blocks: usize) -> Result<Vec<Guess>, AllocError> {
         guesses.push(Guess {
             claims: Seq::new(alloc),
             is_led_to: number == 0,
+            is_new: true,
         })?;
     }
     Ok(guesses)

@@ -124,7 +124,7 @@ fn forwarded_lines(
     ensures count { length table.new.written.items ≡ length table.old.written.items }
     ensures lines { IfOk result (λ v. (entries : List Entry) (whole : List (ALine ℕ)) (j k : AJump ℕ) → AreForwarded (length table.old.written.items) entries whole (facts_of table.new) [] [] j k → AreForwarded (length table.old.written.items) entries whole (facts_of table.old) lines.now v.items j k) }
 {
-    let mut made = Vec::new(alloc);
+    let mut made = Vec::with_capacity(alloc, lines.len())?;
     for line in lines {
         let carried = forwarded(alloc, table, line)?;
         let put = shortened(carried);
@@ -177,7 +177,7 @@ fn forwarded_blocks(
     requires starts { table.old.clock ≡ 0 }
     ensures { IfOk result (λ o. IfSome o (λ v. AllForwarded (length table.old.written.items) entries.now 0 blocks.now v)) }
 {
-    let mut made = Vec::new(alloc);
+    let mut made = Vec::with_capacity(alloc, blocks.len())?;
     for (number, block) in blocks.iter().enumerate() {
         match forwarded_block(alloc, entries, table, number, block)? {
             Some(block) => made.push(block)?,

@@ -226,15 +226,16 @@ fn place_in_slots(
 fn place_singles(
     alloc: Global,
     list: &mut [Location],
-    registers: u32,
+    function: &VFunc,
     rooms: &mut [Room],
     cutter: &mut Cutter,
     ground: Ground,
 ) -> Result<(), AllocError>
-    requires { list_all (is_place registers) list.old ≡ true }
-    ensures places { list_all (is_place registers) list.new ≡ true }
+    requires { list_all (is_place function.now.registers) list.old ≡ true }
+    ensures places { list_all (is_place function.now.registers) list.new ≡ true }
     ensures long { length list.new ≡ length list.old }
 {
+    let registers = function.registers;
     let singles = singles(alloc, ground.groups, list, ground.facts)?;
     let single = Ground {
         groups: singles.as_slice(),
@@ -244,7 +245,7 @@ fn place_singles(
     let candidates = order.as_slice();
     place_all(alloc, list, registers, rooms, cutter, single, candidates)?;
     place_in_slots(alloc, list, registers, ground)?;
-    cut_all(alloc, cutter, rooms, list, single, candidates)
+    cut_all(alloc, cutter, rooms, list, single, candidates, function)
 }
 
 /// Registers of the machine for groups, then for single registers of those that got none, and slots for what is left; that is cut where it can be.
@@ -261,9 +262,9 @@ fn place_in(
     let registers = function.registers;
     let mut all = rooms(alloc, MACHINE, ground.facts.text.points())?;
     let rooms = all.as_mut_slice();
-    let mut cutter = Cutter::new(alloc, function, ground.facts)?;
+    let mut cutter = Cutter::new(alloc, function)?;
     place_groups(alloc, list, registers, rooms, &mut cutter, ground)?;
-    place_singles(alloc, list, registers, rooms, &mut cutter, ground)?;
+    place_singles(alloc, list, function, rooms, &mut cutter, ground)?;
     cutter.finish()
 }
 
@@ -317,7 +318,7 @@ pub(crate) fn scanned_within(
         groups,
     };
     let cuts = place_in(alloc, list.as_mut_slice(), function, ground)?;
-    written(alloc, function, &facts.starts, list.as_slice(), &cuts)
+    written(alloc, function, &facts, list.as_slice(), &cuts)
 }
 
 impl Strategy for LinearScan {

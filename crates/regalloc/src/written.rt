@@ -6,13 +6,13 @@ ghost use Rattle.regalloc.specs.Scanned.{are_placed, are_between, IsScanned};
 
 use crate::linear_scan::machine_register;
 use certificates::certificate::{Certificate, Equality, Transfer};
-use cfg_live::points::graph;
 use cfg_live::uses::Uses;
 use il_ast::list::Seq;
 use interval_splitting::cuts::{
     Begin, Cuts, Entry, Move, Stay, Way, begin_at, begins_from, moves_end, stays_end,
 };
 use live_intervals::accesses::part;
+use live_intervals::facts::Facts;
 use live_intervals::starts::Starts;
 use std::alloc::{AllocError, Global};
 use vcode::function::VFunc;
@@ -411,7 +411,7 @@ fn starts_of(
     let begins = cuts.begins.as_slice();
     let mut everywhere = Seq::new(alloc);
     push_everywhere(&mut everywhere, list, registers, live)?;
-    let mut starts = Seq::new(alloc);
+    let mut starts = Seq::from_vec(Vec::with_capacity(alloc, blocks)?);
     push_starts(alloc, &mut starts, list, registers, begins, live, blocks)?;
     Ok(AtStarts { everywhere, starts })
 }
@@ -425,22 +425,20 @@ struct AtPoints {
 
 fn points_of(
     alloc: Global,
-    function: &VFunc,
+    registers: u32,
+    points: &[Uses],
     list: &[Location],
     cuts: &Cuts,
 ) -> Result<AtPoints, AllocError>
-    requires { list_all (is_place function.now.registers) list.now ≡ true }
-    ensures moves { IfOk result (λ p. list_all (are_between function.now.registers) p.moves ≡ true) }
-    ensures places { IfOk result (λ p. list_all (are_placed function.now.registers) p.places ≡ true) }
+    requires { list_all (is_place registers) list.now ≡ true }
+    ensures moves { IfOk result (λ p. list_all (are_between registers) p.moves ≡ true) }
+    ensures places { IfOk result (λ p. list_all (are_placed registers) p.places ≡ true) }
 {
-    let registers = function.registers;
-    let graph = graph(alloc, function)?;
-    let points = graph.uses.as_slice();
     let all = cuts.moves.as_slice();
-    let mut moves = Seq::new(alloc);
+    let mut moves = Seq::from_vec(Vec::with_capacity(alloc, points.len())?);
     push_moves(alloc, &mut moves, list, registers, all, points)?;
     let stays = cuts.stays.as_slice();
-    let mut places = Seq::new(alloc);
+    let mut places = Seq::from_vec(Vec::with_capacity(alloc, points.len())?);
     push_places(alloc, &mut places, list, registers, stays, points)?;
     Ok(AtPoints { moves, places })
 }
@@ -454,15 +452,16 @@ fn points_of(
 pub(crate) fn written(
     alloc: Global,
     function: &VFunc,
-    live: &Starts,
+    facts: &Facts,
     list: &[Location],
     cuts: &Cuts,
 ) -> Result<Certificate, AllocError>
     requires { list_all (is_place function.now.registers) list.now ≡ true }
     ensures { IfOk result (λ c. IsScanned function.now.registers c) }
 {
-    let at_starts = starts_of(alloc, function, live, list, cuts)?;
-    let at_points = points_of(alloc, function, list, cuts)?;
+    let at_starts = starts_of(alloc, function, &facts.starts, list, cuts)?;
+    let points = facts.points.as_slice();
+    let at_points = points_of(alloc, function.registers, points, list, cuts)?;
     let entries = cuts.entries.as_slice();
     let from = function.code.params.as_slice();
     let mut params = Seq::new(alloc);

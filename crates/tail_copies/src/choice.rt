@@ -1,7 +1,6 @@
 //! Which blocks are worth copies: a guess that nothing proved rests on.
 use block_chains::chains::reached;
-use il_ast::few::Few;
-use loops::depths::sources;
+use loops::depths::target;
 use std::alloc::{AllocError, Global};
 use vcode::code::Block;
 use vcode::line::{Jump, Line};
@@ -34,18 +33,12 @@ fn is_short(block: &Block<u32>, most: u64) -> bool {
     }
 }
 
-fn is_worth(
-    blocks: &[Block<u32>],
-    sources: &[Few<usize>],
-    from: usize,
-    to: usize,
-    most: u64,
-) -> bool {
+fn is_worth(blocks: &[Block<u32>], sources: &[usize], from: usize, to: usize, most: u64) -> bool {
     if from == to {
         return false;
     }
     match (blocks.get(to), sources.get(to)) {
-        (Some(block), Some(sources)) => sources.len() == 1 || is_short(block, most),
+        (Some(block), Some(count)) => *count == 1 || is_short(block, most),
         _ => false,
     }
 }
@@ -53,7 +46,7 @@ fn is_worth(
 /// Whether the block goes to one that is worth a copy.
 fn is_chosen(
     blocks: &[Block<u32>],
-    sources: &[Few<usize>],
+    sources: &[usize],
     number: usize,
     block: &Block<u32>,
     most: u64,
@@ -68,7 +61,7 @@ fn is_chosen(
 fn choose(
     chosen: &mut Vec<bool>,
     blocks: &[Block<u32>],
-    sources: &[Few<usize>],
+    sources: &[usize],
     most: u64,
 ) -> Result<bool, AllocError> {
     let mut is_any = false;
@@ -78,6 +71,24 @@ fn choose(
         chosen.push(is_this)?;
     }
     Ok(is_any)
+}
+
+fn count(counts: &mut [usize], to: Option<usize>) {
+    if let Some(to) = to {
+        if let Some(count) = counts.get_mut(to) {
+            *count = count.saturating_add(1);
+        }
+    }
+}
+
+/// How many jumps lead to each block, a branch with both its targets the same twice.
+fn source_counts(alloc: Global, blocks: &[Block<u32>]) -> Result<Vec<usize>, AllocError> {
+    let mut counts = vec![in alloc; 0usize; blocks.len()]?;
+    for block in blocks {
+        count(counts.as_mut_slice(), target(&block.jump, 0));
+        count(counts.as_mut_slice(), target(&block.jump, 1));
+    }
+    Ok(counts)
 }
 
 /// For each block whether the block that it goes to is worth a copy; none where no block is.
@@ -90,7 +101,7 @@ pub(crate) fn chosen_tails(
     blocks: &[Block<u32>],
     most: u64,
 ) -> Result<Option<Vec<bool>>, AllocError> {
-    let sources = sources(alloc, blocks)?;
+    let sources = source_counts(alloc, blocks)?;
     let mut chosen = Vec::with_capacity(alloc, blocks.len())?;
     if choose(&mut chosen, blocks, sources.as_slice(), most)? {
         Ok(Some(chosen))

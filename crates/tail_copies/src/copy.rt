@@ -42,7 +42,8 @@ fn as_it_is(alloc: Global, block: &Block<u32>) -> Result<Block<u32>, AllocError>
 fn joined(alloc: Global, block: &Block<u32>, tail: &Block<u32>) -> Result<Block<u32>, AllocError>
     ensures { IfOk result (λ d. d ≡ joined block.now tail.now) }
 {
-    let mut lines = Vec::with_capacity(alloc, block.lines.len())?;
+    let both = block.lines.len().saturating_add(tail.lines.len());
+    let mut lines = Vec::with_capacity(alloc, both)?;
     push_lines(alloc, &mut lines, block.lines.as_slice())?;
     push_lines(alloc, &mut lines, tail.lines.as_slice())?;
     Ok(Block {

@@ -6,3 +6,4 @@ pub mod Regrouping
 pub mod Shifting
 pub mod Running
 pub mod Keeping
+pub mod Ticking

@@ -2,8 +2,9 @@
 use crate::fact::{Expression, Fact, reads};
 use crate::lines::changed;
 use crate::steps::{is_word, pass};
-use crate::ways::{Order, bounds, is_known, order_met, order_missed};
+use crate::ways::{Order, bounds, is_known, is_linear, order_met, order_missed};
 use cfg_live::uses::line_writes;
+use il_ast::few::Few;
 use il_ast::list::Seq;
 use std::alloc::{AllocError, Global};
 use vcode::code::Block;
@@ -13,6 +14,9 @@ use vcode::place::Operand;
 /// How many facts are claimed of a block, at most.
 const CLAIMS: usize = 32;
 
+/// For how many facts there is room at first.
+const ROOM: usize = 16;
+
 /// How often the blocks are gone through, at most: until nothing changes.
 const ROUNDS: usize = 8;
 
@@ -20,6 +24,9 @@ const ROUNDS: usize = 8;
 #[derive(Drop)]
 struct Claim {
     facts: Option<Vec<Fact>>,
+
+    /// whether the block is still to be gone through with these
+    is_new: bool,
 }
 
 fn pass_lines(
@@ -29,6 +36,9 @@ fn pass_lines(
     lines: &[Line<u32>],
 ) -> Result<(), AllocError> {
     for line in lines {
+        if let Line::Tick { .. } = line {
+            continue;
+        }
         match changed(facts.as_slice(), registers, line) {
             Some(changed) => pass(alloc, facts, &changed)?,
             None => pass(alloc, facts, line)?,
@@ -88,6 +98,9 @@ fn of_copy(linear: &Fact, copy: &Fact) -> Option<Fact> {
 }
 
 fn claim_copies(known: &mut Vec<Fact>, facts: &[Fact], linear: &Fact) -> Result<(), AllocError> {
+    if !is_linear(linear.value) {
+        return Ok(());
+    }
     for fact in facts {
         if let Some(other) = of_copy(linear, fact) {
             push_claim(known, other)?;
@@ -99,7 +112,7 @@ fn claim_copies(known: &mut Vec<Fact>, facts: &[Fact], linear: &Fact) -> Result<
 /// What blocks write each register, and the last one that leads back to each block.
 #[derive(Drop)]
 struct Writing {
-    blocks: Vec<Vec<usize>>,
+    blocks: Vec<Few<usize>>,
     backs: Vec<Option<usize>>,
 }
 
@@ -132,7 +145,10 @@ fn rank(writing: &Writing, fact: &Fact) -> u32 {
 /// Whether one of the blocks from the first to the last writes the register.
 fn is_written(writing: &Writing, register: u32, first: usize, last: usize) -> bool {
     match writing.blocks.get(register as usize) {
-        Some(blocks) => blocks.iter().any(|block| first <= *block && *block <= last),
+        Some(blocks) => blocks
+            .as_slice()
+            .iter()
+            .any(|block| first <= *block && *block <= last),
         None => false,
     }
 }
@@ -187,7 +203,7 @@ fn first_claim(
     facts: &[Fact],
     order: &Option<Order>,
 ) -> Result<Vec<Fact>, AllocError> {
-    let mut known = Vec::new(alloc);
+    let mut known = Vec::with_capacity(alloc, facts.len().min(CLAIMS))?;
     if let Some(fact) = growing(facts, order) {
         push_claim(&mut known, fact)?;
     }
@@ -214,10 +230,13 @@ fn meet(
         Some(known) => {
             let before = known.len();
             known.retain(|fact| is_known(facts, order, fact));
-            Ok(known.len() != before)
+            let is_less = known.len() != before;
+            claim.is_new = claim.is_new || is_less;
+            Ok(is_less)
         }
         None => {
             claim.facts = Some(first_claim(alloc, writing, block, facts, order)?);
+            claim.is_new = true;
             Ok(true)
         }
     }
@@ -255,19 +274,27 @@ fn lead(
     }
 }
 
-/// What is known where the block begins, if a way leads there.
-fn known_at(
-    alloc: Global,
-    claims: &[Claim],
-    block: usize,
-) -> Result<Option<Vec<Fact>>, AllocError> {
-    match claims.get(block) {
-        Some(Claim { facts: Some(known) }) => {
-            let mut facts = Vec::with_capacity(alloc, known.len())?;
+/// Puts in what is known, if that is less than when the block was gone through; says whether it is.
+fn take_new(claim: &mut Claim, facts: &mut Vec<Fact>) -> Result<bool, AllocError> {
+    if !claim.is_new {
+        return Ok(false);
+    }
+    claim.is_new = false;
+    match &claim.facts {
+        Some(known) => {
+            facts.clear();
             facts.extend_from_slice(known.as_slice())?;
-            Ok(Some(facts))
+            Ok(true)
         }
-        _ => Ok(None),
+        None => Ok(false),
+    }
+}
+
+/// The same of what is known where a block begins.
+fn begin(claims: &mut [Claim], block: usize, facts: &mut Vec<Fact>) -> Result<bool, AllocError> {
+    match claims.get_mut(block) {
+        Some(claim) => take_new(claim, facts),
+        None => Ok(false),
     }
 }
 
@@ -276,17 +303,16 @@ fn spread(
     alloc: Global,
     writing: &Writing,
     claims: &mut [Claim],
+    facts: &mut Vec<Fact>,
     registers: u32,
     number: usize,
     block: &Block<u32>,
 ) -> Result<bool, AllocError> {
-    match known_at(alloc, claims, number)? {
-        Some(facts) => {
-            let mut facts = facts;
-            pass_lines(alloc, &mut facts, registers, block.lines.as_slice())?;
-            lead(alloc, writing, claims, &block.jump, facts.as_slice())
-        }
-        None => Ok(false),
+    if begin(claims, number, facts)? {
+        pass_lines(alloc, facts, registers, block.lines.as_slice())?;
+        lead(alloc, writing, claims, &block.jump, facts.as_slice())
+    } else {
+        Ok(false)
     }
 }
 
@@ -295,24 +321,25 @@ fn spread_all(
     alloc: Global,
     writing: &Writing,
     claims: &mut [Claim],
+    facts: &mut Vec<Fact>,
     registers: u32,
     blocks: &[Block<u32>],
 ) -> Result<bool, AllocError> {
     let mut changes = false;
     for (number, block) in blocks.iter().enumerate() {
-        changes = spread(alloc, writing, claims, registers, number, block)? || changes;
+        changes = spread(alloc, writing, claims, facts, registers, number, block)? || changes;
     }
     Ok(changes)
 }
 
 fn note_write(
-    writes: &mut [Vec<usize>],
+    writes: &mut [Few<usize>],
     number: usize,
     line: &Line<u32>,
 ) -> Result<(), AllocError> {
     if let Some(register) = line_writes(line) {
         if let Some(blocks) = writes.get_mut(register as usize) {
-            if blocks.last() != Some(&number) {
+            if blocks.as_slice().last() != Some(&number) {
                 blocks.push(number)?;
             }
         }
@@ -348,10 +375,10 @@ fn note_block(writing: &mut Writing, number: usize, block: &Block<u32>) -> Resul
     Ok(())
 }
 
-fn no_writes(alloc: Global, registers: u32) -> Result<Vec<Vec<usize>>, AllocError> {
+fn no_writes(alloc: Global, registers: u32) -> Result<Vec<Few<usize>>, AllocError> {
     let mut blocks = Vec::with_capacity(alloc, registers as usize)?;
     for _ in 0..registers {
-        blocks.push(Vec::new(alloc))?;
+        blocks.push(Few::new(alloc))?;
     }
     Ok(blocks)
 }
@@ -378,7 +405,10 @@ fn first_claims(alloc: Global, blocks: usize) -> Result<Vec<Claim>, AllocError> 
         } else {
             None
         };
-        claims.push(Claim { facts })?;
+        claims.push(Claim {
+            facts,
+            is_new: true,
+        })?;
     }
     Ok(claims)
 }
@@ -406,8 +436,16 @@ pub(crate) fn claims(
 ) -> Result<Vec<Seq<Fact>>, AllocError> {
     let mut claims = first_claims(alloc, blocks.len())?;
     let writing = writing_of(alloc, registers, blocks)?;
+    let mut facts = Vec::with_capacity(alloc, ROOM)?;
     for _ in 0..ROUNDS {
-        if !spread_all(alloc, &writing, claims.as_mut_slice(), registers, blocks)? {
+        if !spread_all(
+            alloc,
+            &writing,
+            claims.as_mut_slice(),
+            &mut facts,
+            registers,
+            blocks,
+        )? {
             break;
         }
     }

@@ -150,6 +150,9 @@ fn recomputed(facts: &[Fact], registers: u32, line: &Line<u32>) -> Option<Line<u
 pub(crate) fn changed(facts: &[Fact], registers: u32, line: &Line<u32>) -> Option<Line<u32>>
     ensures { IfSome result (λ m. Made registers facts.now line.now m) }
 {
+    if let Line::Tick { .. } = line {
+        return None;
+    }
     match copy(facts, registers, line) {
         Some(copy) => Some(copy),
         None => match recomputed(facts, registers, line) {
@@ -183,7 +186,7 @@ pub(crate) fn lines(
 ) -> Result<Vec<Line<u32>>, AllocError>
     ensures { IfOk result (λ v. (claims : List (List AFact)) (j : AJump ℕ) → LeadsWell claims facts.new.items j → AreReused registers claims facts.old.items from.now v.items j) }
 {
-    let mut all = Vec::new(alloc);
+    let mut all = Vec::with_capacity(alloc, from.len())?;
     for line in from {
         let made = made(alloc, facts.as_slice(), registers, line)?;
         pass(alloc, facts, &made)?;

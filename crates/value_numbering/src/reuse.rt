@@ -49,8 +49,9 @@ fn block(
 ) -> Result<Option<Block<u32>>, AllocError>
     ensures { IfOk result (λ o. IfSome o (λ d. IsReused registers claims.now number from.now d)) }
 {
-    let mut facts = Vec::new(alloc);
-    facts.extend_from_slice(claims_at(claims, number))?;
+    let known = claims_at(claims, number);
+    let mut facts = Vec::with_capacity(alloc, known.len().saturating_add(from.lines.len()))?;
+    facts.extend_from_slice(known)?;
     let lines = lines(alloc, &mut facts, registers, from.lines.as_slice())?;
     if !leads_well(claims, facts.as_slice(), &from.jump) {
         return Ok(None);

@@ -389,7 +389,7 @@ fn carried(
 ) -> Result<Vec<Fact>, AllocError>
     ensures { IfOk result (λ v. v.items ≡ carried increment line.now facts.now) }
 {
-    let mut all = Vec::new(alloc);
+    let mut all = Vec::with_capacity(alloc, facts.len())?;
     for fact in facts {
         let carried = carried_fact(increment, line, fact);
         push_fact(&mut all, carried)?;
@@ -405,9 +405,7 @@ fn carry(
 ) -> Result<(), AllocError>
     ensures { OnOk result (facts.new.items ≡ carried increment line.now facts.old.items) }
 {
-    let all = carried(alloc, increment, line, facts.as_slice())?;
-    facts.clear();
-    facts.extend_from_slice(all.as_slice())?;
+    *facts = carried(alloc, increment, line, facts.as_slice())?;
     Ok(())
 }
 
@@ -415,6 +413,17 @@ fn forget(facts: &mut Vec<Fact>, line: &Line<u32>)
     ensures { facts.new.items ≡ filter (stays line.now) facts.old.items }
 {
     facts.retain(|fact| stays(line, *fact));
+}
+
+/// Leaves what stays true over a line that computes nothing.
+#[tactic(auto, using(crate::proofs::Ticking::all_stay))]
+fn leave(facts: &mut Vec<Fact>, line: &Line<u32>)
+    ensures { facts.new.items ≡ filter (stays line.now) facts.old.items }
+{
+    match line {
+        Line::Tick { .. } => {}
+        _ => forget(facts, line),
+    }
 }
 
 /// Leaves what stays true over a line, which may add a number to a register.
@@ -488,7 +497,7 @@ pub(crate) fn pass(alloc: Global, facts: &mut Vec<Fact>, line: &Line<u32>) -> Re
     match computed(line) {
         Some(fact) => pass_over(alloc, facts, line, &fact),
         None => {
-            forget(facts, line);
+            leave(facts, line);
             Ok(())
         }
     }

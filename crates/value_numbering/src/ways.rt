@@ -83,7 +83,7 @@ fn is_of_copies(facts: &[Fact], wanted: &Fact) -> bool
 }
 
 /// Whether it is worth to look for it of registers that are no copies.
-fn is_linear(value: Expression) -> bool {
+pub(crate) fn is_linear(value: Expression) -> bool {
     match value {
         Expression::Linear(_, _, _, _) => true,
         _ => false,

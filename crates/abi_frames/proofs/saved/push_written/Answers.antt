@@ -1,6 +1,7 @@
-use Rattle.std.proofs.Common.{arith}
-use Rattle.std.proofs.lemmas.Grind.{common_steps}
+use Rattle.std.proofs.Common.{◌∙◌, ap}
+use Rattle.abi_frames.specs.Marked.{is_marked}
+use Rattle.abi_frames.proofs.Marking.{unmarked}
 use Rattle.abi_frames.proofs.saved.push_written.Goals as goal
 
-pub loop-number-preserved : goal.loop-number-preserved
-loop-number-preserved c = grind (arith, common_steps)
+pub push_by_marks-requires-clause-none : goal.push_by_marks-requires-clause-none
+push_by_marks-requires-clause-none c = λ n low. ap (λ marks. is_marked marks n) c.as_mut_slice.ensures.value ∙ unmarked 32 n

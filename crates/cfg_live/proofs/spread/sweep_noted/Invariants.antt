@@ -1,6 +1,6 @@
 use Rattle.std.proofs.Common.{◌≡◌}
 use Rattle.cfg_live.specs.Rows.{Went}
-use Rattle.cfg_live.proofs.spread.sweep_listed.Given as goal
+use Rattle.cfg_live.proofs.spread.sweep_noted.Given as goal
 
 abbrev pub invariant-loop-point : goal.invariant-loop-point
 invariant-loop-point l =
