@@ -11,11 +11,18 @@ enum Visit {
     Left,
 }
 
+/// A point on a walk's way, and how many of those that come next it hasn't looked at.
+#[derive(Clone, Copy)]
+struct Step {
+    point: usize,
+    ahead: usize,
+}
+
 /// A walk through the graph, depth first: the way to where it stands, the points that it left, in that order, and those to which ways led back.
 #[derive(Drop)]
 struct Walk {
     visits: Vec<Visit>,
-    way: Vec<usize>,
+    way: Vec<Step>,
     left: Vec<usize>,
     is_head: Vec<bool>,
 }
@@ -36,10 +43,14 @@ fn mark(visits: &mut [Visit], point: usize, visit: Visit) {
     }
 }
 
-fn enter(walk: &mut Walk, point: usize) -> Result<(), AllocError> {
+fn enter(walk: &mut Walk, edges: &[Few<usize>], point: usize) -> Result<(), AllocError> {
     if walk.visits.get(point) == Some(&Visit::New) {
         mark(walk.visits.as_mut_slice(), point, Visit::Open);
-        walk.way.push(point)?;
+        let ahead = match edges.get(point) {
+            Some(next) => next.as_slice().len(),
+            None => 0,
+        };
+        walk.way.push(Step { point, ahead })?;
     }
     Ok(())
 }
@@ -51,48 +62,45 @@ fn note_head(is_head: &mut [bool], point: usize) {
     }
 }
 
-/// The last of these points that wasn't entered. Those behind it that the walk stands in are heads.
-fn unseen(visits: &[Visit], is_head: &mut [bool], points: &[usize]) -> Option<usize> {
-    for point in points.iter().rev() {
-        match visits.get(*point) {
-            Some(Visit::New) => return Some(*point),
-            Some(Visit::Open) => note_head(is_head, *point),
+/// The last of these points that wasn't entered, behind how many of them it stands. Those behind it that the walk stands in are heads.
+fn unseen(visits: &[Visit], is_head: &mut [bool], points: &[usize]) -> Option<(usize, usize)> {
+    for at in (0..points.len()).rev() {
+        match visits.get(points[at]) {
+            Some(Visit::New) => return Some((points[at], at)),
+            Some(Visit::Open) => note_head(is_head, points[at]),
             _ => {}
         }
     }
     None
 }
 
-/// The next point on a way from this one.
-fn next_of(walk: &mut Walk, edges: &[Few<usize>], point: usize) -> Option<usize> {
-    match edges.get(point) {
-        Some(next) => unseen(
-            walk.visits.as_slice(),
-            walk.is_head.as_mut_slice(),
-            next.as_slice(),
-        ),
-        None => None,
-    }
+/// The next point on a way from where the walk stands, and how many that come next are then left to look at.
+fn next_of(walk: &mut Walk, edges: &[Few<usize>], step: Step) -> Option<(usize, usize)> {
+    let next = edges.get(step.point)?.as_slice().get(..step.ahead)?;
+    unseen(walk.visits.as_slice(), walk.is_head.as_mut_slice(), next)
 }
 
-/// Goes on from the point where the walk stands, or leaves it.
-fn pass(walk: &mut Walk, edges: &[Few<usize>], point: usize) -> Result<(), AllocError> {
-    match next_of(walk, edges, point) {
-        Some(next) => enter(walk, next),
+/// Goes on from where the walk stands, or leaves it.
+fn pass(walk: &mut Walk, edges: &[Few<usize>], step: Step) -> Result<(), AllocError> {
+    match next_of(walk, edges, step) {
+        Some((next, ahead)) => {
+            let point = step.point;
+            walk.way.push(Step { point, ahead })?;
+            enter(walk, edges, next)
+        }
         None => {
-            let _left = walk.way.pop();
-            mark(walk.visits.as_mut_slice(), point, Visit::Left);
-            walk.left.push(point)?;
+            mark(walk.visits.as_mut_slice(), step.point, Visit::Left);
+            walk.left.push(step.point)?;
             Ok(())
         }
     }
 }
 
 fn walk_from(walk: &mut Walk, edges: &[Few<usize>], point: usize) -> Result<(), AllocError> {
-    enter(walk, point)?;
+    enter(walk, edges, point)?;
     for _ in 0..u64::MAX {
-        match walk.way.last().copied() {
-            Some(point) => pass(walk, edges, point)?,
+        match walk.way.pop() {
+            Some(step) => pass(walk, edges, step)?,
             None => return Ok(()),
         }
     }
