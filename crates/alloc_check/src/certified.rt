@@ -72,8 +72,8 @@ fn certified_block(
     requires { jump_point first block.now.lines < 2 ^ 64 }
     ensures { IfOk result (λ b. b ≡ certified_block certificate.now first block.now) }
 {
-    let mut lines = Seq::new(alloc);
     let from = block.lines.as_slice();
+    let mut lines = Seq::from_vec(Vec::with_capacity(alloc, from.len())?);
     push_lines(alloc, &mut lines, certificate, first, from)?;
     let places = By {
         equalities: places_at(certificate, jump_point(first, from)),
@@ -140,7 +140,7 @@ pub(crate) fn certified(
         code.params.as_slice(),
         certificate.params.as_slice(),
     )?;
-    let mut blocks = Seq::new(alloc);
+    let mut blocks = Seq::from_vec(Vec::with_capacity(alloc, code.blocks.len())?);
     push_blocks(alloc, &mut blocks, certificate, code.blocks.as_slice())?;
     Ok(Code {
         result: code.result,
