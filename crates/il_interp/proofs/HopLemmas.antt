@@ -70,9 +70,6 @@ ends p f b j label old new hj leads goes st hs =
 
 -- ---- turns
 
-pub stays_there : (p : Program) (old : Frame) → GoesAlong p old 0 old
-stays_there p old st hs n = let none : 0 + n ≡ n = omega arith in ap (λ k. machine p k st) none ∙ ap (λ (fr : Frame). machine p n (standing_in st fr)) hs
-
 pub along_further : (p : Program) (one two three : Frame) (x y : ℕ) → GoesAlong p one x two → GoesAlong p two y three → GoesAlong p one (x + y) three
 along_further p one two three x y g h st hs n =
     let count : x + y + n ≡ x + (y + n) = omega arith in
