@@ -1,6 +1,11 @@
-//! How fast the parts of qbec are.
+//! The test bench: what the steps of the compiler make of texts, what programs do in every way, and how fast the parts are.
 //!
-//! `bench` alone does a little of each, and says what came of it. `bench table` prints the table of the README with the time of each row. `bench examples`
+//! `bench` alone tries all of that, with a little of each measure, and says what came of it. `bench steps` tries the tables of the steps, `data/steps/STEP.cases`; with
+//! words those of the steps that are named. `bench steps watch FILE` prints what each step makes of the only function of a text. `bench programs` tries the programs of
+//! `data/programs.cases` in every way, `data/files.cases`, `data/lines.cases` and random programs; with words the groups that are named, and `bench programs random N SEED`
+//! N random programs (`small_functions` likewise).
+//!
+//! `bench table` prints the table of the README with the time of each row. `bench examples`
 //! prints for each program of examples/ that ends how many instructions its executable takes on the machine, and how many turns the program takes; a further word is the
 //! folder of the texts, where that isn't `../../examples`. `bench accepted FILE...` says of each text how many certificates of linear scan the checker refuses, and how
 //! many operands stand in slots. Else the words are a measure, a kind and a size, and the time is printed behind what came of it:
@@ -34,9 +39,11 @@ use crate::interpreter::{Turns, interpret_turns};
 use crate::liveness::{joins, live_at_first};
 use crate::machine::run_machine;
 use crate::texts::{Shape, text_of};
+use end_to_end::programs_told;
 use std::alloc::{AllocError, Global};
 use std::time::Instant;
 use std::{env, fs, io};
+use step_by_step::steps_told;
 
 /// A measure, a kind and a size, for each part.
 const LITTLE: [(&str, &str, u64); 12] = [
@@ -240,17 +247,27 @@ fn word(words: &[String], k: usize) -> &str {
     }
 }
 
+/// How the tables of steps and of programs came out, and a little of each measure.
+fn print_all(rt: &HostRuntime) -> io::Result<()> {
+    print!(rt; "{}", steps_told(rt, &[])?)?;
+    print!(rt; "{}", programs_told(rt, &[])?)?;
+    print_rows(rt, &LITTLE, false)
+}
+
 /// Does what the words ask for.
 fn perform(rt: &HostRuntime, words: &[String]) -> io::Result<()> {
     let last = words.len().saturating_sub(1);
     let size = word(words, last).parse::<u64>().unwrap_or(10);
     let kind = word(words, 1);
+    let rest = words.get(1..).unwrap_or(&[]);
     match word(words, 0) {
-        "" => print_rows(rt, &LITTLE, false),
+        "" => print_all(rt),
+        "steps" => print!(rt; "{}", steps_told(rt, rest)?),
+        "programs" => print!(rt; "{}", programs_told(rt, rest)?),
         "table" => print_rows(rt, &TABLE, true),
         "examples" if kind.is_empty() => print_examples(rt, "../../examples"),
         "examples" => print_examples(rt, kind),
-        "accepted" => print_accepted(rt, words.get(1..).unwrap_or(&[])),
+        "accepted" => print_accepted(rt, rest),
         "text" => print_text(rt, kind, size),
         measure => print_row(rt, measure, kind, size, true),
     }

@@ -1,8 +1,10 @@
-//! Programs in every way: by the interpreter, compiled with every kind of strategy and run over both kinds of memory, and by the commands.
+//! # Programs in every way
 //!
-//! The programs stand in `data/programs.cases`, with what is known of each from outside; `data/files.cases` has changes of an executable file, with their
-//! refusals, and `data/lines.cases` what is shown for words of the command line. The program prints a line for each case that fails, a line for each group, and how many cases there are. Without words it runs all groups; with
-//! words those that are named, of the table's and of these: `strategies`, `prefixes`, `files`, `lines`, `devices`, `sizes`, `random`, `small_functions`. `random N SEED` and `small_functions N SEED` run N random programs.
+//! By the interpreter, compiled with every kind of strategy and run over both kinds of memory, and by the commands.
+//!
+//! The programs stand in `programs.cases`, with what is known of each from outside; `files.cases` has changes of an executable file, with their refusals, and `lines.cases`
+//! what is shown for words of the command line: in the folder where the program that asks for them runs, which is `crates/bench`, whose `data` holds them.
+//! [`programs_told`] says how each came out.
 #![tactic(auto)]
 
 mod broken_disk;
@@ -25,9 +27,9 @@ mod told;
 mod watched;
 
 use crate::table::CaseTable;
-use std::alloc::AllocError;
+use std::alloc::{AllocError, Global};
 use std::rt::Files;
-use std::{env, fs, io, str};
+use std::{fs, io, str};
 use test_report::report::Report;
 
 /// How many random programs there are, where no words say.
@@ -38,36 +40,29 @@ const SMALL: u64 = 40;
 
 /// What the words ask for.
 #[derive(Drop)]
-struct Asked {
-    groups: Vec<String>,
+struct Asked<'a> {
+    groups: Vec<&'a str>,
     count: Option<u64>,
     seed: u64,
 }
 
-impl Asked {
+impl<'a> Asked<'a> {
     fn has(&self, group: &str) -> bool {
-        self.groups.is_empty() || self.groups.iter().any(|g| g.as_str() == group)
+        self.groups.is_empty() || self.groups.iter().any(|asked| *asked == group)
     }
 }
 
-fn words_asked(rt: &HostRuntime) -> io::Result<Asked> {
+fn words_asked<'a>(alloc: Global, words: &'a [String]) -> Result<Asked<'a>, AllocError> {
     let mut asked = Asked {
-        groups: Vec::new(rt.alloc()),
+        groups: Vec::new(alloc),
         count: None,
         seed: 1,
     };
-    let mut numbers = 0u8;
-    for word in env::args(rt)?.skip(1) {
+    for word in words {
         match word.as_str().parse::<u64>() {
-            Ok(number) => {
-                if numbers == 0 {
-                    asked.count = Some(number);
-                } else {
-                    asked.seed = number;
-                }
-                numbers = 1;
-            }
-            Err(_) => asked.groups.push(word)?,
+            Ok(seed) if asked.count.is_some() => asked.seed = seed,
+            Ok(count) => asked.count = Some(count),
+            Err(_) => asked.groups.push(word.as_str())?,
         }
     }
     Ok(asked)
@@ -84,7 +79,11 @@ fn table_of<R: Files + AllocGlobal>(rt: &R) -> io::Result<CaseTable> {
     Ok(table)
 }
 
-fn check_table(table: &CaseTable, asked: &Asked, report: &mut Report) -> Result<(), AllocError> {
+fn check_table(
+    table: &CaseTable,
+    asked: &Asked<'_>,
+    report: &mut Report,
+) -> Result<(), AllocError> {
     for case in &table.cases {
         if asked.has(case.group.as_str()) {
             report.enter(case.group.as_str())?;
@@ -94,7 +93,7 @@ fn check_table(table: &CaseTable, asked: &Asked, report: &mut Report) -> Result<
     Ok(())
 }
 
-fn check_rest(table: &CaseTable, asked: &Asked, report: &mut Report) -> Result<(), AllocError> {
+fn check_rest(table: &CaseTable, asked: &Asked<'_>, report: &mut Report) -> Result<(), AllocError> {
     if asked.has("strategies") {
         report.enter("strategies")?;
         hostile::check(table.cases.as_slice(), report)?;
@@ -122,20 +121,27 @@ fn check_rest(table: &CaseTable, asked: &Asked, report: &mut Report) -> Result<(
     Ok(())
 }
 
-fn main(rt: HostRuntime) -> io::Result<()> {
-    let asked = words_asked(&rt)?;
-    let table = table_of(&rt)?;
+/// What is told of programs: a line for each case that fails, a line for each group that the words name, or for all where they name none, and how many cases there are. The
+/// groups are those of the table and `strategies`, `prefixes`, `files`, `lines`, `devices`, `sizes`, `random` and `small_functions`. Numbers among the words say how
+/// many random programs there are, and then their seed.
+///
+/// # Errors
+///
+/// Where a table can't be read, or memory was refused.
+pub fn programs_told<R: Files + AllocGlobal>(rt: &R, words: &[String]) -> io::Result<String> {
+    let asked = words_asked(rt.alloc(), words)?;
+    let table = table_of(rt)?;
     let mut report = Report::new(rt.alloc());
     check_table(&table, &asked, &mut report)?;
     if asked.has("files") {
         report.enter("files")?;
-        files::check(&rt, table.cases.as_slice(), &mut report)?;
+        files::check(rt, table.cases.as_slice(), &mut report)?;
     }
     if asked.has("lines") {
         report.enter("lines")?;
-        lines::check(&rt, &mut report)?;
+        lines::check(rt, &mut report)?;
     }
     check_rest(&table, &asked, &mut report)?;
     report.finish()?;
-    print!(rt; "{}", report.text.as_str())
+    Ok(report.text)
 }

@@ -1,7 +1,7 @@
-//! Each step by itself: texts, and what a step of the compiler makes of them as texts.
+//! # Each step by itself
 //!
-//! A step has its table of cases, `data/STEP.cases`. The program prints a line for each case that fails, a line for each step, and how many cases there are. Without words
-//! it goes through all steps; with words those that are named. With the words `watch FILE` it prints instead what each step makes of the only function of a text.
+//! Texts, and what a step of the compiler makes of them as texts. A step has its table of cases, `steps/STEP.cases` in the folder where the program that asks for them
+//! runs: `crates/bench`, whose `data` holds them. [`steps_told`] says how each came out.
 #![tactic(auto)]
 
 mod allocation;
@@ -32,7 +32,7 @@ use crate::watch::watched;
 use code_text::function::is_same;
 use std::alloc::AllocError;
 use std::rt::Files;
-use std::{env, fs, io, str};
+use std::{fs, io, str};
 use test_report::report::Report;
 
 fn check_case(step: Step, case: Case<'_>, report: &mut Report) -> Result<(), AllocError> {
@@ -61,7 +61,7 @@ fn check_table(step: Step, table: &str, report: &mut Report) -> Result<(), Alloc
 
 fn check_step<R: Files + AllocGlobal>(rt: &R, step: Step, report: &mut Report) -> io::Result<()> {
     let name = step.name();
-    let path = format!(in rt.alloc(); "{name}.cases")?;
+    let path = format!(in rt.alloc(); "steps/{name}.cases")?;
     let bytes = fs::read(rt, path.as_str())?;
     let table = str::from_utf8(bytes.as_slice()).unwrap_or("");
     check_table(step, table, report)?;
@@ -90,11 +90,15 @@ fn checked_steps<R: Files + AllocGlobal>(rt: &R, names: &[String]) -> io::Result
     Ok(report.text)
 }
 
-fn main(rt: HostRuntime) -> io::Result<()> {
-    let words: Vec<String> = env::args(&rt)?.skip(1).collect(rt.alloc())?;
-    let shown = match words.as_slice() {
-        [command, path] if command.as_str() == "watch" => watched_file(&rt, path.as_str())?,
-        names => checked_steps(&rt, names)?,
-    };
-    print!(rt; "{}", shown.as_str())
+/// What is told of steps: with the words `watch FILE` what each step makes of the only function of a text, else a line for each case that fails, a line for each step that
+/// is named (or for all where none is), and how many cases there are.
+///
+/// # Errors
+///
+/// Where a table or the file can't be read, the text has not one function, or memory was refused.
+pub fn steps_told<R: Files + AllocGlobal>(rt: &R, words: &[String]) -> io::Result<String> {
+    match words {
+        [command, path] if command.as_str() == "watch" => watched_file(rt, path.as_str()),
+        names => checked_steps(rt, names),
+    }
 }
