@@ -1,5 +1,8 @@
 -- A command with one more subcommand or argument.
 use Rattle.std.proofs.Common.{◌∙◌, ◌||◌, ap, ap₂}
+use Rattle.std.specs.Prelude.{IfOk, Result}
+use Rattle.std.specs.declared.alloc.AllocError.{AllocError}
+use Rattle.std.proofs.lemmas.Result.{IfOk-weaker}
 use Rattle.clap.specs.Simple.{App, with_rule, with_subcommand}
 use Rattle.clap.specs.Built.{AddsArg, AddsSubcommand}
 use Rattle.clap.specs.Walk.{Rule}
@@ -14,3 +17,8 @@ one_more old sub new a b adds is sub_is =
 pub one_argument : (old new : Command) (argument : Arg) (a : App) (r : Rule) → AddsArg old argument new → IsRead old a → IsRuled argument r → IsRead new (with_rule a r)
 one_argument old new argument a r adds is ruled =
     (adds.shape ruled.1 ∙ ap₂ with_rule is.0 ruled.0, adds.globals ∙ ap₂ (λ x y. x || y) is.1 ruled.1)
+
+-- where there was memory for it
+pub last_argument : (old : Command) (argument : Arg) (result : Result Command AllocError) (a : App) (r : Rule) → IfOk result (λ c. AddsArg old argument c) → IsRead old a → IsRuled argument r
+    → IfOk result (λ c. IsRead c (with_rule a r))
+last_argument old argument result a r adds is ruled = IfOk-weaker result _ _ (λ c h. one_argument old c argument a r h is ruled) adds

@@ -117,9 +117,3 @@ abbrev pub HasSubcommand : (program command result : Result Command AllocError) 
 HasSubcommand program command result =
     (a b : App) → IfOk program (λ c. IsRead c a) → IfOk command (λ c. IsRead c b)
     → IfOk result (λ c. IsRead c (with_subcommand a b.top))
-
--- where there was memory for all, this is the command with the argument
-abbrev pub HasArgument : (command : Result Command AllocError) → Arg → (result : Result Command AllocError) → Type 0
-HasArgument command argument result =
-    (a : App) (r : Rule) → IfOk command (λ c. IsRead c a) → IsRuled argument r
-    → IfOk result (λ c. IsRead c (with_rule a r))

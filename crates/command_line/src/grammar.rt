@@ -1,8 +1,10 @@
 //! The grammar of the command line.
-ghost use Rattle.std.specs.Prelude.{IfOk, List, ℕ};
-ghost use Rattle.clap.specs.Simple.{new_app};
-ghost use Rattle.command_line.specs.Grammar.{HasArgument, HasSubcommand, IsRead, IsRuled, build_app, check_app, dis_app, executables_app, files_rule, interp_app, last_rule, limit_rule, out_rule, path_rule, program_app, qbec_app, run_app, running_app, showing_app, symbols_app, trace_app, words_rule, working_app};
+ghost use Rattle.std.specs.Prelude.{[], ◌∷◌, IfOk, List, Ok, Some, ℕ};
+ghost use Rattle.clap.specs.Simple.{new_app, new_rule, with_rule};
+ghost use Rattle.clap.specs.Walk.{Rule};
+ghost use Rattle.command_line.specs.Grammar.{HasSubcommand, IsRead, IsRuled, build_app, check_app, dis_app, files_rule, interp_app, last_rule, limit_rule, out_rule, path_rule, program_app, qbec_app, run_app, running_app, symbols_app, trace_app, words_rule};
 
+use clap::builder::ValueParser;
 use clap::{Arg, Command, value_parser};
 use std::alloc::{AllocError, Global};
 
@@ -70,58 +72,32 @@ Example: qbec trace --limit 100000 --last 5 examples/endless.ssa -- word";
 pub(crate) fn grammar<'a>(alloc: Global) -> Result<Command<'a>, AllocError>
     ensures { IfOk result (λ c. IsRead c qbec_app) }
 {
-    with_subcommand(showing(alloc), trace(alloc))
+    let program = with_subcommand(program(alloc)?, build(alloc))?;
+    let program = with_subcommand(program, run(alloc))?;
+    let program = with_subcommand(program, interp(alloc))?;
+    let program = with_subcommand(program, dis(alloc))?;
+    let program = with_subcommand(program, check(alloc))?;
+    let program = with_subcommand(program, symbols(alloc))?;
+    with_subcommand(program, trace(alloc))
 }
 
-/// The program, with all commands but the one that traces.
-fn showing<'a>(alloc: Global) -> Result<Command<'a>, AllocError>
-    ensures { IfOk result (λ c. IsRead c showing_app) }
-{
-    let working = with_subcommand(working(alloc), check(alloc));
-    with_subcommand(working, symbols(alloc))
-}
-
-/// The program, with the commands that make, run and show programs.
-fn working<'a>(alloc: Global) -> Result<Command<'a>, AllocError>
-    ensures { IfOk result (λ c. IsRead c working_app) }
-{
-    let executables = with_subcommand(executables(alloc), interp(alloc));
-    with_subcommand(executables, dis(alloc))
-}
-
-/// The program, with the commands that make and run executables.
-fn executables<'a>(alloc: Global) -> Result<Command<'a>, AllocError>
-    ensures { IfOk result (λ c. IsRead c executables_app) }
-{
-    let program = with_subcommand(program(alloc), build(alloc));
-    with_subcommand(program, run(alloc))
-}
-
-/// A program with one more command, where there was memory for both.
+/// A program with one more command, where there was memory for it.
 fn with_subcommand<'a>(
-    program: Result<Command<'a>, AllocError>,
+    program: Command<'a>,
     command: Result<Command<'a>, AllocError>,
 ) -> Result<Command<'a>, AllocError>
-    ensures { HasSubcommand program.entry command.entry result }
+    ensures { HasSubcommand (Ok program.entry) command.entry result }
 {
-    program?.subcommand(command?)
-}
-
-/// A command with one more argument, where there was memory for it.
-fn with_argument<'a>(
-    command: Result<Command<'a>, AllocError>,
-    argument: Arg<'a>,
-) -> Result<Command<'a>, AllocError>
-    ensures { HasArgument command.entry argument.entry result }
-{
-    command?.arg(argument)
+    program.subcommand(command?)
 }
 
 /// The program, without its commands.
 fn program<'a>(alloc: Global) -> Result<Command<'a>, AllocError>
     ensures { IfOk result (λ c. IsRead c program_app) }
 {
-    titled(alloc, "qbec", COMPILES, STATUSES)
+    Command::new(alloc, "qbec")
+        .about(COMPILES)
+        .after_help(STATUSES)
         .version("1.0")
         .no_binary_name(true)
         .subcommand_required(true)
@@ -129,81 +105,87 @@ fn program<'a>(alloc: Global) -> Result<Command<'a>, AllocError>
         .bin_name("qbec")
 }
 
-/// A command of this name, with what its help says above and below its arguments.
-fn titled<'a>(alloc: Global, name: &'a str, about: &'a str, help: &'a str) -> Command<'a>
-    ensures { IsRead result (new_app name.now) }
+/// A command of this name, with what its help says above and below its arguments, and with its first argument.
+fn command<'a>(
+    alloc: Global,
+    name: &'a str,
+    about: &'a str,
+    help: &'a str,
+    first: Arg<'a>,
+) -> Result<Command<'a>, AllocError>
+    ensures { (r : Rule) → IsRuled first.entry r → IfOk result (λ c. IsRead c (with_rule (new_app name.now) r)) }
 {
-    Command::new(alloc, name).about(about).after_help(help)
+    Command::new(alloc, name)
+        .about(about)
+        .after_help(help)
+        .arg(first)
 }
 
 fn build<'a>(alloc: Global) -> Result<Command<'a>, AllocError>
     ensures { IfOk result (λ c. IsRead c build_app) }
 {
     let about = "Compiles texts to an executable file";
-    let command = titled(alloc, "build", about, BUILD).arg(out(alloc));
-    with_argument(command, files(alloc))
+    command(alloc, "build", about, BUILD, out(alloc))?.arg(files(alloc))
 }
 
-/// A command that runs a program within a limit: it with its arguments.
+/// A command that runs a program within a limit: it with its other arguments.
 fn running<'a>(
     alloc: Global,
     command: Command<'a>,
-    limit_help: &'a str,
     file: &'a str,
     file_help: &'a str,
 ) -> Result<Command<'a>, AllocError>
-    ensures { (name : List ℕ) → IsRead command.entry (new_app name) → IfOk result (λ c. IsRead c (running_app name file.now)) }
+    ensures { (name : List ℕ) → IsRead command.entry (with_rule (new_app name) limit_rule) → IfOk result (λ c. IsRead c (running_app name file.now)) }
 {
-    let command = command.arg(limit(alloc, limit_help));
-    let command = with_argument(command, path(alloc, file, file_help));
-    with_argument(command, words(alloc))
+    command.arg(path(alloc, file, file_help))?.arg(words(alloc))
 }
 
 fn run<'a>(alloc: Global) -> Result<Command<'a>, AllocError>
     ensures { IfOk result (λ c. IsRead c run_app) }
 {
-    let command = titled(alloc, "run", "Runs an executable file", RUN);
-    let steps = "How many instructions to run at most";
-    running(alloc, command, steps, EXECUTABLE, "The executable file")
+    let limit = limit(alloc, "How many instructions to run at most");
+    let command = command(alloc, "run", "Runs an executable file", RUN, limit)?;
+    running(alloc, command, EXECUTABLE, "The executable file")
 }
 
 fn interp<'a>(alloc: Global) -> Result<Command<'a>, AllocError>
     ensures { IfOk result (λ c. IsRead c interp_app) }
 {
-    let command = titled(alloc, "interp", "Interprets one text", INTERPRET);
-    let steps = "How many turns to take at most";
-    running(alloc, command, steps, TEXT, "The text of the program")
+    let limit = limit(alloc, "How many turns to take at most");
+    let command = command(alloc, "interp", "Interprets one text", INTERPRET, limit)?;
+    running(alloc, command, TEXT, "The text of the program")
 }
 
 fn dis<'a>(alloc: Global) -> Result<Command<'a>, AllocError>
     ensures { IfOk result (λ c. IsRead c dis_app) }
 {
     let about = "Shows the instructions of an executable file";
-    titled(alloc, "dis", about, DISASSEMBLE).arg(path(alloc, EXECUTABLE, "The executable file"))
+    let file = path(alloc, EXECUTABLE, "The executable file");
+    command(alloc, "dis", about, DISASSEMBLE, file)
 }
 
 fn check<'a>(alloc: Global) -> Result<Command<'a>, AllocError>
     ensures { IfOk result (λ c. IsRead c check_app) }
 {
     let about = "Says what is wrong with texts, and where";
-    titled(alloc, "check", about, CHECK).arg(files(alloc))
+    command(alloc, "check", about, CHECK, files(alloc))
 }
 
 fn symbols<'a>(alloc: Global) -> Result<Command<'a>, AllocError>
     ensures { IfOk result (λ c. IsRead c symbols_app) }
 {
     let about = "Shows where the names of texts stand in their executable";
-    titled(alloc, "symbols", about, SYMBOLS).arg(files(alloc))
+    command(alloc, "symbols", about, SYMBOLS, files(alloc))
 }
 
 fn trace<'a>(alloc: Global) -> Result<Command<'a>, AllocError>
     ensures { IfOk result (λ c. IsRead c trace_app) }
 {
     let about = "Interprets texts, and says where and why they ended";
-    let command = titled(alloc, "trace", about, TRACE);
-    let command = command.arg(limit(alloc, "How many turns to take at most"));
-    let command = with_argument(command, last(alloc));
-    with_argument(command, files(alloc))
+    let limit = limit(alloc, "How many turns to take at most");
+    command(alloc, "trace", about, TRACE, limit)?
+        .arg(last(alloc))?
+        .arg(files(alloc))
 }
 
 fn out<'a>(alloc: Global) -> Arg<'a>
@@ -231,26 +213,35 @@ fn path<'a>(alloc: Global, name: &'a str, help: &'a str) -> Arg<'a>
     Arg::new(alloc, name).required(true).help(help)
 }
 
+/// An option of this name, a number that help calls `value`.
+fn number<'a>(
+    alloc: Global,
+    name: &'a str,
+    value: &'a str,
+    parser: ValueParser<'a>,
+    default: &'a str,
+) -> Arg<'a>
+    ensures { IsRuled result (record (new_rule name.now) { long = Some name.now; value_names = 1; parser = Some parser.entry; defaults = default.now ∷ [] }) }
+{
+    Arg::new(alloc, name)
+        .long(name)
+        .value_name(value)
+        .value_parser(parser)
+        .default_value(default)
+}
+
 fn limit<'a>(alloc: Global, help: &'a str) -> Arg<'a>
     ensures { IsRuled result limit_rule }
 {
-    Arg::new(alloc, LIMIT)
-        .long("limit")
-        .value_name("N")
-        .value_parser(value_parser!(u64).range(0..=1_000_000_000_000))
-        .default_value("1000000000")
-        .help(help)
+    let parser = value_parser!(u64).range(0..=1_000_000_000_000);
+    number(alloc, LIMIT, "N", parser, "1000000000").help(help)
 }
 
 fn last<'a>(alloc: Global) -> Arg<'a>
     ensures { IsRuled result last_rule }
 {
-    Arg::new(alloc, LAST)
-        .long("last")
-        .value_name("K")
-        .value_parser(value_parser!(u64).range(0..=1_000))
-        .default_value("0")
-        .help("How many turns before the last one to show")
+    let parser = value_parser!(u64).range(0..=1_000);
+    number(alloc, LAST, "K", parser, "0").help("How many turns before the last one to show")
 }
 
 fn words<'a>(alloc: Global) -> Arg<'a>

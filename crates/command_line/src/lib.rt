@@ -21,7 +21,6 @@ use crate::asked::asked;
 use crate::grammar::grammar;
 pub use crate::refusal::Refusal;
 use clap::ArgMatches;
-use clap::error::ErrorKind;
 use std::alloc::{AllocError, Global};
 
 /// What the user asks for.
@@ -85,9 +84,9 @@ pub fn command_of<'a>(alloc: Global, words: &'a [&'a str]) -> Result<Command<'a>
 {
     let (read, handed) = split(words);
     let matches = matches_of(alloc, read)?;
-    match asked_in(alloc, &matches, handed)? {
+    match asked_in(alloc, matches, handed)? {
         Some(command) => Ok(command),
-        None => Err(no_command(alloc)?),
+        None => unreachable!(),
     }
 }
 
@@ -142,20 +141,14 @@ fn matches_of<'a>(alloc: Global, words: &'a [&'a str]) -> Result<ArgMatches<'a>,
 /// What the subcommand asks for, where there is one.
 fn asked_in<'a>(
     alloc: Global,
-    matches: &ArgMatches<'a>,
+    matches: ArgMatches<'a>,
     handed: &[&'a str],
 ) -> Result<Option<Command<'a>>, AllocError>
-    ensures asks { IfOk result (AsksIn (subcommand_rows_of matches.now)) }
+    ensures asks { IfOk result (AsksIn (subcommand_rows_of matches.entry)) }
     ensures hands { IfOk result (MayHandOn (map (λ w. w.now) handed.now)) }
 {
     match matches.subcommand() {
         Some((name, found)) => asked(alloc, name, found, handed),
         None => Ok(None),
     }
-}
-
-// The words have a fault where they name no command, so this isn't come to.
-fn no_command(alloc: Global) -> Result<Refusal, AllocError> {
-    let error = grammar(alloc)?.error(ErrorKind::MissingSubcommand, "no command was given")?;
-    Ok(Refusal::from(error))
 }

@@ -7,6 +7,7 @@ use crate::unassigned::{Unassigned, take_out};
 use bitset::BitSet;
 use il_ast::block::Block;
 use il_ast::function::Func;
+use il_ast::instruction::{Inst, Lined};
 use il_ast::operand::Val;
 use il_ast::temp::Temp;
 use std::alloc::{AllocError, Global};
@@ -21,65 +22,103 @@ pub fn push_reads(
     flow: &Flow<'_>,
     reached: &[bool],
 ) -> Result<(), AllocError> {
-    let mut sets = Unassigned::of(alloc, function, flow)?;
-    for (line, temp) in &reads(alloc, function, flow, &mut sets, reached)? {
-        let mut words = TextMaker::new(alloc);
-        add_temp(&mut words, function, *temp);
-        words.add(" may be read before it is assigned");
-        found.push(make_note(text, *line, words)?)?;
+    let reads = reads(alloc, function, flow, reached)?;
+    push_first(alloc, found, text, function, reads.as_slice())
+}
+
+/// Each of these temporaries once, with its first line.
+fn push_first(
+    alloc: Global,
+    found: &mut Vec<Note>,
+    text: usize,
+    function: &Func,
+    reads: &[(usize, Temp)],
+) -> Result<(), AllocError> {
+    let mut told = BitSet::new(alloc, function.temps.len())?;
+    for (line, temp) in reads {
+        if !is_in(&told, *temp) {
+            put_in(&mut told, *temp);
+            push_read(alloc, found, text, function, *line, *temp)?;
+        }
     }
     Ok(())
 }
 
-/// Each such temporary once, with the line.
+fn push_read(
+    alloc: Global,
+    found: &mut Vec<Note>,
+    text: usize,
+    function: &Func,
+    line: usize,
+    temp: Temp,
+) -> Result<(), AllocError> {
+    let mut words = TextMaker::new(alloc);
+    add_temp(&mut words, function, temp);
+    words.add(" may be read before it is assigned");
+    found.push(make_note(text, line, words)?)?;
+    Ok(())
+}
+
+/// The temporaries that blocks read unassigned, each time, with the line.
 fn reads(
     alloc: Global,
     function: &Func,
+    flow: &Flow<'_>,
+    reached: &[bool],
+) -> Result<Vec<(usize, Temp)>, AllocError> {
+    let mut sets = Unassigned::of(alloc, function, flow)?;
+    reads_by(alloc, flow, &mut sets, reached)
+}
+
+fn reads_by(
+    alloc: Global,
     flow: &Flow<'_>,
     sets: &mut Unassigned,
     reached: &[bool],
 ) -> Result<Vec<(usize, Temp)>, AllocError> {
     let mut found = Vec::new(alloc);
-    let mut told = BitSet::new(alloc, function.temps.len())?;
     for (place, block) in flow.blocks.iter().enumerate() {
         if reached.get(place) == Some(&true) {
-            for (line, temp) in &reads_in(alloc, flow, sets, place, block)? {
-                if !is_in(&told, *temp) {
-                    put_in(&mut told, *temp);
-                    found.push((*line, *temp))?;
-                }
-            }
+            push_reads_in(alloc, &mut found, flow, sets, place, block)?;
         }
     }
     Ok(found)
 }
 
 /// The temporaries that a block reads unassigned.
-fn reads_in(
+fn push_reads_in(
     alloc: Global,
+    found: &mut Vec<(usize, Temp)>,
     flow: &Flow<'_>,
     sets: &mut Unassigned,
     place: usize,
     block: &Block,
-) -> Result<Vec<(usize, Temp)>, AllocError> {
-    let mut found = Vec::new(alloc);
-    push_phi_reads(&mut found, flow, sets.left.as_slice(), block)?;
+) -> Result<(), AllocError> {
+    push_phi_reads(found, flow, sets.left.as_slice(), block)?;
     let Some(set) = sets.entered.get_mut(place) else {
-        return Ok(found);
+        return Ok(());
     };
     for phi in block.phis.as_slice() {
         let _ = take_out(set, phi.to.temp);
     }
     for inst in block.insts.as_slice() {
-        let mut values = Vec::new(alloc);
-        push_inst(&mut values, inst)?;
-        push_values(&mut found, set, values.as_slice())?;
+        push_inst_reads(alloc, found, set, inst)?;
         if let Some(to) = destination(&inst.item) {
             let _ = take_out(set, to.temp);
         }
     }
-    push_end(alloc, &mut found, set, block)?;
-    Ok(found)
+    push_end(alloc, found, set, block)
+}
+
+fn push_inst_reads(
+    alloc: Global,
+    found: &mut Vec<(usize, Temp)>,
+    set: &BitSet,
+    inst: &Lined<Inst>,
+) -> Result<(), AllocError> {
+    let mut values = Vec::new(alloc);
+    push_inst(&mut values, inst)?;
+    push_values(found, set, values.as_slice())
 }
 
 fn push_end(

@@ -54,6 +54,7 @@ fn found_in(alloc: Global, text: &[u8], left: &mut usize) -> Result<Text, Unread
     let mut reader = Reader::new(alloc, text);
     let found = tree(&mut reader, text);
     *left = reader.left_before();
+    drop(reader);
     found
 }
 

@@ -8,7 +8,7 @@ use crate::ranges::{
 };
 
 /// An instruction of RV64IM, with operands in range.
-#[derive(Clone, Copy, PartialEq, Eq)]
+#[derive(Clone, Copy)]
 pub enum Instr {
     /// `lui`: the field times 4096, with a sign.
     Lui {

@@ -9,7 +9,7 @@ use crate::relocation::Relocation;
 use std::marker::Model;
 
 /// An item of labelled code. The items of a function stand one after another; laying them out may use x31 for long jumps.
-#[derive(Clone, Copy, PartialEq, Eq)]
+#[derive(Clone, Copy)]
 pub enum Item {
     /// An instruction with known operands.
     Plain(Instr),

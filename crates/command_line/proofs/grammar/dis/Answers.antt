@@ -1,9 +1,6 @@
 use Rattle.std.proofs.Common.{codes}
-use Rattle.std.proofs.lemmas.Result.{IfOk-weaker}
-use Rattle.clap.specs.Simple.{new_app}
 use Rattle.command_line.specs.Grammar.{path_rule}
-use Rattle.command_line.proofs.Adding.{one_argument}
 use Rattle.command_line.proofs.grammar.dis.Goals as goal
 
 pub returns : goal.returns
-returns c = IfOk-weaker c.arg.result _ _ (λ r h. one_argument _ _ _ (new_app (codes "dis")) (path_rule (codes "EXE")) h c.titled.ensures c.path.ensures) c.arg.ensures
+returns c = c.command.ensures (path_rule (codes "EXE")) c.path-file.ensures

@@ -1,4 +1,5 @@
 use Rattle.std.proofs.Common.{◌≡◌, ◌∙◌, ◌+◌, ◌-◌, ◌≤◌, subst, arith}
+use Rattle.std.proofs.lemmas.Grind.{common_steps}
 use Rattle.il_interp.specs.Prepared.{program_of}
 use Rattle.il_interp.specs.Hops.{GoesAlong}
 use Rattle.il_interp.proofs.HopLemmas.{along_further}
@@ -25,3 +26,12 @@ loop-left-preserved c =
       subst (λ k. GoesAlong p old k new) count
           (along_further p old c.loop-left.frame new (c.args.most - c.loop-left.left) c.in_ok-done.done c.loop-left.invariant.2 c.in_ok-done.ensures.means),
     )
+
+pub turns_in_block-requires-clause-function : goal.turns_in_block-requires-clause-function
+turns_in_block-requires-clause-function c = grind (arith, common_steps)
+
+pub returns-in-None-clause-few : goal.returns-in-None-clause-few
+returns-in-None-clause-few c = grind (arith, common_steps)
+
+pub overflow_sub-result : goal.overflow_sub-result
+overflow_sub-result c = grind (arith, common_steps)

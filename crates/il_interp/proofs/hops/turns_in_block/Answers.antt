@@ -1,4 +1,5 @@
 use Rattle.std.proofs.Common.{◌≡◌, ◌∙◌, ◌-◌, ap, subst, sym, Bool, arith}
+use Rattle.std.proofs.lemmas.Grind.{common_steps}
 use Rattle.std.proofs.lemmas.Option.{slice_get_past}
 use Rattle.std.specs.Prelude.{slice_get, None, MatchBool}
 use Rattle.obj_link.specs.Shown.{shown}
@@ -34,3 +35,12 @@ returns-else-branch-clause-means c =
     let stays = subst (λ (done : Bool). MatchBool done (Ends p f b row c.hop.new.frame) (c.hop.new.frame ≡ row)) c.if-branch.false c.in_ok-hop.ensures.ends in
     subst (GoesAlong p old (next - old.next)) (sym stays)
     (along_row p f b c.as_slice-insts.result.now old next c.operate_in_row-next.new.temps c.requires.function c.requires.block (sym c.as_slice-insts.ensures) c.operate_in_row-next.ensures.goes)
+
+pub returns-in_err-hop-clause-same : goal.returns-in_err-hop-clause-same
+returns-in_err-hop-clause-same c = grind (arith, common_steps)
+
+pub returns-then-done-most-clause-same : goal.returns-then-done-most-clause-same
+returns-then-done-most-clause-same c = grind (arith, common_steps)
+
+pub overflow_sub-done : goal.overflow_sub-done
+overflow_sub-done c = grind (arith, common_steps)

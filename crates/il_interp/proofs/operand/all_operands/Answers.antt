@@ -4,3 +4,9 @@ use Rattle.il_interp.proofs.operand.all_operands.Goals as goal
 
 pub loop-arg-preserved : goal.loop-arg-preserved
 loop-arg-preserved c = grind (arith, common_steps)
+
+pub returns-in_err-push-in-Some : goal.returns-in_err-push-in-Some
+returns-in_err-push-in-Some c = grind (arith, common_steps)
+
+pub returns-in_err-values : goal.returns-in_err-values
+returns-in_err-values c = grind (arith, common_steps)
