@@ -100,8 +100,7 @@ fn without_dead(alloc: Global, function: &VFunc, live: &Live) -> Result<VFunc, A
         live,
         function.code.blocks.as_slice(),
     )?;
-    let made = function.with_blocks(alloc, function.registers, blocks)?;
-    Ok(made)
+    function.with_blocks(alloc, function.registers, blocks)
 }
 
 /// The function by its live registers.
@@ -113,8 +112,7 @@ fn by_liveness(alloc: Global, function: &VFunc) -> Result<VFunc, AllocError>
     // the graph has them all, so each has a number
     let _points = graph.uses.len();
     let live = live_in(alloc, &graph, function.registers)?;
-    let kept = without_dead(alloc, function, &live)?;
-    Ok(kept)
+    without_dead(alloc, function, &live)
 }
 
 /// The function without its dead lines: those that do nothing but write a register whose value isn't used any more. Blocks of memory stay, but have no register

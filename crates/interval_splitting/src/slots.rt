@@ -121,8 +121,14 @@ fn follow(sharing: &mut Sharing, wishes: &[Wish], event: Event) -> Result<(), Al
     }
 }
 
-fn follow_all(sharing: &mut Sharing, wishes: &[Wish], events: &[Event]) -> Result<(), AllocError> {
-    for event in events {
+fn follow_all(
+    alloc: Global,
+    sharing: &mut Sharing,
+    groups: &[Group],
+    wishes: &[Wish],
+) -> Result<(), AllocError> {
+    let events = all_events(alloc, groups, wishes)?;
+    for event in events.as_slice() {
         follow(sharing, wishes, *event)?;
     }
     Ok(())
@@ -130,10 +136,11 @@ fn follow_all(sharing: &mut Sharing, wishes: &[Wish], events: &[Event]) -> Resul
 
 /// For each slot its number: those of parameters first, the busiest first.
 fn numbers(alloc: Global, sharing: &mut Sharing) -> Result<Vec<usize>, AllocError> {
-    let mut numbers = Vec::new(alloc);
-    numbers.resize(sharing.shared.len(), 0usize)?;
+    let mut numbers = vec![in alloc; 0usize; sharing.shared.len()]?;
     sharing.shared.sort()?;
-    for (number, shared) in sharing.shared.iter().rev().enumerate() {
+    let mut number = numbers.len();
+    for shared in sharing.shared.as_slice() {
+        number = number.saturating_sub(1);
         match numbers.get_mut(shared.slot) {
             Some(at) => *at = number,
             None => {}
@@ -152,19 +159,15 @@ pub fn shared_slots(
     groups: &[Group],
     wishes: &[Wish],
 ) -> Result<Vec<usize>, AllocError> {
-    let mut slots = Vec::new(alloc);
-    slots.resize(wishes.len(), 0usize)?;
     let mut sharing = Sharing {
         shared: Vec::new(alloc),
         free: Vec::new(alloc),
-        slots,
+        slots: vec![in alloc; 0usize; wishes.len()]?,
     };
-    let events = all_events(alloc, groups, wishes)?;
-    follow_all(&mut sharing, wishes, events.as_slice())?;
+    follow_all(alloc, &mut sharing, groups, wishes)?;
     let numbers = numbers(alloc, &mut sharing)?;
-    let mut given = Vec::new(alloc);
-    for slot in sharing.slots.iter() {
-        given.push(numbers.get(*slot).copied().unwrap_or(0))?;
+    for slot in sharing.slots.iter_mut() {
+        *slot = numbers.get(*slot).copied().unwrap_or(0);
     }
-    Ok(given)
+    Ok(sharing.slots)
 }

@@ -208,6 +208,17 @@ fn propagated(
     }
 }
 
+/// The function by the claims that are found, or by none where those aren't right.
+fn propagated_by_any(alloc: Global, function: &VFunc) -> Result<Option<VFunc>, AllocError>
+    ensures { IfOk result (λ o. IfSome o (λ w. Keeps (virtual_code function.now) (virtual_code w))) }
+{
+    let entries = entries(alloc, function)?;
+    match propagated(alloc, function, entries.as_slice())? {
+        Some(made) => Ok(Some(made)),
+        None => propagated(alloc, function, &[]),
+    }
+}
+
 /// The function with operands that are known copies or numbers replaced by what they are; with sums and addresses of known sums with numbers put as one sum or
 /// address; with operations on numbers and by powers of two in their short forms; with branches on results of comparisons put as branches on the comparisons, where
 /// the ticks of the block pay for it; and with branches on two numbers put as jumps. Each fact counts as long as no line makes it false: along its block, and that
@@ -219,11 +230,7 @@ fn propagated(
 pub fn propagate(alloc: Global, function: VFunc) -> Result<VFunc, AllocError>
     ensures { IfOk result (λ w. Keeps (virtual_code function) (virtual_code w)) }
 {
-    let entries = entries(alloc, &function)?;
-    if let Some(made) = propagated(alloc, &function, entries.as_slice())? {
-        return Ok(made);
-    }
-    match propagated(alloc, &function, &[])? {
+    match propagated_by_any(alloc, &function)? {
         Some(made) => Ok(made),
         None => Ok(function),
     }

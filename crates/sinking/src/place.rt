@@ -26,6 +26,15 @@ fn left_behind(credit: u128, line: &Line<u32>) -> u128 {
     }
 }
 
+/// Makes each of them as small as those behind it and `last` are.
+fn cap_by_later(room: &mut [u128], last: u128) {
+    let mut least = last;
+    for k in (0..room.len()).rev() {
+        least = least.min(room[k]);
+        room[k] = least;
+    }
+}
+
 /// How much more the block's ticks would pay for before each of its lines, and before its jump.
 fn room(alloc: Global, block: &Block<u32>) -> Result<Vec<u128>, AllocError> {
     let lines = block.lines.as_slice();
@@ -36,11 +45,10 @@ fn room(alloc: Global, block: &Block<u32>) -> Result<Vec<u128>, AllocError> {
         credit = left_behind(credit, line);
         room.push(credit)?;
     }
-    let mut least = credit.saturating_sub(jump_cost(&block.jump));
-    for at in room.iter_mut().rev() {
-        least = least.min(*at);
-        *at = least;
-    }
+    cap_by_later(
+        room.as_mut_slice(),
+        credit.saturating_sub(jump_cost(&block.jump)),
+    );
     Ok(room)
 }
 
@@ -97,6 +105,22 @@ fn fit(room: &[u128], place: usize, sets: &[Known]) -> bool {
     }
 }
 
+/// In front of which line they are set; those for which there is no room are left out.
+fn place(room: &[u128], sets: &mut Vec<Known>, lines: &[Line<u32>]) -> usize {
+    for (number, line) in lines.iter().enumerate() {
+        if names(sets.as_slice(), line) {
+            if fit(room, number, sets.as_slice()) {
+                return number;
+            }
+            sets.retain(|known| !names(&[*known], line));
+        }
+    }
+    if !fit(room, lines.len(), sets.as_slice()) {
+        sets.clear();
+    }
+    lines.len()
+}
+
 /// What a block is to set, and where: in front of the first line that names one of the registers, if there is room for all of them, else without that one.
 ///
 /// # Errors
@@ -109,21 +133,7 @@ pub(crate) fn placed(
 ) -> Result<Plan, AllocError> {
     let room = room(alloc, block)?;
     let mut sets = planned;
-    for (number, line) in block.lines.as_slice().iter().enumerate() {
-        if names(sets.as_slice(), line) {
-            if fit(room.as_slice(), number, sets.as_slice()) {
-                return Ok(Plan {
-                    behind: number,
-                    sets: Seq::from_vec(sets),
-                });
-            }
-            sets.retain(|known| !names(&[*known], line));
-        }
-    }
-    let behind = block.lines.len();
-    if !fit(room.as_slice(), behind, sets.as_slice()) {
-        sets.clear();
-    }
+    let behind = place(room.as_slice(), &mut sets, block.lines.as_slice());
     Ok(Plan {
         behind,
         sets: Seq::from_vec(sets),

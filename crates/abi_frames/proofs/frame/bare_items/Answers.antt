@@ -4,10 +4,12 @@ use Rattle.std.proofs.lemmas.Option.{slice_get_within}
 use Rattle.vcode.specs.declared.place.Location.{Location}
 use Rattle.vcode.specs.declared.code.Block.{Block}
 use Rattle.abi_frames.specs.declared.layout.Layout.{Layout}
+use Rattle.abi_frames.specs.Layout.{layout, saved_registers}
 use Rattle.abi_frames.specs.BareWays.{CanStand}
 use Rattle.abi_frames.proofs.Saving.{few_saved_registers}
 use Rattle.abi_frames.proofs.Promising.{code_of}
 use Rattle.abi_frames.proofs.BareLabelling.{can_stand}
+use Rattle.abi_frames.proofs.Joining.{ways_are}
 use Rattle.abi_frames.proofs.frame.bare_items.Goals as goal
 
 pub push_ways-requires-clause-can : goal.push_ways-requires-clause-can
@@ -31,3 +33,11 @@ push_ways-requires-clause-all c =
     let blocks = c.args.function.now.located.code.blocks in
     let own : length blocks ≤ length blocks = omega (arith) in
     subst (λ (bs : List (Block Location)). length bs ≤ c.args.shared.now.leave) (sym c.as_slice-2.ensures) (subst (λ (y : Layout). length blocks ≤ y.leave) (sym c.requires.plan) own)
+
+pub returns : goal.returns
+returns c =
+    let l = c.args.function.now.located in
+    let copies = c.args.shared.now.copies in
+    ways_are _ _ c.args.shared.now (layout l.code l.slots copies) c.args.saved.now (saved_registers l.code) c.as_slice.result.now l.code.params c.as_slice-2.result.now l.code.blocks
+    c.as_slice-3.result.now c.args.ways.now.parts.items c.args.ways.now.enter c.in_ok-push_ways.ensures c.new-items.ensures.items c.requires.plan c.requires.registers c.as_slice.ensures
+    c.as_slice-2.ensures c.as_slice-3.ensures.value

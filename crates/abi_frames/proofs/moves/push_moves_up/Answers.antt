@@ -1,4 +1,5 @@
-use Rattle.std.proofs.Common.{rules, ◌≡◌, ◌<◌, ◌++◌, length, Some, None, ◌-◌, ◌+◌, ap, sym, ◌∙◌, append_assoc}
+use Rattle.std.proofs.Common.{rules, ◌≡◌, ◌<◌, ◌++◌, length, Some, None, ◌-◌, ◌+◌, ap, sym, ◌∙◌, append_assoc, arith}
+use Rattle.std.proofs.lemmas.Grind.{common_steps}
 use Rattle.abi_frames.specs.Moves.{earlier_at, arrived, is_read, move_up, all_move_up, all_moved_up}
 use Rattle.abi_frames.proofs.MovingUp.{next_moves, next_moved, one_length}
 use Rattle.abi_frames.proofs.moves.push_moves_up.Goals as goal
@@ -34,3 +35,9 @@ loop-number-preserved c =
       arguments = sym (next_moved k args None some none) ∙ c.loop-number.invariant.arguments;
       length = c.loop-number.invariant.length;
     }
+
+pub returns-clause-items : goal.returns-clause-items
+returns-clause-items c = grind (arith, common_steps)
+
+pub returns-clause-arguments : goal.returns-clause-arguments
+returns-clause-arguments c = grind (arith, common_steps)

@@ -1,7 +1,10 @@
-use Rattle.std.proofs.Common.{◌≡◌, ℕ, true, false, List, drop, reverse, sym, ap, ◌∙◌}
+use Rattle.std.proofs.Common.{◌≡◌, ℕ, ◌-◌, true, false, List, length, drop, reverse, refl, sym, ap, ◌∙◌, arith}
 use Rattle.std.proofs.Math.Path.{fun_ext}
 use Rattle.std.proofs.Math.Seq.{drop-length}
+use Rattle.std.proofs.lemmas.Option.{slice_get_read}
 use Rattle.vcode.specs.declared.line.Line.{Line}
+use Rattle.vcode.specs.Named.{line_keeps, is_below}
+use Rattle.vcode.proofs.Lists.{all_at}
 use Rattle.cfg_live.specs.Rows.{holds}
 use Rattle.dead_code.specs.Without.{Wanted, is_dead, wanted_at, as_wanted, kept_lines}
 use Rattle.dead_code.specs.Overlaid.{over}
@@ -17,6 +20,14 @@ loop-k-init c =
       lines = c.new-kept.ensures.items ∙ sym (ap (λ (xs : List (Line ℕ)). reverse (kept_lines out xs)) none);
       wanted = fun_ext (λ r. c.clear.ensures.over out r) ∙ sym (ap (wanted_at out) none);
     }
+
+pub pass-requires : goal.pass-requires
+pass-requires c =
+    let k = c.loop-k.k - 1 in
+    let l = c.index-lines-k.result in
+    let lines = c.args.lines.now in
+    ap (λ n. line_keeps (is_below n) l) c.loop-k.invariant.length
+    ∙ all_at (line_keeps (is_below c.args.overlay.now.said.length)) lines k l c.requires (slice_get_read lines (length lines) k l refl (omega arith) c.index-lines-k.is)
 
 pub loop-k-preserved-in-Continue-branch-2 : goal.loop-k-preserved-in-Continue-branch-2
 loop-k-preserved-in-Continue-branch-2 c =

@@ -1,4 +1,5 @@
-use Rattle.std.proofs.Common.{◌≡◌, ℕ, List, [], ◌∷◌, ◌++◌, ◌+◌, drop, ap, ◌∙◌}
+use Rattle.std.proofs.Common.{◌≡◌, ℕ, List, [], ◌∷◌, ◌++◌, ◌+◌, drop, ap, ◌∙◌, arith}
+use Rattle.std.proofs.lemmas.Grind.{common_steps}
 use Rattle.vcode.specs.declared.line.Line.{Line}
 use Rattle.vcode.specs.Replaced.{with_line}
 use Rattle.read_copies.specs.declared.known.KnownCopy.{KnownCopy}
@@ -23,3 +24,9 @@ loop-item-preserved c =
           ∙ known_on copies from i c.item-item.result c.in_ok-put.put c.loop-item-test.true c.item-item.is is
           ∙ c.loop-item.invariant.known;
     }
+
+pub returns-clause-lines : goal.returns-clause-lines
+returns-clause-lines c = grind (arith, common_steps)
+
+pub returns-clause-known : goal.returns-clause-known
+returns-clause-known c = grind (arith, common_steps)
