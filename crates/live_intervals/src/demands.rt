@@ -399,7 +399,7 @@ pub(crate) fn demands_of(
         registers: vec![in alloc; Demand::none(); registers as usize]?,
         copies: Vec::new(alloc),
         calls,
-        accesses: Vec::with_capacity(alloc, points.saturating_mul(7) / 4)?,
+        accesses: Vec::with_capacity(alloc, points.saturating_mul(2))?,
     };
     params(&mut counting, code.params.as_slice())?;
     blocks(&mut counting, code.blocks.as_slice(), depths)?;
