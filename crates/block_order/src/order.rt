@@ -1,6 +1,5 @@
 //! Functions with their blocks in another order.
 ghost use Rattle.std.specs.Prelude.{◌≡◌, true, false, IfOk, IfSome, MatchOption, IsTrue};
-ghost use Rattle.std.specs.List.{range_with_len};
 ghost use Rattle.il_ast.specs.Passes.{Keeps};
 ghost use Rattle.vcode.specs.Coded.{virtual_code};
 ghost use Rattle.block_order.specs.Ordered.{in_order, is_order, IsOrdered};
@@ -78,39 +77,9 @@ pub fn in_order(
     }
 }
 
-/// The numbers below the limit.
-fn numbers(alloc: Global, limit: usize) -> Result<Vec<usize>, AllocError>
-    ensures { IfOk result (λ v. v.items ≡ range_with_len 0 limit) }
-{
-    let mut numbers = Vec::with_capacity(alloc, limit)?;
-    for number in 0..limit {
-        numbers.push(number)?;
-    }
-    Ok(numbers)
-}
-
-/// The function with all its blocks in the order in which they stand.
-fn as_they_stand(alloc: Global, function: &VFunc) -> Result<VFunc, AllocError>
-    ensures kept { IfOk result (λ w. Keeps (virtual_code function.now) (virtual_code w)) }
-    ensures ordered { IfOk result (λ w. IsOrdered function.now w) }
-{
-    let order = numbers(alloc, function.code.blocks.len())?;
-    match in_order(alloc, function, order.as_slice())? {
-        Some(made) => Ok(made),
-        None => unreachable!(),
-    }
-}
-
-/// The function with its blocks in the order of chains, or as they stand where that is none.
-fn in_chains(alloc: Global, function: &VFunc) -> Result<VFunc, AllocError>
-    ensures kept { IfOk result (λ w. Keeps (virtual_code function.now) (virtual_code w)) }
-    ensures ordered { IfOk result (λ w. IsOrdered function.now w) }
-{
-    let order = chained(alloc, function.code.blocks.as_slice())?;
-    match in_order(alloc, function, order.as_slice())? {
-        Some(made) => Ok(made),
-        None => as_they_stand(alloc, function),
-    }
+/// Whether the order names blocks as they stand.
+fn stands(order: &[usize]) -> bool {
+    order.iter().enumerate().all(|(k, number)| *number == k)
 }
 
 /// The function with its blocks in an order in which fewer jumps are taken, by a guess at what runs often, and without those to which nothing leads. It takes time
@@ -119,9 +88,17 @@ fn in_chains(alloc: Global, function: &VFunc) -> Result<VFunc, AllocError>
 /// # Errors
 ///
 /// Only where memory was refused.
+#[tactic(auto, using(crate::proofs::Standing::ordered_as_it_is))]
 pub fn order_blocks(alloc: Global, function: VFunc) -> Result<VFunc, AllocError>
     ensures kept { IfOk result (λ w. Keeps (virtual_code function) (virtual_code w)) }
     ensures ordered { IfOk result (λ w. IsOrdered function w) }
 {
-    in_chains(alloc, &function)
+    let order = chained(alloc, function.code.blocks.as_slice())?;
+    if order.len() == function.code.blocks.len() && stands(order.as_slice()) {
+        return Ok(function);
+    }
+    match in_order(alloc, &function, order.as_slice())? {
+        Some(made) => Ok(made),
+        None => Ok(function),
+    }
 }

@@ -36,6 +36,13 @@ pub(crate) struct Order {
     pub(crate) is_head: Vec<bool>,
 }
 
+impl Order {
+    /// Whether a point that comes before this one in the order may lead to it.
+    pub(crate) fn has_head(&self, point: usize) -> bool {
+        self.is_head.get(point) == Some(&true)
+    }
+}
+
 fn mark(visits: &mut [Visit], point: usize, visit: Visit) {
     match visits.get_mut(point) {
         Some(at) => *at = visit,
@@ -84,11 +91,14 @@ fn next_of(walk: &mut Walk, edges: &[Few<usize>], step: Step) -> Option<(usize, 
 fn pass(walk: &mut Walk, edges: &[Few<usize>], step: Step) -> Result<(), AllocError> {
     match next_of(walk, edges, step) {
         Some((next, ahead)) => {
-            let point = step.point;
-            walk.way.push(Step { point, ahead })?;
+            match walk.way.last_mut() {
+                Some(last) => last.ahead = ahead,
+                None => {}
+            }
             enter(walk, edges, next)
         }
         None => {
+            walk.way.pop();
             mark(walk.visits.as_mut_slice(), step.point, Visit::Left);
             walk.left.push(step.point)?;
             Ok(())
@@ -99,7 +109,7 @@ fn pass(walk: &mut Walk, edges: &[Few<usize>], step: Step) -> Result<(), AllocEr
 fn walk_from(walk: &mut Walk, edges: &[Few<usize>], point: usize) -> Result<(), AllocError> {
     enter(walk, edges, point)?;
     for _ in 0..u64::MAX {
-        match walk.way.pop() {
+        match walk.way.last().copied() {
             Some(step) => pass(walk, edges, step)?,
             None => return Ok(()),
         }

@@ -125,7 +125,29 @@ fn follow_grown(
     follow(rows, set, graph, &mut list)
 }
 
-/// Visits the points in this order, and again those to which loops lead with sets that grew.
+/// Where in the order the first point stands that leads to a head.
+fn first_latch(order: &Order, graph: &Graph) -> usize {
+    for (k, point) in order.points.iter().enumerate() {
+        if let Some(next) = graph.nexts.as_slice().get(*point) {
+            if next.as_slice().iter().any(|at| order.has_head(*at)) {
+                return k;
+            }
+        }
+    }
+    0
+}
+
+/// Where in the order stands what is behind the last head.
+fn behind_heads(order: &Order) -> usize {
+    for k in (0..order.points.len()).rev() {
+        if order.has_head(order.points[k]) {
+            return k + 1;
+        }
+    }
+    0
+}
+
+/// Visits the points in this order that may lie in loops, and again those to which loops lead with sets that grew.
 fn sweep_loops(
     alloc: Global,
     rows: &mut [BitSet],
@@ -138,7 +160,8 @@ fn sweep_loops(
     ensures went { Went graph.now set.old.length rows.old rows.new }
 {
     let mut grown = Vec::new(alloc);
-    let points = order.points.as_slice();
+    let (first, end) = (first_latch(order, graph), behind_heads(order));
+    let points = order.points.get(first..end).unwrap_or(&[]);
     sweep_noted(
         rows,
         set,

@@ -16,7 +16,7 @@ use std::alloc::{AllocError, Global};
 pub fn definers(alloc: Global, function: &Func) -> Result<Vec<Definer>, AllocError>
     ensures { IfOk result (λ found. found.items ≡ definers_of function.now) }
 {
-    let mut found = Vec::new(alloc);
+    let mut found = Vec::with_capacity(alloc, function.temps.len())?;
     collect_params(function.params.as_slice(), &mut found)?;
     collect_blocks(function.blocks.as_slice(), &mut found)?;
     Ok(found)

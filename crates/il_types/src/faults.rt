@@ -2,14 +2,19 @@
 ghost use Rattle.std.specs.Prelude.{◌≡◌, IfOk};
 ghost use Rattle.il_types.specs.Faults.{fault_at, fault_or, label_fault, temp_fault, size_fault, function_fault, object_fault, definition_fault};
 
+use crate::definers::definers;
 use crate::insts::{long_blit, wrong_alloc};
-use crate::labels::{block_without_jump, jump_to_entry, repeated_local, unknown_label};
+use crate::labels::{block_without_jump, jump_to_entry, labels, repeated_local, unknown_label};
+use crate::marks::given;
 use crate::objects::{wrong_alignment, wrong_fields};
+use crate::operands::operands;
 use crate::phis::uncovered_phi;
 use crate::rule::{BrokenRule, Rule};
+use crate::sites::targets;
 use crate::temps::{misplaced, two_types, undefined_temp, wrong_return};
 use il_ast::datum::DataDef;
 use il_ast::function::Func;
+use il_ast::operation::Class;
 use il_ast::text::Definition;
 use std::alloc::{AllocError, Global};
 
@@ -68,8 +73,16 @@ fn label_fault(alloc: Global, function: &Func) -> Result<Option<BrokenRule>, All
     ensures { IfOk result (λ fault. fault ≡ label_fault function.now) }
 {
     let repeated = at(Rule::DistinctLocals, repeated_local(alloc, function)?);
-    let unknown = at(Rule::KnownLabels, unknown_label(alloc, function)?);
-    let entry = at(Rule::EntryNotTarget, jump_to_entry(alloc, function)?);
+    let known = labels(alloc, function.blocks.as_slice())?;
+    let targets = targets(alloc, function)?;
+    let unknown = at(
+        Rule::KnownLabels,
+        unknown_label(alloc, function, known.as_slice(), targets.as_slice())?,
+    );
+    let entry = at(
+        Rule::EntryNotTarget,
+        jump_to_entry(function, targets.as_slice()),
+    );
     let end = at(Rule::LastBlockEnds, block_without_jump(function));
     Ok(or(repeated, or(unknown, or(entry, end))))
 }
@@ -78,10 +91,24 @@ fn label_fault(alloc: Global, function: &Func) -> Result<Option<BrokenRule>, All
 fn temp_fault(alloc: Global, function: &Func) -> Result<Option<BrokenRule>, AllocError>
     ensures { IfOk result (λ fault. fault ≡ temp_fault function.now) }
 {
-    let types = at(Rule::OneType, two_types(alloc, function)?);
-    let operand = at(Rule::OperandFits, misplaced(alloc, function)?);
-    let returned = at(Rule::ReturnFits, wrong_return(alloc, function)?);
-    let undefined = at(Rule::DefinedTemporaries, undefined_temp(alloc, function)?);
+    let places = definers(alloc, function)?;
+    let words = given(alloc, places.as_slice(), Class::W)?;
+    let longs = given(alloc, places.as_slice(), Class::L)?;
+    let found = operands(alloc, function)?;
+    let (words, longs) = (words.as_slice(), longs.as_slice());
+    let types = at(
+        Rule::OneType,
+        two_types(function, places.as_slice(), words, longs),
+    );
+    let operand = at(
+        Rule::OperandFits,
+        misplaced(function, found.as_slice(), words),
+    );
+    let returned = at(Rule::ReturnFits, wrong_return(function, words));
+    let undefined = at(
+        Rule::DefinedTemporaries,
+        undefined_temp(function, found.as_slice(), words, longs),
+    );
     Ok(or(types, or(operand, or(returned, undefined))))
 }
 

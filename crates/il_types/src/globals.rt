@@ -18,7 +18,7 @@ pub fn repeated_global(alloc: Global, text: &Text) -> Result<Option<usize>, Allo
 fn global_sites(alloc: Global, definitions: &[Definition]) -> Result<Vec<Site>, AllocError>
     ensures { IfOk result (λ found. found.items ≡ global_sites definitions.now) }
 {
-    let mut found = Vec::new(alloc);
+    let mut found = Vec::with_capacity(alloc, definitions.len())?;
     for definition in definitions {
         found.push(definition_site(definition))?;
     }

@@ -15,7 +15,7 @@ use std::alloc::{AllocError, Global};
 pub fn block_places(alloc: Global, blocks: &[Block]) -> Result<Vec<Option<usize>>, AllocError>
     ensures { IfOk result (λ table. (l : ℕ) → place_in table.items l ≡ place_of blocks.now l) }
 {
-    let mut table = Vec::new(alloc);
+    let mut table = Vec::with_capacity(alloc, blocks.len())?;
     for (place, block) in blocks.iter().enumerate() {
         set_place(&mut table, block.label.number(), place)?;
     }

@@ -10,7 +10,7 @@ ghost use Rattle.il_types.specs.Locals.{repeated_local, unknown_label, jump_to_e
 use crate::marks::mark;
 use crate::repeats::{first_unmarked, repeated};
 use crate::site::Site;
-use crate::sites::{label_sites, param_sites, sources, targets};
+use crate::sites::{label_sites, param_sites, sources};
 use il_ast::block::Block;
 use il_ast::function::Func;
 use std::alloc::{AllocError, Global};
@@ -37,47 +37,58 @@ pub fn repeated_local(alloc: Global, function: &Func) -> Result<Option<usize>, A
 }
 
 /// The labels of blocks.
-fn labels(alloc: Global, blocks: &[Block]) -> Result<Vec<bool>, AllocError>
+pub fn labels(alloc: Global, blocks: &[Block]) -> Result<Vec<bool>, AllocError>
     ensures { IfOk result (λ marks. (l : ℕ) → marked marks.items l ≡ is_label blocks.now l) }
 {
-    let mut marks = Vec::new(alloc);
+    let mut marks = Vec::with_capacity(alloc, blocks.len())?;
     for block in blocks {
         mark(&mut marks, block.label.number())?;
     }
     Ok(marks)
 }
 
-/// The line of a jump or phi that names a label that the function hasn't.
-pub fn unknown_label(alloc: Global, function: &Func) -> Result<Option<usize>, AllocError>
+/// The line of a jump or phi that names a label that the function hasn't. The marks are its labels.
+pub fn unknown_label(
+    alloc: Global,
+    function: &Func,
+    known: &[bool],
+    targets: &[Site],
+) -> Result<Option<usize>, AllocError>
+    requires known { (l : ℕ) → marked known.now l ≡ is_label function.now.blocks l }
+    requires targets { targets.now ≡ targets_of function.now }
     ensures { IfOk result (λ line. line ≡ unknown_label function.now) }
 {
-    let target = unknown_target(alloc, function)?;
-    let source = unknown_source(alloc, function)?;
+    let target = unknown_target(function, known, targets);
+    let source = unknown_source(alloc, function, known)?;
     Ok(or_else(target, source))
 }
 
-fn unknown_target(alloc: Global, function: &Func) -> Result<Option<usize>, AllocError>
-    ensures { IfOk result (λ line. line ≡ first (λ (s : SiteOf). when (not (is_label function.now.blocks s.number)) s.line) (targets_of function.now)) }
+fn unknown_target(function: &Func, known: &[bool], targets: &[Site]) -> Option<usize>
+    requires known { (l : ℕ) → marked known.now l ≡ is_label function.now.blocks l }
+    requires targets { targets.now ≡ targets_of function.now }
+    ensures { result ≡ first (λ (s : SiteOf). when (not (is_label function.now.blocks s.number)) s.line) (targets_of function.now) }
 {
-    let known = labels(alloc, function.blocks.as_slice())?;
-    let named = targets(alloc, function)?;
-    Ok(first_unmarked(named.as_slice(), known.as_slice()))
+    first_unmarked(targets, known)
 }
 
-fn unknown_source(alloc: Global, function: &Func) -> Result<Option<usize>, AllocError>
+fn unknown_source(
+    alloc: Global,
+    function: &Func,
+    known: &[bool],
+) -> Result<Option<usize>, AllocError>
+    requires { (l : ℕ) → marked known.now l ≡ is_label function.now.blocks l }
     ensures { IfOk result (λ line. line ≡ first (λ (s : SiteOf). when (not (is_label function.now.blocks s.number)) s.line) (sources_of function.now)) }
 {
-    let known = labels(alloc, function.blocks.as_slice())?;
     let named = sources(alloc, function)?;
-    Ok(first_unmarked(named.as_slice(), known.as_slice()))
+    Ok(first_unmarked(named.as_slice(), known))
 }
 
 /// The line of a jump to the first block.
-pub fn jump_to_entry(alloc: Global, function: &Func) -> Result<Option<usize>, AllocError>
-    ensures { IfOk result (λ line. line ≡ jump_to_entry function.now) }
+pub fn jump_to_entry(function: &Func, targets: &[Site]) -> Option<usize>
+    requires { targets.now ≡ targets_of function.now }
+    ensures { result ≡ jump_to_entry function.now }
 {
-    let named = targets(alloc, function)?;
-    Ok(first_to_entry(function.blocks.as_slice(), named.as_slice()))
+    first_to_entry(function.blocks.as_slice(), targets)
 }
 
 fn first_to_entry(blocks: &[Block], sites: &[Site]) -> Option<usize>

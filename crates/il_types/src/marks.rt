@@ -31,7 +31,7 @@ pub fn mark(marks: &mut Vec<bool>, number: usize) -> Result<(), AllocError>
 pub fn given(alloc: Global, definers: &[Definer], class: Class) -> Result<Vec<bool>, AllocError>
     ensures { IfOk result (λ marks. (t : ℕ) → marked marks.items t ≡ is_given class t definers.now) }
 {
-    let mut marks = Vec::new(alloc);
+    let mut marks = Vec::with_capacity(alloc, definers.len())?;
     for definer in definers {
         if definer.class == class {
             mark(&mut marks, definer.temp.number())?;

@@ -17,7 +17,7 @@ use std::alloc::{AllocError, Global};
 pub fn operands(alloc: Global, function: &Func) -> Result<Vec<Operand>, AllocError>
     ensures { IfOk result (λ found. found.items ≡ operands_of function.now) }
 {
-    let mut found = Vec::new(alloc);
+    let mut found = Vec::with_capacity(alloc, function.temps.len().saturating_mul(2))?;
     let blocks = function.blocks.as_slice();
     for block in blocks {
         collect_block(block, &mut found)?;

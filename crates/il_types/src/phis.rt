@@ -95,7 +95,7 @@ fn repeated_phi(
 fn numbers(alloc: Global, sites: &[Site]) -> Result<Vec<usize>, AllocError>
     ensures { IfOk result (λ numbers. numbers.items ≡ map (λ (s : SiteOf). s.number) sites.now) }
 {
-    let mut numbers = Vec::new(alloc);
+    let mut numbers = Vec::with_capacity(alloc, sites.len())?;
     for site in sites {
         numbers.push(site.number)?;
     }
@@ -167,7 +167,7 @@ fn covers_by(
 fn labels(alloc: Global, args: &[PhiArg]) -> Result<Vec<usize>, AllocError>
     ensures { IfOk result (λ labels. labels.items ≡ map (λ (a : PhiArgOf). a.from) args.now) }
 {
-    let mut labels = Vec::new(alloc);
+    let mut labels = Vec::with_capacity(alloc, args.len())?;
     for arg in args {
         labels.push(arg.from.number())?;
     }

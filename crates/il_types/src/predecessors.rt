@@ -12,7 +12,7 @@ use std::alloc::{AllocError, Global};
 pub fn predecessors(alloc: Global, blocks: &[Block]) -> Result<Vec<Seq<usize>>, AllocError>
     ensures { IfOk result (λ rows. (l : ℕ) → row rows.items l ≡ predecessors_of l blocks.now) }
 {
-    let mut rows = Vec::new(alloc);
+    let mut rows = Vec::with_capacity(alloc, blocks.len())?;
     for block in blocks {
         add_jump(alloc, &mut rows, &block.jump, block.label.number())?;
     }

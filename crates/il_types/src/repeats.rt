@@ -21,7 +21,7 @@ pub fn repeated(alloc: Global, sites: &[Site]) -> Result<Option<usize>, AllocErr
 fn named_again(alloc: Global, sites: &[Site]) -> Result<Vec<bool>, AllocError>
     ensures { IfOk result (λ marks. (n : ℕ) → marked marks.items n ≡ nat_lt 1 (times n sites.now)) }
 {
-    let mut once = Vec::new(alloc);
+    let mut once = Vec::with_capacity(alloc, sites.len())?;
     let mut again = Vec::new(alloc);
     for site in sites {
         if is_marked(once.as_slice(), site.number) {

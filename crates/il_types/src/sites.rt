@@ -14,7 +14,7 @@ use std::alloc::{AllocError, Global};
 pub fn targets(alloc: Global, function: &Func) -> Result<Vec<Site>, AllocError>
     ensures { IfOk result (λ found. found.items ≡ targets_of function.now) }
 {
-    let mut found = Vec::new(alloc);
+    let mut found = Vec::with_capacity(alloc, function.blocks.len().saturating_mul(2))?;
     let blocks = function.blocks.as_slice();
     for block in blocks {
         collect_targets(&block.jump, &mut found)?;
@@ -78,7 +78,7 @@ fn collect_source(phi: &Phi, found: &mut Vec<Site>) -> Result<(), AllocError>
 pub fn param_sites(alloc: Global, params: &[Param]) -> Result<Vec<Site>, AllocError>
     ensures { IfOk result (λ found. found.items ≡ param_sites params.now) }
 {
-    let mut found = Vec::new(alloc);
+    let mut found = Vec::with_capacity(alloc, params.len())?;
     for param in params {
         found.push(site(param.line, param.temp.number()))?;
     }
@@ -89,7 +89,7 @@ pub fn param_sites(alloc: Global, params: &[Param]) -> Result<Vec<Site>, AllocEr
 pub fn label_sites(alloc: Global, blocks: &[Block]) -> Result<Vec<Site>, AllocError>
     ensures { IfOk result (λ found. found.items ≡ label_sites blocks.now) }
 {
-    let mut found = Vec::new(alloc);
+    let mut found = Vec::with_capacity(alloc, blocks.len())?;
     for block in blocks {
         found.push(site(block.line, block.label.number()))?;
     }
@@ -100,7 +100,7 @@ pub fn label_sites(alloc: Global, blocks: &[Block]) -> Result<Vec<Site>, AllocEr
 pub fn phi_sites(alloc: Global, phis: &[Phi]) -> Result<Vec<Site>, AllocError>
     ensures { IfOk result (λ found. found.items ≡ phi_sites phis.now) }
 {
-    let mut found = Vec::new(alloc);
+    let mut found = Vec::with_capacity(alloc, phis.len())?;
     for phi in phis {
         found.push(site(phi.line, phi.to.temp.number()))?;
     }

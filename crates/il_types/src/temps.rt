@@ -1,34 +1,38 @@
 //! The rules on temporaries: one type, operand fits, return fits, defined temporaries.
-ghost use Rattle.std.specs.Prelude.{◌≡◌, ℕ, not, ◌&&◌, IfOk};
+ghost use Rattle.std.specs.Prelude.{◌≡◌, ℕ, not, ◌&&◌};
+ghost use Rattle.il_ast.specs.declared.operation.Class.TheVariants.{W, L};
 ghost use Rattle.il_types.specs.declared.site.Definer.{Definer as DefinerOf};
 ghost use Rattle.il_types.specs.declared.site.Operand.{Operand as OperandOf};
 ghost use Rattle.il_types.specs.First.{when, first};
-ghost use Rattle.il_types.specs.Marks.{marked};
+ghost use Rattle.il_types.specs.Marks.{marked, is_given};
 ghost use Rattle.il_types.specs.Locals.{two_types, misplaced, undefined_temp, wrong_return, fits, is_defined, in_returns};
 ghost use Rattle.il_types.specs.Sites.{definers_of, operands_of};
 ghost use Rattle.il_types.specs.Tables.{value_fits, value_is_defined, result_takes, returned_misfit, returned_undefined, returned_at};
 
-use crate::definers::definers;
 use crate::insts::wrong_result;
 use crate::labels::or_else;
-use crate::marks::{given, is_marked};
-use crate::operands::operands;
+use crate::marks::is_marked;
 use crate::site::{Definer, Operand};
 use il_ast::block::Block;
 use il_ast::function::Func;
 use il_ast::instruction::{Jump, Lined};
 use il_ast::operand::Val;
 use il_ast::operation::Class;
-use std::alloc::{AllocError, Global};
 
-/// The line of a place that assigns a temporary which is assigned with both classes.
-pub fn two_types(alloc: Global, function: &Func) -> Result<Option<usize>, AllocError>
-    ensures { IfOk result (λ line. line ≡ two_types function.now) }
+/// The line of a place that assigns a temporary which is assigned with both classes. The marks here
+/// and below are the temporaries that are assigned with each.
+pub fn two_types(
+    function: &Func,
+    places: &[Definer],
+    words: &[bool],
+    longs: &[bool],
+) -> Option<usize>
+    requires places { places.now ≡ definers_of function.now }
+    requires words { (t : ℕ) → marked words.now t ≡ is_given W t places.now }
+    requires longs { (t : ℕ) → marked longs.now t ≡ is_given L t places.now }
+    ensures { result ≡ two_types function.now }
 {
-    let places = definers(alloc, function)?;
-    let words = given(alloc, places.as_slice(), Class::W)?;
-    let longs = given(alloc, places.as_slice(), Class::L)?;
-    Ok(first_of_both(places.as_slice(), words.as_slice(), longs.as_slice()))
+    first_of_both(places, words, longs)
 }
 
 fn first_of_both(places: &[Definer], words: &[bool], longs: &[bool]) -> Option<usize>
@@ -45,20 +49,13 @@ fn first_of_both(places: &[Definer], words: &[bool], longs: &[bool]) -> Option<u
 
 /// The line of an operand that doesn't fit its place, or of a result of a class that its operation
 /// hasn't.
-pub fn misplaced(alloc: Global, function: &Func) -> Result<Option<usize>, AllocError>
-    ensures { IfOk result (λ line. line ≡ misplaced function.now) }
+pub fn misplaced(function: &Func, operands: &[Operand], words: &[bool]) -> Option<usize>
+    requires operands { operands.now ≡ operands_of function.now }
+    requires words { (t : ℕ) → marked words.now t ≡ is_given W t (definers_of function.now) }
+    ensures { result ≡ misplaced function.now }
 {
-    let operand = misfit_operand(alloc, function)?;
-    Ok(or_else(operand, wrong_result(function.blocks.as_slice())))
-}
-
-fn misfit_operand(alloc: Global, function: &Func) -> Result<Option<usize>, AllocError>
-    ensures { IfOk result (λ line. line ≡ first (λ (o : OperandOf). when (not (fits (definers_of function.now) o.class o.value)) o.line) (operands_of function.now)) }
-{
-    let places = definers(alloc, function)?;
-    let words = given(alloc, places.as_slice(), Class::W)?;
-    let found = operands(alloc, function)?;
-    Ok(first_misfit(found.as_slice(), words.as_slice()))
+    let operand = first_misfit(operands, words);
+    or_else(operand, wrong_result(function.blocks.as_slice()))
 }
 
 fn first_misfit(operands: &[Operand], words: &[bool]) -> Option<usize>
@@ -84,32 +81,20 @@ fn value_fits(words: &[bool], class: Class, value: Val) -> bool
 }
 
 /// The line of an operand, or of a returned value, that is a temporary which is assigned nowhere.
-pub fn undefined_temp(alloc: Global, function: &Func) -> Result<Option<usize>, AllocError>
-    ensures { IfOk result (λ line. line ≡ undefined_temp function.now) }
+pub fn undefined_temp(
+    function: &Func,
+    operands: &[Operand],
+    words: &[bool],
+    longs: &[bool],
+) -> Option<usize>
+    requires operands { operands.now ≡ operands_of function.now }
+    requires words { (t : ℕ) → marked words.now t ≡ is_given W t (definers_of function.now) }
+    requires longs { (t : ℕ) → marked longs.now t ≡ is_given L t (definers_of function.now) }
+    ensures { result ≡ undefined_temp function.now }
 {
-    let operand = undefined_operand(alloc, function)?;
-    let value = undefined_value(alloc, function)?;
-    Ok(or_else(operand, value))
-}
-
-fn undefined_operand(alloc: Global, function: &Func) -> Result<Option<usize>, AllocError>
-    ensures { IfOk result (λ line. line ≡ first (λ (o : OperandOf). when (not (is_defined (definers_of function.now) o.value)) o.line) (operands_of function.now)) }
-{
-    let places = definers(alloc, function)?;
-    let words = given(alloc, places.as_slice(), Class::W)?;
-    let longs = given(alloc, places.as_slice(), Class::L)?;
-    let found = operands(alloc, function)?;
-    Ok(first_undefined(found.as_slice(), words.as_slice(), longs.as_slice()))
-}
-
-fn undefined_value(alloc: Global, function: &Func) -> Result<Option<usize>, AllocError>
-    ensures { IfOk result (λ line. line ≡ in_returns (λ a. not (is_defined (definers_of function.now) a)) function.now.blocks) }
-{
-    let places = definers(alloc, function)?;
-    let words = given(alloc, places.as_slice(), Class::W)?;
-    let longs = given(alloc, places.as_slice(), Class::L)?;
-    let blocks = function.blocks.as_slice();
-    Ok(undefined_return(blocks, words.as_slice(), longs.as_slice()))
+    let operand = first_undefined(operands, words, longs);
+    let value = undefined_return(function.blocks.as_slice(), words, longs);
+    or_else(operand, value)
 }
 
 fn first_undefined(operands: &[Operand], words: &[bool], longs: &[bool]) -> Option<usize>
@@ -146,13 +131,11 @@ fn undefined_return(blocks: &[Block], words: &[bool], longs: &[bool]) -> Option<
 }
 
 /// The line of a returned value that doesn't fit the function's class.
-pub fn wrong_return(alloc: Global, function: &Func) -> Result<Option<usize>, AllocError>
-    ensures { IfOk result (λ line. line ≡ wrong_return function.now) }
+pub fn wrong_return(function: &Func, words: &[bool]) -> Option<usize>
+    requires { (t : ℕ) → marked words.now t ≡ is_given W t (definers_of function.now) }
+    ensures { result ≡ wrong_return function.now }
 {
-    let places = definers(alloc, function)?;
-    let words = given(alloc, places.as_slice(), Class::W)?;
-    let blocks = function.blocks.as_slice();
-    Ok(misfit_return(blocks, words.as_slice(), function.result))
+    misfit_return(function.blocks.as_slice(), words, function.result)
 }
 
 fn misfit_return(blocks: &[Block], words: &[bool], result_class: Option<Class>) -> Option<usize>

@@ -3,6 +3,7 @@ use crate::positions::{Range, right_after, right_before};
 use crate::starts::Starts;
 use crate::text::{Stretch, Text};
 use cfg_live::uses::Uses;
+use smallvec::SmallVec;
 use std::alloc::{AllocError, Global};
 use vcode::line::Line;
 use vcode::place::Destination;
@@ -11,11 +12,11 @@ use vcode::place::Destination;
 /// throughout.
 #[derive(Drop)]
 pub struct Lifetime {
-    pub ranges: Vec<Range>,
+    pub ranges: SmallVec<Range, 2, Global>,
 }
 
-fn reach(ranges: &mut Vec<Range>, at: usize) {
-    match ranges.last_mut() {
+fn reach(ranges: &mut SmallVec<Range, 2, Global>, at: usize) {
+    match ranges.as_mut_slice().last_mut() {
         Some(last) => last.end = last.end.max(at),
         None => {}
     }
@@ -29,8 +30,8 @@ fn joins(range: Option<&Range>, at: usize) -> bool {
     }
 }
 
-fn begin(ranges: &mut Vec<Range>, at: usize) -> Result<(), AllocError> {
-    if joins(ranges.last(), at) {
+fn begin(ranges: &mut SmallVec<Range, 2, Global>, at: usize) -> Result<(), AllocError> {
+    if joins(ranges.as_slice().last(), at) {
         reach(ranges, at);
         return Ok(());
     }
@@ -149,8 +150,12 @@ fn use_blocks(
 }
 
 /// All positions for a register that has a value throughout, none yet for any other.
-fn first_ranges(alloc: Global, is_throughout: bool, end: usize) -> Result<Vec<Range>, AllocError> {
-    let mut ranges = Vec::new(alloc);
+fn first_ranges(
+    alloc: Global,
+    is_throughout: bool,
+    end: usize,
+) -> Result<SmallVec<Range, 2, Global>, AllocError> {
+    let mut ranges = SmallVec::new(alloc);
     if is_throughout {
         ranges.push(Range { start: 0, end })?;
     }

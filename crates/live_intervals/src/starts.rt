@@ -65,13 +65,11 @@ struct Search {
     throughout: Vec<bool>,
 }
 
-fn nothing_found(alloc: Global, blocks: usize) -> Result<Search, AllocError> {
-    let mut last = Vec::new(alloc);
-    last.resize(blocks, None)?;
+fn nothing_found(alloc: Global, blocks: usize, registers: u32) -> Result<Search, AllocError> {
     Ok(Search {
-        starts: Vec::new(alloc),
-        last,
-        throughout: Vec::new(alloc),
+        starts: Vec::with_capacity(alloc, registers as usize)?,
+        last: vec![in alloc; None; blocks]?,
+        throughout: Vec::with_capacity(alloc, registers as usize)?,
     })
 }
 
@@ -184,11 +182,11 @@ fn line_count(blocks: &[Block<u32>]) -> usize {
 fn searched(alloc: Global, ground: Ground) -> Result<Search, AllocError> {
     let blocks = ground.blocks.len();
     let most = line_count(ground.blocks).saturating_mul(ground.live_a_line);
-    let mut all = nothing_found(alloc, blocks)?;
+    let mut all = nothing_found(alloc, blocks, ground.registers)?;
     if find_within(&mut all, ground, most)? {
         return Ok(all);
     }
-    let mut few = nothing_found(alloc, blocks)?;
+    let mut few = nothing_found(alloc, blocks, ground.registers)?;
     let each = most / (ground.registers as usize).max(1);
     find_few(&mut few, ground, each)?;
     Ok(few)
@@ -203,7 +201,7 @@ fn add_one(counts: &mut [usize], at: usize) {
 
 /// For each block how many registers are live where it or a block before it begins.
 fn ends(alloc: Global, starts: &[Start], blocks: usize) -> Result<Vec<usize>, AllocError> {
-    let mut ends = Vec::new(alloc);
+    let mut ends = Vec::with_capacity(alloc, blocks.saturating_add(1))?;
     ends.resize(blocks, 0usize)?;
     for start in starts {
         add_one(ends.as_mut_slice(), start.block);
@@ -238,8 +236,7 @@ fn place(list: &mut [u32], firsts: &mut [usize], start: Start) {
 pub(crate) fn starts_of(alloc: Global, ground: Ground) -> Result<Starts, AllocError> {
     let found = searched(alloc, ground)?;
     let mut firsts = ends(alloc, found.starts.as_slice(), ground.blocks.len())?;
-    let mut list = Vec::new(alloc);
-    list.resize(found.starts.len(), 0u32)?;
+    let mut list = vec![in alloc; 0u32; found.starts.len()]?;
     for start in found.starts.iter().rev() {
         place(list.as_mut_slice(), firsts.as_mut_slice(), *start);
     }

@@ -5,7 +5,7 @@ use std::alloc::{AllocError, Global};
 
 /// A list for each label, with nothing in it.
 fn no_places(alloc: Global, labels: usize) -> Result<Vec<Vec<usize>>, AllocError> {
-    let mut places = Vec::new(alloc);
+    let mut places = Vec::with_capacity(alloc, labels)?;
     for _ in 0..labels {
         places.push(Vec::new(alloc))?;
     }

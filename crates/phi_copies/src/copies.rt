@@ -61,7 +61,7 @@ fn wanted(
     requires { are_all_distinct phis.now ≡ true }
     ensures { IfOk result (λ copies. copies.items ≡ map (wanted from) phis.now) }
 {
-    let mut copies = Vec::new(alloc);
+    let mut copies = Vec::with_capacity(alloc, phis.len())?;
     let mut at: usize = 0;
     let mut last = places.len().saturating_sub(phis.len());
     for phi in phis {

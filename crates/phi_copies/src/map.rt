@@ -49,7 +49,7 @@ fn count_phis(alloc: Global, func: &Func) -> Result<Vec<usize>, AllocError>
     requires { IsGoodFunction func.now }
     ensures { IfOk result (λ firsts. firsts.items ≡ first_numbers (length func.now.temps) func.now.blocks) }
 {
-    let mut firsts = Vec::new(alloc);
+    let mut firsts = Vec::with_capacity(alloc, func.blocks.len())?;
     let mut number = func.temps.len();
     for block in func.blocks.as_slice() {
         firsts.push(number)?;

@@ -232,11 +232,14 @@ pub fn sequence(alloc: Global, moves: &[Move], scratch: usize) -> Result<Vec<Mov
     ensures reads { IfOk result (λ v. ReadsKnown (IsRead moves.now) v.items) }
     ensures few { IfOk result (λ v. length v.items ≤ proper_count moves.now + proper_count moves.now / 2) }
 {
+    if moves.is_empty() {
+        return Ok(Vec::new(alloc));
+    }
     let writers = writers(alloc, moves)?;
     let mut visited = selves(alloc, moves)?;
     let mut placed = selves(alloc, moves)?;
-    let mut path = Vec::new(alloc);
-    let mut out = Vec::new(alloc);
+    let mut path = Vec::with_capacity(alloc, moves.len())?;
+    let mut out = Vec::with_capacity(alloc, moves.len())?;
     place_all(
         moves,
         scratch,

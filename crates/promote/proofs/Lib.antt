@@ -12,3 +12,4 @@ pub mod Locals
 pub mod Turns
 pub mod Runs
 pub mod Programs
+pub mod Unmade

@@ -3,3 +3,4 @@ pub mod Promoted
 pub mod Tables
 pub mod Laws
 pub mod Programs
+pub mod Made

@@ -10,7 +10,7 @@ use std::alloc::{AllocError, Global};
 pub fn copied<T: Copy + Drop>(alloc: Global, items: &[T]) -> Result<Seq<T>, AllocError>
     ensures { IfOk result (λ copy. copy ≡ items.now) }
 {
-    let mut copy = Vec::new(alloc);
+    let mut copy = Vec::with_capacity(alloc, items.len())?;
     for item in items {
         copy.push(*item)?;
     }
@@ -35,7 +35,7 @@ pub fn copied_few<T: Copy + Default + Drop>(
 pub fn copied_names(alloc: Global, names: &[Name]) -> Result<Seq<Name>, AllocError>
     ensures { IfOk result (λ copy. copy ≡ names.now) }
 {
-    let mut copy = Vec::new(alloc);
+    let mut copy = Vec::with_capacity(alloc, names.len())?;
     for name in names {
         copy.push(copied(alloc, name.as_slice())?)?;
     }

@@ -18,6 +18,7 @@
 
 mod copying;
 pub mod laws;
+pub mod made;
 pub mod mention;
 mod mentions;
 pub mod promote;

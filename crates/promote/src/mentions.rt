@@ -15,7 +15,7 @@ use std::alloc::{AllocError, Global};
 pub fn mentions(alloc: Global, function: &Func) -> Result<Vec<Mention>, AllocError>
     ensures { IfOk result (λ found. found.items ≡ mentions_of function.now) }
 {
-    let mut found = Vec::new(alloc);
+    let mut found = Vec::with_capacity(alloc, function.temps.len().saturating_mul(3))?;
     collect_params(function.params.as_slice(), &mut found)?;
     collect_blocks(function.blocks.as_slice(), &mut found)?;
     Ok(found)

@@ -20,7 +20,7 @@ pub fn promoted_blocks(
 ) -> Result<Seq<Block>, AllocError>
     ensures { IfOk result (λ now. now ≡ map (promoted_block (widths_by table.now)) blocks.now) }
 {
-    let mut now = Vec::new(alloc);
+    let mut now = Vec::with_capacity(alloc, blocks.len())?;
     for block in blocks {
         now.push(promoted_block(alloc, table, block)?)?;
     }
@@ -56,7 +56,7 @@ fn copied_jump(jump: &Option<Lined<Jump>>) -> Option<Lined<Jump>>
 fn copied_phis(alloc: Global, phis: &[Phi]) -> Result<Seq<Phi>, AllocError>
     ensures { IfOk result (λ copy. copy ≡ phis.now) }
 {
-    let mut copy = Vec::new(alloc);
+    let mut copy = Vec::with_capacity(alloc, phis.len())?;
     for phi in phis {
         copy.push(Phi {
             line: phi.line,
@@ -74,7 +74,7 @@ fn promoted_insts(
 ) -> Result<Seq<Lined<Inst>>, AllocError>
     ensures { IfOk result (λ now. now ≡ map (promoted_line (widths_by table.now)) insts.now) }
 {
-    let mut now = Vec::new(alloc);
+    let mut now = Vec::with_capacity(alloc, insts.len())?;
     for inst in insts {
         now.push(Lined {
             line: inst.line,

@@ -25,7 +25,7 @@ pub enum Standing {
 pub fn standings(alloc: Global, mentions: &[Mention]) -> Result<Vec<Standing>, AllocError>
     ensures { IfOk result (λ table. (t : ℕ) → standing_at table.items t ≡ seen_all NotSeen (roles t mentions.now)) }
 {
-    let mut table = Vec::new(alloc);
+    let mut table = Vec::with_capacity(alloc, mentions.len() / 2)?;
     for mention in mentions {
         note(&mut table, *mention)?;
     }

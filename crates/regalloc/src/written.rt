@@ -119,7 +119,9 @@ fn places_of(
     requires { list_all (is_place registers) list.now ≡ true }
     ensures { IfOk result (λ es. are_placed registers es ≡ true) }
 {
-    let mut equalities = Seq::new(alloc);
+    let written = if uses.writes.is_some() { 1 } else { 0 };
+    let most = uses.reads.len().saturating_add(written);
+    let mut equalities = Seq::from_vec(Vec::with_capacity(alloc, most)?);
     push_reads(
         &mut equalities,
         list,
