@@ -1,4 +1,5 @@
-use Rattle.std.proofs.Common.{◌≡◌, ◌<◌, ◌^◌, FitsSigned, ◌∙◌, pos}
+use Rattle.std.proofs.Common.{◌≡◌, ◌<◌, ◌^◌, FitsSigned, ◌∙◌, pos, arith}
+use Rattle.std.proofs.lemmas.Grind.{common_steps}
 use Rattle.std.specs.Int.{w64, w128}
 use Rattle.std.proofs.lemmas.Int.{to_z-of_z}
 use Rattle.rv_isa.proofs.HighHalf.{high_half, signed_by_unsigned, wide_signed, wide_unsigned}
@@ -16,3 +17,6 @@ pub overflow_mul-from : goal.overflow_mul-from
 overflow_mul-from c =
     let ea : c.from.result ≡ c.args.a = c.from.ensures ∙ to_z-of_z w64 c.args.a c.ranges.a in
     rw (ea, c.from-2.ensures, to_z-of_z w128 c.args.a (wide_signed c.args.a c.ranges.a), to_z-of_z w128 (pos c.args.b) (wide_unsigned c.args.b c.ranges.b.fits)) (signed_by_unsigned c.args.a c.args.b c.ranges.a c.ranges.b.fits)
+
+pub overflow_cast-from : goal.overflow_cast-from
+overflow_cast-from c = grind (arith, common_steps)

@@ -1,4 +1,5 @@
 use Rattle.std.proofs.Common.{arith}
+use Rattle.std.proofs.lemmas.Grind.{common_steps}
 use Rattle.rv_isa.proofs.encode.j_type.Goals as goal
 
 pub overflow_mul-rs2 : goal.overflow_mul-rs2
@@ -27,3 +28,9 @@ joined-requires-clause-rs2_fits c = omega arith
 
 pub joined-requires-clause-funct7_fits : goal.joined-requires-clause-funct7_fits
 joined-requires-clause-funct7_fits c = omega arith
+
+pub rem_euclid-requires-clause-nonzero : goal.rem_euclid-requires-clause-nonzero
+rem_euclid-requires-clause-nonzero c = grind (arith, common_steps)
+
+pub rem_euclid-requires-clause-no_overflow : goal.rem_euclid-requires-clause-no_overflow
+rem_euclid-requires-clause-no_overflow c = grind (arith, common_steps)

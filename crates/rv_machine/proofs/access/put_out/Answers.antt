@@ -1,4 +1,5 @@
 use Rattle.std.proofs.Common.{◌≡◌, ℕ, ◌+◌, Bool, true, arith, sym, ◌∙◌, ap, ◌++◌, ◌∷◌, []}
+use Rattle.std.proofs.lemmas.Grind.{common_steps}
 use Rattle.std.proofs.lemmas.List.{append-nil}
 use Rattle.std.specs.Prelude.{is_ok, not}
 use Rattle.rv_isa.specs.Memory.{bytes_at}
@@ -22,3 +23,9 @@ loop-k-preserved g c =
     let pushed : c.push.new.self.items ≡ c.loop-k.output.items ++ c.get.result ∷ [] = rw ok at c.push.ensures.items in
     output_goes_on (g.R.Ram.byte_at c.args.ram.now) c.args.at c.loop-k.k c.args.output.now.items c.loop-k.output.items c.push.new.self.items
     c.loop-k.invariant (pushed ∙ ap (λ b. c.loop-k.output.items ++ b ∷ []) c.get.ensures)
+
+pub returns-then-is_err-clause-ok : goal.returns-then-is_err-clause-ok
+returns-then-is_err-clause-ok c = grind (arith, common_steps)
+
+pub returns-then-is_err-clause-err : goal.returns-then-is_err-clause-err
+returns-then-is_err-clause-err c = grind (arith, common_steps)

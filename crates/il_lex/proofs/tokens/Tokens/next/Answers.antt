@@ -1,4 +1,5 @@
 use Rattle.std.proofs.Common.{◌+◌, drop, refl, sym, ap, ◌∙◌, arith}
+use Rattle.std.proofs.lemmas.Grind.{common_steps}
 use Rattle.std.proofs.lemmas.List.{take_rest}
 use Rattle.il_lex.specs.Next.{IsAhead}
 use Rattle.il_lex.specs.declared.scan.Ahead.TheVariants.{Found}
@@ -28,3 +29,9 @@ returns-in-Found c =
       line = c.self.invariant.1 ∙ sym p.line;
       after = refl;
     })
+
+pub overflow_add-start : goal.overflow_add-start
+overflow_add-start c = grind (arith, common_steps)
+
+pub slice_bounds-rest-count : goal.slice_bounds-rest-count
+slice_bounds-rest-count c = grind (arith, common_steps)

@@ -1,4 +1,5 @@
-use Rattle.std.proofs.Common.{map}
+use Rattle.std.proofs.Common.{map, arith}
+use Rattle.std.proofs.lemmas.Grind.{common_steps}
 use Rattle.obj_link.specs.Shown.{shown}
 use Rattle.obj_link.specs.Names.{objects_from}
 use Rattle.obj_link.proofs.NameLemmas.{objects_on}
@@ -8,3 +9,6 @@ pub loop-number-preserved : goal.loop-number-preserved
 loop-number-preserved c =
     objects_on c.args.texts.now c.loop-number.number c.index-texts-number.result c.as_slice.result.now (map shown c.loop-number.found.items) (map shown c.collect_objects.new.found.items) (objects_from 0 c.args.texts.now)
     c.loop-number-test.true c.index-texts-number.is c.as_slice.ensures c.in_ok-collect_objects.ensures c.loop-number.invariant
+
+pub returns-in_err-collect_objects : goal.returns-in_err-collect_objects
+returns-in_err-collect_objects c = grind (arith, common_steps)

@@ -1,4 +1,5 @@
 use Rattle.std.proofs.Common.{◌∙◌, ap, sym, arith}
+use Rattle.std.proofs.lemmas.Grind.{common_steps}
 use Rattle.obj_link.specs.Tables.{meaning_in}
 use Rattle.obj_link.proofs.TargetLemmas.{symbols_further, unknown_at}
 use Rattle.obj_link.proofs.linking.targets.symbol_targets.Goals as goal
@@ -13,3 +14,6 @@ pub returns-in-None : goal.returns-in-None
 returns-in-None c =
     unknown_at (meaning_in c.args.owned.now c.args.exports.now c.args.text) c.args.symbols.now c.loop-symbol.symbol c.index-symbols-symbol.result c.as_slice.result.now c.as_slice-in-None.result.now c.target_of.result
     c.loop-symbol-test.true c.index-symbols-symbol.is c.as_slice.ensures c.as_slice-in-None.ensures c.target_of.ensures c.in-None.is
+
+pub returns-in_err-map_err-in-Some : goal.returns-in_err-map_err-in-Some
+returns-in_err-map_err-in-Some c = grind (arith, common_steps)

@@ -1,4 +1,5 @@
 use Rattle.std.proofs.Common.{◌∙◌, ap, sym, subst, arith}
+use Rattle.std.proofs.lemmas.Grind.{common_steps}
 use Rattle.obj_link.specs.Tables.{meaning_in}
 use Rattle.obj_link.specs.Names.{symbols_by}
 use Rattle.obj_link.specs.Refusals.{RefusesSymbols}
@@ -15,3 +16,6 @@ pub returns-in-Err : goal.returns-in-Err
 returns-in-Err c =
     refused_in c.in-Err.error (meaning_in c.args.owned.now c.args.exports.now) c.args.texts.now c.loop-text.text c.index-texts-text.result c.loop-text-test.true c.index-texts-text.is
     (subst (RefusesSymbols c.in-Err.error (meaning_in c.args.owned.now c.args.exports.now c.loop-text.text)) c.as_slice-symbols.ensures c.in-Err.ensures)
+
+pub returns-in_err-map_err-in-Ok : goal.returns-in_err-map_err-in-Ok
+returns-in_err-map_err-in-Ok c = grind (arith, common_steps)

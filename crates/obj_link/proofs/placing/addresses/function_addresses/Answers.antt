@@ -1,4 +1,5 @@
 use Rattle.std.proofs.Common.{length, ap, arith}
+use Rattle.std.proofs.lemmas.Grind.{common_steps}
 use Rattle.obj_link.proofs.AddressLemmas.{function_room, functions_on}
 use Rattle.obj_link.proofs.placing.addresses.function_addresses.Goals as goal
 
@@ -23,3 +24,6 @@ overflow_add-at c =
 pub loop-code-preserved : goal.loop-code-preserved
 loop-code-preserved c =
     functions_on c.loop-code.at c.args.codes.now c.loop-code.code-index c.code-item.result c.words.result.now c.loop-code.found.items c.push.new.self.items _ _ c.loop-code-test.true c.code-item.is c.words.ensures.value c.in_ok-push.ensures.items c.loop-code.invariant
+
+pub returns-in_err-push : goal.returns-in_err-push
+returns-in_err-push c = grind (arith, common_steps)

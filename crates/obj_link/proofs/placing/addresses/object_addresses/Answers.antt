@@ -1,4 +1,5 @@
 use Rattle.std.proofs.Common.{arith}
+use Rattle.std.proofs.lemmas.Grind.{common_steps}
 use Rattle.obj_link.proofs.AddressLemmas.{object_room, objects_on}
 use Rattle.obj_link.proofs.placing.addresses.object_addresses.Goals as goal
 
@@ -15,3 +16,6 @@ overflow_add-at c =
 pub loop-object-preserved : goal.loop-object-preserved
 loop-object-preserved c =
     objects_on c.loop-object.at c.args.objects.now c.loop-object.object-index c.object-item.result c.slot_size-at.result c.loop-object.found.items c.push.new.self.items _ _ c.loop-object-test.true c.object-item.is c.slot_size-at.ensures c.in_ok-push.ensures.items c.loop-object.invariant
+
+pub returns-in_err-push : goal.returns-in_err-push
+returns-in_err-push c = grind (arith, common_steps)

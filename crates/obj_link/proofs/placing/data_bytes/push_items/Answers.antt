@@ -4,3 +4,6 @@ use Rattle.obj_link.proofs.placing.data_bytes.push_items.Goals as goal
 
 pub loop-item-preserved : goal.loop-item-preserved
 loop-item-preserved c = grind (arith, common_steps)
+
+pub returns-in_err-push_item : goal.returns-in_err-push_item
+returns-in_err-push_item c = grind (arith, common_steps)

@@ -1,5 +1,6 @@
 use Rattle.rv_isa.specs.declared.abi.TheConstants.{ARGUMENT_BYTES}
 use Rattle.std.proofs.Common.{◌≡◌, ◌≤◌, ◌∙◌, true, refl, sym, ap, arith, length}
+use Rattle.std.proofs.lemmas.Grind.{common_steps}
 use Rattle.rv_isa.specs.Start.{argument_bytes}
 use Rattle.obj_link.specs.Arguments.{are_arguments}
 use Rattle.rv_machine.specs.Words.{texts}
@@ -23,3 +24,12 @@ pub set_all-requires-clause-mapped : goal.set_all-requires-clause-mapped
 set_all-requires-clause-mapped g c =
     start_mapped (g.R.Ram.permission_at c.in-Ok-of.ram) (g.R.Ram.permission_at c.ready.new.self) c.args.file.now _ _
     c.ready.ensures.permissions c.in-Ok-of.ensures.permissions refl
+
+pub returns-then-not-are_arguments-clause-ok : goal.returns-then-not-are_arguments-clause-ok
+returns-then-not-are_arguments-clause-ok c = grind (arith, common_steps)
+
+pub returns-in_default-clause-ok : goal.returns-in_default-clause-ok
+returns-in_default-clause-ok c = grind (arith, common_steps)
+
+pub returns-in_default-of-clause-ok : goal.returns-in_default-of-clause-ok
+returns-in_default-of-clause-ok c = grind (arith, common_steps)
