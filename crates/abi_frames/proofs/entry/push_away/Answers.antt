@@ -4,3 +4,6 @@ use Rattle.abi_frames.proofs.entry.push_away.Goals as goal
 
 pub loop-argument-preserved : goal.loop-argument-preserved
 loop-argument-preserved c = grind (arith, common_steps)
+
+pub returns : goal.returns
+returns c = grind (arith, common_steps)
