@@ -31,6 +31,7 @@ use il_types::cost::{capped_need, weight};
 use inlining::calls::place_calls;
 use inlining::leaf::is_leaf;
 use phi_copies::lower::lower;
+use promote::made::has_alloc;
 use promote::promote::promote;
 use propagation::propagate::propagate;
 use read_copies::read::read_copies;
@@ -312,6 +313,10 @@ pub fn function_words(
     ensures stand { IfOk result (λ c. (promoted : PromotedFunc) × IsPromoted func.now promoted × StandWith leaves.now promoted c) }
     ensures few { IfOk result (λ c. length c.words ≤ 32 * weight func.now + 256) }
 {
+    if !has_alloc(func) {
+        let code = promoted_words(alloc, leaves, func, allocator)?;
+        return Ok(code);
+    }
     let promoted = promote(alloc, func)?;
     let code = promoted_words(alloc, leaves, &promoted, allocator)?;
     Ok(code)
