@@ -1,5 +1,5 @@
 -- What a change of words is for the numbers of the set.
-use Rattle.std.proofs.Common.{◌≡◌, ◌≢◌, ℕ, zero, suc, ◌+◌, ◌-◌, ◌*◌, ◌/◌, ◌%◌, ◌^◌, ◌<◌, ◌≤◌, Bool, true, false, not, nat_eq, ◌||◌, ◌&&◌, ◌==◌, List, [], ◌∷◌, length, get_or, take, ◌++◌, bit_or, bit_and, refl, sym, ◌∙◌, ap, arith, inl, inr, w64, min, max, slice_set, replicate}
+use Rattle.std.proofs.Common.{◌≡◌, ◌≢◌, ℕ, zero, suc, ◌+◌, ◌-◌, ◌*◌, ◌/◌, ◌%◌, ◌^◌, ◌<◌, ◌≤◌, Bool, true, false, not, nat_eq, ◌||◌, ◌&&◌, ◌==◌, List, [], length, get_or, take, ◌++◌, bit_or, bit_and, refl, sym, ◌∙◌, ap, arith, inl, inr, w64, min, max, slice_set, replicate}
 use Rattle.std.specs.Prelude.{MatchBool, ◌⊎◌}
 use Rattle.std.specs.Int.{bit_at, bit_not}
 use Rattle.std.proofs.Math.Nat.{eq-or-lt_of_le}
@@ -163,13 +163,6 @@ is_set-zeros words n e i =
 take_none : (n : ℕ) → take {A = ℕ} n [] ≡ []
 take_none zero = refl
 take_none (suc n) = refl
-
--- at most two of two words
-pub few_zeros : (count : ℕ) → count ≤ 2 → take {A = ℕ} count (0 ∷ 0 ∷ []) ≡ replicate count 0
-few_zeros zero h = refl
-few_zeros (suc zero) h = refl
-few_zeros (suc (suc zero)) h = refl
-few_zeros (suc (suc (suc n))) h = absurd (omega arith)
 
 -- the words that filling up an empty list gives
 pub is_set-filled : (words old : List ℕ) (count from : ℕ) → words ≡ take count old ++ replicate (count - from) 0 → old ≡ [] → (i : ℕ) → is_set words i ≡ false

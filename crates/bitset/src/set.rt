@@ -2,15 +2,14 @@ ghost use Rattle.std.specs.Prelude.{◌≡◌, ◌<◌, ℕ, IfOk, Bool, true, f
 ghost use Rattle.bitset.specs.Bits.{Grew, SameMembers, is_member};
 
 use crate::words::{add_number, drop_all, drop_number, minus_words, no_words, union_words};
-use smallvec::SmallVec;
 use std::alloc::{AllocError, Global};
 use std::marker::Model;
 
-/// A set of numbers below a length that is fixed when it is made. Up to two words stand in the set itself.
+/// A set of numbers below a length that is fixed when it is made.
 #[derive(Drop)]
 pub struct BitSet {
     length: usize,
-    words: SmallVec<u64, 2, Global>,
+    words: Vec<u64>,
 }
 
 impl Model for BitSet {
@@ -50,7 +49,7 @@ impl BitSet {
         requires { i < self.now.length }
         ensures { result ≡ is_member self.now i }
     {
-        (self.words.as_slice()[i / 64] >> (i % 64)) & 1 == 1
+        (self.words[i / 64] >> (i % 64)) & 1 == 1
     }
 
     /// Adds `i` to the set.
@@ -88,7 +87,7 @@ impl BitSet {
         // Where the answer is true some number came in, and where it is false none did.
         ensures grew { MatchBool result (Grew self.old.words self.new.words) (SameMembers self.old.words self.new.words) }
     {
-        union_words(self.words.as_mut_slice(), other.words.as_slice())
+        union_words(self.words.as_mut_slice(), &other.words)
     }
 
     /// Takes out the numbers of `other`, a set of the same length.
@@ -97,6 +96,6 @@ impl BitSet {
         ensures length { self.new.length ≡ self.old.length }
         ensures members { (i : ℕ) → is_member self.new i ≡ (is_member self.old i && not (is_member other.now i)) }
     {
-        minus_words(self.words.as_mut_slice(), other.words.as_slice());
+        minus_words(self.words.as_mut_slice(), &other.words);
     }
 }

@@ -2,7 +2,6 @@ ghost use Rattle.std.specs.Prelude.{◌≡◌, ◌+◌, ◌*◌, ◌≤◌, ◌<
 ghost use Rattle.bitset.specs.Bits.{Grew, SameMembers, is_set};
 ghost use Rattle.bitset.specs.Words.{ChangedIn, MinusBelow, UnionIn};
 
-use smallvec::SmallVec;
 use std::alloc::{AllocError, Global};
 use std::simd::Simd;
 
@@ -132,24 +131,12 @@ pub fn drop_all(words: &mut [u64])
     words.fill(0);
 }
 
-/// `count` words with no number, on the heap.
-fn many_words(alloc: Global, count: usize) -> Result<Vec<u64>, AllocError>
+/// `count` words with no number.
+pub fn no_words(alloc: Global, count: usize) -> Result<Vec<u64>, AllocError>
     ensures number { IfOk result (λ words. length words.items ≡ count) }
     ensures empty { IfOk result (λ words. (i : ℕ) → is_set words.items i ≡ false) }
 {
     let mut words = Vec::new(alloc);
     words.resize(count, 0)?;
     Ok(words)
-}
-
-/// `count` words with no number.
-pub fn no_words(alloc: Global, count: usize) -> Result<SmallVec<u64, 2, Global>, AllocError>
-    ensures number { IfOk result (λ words. length words.items ≡ count) }
-    ensures empty { IfOk result (λ words. (i : ℕ) → is_set words.items i ≡ false) }
-{
-    if count <= 2 {
-        return Ok(SmallVec::from_buf_and_len(alloc, [0, 0], count));
-    }
-    let words = many_words(alloc, count)?;
-    Ok(SmallVec::from_vec(words))
 }
