@@ -76,51 +76,51 @@ impl<P: Copy> Line<P> {
     pub fn try_clone(&self, alloc: Global) -> Result<Line<P>, AllocError>
         ensures { IfOk result (λ v. v ≡ self.now) }
     {
-        Ok(match self {
-            Line::Tick { turn, weight } => Line::Tick {
+        match self {
+            Line::Tick { turn, weight } => Ok(Line::Tick {
                 turn: *turn,
                 weight: *weight,
-            },
-            Line::Set { to, value } => Line::Set {
+            }),
+            Line::Set { to, value } => Ok(Line::Set {
                 to: *to,
                 value: *value,
-            },
+            }),
             Line::Operate {
                 to,
                 operation,
                 left,
                 right,
-            } => Line::Operate {
+            } => Ok(Line::Operate {
                 to: *to,
                 operation: *operation,
                 left: *left,
                 right: *right,
-            },
-            Line::Load { to, op, at } => Line::Load {
+            }),
+            Line::Load { to, op, at } => Ok(Line::Load {
                 to: *to,
                 op: *op,
                 at: *at,
-            },
-            Line::Store { size, value, at } => Line::Store {
+            }),
+            Line::Store { size, value, at } => Ok(Line::Store {
                 size: *size,
                 value: *value,
                 at: *at,
-            },
-            Line::Alloc { to, size } => Line::Alloc {
+            }),
+            Line::Alloc { to, size } => Ok(Line::Alloc {
                 to: *to,
                 size: *size,
-            },
-            Line::Blit { from, to, count } => Line::Blit {
+            }),
+            Line::Blit { from, to, count } => Ok(Line::Blit {
                 from: *from,
                 to: *to,
                 count: *count,
-            },
-            Line::Call { to, callee, args } => Line::Call {
+            }),
+            Line::Call { to, callee, args } => Ok(Line::Call {
                 to: *to,
                 callee: *callee,
                 args: args.try_clone(alloc)?,
-            },
-        })
+            }),
+        }
     }
 }
 
