@@ -1,28 +1,27 @@
 #!/usr/bin/env python3
-"""Proves and builds the program qbec with the Rattle toolchain's rt. What a build that was stopped had done isn't done again."""
+"""Proves and builds the program qbec with the Rattle toolchain's rt. What a build that was stopped had proved is kept beside the toolchain, where that can be written, and isn't
+done again."""
 
 import fcntl
-import hashlib
 import os
 import pathlib
 import shutil
 import signal
 import subprocess
 import sys
+import tempfile
 import time
 
 ROOT = pathlib.Path(__file__).resolve().parent
-OUT = ROOT / "crates/qbec_program/out"
-PROGRAM = OUT / "qbec_program"
+NAME = "qbec_program"
+OUT = ROOT / "crates" / NAME / "out"
+PROGRAM = OUT / NAME
 
 # What the program was built of: the folders, one a line. It is as old as the begin of the build, so that a later edit is newer.
 STAMP = OUT / "stamp"
 
-# The copies of the crates that are built side by side. They stay where a build is stopped, and go when it ends.
-ROOM = OUT / "building"
-
-# How many minutes all libraries take one after another.
-ALL_MINUTES = 120
+# How many minutes of processor time all libraries take.
+ALL_MINUTES = 95
 
 
 def say(*words):
@@ -35,21 +34,21 @@ def fail(why):
 
 
 def read_crates():
-    """Returns the crates of this repository that each crate stands on, by crates.txt."""
-    below = {}
+    """Returns the lines of crates.txt, and the crates of this repository that each crate stands on."""
+    lines, below = {}, {}
     for line in (ROOT / "crates.txt").read_text().splitlines():
         name, colon, rest = line.partition(":")
         if colon and (ROOT / "crates" / name).is_dir():
+            lines[name] = line
             below[name] = [dep for dep in rest.split() if (ROOT / "crates" / dep).is_dir()]
-    return below
+    return lines, below
 
 
 def needed(below, name, found):
-    """Adds to found all that the crate stands on."""
+    """Adds to found all that the crate stands on, and the crate."""
     for dep in below[name]:
-        if dep not in found:
-            found.add(dep)
-            needed(below, dep, found)
+        needed(below, dep, found)
+    found.add(name)
     return found
 
 
@@ -58,44 +57,12 @@ def folders(name):
     return [folder for part in ("src", "specs", "proofs") if (folder := ROOT / "crates" / name / part).is_dir()]
 
 
-def files(name):
-    return sorted(file for folder in folders(name) for file in folder.rglob("*") if file.is_file())
-
-
-def size(name):
-    """Returns about how long the crate takes to be proved: as its texts are long."""
-    return 10_000 + sum(file.stat().st_size for file in files(name))
-
-
-def checksum(names):
-    """Returns a checksum of the sources of these crates."""
-    total = hashlib.sha256()
-    for file in [ROOT / "crates.txt", ROOT / "HANDLES", *(file for name in sorted(names) for file in files(name))]:
-        text = file.read_bytes()
-        total.update(f"{file.relative_to(ROOT)} {len(text)}\n".encode() + text)
-    return total.hexdigest()
-
-
-def at_once():
-    """Returns how many crates are built at once: one for each processor and each 4 GB of memory."""
-    memory = os.sysconf("SC_PAGE_SIZE") * os.sysconf("SC_PHYS_PAGES")
-    return max(1, min(len(os.sched_getaffinity(0)), memory // 4_000_000_000))
-
-
-def link_or_copy(source, target):
-    try:
-        os.link(source, target)
-    except OSError:
-        shutil.copy2(source, target)
-
-
-def hand_on(name, made, others):
-    """Puts the library that was built in one copy of the crates into the others."""
-    for other in others:
-        target = other / "crates" / name / "out/rlib"
-        if other != made:
-            shutil.rmtree(target, ignore_errors=True)
-            shutil.copytree(made / "crates" / name / "out/rlib", target, copy_function=link_or_copy)
+def copy_crates(lines, wanted, room):
+    """Copies the crates that are wanted, without their wrong bodies, to a repository of their own."""
+    for name in wanted:
+        shutil.copytree(ROOT / "crates" / name, room / "crates" / name, ignore=shutil.ignore_patterns("out", "must-fail"))
+    (room / "crates.txt").write_text("".join(f"{lines[name]}\n" for name in sorted(wanted)))
+    shutil.copy2(ROOT / "HANDLES", room / "HANDLES")
 
 
 def stop(process):
@@ -108,117 +75,49 @@ def stop(process):
             pass
 
 
-class Build:
-    """Builds libraries side by side. While rt builds a crate it keeps others out of all that the crate stands on, so each lane has a copy of the crates."""
-
-    def __init__(self, below):
-        self.below = below
-        self.wanted = needed(below, "qbec_program", set())
-        self.lanes = [ROOM / str(k) for k in range(at_once())]
-        self.running, self.started, self.lengths = {}, set(), {}
-        self.begun = time.monotonic()
-        sources = f"{checksum(self.wanted)} {len(self.lanes)}\n"
-        self.list = ROOM / "built"
-        if not (self.list.exists() and self.list.read_text().startswith(sources)):
-            self.copy_crates(sources)
-        self.built = set(self.list.read_text().split()[2:])
-        self.started |= self.built
-
-    def copy_crates(self, sources):
-        """Makes the lanes anew, of the sources as they stand."""
-        shutil.rmtree(ROOM, ignore_errors=True)
-        for lane in self.lanes:
-            shutil.copytree(ROOT / "crates", lane / "crates", ignore=shutil.ignore_patterns("out", "must-fail"))
-            for name in ("crates.txt", "HANDLES"):
-                shutil.copy2(ROOT / name, lane / name)
-        self.list.write_text(sources)
-
-    def length(self, name):
-        """Returns how long the library and the longest chain of libraries above it take."""
-        if name not in self.lengths:
-            above = [self.length(other) for other in self.wanted if name in self.below[other]]
-            self.lengths[name] = size(name) + max(above, default=0)
-        return self.lengths[name]
-
-    def minutes(self):
-        """Returns about how many minutes are left: all the work by the lanes, or its longest chain."""
-        left = self.wanted - self.built
-        work = max(sum(map(size, left)) / len(self.lanes), max(map(self.length, left), default=0))
-        return round(ALL_MINUTES * work / sum(map(size, self.wanted))) + 1
-
-    def next_crate(self):
-        """Returns of the crates that can be built now the one with the longest chain above it, if there is one."""
-        ready = [name for name in self.wanted - self.started if self.built.issuperset(self.below[name])]
-        return max(ready, key=self.length, default=None)
-
-    def start(self, name, lane):
-        self.started.add(name)
-        with open(ROOM / f"{name}.log", "w") as log:
-            process = subprocess.Popen(["rt", "lib"], cwd=lane / "crates" / name, stdout=log, stderr=log, stdin=subprocess.DEVNULL, start_new_session=True)
-        self.running[process] = (name, lane)
-        say("building", name)
-
-    def start_ready(self):
-        busy = [lane for _, lane in self.running.values()]
-        for lane in self.lanes:
-            name = self.next_crate()
-            if lane not in busy and name:
-                self.start(name, lane)
-
-    def finish(self, process):
-        name, lane = self.running.pop(process)
-        if process.returncode:
-            sys.stderr.write("".join((ROOM / f"{name}.log").read_text(errors="replace").splitlines(True)[-30:]))
-            fail(f"{name} was not built")
-        hand_on(name, lane, [ROOT, *self.lanes])
-        self.built.add(name)
-        with open(self.list, "a") as done:
-            done.write(f"{name}\n")
-        taken = int(time.monotonic() - self.begun)
-        say(f"{len(self.built)} of {len(self.wanted)}: {name} is built, after {taken // 60} min {taken % 60} s")
-
-    def run(self):
-        here = f"{len(self.built)} of {len(self.wanted)} libraries are built" if self.built else f"{len(self.wanted)} libraries"
-        say(f"proving and building the program ({here}, at most {len(self.lanes)} at once): about {self.minutes()} minutes; after ^C the next start goes on from there")
-        try:
-            while len(self.built) < len(self.wanted):
-                self.start_ready()
-                time.sleep(0.2)
-                for process in [it for it in self.running if it.poll() is not None]:
-                    self.finish(process)
-        finally:
-            for process in self.running:
-                stop(process)
+def show_progress(output, count, begun):
+    """Says which crates are proved as rt tells of them, and returns the last lines of what it printed."""
+    last, done = [], 0
+    for line in output:
+        last = [*last[-29:], line]
+        words = line.split()
+        if words[:1] == ["rt:"] and (words[2:] == ["proved"] or words[2:4] == ["is", "kept:"]):
+            done += 1
+            taken = int(time.monotonic() - begun)
+            say(f"{done} of {count}: {words[1]} is proved, after {taken // 60} min {taken % 60} s")
+    return last
 
 
-def link_program():
-    """Builds the program over the libraries that are built."""
-    say("now the program itself")
-    process = subprocess.Popen(
-        ["rt", "run", "--", "--help"], cwd=OUT.parent, stdin=subprocess.DEVNULL, stdout=subprocess.PIPE, stderr=subprocess.STDOUT, start_new_session=True
-    )
+def prove(room, count):
+    """Proves the crates of the repository in this folder, as many side by side as there are processors and memory, and builds its program."""
+    lanes = len(os.sched_getaffinity(0))
+    say(f"proving {count} crates and building the program, {lanes} at once: about {ALL_MINUTES // lanes + 5} minutes where nothing is kept of them")
+    process = subprocess.Popen(["rt", "ci"], cwd=room, stdin=subprocess.DEVNULL, stdout=subprocess.PIPE, stderr=subprocess.STDOUT, text=True, errors="replace", start_new_session=True)
     try:
-        shown, _ = process.communicate()
+        last = show_progress(process.stdout, count, time.monotonic())
+        status = process.wait()
     except KeyboardInterrupt:
         stop(process)
         raise
-    if process.returncode or not PROGRAM.exists():
-        sys.stderr.write("".join(shown.decode(errors="replace").splitlines(True)[-30:]))
+    if status:
+        sys.stderr.write("".join(last))
         fail("the program was not built")
 
 
 def build():
     if not shutil.which("rt"):
         fail("the program has to be built by rt of the Rattle toolchain, which is not on the PATH")
-    below = read_crates()
+    lines, below = read_crates()
+    wanted = needed(below, NAME, set())
     begun = time.time()
-    made = Build(below)
-    made.run()
-    link_program()
-    used = [folder for name in sorted({*made.wanted, "qbec_program"}) for folder in folders(name)]
+    with tempfile.TemporaryDirectory(prefix="qbec-build-") as room:
+        room = pathlib.Path(room)
+        copy_crates(lines, wanted, room)
+        prove(room, len(wanted))
+        shutil.copy2(room / "crates" / NAME / "out" / NAME, PROGRAM)
+    used = [folder for name in sorted(wanted) for folder in folders(name)]
     STAMP.write_text("".join(f"{path.relative_to(ROOT)}\n" for path in [ROOT / "crates.txt", *used]))
     os.utime(STAMP, (begun, begun))
-    shutil.rmtree(ROOM, ignore_errors=True)
 
 
 def main():
@@ -236,7 +135,7 @@ def main():
                     return
             build()
     except KeyboardInterrupt:
-        say("stopped; the next start goes on from there")
+        say("stopped; the next start goes on from what is kept")
         sys.exit(130)
 
 
