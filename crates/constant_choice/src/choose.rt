@@ -2,7 +2,7 @@
 use crate::free::free_registers;
 use crate::regions::{Region, Regions, regions_of};
 use crate::saving::where_read;
-use crate::uses::{Key, Use, uses_of};
+use crate::uses::{Key, Use, may_save, uses_of};
 use loops::depths::{depths, target};
 use std::alloc::{AllocError, Global};
 use vcode::code::Block;
@@ -232,7 +232,11 @@ fn chosen_in_loops(
 ///
 /// Only where memory was refused.
 pub fn choose_constants(alloc: Global, function: &VFunc) -> Result<Vec<Chosen>, AllocError> {
-    let depths = depths(alloc, function.code.blocks.as_slice())?;
+    let blocks = function.code.blocks.as_slice();
+    if !may_save(alloc, blocks)? {
+        return Ok(Vec::new(alloc));
+    }
+    let depths = depths(alloc, blocks)?;
     if has_loops(depths.as_slice()) {
         chosen_in_loops(alloc, function, depths.as_slice())
     } else {

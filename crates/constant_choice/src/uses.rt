@@ -174,3 +174,29 @@ pub(crate) fn uses_of(
     uses.list.sort()?;
     merged(alloc, uses.list.as_slice())
 }
+
+fn has_gain(uses: &[Use]) -> bool {
+    for one in uses {
+        if 0 < one.gain {
+            return true;
+        }
+    }
+    false
+}
+
+/// Whether a register that holds a constant would save an instruction anywhere.
+///
+/// # Errors
+///
+/// Only where memory was refused.
+pub(crate) fn may_save(alloc: Global, blocks: &[Block<u32>]) -> Result<bool, AllocError> {
+    let mut uses = Uses {
+        list: Vec::new(alloc),
+        region: 0,
+        times: 1,
+    };
+    for block in blocks {
+        uses.push_block(block)?;
+    }
+    Ok(has_gain(uses.list.as_slice()))
+}
