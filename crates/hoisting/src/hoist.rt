@@ -1,5 +1,5 @@
 //! Functions with computations in front of their loops and extensions.
-ghost use Rattle.std.specs.Prelude.{◌≡◌, ◌≤◌, ◌<◌, IfOk};
+ghost use Rattle.std.specs.Prelude.{◌≡◌, ◌≤◌, ◌<◌, IfOk, IfSome};
 ghost use Rattle.vcode.specs.declared.limits.TheConstants.{PLACES};
 ghost use Rattle.il_ast.specs.Passes.{Keeps};
 ghost use Rattle.vcode.specs.Coded.{virtual_code};
@@ -42,16 +42,20 @@ fn with_plans(alloc: Global, function: &VFunc, choice: &Choice) -> Result<VFunc,
     Ok(made)
 }
 
-/// The function with computations whose operands its loops don't write done in front of them too, and the first halves of extensions in front of these, in registers of their own.
+/// The function with computations whose operands its loops don't write done in front of them too, and the first halves of extensions in front of these, in registers of their own. None where there are
+/// none of these.
 ///
 /// # Errors
 ///
 /// Only where memory was refused.
-pub fn hoist(alloc: Global, function: VFunc) -> Result<VFunc, AllocError>
-    ensures { IfOk result (λ w. Keeps (virtual_code function) (virtual_code w)) }
+pub fn hoist(alloc: Global, function: &VFunc) -> Result<Option<VFunc>, AllocError>
+    ensures { IfOk result (λ o. IfSome o (λ w. Keeps (virtual_code function.now) (virtual_code w))) }
 {
-    match choose_plans(alloc, &function)? {
-        Some(choice) => with_plans(alloc, &function, &choice),
-        None => Ok(function),
+    match choose_plans(alloc, function)? {
+        Some(choice) => {
+            let made = with_plans(alloc, function, &choice)?;
+            Ok(Some(made))
+        }
+        None => Ok(None),
     }
 }

@@ -1,4 +1,5 @@
 //! Plans for computations in front of loops.
+use crate::candidates::may_plan;
 use crate::credit::credit;
 use crate::growing::{Linear, find_growth, plan_steps, product_of};
 use crate::halves::plan_halves;
@@ -505,6 +506,9 @@ fn choice_of(
 ///
 /// Only where memory was refused.
 pub fn choose_plans(alloc: Global, function: &VFunc) -> Result<Option<Choice>, AllocError> {
+    if !may_plan(function.code.blocks.as_slice()) {
+        return Ok(None);
+    }
     let mut plans = no_plans(alloc, function)?;
     plan_nests(alloc, &mut plans, function)?;
     let blocks = choice_of(alloc, &mut plans, function.code.blocks.as_slice())?;

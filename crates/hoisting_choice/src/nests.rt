@@ -248,7 +248,7 @@ fn no_search(alloc: Global, blocks: &[Block<u32>]) -> Result<Search, AllocError>
 }
 
 /// Whether the block of that number leads to itself or one before it.
-fn is_back(number: usize, to: Option<usize>) -> bool {
+pub(crate) fn is_back(number: usize, to: Option<usize>) -> bool {
     match to {
         Some(to) => to <= number,
         None => false,

@@ -1,11 +1,13 @@
 //! What is claimed where blocks begin: a guess, of which nothing is proved.
 use crate::claim::{Claim, Entry};
 use crate::walk::Walk;
+use cfg_live::uses::line_writes;
 use il_ast::list::Seq;
 use std::alloc::{AllocError, Global};
 use vcode::code::Block;
 use vcode::function::VFunc;
-use vcode::line::Jump;
+use vcode::line::{Jump, Line};
+use vcode::place::Operand;
 
 /// How often the guess goes over a function at most.
 const ROUNDS: usize = 8;
@@ -149,12 +151,69 @@ fn as_entries(alloc: Global, guesses: Vec<Guess>) -> Result<Vec<Entry>, AllocErr
     Ok(entries)
 }
 
+/// Which registers are set to numbers, and which are written otherwise, of those with numbers below 128.
+#[derive(Clone, Copy)]
+struct Writes {
+    numbers: u128,
+    others: u128,
+}
+
+/// The set of this register alone.
+fn only(register: u32) -> u128 {
+    if register < 128 { 1u128 << register } else { 0 }
+}
+
+impl Writes {
+    /// With what a line writes.
+    fn with(self, line: &Line<u32>) -> Writes {
+        match line {
+            Line::Set {
+                to,
+                value: Operand::Number(_),
+            } => Writes {
+                numbers: self.numbers | only(*to),
+                ..self
+            },
+            _ => match line_writes(line) {
+                Some(register) => Writes {
+                    others: self.others | only(register),
+                    ..self
+                },
+                None => self,
+            },
+        }
+    }
+
+    fn with_all(self, lines: &[Line<u32>]) -> Writes {
+        let mut writes = self;
+        for line in lines {
+            writes = writes.with(line);
+        }
+        writes
+    }
+}
+
+/// Whether a register is written with numbers alone: else none holds one behind the block that sets it, but where several ways join.
+fn holds_number(function: &VFunc) -> bool {
+    let mut writes = Writes {
+        numbers: 0,
+        others: 0,
+    };
+    for block in function.code.blocks.as_slice() {
+        writes = writes.with_all(block.lines.as_slice());
+    }
+    function.registers > 128 || writes.numbers & !writes.others != 0
+}
+
 /// What is claimed where each block begins: that registers hold what they do behind every block that leads there. Nothing, where that isn't found in a few rounds.
 ///
 /// # Errors
 ///
 /// Only where memory was refused.
 pub(crate) fn entries(alloc: Global, function: &VFunc) -> Result<Vec<Entry>, AllocError> {
+    if !holds_number(function) {
+        return Ok(Vec::new(alloc));
+    }
     let blocks = function.code.blocks.as_slice();
     let mut walk = Walk::new(alloc, function)?;
     let mut guesses = unknown(alloc, blocks.len())?;

@@ -12,6 +12,7 @@
 //! The crate stands on `vcode` for code, and on `cfg_live` for the registers that lines write.
 #![tactic(auto)]
 
+mod copies;
 mod known;
 pub mod read;
 mod replace;

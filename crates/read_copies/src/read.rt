@@ -2,8 +2,9 @@
 ghost use Rattle.std.specs.Prelude.{◌≡◌, map, OnOk, IfOk};
 ghost use Rattle.il_ast.specs.Passes.{Keeps};
 ghost use Rattle.vcode.specs.Coded.{virtual_code};
-ghost use Rattle.read_copies.specs.Copied.{reading_lines, known_behind, reading_block, reading_copies};
+ghost use Rattle.read_copies.specs.Copied.{reading_lines, known_behind, reading_block};
 
+use crate::copies::read_sources;
 use crate::known::KnownCopies;
 use il_ast::list::Seq;
 use std::alloc::{AllocError, Global};
@@ -20,7 +21,7 @@ fn lines(
     ensures lines { IfOk result (λ v. v ≡ reading_lines known.old.copies.items from.now) }
     ensures known { OnOk result (known.new.copies.items ≡ known_behind known.old.copies.items from.now) }
 {
-    let mut made = Vec::new(alloc);
+    let mut made = Vec::with_capacity(alloc, from.len())?;
     for item in from {
         let put = line(alloc, known, item)?;
         known.pass(&put)?;
@@ -41,11 +42,20 @@ fn block(alloc: Global, from: &Block<u32>) -> Result<Block<u32>, AllocError>
 fn blocks(alloc: Global, from: &[Block<u32>]) -> Result<Seq<Block<u32>>, AllocError>
     ensures { IfOk result (λ v. v ≡ map reading_block from.now) }
 {
-    let mut made = Vec::new(alloc);
+    let mut made = Vec::with_capacity(alloc, from.len())?;
     for item in from {
         made.push(block(alloc, item)?)?;
     }
     Ok(Seq::from_vec(made))
+}
+
+/// The function, whose lines and jumps all read the first known copy of a register in place of it.
+fn reading(alloc: Global, function: &VFunc) -> Result<VFunc, AllocError>
+    ensures { IfOk result (λ w. Keeps (virtual_code function.now) (virtual_code w)) }
+{
+    let blocks = blocks(alloc, function.code.blocks.as_slice())?;
+    let made = function.with_blocks(alloc, function.registers, blocks)?;
+    Ok(made)
 }
 
 /// The function, in which lines and jumps read the first known copy of a register in place of it: behind a line of the same block that copies it, until either
@@ -55,11 +65,11 @@ fn blocks(alloc: Global, from: &[Block<u32>]) -> Result<Seq<Block<u32>>, AllocEr
 ///
 /// Only where memory was refused.
 pub fn read_copies(alloc: Global, function: VFunc) -> Result<VFunc, AllocError>
-    ensures kept { IfOk result (λ w. Keeps (virtual_code function) (virtual_code w)) }
-    ensures code { IfOk result (λ w. w.code ≡ reading_copies function.code) }
-    ensures registers { IfOk result (λ w. w.registers ≡ function.registers) }
+    ensures { IfOk result (λ w. Keeps (virtual_code function) (virtual_code w)) }
 {
-    let blocks = blocks(alloc, function.code.blocks.as_slice())?;
-    let made = function.with_blocks(alloc, function.registers, blocks)?;
-    Ok(made)
+    if read_sources(function.code.blocks.as_slice()) {
+        reading(alloc, &function)
+    } else {
+        Ok(function)
+    }
 }

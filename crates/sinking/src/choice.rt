@@ -12,6 +12,7 @@ use std::mem;
 use vcode::code::Block;
 use vcode::function::VFunc;
 use vcode::line::{Jump, Line};
+use vcode::place::Operand;
 
 /// How many registers a block sets at most.
 const SETS: usize = 64;
@@ -97,6 +98,24 @@ fn sets_any(
         }
     }
     Ok(false)
+}
+
+fn sets_number(line: &Line<u32>) -> bool {
+    match line {
+        Line::Set {
+            value: Operand::Number(_),
+            ..
+        } => true,
+        _ => false,
+    }
+}
+
+/// Whether a block sets a number and branches.
+fn may_sink(block: &Block<u32>) -> bool {
+    match block.jump {
+        Jump::Branch { .. } => block.lines.as_slice().iter().any(|line| sets_number(line)),
+        _ => false,
+    }
 }
 
 /// What is to be set in blocks that are still ahead, and what that is chosen by.
@@ -225,6 +244,9 @@ fn all_plans(
 /// Only where memory was refused.
 pub(crate) fn choose(alloc: Global, function: &VFunc) -> Result<Option<Vec<Plan>>, AllocError> {
     let blocks = function.code.blocks.as_slice();
+    if !blocks.iter().any(|block| may_sink(block)) {
+        return Ok(None);
+    }
     let entries = entries(alloc, blocks)?;
     let mut numbers = Numbers::new(alloc, function.registers)?;
     if !sets_any(alloc, &mut numbers, entries.as_slice(), blocks)? {

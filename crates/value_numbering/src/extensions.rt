@@ -61,7 +61,7 @@ fn extension_with(operand: Operand<u32>, load: Option<LoadOp>) -> Option<Extensi
 }
 
 /// The operand of which a value is the extension.
-fn extension_in(value: &Expression) -> Option<Extension>
+pub(crate) fn extension_in(value: &Expression) -> Option<Extension>
     ensures { result ≡ extension_in value.now }
 {
     match value {

@@ -22,6 +22,7 @@ mod known;
 mod lines;
 mod narrow;
 mod regroup;
+mod repeats;
 pub mod reuse;
 mod same;
 mod shifts;

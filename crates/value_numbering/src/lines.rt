@@ -27,7 +27,7 @@ fn is_no_number(operand: Operand<u32>) -> bool
 }
 
 /// Whether a copy costs no more.
-fn is_dear(value: Expression) -> bool
+pub(crate) fn is_dear(value: Expression) -> bool
     ensures { result ≡ is_dear value }
 {
     match value {
@@ -39,7 +39,7 @@ fn is_dear(value: Expression) -> bool
 }
 
 /// Whether it is worth a register: a sum with a number mostly becomes an offset of an address.
-fn is_worth(value: Expression) -> bool {
+pub(crate) fn is_worth(value: Expression) -> bool {
     match value {
         Expression::Operated(Operation::Reg(RegOp::Add), _, Operand::Number(_)) => false,
         _ => true,

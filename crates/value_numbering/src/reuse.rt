@@ -8,6 +8,7 @@ ghost use Rattle.value_numbering.specs.Reused.{claims_at, LeadsWell, IsReused, A
 use crate::claims::claims;
 use crate::fact::Fact;
 use crate::lines::lines;
+use crate::repeats::blocks_may_repeat;
 use crate::ways::{are_known, order_met, order_missed};
 use il_ast::list::Seq;
 use std::alloc::{AllocError, Global};
@@ -117,16 +118,17 @@ fn reused_by_any(alloc: Global, function: &VFunc) -> Result<Option<VFunc>, Alloc
 }
 
 /// The function in which lines that compute what a register holds are copies of it, extensions of what was loaded are loads, and stores of what was extended or masked write what it was made of, within
-/// blocks and, where the claims are right, across them.
+/// blocks and, where the claims are right, across them. None where no line may compute what another does.
 ///
 /// # Errors
 ///
 /// Only where memory was refused.
-pub fn reuse_values(alloc: Global, function: VFunc) -> Result<VFunc, AllocError>
-    ensures { IfOk result (λ w. Keeps (virtual_code function) (virtual_code w)) }
+pub fn reuse_values(alloc: Global, function: &VFunc) -> Result<Option<VFunc>, AllocError>
+    ensures { IfOk result (λ o. IfSome o (λ w. Keeps (virtual_code function.now) (virtual_code w))) }
 {
-    match reused_by_any(alloc, &function)? {
-        Some(made) => Ok(made),
-        None => Ok(function),
+    if blocks_may_repeat(alloc, function.code.blocks.as_slice())? {
+        reused_by_any(alloc, function)
+    } else {
+        Ok(None)
     }
 }

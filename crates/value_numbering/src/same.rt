@@ -6,7 +6,7 @@ use il_ast::operation::{Class, Condition};
 use vcode::line::Operation;
 use vcode::place::Operand;
 
-fn same_operand(left: Operand<u32>, right: Operand<u32>) -> bool
+pub(crate) fn same_operand(left: Operand<u32>, right: Operand<u32>) -> bool
     ensures { result ≡ true → left ≡ right }
 {
     match left {
@@ -31,7 +31,7 @@ fn same_comparison(left: (Condition, Class), right: (Condition, Class)) -> bool
     left.0 == right.0 && left.1 == right.1
 }
 
-fn same_operation(left: Operation, right: Operation) -> bool
+pub(crate) fn same_operation(left: Operation, right: Operation) -> bool
     ensures { result ≡ true → left ≡ right }
 {
     match (left, right) {

@@ -1,15 +1,10 @@
 use Rattle.std.proofs.Common.{◌∙◌, ap, map}
-use Rattle.vcode.specs.Becomes.{with_these}
 use Rattle.vcode.proofs.Results.{becomes_these}
 use Rattle.read_copies.specs.Copied.{reading_block}
 use Rattle.read_copies.proofs.Keeping.{owed}
-use Rattle.read_copies.proofs.read.read_copies.Goals as goal
+use Rattle.read_copies.proofs.read.reading.Goals as goal
 
 pub with_blocks-requires-clause-becomes : goal.with_blocks-requires-clause-becomes
 with_blocks-requires-clause-becomes c =
-    let v = c.args.function in
+    let v = c.args.function.now in
     becomes_these v v.registers (map reading_block v.code.blocks) c.in_ok-blocks.blocks (owed v) (c.in_ok-blocks.ensures ∙ ap (map reading_block) c.as_slice.ensures)
-
-pub returns-clause-code : goal.returns-clause-code
-returns-clause-code c =
-    c.in_ok-made.ensures.code ∙ ap (with_these c.args.function.code) (c.in_ok-blocks.ensures ∙ ap (map reading_block) c.as_slice.ensures)
