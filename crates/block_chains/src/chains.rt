@@ -159,6 +159,15 @@ fn way_depth(depths: &[u32], from: usize, to: usize) -> u32 {
     }
 }
 
+/// The most loops in which a way lies.
+fn most_depth(depths: &[u32]) -> u32 {
+    let mut most = 0u32;
+    for depth in depths {
+        most = most.max(*depth);
+    }
+    most
+}
+
 /// Joins blocks to those to which they go at once, in so many loops: each saves a jump.
 fn join_gotos(
     links: &mut [Link],
@@ -211,25 +220,33 @@ fn join_branches(
     }
 }
 
+/// Joins blocks along ways that lie in so many loops, those first that leave no choice.
+fn join_ways(
+    links: &mut [Link],
+    blocks: &[Block<u32>],
+    reached: &[bool],
+    depths: &[u32],
+    depth: u32,
+) {
+    join_gotos(links, blocks, reached, depths, depth);
+    join_branches(links, blocks, reached, depths, depth);
+}
+
 /// Chains of blocks that are reached: first those ways are taken that lie in the most loops, and of these the ones that leave no choice.
 fn chains(alloc: Global, blocks: &[Block<u32>], reached: &[bool]) -> Result<Vec<Link>, AllocError> {
     let depths = depths(alloc, blocks)?;
+    let most = most_depth(depths.as_slice());
     let mut links = single_links(alloc, blocks.len())?;
     for depth in (0..DEEPEST + 1).rev() {
-        join_gotos(
-            links.as_mut_slice(),
-            blocks,
-            reached,
-            depths.as_slice(),
-            depth,
-        );
-        join_branches(
-            links.as_mut_slice(),
-            blocks,
-            reached,
-            depths.as_slice(),
-            depth,
-        );
+        if depth <= most {
+            join_ways(
+                links.as_mut_slice(),
+                blocks,
+                reached,
+                depths.as_slice(),
+                depth,
+            );
+        }
     }
     Ok(links)
 }
@@ -256,9 +273,8 @@ fn last_chain(links: &[Link], blocks: &[Block<u32>], reached: &[bool]) -> Option
 struct Placing {
     order: Vec<usize>,
 
-    /// the blocks that come behind all others
-    held: Vec<usize>,
-    is_placed: Vec<bool>,
+    /// for each block whether it is to be placed
+    is_open: Vec<bool>,
 
     /// blocks whose chains come next, the last one first
     next: Vec<usize>,
@@ -275,6 +291,13 @@ fn first_of(links: &[Link], block: usize) -> usize {
     first
 }
 
+fn close(is_open: &mut [bool], block: usize) {
+    match is_open.get_mut(block) {
+        Some(is_open) => *is_open = false,
+        None => {}
+    }
+}
+
 fn push_target(placing: &mut Placing, block: Option<usize>) -> Result<(), AllocError> {
     match block {
         Some(block) => {
@@ -285,16 +308,15 @@ fn push_target(placing: &mut Placing, block: Option<usize>) -> Result<(), AllocE
     }
 }
 
+/// Places a block, and then those to which it leads. One of the chain that comes last waits for its place.
 fn place_block(
     placing: &mut Placing,
     blocks: &[Block<u32>],
     number: usize,
     is_last: bool,
 ) -> Result<(), AllocError> {
-    mark(placing.is_placed.as_mut_slice(), number);
-    if is_last {
-        placing.held.push(number)?;
-    } else {
+    close(placing.is_open.as_mut_slice(), number);
+    if !is_last {
         placing.order.push(number)?;
     }
     match blocks.get(number) {
@@ -334,10 +356,29 @@ fn place_chains(
     for _ in 0..blocks.len().saturating_mul(2).saturating_add(1) {
         match placing.next.pop() {
             Some(block) => {
-                if !is_marked(placing.is_placed.as_slice(), block) {
+                if placing.is_open.get(block) == Some(&true) {
                     let first = first_of(links, block);
                     place_chain(placing, links, blocks, first, last == Some(first))?;
                 }
+            }
+            None => return Ok(()),
+        }
+    }
+    Ok(())
+}
+
+/// Places the chain that comes last.
+fn place_last(
+    placing: &mut Placing,
+    links: &[Link],
+    last: Option<usize>,
+) -> Result<(), AllocError> {
+    let mut next = last;
+    for _ in 0..links.len() {
+        match next {
+            Some(number) => {
+                placing.order.push(number)?;
+                next = behind(links, number);
             }
             None => return Ok(()),
         }
@@ -357,12 +398,11 @@ pub fn chained(alloc: Global, blocks: &[Block<u32>]) -> Result<Vec<usize>, Alloc
     let last = last_chain(links.as_slice(), blocks, reached.as_slice());
     let mut placing = Placing {
         order: Vec::with_capacity(alloc, blocks.len())?,
-        held: Vec::new(alloc),
-        is_placed: vec![in alloc; false; blocks.len()]?,
+        is_open: reached,
         next: Vec::with_capacity(alloc, blocks.len())?,
     };
     push_target(&mut placing, Some(0))?;
     place_chains(&mut placing, links.as_slice(), blocks, last)?;
-    placing.order.extend_from_slice(placing.held.as_slice())?;
+    place_last(&mut placing, links.as_slice(), last)?;
     Ok(placing.order)
 }

@@ -158,6 +158,22 @@ visit_stable g registers old new set point flowed j same r h =
     let here : (nat_eq point point && set r) ≡ true = ap (λ b. nat_eq point point && b) in_set ∙ grind (arith, nat_tests) in
     j.members point r ∙ or_right (holds old point r) (nat_eq point point && set r) here
 
+pub visit_takes : (g : Graph) (registers : ℕ) (old new : List Bits) (set : ℕ → Bool) (point : ℕ)
+    → ((r : ℕ) → set r ≡ flows g registers old point r)
+    → Joined set point old new
+    → (r : ℕ) → flows g registers old point r ≡ true → holds new point r ≡ true
+visit_takes g registers old new set point flowed j r h =
+    let in_set : set r ≡ true = flowed r ∙ h in
+    let here : (nat_eq point point && set r) ≡ true = ap (λ b. nat_eq point point && b) in_set ∙ grind (arith, nat_tests) in
+    j.members point r ∙ or_right (holds old point r) (nat_eq point point && set r) here
+
+or_none : (b : Bool) → (b || false) ≡ b
+or_none true = refl
+or_none false = refl
+
+pub visit_spares : (old new : List Bits) (set : ℕ → Bool) (point : ℕ) → Joined set point old new → (q r : ℕ) → nat_eq q point ≡ false → holds new q r ≡ holds old q r
+visit_spares old new set point j q r e = j.members q r ∙ ap (λ b. holds old q r || (b && set r)) e ∙ or_none (holds old q r)
+
 -- ---- several visits
 
 pub went_nowhere : (g : Graph) (registers : ℕ) (rows : List Bits) → AreSized registers rows → Went g registers rows rows

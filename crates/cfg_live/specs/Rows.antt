@@ -1,5 +1,6 @@
 -- Sets of live registers, one for each point, and what is asked of them.
 use Rattle.std.specs.Prelude.{◌≡◌, ℕ, ◌<◌, Bool, true, false, not, ◌||◌, ◌&&◌, nat_lt, List, [], ◌∷◌, length, slice_get, Some, MatchBool}
+use Rattle.std.specs.List.{list_all}
 use Rattle.std.specs.Option.{option_map_or}
 use Rattle.bitset.specs.Bits.{Bits, is_member}
 use Rattle.cfg_live.specs.declared.graph.Graph.{Graph}
@@ -40,6 +41,10 @@ next_of g p = option_map_or (λ (ks : List ℕ). ks) (slice_get g.nexts p) []
 abbrev pub flows : Graph → ℕ → List Bits → ℕ → ℕ → Bool
 flows g registers rows p r =
     (nat_lt r registers && reads g p r) || (any_holds rows r (next_of g p) && not (writes g p r))
+
+-- whether only points of higher numbers may come right after p
+abbrev pub goes_on : Graph → ℕ → Bool
+goes_on g p = option_map_or (λ (ks : List ℕ). list_all (λ q. nat_lt p q) ks) (slice_get g.nexts p) true
 
 -- it holds that
 abbrev pub Stable : Graph → ℕ → List Bits → ℕ → Type 0

@@ -4,7 +4,6 @@ ghost use Rattle.cfg_live.specs.Points.{graph_of};
 ghost use Rattle.cfg_live.specs.Rows.{AreBlank, AreLive};
 
 use crate::graph::Graph;
-use crate::order::successors_first;
 use crate::points::graph;
 use crate::sets::Live;
 use crate::spread::spread;
@@ -47,9 +46,8 @@ fn fill(
     ensures as_many { OnOk result (length rows.new ≡ length rows.old) }
     ensures live { OnOk result (AreLive graph.now registers rows.new) }
 {
-    let order = successors_first(alloc, graph)?;
     let mut set = BitSet::new(alloc, registers)?;
-    spread(alloc, rows, &mut set, graph, &order)
+    spread(alloc, rows, &mut set, graph)
 }
 
 /// The live registers of each point of a graph whose points name registers below `registers`: exactly those that some path from there reads before it

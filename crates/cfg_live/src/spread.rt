@@ -3,8 +3,8 @@ ghost use Rattle.std.specs.Prelude.{◌≡◌, ◌<◌, ℕ, length, OnOk};
 ghost use Rattle.cfg_live.specs.Rows.{AreSized, Stable, Went};
 
 use crate::graph::Graph;
-use crate::order::{Order, befores};
-use crate::sweep::{settle, sweep_along, visit};
+use crate::order::{Order, befores, successors_first};
+use crate::sweep::{settle, settle_soon, sweep_along, visit};
 use crate::worklist::Worklist;
 use bitset::BitSet;
 use std::alloc::{AllocError, Global};
@@ -193,13 +193,9 @@ fn sweep_any_loops(
     }
 }
 
-/// Lets the sets grow until each point is stable. In a sweep along `order`, or two where there are loops, most of the growth is meant to come; then only points
-/// behind which a set grew are visited.
-///
-/// # Errors
-///
-/// Only where memory was refused.
-pub(crate) fn spread(
+/// Lets the sets grow until each point is stable. In a sweep along an order of the points, or two where there are loops, most of the growth is meant to come; then
+/// only points behind which a set grew are visited.
+fn spread_along(
     alloc: Global,
     rows: &mut [BitSet],
     set: &mut BitSet,
@@ -214,4 +210,26 @@ pub(crate) fn spread(
     sweep_any_loops(alloc, rows, set, graph, order)?;
     settle(rows, set, graph);
     Ok(())
+}
+
+/// Lets the sets grow until each point is stable: by a few sweeps against the order of the text, and where more is to come, along an order that is found.
+///
+/// # Errors
+///
+/// Only where memory was refused.
+pub(crate) fn spread(
+    alloc: Global,
+    rows: &mut [BitSet],
+    set: &mut BitSet,
+    graph: &Graph,
+) -> Result<(), AllocError>
+    requires { AreSized set.old.length rows.old }
+    ensures went { Went graph.now set.old.length rows.old rows.new }
+    ensures stable { OnOk result ((p : ℕ) → p < length rows.new → Stable graph.now set.old.length rows.new p) }
+{
+    if settle_soon(rows, set, graph) {
+        return Ok(());
+    }
+    let order = successors_first(alloc, graph)?;
+    spread_along(alloc, rows, set, graph, &order)
 }

@@ -1,5 +1,5 @@
 -- Code without dead lines takes no more than the code did.
-use Rattle.std.proofs.Common.{◌≡◌, ℕ, ◌+◌, Bool, true, false, ◌&&◌, if◌then◌else◌, List, [], ◌∷◌, ◌++◌, Some, None, refl, ◌∙◌, ap, arith}
+use Rattle.std.proofs.Common.{◌≡◌, ℕ, Bool, true, false, ◌&&◌, if◌then◌else◌, List, [], ◌∷◌, map, Some, None, refl, ◌∙◌, ap, arith}
 use Rattle.std.specs.List.{list_all}
 use Rattle.std.proofs.lemmas.Bool.{and_parts}
 use Rattle.bitset.specs.Bits.{Bits}
@@ -9,11 +9,9 @@ use Rattle.vcode.specs.declared.code.Block.{Block}
 use Rattle.vcode.specs.declared.function.VFunc.{VFunc}
 use Rattle.vcode.specs.Cost.{line_cost, jump_cost}
 use Rattle.vcode.specs.Named.{line_keeps, jump_keeps, block_keeps, is_below}
-use Rattle.vcode.proofs.Measuring.{no_more, measure, nothing_taken, Measured, Empty, Put, LeftOut, within, Each, NoBlocks, OneMore}
+use Rattle.vcode.proofs.Measuring.{no_more, measure, nothing_taken, Measured, Empty, Put, LeftOut, within, each_mapped}
 use Rattle.vcode.proofs.Results.{Serves, Owed, owed_each}
-use Rattle.cfg_live.specs.Points.{graph_of}
-use Rattle.cfg_live.specs.Rows.{holds, AreLive}
-use Rattle.dead_code.specs.Without.{Wanted, is_dead, wanted_at, as_wanted, kept_lines, jump_point, kept_block, kept_blocks}
+use Rattle.dead_code.specs.Without.{Wanted, is_dead, wanted_at, as_wanted, kept_lines, wanted_behind, kept_block, Closed}
 use Rattle.dead_code.proofs.Running.{same_as_wanted, runs}
 
 -- ---- what lines take
@@ -80,21 +78,15 @@ lines_named test out b h =
 
 -- ---- the whole
 
-block_serves : (rows : List Bits) (n p : ℕ) (b : Block ℕ) → Serves n n b (kept_block rows p b)
-block_serves rows n p b =
+block_serves : (starts : List Bits) (n : ℕ) (b : Block ℕ) → Serves n n b (kept_block n starts b)
+block_serves starts n b =
     record {
-      within = within b (kept_block rows p b) (lines_measured (holds rows (jump_point p b.lines)) b.lines) (no_more (jump_cost b.jump) (jump_cost b.jump) refl);
+      within = within b (kept_block n starts b) (lines_measured (wanted_behind n starts b.jump) b.lines) (no_more (jump_cost b.jump) (jump_cost b.jump) refl);
       inside = λ m h. h;
-      names = lines_named (is_below n) (holds rows (jump_point p b.lines)) b;
+      names = lines_named (is_below n) (wanted_behind n starts b.jump) b;
     }
 
-blocks_serve : (rows : List Bits) (n p : ℕ) (blocks : List (Block ℕ)) → Each (Serves n n) blocks (kept_blocks rows p blocks)
-blocks_serve rows n p [] = NoBlocks
-blocks_serve rows n p (b ∷ blocks) = OneMore (block_serves rows n p b) (blocks_serve rows n (jump_point p b.lines + 1) blocks)
-
-pub owed : (v : VFunc) (rows : List Bits) → AreLive (graph_of v.code) v.registers rows → Owed v v.registers (kept_blocks rows 0 v.code.blocks)
-owed v rows live = owed_each v v.registers (kept_blocks rows 0 v.code.blocks) (omega arith) (blocks_serve rows v.registers 0 v.code.blocks) (runs v rows live)
-
--- the blocks that were pushed
-pub pushed : (rows : List Bits) (blocks before from these : List (Block ℕ)) → blocks ≡ before ++ kept_blocks rows 0 from → before ≡ [] → from ≡ these → blocks ≡ kept_blocks rows 0 these
-pushed rows blocks before from these all empty is = all ∙ ap (λ (xs : List (Block ℕ)). xs ++ kept_blocks rows 0 from) empty ∙ ap (kept_blocks rows 0) is
+pub owed : (v : VFunc) (starts : List Bits) → Closed v.registers starts v.code.blocks → Owed v v.registers (map (kept_block v.registers starts) v.code.blocks)
+owed v starts closed =
+    owed_each v v.registers (map (kept_block v.registers starts) v.code.blocks) (omega arith)
+    (each_mapped (Serves v.registers v.registers) (kept_block v.registers starts) (block_serves starts v.registers) v.code.blocks) (runs v.registers starts v.code closed)

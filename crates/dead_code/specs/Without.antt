@@ -1,18 +1,18 @@
 -- Code without its dead lines: those that do nothing but write a register that isn't wanted behind
 -- them. A block of memory stays, but loses a register that isn't wanted.
-use Rattle.std.specs.Prelude.{◌≡◌, ℕ, ◌+◌, Bool, false, not, ◌&&◌, ◌||◌, nat_eq, if◌then◌else◌, List, [], ◌∷◌, Option, Some, None}
+use Rattle.std.specs.Prelude.{◌≡◌, ℕ, Bool, true, false, not, ◌&&◌, ◌||◌, nat_eq, if◌then◌else◌, List, [], ◌∷◌, slice_get, Option, Some, None}
 use Rattle.std.specs.List.{list_any}
 use Rattle.std.specs.Option.{option_map_or}
-use Rattle.bitset.specs.Bits.{Bits}
+use Rattle.bitset.specs.Bits.{Bits, is_member}
+use Rattle.vcode.specs.declared.place.Operand.{Operand}
+use Rattle.vcode.specs.declared.place.Operand.TheVariants.{At}
+use Rattle.vcode.specs.declared.place.Argument.{Argument}
 use Rattle.vcode.specs.declared.line.Line.{Line}
-use Rattle.vcode.specs.declared.line.Line.TheVariants.{Set, Operate, Load, Alloc}
+use Rattle.vcode.specs.declared.line.Line.TheVariants.{Tick, Set, Operate, Load, Store, Alloc, Blit, Call}
+use Rattle.vcode.specs.declared.line.Jump.{Jump}
+use Rattle.vcode.specs.declared.line.Jump.TheVariants.{Goto, Branch, Return, Halt}
 use Rattle.vcode.specs.declared.code.Block.{Block}
-use Rattle.vcode.specs.declared.code.Code.{Code}
-use Rattle.vcode.specs.declared.function.VFunc.{VFunc}
-use Rattle.cfg_live.specs.Registers.{line_reads, line_writes}
-use Rattle.cfg_live.specs.Points.{graph_of}
-use Rattle.cfg_live.specs.Rows.{holds, AreLive}
-pub use Rattle.cfg_live.specs.Numbering.{next_point, jump_point, end_point}
+use Rattle.vcode.specs.Writes.{line_writes}
 
 -- the registers whose values are still used
 abbrev pub Wanted : Type 0
@@ -28,8 +28,19 @@ only_writes l = None
 abbrev pub is_dead : Wanted → Line ℕ → Bool
 is_dead wanted l = option_map_or (λ r. not (wanted r)) (only_writes l) false
 
+abbrev pub names_it : Operand ℕ → ℕ → Bool
+names_it (At k) r = nat_eq k r
+names_it a r = false
+
 abbrev pub reads_it : Line ℕ → ℕ → Bool
-reads_it l r = list_any (λ k. nat_eq k r) (line_reads l)
+reads_it (Tick turn w) r = false
+reads_it (Set to a) r = names_it a r
+reads_it (Operate to op a b) r = names_it a r || names_it b r
+reads_it (Load to op at) r = names_it at.base r
+reads_it (Store size a at) r = names_it a r || names_it at.base r
+reads_it (Alloc to size) r = false
+reads_it (Blit from to count) r = names_it from r || names_it to r
+reads_it (Call to callee args) r = names_it callee r || list_any (λ (a : Argument ℕ). names_it a.value r) args
 
 abbrev pub writes_it : Line ℕ → ℕ → Bool
 writes_it l r = option_map_or (λ k. nat_eq k r) (line_writes l) false
@@ -57,25 +68,34 @@ kept_lines out (l ∷ lines) =
     if is_dead (wanted_at out lines) l then kept_lines out lines
     else as_wanted (wanted_at out lines) l ∷ kept_lines out lines
 
--- ---- blocks, of which each begins at a point of the function; a tick is no point
+-- ---- blocks
 
--- behind its lines a block wants what is live right before its jump
-abbrev pub kept_block : List Bits → ℕ → Block ℕ → Block ℕ
-kept_block rows p b =
-    record { lines = kept_lines (holds rows (jump_point p b.lines)) b.lines; jump = b.jump }
+-- whether a register is wanted at the beginning of a block, by a set of `registers` for each
+abbrev pub held : (registers : ℕ) → List Bits → ℕ → Wanted
+held registers starts k r =
+    option_map_or (λ (s : Bits). nat_eq s.length registers && is_member s r) (slice_get starts k)
+    false
 
-abbrev pub kept_blocks : List Bits → ℕ → List (Block ℕ) → List (Block ℕ)
-kept_blocks rows p [] = []
-kept_blocks rows p (b ∷ blocks) =
-    kept_block rows p b ∷ kept_blocks rows (jump_point p b.lines + 1) blocks
+-- what is wanted behind the lines of a block: what its jump reads, and what is wanted where it leads
+abbrev pub wanted_behind : ℕ → List Bits → Jump ℕ → Wanted
+wanted_behind n starts (Goto k) r = held n starts k r
+wanted_behind n starts (Branch on met otherwise) r =
+    ((held n starts met r || held n starts otherwise r) || names_it on.left r)
+    || names_it on.right r
+wanted_behind n starts (Return None) r = false
+wanted_behind n starts (Return (Some a)) r = names_it a.value r
+wanted_behind n starts Halt r = false
 
-abbrev pub without_dead : List Bits → Code ℕ → Code ℕ
-without_dead rows f =
-    record { result = f.result; params = f.params; blocks = kept_blocks rows 0 f.blocks }
+abbrev pub kept_block : ℕ → List Bits → Block ℕ → Block ℕ
+kept_block n starts b =
+    record { lines = kept_lines (wanted_behind n starts b.jump) b.lines; jump = b.jump }
 
--- the function without all lines that are dead by the live registers of its points
-pub record IsWithoutDead (v w : VFunc) : Type 0 where
-  pub rows : List Bits
-  pub live : AreLive (graph_of v.code) v.registers rows
-  pub code : w.code ≡ without_dead rows v.code
-  pub registers : w.registers ≡ v.registers
+-- what a block wants at its beginning
+abbrev pub wanted_in : ℕ → List Bits → Block ℕ → Wanted
+wanted_in n starts b = wanted_at (wanted_behind n starts b.jump) b.lines
+
+-- no block wants more
+abbrev pub Closed : ℕ → List Bits → List (Block ℕ) → Type 0
+Closed n starts blocks =
+    (k : ℕ) (b : Block ℕ) →
+    slice_get blocks k ≡ Some b → (r : ℕ) → wanted_in n starts b r ≡ true → held n starts k r ≡ true

@@ -3,14 +3,15 @@
 //! A pass on virtual code. [`remove::remove_dead_code`] takes out of a function each line that does nothing but write a register whose value isn't used any
 //! more: copies, operations and loads. Stores, calls, ticks and what makes blocks of memory stay; a block whose address isn't used loses its register.
 //!
-//! What is used behind a block's lines is what `cfg_live` has as live right before its jump. A walk from there to the block's beginning keeps account of what
-//! is wanted; a line that goes reads nothing, so that chains of dead lines go in one walk (`specs/Without`). A block's walk asks only for the registers that
-//! it names.
+//! A walk from a block's end to its beginning keeps account of what is wanted (`wanted`); a line that goes reads nothing, so that lines that only want one another
+//! go, in chains and in rings. What a block wants at its beginning is guessed by walks over all blocks until none wants more (`guess`). The guess is tested in the
+//! walk that leaves the lines out: what a block wants by then has to be what was guessed (`specs/Without`). Else the function stays as it is, and where no line is dead.
 //!
-//! The contract says that the code is kept, in the words of every pass, and which lines are gone.
+//! The contract says that the code is kept, in the words of every pass.
 //!
-//! The crate stands on `vcode` for code, on `cfg_live` for live registers and on `bitset` for sets.
+//! The crate stands on `vcode` for code, and on `bitset` for sets.
 #![tactic(auto)]
 
-mod overlay;
+mod guess;
 pub mod remove;
+mod wanted;

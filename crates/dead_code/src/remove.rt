@@ -1,61 +1,58 @@
 //! Dead lines go.
-ghost use Rattle.std.specs.Prelude.{◌≡◌, ◌<◌, ◌^◌, ◌++◌, ◌∷◌, [], ℕ, Bool, true, reverse as reversed, drop, length, OnOk, IfOk};
+ghost use Rattle.std.specs.Prelude.{◌≡◌, ◌<◌, ℕ, true, false, map, length, slice_get, reverse as reversed, drop, Some, OnOk, IfOk, IfSome};
 ghost use Rattle.std.specs.List.{list_all};
+ghost use Rattle.bitset.specs.Bits.{Bits, is_member};
 ghost use Rattle.il_ast.specs.Passes.{Keeps};
 ghost use Rattle.vcode.specs.Coded.{virtual_code};
 ghost use Rattle.vcode.specs.Named.{line_keeps, block_keeps, is_below};
-ghost use Rattle.cfg_live.specs.Points.{graph_of};
-ghost use Rattle.cfg_live.specs.Rows.{holds, AreLive};
-ghost use Rattle.dead_code.specs.Without.{kept_lines, kept_block, kept_blocks, end_point, without_dead, IsWithoutDead};
+ghost use Rattle.dead_code.specs.Without.{kept_lines, kept_block, wanted_at, wanted_behind, wanted_in, held, Closed};
 
-use crate::overlay::Overlay;
-use cfg_live::live::live_in;
-use cfg_live::numbering::jump_point;
-use cfg_live::points::graph;
-use cfg_live::sets::Live;
+use crate::guess::guessed;
+use crate::wanted::{as_wanted, begin, is_dead, pass};
+use bitset::BitSet;
 use il_ast::list::Seq;
 use std::alloc::{AllocError, Global};
 use vcode::code::Block;
 use vcode::function::VFunc;
 use vcode::line::Line;
 
-/// The lines that stay, last first, of a block whose jump is `point`.
+/// The lines that stay, last first, of a block behind whose lines this is wanted, which becomes what is wanted before them.
 fn kept_backward(
     alloc: Global,
-    overlay: &mut Overlay,
-    live: &Live,
-    point: usize,
+    set: &mut BitSet,
     lines: &[Line<u32>],
 ) -> Result<Vec<Line<u32>>, AllocError>
-    requires { list_all (line_keeps (is_below overlay.old.said.length)) lines.now ≡ true }
-    ensures length { overlay.new.said.length ≡ overlay.old.said.length }
-    ensures lines { IfOk result (λ v. v.items ≡ reversed (kept_lines (holds live.now point) lines.now)) }
+    requires { list_all (line_keeps (is_below set.old.length)) lines.now ≡ true }
+    ensures length { set.new.length ≡ set.old.length }
+    ensures lines { IfOk result (λ v. v.items ≡ reversed (kept_lines (is_member set.old) lines.now)) }
+    ensures wanted { OnOk result (is_member set.new ≡ wanted_at (is_member set.old) lines.now) }
 {
-    overlay.clear();
-    let mut kept = Vec::new(alloc);
+    let mut kept = Vec::with_capacity(alloc, lines.len())?;
     for k in (0..lines.len()).rev() {
         let line = &lines[k];
-        if !overlay.is_dead(live, point, line) {
-            let wanted = overlay.as_wanted(alloc, live, point, line)?;
-            overlay.pass(line);
+        if !is_dead(set, line) {
+            let wanted = as_wanted(alloc, set, line)?;
+            pass(set, line);
             kept.push(wanted)?;
         }
     }
     Ok(kept)
 }
 
+/// The block without its dead lines, by what is wanted at the beginnings of blocks. The set becomes what is wanted at its own.
 fn kept_block(
     alloc: Global,
-    overlay: &mut Overlay,
-    live: &Live,
-    point: usize,
+    set: &mut BitSet,
+    starts: &[BitSet],
     block: &Block<u32>,
 ) -> Result<Block<u32>, AllocError>
-    requires { list_all (line_keeps (is_below overlay.old.said.length)) block.now.lines ≡ true }
-    ensures length { overlay.new.said.length ≡ overlay.old.said.length }
-    ensures block { IfOk result (λ v. v ≡ record { lines = kept_lines (holds live.now point) block.now.lines; jump = block.now.jump }) }
+    requires { block_keeps (is_below set.old.length) block.now ≡ true }
+    ensures length { set.new.length ≡ set.old.length }
+    ensures block { IfOk result (λ d. d ≡ kept_block set.old.length starts.now block.now) }
+    ensures wanted { OnOk result (is_member set.new ≡ wanted_in set.old.length starts.now block.now) }
 {
-    let mut lines = kept_backward(alloc, overlay, live, point, block.lines.as_slice())?;
+    begin(set, starts, &block.jump);
+    let mut lines = kept_backward(alloc, set, block.lines.as_slice())?;
     lines.reverse();
     Ok(Block {
         lines: Seq::from_vec(lines),
@@ -63,67 +60,99 @@ fn kept_block(
     })
 }
 
-fn push_blocks(
-    alloc: Global,
-    kept: &mut Seq<Block<u32>>,
-    overlay: &mut Overlay,
-    live: &Live,
-    blocks: &[Block<u32>],
-) -> Result<(), AllocError>
-    requires few { end_point 0 blocks.now < 2 ^ 64 }
-    requires below { list_all (block_keeps (is_below overlay.old.said.length)) blocks.now ≡ true }
-    ensures { OnOk result (kept.new ≡ kept.old ++ kept_blocks live.now 0 blocks.now) }
+/// Whether all of the first set, which is used up, is wanted at the beginning of the block. The last is an empty set to test by.
+fn is_within(set: &mut BitSet, starts: &[BitSet], block: usize, empty: &mut BitSet) -> bool
+    requires empty { (r : ℕ) → is_member empty.old r ≡ false }
+    ensures length { set.new.length ≡ set.old.length }
+    ensures empty { result ≡ true → (r : ℕ) → is_member empty.new r ≡ false }
+    ensures within { result ≡ true → (r : ℕ) → is_member set.old r ≡ true → held set.old.length starts.now block r ≡ true }
 {
-    let mut first = 0usize;
-    for block in blocks {
-        let point = jump_point(first, block.lines.as_slice());
-        kept.push(kept_block(alloc, overlay, live, point, block)?)?;
-        first = point + 1;
+    match starts.get(block) {
+        Some(row) => {
+            if row.len() != set.len() || empty.len() != set.len() {
+                return false;
+            }
+            set.minus(row);
+            !empty.union_into(set)
+        }
+        None => false,
     }
-    Ok(())
 }
 
-/// The function by these live registers.
-fn without_dead(alloc: Global, function: &VFunc, live: &Live) -> Result<VFunc, AllocError>
-    requires live { AreLive (graph_of function.now.code) function.now.registers live.now }
-    requires few { end_point 0 function.now.code.blocks < 2 ^ 64 }
-    ensures kept { IfOk result (λ w. Keeps (virtual_code function.now) (virtual_code w)) }
-    ensures code { IfOk result (λ w. w.code ≡ without_dead live.now function.now.code) }
-    ensures registers { IfOk result (λ w. w.registers ≡ function.now.registers) }
+/// The blocks without their dead lines, if none wants more at its beginning than was guessed.
+fn kept_blocks(
+    alloc: Global,
+    set: &mut BitSet,
+    starts: &[BitSet],
+    blocks: &[Block<u32>],
+) -> Result<Option<Vec<Block<u32>>>, AllocError>
+    requires { list_all (block_keeps (is_below set.old.length)) blocks.now ≡ true }
+    ensures kept { IfOk result (λ o. IfSome o (λ v. v.items ≡ map (kept_block set.old.length starts.now) blocks.now)) }
+    ensures closed { IfOk result (λ o. IfSome o (λ v. Closed set.old.length starts.now blocks.now)) }
 {
-    let mut overlay = Overlay::new(alloc, function.registers)?;
-    let mut blocks = Seq::new(alloc);
-    push_blocks(
-        alloc,
-        &mut blocks,
-        &mut overlay,
-        live,
-        function.code.blocks.as_slice(),
-    )?;
-    function.with_blocks(alloc, function.registers, blocks)
+    let mut empty = BitSet::new(alloc, set.len())?;
+    let mut kept = Vec::with_capacity(alloc, blocks.len())?;
+    for k in 0..blocks.len() {
+        kept.push(kept_block(alloc, set, starts, &blocks[k])?)?;
+        if !is_within(set, starts, k, &mut empty) {
+            return Ok(None);
+        }
+    }
+    Ok(Some(kept))
 }
 
-/// The function by its live registers.
-fn by_liveness(alloc: Global, function: &VFunc) -> Result<VFunc, AllocError>
-    ensures kept { IfOk result (λ w. Keeps (virtual_code function.now) (virtual_code w)) }
-    ensures exact { IfOk result (λ w. IsWithoutDead function.now w) }
+fn with_these(
+    alloc: Global,
+    function: &VFunc,
+    starts: &[BitSet],
+    blocks: Vec<Block<u32>>,
+) -> Result<VFunc, AllocError>
+    requires kept { blocks.items ≡ map (kept_block function.now.registers starts.now) function.now.code.blocks }
+    requires closed { Closed function.now.registers starts.now function.now.code.blocks }
+    ensures { IfOk result (λ w. Keeps (virtual_code function.now) (virtual_code w)) }
 {
-    let graph = graph(alloc, function)?;
-    // the graph has them all, so each has a number
-    let _points = graph.uses.len();
-    let live = live_in(alloc, &graph, function.registers)?;
-    without_dead(alloc, function, &live)
+    let made = function.with_blocks(alloc, function.registers, Seq::from_vec(blocks))?;
+    Ok(made)
+}
+
+/// The function without its dead lines, by what is wanted at the beginnings of its blocks, if that is closed.
+fn without_dead(
+    alloc: Global,
+    function: &VFunc,
+    starts: &[BitSet],
+) -> Result<Option<VFunc>, AllocError>
+    ensures { IfOk result (λ o. IfSome o (λ w. Keeps (virtual_code function.now) (virtual_code w))) }
+{
+    let mut set = BitSet::new(alloc, function.registers as usize)?;
+    match kept_blocks(alloc, &mut set, starts, function.code.blocks.as_slice())? {
+        Some(blocks) => Ok(Some(with_these(alloc, function, starts, blocks)?)),
+        None => Ok(None),
+    }
+}
+
+/// The same, if there are any.
+fn without_any_dead(alloc: Global, function: &VFunc) -> Result<Option<VFunc>, AllocError>
+    ensures { IfOk result (λ o. IfSome o (λ w. Keeps (virtual_code function.now) (virtual_code w))) }
+{
+    let guess = guessed(alloc, function)?;
+    if guess.has_dead {
+        without_dead(alloc, function, guess.starts.as_slice())
+    } else {
+        Ok(None)
+    }
 }
 
 /// The function without its dead lines: those that do nothing but write a register whose value isn't used any more. Blocks of memory stay, but have no register
-/// where their address isn't used. It takes about as long and as much memory as finding the live registers does.
+/// where their address isn't used. It takes a bit for each block and register.
 ///
 /// # Errors
 ///
 /// Only where memory was refused.
 pub fn remove_dead_code(alloc: Global, function: VFunc) -> Result<VFunc, AllocError>
-    ensures kept { IfOk result (λ w. Keeps (virtual_code function) (virtual_code w)) }
-    ensures exact { IfOk result (λ w. IsWithoutDead function w) }
+    ensures { IfOk result (λ w. Keeps (virtual_code function) (virtual_code w)) }
 {
-    by_liveness(alloc, &function)
+    match without_any_dead(alloc, &function)? {
+        Some(made) => Ok(made),
+        None => Ok(function),
+    }
 }

@@ -1,13 +1,12 @@
-use Rattle.std.proofs.Common.{◌≡◌}
-use Rattle.vcode.proofs.Results.{becomes_these}
-use Rattle.dead_code.specs.Without.{kept_blocks}
-use Rattle.dead_code.proofs.Keeping.{owed, pushed}
+use Rattle.std.proofs.Common.{ℕ, List, subst}
+use Rattle.std.specs.Prelude.{IfSome}
+use Rattle.vcode.specs.declared.code.Block.{Block}
+use Rattle.dead_code.specs.Without.{Closed}
 use Rattle.dead_code.proofs.remove.without_dead.Goals as goal
 
-pub with_blocks-requires-clause-becomes : goal.with_blocks-requires-clause-becomes
-with_blocks-requires-clause-becomes c =
-    let v = c.args.function.now in
-    let rows = c.args.live.now in
-    let blocks : c.push_blocks.new.kept ≡ kept_blocks rows 0 v.code.blocks =
-    pushed rows c.push_blocks.new.kept c.new-blocks.result c.as_slice.result.now v.code.blocks c.in_ok-push_blocks.ensures c.new-blocks.ensures c.as_slice.ensures in
-    becomes_these v v.registers (kept_blocks rows 0 v.code.blocks) c.push_blocks.new.kept (owed v rows c.requires.live) blocks
+pub with_these-requires-clause-closed : goal.with_these-requires-clause-closed
+with_these-requires-clause-closed c =
+    let closed : Closed c.in_ok-set.set.length c.args.starts.now c.as_slice.result.now =
+    subst (λ o. IfSome o (λ v. Closed c.in_ok-set.set.length c.args.starts.now c.as_slice.result.now)) c.in-Some.is c.in_ok-blocks.ensures.closed in
+    subst (λ (bs : List (Block ℕ)). Closed c.args.function.now.registers c.args.starts.now bs) c.as_slice.ensures
+    (subst (λ n. Closed n c.args.starts.now c.as_slice.result.now) c.in_ok-set.ensures.length closed)
