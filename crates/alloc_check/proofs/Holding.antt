@@ -303,7 +303,7 @@ call_keeps t u n time es is same_begun same_written same_slots same_first cells 
         (λ f. item_past t.first.machine.items k
         (let high : length t.machine.items ≤ k = grind (arith, nat_tests) in
         let long : length t.machine.items ≡ LAST_SAVED + 1 = is.machine in
-        let long2 : length t.first.machine.items ≡ LAST_SAVED + 1 = is.first.machine in
+        let long2 : length t.first.machine.items ≤ LAST_SAVED + 1 = is.first.machine in
         omega arith))
         (cells k)
     at (Slot s) = same (item u.slots.items s) (Slot s) ∙ ap (λ xs. own_by t.written.items (latest t.begun (item xs s) (first_at t.first (Slot s)))) same_slots

@@ -19,10 +19,10 @@ use Rattle.certificates.specs.declared.certificate.Transfer.{Transfer}
 use Rattle.certificates.specs.declared.certificate.Certificate.{Certificate}
 use Rattle.alloc_check.specs.Placed.{Layout, placed_operand, placed_argument, placed_destination, placed_line, placed_jump}
 use Rattle.alloc_check.specs.Owners.{Owners, nobody, own_put, own_move, own_kept, own_also, moved, known, operand_held, args_held, all_hold, are_apart, where_held, received, after_line}
-use Rattle.alloc_check.specs.Certified.{moves_at, begins_at, starts_at, layout_at, transfers, next_point, jump_point, certified_lines, certified_block, certified_blocks, certified_params, placed_by, jump_right, lines_right, blocks_right, own_params, params_placed, entry_right, is_sound}
+use Rattle.alloc_check.specs.Certified.{moves_at, begins_at, starts_at, layout_at, transfers, next_point, jump_point, certified_lines, certified_block, certified_blocks, certified_params, placed_by, jump_right, lines_right, blocks_right, params_placed, entry_right, is_sound}
 use Rattle.alloc_check.specs.Accepted.{exists_in, equalities_exist}
 use Rattle.alloc_check.specs.OwnerTable.{in_table}
-use Rattle.alloc_check.specs.Walk.{put_in, moved_in, known_in, after_reads, receives_in, line_in, lines_in, block_stays, targets_in, jump_in, block_in, blocks_in, params_in, entry_holds, entry_in, sound_in, certified_line}
+use Rattle.alloc_check.specs.Walk.{put_in, moved_in, known_in, after_reads, receives_in, line_in, lines_in, block_stays, targets_in, jump_in, block_in, blocks_in, entry_in, sound_in, certified_line}
 use Rattle.alloc_check.proofs.Starting.{both_hold}
 use Rattle.alloc_check.proofs.Untouched.{stays_is}
 use Rattle.vcode.proofs.Lists.{item_next}
@@ -224,28 +224,16 @@ blocks_are n c p k (b ∷ blocks) every apart starts e h =
 
 -- ---- on entry
 
-params_are : (n : ℕ) (ds : List (Destination ℕ)) (qs : List Location) (own : Owners) (t : Owners → Bool) → list_all (λ d. is_below n d.place) ds ≡ true
-    → list_all (λ d. is_place n d.place) (certified_params ds qs) ≡ true
-    → option_map_or t (params_in n ds qs own) false ≡ (params_placed ds qs && t (own_params ds qs own))
-params_are n [] qs own t e h = refl
-params_are n (d ∷ ds) [] own t e h = refl
-params_are n (d ∷ ds) (q ∷ qs) own t e h =
-    let below = and_parts (nat_lt d.place n) (list_all (λ (x : Destination ℕ). is_below n x.place) ds) e in
-    let placed = and_parts (is_place n q) (list_all (λ (x : Destination Location). is_place n x.place) (certified_params ds qs)) h in
-    ap (λ o. option_map_or t (option_and_then (params_in n ds qs) o) false) (put_is n q d.place own placed.0 below.0)
-    ∙ params_are n ds qs (own_put q d.place own) t below.1 placed.1
-
 and_assoc : (a b c : Bool) → ((a && b) && c) ≡ (a && (b && c))
 and_assoc true b c = refl
 and_assoc false b c = refl
 
 apart_sound : (n : ℕ) (v : Code ℕ) (c : Certificate) → keeps_places (is_below n) v ≡ true → list_all (exists_in n) c.everywhere ≡ true → equalities_exist n c.starts ≡ true
-    → keeps_places (is_place n) (placed_by v c) ≡ true → are_apart c.everywhere ≡ true → (entry_in n v c && blocks_in n c.everywhere c 0 0 v.blocks) ≡ is_sound v c
+    → keeps_places (is_place n) (placed_by v c) ≡ true → are_apart c.everywhere ≡ true → (entry_in v c && blocks_in n c.everywhere c 0 0 v.blocks) ≡ is_sound v c
 apart_sound n v c e every starts h apart =
     let below = and_parts (list_all (λ (d : Destination ℕ). is_below n d.place) v.params) (list_all (block_keeps (is_below n)) v.blocks) e in
     let placed = and_parts (list_all (λ (d : Destination Location). is_place n d.place) (certified_params v.params c.params)) (list_all (block_keeps (is_place n)) (certified_blocks c 0 v.blocks)) h in
-    ap (λ t. t && blocks_in n c.everywhere c 0 0 v.blocks) (params_are n v.params c.params nobody (entry_holds v.params (starts_at c 0)) below.0 placed.0)
-    ∙ ap (λ t. (params_placed v.params c.params && entry_right v c) && t) (blocks_are n c 0 0 v.blocks every apart starts below.1 placed.1)
+    ap (λ t. entry_in v c && t) (blocks_are n c 0 0 v.blocks every apart starts below.1 placed.1)
     ∙ and_assoc (params_placed v.params c.params) (entry_right v c) (blocks_right c 0 0 v.blocks)
 
 pub sound_is : (n : ℕ) (v : Code ℕ) (c : Certificate) → keeps_places (is_below n) v ≡ true → list_all (exists_in n) c.everywhere ≡ true → equalities_exist n c.starts ≡ true
@@ -254,10 +242,10 @@ sound_is n v c e every starts h = by (are_apart c.everywhere) refl
   where
     by : (b : Bool) → are_apart c.everywhere ≡ b → sound_in n v c ≡ (are_apart c.everywhere && is_sound v c)
     by true f =
-        ap (λ b. b && (entry_in n v c && blocks_in n c.everywhere c 0 0 v.blocks)) f
+        ap (λ b. b && (entry_in v c && blocks_in n c.everywhere c 0 0 v.blocks)) f
         ∙ apart_sound n v c e every starts h f
         ∙ sym (ap (λ b. b && is_sound v c) f)
-    by false f = ap (λ b. b && (entry_in n v c && blocks_in n c.everywhere c 0 0 v.blocks)) f ∙ sym (ap (λ b. b && is_sound v c) f)
+    by false f = ap (λ b. b && (entry_in v c && blocks_in n c.everywhere c 0 0 v.blocks)) f ∙ sym (ap (λ b. b && is_sound v c) f)
 
 -- ---- in a loop
 

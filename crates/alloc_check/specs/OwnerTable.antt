@@ -38,7 +38,7 @@ pub record HasRoom (registers : ℕ) (f : First) : Type 0 where
 
 -- what holds at the start of every block
 pub record IsFirst (registers : ℕ) (everywhere : List Equality) (f : First) : Type 0 where
-  pub machine : length f.machine.items ≡ LAST_SAVED + 1
+  pub machine : length f.machine.items ≤ LAST_SAVED + 1
   pub owners : first_at f ≡ known everywhere nobody
   pub places : stands_at f ≡ standing everywhere nowhere
   pub low : (q : Location) (r : ℕ) → known everywhere nobody q ≡ Some r → r < registers

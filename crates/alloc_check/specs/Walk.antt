@@ -18,8 +18,8 @@ use Rattle.certificates.specs.declared.certificate.Transfer.{Transfer}
 use Rattle.certificates.specs.declared.certificate.Certificate.{Certificate}
 use Rattle.cfg_live.specs.Registers.{line_writes}
 use Rattle.alloc_check.specs.Placed.{Layout, placed_line}
-use Rattle.alloc_check.specs.Owners.{Owners, nobody, known, nowhere, standing, own_put, own_move, own_also, own_kept, owns, operand_held, args_held, all_hold, are_apart, where_held}
-use Rattle.alloc_check.specs.Certified.{moves_at, begins_at, starts_at, layout_at, transfers, next_point, jump_point, is_param}
+use Rattle.alloc_check.specs.Owners.{Owners, nobody, known, nowhere, standing, other_than, own_put, own_move, own_also, own_kept, owns, operand_held, args_held, all_hold, are_apart, where_held}
+use Rattle.alloc_check.specs.Certified.{moves_at, begins_at, layout_at, transfers, next_point, jump_point, is_param, params_placed, entry_right}
 use Rattle.alloc_check.specs.OwnerTable.{in_table}
 
 abbrev pub put_in : ℕ → Location → ℕ → Owners → Option Owners
@@ -155,23 +155,20 @@ blocks_in n es c p k (b ∷ blocks) =
     block_in n es c p k b && blocks_in n es c (jump_point p b.lines + 1) (k + 1) blocks
 
 -- on entry
-abbrev pub params_in : ℕ → List (Destination ℕ) → List Location → Owners → Option Owners
-params_in n [] qs own = Some own
-params_in n (d ∷ ds) [] own = None
-params_in n (d ∷ ds) (q ∷ qs) own = option_and_then (params_in n ds qs) (put_in n q d.place own)
+abbrev pub owner_put : (is_there : Bool) → ℕ → Option ℕ → Option ℕ
+owner_put true r o = Some r
+owner_put false r o = other_than r o
 
 abbrev pub entry_holds : List (Destination ℕ) → List Equality → Owners → Bool
 entry_holds ds es own =
     list_all (λ (e : Equality). owns own e.place e.register || not (is_param ds e.register)) es
 
-abbrev pub entry_in : ℕ → Code ℕ → Certificate → Bool
-entry_in n v c =
-    option_map_or (entry_holds v.params (starts_at c 0)) (params_in n v.params c.params nobody)
-    false
+abbrev pub entry_in : Code ℕ → Certificate → Bool
+entry_in v c = params_placed v.params c.params && entry_right v c
 
 abbrev pub sound_in : ℕ → Code ℕ → Certificate → Bool
 sound_in n v c =
-    are_apart c.everywhere && (entry_in n v c && blocks_in n c.everywhere c 0 0 v.blocks)
+    are_apart c.everywhere && (entry_in v c && blocks_in n c.everywhere c 0 0 v.blocks)
 
 -- where that is not beyond the limit
 abbrev pub bounded : ℕ → ℕ → Option ℕ

@@ -35,6 +35,12 @@ fn push_point(
 ) -> Result<(), AllocError>
     ensures { OnOk result (placed.new ≡ placed.old ++ certified_line certificate.now at from.now) }
 {
+    if let Line::Tick { turn, weight } = from {
+        return placed.push(Line::Tick {
+            turn: *turn,
+            weight: *weight,
+        });
+    }
     push_moves(placed, moves_before(certificate, at, from))?;
     let places = By {
         equalities: places_at(certificate, at),

@@ -1,22 +1,23 @@
 //! Whether a certificate is sound: each line finds what it reads, and each jump what its targets ask for.
-ghost use Rattle.std.specs.Prelude.{◌≡◌, ◌<◌, ◌≤◌, ◌+◌, ◌^◌, true, length, IfOk};
+ghost use Rattle.std.specs.Prelude.{◌≡◌, ◌<◌, ◌+◌, ◌^◌, true, IfOk};
 ghost use Rattle.std.specs.List.{list_all};
 ghost use Rattle.alloc_check.specs.Owners.{owns, own_kept, operand_held, args_held, all_hold, where_held};
-ghost use Rattle.alloc_check.specs.Certified.{next_point, jump_point, place_by, starts_at, is_param};
+ghost use Rattle.alloc_check.specs.Certified.{next_point, jump_point, place_by};
 ghost use Rattle.alloc_check.specs.Accepted.{end_point, exists_in};
 ghost use Rattle.alloc_check.specs.OwnerTable.{own_of, IsFirst, IsTable};
-ghost use Rattle.alloc_check.specs.Walk.{put_in, moved_in, known_in, block_stays, targets_in, receives_in, makes_in, line_in, point_in, lines_in, jump_in, block_in, blocks_in, params_in, entry_holds, entry_in, sound_in};
+ghost use Rattle.alloc_check.specs.Walk.{put_in, moved_in, known_in, block_stays, targets_in, receives_in, makes_in, line_in, point_in, lines_in, jump_in, block_in, blocks_in, sound_in};
 
+use crate::entry::is_entered_right;
 use crate::says::{begins_at, moves_at, place_by, places_at};
 use crate::stays::{are_apart, block_stays, owns};
 use crate::table::{Ground, OwnerTable};
 use certificates::certificate::{Certificate, Equality, Transfer};
 use cfg_live::numbering::{jump_point, next_point};
 use std::alloc::{AllocError, Global};
-use vcode::code::{Block, Code};
+use vcode::code::Block;
 use vcode::function::VFunc;
 use vcode::line::{Jump, Line};
-use vcode::place::{Argument, Destination, Location, Operand};
+use vcode::place::{Argument, Destination, Operand};
 
 fn held(table: &OwnerTable, places: &[Equality], value: &Operand<u32>) -> bool
     ensures { result ≡ operand_held (own_of table.now) (place_by places.now) value.now }
@@ -323,76 +324,6 @@ fn blocks(
     true
 }
 
-fn params(
-    table: &mut OwnerTable,
-    ground: &Ground,
-    params: &[Destination<u32>],
-    places: &[Location],
-) -> bool
-    requires table { IsTable ground.now.registers ground.now.everywhere.now 0 table.old }
-    requires few { length params.now ≤ 64 }
-    ensures { where_held result (own_of table.new) ≡ params_in ground.now.registers params.now places.now (own_of table.old) }
-{
-    for (k, param) in params.iter().enumerate() {
-        match places.get(k) {
-            Some(place) => {
-                if !table.put(ground, *place, param.place, k) {
-                    return false;
-                }
-            }
-            None => return false,
-        }
-    }
-    true
-}
-
-fn is_param(params: &[Destination<u32>], register: u32) -> bool
-    ensures { result ≡ is_param params.now register }
-{
-    params.iter().any(|param| register == param.place)
-}
-
-fn entry_holds(table: &OwnerTable, params: &[Destination<u32>], starts: &[Equality]) -> bool
-    ensures { result ≡ entry_holds params.now starts.now (own_of table.now) }
-{
-    for equality in starts {
-        if !owns(table, equality.place, equality.register) && is_param(params, equality.register) {
-            return false;
-        }
-    }
-    true
-}
-
-/// Whether the first block finds what it asks for on entry.
-#[tactic(auto, using(crate::proofs::Starting::both_enter))]
-fn first_holds(table: &OwnerTable, params: &[Destination<u32>], certificate: &Certificate) -> bool
-    ensures { result ≡ entry_holds params.now (starts_at certificate.now 0) (own_of table.now) }
-{
-    entry_holds(table, params, certificate.everywhere.as_slice())
-        && entry_holds(table, params, begins_at(certificate, 0))
-}
-
-fn entry(
-    alloc: Global,
-    registers: u32,
-    code: &Code<u32>,
-    certificate: &Certificate,
-) -> Result<bool, AllocError>
-    requires few { length code.now.params ≤ 64 }
-    ensures { IfOk result (λ b. b ≡ entry_in registers code.now certificate.now) }
-{
-    let ground = Ground {
-        registers,
-        everywhere: &[],
-    };
-    let mut table = OwnerTable::new(alloc, &ground)?;
-    let from = code.params.as_slice();
-    Ok(
-        params(&mut table, &ground, from, certificate.params.as_slice())
-            && first_holds(&table, from, certificate),
-    )
-}
-
 /// Whether what holds everywhere is apart, and each line and each jump finds what it reads and what its targets ask for, as far as the table has room for
 /// places and registers.
 ///
@@ -413,9 +344,7 @@ pub(crate) fn is_sound(
         everywhere: certificate.everywhere.as_slice(),
     };
     let mut table = OwnerTable::new(alloc, &ground)?;
-    if !are_apart(&table, &ground)
-        || !entry(alloc, function.registers, &function.code, certificate)?
-    {
+    if !are_apart(&table, &ground) || !is_entered_right(&function.code, certificate) {
         return Ok(false);
     }
     let from = function.code.blocks.as_slice();

@@ -135,6 +135,13 @@ impl First {
         requires { list_all (exists_in registers) everywhere.now ≡ true }
         ensures { IfOk result (λ f. IsFirst registers everywhere.now f) }
     {
+        if everywhere.is_empty() {
+            return Ok(First {
+                machine: Vec::new(alloc),
+                slots: Vec::new(alloc),
+                places: Vec::new(alloc),
+            });
+        }
         let mut first = nothing(alloc, registers)?;
         know_all(&mut first, registers, everywhere);
         Ok(first)

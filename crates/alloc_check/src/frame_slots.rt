@@ -13,6 +13,9 @@ pub(crate) fn fewest_slots(enough: u32, code: &Code<Location>) -> u32
     ensures few { result ≤ enough }
     ensures fewest { 0 < result → keeps_places (is_place (result - 1)) code.now ≡ false }
 {
+    if names_places(0, code) {
+        return 0;
+    }
     let mut short = 0;
     let mut least = enough;
     while short < least {

@@ -25,6 +25,7 @@
 pub mod accept;
 mod certified;
 mod check;
+mod entry;
 mod first;
 mod fits;
 mod frame_slots;

@@ -44,7 +44,7 @@ fn has_lengths(code: &Code<u32>, certificate: &Certificate) -> bool
     certificate.params.len() == code.params.len()
         && certificate.starts.len() == blocks.len()
         && are_points(blocks, certificate.moves.len())
-        && are_points(blocks, certificate.places.len())
+        && certificate.moves.len() == certificate.places.len()
 }
 
 /// Whether each list of the certificate is as long as the function asks, all registers and places that it knows of exist, and no point has two places for a

@@ -13,7 +13,7 @@ loop-short-preserved c =
         c.loop-short.invariant.1.0,
         (
           c.loop-short.invariant.1.1.0,
-          λ some. ap (λ n. keeps_places (is_place n) c.args.code.now) up ∙ sym c.names_places.ensures ∙ c.if-names_places.false,
+          λ some. ap (λ n. keeps_places (is_place n) c.args.code.now) up ∙ sym c.names_places-in-loop-short.ensures ∙ c.if-names_places-2.false,
         ),
       ),
     )
