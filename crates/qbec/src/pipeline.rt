@@ -86,7 +86,6 @@ enum Pass {
     SignExtensions,
     Joining,
     Propagation,
-    Hoisting,
     ValueNumbering,
     Sinking,
     DeadCode,
@@ -97,13 +96,11 @@ enum Pass {
 }
 
 /// All of them, in the order in which they go over a function.
-const PASSES: [Pass; 12] = [
+const PASSES: [Pass; 10] = [
     Pass::SignExtensions,
     Pass::Joining,
     Pass::Propagation,
-    Pass::Hoisting,
     Pass::ValueNumbering,
-    Pass::Propagation,
     Pass::Sinking,
     Pass::DeadCode,
     Pass::ReadCopies,
@@ -111,6 +108,26 @@ const PASSES: [Pass; 12] = [
     Pass::TailCopies,
     Pass::BlockOrder,
 ];
+
+/// The function with values used again, and with what is known then carried forward.
+fn reused(alloc: Global, function: VFunc) -> Result<VFunc, AllocError>
+    ensures { IfOk result (λ w. Keeps (virtual_code function) (virtual_code w)) }
+{
+    match reuse_values(alloc, &function)? {
+        Some(made) => propagate(alloc, made),
+        None => Ok(function),
+    }
+}
+
+/// The same, with computations of its loops in front of them first.
+fn with_values_reused(alloc: Global, function: VFunc) -> Result<VFunc, AllocError>
+    ensures { IfOk result (λ w. Keeps (virtual_code function) (virtual_code w)) }
+{
+    match hoist(alloc, &function)? {
+        Some(hoisted) => reused(alloc, hoisted),
+        None => reused(alloc, function),
+    }
+}
 
 /// The function by one pass.
 fn passed(alloc: Global, pass: Pass, function: VFunc) -> Result<VFunc, AllocError>
@@ -120,8 +137,7 @@ fn passed(alloc: Global, pass: Pass, function: VFunc) -> Result<VFunc, AllocErro
         Pass::SignExtensions => copy_whole_words(alloc, function),
         Pass::Joining => join_blocks(alloc, function),
         Pass::Propagation => propagate(alloc, function),
-        Pass::Hoisting => hoist(alloc, function),
-        Pass::ValueNumbering => reuse_values(alloc, function),
+        Pass::ValueNumbering => with_values_reused(alloc, function),
         Pass::Sinking => sink(alloc, function),
         Pass::DeadCode => remove_dead_code(alloc, function),
         Pass::ReadCopies => read_copies(alloc, function),

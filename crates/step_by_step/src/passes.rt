@@ -20,6 +20,18 @@ fn shown(alloc: Global, made: Result<VFunc, AllocError>) -> Option<String> {
     virtual_text(alloc, &function).ok()
 }
 
+/// The text of what a pass made of a function, or of that where the pass left it.
+fn shown_or_left(
+    alloc: Global,
+    function: VFunc,
+    made: Result<Option<VFunc>, AllocError>,
+) -> Option<String> {
+    match made.ok()? {
+        Some(made) => virtual_text(alloc, &made).ok(),
+        None => virtual_text(alloc, &function).ok(),
+    }
+}
+
 /// The text of what was made of a function, or that it was refused.
 pub fn shown_or_refused(alloc: Global, made: Result<Option<VFunc>, AllocError>) -> Option<String> {
     match made.ok()? {
@@ -62,13 +74,15 @@ pub fn forwarded(alloc: Global, text: &str) -> Option<String> {
 /// The function with computations of its loops done in front of them too.
 pub fn with_computations_hoisted(alloc: Global, text: &str) -> Option<String> {
     let function = virtual_function(alloc, text)?;
-    shown(alloc, hoist(alloc, function))
+    let made = hoist(alloc, &function);
+    shown_or_left(alloc, function, made)
 }
 
 /// The function with lines as copies that compute what a register holds.
 pub fn with_values_reused(alloc: Global, text: &str) -> Option<String> {
     let function = virtual_function(alloc, text)?;
-    shown(alloc, reuse_values(alloc, function))
+    let made = reuse_values(alloc, &function);
+    shown_or_left(alloc, function, made)
 }
 
 /// The function with numbers set where they are wanted.

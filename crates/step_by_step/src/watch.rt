@@ -5,7 +5,7 @@ use crate::{allocation, frames, phis};
 use std::alloc::Global;
 use text_maker::maker::TextMaker;
 
-/// The passes on virtual code, in the order of the compiler.
+/// The passes on virtual code, in the order of the compiler, which leaves the second propagation out where no value was used again.
 const PASSES: [Step; 12] = [
     Step::SignExtensions,
     Step::Joining,
