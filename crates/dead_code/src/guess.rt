@@ -10,8 +10,11 @@ use vcode::code::Block;
 use vcode::function::VFunc;
 use vcode::line::{Jump, Line};
 
-/// How many sweeps there are at most. Blocks that stand as they run take as many as loops are nested, and one more or two.
-const SWEEPS: u32 = 100;
+/// How many sweeps there are at least, if more is wanted. Blocks that stand as they run take as many as loops are nested, and one more or two.
+const SWEEPS: usize = 20;
+
+/// So many blocks are walked over in further sweeps, about, and no more.
+const WALKS: usize = 1_000_000;
 
 /// What each block wants at its beginning, and whether a line is dead by that.
 #[derive(Drop)]
@@ -109,11 +112,19 @@ fn empty_sets(alloc: Global, count: usize, registers: usize) -> Result<Vec<BitSe
     Ok(sets)
 }
 
+/// How many sweeps there are at most over so many blocks.
+fn most_sweeps(blocks: usize) -> usize {
+    WALKS
+        .checked_div(blocks)
+        .unwrap_or(0)
+        .saturating_add(SWEEPS)
+}
+
 /// Lets what blocks want grow, until none wants more that a later one leads to.
 fn sweep_all(guess: &mut Guess, set: &mut BitSet, blocks: &[Block<u32>])
     requires { list_all (block_keeps (is_below set.old.length)) blocks.now ≡ true }
 {
-    for _ in 0..SWEEPS {
+    for _ in 0..most_sweeps(blocks.len()) {
         if !sweep(guess, set, blocks) {
             return;
         }
