@@ -27,7 +27,7 @@ impl SpillAll {
 pub fn slots(alloc: Global, registers: u32) -> Result<Vec<Location>, AllocError>
     ensures { IfOk result (λ v. v.items ≡ slots registers) }
 {
-    let mut list = Vec::new(alloc);
+    let mut list = Vec::with_capacity(alloc, registers as usize)?;
     for register in 0..registers {
         list.push(Location::Slot(register))?;
     }

@@ -382,25 +382,25 @@ fn drop_unwanted(nodes: &mut Nodes, wanted: &[bool]) {
 }
 
 impl Nodes {
-    /// None, of a function with so many blocks.
-    ///
-    /// # Errors
-    ///
-    /// Only where memory was refused.
-    pub fn new(alloc: Global, blocks: usize) -> Result<Nodes, AllocError> {
-        let mut entering = Vec::new(alloc);
-        entering.resize(blocks, None)?;
-        let mut leaving = Vec::new(alloc);
-        leaving.resize(blocks, None)?;
-        let mut landing = Vec::new(alloc);
-        landing.resize(blocks, None)?;
-        Ok(Nodes {
+    /// None.
+    pub fn new(alloc: Global) -> Nodes {
+        Nodes {
             list: Vec::new(alloc),
-            entering,
-            leaving,
+            entering: Vec::new(alloc),
+            leaving: Vec::new(alloc),
             landings: Vec::new(alloc),
-            landing,
-        })
+            landing: Vec::new(alloc),
+        }
+    }
+
+    /// Room for so many blocks, the first time.
+    fn open(&mut self, blocks: usize) -> Result<(), AllocError> {
+        if self.entering.len() < blocks {
+            self.entering.resize(blocks, None)?;
+            self.leaving.resize(blocks, None)?;
+            self.landing.resize(blocks, None)?;
+        }
+        Ok(())
     }
 
     fn clear_landings(&mut self) {
@@ -419,17 +419,24 @@ impl Nodes {
         self.list.clear();
     }
 
-    /// The parts of this register in place of those that there were.
+    /// The parts of this register, which has these accesses, in place of those that there were.
     ///
     /// # Errors
     ///
     /// Only where memory was refused.
-    pub fn fill(&mut self, alloc: Global, facts: &Facts, register: u32) -> Result<(), AllocError> {
+    pub fn fill(
+        &mut self,
+        alloc: Global,
+        facts: &Facts,
+        accesses: &[Access],
+        register: u32,
+    ) -> Result<(), AllocError> {
         self.clear();
+        self.open(facts.text.stretches.len())?;
         let ground = Ground {
             text: &facts.text,
             calls: facts.demands.calls.as_slice(),
-            accesses: facts.demands.accesses.of(register),
+            accesses,
         };
         let ranges = match facts.lifetimes.get(register as usize) {
             Some(lifetime) => lifetime.ranges.as_slice(),

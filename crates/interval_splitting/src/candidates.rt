@@ -1,18 +1,19 @@
 //! What stands for registers of the machine, and in which order.
 use crate::slots::Wish;
 use cfg_live::sets::Live;
-use il_ast::few::Few;
 use live_intervals::demands::{Demand, Demands, is_over_call};
 use live_intervals::facts::Facts;
 use live_intervals::groups::Group;
-use live_intervals::lifetimes::Lifetime;
 use live_intervals::positions::Range;
 use std::alloc::{AllocError, Global};
+use vcode::function::VFunc;
 use vcode::place::Location;
 
 /// What registers of the machine are given by.
 #[derive(Clone, Copy)]
 pub struct Ground<'a> {
+    pub function: &'a VFunc,
+
     /// what is known of the function
     pub facts: &'a Facts,
 
@@ -57,9 +58,8 @@ fn length(ranges: &[Range]) -> usize {
     length
 }
 
-fn candidate_of(group: &Group, number: usize, demands: &Demands) -> Candidate {
+fn candidate_of(group: &Group, ranges: &[Range], number: usize, demands: &Demands) -> Candidate {
     let demand = demand_of(demands.registers.as_slice(), group.members.as_slice());
-    let ranges = group.ranges.as_slice();
     let calls = demands.calls.as_slice();
     let length = length(ranges) as u64;
     Candidate {
@@ -95,30 +95,29 @@ pub fn candidates(
 ) -> Result<Vec<Candidate>, AllocError> {
     let mut candidates = Vec::with_capacity(alloc, groups.len())?;
     for (number, group) in groups.iter().enumerate() {
-        if group.ranges.len() > 0 {
-            candidates.push(candidate_of(group, number, &facts.demands))?;
+        let ranges = group.ranges(facts.lifetimes.as_slice());
+        if ranges.len() > 0 {
+            candidates.push(candidate_of(group, ranges, number, &facts.demands))?;
         }
     }
-    candidates.sort()?;
-    candidates.reverse();
+    if 1 < candidates.len() {
+        candidates.sort()?;
+        candidates.reverse();
+    }
     Ok(candidates)
 }
 
-fn push_single(
-    alloc: Global,
-    singles: &mut Vec<Group>,
-    lifetimes: &[Lifetime],
-    register: u32,
-) -> Result<(), AllocError> {
-    let mut members = Few::new(alloc);
-    members.push(register)?;
-    let mut ranges = Vec::new(alloc);
-    match lifetimes.get(register as usize) {
-        Some(lifetime) => ranges.extend_from_slice(lifetime.ranges.as_slice())?,
-        None => {}
+/// Whether some register that has values has no register of the machine yet.
+pub fn is_left_over(list: &[Location], facts: &Facts) -> bool {
+    for (register, lifetime) in facts.lifetimes.iter().enumerate() {
+        if lifetime.ranges.len() > 0 {
+            match list.get(register) {
+                Some(Location::Slot(_)) => return true,
+                _ => {}
+            }
+        }
     }
-    singles.push(Group { members, ranges })?;
-    Ok(())
+    false
 }
 
 fn push_singles(
@@ -130,7 +129,7 @@ fn push_singles(
 ) -> Result<(), AllocError> {
     for register in members {
         if is_unplaced(list, *register) && !facts.starts.is_throughout(*register) {
-            push_single(alloc, singles, facts.lifetimes.as_slice(), *register)?;
+            singles.push(Group::single(alloc, *register)?)?;
         }
     }
     Ok(())

@@ -1,7 +1,7 @@
 //! Whether a candidate gets a register of the machine, and which one.
 use crate::candidates::{Candidate, Ground};
 use crate::cutting::{Cutter, should_keep};
-use crate::rooms::{Choice, Room, room_for};
+use crate::rooms::{Choice, Rooms, room_for};
 use live_intervals::facts::Facts;
 use live_intervals::groups::Group;
 use std::alloc::{AllocError, Global};
@@ -20,13 +20,14 @@ fn is_throughout(facts: &Facts, members: &[u32]) -> bool {
 /// Only where memory was refused.
 pub fn choice(
     alloc: Global,
-    rooms: &[Room],
+    rooms: &Rooms,
     cutter: &mut Cutter,
     ground: Ground,
     candidate: &Candidate,
     group: &Group,
 ) -> Result<Option<usize>, AllocError> {
-    match room_for(rooms, candidate, group.ranges.as_slice()) {
+    let ranges = group.ranges(ground.facts.lifetimes.as_slice());
+    match room_for(rooms, candidate, ranges) {
         Some(Choice::Free(k)) => Ok(Some(k)),
         Some(Choice::Unused(k)) if 4 < candidate.weight => {
             let members = group.members.as_slice();

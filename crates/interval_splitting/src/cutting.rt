@@ -2,38 +2,49 @@
 use crate::candidates::{Candidate, Ground, is_unplaced};
 use crate::credit::{Credit, credit_of};
 use crate::cuts::{Cuts, Move, cuts_of};
-use crate::rooms::{Room, room_for_part, take_room};
+use crate::rooms::{Rooms, room_for_part};
 use cfg_live::sets::Live;
 use interval_parts::nodes::Nodes;
 use interval_parts::regions::{
     Member, Reach, View, balance_of, enter_all, give, leaders, members, ranges,
 };
-use live_intervals::accesses::{Access, part, rest};
+use live_intervals::accesses::{Access, Accesses, part, rest};
+use live_intervals::demands::accesses_of;
 use live_intervals::facts::Facts;
 use std::alloc::{AllocError, Global};
-use vcode::function::VFunc;
 use vcode::place::Location;
 
 /// What cutting has come to.
 #[derive(Drop)]
 pub struct Cutter {
     nodes: Nodes,
+
+    /// those of all registers, found where they are first asked for
+    accesses: Accesses,
+
     credit: Credit,
     cuts: Cuts,
 }
 
 impl Cutter {
-    /// Nothing is cut yet.
-    ///
-    /// # Errors
-    ///
-    /// Only where memory was refused.
-    pub fn new(alloc: Global, function: &VFunc) -> Result<Cutter, AllocError> {
-        Ok(Cutter {
-            nodes: Nodes::new(alloc, function.code.blocks.len())?,
+    /// Nothing is cut yet. The accesses may be unknown.
+    pub fn new(alloc: Global, accesses: Accesses) -> Cutter {
+        Cutter {
+            nodes: Nodes::new(alloc),
+            accesses,
             credit: Credit::none(alloc),
             cuts: Cuts::new(alloc),
-        })
+        }
+    }
+
+    /// Finds the accesses, if they are unknown.
+    fn find_accesses(&mut self, alloc: Global, ground: Ground) -> Result<(), AllocError> {
+        if self.accesses.are_unknown() {
+            let function = ground.function;
+            let text = &ground.facts.text;
+            self.accesses = accesses_of(alloc, &function.code, function.registers, text)?;
+        }
+        Ok(())
     }
 
     /// What is done where registers are cut, in the order of the text.
@@ -60,7 +71,7 @@ struct Subject<'a> {
     hint: Option<u8>,
 }
 
-fn subject_of<'a>(ground: Ground<'a>, register: u32) -> Subject<'a> {
+fn subject_of<'a>(ground: Ground<'a>, accesses: &'a Accesses, register: u32) -> Subject<'a> {
     let facts = ground.facts;
     let hint = match facts.demands.registers.get(register as usize) {
         Some(demand) if 0 < demand.hint.weight => Some(demand.hint.argument),
@@ -70,7 +81,7 @@ fn subject_of<'a>(ground: Ground<'a>, register: u32) -> Subject<'a> {
         facts,
         live: ground.live,
         register,
-        accesses: facts.demands.accesses.of(register),
+        accesses: accesses.of(register),
         hint,
     }
 }
@@ -90,7 +101,7 @@ fn give_region(
     alloc: Global,
     view: View,
     nodes: &mut Nodes,
-    rooms: &mut [Room],
+    rooms: &mut Rooms,
     hint: Option<u8>,
     members: &[Member],
 ) -> Result<(), AllocError> {
@@ -105,7 +116,7 @@ fn give_region(
         Some(k) => k,
         None => return Ok(()),
     };
-    take_room(rooms, k, ranges.as_slice());
+    rooms.take(k, ranges.as_slice());
     give(view, nodes, members, k, is_saved)
 }
 
@@ -129,7 +140,7 @@ fn give_regions(
     alloc: Global,
     view: View,
     nodes: &mut Nodes,
-    rooms: &mut [Room],
+    rooms: &mut Rooms,
     hint: Option<u8>,
     members: &[Member],
 ) -> Result<(), AllocError> {
@@ -150,7 +161,7 @@ fn give_within(
     alloc: Global,
     subject: Subject,
     nodes: &mut Nodes,
-    rooms: &mut [Room],
+    rooms: &mut Rooms,
     reach: Reach,
 ) -> Result<(), AllocError> {
     let leaders = leaders(alloc, &subject.facts.text, nodes, reach)?;
@@ -187,7 +198,7 @@ fn give_all(
     alloc: Global,
     subject: Subject,
     nodes: &mut Nodes,
-    rooms: &mut [Room],
+    rooms: &mut Rooms,
 ) -> Result<(), AllocError> {
     give_within(alloc, subject, nodes, rooms, Reach::Loops(0))?;
     if nodes.list.len() < 2 {
@@ -234,19 +245,21 @@ fn may_be_cut(subject: Subject) -> bool {
 /// Cuts the register, if the moves are paid for.
 fn cut(
     alloc: Global,
-    cutter: &mut Cutter,
-    rooms: &mut [Room],
+    nodes: &mut Nodes,
+    credit: &mut Credit,
+    cuts: &mut Cuts,
+    rooms: &mut Rooms,
     subject: Subject,
 ) -> Result<(), AllocError> {
     if !may_be_cut(subject) {
         return Ok(());
     }
-    cutter.nodes.fill(alloc, subject.facts, subject.register)?;
-    give_all(alloc, subject, &mut cutter.nodes, rooms)?;
+    nodes.fill(alloc, subject.facts, subject.accesses, subject.register)?;
+    give_all(alloc, subject, nodes, rooms)?;
     let none = [];
-    let own = cuts_of(alloc, view(subject, none.as_slice()), &cutter.nodes)?;
-    if pay_all(&mut cutter.credit, own.moves.as_slice()) {
-        cutter.cuts.append(&own)?;
+    let own = cuts_of(alloc, view(subject, none.as_slice()), nodes)?;
+    if pay_all(credit, own.moves.as_slice()) {
+        cuts.append(&own)?;
     }
     Ok(())
 }
@@ -254,14 +267,22 @@ fn cut(
 fn cut_members(
     alloc: Global,
     cutter: &mut Cutter,
-    rooms: &mut [Room],
+    rooms: &mut Rooms,
     list: &[Location],
     ground: Ground,
     members: &[u32],
 ) -> Result<(), AllocError> {
     for register in members {
         if is_unplaced(list, *register) {
-            cut(alloc, cutter, rooms, subject_of(ground, *register))?;
+            let subject = subject_of(ground, &cutter.accesses, *register);
+            cut(
+                alloc,
+                &mut cutter.nodes,
+                &mut cutter.credit,
+                &mut cutter.cuts,
+                rooms,
+                subject,
+            )?;
         }
     }
     Ok(())
@@ -275,16 +296,17 @@ fn cut_members(
 pub fn cut_all(
     alloc: Global,
     cutter: &mut Cutter,
-    rooms: &mut [Room],
+    rooms: &mut Rooms,
     list: &[Location],
     ground: Ground,
     candidates: &[Candidate],
-    function: &VFunc,
 ) -> Result<(), AllocError> {
     if candidates.is_empty() {
         return Ok(());
     }
-    cutter.credit = credit_of(alloc, function.code.blocks.as_slice(), &ground.facts.text)?;
+    cutter.find_accesses(alloc, ground)?;
+    let blocks = ground.function.code.blocks.as_slice();
+    cutter.credit = credit_of(alloc, blocks, &ground.facts.text)?;
     for candidate in candidates {
         match ground.groups.get(candidate.group) {
             Some(group) => {
@@ -343,7 +365,7 @@ fn cut_costs_over_kept(
     subject: Subject,
 ) -> Result<u64, AllocError> {
     let (all, through) = costs(subject.accesses);
-    nodes.fill(alloc, subject.facts, subject.register)?;
+    nodes.fill(alloc, subject.facts, subject.accesses, subject.register)?;
     let wide = best_of(alloc, subject, nodes, Reach::Loops(0))?;
     let alone = best_of(alloc, subject, nodes, Reach::Alone)?;
     Ok(all.saturating_sub(wide.max(alone)).saturating_sub(through))
@@ -360,9 +382,10 @@ pub(crate) fn should_keep(
     ground: Ground,
     members: &[u32],
 ) -> Result<bool, AllocError> {
+    cutter.find_accesses(alloc, ground)?;
     let mut cost = 0u64;
     for register in members {
-        let subject = subject_of(ground, *register);
+        let subject = subject_of(ground, &cutter.accesses, *register);
         let more = cut_costs_over_kept(alloc, &mut cutter.nodes, subject)?;
         cost = cost.saturating_add(more);
     }

@@ -4,17 +4,21 @@ use interval_parts::regions::Balance;
 use live_intervals::positions::Range;
 use std::alloc::{AllocError, Global};
 
-/// The positions at which a register of the machine is taken, one bit each.
-#[derive(Drop)]
-pub struct Room {
-    /// those of the first 64, which stand here so that small functions take no memory for them
-    first: u64,
+/// How many registers of the machine there are.
+pub const ROOMS: usize = 23;
 
-    /// those behind
+/// The positions at which each register of the machine is taken, one bit each.
+#[derive(Drop)]
+pub struct Rooms {
+    /// those of the first 64, which stand here so that small functions take no memory for them
+    first: [u64; ROOMS],
+
+    /// those behind, as many words for each register
     more: Vec<u64>,
+    words: usize,
 
     /// whether some value stands in it
-    pub is_used: bool,
+    used: [bool; ROOMS],
 }
 
 /// The bits of the k-th word that belong to positions of the range.
@@ -32,93 +36,99 @@ fn mask(range: Range, k: usize) -> u64 {
     low & high
 }
 
-fn is_free(room: &Room, range: Range) -> bool {
-    for k in range.start / 64..range.end / 64 + 1 {
-        match room.word(k) {
-            Some(word) => {
-                if word & mask(range, k) != 0 {
-                    return false;
-                }
-            }
-            None => return false,
-        }
-    }
-    true
-}
-
-fn take(room: &mut Room, range: Range) {
-    for k in range.start / 64..range.end / 64 + 1 {
-        room.add(k, mask(range, k));
-    }
-}
-
-impl Room {
-    /// The k-th 64 positions, if there are that many.
-    fn word(&self, k: usize) -> Option<u64> {
-        match k.checked_sub(1) {
-            Some(behind) => self.more.get(behind).copied(),
-            None => Some(self.first),
-        }
-    }
-
-    /// Takes some of the k-th 64 positions, if there are that many.
-    fn add(&mut self, k: usize, positions: u64) {
-        match k.checked_sub(1) {
-            Some(behind) => match self.more.get_mut(behind) {
-                Some(word) => *word |= positions,
-                None => {}
-            },
-            None => self.first |= positions,
-        }
-    }
-
-    /// A register that is free at so many positions.
+impl Rooms {
+    /// Registers that are free at all positions of so many points.
     ///
     /// # Errors
     ///
     /// Only where memory was refused.
-    pub fn new(alloc: Global, positions: usize) -> Result<Room, AllocError> {
-        let more = vec![in alloc; 0u64; positions / 64]?;
-        Ok(Room {
-            first: 0,
-            more,
-            is_used: false,
+    pub fn new(alloc: Global, points: usize) -> Result<Rooms, AllocError> {
+        let words = points.saturating_mul(2) / 64;
+        Ok(Rooms {
+            first: [0; ROOMS],
+            more: vec![in alloc; 0u64; words.saturating_mul(ROOMS)]?,
+            words,
+            used: [false; ROOMS],
         })
     }
 
-    /// Whether it is free at all positions of the ranges.
-    pub fn is_free(&self, ranges: &[Range]) -> bool {
-        ranges.iter().all(|range| is_free(self, *range))
+    /// The number of the w-th word behind the first one of the k-th register.
+    fn behind(&self, k: usize, w: usize) -> usize {
+        k.saturating_mul(self.words).saturating_add(w)
     }
 
-    /// Takes it at all positions of the ranges.
-    pub fn take(&mut self, ranges: &[Range]) {
-        self.is_used = true;
-        for range in ranges {
-            take(self, *range);
+    /// The w-th 64 positions of the k-th register, if there are that many.
+    fn word(&self, k: usize, w: usize) -> Option<u64> {
+        match w.checked_sub(1) {
+            Some(w) if w < self.words => self.more.get(self.behind(k, w)).copied(),
+            Some(_) => None,
+            None => { if k < ROOMS { Some(self.first[k]) } else { None } }
         }
     }
-}
 
-/// So many registers that are free at all positions of that many points.
-///
-/// # Errors
-///
-/// Only where memory was refused.
-pub fn rooms(alloc: Global, count: usize, points: usize) -> Result<Vec<Room>, AllocError> {
-    let mut rooms = Vec::with_capacity(alloc, count)?;
-    for _ in 0..count {
-        let room = Room::new(alloc, points.saturating_mul(2))?;
-        rooms.push(room)?;
+    /// Takes some of the w-th 64 positions of the k-th register, if there are that many.
+    fn add(&mut self, k: usize, w: usize, positions: u64) {
+        match w.checked_sub(1) {
+            Some(w) => {
+                if w < self.words {
+                    let at = self.behind(k, w);
+                    match self.more.get_mut(at) {
+                        Some(word) => *word |= positions,
+                        None => {}
+                    }
+                }
+            }
+            None => {
+                if k < ROOMS {
+                    self.first[k] |= positions;
+                }
+            }
+        }
     }
-    Ok(rooms)
-}
 
-/// Takes the k-th register at all positions of the ranges.
-pub fn take_room(rooms: &mut [Room], k: usize, ranges: &[Range]) {
-    match rooms.get_mut(k) {
-        Some(room) => room.take(ranges),
-        None => {}
+    fn is_free_at(&self, k: usize, range: Range) -> bool {
+        for w in range.start / 64..range.end / 64 + 1 {
+            match self.word(k, w) {
+                Some(word) => {
+                    if word & mask(range, w) != 0 {
+                        return false;
+                    }
+                }
+                None => return false,
+            }
+        }
+        true
+    }
+
+    fn take_at(&mut self, k: usize, range: Range) {
+        for w in range.start / 64..range.end / 64 + 1 {
+            self.add(k, w, mask(range, w));
+        }
+    }
+
+    /// Whether the k-th register is free at all positions of the ranges.
+    fn is_free(&self, k: usize, ranges: &[Range]) -> bool {
+        for range in ranges {
+            if !self.is_free_at(k, *range) {
+                return false;
+            }
+        }
+        true
+    }
+
+    /// Whether some value stands in the k-th register.
+    fn is_used(&self, k: usize) -> bool {
+        k < ROOMS && self.used[k]
+    }
+
+    /// Takes the k-th register at all positions of the ranges.
+    pub fn take(&mut self, k: usize, ranges: &[Range]) {
+        if k < ROOMS {
+            self.used[k] = true;
+        }
+        for range in ranges {
+            self.take_at(k, *range);
+        }
     }
 }
 
@@ -134,10 +144,9 @@ fn hinted(hint: u8) -> usize {
 }
 
 /// The register that the candidate would save moves in, if it may stand there.
-fn room_by_hint(rooms: &[Room], candidate: &Candidate, ranges: &[Range]) -> Option<usize> {
+fn room_by_hint(rooms: &Rooms, candidate: &Candidate, ranges: &[Range]) -> Option<usize> {
     let k = hinted(candidate.hint?);
-    let room = rooms.get(k)?;
-    if may_hold(k, candidate) && room.is_free(ranges) {
+    if may_hold(k, candidate) && rooms.is_free(k, ranges) {
         Some(k)
     } else {
         None
@@ -155,15 +164,15 @@ pub enum Choice {
 }
 
 /// The register that the candidate would save moves in, or else the first one that is free for the ranges of the candidate, one that needs no saving if there is one.
-pub fn room_for(rooms: &[Room], candidate: &Candidate, ranges: &[Range]) -> Option<Choice> {
+pub fn room_for(rooms: &Rooms, candidate: &Candidate, ranges: &[Range]) -> Option<Choice> {
     match room_by_hint(rooms, candidate, ranges) {
         Some(k) => return Some(Choice::Free(k)),
         None => {}
     }
     let mut unused = None;
-    for (k, room) in rooms.iter().enumerate() {
-        if may_hold(k, candidate) && room.is_free(ranges) {
-            if k < 11 || room.is_used {
+    for k in 0..ROOMS {
+        if may_hold(k, candidate) && rooms.is_free(k, ranges) {
+            if k < 11 || rooms.is_used(k) {
                 return Some(Choice::Free(k));
             }
             if unused.is_none() {
@@ -175,7 +184,7 @@ pub fn room_for(rooms: &[Room], candidate: &Candidate, ranges: &[Range]) -> Opti
 }
 
 /// The register of the argument by which the value comes or goes, the one that saves most among those that are free.
-fn part_by_argument(rooms: &[Room], balance: Balance, ranges: &[Range]) -> Option<usize> {
+fn part_by_argument(rooms: &Rooms, balance: Balance, ranges: &[Range]) -> Option<usize> {
     let mut most = 0u64;
     let mut best = None;
     for argument in 0..8u8 {
@@ -195,9 +204,9 @@ fn part_by_argument(rooms: &[Room], balance: Balance, ranges: &[Range]) -> Optio
 }
 
 /// The register that the hint names, if it is free.
-fn part_by_hint(rooms: &[Room], hint: Option<u8>, ranges: &[Range]) -> Option<usize> {
+fn part_by_hint(rooms: &Rooms, hint: Option<u8>, ranges: &[Range]) -> Option<usize> {
     let k = hinted(hint?);
-    if rooms.get(k)?.is_free(ranges) {
+    if rooms.is_free(k, ranges) {
         Some(k)
     } else {
         None
@@ -206,7 +215,7 @@ fn part_by_hint(rooms: &[Room], hint: Option<u8>, ranges: &[Range]) -> Option<us
 
 /// A register for a part of a lifetime, over no call: one that the value comes or goes in, or another that is free at these positions and saves something.
 pub(crate) fn room_for_part(
-    rooms: &[Room],
+    rooms: &Rooms,
     hint: Option<u8>,
     balance: Balance,
     ranges: &[Range],
@@ -223,9 +232,9 @@ pub(crate) fn room_for_part(
         None => {}
     }
     let mut unused = None;
-    for (k, room) in rooms.iter().enumerate() {
-        if room.is_free(ranges) {
-            if k < 11 || room.is_used {
+    for k in 0..ROOMS {
+        if rooms.is_free(k, ranges) {
+            if k < 11 || rooms.is_used(k) {
                 return Some(k);
             }
             if unused.is_none() && 4 < balance.net() {

@@ -1,5 +1,7 @@
 //! Slots that are shared by groups that never have values at the same time.
 use live_intervals::groups::Group;
+use live_intervals::lifetimes::Lifetime;
+use live_intervals::positions::Range;
 use std::alloc::{AllocError, Global};
 
 /// A group that wants a slot.
@@ -28,37 +30,37 @@ struct Shared {
     slot: usize,
 }
 
-fn push_events(
-    events: &mut Vec<Event>,
-    groups: &[Group],
-    wish: usize,
-    group: usize,
-) -> Result<(), AllocError> {
-    match groups.get(group) {
-        Some(group) => match (group.ranges.first(), group.ranges.last()) {
-            (Some(first), Some(last)) => {
-                events.push(Event {
-                    at: first.start,
-                    takes: true,
-                    wish,
-                })?;
-                events.push(Event {
-                    at: last.end.saturating_add(1),
-                    takes: false,
-                    wish,
-                })?;
-                Ok(())
-            }
-            _ => Ok(()),
-        },
-        None => Ok(()),
+fn push_events(events: &mut Vec<Event>, wish: usize, ranges: &[Range]) -> Result<(), AllocError> {
+    match (ranges.first(), ranges.last()) {
+        (Some(first), Some(last)) => {
+            events.push(Event {
+                at: first.start,
+                takes: true,
+                wish,
+            })?;
+            events.push(Event {
+                at: last.end.saturating_add(1),
+                takes: false,
+                wish,
+            })?;
+            Ok(())
+        }
+        _ => Ok(()),
     }
 }
 
-fn all_events(alloc: Global, groups: &[Group], wishes: &[Wish]) -> Result<Vec<Event>, AllocError> {
-    let mut events = Vec::new(alloc);
+fn all_events(
+    alloc: Global,
+    groups: &[Group],
+    lifetimes: &[Lifetime],
+    wishes: &[Wish],
+) -> Result<Vec<Event>, AllocError> {
+    let mut events = Vec::with_capacity(alloc, wishes.len().saturating_mul(2))?;
     for (k, wish) in wishes.iter().enumerate() {
-        push_events(&mut events, groups, k, wish.group)?;
+        match groups.get(wish.group) {
+            Some(group) => push_events(&mut events, k, group.ranges(lifetimes))?,
+            None => {}
+        }
     }
     events.sort()?;
     Ok(events)
@@ -125,9 +127,10 @@ fn follow_all(
     alloc: Global,
     sharing: &mut Sharing,
     groups: &[Group],
+    lifetimes: &[Lifetime],
     wishes: &[Wish],
 ) -> Result<(), AllocError> {
-    let events = all_events(alloc, groups, wishes)?;
+    let events = all_events(alloc, groups, lifetimes, wishes)?;
     for event in events.as_slice() {
         follow(sharing, wishes, *event)?;
     }
@@ -157,6 +160,7 @@ fn numbers(alloc: Global, sharing: &mut Sharing) -> Result<Vec<usize>, AllocErro
 pub fn shared_slots(
     alloc: Global,
     groups: &[Group],
+    lifetimes: &[Lifetime],
     wishes: &[Wish],
 ) -> Result<Vec<usize>, AllocError> {
     let mut sharing = Sharing {
@@ -164,7 +168,7 @@ pub fn shared_slots(
         free: Vec::new(alloc),
         slots: vec![in alloc; 0usize; wishes.len()]?,
     };
-    follow_all(alloc, &mut sharing, groups, wishes)?;
+    follow_all(alloc, &mut sharing, groups, lifetimes, wishes)?;
     let numbers = numbers(alloc, &mut sharing)?;
     for slot in sharing.slots.iter_mut() {
         *slot = numbers.get(*slot).copied().unwrap_or(0);

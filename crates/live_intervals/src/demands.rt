@@ -2,9 +2,8 @@
 ghost use Rattle.std.specs.Prelude.{◌≤◌};
 
 use crate::accesses::{Access, Accesses, Kind, sorted};
-use crate::lifetimes::jump_point;
 use crate::positions::Range;
-use loops::depths::frequency;
+use crate::text::Text;
 use std::alloc::{AllocError, Global};
 use vcode::code::{Block, Code};
 use vcode::line::{Jump, Line};
@@ -81,21 +80,23 @@ pub struct Copying {
     pub from: u32,
 }
 
-/// The demands of all registers, the copies between them, for each point how many calls stand before it, and all accesses.
+/// The demands of all registers, the copies between them, and for each point how many calls stand before it; nothing of that where there is no call.
 #[derive(Drop)]
 pub struct Demands {
     pub registers: Vec<Demand>,
     pub copies: Vec<Copying>,
     pub calls: Vec<usize>,
-    pub accesses: Accesses,
 }
 
 fn calls_before(calls: &[usize], point: usize) -> usize {
     calls.get(point).copied().unwrap_or(0)
 }
 
-/// Whether the positions right before and right after some call are both in the range. `calls` has for each point how many calls stand before it.
+/// Whether the positions right before and right after some call are both in the range. `calls` has for each point how many calls stand before it, or nothing.
 pub fn is_over_call(calls: &[usize], range: Range) -> bool {
+    if calls.is_empty() {
+        return false;
+    }
     let first = range.start.saturating_add(1) / 2;
     let end = range.end.saturating_add(1) / 2;
     calls_before(calls, first) < calls_before(calls, end)
@@ -107,7 +108,13 @@ struct Counting {
     registers: Vec<Demand>,
     copies: Vec<Copying>,
     calls: Vec<usize>,
-    accesses: Vec<Access>,
+
+    /// the number of the next point, and how many calls stand before it
+    point: usize,
+    called: usize,
+
+    /// where they are asked for
+    accesses: Option<Vec<Access>>,
 }
 
 fn push_access(
@@ -117,17 +124,21 @@ fn push_access(
     weight: u64,
     through: Hint,
 ) -> Result<(), AllocError> {
-    // there is an item for each point so far, and one before them
-    let point = counting.calls.len().saturating_sub(1);
-    counting.accesses.push(Access {
-        register,
-        point,
-        kind,
-        weight,
-        through: through.weight,
-        argument: through.argument,
-    })?;
-    Ok(())
+    let point = counting.point;
+    match counting.accesses.as_mut() {
+        Some(accesses) => {
+            accesses.push(Access {
+                register,
+                kind,
+                argument: through.argument,
+                point,
+                weight,
+                through: through.weight,
+            })?;
+            Ok(())
+        }
+        None => Ok(()),
+    }
 }
 
 fn add(counting: &mut Counting, register: u32, kind: Kind, weight: u64) -> Result<(), AllocError> {
@@ -323,33 +334,33 @@ fn line(counting: &mut Counting, line: &Line<u32>, often: u64) -> Result<(), All
     }
 }
 
-/// Counts the calls before the point behind one.
-fn push_point(calls: &mut Vec<usize>, is_call: bool) -> Result<(), AllocError> {
-    let before = match calls.last() {
-        Some(before) => *before,
-        None => 0,
-    };
-    let after = if is_call {
-        before.saturating_add(1)
-    } else {
-        before
-    };
-    calls.push(after)?;
+/// Goes on behind a point. A call has the calls before it noted for it and the points before it that follow the last one.
+fn pass_point(counting: &mut Counting, is_call: bool) -> Result<(), AllocError> {
+    counting.point = counting.point.saturating_add(1);
+    if is_call {
+        counting.calls.resize(counting.point, counting.called)?;
+        counting.called = counting.called.saturating_add(1);
+    }
     Ok(())
 }
 
-fn push_line(calls: &mut Vec<usize>, line: &Line<u32>) -> Result<(), AllocError> {
-    match line {
+fn pass_line(counting: &mut Counting, from: &Line<u32>, often: u64) -> Result<(), AllocError> {
+    match from {
         Line::Tick { .. } => Ok(()),
-        Line::Call { .. } => push_point(calls, true),
-        _ => push_point(calls, false),
+        Line::Call { .. } => {
+            line(counting, from, often)?;
+            pass_point(counting, true)
+        }
+        _ => {
+            line(counting, from, often)?;
+            pass_point(counting, false)
+        }
     }
 }
 
 fn lines(counting: &mut Counting, lines: &[Line<u32>], often: u64) -> Result<(), AllocError> {
     for from in lines {
-        line(counting, from, often)?;
-        push_line(&mut counting.calls, from)?;
+        pass_line(counting, from, often)?;
     }
     Ok(())
 }
@@ -357,31 +368,54 @@ fn lines(counting: &mut Counting, lines: &[Line<u32>], often: u64) -> Result<(),
 fn block(counting: &mut Counting, block: &Block<u32>, often: u64) -> Result<(), AllocError> {
     lines(counting, block.lines.as_slice(), often)?;
     jump(counting, &block.jump, often)?;
-    push_point(&mut counting.calls, false)
+    pass_point(counting, false)
 }
 
-fn blocks(
-    counting: &mut Counting,
-    blocks: &[Block<u32>],
-    depths: &[u32],
-) -> Result<(), AllocError> {
+fn blocks(counting: &mut Counting, blocks: &[Block<u32>], text: &Text) -> Result<(), AllocError> {
     for (k, from) in blocks.iter().enumerate() {
-        let depth = depths.get(k).copied().unwrap_or(0);
-        block(counting, from, frequency(depth))?;
+        block(counting, from, text.often(k))?;
     }
     Ok(())
 }
 
-/// How many points the blocks have.
-fn point_count(blocks: &[Block<u32>]) -> usize {
-    let mut points = 0usize;
-    for block in blocks {
-        points = jump_point(points, block.lines.as_slice()).saturating_add(1);
-    }
-    points
+/// All of the code.
+fn counted(
+    alloc: Global,
+    code: &Code<u32>,
+    registers: u32,
+    text: &Text,
+    with_accesses: bool,
+) -> Result<Counting, AllocError> {
+    let accesses = if with_accesses {
+        Some(Vec::with_capacity(alloc, text.points().saturating_mul(2))?)
+    } else {
+        None
+    };
+    let mut counting = Counting {
+        registers: vec![in alloc; Demand::none(); registers as usize]?,
+        copies: Vec::new(alloc),
+        calls: Vec::new(alloc),
+        point: 0,
+        called: 0,
+        accesses,
+    };
+    params(&mut counting, code.params.as_slice())?;
+    blocks(&mut counting, code.blocks.as_slice(), text)?;
+    Ok(counting)
 }
 
-/// The demands of the registers of this code, whose blocks lie in so many loops each.
+fn accesses_in(
+    alloc: Global,
+    found: Option<Vec<Access>>,
+    registers: u32,
+) -> Result<Accesses, AllocError> {
+    match found {
+        Some(accesses) => sorted(alloc, accesses, registers),
+        None => Ok(Accesses::none(alloc)),
+    }
+}
+
+/// The demands of the registers of this code, and all accesses of them if those are asked for.
 ///
 /// # Errors
 ///
@@ -390,24 +424,34 @@ pub(crate) fn demands_of(
     alloc: Global,
     code: &Code<u32>,
     registers: u32,
-    depths: &[u32],
-) -> Result<Demands, AllocError> {
-    let points = point_count(code.blocks.as_slice());
-    let mut calls = Vec::with_capacity(alloc, points.saturating_add(1))?;
-    calls.push(0)?;
-    let mut counting = Counting {
-        registers: vec![in alloc; Demand::none(); registers as usize]?,
-        copies: Vec::new(alloc),
-        calls,
-        accesses: Vec::with_capacity(alloc, points.saturating_mul(2))?,
-    };
-    params(&mut counting, code.params.as_slice())?;
-    blocks(&mut counting, code.blocks.as_slice(), depths)?;
-    let accesses = sorted(alloc, counting.accesses, registers)?;
-    Ok(Demands {
+    text: &Text,
+    with_accesses: bool,
+) -> Result<(Demands, Accesses), AllocError> {
+    let mut counting = counted(alloc, code, registers, text, with_accesses)?;
+    if 0 < counting.called {
+        let behind = counting.point.saturating_add(1);
+        counting.calls.resize(behind, counting.called)?;
+    }
+    let accesses = accesses_in(alloc, counting.accesses, registers)?;
+    let demands = Demands {
         registers: counting.registers,
         copies: counting.copies,
         calls: counting.calls,
-        accesses,
-    })
+    };
+    Ok((demands, accesses))
+}
+
+/// All accesses of the registers of this code.
+///
+/// # Errors
+///
+/// Only where memory was refused.
+pub fn accesses_of(
+    alloc: Global,
+    code: &Code<u32>,
+    registers: u32,
+    text: &Text,
+) -> Result<Accesses, AllocError> {
+    let counting = counted(alloc, code, registers, text, true)?;
+    accesses_in(alloc, counting.accesses, registers)
 }

@@ -1,13 +1,13 @@
 //! All that is known of a function before registers are given.
+use crate::accesses::Accesses;
 use crate::demands::{Demands, demands_of};
 use crate::lifetimes::{Lifetime, lifetimes};
-use crate::starts::{self, Starts, starts_of};
+use crate::starts::{self, Starts, line_count, starts_of};
 use crate::text::{Text, text_of};
-use cfg_live::points::uses_of;
 use cfg_live::sets::Live;
-use cfg_live::uses::Uses;
 use loops::depths::{depths_along, sources};
 use std::alloc::{AllocError, Global};
+use vcode::code::Block;
 use vcode::function::VFunc;
 
 /// What is known of a function.
@@ -15,9 +15,6 @@ use vcode::function::VFunc;
 pub struct Facts {
     /// its blocks
     pub text: Text,
-
-    /// what each of its points reads and writes
-    pub points: Vec<Uses>,
 
     /// what is live where blocks begin
     pub starts: Starts,
@@ -27,27 +24,19 @@ pub struct Facts {
 
     /// what registers are used for
     pub demands: Demands,
+
+    /// where registers are accessed, if that had to be found already
+    pub accesses: Accesses,
 }
 
-fn text_and_demands(alloc: Global, function: &VFunc) -> Result<(Text, Demands), AllocError> {
-    let blocks = function.code.blocks.as_slice();
+fn text(alloc: Global, blocks: &[Block<u32>]) -> Result<Text, AllocError> {
     let sources = sources(alloc, blocks)?;
     let depths = depths_along(alloc, blocks, sources.as_slice())?;
-    let demands = demands_of(alloc, &function.code, function.registers, depths.as_slice())?;
-    let text = text_of(alloc, blocks, depths.as_slice(), sources)?;
-    Ok((text, demands))
+    text_of(alloc, blocks, depths.as_slice(), sources)
 }
 
-fn lifetimes_of(
-    alloc: Global,
-    function: &VFunc,
-    starts: &Starts,
-    text: &Text,
-    points: &[Uses],
-) -> Result<Vec<Lifetime>, AllocError> {
-    let params = function.code.params.as_slice();
-    lifetimes(alloc, function.registers, params, points, starts, text)
-}
+/// So many registers are mostly enough for some of them to be cut, which asks for all accesses.
+const FEW: u32 = 64;
 
 /// The facts of the function, with so many live registers named where blocks begin, for each line and jump, at most.
 ///
@@ -60,23 +49,26 @@ pub fn facts_of(
     live: &Live,
     live_a_line: usize,
 ) -> Result<Facts, AllocError> {
-    let (text, demands) = text_and_demands(alloc, function)?;
+    let code = &function.code;
+    let registers = function.registers;
+    let text = text(alloc, code.blocks.as_slice())?;
+    let most = line_count(code.blocks.as_slice()).saturating_mul(live_a_line);
+    let asked = text.stretches.len().saturating_mul(registers as usize);
+    let with_accesses = FEW < registers || most < asked;
+    let (demands, accesses) = demands_of(alloc, code, registers, &text, with_accesses)?;
     let ground = starts::Ground {
         text: &text,
         live,
-        accesses: &demands.accesses,
-        registers: function.registers,
-        blocks: function.code.blocks.as_slice(),
-        live_a_line,
+        accesses: &accesses,
+        registers,
     };
-    let starts = starts_of(alloc, ground)?;
-    let points = uses_of(alloc, function)?;
-    let lifetimes = lifetimes_of(alloc, function, &starts, &text, points.as_slice())?;
+    let starts = starts_of(alloc, ground, most)?;
+    let lifetimes = lifetimes(alloc, registers, code, &starts, &text)?;
     Ok(Facts {
         text,
-        points,
         starts,
         lifetimes,
         demands,
+        accesses,
     })
 }

@@ -1,10 +1,12 @@
 //! Where in the text of a function its registers have values that are wanted.
 use crate::positions::{Range, right_after, right_before};
+use crate::reads::{Reads, jump_reads, line_reads, register_of};
 use crate::starts::Starts;
 use crate::text::{Stretch, Text};
-use cfg_live::uses::Uses;
+use cfg_live::uses::line_writes;
 use smallvec::SmallVec;
 use std::alloc::{AllocError, Global};
+use vcode::code::{Block, Code};
 use vcode::line::Line;
 use vcode::place::Destination;
 
@@ -87,38 +89,51 @@ fn reach_target(lifetimes: &mut [Lifetime], starts: &Starts, target: Option<usiz
     }
 }
 
-/// What is live at a jump is so up to the end of its block: what it reads, and what is live where it leads to.
-fn reach_jump(lifetimes: &mut [Lifetime], points: &[Uses], starts: &Starts, stretch: Stretch) {
-    let end = right_after(stretch.jump);
-    match points.get(stretch.jump) {
-        Some(uses) => reach_all(lifetimes, uses.reads.as_slice(), end),
+fn reach_read(lifetimes: &mut [Lifetime], read: Option<u32>, at: usize) {
+    match read {
+        Some(register) => reach_at(lifetimes, register, at),
         None => {}
     }
+}
+
+fn reach_reads(lifetimes: &mut [Lifetime], reads: Reads, at: usize) {
+    reach_read(lifetimes, reads.first, at);
+    reach_read(lifetimes, reads.second, at);
+    for arg in reads.args {
+        reach_read(lifetimes, register_of(&arg.value), at);
+    }
+}
+
+/// What is live at a jump is so up to the end of its block: what it reads, and what is live where it leads to.
+fn reach_jump(lifetimes: &mut [Lifetime], starts: &Starts, stretch: Stretch, reads: Reads) {
+    let end = right_after(stretch.jump);
+    reach_reads(lifetimes, reads, end);
     reach_target(lifetimes, starts, stretch.next, end);
     reach_target(lifetimes, starts, stretch.other, end);
 }
 
-fn use_point(lifetimes: &mut [Lifetime], points: &[Uses], point: usize) -> Result<(), AllocError> {
-    match points.get(point) {
-        Some(uses) => {
-            reach_all(lifetimes, uses.reads.as_slice(), right_before(point));
-            match uses.writes {
-                Some(register) => begin_at(lifetimes, register, right_after(point)),
-                None => Ok(()),
-            }
-        }
+fn use_line(lifetimes: &mut [Lifetime], line: &Line<u32>, point: usize) -> Result<(), AllocError> {
+    reach_reads(lifetimes, line_reads(line), right_before(point));
+    match line_writes(line) {
+        Some(register) => begin_at(lifetimes, register, right_after(point)),
         None => Ok(()),
     }
 }
 
-fn use_points(
+fn use_lines(
     lifetimes: &mut [Lifetime],
-    points: &[Uses],
+    lines: &[Line<u32>],
     first: usize,
-    jump: usize,
 ) -> Result<(), AllocError> {
-    for point in first..jump {
-        use_point(lifetimes, points, point)?;
+    let mut point = first;
+    for line in lines {
+        match line {
+            Line::Tick { .. } => {}
+            _ => {
+                use_line(lifetimes, line, point)?;
+                point = point.saturating_add(1);
+            }
+        }
     }
     Ok(())
 }
@@ -137,14 +152,19 @@ pub(crate) fn jump_point(first: usize, lines: &[Line<u32>]) -> usize {
 
 fn use_blocks(
     lifetimes: &mut [Lifetime],
-    points: &[Uses],
+    blocks: &[Block<u32>],
     starts: &Starts,
     text: &Text,
 ) -> Result<(), AllocError> {
-    for (block, stretch) in text.stretches.iter().enumerate() {
-        begin_all(lifetimes, starts.of(block), stretch.first)?;
-        use_points(lifetimes, points, stretch.first, stretch.jump)?;
-        reach_jump(lifetimes, points, starts, *stretch);
+    for (number, block) in blocks.iter().enumerate() {
+        match text.stretch(number) {
+            Some(stretch) => {
+                begin_all(lifetimes, starts.of(number), stretch.first)?;
+                use_lines(lifetimes, block.lines.as_slice(), stretch.first)?;
+                reach_jump(lifetimes, starts, stretch, jump_reads(&block.jump));
+            }
+            None => {}
+        }
     }
     Ok(())
 }
@@ -184,15 +204,14 @@ fn first_lifetimes(
 pub(crate) fn lifetimes(
     alloc: Global,
     registers: u32,
-    params: &[Destination<u32>],
-    points: &[Uses],
+    code: &Code<u32>,
     starts: &Starts,
     text: &Text,
 ) -> Result<Vec<Lifetime>, AllocError> {
-    let end = right_after(points.len().saturating_sub(1));
+    let end = right_after(text.points().saturating_sub(1));
     let mut lifetimes = first_lifetimes(alloc, registers, starts, end)?;
     let list = lifetimes.as_mut_slice();
-    begin_params(list, params)?;
-    use_blocks(list, points, starts, text)?;
+    begin_params(list, code.params.as_slice())?;
+    use_blocks(list, code.blocks.as_slice(), starts, text)?;
     Ok(lifetimes)
 }

@@ -15,7 +15,7 @@ pub struct Starts {
     /// for each block the number of its first register, and that of all registers behind them
     firsts: Vec<usize>,
 
-    /// of each register whether it has a value throughout
+    /// of each register whether it has a value throughout; nothing where none has
     throughout: Vec<bool>,
 }
 
@@ -41,10 +41,6 @@ pub(crate) struct Ground<'a> {
     pub(crate) live: &'a Live,
     pub(crate) accesses: &'a Accesses,
     pub(crate) registers: u32,
-    pub(crate) blocks: &'a [Block<u32>],
-
-    /// how many live registers are named where blocks begin, for each line and jump, at most
-    pub(crate) live_a_line: usize,
 }
 
 /// A register is live where a block begins.
@@ -171,7 +167,7 @@ fn find_few(search: &mut Search, ground: Ground, each: usize) -> Result<(), Allo
 }
 
 /// How many lines and jumps there are, ticks included.
-fn line_count(blocks: &[Block<u32>]) -> usize {
+pub(crate) fn line_count(blocks: &[Block<u32>]) -> usize {
     let mut count = 0usize;
     for block in blocks {
         count = count.saturating_add(block.lines.len()).saturating_add(1);
@@ -179,9 +175,8 @@ fn line_count(blocks: &[Block<u32>]) -> usize {
     count
 }
 
-fn searched(alloc: Global, ground: Ground) -> Result<Search, AllocError> {
-    let blocks = ground.blocks.len();
-    let most = line_count(ground.blocks).saturating_mul(ground.live_a_line);
+fn searched(alloc: Global, ground: Ground, most: usize) -> Result<Search, AllocError> {
+    let blocks = ground.text.stretches.len();
     let mut all = nothing_found(alloc, blocks, ground.registers)?;
     if find_within(&mut all, ground, most)? {
         return Ok(all);
@@ -228,14 +223,10 @@ fn place(list: &mut [u32], firsts: &mut [usize], start: Start) {
     }
 }
 
-/// Which registers are live where the blocks begin.
-///
-/// # Errors
-///
-/// Only where memory was refused.
-pub(crate) fn starts_of(alloc: Global, ground: Ground) -> Result<Starts, AllocError> {
-    let found = searched(alloc, ground)?;
-    let mut firsts = ends(alloc, found.starts.as_slice(), ground.blocks.len())?;
+/// They are found back from where registers are read.
+fn starts_by_search(alloc: Global, ground: Ground, most: usize) -> Result<Starts, AllocError> {
+    let found = searched(alloc, ground, most)?;
+    let mut firsts = ends(alloc, found.starts.as_slice(), ground.text.stretches.len())?;
     let mut list = vec![in alloc; 0u32; found.starts.len()]?;
     for start in found.starts.iter().rev() {
         place(list.as_mut_slice(), firsts.as_mut_slice(), *start);
@@ -246,4 +237,47 @@ pub(crate) fn starts_of(alloc: Global, ground: Ground) -> Result<Starts, AllocEr
         firsts,
         throughout: found.throughout,
     })
+}
+
+fn push_live(
+    list: &mut Vec<u32>,
+    live: &Live,
+    first: usize,
+    registers: u32,
+) -> Result<(), AllocError> {
+    for register in 0..registers {
+        if live.holds(first, register) {
+            list.push(register)?;
+        }
+    }
+    Ok(())
+}
+
+/// Each register is asked for at each block.
+fn starts_by_asking(alloc: Global, ground: Ground) -> Result<Starts, AllocError> {
+    let mut list = Vec::with_capacity(alloc, ground.registers as usize)?;
+    let mut firsts = Vec::with_capacity(alloc, ground.text.stretches.len().saturating_add(1))?;
+    for stretch in ground.text.stretches.iter() {
+        firsts.push(list.len())?;
+        push_live(&mut list, ground.live, stretch.first, ground.registers)?;
+    }
+    firsts.push(list.len())?;
+    Ok(Starts {
+        list,
+        firsts,
+        throughout: Vec::new(alloc),
+    })
+}
+
+/// Which registers are live where the blocks begin. Where no accesses are known each register is asked for at each block.
+///
+/// # Errors
+///
+/// Only where memory was refused.
+pub(crate) fn starts_of(alloc: Global, ground: Ground, most: usize) -> Result<Starts, AllocError> {
+    if ground.accesses.are_unknown() {
+        starts_by_asking(alloc, ground)
+    } else {
+        starts_by_search(alloc, ground, most)
+    }
 }

@@ -29,9 +29,6 @@ pub struct Text {
 
     /// the blocks that lead to each block
     sources: Vec<Few<usize>>,
-
-    /// the block of each point
-    block_of: Vec<usize>,
 }
 
 impl Text {
@@ -50,12 +47,22 @@ impl Text {
 
     /// The number of the block with this point; 0 where there is no such point.
     pub fn block_of(&self, point: usize) -> usize {
-        self.block_of.get(point).copied().unwrap_or(0)
+        let before = self
+            .stretches
+            .partition_point(|stretch| stretch.jump < point);
+        if before < self.stretches.len() {
+            before
+        } else {
+            0
+        }
     }
 
     /// How many points the function has.
     pub fn points(&self) -> usize {
-        self.block_of.len()
+        match self.stretches.last() {
+            Some(last) => last.jump.saturating_add(1),
+            None => 0,
+        }
     }
 
     /// How often the block runs, where one that lies in no loop runs once.
@@ -88,11 +95,6 @@ fn stretches(
     Ok(stretches)
 }
 
-fn push_block(block_of: &mut Vec<usize>, block: usize, stretch: Stretch) -> Result<(), AllocError> {
-    block_of.resize(stretch.jump.saturating_add(1), block)?;
-    Ok(())
-}
-
 /// The blocks, which lie in so many loops each, with those that lead to each of them.
 ///
 /// # Errors
@@ -105,16 +107,5 @@ pub(crate) fn text_of(
     sources: Vec<Few<usize>>,
 ) -> Result<Text, AllocError> {
     let stretches = stretches(alloc, blocks, depths)?;
-    let points = stretches
-        .last()
-        .map_or(0, |last| last.jump.saturating_add(1));
-    let mut block_of = Vec::with_capacity(alloc, points)?;
-    for (number, stretch) in stretches.iter().enumerate() {
-        push_block(&mut block_of, number, *stretch)?;
-    }
-    Ok(Text {
-        stretches,
-        sources,
-        block_of,
-    })
+    Ok(Text { stretches, sources })
 }

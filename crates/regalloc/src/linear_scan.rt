@@ -10,15 +10,20 @@ use certificates::certificate::Certificate;
 use certificates::spill_all::slots;
 use certificates::strategy::Strategy;
 use cfg_live::sets::Live;
-use interval_splitting::candidates::{Candidate, Ground, candidates, is_unplaced, singles, wishes};
+use interval_splitting::candidates::{
+    Candidate, Ground, candidates, is_left_over, is_unplaced, singles, wishes,
+};
 use interval_splitting::choice::choice;
 use interval_splitting::cuts::Cuts;
 use interval_splitting::cutting::{Cutter, cut_all};
-use interval_splitting::rooms::{Room, rooms, take_room};
+use interval_splitting::rooms::{ROOMS, Rooms};
 use interval_splitting::slots::{Wish, shared_slots};
+use live_intervals::accesses::Accesses;
 use live_intervals::facts::facts_of;
 use live_intervals::groups::{Group, groups_of};
+use live_intervals::positions::Range;
 use std::alloc::{AllocError, Global};
+use std::mem::replace;
 use vcode::function::VFunc;
 use vcode::place::Location;
 
@@ -39,10 +44,7 @@ impl LinearScan {
 /// to have a value throughout, and is named once.
 const LIVE_A_LINE: usize = 32;
 
-/// How many registers of the machine there are: x5 to x27. Those come first that callees need not keep, and of these x17 to x10.
-const MACHINE: usize = 23;
-
-/// The k-th of them.
+/// The k-th register of the machine from x5 to x27. Those come first that callees need not keep, and of these x17 to x10.
 pub(crate) fn machine_register(registers: u32, k: u8) -> Location
     requires { k < 23 }
     ensures { is_place registers result ≡ true }
@@ -79,13 +81,20 @@ fn set_all(list: &mut [Location], registers: u32, members: &[u32], place: Locati
 }
 
 /// The k-th room for the registers of the group.
-fn take(list: &mut [Location], registers: u32, rooms: &mut [Room], k: usize, group: &Group)
+fn take(
+    list: &mut [Location],
+    registers: u32,
+    rooms: &mut Rooms,
+    k: usize,
+    group: &Group,
+    ranges: &[Range],
+)
     requires { list_all (is_place registers) list.old ≡ true }
     ensures places { list_all (is_place registers) list.new ≡ true }
     ensures long { length list.new ≡ length list.old }
 {
-    if k < MACHINE {
-        take_room(rooms, k, group.ranges.as_slice());
+    if k < ROOMS {
+        rooms.take(k, ranges);
         let place = machine_register(registers, k as u8);
         set_all(list, registers, group.members.as_slice(), place);
     }
@@ -95,7 +104,7 @@ fn place(
     alloc: Global,
     list: &mut [Location],
     registers: u32,
-    rooms: &mut [Room],
+    rooms: &mut Rooms,
     cutter: &mut Cutter,
     ground: Ground,
     candidate: &Candidate,
@@ -106,7 +115,10 @@ fn place(
 {
     match ground.groups.get(candidate.group) {
         Some(group) => match choice(alloc, rooms, cutter, ground, candidate, group)? {
-            Some(k) => take(list, registers, rooms, k, group),
+            Some(k) => {
+                let ranges = group.ranges(ground.facts.lifetimes.as_slice());
+                take(list, registers, rooms, k, group, ranges);
+            }
             None => {}
         },
         None => {}
@@ -118,7 +130,7 @@ fn place_all(
     alloc: Global,
     list: &mut [Location],
     registers: u32,
-    rooms: &mut [Room],
+    rooms: &mut Rooms,
     cutter: &mut Cutter,
     ground: Ground,
     candidates: &[Candidate],
@@ -186,7 +198,7 @@ fn place_groups(
     alloc: Global,
     list: &mut [Location],
     registers: u32,
-    rooms: &mut [Room],
+    rooms: &mut Rooms,
     cutter: &mut Cutter,
     ground: Ground,
 ) -> Result<(), AllocError>
@@ -211,7 +223,8 @@ fn place_in_slots(
     ensures long { length list.new ≡ length list.old }
 {
     let wishes = wishes(alloc, ground.groups, list, ground.facts)?;
-    let slots = shared_slots(alloc, ground.groups, wishes.as_slice())?;
+    let lifetimes = ground.facts.lifetimes.as_slice();
+    let slots = shared_slots(alloc, ground.groups, lifetimes, wishes.as_slice())?;
     give_slots(
         list,
         registers,
@@ -226,16 +239,15 @@ fn place_in_slots(
 fn place_singles(
     alloc: Global,
     list: &mut [Location],
-    function: &VFunc,
-    rooms: &mut [Room],
+    registers: u32,
+    rooms: &mut Rooms,
     cutter: &mut Cutter,
     ground: Ground,
 ) -> Result<(), AllocError>
-    requires { list_all (is_place function.now.registers) list.old ≡ true }
-    ensures places { list_all (is_place function.now.registers) list.new ≡ true }
+    requires { list_all (is_place registers) list.old ≡ true }
+    ensures places { list_all (is_place registers) list.new ≡ true }
     ensures long { length list.new ≡ length list.old }
 {
-    let registers = function.registers;
     let singles = singles(alloc, ground.groups, list, ground.facts)?;
     let single = Ground {
         groups: singles.as_slice(),
@@ -245,26 +257,27 @@ fn place_singles(
     let candidates = order.as_slice();
     place_all(alloc, list, registers, rooms, cutter, single, candidates)?;
     place_in_slots(alloc, list, registers, ground)?;
-    cut_all(alloc, cutter, rooms, list, single, candidates, function)
+    cut_all(alloc, cutter, rooms, list, single, candidates)
 }
 
 /// Registers of the machine for groups, then for single registers of those that got none, and slots for what is left; that is cut where it can be.
 fn place_in(
     alloc: Global,
     list: &mut [Location],
-    function: &VFunc,
+    registers: u32,
+    accesses: Accesses,
     ground: Ground,
 ) -> Result<Cuts, AllocError>
-    requires { list_all (is_place function.now.registers) list.old ≡ true }
-    ensures places { list_all (is_place function.now.registers) list.new ≡ true }
+    requires { list_all (is_place registers) list.old ≡ true }
+    ensures places { list_all (is_place registers) list.new ≡ true }
     ensures long { length list.new ≡ length list.old }
 {
-    let registers = function.registers;
-    let mut all = rooms(alloc, MACHINE, ground.facts.text.points())?;
-    let rooms = all.as_mut_slice();
-    let mut cutter = Cutter::new(alloc, function)?;
-    place_groups(alloc, list, registers, rooms, &mut cutter, ground)?;
-    place_singles(alloc, list, function, rooms, &mut cutter, ground)?;
+    let mut rooms = Rooms::new(alloc, ground.facts.text.points())?;
+    let mut cutter = Cutter::new(alloc, accesses);
+    place_groups(alloc, list, registers, &mut rooms, &mut cutter, ground)?;
+    if is_left_over(list, ground.facts) {
+        place_singles(alloc, list, registers, &mut rooms, &mut cutter, ground)?;
+    }
     cutter.finish()
 }
 
@@ -312,12 +325,15 @@ pub(crate) fn scanned_within(
     )?;
     let mut list = all_in_slots(alloc, function.registers)?;
     let groups = groups.groups.as_slice();
+    let accesses = replace(&mut facts.accesses, Accesses::none(alloc));
     let ground = Ground {
+        function,
         facts: &facts,
         live,
         groups,
     };
-    let cuts = place_in(alloc, list.as_mut_slice(), function, ground)?;
+    let registers = function.registers;
+    let cuts = place_in(alloc, list.as_mut_slice(), registers, accesses, ground)?;
     written(alloc, function, &facts, list.as_slice(), &cuts)
 }
 

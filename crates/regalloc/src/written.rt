@@ -6,17 +6,20 @@ ghost use Rattle.regalloc.specs.Scanned.{are_placed, are_between, IsScanned};
 
 use crate::linear_scan::machine_register;
 use certificates::certificate::{Certificate, Equality, Transfer};
-use cfg_live::uses::Uses;
+use cfg_live::uses::line_writes;
 use il_ast::list::Seq;
 use interval_splitting::cuts::{
     Begin, Cuts, Entry, Move, Stay, Way, begin_at, begins_from, moves_end, stays_end,
 };
 use live_intervals::accesses::part;
 use live_intervals::facts::Facts;
+use live_intervals::reads::{Reads, jump_reads, line_reads, register_of};
 use live_intervals::starts::Starts;
 use std::alloc::{AllocError, Global};
+use vcode::code::Block;
 use vcode::function::VFunc;
-use vcode::place::{Destination, Location};
+use vcode::line::Line;
+use vcode::place::{Argument, Destination, Location};
 
 fn room_place(registers: u32, room: usize) -> Option<Location>
     ensures { IfSome result (λ q. is_place registers q ≡ true) }
@@ -91,21 +94,51 @@ fn push_once(
     push_at(equalities, registers, register, place)
 }
 
-fn push_reads(
+/// Adds the register that is read or written, if there is one.
+fn push_some(
     equalities: &mut Seq<Equality>,
     list: &[Location],
     registers: u32,
     stays: &[Stay],
-    reads: &[u32],
+    register: Option<u32>,
 ) -> Result<(), AllocError>
     requires list { list_all (is_place registers) list.now ≡ true }
     requires placed { are_placed registers equalities.old ≡ true }
     ensures { are_placed registers equalities.new ≡ true }
 {
-    for register in reads {
-        push_once(equalities, list, registers, stays, *register)?;
+    match register {
+        Some(register) => push_once(equalities, list, registers, stays, register),
+        None => Ok(()),
+    }
+}
+
+fn push_args(
+    equalities: &mut Seq<Equality>,
+    list: &[Location],
+    registers: u32,
+    stays: &[Stay],
+    args: &[Argument<u32>],
+) -> Result<(), AllocError>
+    requires list { list_all (is_place registers) list.now ≡ true }
+    requires placed { are_placed registers equalities.old ≡ true }
+    ensures { are_placed registers equalities.new ≡ true }
+{
+    for arg in args {
+        let register = register_of(&arg.value);
+        push_some(equalities, list, registers, stays, register)?;
     }
     Ok(())
+}
+
+/// How many registers a point names at most.
+fn most_named(reads: Reads, written: Option<u32>) -> usize {
+    let mut most = reads.args.len();
+    for one in [reads.first, reads.second, written] {
+        if one.is_some() {
+            most = most.saturating_add(1);
+        }
+    }
+    most
 }
 
 /// The places of the registers that a point names, each once.
@@ -114,26 +147,68 @@ fn places_of(
     list: &[Location],
     registers: u32,
     stays: &[Stay],
-    uses: &Uses,
+    reads: Reads,
+    written: Option<u32>,
 ) -> Result<Seq<Equality>, AllocError>
     requires { list_all (is_place registers) list.now ≡ true }
     ensures { IfOk result (λ es. are_placed registers es ≡ true) }
 {
-    let written = if uses.writes.is_some() { 1 } else { 0 };
-    let most = uses.reads.len().saturating_add(written);
+    let most = most_named(reads, written);
     let mut equalities = Seq::from_vec(Vec::with_capacity(alloc, most)?);
-    push_reads(
-        &mut equalities,
-        list,
-        registers,
-        stays,
-        uses.reads.as_slice(),
-    )?;
-    match uses.writes {
-        Some(register) => push_once(&mut equalities, list, registers, stays, register)?,
-        None => {}
-    }
+    push_some(&mut equalities, list, registers, stays, reads.first)?;
+    push_some(&mut equalities, list, registers, stays, reads.second)?;
+    push_args(&mut equalities, list, registers, stays, reads.args)?;
+    push_some(&mut equalities, list, registers, stays, written)?;
     Ok(equalities)
+}
+
+/// The places of the next point; answers the number behind the stays that belong to it.
+fn push_point(
+    alloc: Global,
+    places: &mut Seq<Seq<Equality>>,
+    list: &[Location],
+    registers: u32,
+    stays: &[Stay],
+    first: usize,
+    reads: Reads,
+    written: Option<u32>,
+) -> Result<usize, AllocError>
+    requires list { list_all (is_place registers) list.now ≡ true }
+    requires placed { list_all (are_placed registers) places.old ≡ true }
+    ensures { list_all (are_placed registers) places.new ≡ true }
+{
+    let end = stays_end(stays, first, places.len());
+    let here = part(stays, first, end);
+    let named = places_of(alloc, list, registers, here, reads, written)?;
+    places.push(named)?;
+    Ok(end)
+}
+
+fn push_lines(
+    alloc: Global,
+    places: &mut Seq<Seq<Equality>>,
+    list: &[Location],
+    registers: u32,
+    stays: &[Stay],
+    first: usize,
+    lines: &[Line<u32>],
+) -> Result<usize, AllocError>
+    requires list { list_all (is_place registers) list.now ≡ true }
+    requires placed { list_all (are_placed registers) places.old ≡ true }
+    ensures { list_all (are_placed registers) places.new ≡ true }
+{
+    let mut from = first;
+    for line in lines {
+        match line {
+            Line::Tick { .. } => {}
+            _ => {
+                let reads = line_reads(line);
+                let written = line_writes(line);
+                from = push_point(alloc, places, list, registers, stays, from, reads, written)?;
+            }
+        }
+    }
+    Ok(from)
 }
 
 fn push_places(
@@ -142,18 +217,18 @@ fn push_places(
     list: &[Location],
     registers: u32,
     stays: &[Stay],
-    points: &[Uses],
+    blocks: &[Block<u32>],
 ) -> Result<(), AllocError>
     requires list { list_all (is_place registers) list.now ≡ true }
     requires placed { list_all (are_placed registers) places.old ≡ true }
     ensures { OnOk result (list_all (are_placed registers) places.new ≡ true) }
 {
     let mut first = 0usize;
-    for (point, uses) in points.iter().enumerate() {
-        let end = stays_end(stays, first, point);
-        let named = places_of(alloc, list, registers, part(stays, first, end), uses)?;
-        places.push(named)?;
-        first = end;
+    for block in blocks {
+        let lines = block.lines.as_slice();
+        first = push_lines(alloc, places, list, registers, stays, first, lines)?;
+        let reads = jump_reads(&block.jump);
+        first = push_point(alloc, places, list, registers, stays, first, reads, None)?;
     }
     Ok(())
 }
@@ -229,14 +304,14 @@ fn push_moves(
     list: &[Location],
     registers: u32,
     moves: &[Move],
-    points: &[Uses],
+    points: usize,
 ) -> Result<(), AllocError>
     requires list { list_all (is_place registers) list.now ≡ true }
     requires between { list_all (are_between registers) lists.old ≡ true }
     ensures { OnOk result (list_all (are_between registers) lists.new ≡ true) }
 {
     let mut first = 0usize;
-    for (point, _uses) in points.iter().enumerate() {
+    for point in 0..points {
         let end = moves_end(moves, first, point);
         let transfers = moves_of(alloc, list, registers, part(moves, first, end))?;
         lists.push(transfers)?;
@@ -319,8 +394,8 @@ fn push_starts(
 {
     let mut first = 0usize;
     for block in 0..blocks {
-        let mut equalities = Seq::new(alloc);
         let live = from.of(block);
+        let mut equalities = Seq::from_vec(Vec::with_capacity(alloc, live.len())?);
         first = push_start(&mut equalities, list, registers, begins, first, live, block)?;
         starts.push(equalities)?;
     }
@@ -427,21 +502,23 @@ struct AtPoints {
 
 fn points_of(
     alloc: Global,
-    registers: u32,
-    points: &[Uses],
+    function: &VFunc,
+    points: usize,
     list: &[Location],
     cuts: &Cuts,
 ) -> Result<AtPoints, AllocError>
-    requires { list_all (is_place registers) list.now ≡ true }
-    ensures moves { IfOk result (λ p. list_all (are_between registers) p.moves ≡ true) }
-    ensures places { IfOk result (λ p. list_all (are_placed registers) p.places ≡ true) }
+    requires { list_all (is_place function.now.registers) list.now ≡ true }
+    ensures moves { IfOk result (λ p. list_all (are_between function.now.registers) p.moves ≡ true) }
+    ensures places { IfOk result (λ p. list_all (are_placed function.now.registers) p.places ≡ true) }
 {
+    let registers = function.registers;
     let all = cuts.moves.as_slice();
-    let mut moves = Seq::from_vec(Vec::with_capacity(alloc, points.len())?);
+    let mut moves = Seq::from_vec(Vec::with_capacity(alloc, points)?);
     push_moves(alloc, &mut moves, list, registers, all, points)?;
     let stays = cuts.stays.as_slice();
-    let mut places = Seq::from_vec(Vec::with_capacity(alloc, points.len())?);
-    push_places(alloc, &mut places, list, registers, stays, points)?;
+    let blocks = function.code.blocks.as_slice();
+    let mut places = Seq::from_vec(Vec::with_capacity(alloc, points)?);
+    push_places(alloc, &mut places, list, registers, stays, blocks)?;
     Ok(AtPoints { moves, places })
 }
 
@@ -462,11 +539,10 @@ pub(crate) fn written(
     ensures { IfOk result (λ c. IsScanned function.now.registers c) }
 {
     let at_starts = starts_of(alloc, function, &facts.starts, list, cuts)?;
-    let points = facts.points.as_slice();
-    let at_points = points_of(alloc, function.registers, points, list, cuts)?;
+    let at_points = points_of(alloc, function, facts.text.points(), list, cuts)?;
     let entries = cuts.entries.as_slice();
     let from = function.code.params.as_slice();
-    let mut params = Seq::new(alloc);
+    let mut params = Seq::from_vec(Vec::with_capacity(alloc, from.len())?);
     push_params(&mut params, list, function.registers, entries, from)?;
     Ok(Certificate {
         params,

@@ -1,6 +1,6 @@
 use Rattle.std.proofs.Common.{◌≡◌, true}
 use Rattle.regalloc.specs.Scanned.{are_placed}
-use Rattle.regalloc.proofs.written.push_reads.Given as goal
+use Rattle.regalloc.proofs.written.push_args.Given as goal
 
-abbrev pub invariant-loop-register : goal.invariant-loop-register
-invariant-loop-register l = are_placed l.registers l.equalities ≡ true
+abbrev pub invariant-loop-arg : goal.invariant-loop-arg
+invariant-loop-arg l = are_placed l.registers l.equalities ≡ true

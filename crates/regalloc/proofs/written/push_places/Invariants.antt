@@ -3,5 +3,5 @@ use Rattle.std.specs.List.{list_all}
 use Rattle.regalloc.specs.Scanned.{are_placed}
 use Rattle.regalloc.proofs.written.push_places.Given as goal
 
-abbrev pub invariant-loop-point : goal.invariant-loop-point
-invariant-loop-point l = list_all (are_placed l.registers) l.places ≡ true
+abbrev pub invariant-loop-block : goal.invariant-loop-block
+invariant-loop-block l = list_all (are_placed l.registers) l.places ≡ true
