@@ -8,6 +8,9 @@ use vcode::line::{Jump, Line};
 /// As many lines as a block that isn't worth a copy has.
 const MANY: u64 = 100;
 
+/// So many blocks are counted without memory from the heap.
+const FEW: usize = 64;
+
 /// About how many instructions the line becomes.
 fn size(line: &Line<u32>) -> u64 {
     match line {
@@ -17,23 +20,34 @@ fn size(line: &Line<u32>) -> u64 {
     }
 }
 
-fn size_of(lines: &[Line<u32>]) -> u64 {
+/// Whether the lines become fewer instructions than that.
+fn are_few(lines: &[Line<u32>], most: u64) -> bool {
     let mut total = 0u64;
     for line in lines {
         total = total.saturating_add(size(line));
+        if total >= most {
+            return false;
+        }
     }
-    total
+    total < most
 }
 
 /// Whether the block branches or returns, and has few lines.
 fn is_short(block: &Block<u32>, most: u64) -> bool {
     match &block.jump {
-        Jump::Branch { .. } | Jump::Return(_) => size_of(block.lines.as_slice()) < most,
+        Jump::Branch { .. } | Jump::Return(_) => are_few(block.lines.as_slice(), most),
         Jump::Goto(_) | Jump::Halt => false,
     }
 }
 
-fn is_worth(blocks: &[Block<u32>], sources: &[usize], from: usize, to: usize, most: u64) -> bool {
+fn is_marked(marks: &[bool], block: usize) -> bool {
+    match marks.get(block) {
+        Some(mark) => *mark,
+        None => true,
+    }
+}
+
+fn is_worth(blocks: &[Block<u32>], sources: &[u8], from: usize, to: usize, most: u64) -> bool {
     if from == to {
         return false;
     }
@@ -46,7 +60,7 @@ fn is_worth(blocks: &[Block<u32>], sources: &[usize], from: usize, to: usize, mo
 /// Whether the block goes to one that is worth a copy.
 fn is_chosen(
     blocks: &[Block<u32>],
-    sources: &[usize],
+    sources: &[u8],
     number: usize,
     block: &Block<u32>,
     most: u64,
@@ -57,23 +71,7 @@ fn is_chosen(
     }
 }
 
-/// Says of each block whether it is chosen; answers whether one is.
-fn choose(
-    chosen: &mut Vec<bool>,
-    blocks: &[Block<u32>],
-    sources: &[usize],
-    most: u64,
-) -> Result<bool, AllocError> {
-    let mut is_any = false;
-    for (number, block) in blocks.iter().enumerate() {
-        let is_this = is_chosen(blocks, sources, number, block, most);
-        is_any = is_any || is_this;
-        chosen.push(is_this)?;
-    }
-    Ok(is_any)
-}
-
-fn count(counts: &mut [usize], to: Option<usize>) {
+fn count(counts: &mut [u8], to: Option<usize>) {
     if let Some(to) = to {
         if let Some(count) = counts.get_mut(to) {
             *count = count.saturating_add(1);
@@ -81,17 +79,55 @@ fn count(counts: &mut [usize], to: Option<usize>) {
     }
 }
 
-/// How many jumps lead to each block, a branch with both its targets the same twice.
-fn source_counts(alloc: Global, blocks: &[Block<u32>]) -> Result<Vec<usize>, AllocError> {
-    let mut counts = vec![in alloc; 0usize; blocks.len()]?;
-    for block in blocks {
-        count(counts.as_mut_slice(), target(&block.jump, 0));
-        count(counts.as_mut_slice(), target(&block.jump, 1));
+/// Counts the jumps from marked blocks that lead to each block, as far as a byte goes: a branch with both its targets the same counts twice.
+fn count_sources(counts: &mut [u8], blocks: &[Block<u32>], marks: &[bool]) {
+    for (number, block) in blocks.iter().enumerate() {
+        if is_marked(marks, number) {
+            count(counts, target(&block.jump, 0));
+            count(counts, target(&block.jump, 1));
+        }
     }
-    Ok(counts)
 }
 
-/// For each block whether the block that it goes to is worth a copy; none where no block is.
+/// The first block that is chosen, from this one on.
+fn first_chosen(blocks: &[Block<u32>], marks: &[bool], sources: &[u8], most: u64) -> Option<usize> {
+    for (number, block) in blocks.iter().enumerate() {
+        if is_marked(marks, number) && is_chosen(blocks, sources, number, block, most) {
+            return Some(number);
+        }
+    }
+    None
+}
+
+/// Says of each block whether it is chosen; the first that is, is known.
+fn choose(chosen: &mut [bool], blocks: &[Block<u32>], marks: &[bool], sources: &[u8], most: u64) {
+    for (number, block) in blocks.iter().enumerate() {
+        if is_marked(marks, number) && is_chosen(blocks, sources, number, block, most) {
+            if let Some(is_this) = chosen.get_mut(number) {
+                *is_this = true;
+            }
+        }
+    }
+}
+
+fn chosen_by(
+    alloc: Global,
+    blocks: &[Block<u32>],
+    marks: &[bool],
+    sources: &[u8],
+    most: u64,
+) -> Result<Option<Vec<bool>>, AllocError> {
+    match first_chosen(blocks, marks, sources, most) {
+        Some(_) => {
+            let mut chosen = vec![in alloc; false; blocks.len()]?;
+            choose(chosen.as_mut_slice(), blocks, marks, sources, most);
+            Ok(Some(chosen))
+        }
+        None => Ok(None),
+    }
+}
+
+/// For each block whether the block that it goes to is worth a copy; none where no block is. Blocks without a mark don't count; where there are no marks, all do.
 ///
 /// # Errors
 ///
@@ -99,15 +135,17 @@ fn source_counts(alloc: Global, blocks: &[Block<u32>]) -> Result<Vec<usize>, All
 pub(crate) fn chosen_tails(
     alloc: Global,
     blocks: &[Block<u32>],
+    marks: &[bool],
     most: u64,
 ) -> Result<Option<Vec<bool>>, AllocError> {
-    let sources = source_counts(alloc, blocks)?;
-    let mut chosen = Vec::with_capacity(alloc, blocks.len())?;
-    if choose(&mut chosen, blocks, sources.as_slice(), most)? {
-        Ok(Some(chosen))
-    } else {
-        Ok(None)
+    if blocks.len() <= FEW {
+        let mut counts = [0u8; FEW];
+        count_sources(&mut counts, blocks, marks);
+        return chosen_by(alloc, blocks, marks, &counts, most);
     }
+    let mut counts = vec![in alloc; 0u8; blocks.len()]?;
+    count_sources(counts.as_mut_slice(), blocks, marks);
+    chosen_by(alloc, blocks, marks, counts.as_slice(), most)
 }
 
 /// The numbers of the blocks to which a way leads from the first, in their order.

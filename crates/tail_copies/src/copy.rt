@@ -8,6 +8,7 @@ ghost use Rattle.tail_copies.specs.Joined.{joined, longer, AllLonger, block_burd
 
 use crate::choice::{chosen_tails, reached_blocks};
 use crate::weigh::are_light;
+use block_chains::chains::reached;
 use block_order::order::in_order;
 use il_ast::list::Seq;
 use std::alloc::{AllocError, Global};
@@ -132,17 +133,6 @@ fn without_unreached(alloc: Global, function: VFunc) -> Result<VFunc, AllocError
     }
 }
 
-/// The function with these blocks, and without those to which no way leads then.
-fn made_of(alloc: Global, function: &VFunc, blocks: Vec<Block<u32>>) -> Result<VFunc, AllocError>
-    requires longer { AllLonger function.now.code.blocks function.now.code.blocks blocks.items }
-    requires light { sum_by block_burden blocks.items ≤ FUNCTION_WEIGHT }
-    ensures { IfOk result (λ w. Keeps (virtual_code function.now) (virtual_code w)) }
-{
-    let made = with_these(alloc, function, blocks)?;
-    let reached = without_unreached(alloc, made)?;
-    Ok(reached)
-}
-
 /// The function with copies where blocks are chosen, unless it is too heavy then.
 fn with_copies(
     alloc: Global,
@@ -153,37 +143,49 @@ fn with_copies(
 {
     let blocks = all_longer(alloc, chosen, function.code.blocks.as_slice())?;
     if are_light(blocks.as_slice()) {
-        Ok(Some(made_of(alloc, function, blocks)?))
+        Ok(Some(with_these(alloc, function, blocks)?))
     } else {
         Ok(None)
     }
 }
 
-fn with_chosen(alloc: Global, function: &VFunc, most: u64) -> Result<Option<VFunc>, AllocError>
+fn with_chosen(
+    alloc: Global,
+    function: &VFunc,
+    marks: &[bool],
+    most: u64,
+) -> Result<Option<VFunc>, AllocError>
     ensures { IfOk result (λ o. IfSome o (λ w. Keeps (virtual_code function.now) (virtual_code w))) }
 {
-    match chosen_tails(alloc, function.code.blocks.as_slice(), most)? {
+    match chosen_tails(alloc, function.code.blocks.as_slice(), marks, most)? {
         Some(chosen) => with_copies(alloc, function, chosen.as_slice()),
         None => Ok(None),
     }
 }
 
-fn copied_once(alloc: Global, function: VFunc, most: u64) -> Result<VFunc, AllocError>
+/// Copies come to stand where other copies were chosen: so it is done again, of the blocks to which a way leads then.
+fn copied_again(alloc: Global, function: VFunc, most: u64) -> Result<VFunc, AllocError>
     ensures { IfOk result (λ w. Keeps (virtual_code function) (virtual_code w)) }
 {
-    match with_chosen(alloc, &function, most)? {
+    let marks = reached(alloc, function.code.blocks.as_slice())?;
+    match with_chosen(alloc, &function, marks.as_slice(), most)? {
         Some(made) => Ok(made),
         None => Ok(function),
     }
 }
 
-/// Copies come to stand where other copies were chosen: so it is done twice.
-fn copied_twice(alloc: Global, function: VFunc, most: u64) -> Result<VFunc, AllocError>
-    ensures { IfOk result (λ w. Keeps (virtual_code function) (virtual_code w)) }
+/// The function with copies, if some are chosen.
+#[tactic(auto, using(il_ast::proofs::Passing::keeps_compose))]
+fn copied_twice(alloc: Global, function: &VFunc, most: u64) -> Result<Option<VFunc>, AllocError>
+    ensures { IfOk result (λ o. IfSome o (λ w. Keeps (virtual_code function.now) (virtual_code w))) }
 {
-    let once = copied_once(alloc, function, most)?;
-    let twice = copied_once(alloc, once, most)?;
-    Ok(twice)
+    match with_chosen(alloc, function, &[], most)? {
+        Some(once) => {
+            let twice = copied_again(alloc, once, most)?;
+            Ok(Some(twice))
+        }
+        None => Ok(None),
+    }
 }
 
 /// The function in which blocks that go to one to which nothing else leads are one with it, without those to which no way leads. It takes time and memory as the
@@ -192,13 +194,21 @@ fn copied_twice(alloc: Global, function: VFunc, most: u64) -> Result<VFunc, Allo
 /// # Errors
 ///
 /// Only where memory was refused.
+#[tactic(auto, using(il_ast::proofs::Passing::keeps_compose))]
 pub fn join_blocks(alloc: Global, function: VFunc) -> Result<VFunc, AllocError>
     ensures { IfOk result (λ w. Keeps (virtual_code function) (virtual_code w)) }
 {
-    copied_twice(alloc, function, 0)
+    match copied_twice(alloc, &function, 0)? {
+        Some(made) => {
+            let reached = without_unreached(alloc, made)?;
+            Ok(reached)
+        }
+        None => Ok(function),
+    }
 }
 
-/// The function with copies of short blocks that branch in the place of jumps to them too. It takes time and memory as the text is long.
+/// The function with copies of short blocks that branch in the place of jumps to them too. Blocks to which no way leads then stay, for `block_order` to leave out.
+/// It takes time and memory as the text is long.
 ///
 /// # Errors
 ///
@@ -206,5 +216,8 @@ pub fn join_blocks(alloc: Global, function: VFunc) -> Result<VFunc, AllocError>
 pub fn copy_tails(alloc: Global, function: VFunc) -> Result<VFunc, AllocError>
     ensures { IfOk result (λ w. Keeps (virtual_code function) (virtual_code w)) }
 {
-    copied_twice(alloc, function, SHORT)
+    match copied_twice(alloc, &function, SHORT)? {
+        Some(made) => Ok(made),
+        None => Ok(function),
+    }
 }
