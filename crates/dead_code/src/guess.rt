@@ -13,8 +13,11 @@ use vcode::line::{Jump, Line};
 /// How many sweeps there are at least, if more is wanted. Blocks that stand as they run take as many as loops are nested, and one more or two.
 const SWEEPS: usize = 20;
 
-/// So many blocks are walked over in further sweeps, about, and no more.
-const WALKS: usize = 1_000_000;
+/// So many words of sets are joined in further sweeps, about, and no more.
+const JOINED: usize = 20_000_000;
+
+/// Each sweep of that number goes the other way: blocks that stand against the order in which they run take one of those.
+const TURN: usize = 4;
 
 /// What each block wants at its beginning, and whether a line is dead by that.
 #[derive(Drop)]
@@ -112,10 +115,25 @@ fn empty_sets(alloc: Global, count: usize, registers: usize) -> Result<Vec<BitSe
     Ok(sets)
 }
 
+/// Goes over all blocks, from the first to the last. Answers whether one wants more at its beginning.
+fn sweep_down(guess: &mut Guess, set: &mut BitSet, blocks: &[Block<u32>]) -> bool
+    requires { list_all (block_keeps (is_below set.old.length)) blocks.now ≡ true }
+    ensures { set.new.length ≡ set.old.length }
+{
+    let mut has_grown = false;
+    for k in 0..blocks.len() {
+        let block = &blocks[k];
+        walk_block(set, guess.starts.as_slice(), block);
+        has_grown |= grow(guess.starts.as_mut_slice(), set, k);
+    }
+    has_grown
+}
+
 /// How many sweeps there are at most over so many blocks.
-fn most_sweeps(blocks: usize) -> usize {
-    WALKS
-        .checked_div(blocks)
+fn most_sweeps(blocks: usize, registers: usize) -> usize {
+    let words = (registers / 64).saturating_add(1);
+    JOINED
+        .checked_div(blocks.saturating_mul(words))
         .unwrap_or(0)
         .saturating_add(SWEEPS)
 }
@@ -124,8 +142,13 @@ fn most_sweeps(blocks: usize) -> usize {
 fn sweep_all(guess: &mut Guess, set: &mut BitSet, blocks: &[Block<u32>])
     requires { list_all (block_keeps (is_below set.old.length)) blocks.now ≡ true }
 {
-    for _ in 0..most_sweeps(blocks.len()) {
-        if !sweep(guess, set, blocks) {
+    for number in 1..most_sweeps(blocks.len(), set.len()) {
+        let has_grown = if number % TURN == 0 {
+            sweep_down(guess, set, blocks)
+        } else {
+            sweep(guess, set, blocks)
+        };
+        if !has_grown {
             return;
         }
     }

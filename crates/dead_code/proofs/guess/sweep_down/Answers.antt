@@ -1,0 +1,14 @@
+use Rattle.std.proofs.Common.{ℕ, length, refl, ap, ◌∙◌, arith}
+use Rattle.std.proofs.lemmas.Option.{slice_get_read}
+use Rattle.vcode.specs.declared.code.Block.{Block}
+use Rattle.vcode.specs.Named.{block_keeps, is_below}
+use Rattle.vcode.proofs.Lists.{all_at}
+use Rattle.dead_code.proofs.guess.sweep_down.Goals as goal
+
+pub walk_block-has_grown-requires : goal.walk_block-has_grown-requires
+walk_block-has_grown-requires c =
+    let k = c.loop-k.k in
+    let b : Block ℕ = c.index-blocks-k.result in
+    let blocks = c.args.blocks.now in
+    ap (λ n. block_keeps (is_below n) b) c.loop-k.invariant
+    ∙ all_at (block_keeps (is_below c.args.set.now.length)) blocks k b c.requires (slice_get_read blocks (length blocks) k b refl (omega arith) c.index-blocks-k.is)
