@@ -7,8 +7,8 @@
 //! write and which may come next, `specs/Paths.antt` what live means. [`points::graph`] makes them of a function.
 //!
 //! [`live::live`] answers a [`sets::Live`], whose `holds` says whether a register is live right before a point, both ways exactly; [`live::live_in`] does so
-//! of any graph. It has a set for each point, a bit for each register. The sets grow from empty ones, in a few sweeps from the last point to the first,
-//! behind which only points that lead back have to be looked at again. Where that isn't enough they grow in a sweep along a postorder of the graph, or two where there are loops, and then from a
+//! of any graph. It has a set for each point, a bit for each register. The sets grow from empty ones: of few points in a few sweeps from the last point to the first,
+//! behind which only points that lead back have to be looked at again. Of more points, or where that isn't enough, they grow in a sweep along a postorder of the graph, or two where there are loops, and then from a
 //! worklist of the points behind which a set grew, so that the order of the blocks in the text does not matter; a last sweep over all points changes none. That
 //! shows that the sets are closed, and that such sets are exact is a law of its own ([`laws`]). Only what makes sets and lists wants memory; `holds` takes none.
 //!

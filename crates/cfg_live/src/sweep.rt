@@ -119,15 +119,22 @@ fn latches_stand(rows: &mut [BitSet], set: &mut BitSet, graph: &Graph) -> bool
     true
 }
 
-/// Lets the sets grow by a few sweeps against the order of the points, and says whether each is stable then. Text whose loops are not nested deep, and stand as they
-/// run, takes no more.
+/// Of so many points an order is found only where a few sweeps weren't enough: it takes longer than these. Of more points it saves sweeps.
+const FEW: usize = 1_000;
+
+fn most_sweeps(points: usize) -> usize {
+    if points <= FEW { 4 } else { 0 }
+}
+
+/// Lets the sets of few points grow by a few sweeps against the order of the points, and says whether each is stable then. Text whose loops are not nested deep, and
+/// stand as they run, takes no more.
 pub(crate) fn settle_soon(rows: &mut [BitSet], set: &mut BitSet, graph: &Graph) -> bool
     requires { AreSized set.old.length rows.old }
     ensures length { set.new.length ≡ set.old.length }
     ensures went { Went graph.now set.old.length rows.old rows.new }
     ensures stable { result ≡ true → (p : ℕ) → p < length rows.new → Stable graph.now set.old.length rows.new p }
 {
-    for _ in 0..4 {
+    for _ in 0..most_sweeps(rows.len()) {
         sweep_back(rows, set, graph);
         if latches_stand(rows, set, graph) {
             return true;
