@@ -19,6 +19,7 @@ mod flow;
 pub mod graph;
 pub mod laws;
 pub mod live;
+pub mod low_registers;
 pub mod numbering;
 mod order;
 pub mod points;

@@ -1,5 +1,6 @@
 //! Whether there may be anything to do in front of loops: a look at the lines, before the loops are found.
 use crate::nests::is_back;
+use cfg_live::low_registers::LowRegisters;
 use cfg_live::uses::line_writes;
 use loops::depths::target;
 use rv_isa::instruction::RegOp;
@@ -45,33 +46,28 @@ fn jumps_back(blocks: &[Block<u32>]) -> Backs {
     backs
 }
 
-/// The set of this register alone; empty where its number is high.
-fn only(register: u32) -> u128 {
-    if register < 128 { 1u128 << register } else { 0 }
-}
-
 /// Which registers the block writes, of those with low numbers.
-fn written_in(blocks: &[Block<u32>], block: usize) -> u128 {
-    let mut written = 0u128;
+fn written_in(blocks: &[Block<u32>], block: usize) -> LowRegisters {
+    let mut written = LowRegisters::new();
     if let Some(block) = blocks.get(block) {
         for line in block.lines.as_slice() {
             if let Some(register) = line_writes(line) {
-                written |= only(register);
+                written = written.with(register);
             }
         }
     }
     written
 }
 
-fn is_outside(written: u128, operand: &Operand<u32>) -> bool {
+fn is_outside(written: LowRegisters, operand: &Operand<u32>) -> bool {
     match operand {
-        Operand::At(register) => written & only(*register) == 0,
+        Operand::At(register) => !written.contains(*register),
         _ => false,
     }
 }
 
 /// Whether a line operates on a register that isn't among these.
-fn reads_outside(written: u128, line: &Line<u32>) -> bool {
+fn reads_outside(written: LowRegisters, line: &Line<u32>) -> bool {
     match line {
         Line::Operate {
             operation: Operation::Compare(_, _),
@@ -105,7 +101,7 @@ fn has_part(blocks: &[Block<u32>]) -> bool {
 
 /// Whether a line of the only loop operates on a register that neither its first nor its last block writes.
 fn loop_reads_outside(blocks: &[Block<u32>], back: Back) -> bool {
-    let written = written_in(blocks, back.head) | written_in(blocks, back.last);
+    let written = written_in(blocks, back.head).joined(written_in(blocks, back.last));
     for block in blocks
         .iter()
         .take(back.last.saturating_add(1))

@@ -1,6 +1,7 @@
 //! What is claimed where blocks begin: a guess, of which nothing is proved.
 use crate::claim::{Claim, Entry};
 use crate::walk::Walk;
+use cfg_live::low_registers::LowRegisters;
 use cfg_live::uses::line_writes;
 use il_ast::list::Seq;
 use std::alloc::{AllocError, Global};
@@ -154,13 +155,8 @@ fn as_entries(alloc: Global, guesses: Vec<Guess>) -> Result<Vec<Entry>, AllocErr
 /// Which registers are set to numbers, and which are written otherwise, of those with numbers below 128.
 #[derive(Clone, Copy)]
 struct Writes {
-    numbers: u128,
-    others: u128,
-}
-
-/// The set of this register alone.
-fn only(register: u32) -> u128 {
-    if register < 128 { 1u128 << register } else { 0 }
+    numbers: LowRegisters,
+    others: LowRegisters,
 }
 
 impl Writes {
@@ -171,12 +167,12 @@ impl Writes {
                 to,
                 value: Operand::Number(_),
             } => Writes {
-                numbers: self.numbers | only(*to),
+                numbers: self.numbers.with(*to),
                 ..self
             },
             _ => match line_writes(line) {
                 Some(register) => Writes {
-                    others: self.others | only(register),
+                    others: self.others.with(register),
                     ..self
                 },
                 None => self,
@@ -196,13 +192,13 @@ impl Writes {
 /// Whether a register is written with numbers alone: else none holds one behind the block that sets it, but where several ways join.
 fn holds_number(function: &VFunc) -> bool {
     let mut writes = Writes {
-        numbers: 0,
-        others: 0,
+        numbers: LowRegisters::new(),
+        others: LowRegisters::new(),
     };
     for block in function.code.blocks.as_slice() {
         writes = writes.with_all(block.lines.as_slice());
     }
-    function.registers > 128 || writes.numbers & !writes.others != 0
+    function.registers > 128 || !writes.numbers.without(writes.others).is_empty()
 }
 
 /// What is claimed where each block begins: that registers hold what they do behind every block that leads there. Nothing, where that isn't found in a few rounds.

@@ -1,17 +1,13 @@
 //! Whether copies are read behind them: a look at the lines, before they are made anew.
+use cfg_live::low_registers::LowRegisters;
 use vcode::code::Block;
 use vcode::line::{Jump, Line};
 use vcode::place::Operand;
 
-/// The registers that were copied so far in a block, by their numbers modulo 64.
+/// The registers that were copied so far in a block, by their numbers modulo 128.
 #[derive(Clone, Copy)]
 struct Sources {
-    copied: u64,
-}
-
-/// The set of this register alone, and of those that are taken for it.
-fn only(register: u32) -> u64 {
-    1u64 << (register % 64)
+    copied: LowRegisters,
 }
 
 impl Sources {
@@ -20,10 +16,10 @@ impl Sources {
         match line {
             Line::Tick { .. } => false,
             Line::Set { value, .. } => match value {
-                Operand::At(register) => self.copied & only(*register) != 0,
+                Operand::At(register) => self.copied.contains(*register % 128),
                 _ => false,
             },
-            _ => self.copied != 0,
+            _ => !self.copied.is_empty(),
         }
     }
 
@@ -31,7 +27,7 @@ impl Sources {
     fn are_tested(self, jump: &Jump<u32>) -> bool {
         match jump {
             Jump::Goto(_) | Jump::Halt => false,
-            _ => self.copied != 0,
+            _ => !self.copied.is_empty(),
         }
     }
 
@@ -42,7 +38,7 @@ impl Sources {
                 value: Operand::At(from),
                 ..
             } => Sources {
-                copied: self.copied | only(*from),
+                copied: self.copied.with(*from % 128),
             },
             _ => self,
         }
@@ -50,7 +46,9 @@ impl Sources {
 }
 
 fn block_reads_sources(block: &Block<u32>) -> bool {
-    let mut sources = Sources { copied: 0 };
+    let mut sources = Sources {
+        copied: LowRegisters::new(),
+    };
     for line in block.lines.as_slice() {
         if sources.are_read(line) {
             return true;
