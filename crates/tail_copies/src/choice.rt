@@ -40,6 +40,7 @@ fn is_short(block: &Block<u32>, most: u64) -> bool {
     }
 }
 
+/// Whether the block counts: where there are no marks, all do.
 fn is_marked(marks: &[bool], block: usize) -> bool {
     match marks.get(block) {
         Some(mark) => *mark,

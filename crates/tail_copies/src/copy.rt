@@ -85,9 +85,10 @@ fn longer(
     }
 }
 
-fn is_marked(marks: &[bool], block: usize) -> bool {
-    match marks.get(block) {
-        Some(mark) => *mark,
+/// Whether the block is chosen.
+fn is_listed(chosen: &[bool], block: usize) -> bool {
+    match chosen.get(block) {
+        Some(is_this) => *is_this,
         None => false,
     }
 }
@@ -102,7 +103,7 @@ fn all_longer(
 {
     let mut made = Vec::with_capacity(alloc, blocks.len())?;
     for (number, block) in blocks.iter().enumerate() {
-        made.push(longer(alloc, blocks, is_marked(chosen, number), block)?)?;
+        made.push(longer(alloc, blocks, is_listed(chosen, number), block)?)?;
     }
     Ok(made)
 }

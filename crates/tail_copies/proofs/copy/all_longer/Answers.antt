@@ -21,7 +21,7 @@ loop-number-preserved c = λ rest h.
     let d : Block ℕ = c.in_ok-longer.field-0 in
     subst (λ (xs : List (Block ℕ)). AllLonger blocks blocks xs)
     (sym (ap (λ (xs : List (Block ℕ)). xs ++ rest) c.in_ok-push.ensures.items ∙ append_one c.loop-number.made.items d rest))
-    (c.loop-number.invariant (d ∷ rest) (blocks_on blocks c.loop-number.number b d c.is_marked.result rest c.loop-number-test.true c.index-blocks-number.is c.in_ok-longer.ensures h))
+    (c.loop-number.invariant (d ∷ rest) (blocks_on blocks c.loop-number.number b d c.is_listed.result rest c.loop-number-test.true c.index-blocks-number.is c.in_ok-longer.ensures h))
 
 pub returns : goal.returns
 returns c =
