@@ -230,6 +230,7 @@ fn optimized(
 {
     let function = virtual_code_of(alloc, leaves, func)?;
     let located = allocated(alloc, &function, allocator)?;
+    drop(function);
     let placed = flat(located);
     let code = laid_out(alloc, &placed)?;
     if is_small(func, &placed) && is_short(func, &code) {
@@ -248,7 +249,9 @@ fn unoptimized(alloc: Global, func: &Func) -> Result<MachineCode, AllocError>
 {
     let lowered = lower(alloc, func)?;
     let selected = select(alloc, &lowered)?;
+    drop(lowered);
     let located = spill_all(alloc, &selected)?;
+    drop(selected);
     let placed = flat(located);
     let code = laid_out(alloc, &placed)?;
     Ok(code)
