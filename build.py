@@ -90,9 +90,9 @@ def show_progress(output, count, begun):
 
 def prove(room, count):
     """Proves the crates of the repository in this folder, as many side by side as there are processors and memory, and builds its program."""
-    lanes = len(os.sched_getaffinity(0))
+    lanes = int(subprocess.run([ROOT / ".ci" / "lanes"], check=True, stdout=subprocess.PIPE, text=True).stdout)
     say(f"proving {count} crates and building the program, {lanes} at once: about {ALL_MINUTES // lanes + 5} minutes where nothing is kept of them")
-    process = subprocess.Popen(["rt", "ci"], cwd=room, stdin=subprocess.DEVNULL, stdout=subprocess.PIPE, stderr=subprocess.STDOUT, text=True, errors="replace", start_new_session=True)
+    process = subprocess.Popen(["rt", "ci"], cwd=room, env={**os.environ, "RT_JOBS": str(lanes)}, stdin=subprocess.DEVNULL, stdout=subprocess.PIPE, stderr=subprocess.STDOUT, text=True, errors="replace", start_new_session=True)
     try:
         last = show_progress(process.stdout, count, time.monotonic())
         status = process.wait()
