@@ -3,7 +3,7 @@ use elf_file::read_image;
 use shell::dis_lines::dis_lines;
 use std::alloc::{AllocError, Global};
 use std::fmt::Write;
-use std::test::Fail;
+use std::process::Abort;
 
 /// A file of one segment of these bytes, with these flags, with its entry at the segment's start.
 fn file_of(alloc: Global, flags: u8, bytes: &[u8], size: u8) -> Result<Vec<u8>, AllocError> {
@@ -39,20 +39,30 @@ fn shown(alloc: Global, flags: u8, bytes: &[u8], size: u8) -> Result<String, All
     Ok(all)
 }
 
+fn is_shown(
+    rt: &impl Abort,
+    alloc: Global,
+    flags: u8,
+    bytes: &[u8],
+    size: u8,
+    expected: &str,
+) -> Result<(), AllocError> {
+    let text = shown(alloc, flags, bytes, size)?;
+    assert_eq!(rt; text.as_str(), expected);
+    Ok(())
+}
+
 #[test]
-fn lines_of_code(rt: HostRuntime) -> Result<(), Fail> {
+fn lines_of_code(rt: HostRuntime) -> Result<(), AllocError> {
+    let alloc = rt.alloc();
     let code = b"\x13\x05\0\0\xef\xf0\xdf\xff\x1b\x15\x05\x02\x13\x01";
     let expected = "00010000  00000513  addi x10, x0, 0
 00010004  ffdff0ef  jal x1, -4
 00010008  0205151b  ?
 ";
-    assert_eq!(rt; shown(rt.alloc(), 1, code, 14)?.as_str(), expected);
-    assert_eq!(rt; shown(rt.alloc(), 5, code, 100)?.as_str(), expected);
-    assert_eq!(rt;
-        shown(rt.alloc(), 1, b"\0\0\0\0", 4)?.as_str(),
-        "00010000  00000000  ?\n"
-    );
-    assert_eq!(rt; shown(rt.alloc(), 1, b"\x13", 4)?.as_str(), "");
-    assert_eq!(rt; shown(rt.alloc(), 1, b"\x13", 3)?.as_str(), "L5");
-    Ok(())
+    is_shown(&rt, alloc, 1, code, 14, expected)?;
+    is_shown(&rt, alloc, 5, code, 100, expected)?;
+    is_shown(&rt, alloc, 1, b"\0\0\0\0", 4, "00010000  00000000  ?\n")?;
+    is_shown(&rt, alloc, 1, b"\x13", 4, "")?;
+    is_shown(&rt, alloc, 1, b"\x13", 3, "L5")
 }

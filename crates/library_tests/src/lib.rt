@@ -40,6 +40,8 @@ mod reading;
 #[cfg(test)]
 mod refusing;
 #[cfg(test)]
+mod same;
+#[cfg(test)]
 mod sets;
 #[cfg(test)]
 mod shown;

@@ -1,5 +1,7 @@
 //! Texts that are cut off, texts with a byte too many, and a long text.
 
+use crate::same::is_number;
+use il_ast::function::Func;
 use il_ast::text::{Definition, Text};
 use il_reader::error::ReadError;
 use il_reader::read::read;
@@ -85,16 +87,18 @@ fn long_text(alloc: Global) -> Result<String, AllocError> {
     text.finish()
 }
 
+fn is_last(rt: &impl Abort, function: &Func) {
+    is_number(rt, function.temps.len(), 41);
+    is_number(rt, function.labels.len(), 20);
+    is_number(rt, function.name.number(), 39);
+}
+
 fn is_long_text(rt: &impl Abort, tree: &Text) {
-    assert_eq!(rt; tree.definitions.len(), 40);
-    assert_eq!(rt; tree.symbols.len(), 40);
-    assert_eq!(rt; tree.lines, 40 * 63 + 1);
+    is_number(rt, tree.definitions.len(), 40);
+    is_number(rt, tree.symbols.len(), 40);
+    is_number(rt, tree.lines, 40 * 63 + 1);
     match tree.definitions.as_slice().last() {
-        Some(Definition::Function(function)) => {
-            assert_eq!(rt; function.temps.len(), 41);
-            assert_eq!(rt; function.labels.len(), 20);
-            assert_eq!(rt; function.name.number(), 39);
-        }
+        Some(Definition::Function(function)) => is_last(rt, function),
         _ => assert!(rt; false, "a function"),
     }
 }

@@ -31,41 +31,63 @@ fn has_some(set: &BitSet) -> bool {
     false
 }
 
+/// Adds the multiples of three, and once more, which adds none.
+fn unite(rt: &impl Abort, set: &mut BitSet, threes: &BitSet) {
+    let length = set.len();
+    assert!(rt; threes.len() == length);
+    assert_eq!(rt; set.union_into(threes), length > 3, "{length} numbers");
+    assert!(rt; set.len() == length);
+    assert!(rt; !set.union_into(threes), "{length} numbers, again");
+}
+
+/// Whether the set holds the multiples of two or three, each number asked for.
+fn holds_both(rt: &impl Abort, set: &BitSet) {
+    for i in 0..set.len() {
+        assert!(rt; i < set.len());
+        assert_eq!(rt; set.contains(i), i % 2 == 0 || i % 3 == 0, "{i}");
+    }
+}
+
+/// Takes the multiples of three out.
+fn part(rt: &impl Abort, set: &mut BitSet, threes: &BitSet) {
+    assert!(rt; set.len() == threes.len());
+    set.minus(threes);
+}
+
+/// Whether the set holds the multiples of two that are none of three.
+fn holds_one(rt: &impl Abort, set: &BitSet) {
+    for i in 0..set.len() {
+        assert!(rt; i < set.len());
+        assert_eq!(rt; set.contains(i), i % 2 == 0 && i % 3 != 0, "{i}, less");
+    }
+}
+
+/// Takes one number out, and the others stay.
+fn take_two_out(rt: &impl Abort, set: &mut BitSet) {
+    if set.len() > 2 {
+        set.remove(2);
+        assert!(rt; 2 < set.len() && !set.contains(2));
+        assert!(rt; set.len() < 5 || set.contains(4));
+    }
+}
+
+fn set_of(rt: &impl Abort, alloc: Global, length: usize) -> Result<(), AllocError> {
+    let threes = multiples(rt, alloc, length, 3)?;
+    let mut set = multiples(rt, alloc, length, 2)?;
+    unite(rt, &mut set, &threes);
+    holds_both(rt, &set);
+    part(rt, &mut set, &threes);
+    holds_one(rt, &set);
+    take_two_out(rt, &mut set);
+    set.clear();
+    assert!(rt; set.len() == length && !has_some(&set), "{length}, cleared");
+    Ok(())
+}
+
 #[test]
 fn sets_of_each_size(rt: HostRuntime) -> Result<(), Fail> {
     for length in [0, 1, 63, 64, 65, 511, 512, 513] {
-        let mut set = multiples(&rt, rt.alloc(), length, 2)?;
-        let threes = multiples(&rt, rt.alloc(), length, 3)?;
-        assert!(rt; set.len() == length && threes.len() == length);
-        assert_eq!(rt; set.union_into(&threes), length > 3, "{length} numbers");
-        assert!(rt; set.len() == length);
-        assert!(rt; !set.union_into(&threes), "{length} numbers, again");
-        for i in 0..length {
-            assert!(rt; i < set.len());
-            assert_eq!(rt;
-                set.contains(i),
-                i % 2 == 0 || i % 3 == 0,
-                "{i} of {length}"
-            );
-        }
-        assert!(rt; set.len() == length);
-        set.minus(&threes);
-        for i in 0..length {
-            assert!(rt; i < set.len());
-            assert_eq!(rt;
-                set.contains(i),
-                i % 2 == 0 && i % 3 != 0,
-                "{i} of {length}, less"
-            );
-        }
-        if length > 2 {
-            assert!(rt; set.len() == length);
-            set.remove(2);
-            assert!(rt; set.len() == length);
-            assert!(rt; !set.contains(2) && (length < 5 || set.contains(4)));
-        }
-        set.clear();
-        assert!(rt; set.len() == length && !has_some(&set), "{length}, cleared");
+        set_of(&rt, rt.alloc(), length)?;
     }
     Ok(())
 }

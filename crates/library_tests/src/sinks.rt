@@ -3,7 +3,20 @@ use shell::disk::{Access, Disk};
 use shell::memory::MemorySink;
 use shell::memory_disk::MemoryDisk;
 use shell::write_exe::{WriteFault, write_exe, write_parts};
+use std::alloc::Global;
+use std::process::Abort;
 use std::test::Fail;
+
+fn holds(rt: &impl Abort, sink: &MemorySink, bytes: &[u8], faults: u64) {
+    assert_eq!(rt; sink.bytes.as_slice(), bytes);
+    assert_eq!(rt; sink.faults, faults);
+}
+
+fn nothing_asks_for_nothing(rt: &impl Abort, alloc: Global) {
+    let mut sink = MemorySink::new(alloc, 0, 1);
+    assert_eq!(rt; write_exe(b"", &mut sink), Ok(()));
+    assert_eq!(rt; sink.calls, 0);
+}
 
 #[test]
 fn all_goes_out_or_a_beginning(rt: HostRuntime) -> Result<(), Fail> {
@@ -18,29 +31,38 @@ fn all_goes_out_or_a_beginning(rt: HostRuntime) -> Result<(), Fail> {
     for (most, fails_at, answer, bytes, faults) in table {
         let mut sink = MemorySink::new(rt.alloc(), most, fails_at);
         assert_eq!(rt; write_exe(b"seven77", &mut sink), answer);
-        assert_eq!(rt; sink.bytes.as_slice(), bytes);
-        assert_eq!(rt; sink.faults, faults);
+        holds(&rt, &sink, bytes, faults);
     }
-    let mut sink = MemorySink::new(rt.alloc(), 0, 1);
-    assert_eq!(rt; write_exe(b"", &mut sink), Ok(()));
-    assert_eq!(rt; sink.calls, 0);
+    nothing_asks_for_nothing(&rt, rt.alloc());
     Ok(())
+}
+
+/// Puts three parts to a sink that takes three bytes at once.
+fn parts_go_out(
+    rt: &impl Abort,
+    alloc: Global,
+    fails_at: u64,
+    answer: Result<(), WriteFault>,
+    bytes: &[u8],
+    faults: u64,
+) {
+    let parts: [&[u8]; 3] = [b"number ", b"00ff", b"\n"];
+    let mut sink = MemorySink::new(alloc, 3, fails_at);
+    assert_eq!(rt; write_parts(&parts, &mut sink), answer);
+    holds(rt, &sink, bytes, faults);
 }
 
 #[test]
 fn parts_go_out_one_after_another(rt: HostRuntime) -> Result<(), Fail> {
-    let parts: [&[u8]; 3] = [b"number ", b"00ff", b"\n"];
-    let mut sink = MemorySink::new(rt.alloc(), 3, 0);
-    assert!(rt; write_parts(&parts, &mut sink).is_ok());
-    assert_eq!(rt; sink.bytes.as_slice(), b"number 00ff\n".as_slice());
-    assert_eq!(rt; sink.faults, 0);
-    let mut sink = MemorySink::new(rt.alloc(), 3, 5);
-    assert_eq!(rt;
-        write_parts(&parts, &mut sink),
-        Err(WriteFault { written: 3 })
+    parts_go_out(&rt, rt.alloc(), 0, Ok(()), b"number 00ff\n", 0);
+    parts_go_out(
+        &rt,
+        rt.alloc(),
+        5,
+        Err(WriteFault { written: 3 }),
+        b"number 00f",
+        1,
     );
-    assert_eq!(rt; sink.bytes.as_slice(), b"number 00f".as_slice());
-    assert_eq!(rt; sink.faults, 1);
     Ok(())
 }
 
