@@ -21,7 +21,7 @@ PROGRAM = OUT / NAME
 STAMP = OUT / "stamp"
 
 # How many minutes of processor time all libraries take.
-ALL_MINUTES = 95
+ALL_MINUTES = 120
 
 
 def say(*words):
