@@ -26,7 +26,7 @@ pub fn layout(alloc: Global, code: LabelledCode) -> Result<MachineCode, AllocErr
     let items = code.items();
     let far = longest_places(alloc, code.labels(), items)?;
     let places = chosen_places(alloc, code.labels(), far.as_slice(), items)?;
-    let mut words = Vec::new(alloc);
+    let mut words = Vec::with_capacity(alloc, items.len())?;
     push_words(&mut words, far.as_slice(), places.as_slice(), items)?;
     let mut holes = Vec::new(alloc);
     push_holes(&mut holes, far.as_slice(), items)?;

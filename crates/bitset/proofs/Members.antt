@@ -5,7 +5,7 @@ use Rattle.std.specs.Int.{bit_at, bit_not}
 use Rattle.std.proofs.Math.Nat.{eq-or-lt_of_le}
 use Rattle.std.proofs.lemmas.Bool.{cases_lt}
 use Rattle.std.proofs.lemmas.Bool.Decides.{nat_tests}
-use Rattle.std.proofs.lemmas.List.{get_or_past, get_or_default}
+use Rattle.std.proofs.lemmas.List.{get_or_past}
 use Rattle.std.proofs.Common.{get_or-set_same, get_or-set_other}
 use Rattle.std.proofs.lemmas.Nat.Bits.{bit_at-lt, bit_at-zero, bit_at_or, bit_at_and, bit_at_not, bit_at_set_same, bit_at_set_other, bit_at_clear_same, bit_at_clear_other, shr_and_one, same_from_bits, bit_at_above}
 use Rattle.bitset.specs.Bits.{Grew, SameMembers, is_set}
@@ -52,11 +52,10 @@ is_set-at words k j within =
     let rest : (64 * k + j) % 64 ≡ j = omega arith in
     ap (λ q. bit_at (get_or words q 0) ((64 * k + j) % 64) == 1) quotient ∙ ap (λ r. bit_at (get_or words k 0) r == 1) rest
 
--- what `contains` reads
-pub is_set-read : (words : List ℕ) (i w : ℕ) → i / 64 < length words → w ≡ get_or words (i / 64) w → nat_eq (bit_and (w / 2 ^ (i % 64)) 1) 1 ≡ is_set words i
+-- what `has_number` reads
+pub is_set-read : (words : List ℕ) (i : ℕ) → nat_eq (bit_and (get_or words (i / 64) 0 / 2 ^ (i % 64)) 1) 1 ≡ is_set words i
 unfolding is_set
-is_set-read words i w within e =
-    ap (λ b. nat_eq b 1) (shr_and_one w (i % 64)) ∙ ap (λ v. bit_at v (i % 64) == 1) (e ∙ get_or_default words (i / 64) w 0 within)
+is_set-read words i = ap (λ b. nat_eq b 1) (shr_and_one (get_or words (i / 64) 0) (i % 64))
 
 -- the union of the words is the union of the sets
 is_set-inside : (xs ys new : List ℕ) → UnionIn 0 (length xs) ys xs new → (i : ℕ) → i / 64 < length xs → is_set new i ≡ (is_set xs i || is_set ys i)

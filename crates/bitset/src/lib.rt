@@ -7,10 +7,10 @@
 //! number came in, `minus` leaves just those of the first that are not in the second. No set holds a number of its length or above, as `len` says. Both sets
 //! of `union_into` and of `minus` have one length; that is the caller's condition, as is `i < length` for `insert`, `remove` and `contains`.
 //!
-//! Only [`BitSet::new`] wants memory, 8 bytes for each 64 numbers, and only it can fail. `union_into` goes by vectors of eight words and then, word by
+//! Only [`BitSet::new`] wants memory, 8 bytes for each 64 numbers where there are more than 64, and only it can fail. `union_into` goes by vectors of eight words and then, word by
 //! word, over the rest; `minus` by words. That it does so is read in `src/words.rt` and promised by no clause.
 //!
-//! The crate stands on std alone.
+//! The crate stands on std and `smallvec` alone.
 #![tactic(auto)]
 
 mod set;

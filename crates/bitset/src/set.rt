@@ -1,15 +1,18 @@
 ghost use Rattle.std.specs.Prelude.{◌≡◌, ◌<◌, ℕ, IfOk, Bool, true, false, ◌==◌, ◌||◌, ◌&&◌, not, MatchBool};
 ghost use Rattle.bitset.specs.Bits.{Grew, SameMembers, is_member};
 
-use crate::words::{add_number, drop_all, drop_number, minus_words, no_words, union_words};
+use crate::words::{
+    add_number, drop_all, drop_number, has_number, minus_words, no_words, union_words,
+};
+use smallvec::SmallVec;
 use std::alloc::{AllocError, Global};
 use std::marker::Model;
 
-/// A set of numbers below a length that is fixed when it is made.
+/// A set of numbers below a length that is fixed when it is made. Up to 64 numbers stand in the value itself, and more on the heap.
 #[derive(Drop)]
 pub struct BitSet {
     length: usize,
-    words: Vec<u64>,
+    words: SmallVec<u64, 1>,
 }
 
 impl Model for BitSet {
@@ -49,7 +52,7 @@ impl BitSet {
         requires { i < self.now.length }
         ensures { result ≡ is_member self.now i }
     {
-        (self.words[i / 64] >> (i % 64)) & 1 == 1
+        has_number(self.words.as_slice(), i)
     }
 
     /// Adds `i` to the set.
@@ -87,7 +90,7 @@ impl BitSet {
         // Where the answer is true some number came in, and where it is false none did.
         ensures grew { MatchBool result (Grew self.old.words self.new.words) (SameMembers self.old.words self.new.words) }
     {
-        union_words(self.words.as_mut_slice(), &other.words)
+        union_words(self.words.as_mut_slice(), other.words.as_slice())
     }
 
     /// Takes out the numbers of `other`, a set of the same length.
@@ -96,6 +99,6 @@ impl BitSet {
         ensures length { self.new.length ≡ self.old.length }
         ensures members { (i : ℕ) → is_member self.new i ≡ (is_member self.old i && not (is_member other.now i)) }
     {
-        minus_words(self.words.as_mut_slice(), &other.words);
+        minus_words(self.words.as_mut_slice(), other.words.as_slice());
     }
 }

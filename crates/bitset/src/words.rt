@@ -2,6 +2,7 @@ ghost use Rattle.std.specs.Prelude.{◌≡◌, ◌+◌, ◌*◌, ◌≤◌, ◌<
 ghost use Rattle.bitset.specs.Bits.{Grew, SameMembers, is_set};
 ghost use Rattle.bitset.specs.Words.{ChangedIn, MinusBelow, UnionIn};
 
+use smallvec::SmallVec;
 use std::alloc::{AllocError, Global};
 use std::simd::Simd;
 
@@ -67,6 +68,9 @@ fn join_words(words: &mut [u64], other: &[u64]) -> bool
     ensures union { UnionIn 0 (length words.old) other.now words.old words.new }
     ensures changed { ChangedIn 0 (length words.old) words.old words.new result }
 {
+    if words.len() == 1 {
+        return join_word(words, other, 0);
+    }
     if words.len() < LANES {
         return join_rest(words, other, 0);
     }
@@ -105,6 +109,14 @@ pub fn minus_words(words: &mut [u64], other: &[u64])
     clear_words(words, other);
 }
 
+/// Whether `i` is among the numbers of the words.
+pub fn has_number(words: &[u64], i: usize) -> bool
+    requires { i / 64 < length words.now }
+    ensures { result ≡ is_set words.now i }
+{
+    (words[i / 64] >> (i % 64)) & 1 == 1
+}
+
 /// Adds the number `i` to those of the words.
 pub fn add_number(words: &mut [u64], i: usize)
     requires { i / 64 < length words.old }
@@ -132,11 +144,10 @@ pub fn drop_all(words: &mut [u64])
 }
 
 /// `count` words with no number.
-pub fn no_words(alloc: Global, count: usize) -> Result<Vec<u64>, AllocError>
+pub fn no_words(alloc: Global, count: usize) -> Result<SmallVec<u64, 1>, AllocError>
     ensures number { IfOk result (λ words. length words.items ≡ count) }
     ensures empty { IfOk result (λ words. (i : ℕ) → is_set words.items i ≡ false) }
 {
-    let mut words = Vec::new(alloc);
-    words.resize(count, 0)?;
+    let words = SmallVec::from_elem(alloc, 0, count)?;
     Ok(words)
 }

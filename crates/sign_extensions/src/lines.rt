@@ -49,7 +49,7 @@ fn arguments(
 ) -> Result<Seq<Argument<u32>>, AllocError>
     ensures { IfOk result (λ v. v ≡ map (with_claim marks.now) from.now) }
 {
-    let mut made = Vec::new(alloc);
+    let mut made = Vec::with_capacity(alloc, from.len())?;
     for argument in from {
         made.push(Argument {
             class: argument.class,
@@ -103,7 +103,7 @@ fn jump(marks: &[bool], from: Jump<u32>) -> Jump<u32>
 fn lines(alloc: Global, marks: &[bool], from: &[Line<u32>]) -> Result<Seq<Line<u32>>, AllocError>
     ensures { IfOk result (λ v. v ≡ map (with_copy marks.now) from.now) }
 {
-    let mut made = Vec::new(alloc);
+    let mut made = Vec::with_capacity(alloc, from.len())?;
     for item in from {
         made.push(line(alloc, marks, item)?)?;
     }
@@ -118,7 +118,7 @@ pub fn blocks(
 ) -> Result<Seq<Block<u32>>, AllocError>
     ensures { IfOk result (λ v. v ≡ map (with_copies marks.now) from.now) }
 {
-    let mut made = Vec::new(alloc);
+    let mut made = Vec::with_capacity(alloc, from.len())?;
     for block in from {
         made.push(Block {
             lines: lines(alloc, marks, block.lines.as_slice())?,
