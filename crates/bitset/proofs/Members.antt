@@ -1,5 +1,5 @@
 -- What a change of words is for the numbers of the set.
-use Rattle.std.proofs.Common.{◌≡◌, ◌≢◌, ℕ, zero, suc, ◌+◌, ◌-◌, ◌*◌, ◌/◌, ◌%◌, ◌^◌, ◌<◌, ◌≤◌, Bool, true, false, not, nat_eq, ◌||◌, ◌&&◌, ◌==◌, List, [], length, get_or, take, ◌++◌, bit_or, bit_and, refl, sym, ◌∙◌, ap, arith, inl, inr, w64, min, max, slice_set, replicate}
+use Rattle.std.proofs.Common.{◌≡◌, ◌≢◌, ℕ, zero, suc, ◌+◌, ◌-◌, ◌*◌, ◌/◌, ◌%◌, ◌^◌, ◌<◌, ◌≤◌, Bool, true, false, not, nat_eq, ◌||◌, ◌&&◌, ◌==◌, List, [], length, get_or, bit_or, bit_and, refl, sym, ◌∙◌, ap, arith, inl, inr, w64, min, max, slice_set, replicate}
 use Rattle.std.specs.Prelude.{MatchBool, ◌⊎◌}
 use Rattle.std.specs.Int.{bit_at, bit_not}
 use Rattle.std.proofs.Math.Nat.{eq-or-lt_of_le}
@@ -158,15 +158,6 @@ pub is_set-zeros : (words : List ℕ) (n : ℕ) → words ≡ replicate n 0 → 
 unfolding is_set
 is_set-zeros words n e i =
     ap (λ ws. bit_at (get_or ws (i / 64) 0) (i % 64) == 1) e ∙ ap (λ w. bit_at w (i % 64) == 1) (zeros n (i / 64)) ∙ ap (λ b. b == 1) (bit_at-zero (i % 64))
-
-take_none : (n : ℕ) → take {A = ℕ} n [] ≡ []
-take_none zero = refl
-take_none (suc n) = refl
-
--- the words that filling up an empty list gives
-pub is_set-filled : (words old : List ℕ) (count from : ℕ) → words ≡ take count old ++ replicate (count - from) 0 → old ≡ [] → (i : ℕ) → is_set words i ≡ false
-is_set-filled words old count from e none =
-    is_set-zeros words (count - from) (e ∙ ap (λ o. take count o ++ replicate (count - from) 0) none ∙ ap (λ t. t ++ replicate (count - from) 0) (take_none count))
 
 -- the word of a number with its bit set
 unfoldable pub with_number : List ℕ → ℕ → List ℕ

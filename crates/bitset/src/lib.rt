@@ -10,9 +10,10 @@
 //! Only [`BitSet::new`] wants memory, 8 bytes for each 64 numbers where there are more than 64, and only it can fail. `union_into` goes by vectors of eight words and then, word by
 //! word, over the rest; `minus` by words. That it does so is read in `src/words.rt` and promised by no clause.
 //!
-//! The crate stands on std and `smallvec` alone.
+//! The crate stands on std alone.
 #![tactic(auto)]
 
+mod kept;
 mod set;
 mod words;
 

@@ -1,10 +1,8 @@
 ghost use Rattle.std.specs.Prelude.{◌≡◌, ◌<◌, ℕ, IfOk, Bool, true, false, ◌==◌, ◌||◌, ◌&&◌, not, MatchBool};
 ghost use Rattle.bitset.specs.Bits.{Grew, SameMembers, is_member};
 
-use crate::words::{
-    add_number, drop_all, drop_number, has_number, minus_words, no_words, union_words,
-};
-use smallvec::SmallVec;
+use crate::kept::{Kept, no_words};
+use crate::words::{add_number, drop_all, drop_number, has_number, minus_words, union_words};
 use std::alloc::{AllocError, Global};
 use std::marker::Model;
 
@@ -12,17 +10,18 @@ use std::marker::Model;
 #[derive(Drop)]
 pub struct BitSet {
     length: usize,
-    words: SmallVec<u64, 1>,
+    kept: Kept,
 }
 
 impl Model for BitSet {
     ghost use Rattle.bitset.specs.Bits.{Bits, IsBits};
+    ghost use Rattle.bitset.specs.Kept.{kept_words};
 
     ghost Value = { Bits };
 
-    ghost view = { λ s. record { length = s.length; words = s.words.items } };
+    ghost view = { λ s. record { length = s.length; words = kept_words s.kept } };
 
-    ghost invariant = { λ s. IsBits (record { length = s.length; words = s.words.items }) };
+    ghost invariant = { λ s. IsBits (record { length = s.length; words = kept_words s.kept }) };
 }
 
 impl BitSet {
@@ -35,8 +34,8 @@ impl BitSet {
         ensures length { IfOk result (λ s. s.length ≡ length) }
         ensures empty { IfOk result (λ s. (i : ℕ) → is_member s i ≡ false) }
     {
-        let words = no_words(alloc, length.div_ceil(64))?;
-        Ok(BitSet { length, words })
+        let kept = no_words(alloc, length.div_ceil(64))?;
+        Ok(BitSet { length, kept })
     }
 
     /// The length: every number of the set is below it.
@@ -52,7 +51,7 @@ impl BitSet {
         requires { i < self.now.length }
         ensures { result ≡ is_member self.now i }
     {
-        has_number(self.words.as_slice(), i)
+        has_number(self.kept.words(), i)
     }
 
     /// Adds `i` to the set.
@@ -61,7 +60,10 @@ impl BitSet {
         ensures length { self.new.length ≡ self.old.length }
         ensures members { (j : ℕ) → is_member self.new j ≡ (j == i || is_member self.old j) }
     {
-        add_number(self.words.as_mut_slice(), i);
+        match &mut self.kept {
+            Kept::One(words) => add_number(words, i),
+            Kept::Many(words) => add_number(words, i),
+        }
     }
 
     /// Takes `i` out of the set.
@@ -70,7 +72,10 @@ impl BitSet {
         ensures length { self.new.length ≡ self.old.length }
         ensures members { (j : ℕ) → is_member self.new j ≡ (is_member self.old j && not (j == i)) }
     {
-        drop_number(self.words.as_mut_slice(), i);
+        match &mut self.kept {
+            Kept::One(words) => drop_number(words, i),
+            Kept::Many(words) => drop_number(words, i),
+        }
     }
 
     /// Takes all numbers out of the set.
@@ -78,7 +83,10 @@ impl BitSet {
         ensures length { self.new.length ≡ self.old.length }
         ensures empty { (i : ℕ) → is_member self.new i ≡ false }
     {
-        drop_all(self.words.as_mut_slice());
+        match &mut self.kept {
+            Kept::One(words) => drop_all(words),
+            Kept::Many(words) => drop_all(words),
+        }
     }
 
     /// Adds the numbers of `other`, a set of the same length, and says whether the set grew.
@@ -90,7 +98,11 @@ impl BitSet {
         // Where the answer is true some number came in, and where it is false none did.
         ensures grew { MatchBool result (Grew self.old.words self.new.words) (SameMembers self.old.words self.new.words) }
     {
-        union_words(self.words.as_mut_slice(), other.words.as_slice())
+        let others = other.kept.words();
+        match &mut self.kept {
+            Kept::One(words) => union_words(words, others),
+            Kept::Many(words) => union_words(words, others),
+        }
     }
 
     /// Takes out the numbers of `other`, a set of the same length.
@@ -99,6 +111,10 @@ impl BitSet {
         ensures length { self.new.length ≡ self.old.length }
         ensures members { (i : ℕ) → is_member self.new i ≡ (is_member self.old i && not (is_member other.now i)) }
     {
-        minus_words(self.words.as_mut_slice(), other.words.as_slice());
+        let others = other.kept.words();
+        match &mut self.kept {
+            Kept::One(words) => minus_words(words, others),
+            Kept::Many(words) => minus_words(words, others),
+        }
     }
 }

@@ -1,9 +1,7 @@
-ghost use Rattle.std.specs.Prelude.{◌≡◌, ◌+◌, ◌*◌, ◌≤◌, ◌<◌, ◌||◌, ◌&&◌, ◌==◌, ◌/◌, not, ℕ, length, false, IfOk, MatchBool};
+ghost use Rattle.std.specs.Prelude.{◌≡◌, ◌+◌, ◌*◌, ◌≤◌, ◌<◌, ◌||◌, ◌&&◌, ◌==◌, ◌/◌, not, ℕ, length, false, MatchBool};
 ghost use Rattle.bitset.specs.Bits.{Grew, SameMembers, is_set};
 ghost use Rattle.bitset.specs.Words.{ChangedIn, MinusBelow, UnionIn};
 
-use smallvec::SmallVec;
-use std::alloc::{AllocError, Global};
 use std::simd::Simd;
 
 /// How many words a vector has.
@@ -141,13 +139,4 @@ pub fn drop_all(words: &mut [u64])
     ensures empty { (i : ℕ) → is_set words.new i ≡ false }
 {
     words.fill(0);
-}
-
-/// `count` words with no number.
-pub fn no_words(alloc: Global, count: usize) -> Result<SmallVec<u64, 1>, AllocError>
-    ensures number { IfOk result (λ words. length words.items ≡ count) }
-    ensures empty { IfOk result (λ words. (i : ℕ) → is_set words.items i ≡ false) }
-{
-    let words = SmallVec::from_elem(alloc, 0, count)?;
-    Ok(words)
 }

@@ -7,11 +7,12 @@ ghost use Rattle.il_reader.specs.Gives.{rows_of};
 use crate::statement::Operation;
 use il_ast::operation::{Alignment, BinaryOp, Class, Condition, Extension, Size, UnaryOp};
 
-/// Whether a text is a word.
+/// Whether a text is a word. Most aren't even as long.
+#[tactic(auto, using(crate::proofs::Interning::other_length))]
 pub(crate) fn is_text(word: &[u8], text: &[u8]) -> bool
     ensures { result ≡ is_text word.now text.now }
 {
-    text == word
+    text.len() == word.len() && text == word
 }
 
 /// What a word means in a table of words.
@@ -19,7 +20,7 @@ fn word_in<T: Copy>(table: &[(&[u8], T)], text: &[u8]) -> Option<T>
     ensures { result ≡ word_in (rows_of table.now) text.now }
 {
     for (word, meaning) in table {
-        if text == *word {
+        if is_text(word, text) {
             return Some(*meaning);
         }
     }
