@@ -1,3 +1,4 @@
+use Rattle.std.proofs.Common.{rules}
 use Rattle.std.proofs.Common.{arith}
 use Rattle.std.proofs.lemmas.Grind.{common_steps}
 use Rattle.elf_file.proofs.read.read_segment.Goals as goal
@@ -10,3 +11,6 @@ returns-then-not-is_loadable c = grind (arith, common_steps)
 
 pub returns-in_err-file_bytes : goal.returns-in_err-file_bytes
 returns-in_err-file_bytes c = grind (arith, common_steps)
+
+pub returns : goal.returns
+returns c = grind (arith, common_steps)

@@ -1,3 +1,4 @@
+use Rattle.std.proofs.Common.{rules}
 use Rattle.std.proofs.Common.{arith}
 use Rattle.std.proofs.lemmas.Grind.{common_steps}
 use Rattle.rv_isa.proofs.encode.b_type.Goals as goal
@@ -34,3 +35,6 @@ rem_euclid-requires-clause-nonzero c = grind (arith, common_steps)
 
 pub rem_euclid-requires-clause-no_overflow : goal.rem_euclid-requires-clause-no_overflow
 rem_euclid-requires-clause-no_overflow c = grind (arith, common_steps)
+
+pub returns : goal.returns
+returns c = search rules
