@@ -1,5 +1,5 @@
 -- What a change of words is for the numbers of the set.
-use Rattle.std.proofs.Common.{◌≡◌, ◌≢◌, ℕ, zero, suc, ◌+◌, ◌-◌, ◌*◌, ◌/◌, ◌%◌, ◌^◌, ◌<◌, ◌≤◌, Bool, true, false, not, nat_eq, ◌||◌, ◌&&◌, ◌==◌, List, [], length, get_or, bit_or, bit_and, refl, sym, ◌∙◌, ap, arith, inl, inr, w64, min, max, slice_set, replicate}
+use Rattle.std.proofs.Common.{◌≡◌, ◌≢◌, ℕ, zero, suc, ◌+◌, ◌-◌, ◌*◌, ◌/◌, ◌%◌, ◌^◌, ◌<◌, ◌≤◌, Bool, true, false, not, nat_eq, ◌||◌, ◌&&◌, ◌==◌, List, length, get_or, bit_or, bit_and, refl, sym, ◌∙◌, ap, arith, inl, inr, w64, min, max, slice_set, replicate}
 use Rattle.std.specs.Prelude.{MatchBool, ◌⊎◌}
 use Rattle.std.specs.Int.{bit_at, bit_not}
 use Rattle.std.proofs.Math.Nat.{eq-or-lt_of_le}
