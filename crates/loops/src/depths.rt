@@ -3,40 +3,47 @@ ghost use Rattle.std.specs.Prelude.{◌≡◌, ◌<◌, ◌≤◌, slice_get};
 ghost use Rattle.loops.specs.Targets.{targets};
 
 use il_ast::few::Few;
+use smallvec::SmallVec;
 use std::alloc::{AllocError, Global};
 use vcode::code::Block;
 use vcode::line::Jump;
 
 /// From a block to another.
-#[derive(Clone, Copy, PartialEq, Eq, PartialOrd, Ord)]
+#[derive(Clone, Copy, Default, PartialEq, Eq, PartialOrd, Ord)]
 struct Edge {
     to: usize,
     from: usize,
 }
 
 /// How far the search for ways back has come with a block.
-#[derive(Clone, Copy, PartialEq, Eq)]
+#[derive(Clone, Copy, Default, PartialEq, Eq)]
 enum Visit {
+    #[default]
     New,
     Open,
     Done,
 }
 
 /// A block on the way that is searched, and how many of its ways on have been tried.
-#[derive(Clone, Copy)]
+#[derive(Clone, Copy, Default)]
 struct Step {
     block: usize,
     tried: usize,
 }
 
+/// Of so many blocks the search takes no memory.
+const FEW: usize = 16;
+
 #[derive(Drop)]
 struct Search {
-    visits: Vec<Visit>,
-    way: Vec<Step>,
+    visits: SmallVec<Visit, FEW>,
+    way: SmallVec<Step, FEW>,
 
     /// the edges to blocks that lie on the way to their own beginning
-    back: Vec<Edge>,
+    back: BackEdges,
 }
+
+type BackEdges = SmallVec<Edge, 4>;
 
 /// The k-th block that the jump may lead to, from 0.
 pub fn target(jump: &Jump<u32>, k: usize) -> Option<usize>
@@ -103,20 +110,18 @@ fn search_on(search: &mut Search, blocks: &[Block<u32>]) -> Result<(), AllocErro
 }
 
 /// Each block is entered and left once, and has at most two ways on.
-fn back_edges(alloc: Global, blocks: &[Block<u32>]) -> Result<Vec<Edge>, AllocError> {
-    let mut visits = Vec::new(alloc);
-    visits.resize(blocks.len(), Visit::New)?;
+fn back_edges(alloc: Global, blocks: &[Block<u32>]) -> Result<BackEdges, AllocError> {
     let mut search = Search {
-        visits,
-        way: Vec::with_capacity(alloc, blocks.len())?,
-        back: Vec::new(alloc),
+        visits: SmallVec::from_elem(alloc, Visit::New, blocks.len())?,
+        way: SmallVec::new(alloc),
+        back: SmallVec::new(alloc),
     };
     enter(&mut search, 0)?;
     for _ in 0..blocks.len().saturating_mul(3) {
         search_on(&mut search, blocks)?;
     }
     if 1 < search.back.len() {
-        search.back.sort()?;
+        search.back.as_mut_slice().sort(alloc)?;
     }
     Ok(search.back)
 }
@@ -179,7 +184,7 @@ fn count(nests: &mut [Nest], block: usize, head: usize) -> bool {
 
 fn push_new(
     nests: &mut [Nest],
-    found: &mut Vec<usize>,
+    found: &mut SmallVec<usize, FEW>,
     sources: &[usize],
     head: usize,
 ) -> Result<(), AllocError> {
@@ -199,7 +204,7 @@ fn count_loop(
     edge: Edge,
     steps: usize,
 ) -> Result<usize, AllocError> {
-    let mut found = Vec::new(alloc);
+    let mut found = SmallVec::new(alloc);
     count(nests, edge.to, edge.to);
     push_new(nests, &mut found, [edge.from].as_slice(), edge.to)?;
     for taken in 0..steps {
