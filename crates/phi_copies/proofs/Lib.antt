@@ -15,5 +15,6 @@ pub mod MoreKnown
 pub mod PlaceTable
 pub mod Running
 pub mod Staged
+pub mod Unhindered
 pub mod PhiRules
 pub mod EntryCopies

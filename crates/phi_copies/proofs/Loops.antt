@@ -302,7 +302,7 @@ sequence_starts ms scratch distinct = record {
     here : (i b : ℕ) → i < length ms → is_placed (map (λ m. eqb m.to m.from) ms) i ≡ true → b < length ms → to_of ms b ≡ from_of ms i → b ≡ i
     here i b l p k e = distinct b i k l (e ∙ sym (self_same ms i l p))
 
-All-reverse : (P : Move → Type 0) (xs : List Move) → All P xs → All P (reverse xs)
+pub All-reverse : (P : Move → Type 0) (xs : List Move) → All P xs → All P (reverse xs)
 All-reverse P xs h k d l =
     let l' : k < length xs = omega (arith, length-reverse xs) in
     rw (get_or-reverse xs k d l') (h (length xs - 1 - k) d (omega arith))

@@ -8,7 +8,7 @@ use Rattle.phi_copies.specs.Moves.{after}
 use Rattle.phi_copies.specs.Order.{to_of, from_of, is_placed, Given, source, Holds, Closed}
 use Rattle.phi_copies.specs.declared.moves.Move.{Move}
 
-eqb_no : (a b : ℕ) → a ≢ b → eqb a b ≡ false
+pub eqb_no : (a b : ℕ) → a ≢ b → eqb a b ≡ false
 eqb_no a b h = not_so (eqb a b) (λ t. h ((Decides-eqb a b).0 t))
   where
     not_so : (x : Bool) → (x ≡ true → ⊥) → x ≡ false

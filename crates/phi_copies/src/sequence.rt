@@ -1,8 +1,9 @@
 //! Moves that are done at once, one after another.
 
-ghost use Rattle.std.specs.Prelude.{◌≡◌, ◌≢◌, ℕ, ◌+◌, ◌/◌, ◌<◌, ◌≤◌, ◌==◌, List, [], ◌∷◌, ◌++◌, Bool, true, length, map, Some, None, IfOk, OnOk, IfSome, All, slice_set};
+ghost use Rattle.std.specs.Prelude.{◌≡◌, ◌≢◌, ℕ, ◌+◌, ◌/◌, ◌<◌, ◌≤◌, ◌==◌, List, [], ◌∷◌, ◌++◌, Bool, true, false, length, map, reverse as reversed, Some, None, IfOk, OnOk, IfSome, All, slice_set};
 ghost use Rattle.std.specs.Ordering.{nat_cmp};
 ghost use Rattle.std.specs.BTreeMap.{get};
+ghost use Rattle.std.specs.List.{list_any};
 ghost use Rattle.phi_copies.specs.Moves.{HasDistinctDestinations, IsUnnamed, DoesAtOnce, IsBetween, IsRead, ReadsKnown, proper_count};
 ghost use Rattle.phi_copies.specs.Order.{to_of, from_of, is_placed, Given, State, IsFew, at, Way, Seen, IsWritten, Leads, Settled, Keeps, Open, Ends, Sequencing};
 
@@ -221,10 +222,8 @@ fn place_all(
     Ok(())
 }
 
-/// Moves that, done one after another, do what `moves` do at once, with `scratch` for a place that may
-/// be used besides. They are at most half as many more; a move of a place to itself is left out, and a
-/// cycle goes through the scratch place once. Fails where memory is refused.
-pub fn sequence(alloc: Global, moves: &[Move], scratch: usize) -> Result<Vec<Move>, AllocError>
+/// Moves that do at once what these do, one after another, found along the ways on which they read what others write.
+fn by_ways(alloc: Global, moves: &[Move], scratch: usize) -> Result<Vec<Move>, AllocError>
     requires distinct { HasDistinctDestinations moves.now }
     requires unnamed { IsUnnamed scratch moves.now }
     ensures at_once { IfOk result (λ v. (env : ℕ → ℕ) → DoesAtOnce moves.now v.items scratch env) }
@@ -232,9 +231,6 @@ pub fn sequence(alloc: Global, moves: &[Move], scratch: usize) -> Result<Vec<Mov
     ensures reads { IfOk result (λ v. ReadsKnown (IsRead moves.now) v.items) }
     ensures few { IfOk result (λ v. length v.items ≤ proper_count moves.now + proper_count moves.now / 2) }
 {
-    if moves.is_empty() {
-        return Ok(Vec::new(alloc));
-    }
     let writers = writers(alloc, moves)?;
     let mut visited = selves(alloc, moves)?;
     let mut placed = selves(alloc, moves)?;
@@ -251,4 +247,62 @@ pub fn sequence(alloc: Global, moves: &[Move], scratch: usize) -> Result<Vec<Mov
     )?;
     out.reverse();
     Ok(out)
+}
+
+/// Of so few moves each is compared with each.
+const FEW: usize = 8;
+
+fn is_written(moves: &[Move], place: usize) -> bool
+    ensures { result ≡ list_any (λ m. m.to == place) moves.now }
+{
+    moves.iter().any(|m| m.to == place)
+}
+
+/// Whether one of the moves reads what one of them writes.
+fn reads_written(moves: &[Move]) -> bool
+    ensures { result ≡ list_any (λ n. list_any (λ m. m.to == n.from) moves.now) moves.now }
+{
+    moves.iter().any(|m| is_written(moves, m.from))
+}
+
+fn backward(alloc: Global, moves: &[Move]) -> Result<Vec<Move>, AllocError>
+    ensures { IfOk result (λ v. v.items ≡ reversed moves.now) }
+{
+    let mut out = Vec::from_slice(alloc, moves)?;
+    out.reverse();
+    Ok(out)
+}
+
+/// The same for moves that read nothing that one of them writes: the last comes first.
+fn in_any_order(alloc: Global, moves: &[Move], scratch: usize) -> Result<Vec<Move>, AllocError>
+    requires distinct { HasDistinctDestinations moves.now }
+    requires unhindered { list_any (λ n. list_any (λ m. m.to == n.from) moves.now) moves.now ≡ false }
+    ensures at_once { IfOk result (λ v. (env : ℕ → ℕ) → DoesAtOnce moves.now v.items scratch env) }
+    ensures between { IfOk result (λ v. All (IsBetween moves.now scratch) v.items) }
+    ensures reads { IfOk result (λ v. ReadsKnown (IsRead moves.now) v.items) }
+    ensures few { IfOk result (λ v. length v.items ≤ proper_count moves.now + proper_count moves.now / 2) }
+{
+    let out = backward(alloc, moves)?;
+    Ok(out)
+}
+
+/// Moves that, done one after another, do what `moves` do at once, with `scratch` for a place that may
+/// be used besides. They are at most half as many more; a move of a place to itself is left out, and a
+/// cycle goes through the scratch place once. Fails where memory is refused.
+pub fn sequence(alloc: Global, moves: &[Move], scratch: usize) -> Result<Vec<Move>, AllocError>
+    requires distinct { HasDistinctDestinations moves.now }
+    requires unnamed { IsUnnamed scratch moves.now }
+    ensures at_once { IfOk result (λ v. (env : ℕ → ℕ) → DoesAtOnce moves.now v.items scratch env) }
+    ensures between { IfOk result (λ v. All (IsBetween moves.now scratch) v.items) }
+    ensures reads { IfOk result (λ v. ReadsKnown (IsRead moves.now) v.items) }
+    ensures few { IfOk result (λ v. length v.items ≤ proper_count moves.now + proper_count moves.now / 2) }
+{
+    if moves.is_empty() {
+        return Ok(Vec::new(alloc));
+    }
+    if moves.len() <= FEW && !reads_written(moves) {
+        in_any_order(alloc, moves, scratch)
+    } else {
+        by_ways(alloc, moves, scratch)
+    }
 }

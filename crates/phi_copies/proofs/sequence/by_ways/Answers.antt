@@ -1,7 +1,7 @@
 use Rattle.std.proofs.Common.{sym, ap, ◌∙◌}
 use Rattle.phi_copies.specs.Order.{is_placed}
 use Rattle.phi_copies.proofs.Progress.{done}
-use Rattle.phi_copies.proofs.sequence.sequence.Goals as goal
+use Rattle.phi_copies.proofs.sequence.by_ways.Goals as goal
 
 pub returns-clause-at_once : goal.returns-clause-at_once
 returns-clause-at_once c =
