@@ -1,12 +1,8 @@
 //! An order of blocks by a guess at what runs often: chains of blocks of which each leads to the next.
 use loops::depths::{depths, target};
-use smallvec::SmallVec;
 use std::alloc::{AllocError, Global};
 use vcode::code::Block;
 use vcode::line::Jump;
-
-/// Blocks that wait. Few of them take no memory.
-type Waiting = SmallVec<usize, 16>;
 
 /// Blocks in more loops than that are as those in so many.
 const DEEPEST: u32 = 5;
@@ -38,7 +34,7 @@ fn is_marked(marks: &[bool], block: usize) -> bool {
 
 fn reach(
     reached: &mut [bool],
-    found: &mut Waiting,
+    found: &mut Vec<usize>,
     block: Option<usize>,
 ) -> Result<(), AllocError> {
     match block {
@@ -55,7 +51,7 @@ fn reach(
 
 fn reach_targets(
     reached: &mut [bool],
-    found: &mut Waiting,
+    found: &mut Vec<usize>,
     block: Option<&Block<u32>>,
 ) -> Result<(), AllocError> {
     match block {
@@ -75,7 +71,7 @@ fn reach_targets(
 pub fn reached(alloc: Global, blocks: &[Block<u32>]) -> Result<Vec<bool>, AllocError> {
     // each is found once
     let mut reached = vec![in alloc; false; blocks.len()]?;
-    let mut found = SmallVec::new(alloc);
+    let mut found = Vec::with_capacity(alloc, blocks.len())?;
     reach(reached.as_mut_slice(), &mut found, Some(0))?;
     for _ in 0..blocks.len() {
         match found.pop() {
@@ -281,7 +277,7 @@ struct Placing {
     is_open: Vec<bool>,
 
     /// blocks whose chains come next, the last one first
-    next: Waiting,
+    next: Vec<usize>,
 }
 
 fn first_of(links: &[Link], block: usize) -> usize {
@@ -403,7 +399,7 @@ pub fn chained(alloc: Global, blocks: &[Block<u32>]) -> Result<Vec<usize>, Alloc
     let mut placing = Placing {
         order: Vec::with_capacity(alloc, blocks.len())?,
         is_open: reached,
-        next: SmallVec::new(alloc),
+        next: Vec::with_capacity(alloc, blocks.len())?,
     };
     push_target(&mut placing, Some(0))?;
     place_chains(&mut placing, links.as_slice(), blocks, last)?;

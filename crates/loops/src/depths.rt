@@ -3,47 +3,40 @@ ghost use Rattle.std.specs.Prelude.{◌≡◌, ◌<◌, ◌≤◌, slice_get};
 ghost use Rattle.loops.specs.Targets.{targets};
 
 use il_ast::few::Few;
-use smallvec::SmallVec;
 use std::alloc::{AllocError, Global};
 use vcode::code::Block;
 use vcode::line::Jump;
 
 /// From a block to another.
-#[derive(Clone, Copy, Default, PartialEq, Eq, PartialOrd, Ord)]
+#[derive(Clone, Copy, PartialEq, Eq, PartialOrd, Ord)]
 struct Edge {
     to: usize,
     from: usize,
 }
 
 /// How far the search for ways back has come with a block.
-#[derive(Clone, Copy, Default, PartialEq, Eq)]
+#[derive(Clone, Copy, PartialEq, Eq)]
 enum Visit {
-    #[default]
     New,
     Open,
     Done,
 }
 
 /// A block on the way that is searched, and how many of its ways on have been tried.
-#[derive(Clone, Copy, Default)]
+#[derive(Clone, Copy)]
 struct Step {
     block: usize,
     tried: usize,
 }
 
-/// Of so many blocks the search takes no memory.
-const FEW: usize = 16;
-
 #[derive(Drop)]
 struct Search {
-    visits: SmallVec<Visit, FEW>,
-    way: SmallVec<Step, FEW>,
+    visits: Vec<Visit>,
+    way: Vec<Step>,
 
     /// the edges to blocks that lie on the way to their own beginning
-    back: BackEdges,
+    back: Vec<Edge>,
 }
-
-type BackEdges = SmallVec<Edge, 4>;
 
 /// The k-th block that the jump may lead to, from 0.
 pub fn target(jump: &Jump<u32>, k: usize) -> Option<usize>
@@ -110,18 +103,20 @@ fn search_on(search: &mut Search, blocks: &[Block<u32>]) -> Result<(), AllocErro
 }
 
 /// Each block is entered and left once, and has at most two ways on.
-fn back_edges(alloc: Global, blocks: &[Block<u32>]) -> Result<BackEdges, AllocError> {
+fn back_edges(alloc: Global, blocks: &[Block<u32>]) -> Result<Vec<Edge>, AllocError> {
+    let mut visits = Vec::new(alloc);
+    visits.resize(blocks.len(), Visit::New)?;
     let mut search = Search {
-        visits: SmallVec::from_elem(alloc, Visit::New, blocks.len())?,
-        way: SmallVec::new(alloc),
-        back: SmallVec::new(alloc),
+        visits,
+        way: Vec::with_capacity(alloc, blocks.len())?,
+        back: Vec::new(alloc),
     };
     enter(&mut search, 0)?;
     for _ in 0..blocks.len().saturating_mul(3) {
         search_on(&mut search, blocks)?;
     }
     if 1 < search.back.len() {
-        search.back.as_mut_slice().sort(alloc)?;
+        search.back.sort()?;
     }
     Ok(search.back)
 }
@@ -184,7 +179,7 @@ fn count(nests: &mut [Nest], block: usize, head: usize) -> bool {
 
 fn push_new(
     nests: &mut [Nest],
-    found: &mut SmallVec<usize, FEW>,
+    found: &mut Vec<usize>,
     sources: &[usize],
     head: usize,
 ) -> Result<(), AllocError> {
@@ -204,7 +199,7 @@ fn count_loop(
     edge: Edge,
     steps: usize,
 ) -> Result<usize, AllocError> {
-    let mut found = SmallVec::new(alloc);
+    let mut found = Vec::new(alloc);
     count(nests, edge.to, edge.to);
     push_new(nests, &mut found, [edge.from].as_slice(), edge.to)?;
     for taken in 0..steps {
