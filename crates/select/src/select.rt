@@ -25,11 +25,6 @@ use std::alloc::{AllocError, Global};
 use vcode::code::{Block, Code};
 use vcode::function::VFunc;
 
-/// How many lines an ending takes: a tick and its copies.
-fn ending_lines(ending: &Ending) -> usize {
-    ending.copies.len().saturating_add(1)
-}
-
 fn block_of(
     alloc: Global,
     classes: &[Class],
@@ -38,12 +33,7 @@ fn block_of(
 ) -> Result<Block<u32>, AllocError>
     ensures { IfOk result (λ made. made ≡ narrow_block (listed classes.now) block.now ending.now) }
 {
-    let most = block
-        .insts
-        .len()
-        .saturating_mul(2)
-        .saturating_add(ending_lines(ending));
-    let mut lines = Seq::from_vec(Vec::with_capacity(alloc, most)?);
+    let mut lines = Seq::new(alloc);
     push_turns(alloc, classes, &mut lines, block.insts.as_slice())?;
     push_ending(classes, &mut lines, ending)?;
     Ok(Block {
@@ -56,7 +46,7 @@ fn block_of(
 fn edge_of(alloc: Global, classes: &[Class], ending: &Ending) -> Result<Block<u32>, AllocError>
     ensures { IfOk result (λ made. made ≡ narrow_edge (listed classes.now) ending.now) }
 {
-    let mut lines = Seq::from_vec(Vec::with_capacity(alloc, ending_lines(ending))?);
+    let mut lines = Seq::new(alloc);
     push_ending(classes, &mut lines, ending)?;
     Ok(Block {
         lines,
@@ -102,8 +92,7 @@ fn code_of(alloc: Global, classes: &[Class], source: &NoPhi<'_>) -> Result<Code<
     ensures { IfOk result (λ code. code ≡ narrow_code (listed classes.now) source.now.func.now (record { endings = source.now.endings; edges = source.now.edges })) }
 {
     let params = parameters(alloc, source.func.params.as_slice())?;
-    let count = source.endings.len().saturating_add(source.edges.len());
-    let mut blocks = Seq::from_vec(Vec::with_capacity(alloc, count)?);
+    let mut blocks = Seq::new(alloc);
     push_blocks(
         alloc,
         classes,
