@@ -2,17 +2,13 @@
 //!
 //! What neither the contracts of the libraries nor the tables of `step_by_step` can say: that calls which may want memory succeed with ample memory; that lists, sets, blocks of
 //! memory and moves are what a reader expects; that layout and linking give the words of the assembler; that a machine does what the manual says, over both kinds of memory;
-//! what clap makes of words; and that sinks, files in memory and disassemblies do what a reader expects.
+//! and that sinks, files in memory and disassemblies do what a reader expects.
 //!
 //! They stand here and not in those crates, since a crate with tests is proved once more with them. So all of them call public functions alone.
 #![tactic(auto)]
 
 #[cfg(test)]
 mod addresses;
-#[cfg(test)]
-mod asked;
-#[cfg(test)]
-mod commanded;
 #[cfg(test)]
 mod disassembled;
 #[cfg(test)]
