@@ -1,5 +1,5 @@
 //! The grammar of the command line.
-ghost use Rattle.std.specs.Prelude.{[], ◌∷◌, IfOk, List, Ok, Some, ℕ};
+ghost use Rattle.std.specs.Prelude.{[], ◌∷◌, IfOk, List, Some, ℕ};
 ghost use Rattle.clap.specs.Simple.{new_app, new_rule, with_rule};
 ghost use Rattle.clap.specs.Walk.{Rule};
 ghost use Rattle.command_line.specs.Grammar.{HasSubcommand, IsRead, IsRuled, build_app, check_app, dis_app, files_rule, interp_app, last_rule, limit_rule, out_rule, path_rule, program_app, qbec_app, run_app, running_app, symbols_app, trace_app, words_rule};
@@ -72,23 +72,24 @@ Example: qbec trace --limit 100000 --last 5 examples/endless.ssa -- word";
 pub(crate) fn grammar<'a>(alloc: Global) -> Result<Command<'a>, AllocError>
     ensures { IfOk result (λ c. IsRead c qbec_app) }
 {
-    let program = with_subcommand(program(alloc)?, build(alloc))?;
-    let program = with_subcommand(program, run(alloc))?;
-    let program = with_subcommand(program, interp(alloc))?;
-    let program = with_subcommand(program, dis(alloc))?;
-    let program = with_subcommand(program, check(alloc))?;
-    let program = with_subcommand(program, symbols(alloc))?;
+    let program = with_subcommand(program(alloc), build(alloc));
+    let program = with_subcommand(program, run(alloc));
+    let program = with_subcommand(program, interp(alloc));
+    let program = with_subcommand(program, dis(alloc));
+    let program = with_subcommand(program, check(alloc));
+    let program = with_subcommand(program, symbols(alloc));
     with_subcommand(program, trace(alloc))
 }
 
-/// A program with one more command, where there was memory for it.
+/// A program with one more command, where there was memory for both.
 fn with_subcommand<'a>(
-    program: Command<'a>,
+    program: Result<Command<'a>, AllocError>,
     command: Result<Command<'a>, AllocError>,
 ) -> Result<Command<'a>, AllocError>
-    ensures { HasSubcommand (Ok program.entry) command.entry result }
+    ensures { HasSubcommand program.entry command.entry result }
 {
-    program.subcommand(command?)
+    let command = command?;
+    program?.subcommand(command)
 }
 
 /// The program, without its commands.

@@ -4,10 +4,10 @@ use Rattle.command_line.proofs.grammar.grammar.Goals as goal
 
 pub returns : goal.returns
 returns c =
-    let built = c.in_ok-program-2.ensures program_app build_app c.in_ok-program.ensures c.build.ensures in
-    let run = c.in_ok-program-3.ensures (with_subcommand program_app build_app.top) run_app built c.run.ensures in
-    let interpreted = c.in_ok-program-4.ensures executables_app interp_app run c.interp.ensures in
-    let working = c.in_ok-program-5.ensures (with_subcommand executables_app interp_app.top) dis_app interpreted c.dis.ensures in
-    let checked = c.in_ok-program-6.ensures working_app check_app working c.check.ensures in
-    let showing = c.in_ok-program-7.ensures (with_subcommand working_app check_app.top) symbols_app checked c.symbols.ensures in
-    c.with_subcommand-7.ensures showing_app trace_app showing c.trace.ensures
+    let built = c.with_subcommand-program.ensures program_app build_app c.program.ensures c.build.ensures in
+    let run = c.with_subcommand-program-2.ensures (with_subcommand program_app build_app.top) run_app built c.run.ensures in
+    let interpreted = c.with_subcommand-program-3.ensures executables_app interp_app run c.interp.ensures in
+    let working = c.with_subcommand-program-4.ensures (with_subcommand executables_app interp_app.top) dis_app interpreted c.dis.ensures in
+    let checked = c.with_subcommand-program-5.ensures working_app check_app working c.check.ensures in
+    let showing = c.with_subcommand-program-6.ensures (with_subcommand working_app check_app.top) symbols_app checked c.symbols.ensures in
+    c.with_subcommand.ensures showing_app trace_app showing c.trace.ensures
