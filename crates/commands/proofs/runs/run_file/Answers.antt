@@ -1,5 +1,4 @@
 use Rattle.std.proofs.Common.{map, List, ℕ, Bor, rules}
-use Rattle.rv_machine.specs.Machine.{view}
 use Rattle.commands.proofs.Ending.{file_refused, run_broke_off}
 use Rattle.commands.proofs.runs.run_file.Goals as goal
 

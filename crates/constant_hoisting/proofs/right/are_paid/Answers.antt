@@ -1,6 +1,5 @@
 use Rattle.std.proofs.Common.{arith}
 use Rattle.std.proofs.lemmas.Grind.{common_steps}
-use Rattle.std.proofs.Common.{rules}
 use Rattle.constant_hoisting.proofs.right.are_paid.Goals as goal
 
 pub loop-block-preserved : goal.loop-block-preserved

@@ -1,6 +1,5 @@
 use Rattle.std.proofs.Common.{arith}
 use Rattle.std.proofs.lemmas.Grind.{common_steps}
-use Rattle.std.proofs.Common.{rules}
 use Rattle.il_types.proofs.phis.uncovered_by.Goals as goal
 
 pub returns-then-is_empty-clause-line : goal.returns-then-is_empty-clause-line

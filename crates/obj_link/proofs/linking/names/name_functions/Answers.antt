@@ -1,6 +1,5 @@
 use Rattle.std.proofs.Common.{arith}
 use Rattle.std.proofs.lemmas.Grind.{common_steps}
-use Rattle.std.proofs.Common.{rules}
 use Rattle.obj_link.proofs.linking.names.name_functions.Goals as goal
 
 pub loop-number-preserved : goal.loop-number-preserved

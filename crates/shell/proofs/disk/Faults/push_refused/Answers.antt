@@ -1,6 +1,5 @@
 use Rattle.std.proofs.Common.{arith}
 use Rattle.std.proofs.lemmas.Grind.{common_steps}
-use Rattle.std.proofs.Common.{rules}
 use Rattle.shell.proofs.disk.Faults.push_refused.Goals as goal
 
 pub returns-clause-pushed : goal.returns-clause-pushed
