@@ -1,83 +1,73 @@
 //! The operands of a turn.
 use il_ast::block::{Block, Phi};
 use il_ast::function::Func;
-use il_ast::instruction::{Inst, Jump, Lined};
+use il_ast::instruction::{Inst, Jump};
 use il_ast::label::Label;
 use il_ast::operand::{Arg, Val};
-use std::alloc::{AllocError, Global};
+use std::alloc::AllocError;
 
-/// The operands of an instruction, in order.
-pub fn operands_of(alloc: Global, inst: &Inst) -> Result<Vec<Val>, AllocError> {
-    let mut operands = Vec::new(alloc);
+/// Adds the operands of an instruction, in order.
+pub fn push_operands(operands: &mut Vec<Val>, inst: &Inst) -> Result<(), AllocError> {
     match inst {
-        Inst::Unary { value, .. } => operands.push(*value)?,
-        Inst::Binary { left, right, .. } => {
-            operands.push(*left)?;
-            operands.push(*right)?;
-        }
-        Inst::Alloc { .. } => {}
-        Inst::Store { value, at, .. } => {
-            operands.push(*value)?;
-            operands.push(*at)?;
-        }
-        Inst::Blit { from, to, .. } => {
-            operands.push(*from)?;
-            operands.push(*to)?;
-        }
-        Inst::Call { callee, args, .. } => {
-            operands.push(*callee)?;
-            push_arguments(&mut operands, args.as_slice())?;
-        }
+        Inst::Unary { value, .. } => push(operands, *value),
+        Inst::Binary { left, right, .. } => push_both(operands, *left, *right),
+        Inst::Alloc { .. } => Ok(()),
+        Inst::Store { value, at, .. } => push_both(operands, *value, *at),
+        Inst::Blit { from, to, .. } => push_both(operands, *from, *to),
+        Inst::Call { callee, args, .. } => push_call(operands, *callee, args.as_slice()),
     }
-    Ok(operands)
 }
 
-fn push_arguments(operands: &mut Vec<Val>, args: &[Arg]) -> Result<(), AllocError> {
+fn push(operands: &mut Vec<Val>, value: Val) -> Result<(), AllocError> {
+    operands.push(value)?;
+    Ok(())
+}
+
+fn push_both(operands: &mut Vec<Val>, one: Val, other: Val) -> Result<(), AllocError> {
+    push(operands, one)?;
+    push(operands, other)
+}
+
+fn push_call(operands: &mut Vec<Val>, callee: Val, args: &[Arg]) -> Result<(), AllocError> {
+    push(operands, callee)?;
     for arg in args {
-        operands.push(arg.value)?;
+        push(operands, arg.value)?;
     }
     Ok(())
 }
 
-/// What a jump reads: what it decides on or returns, and what the phis take of the blocks that it may lead to.
-pub fn operands_of_jump(
-    alloc: Global,
+/// Adds what a jump reads: what it decides on or returns, and what the phis take of the blocks that it may lead to.
+pub fn push_operands_of_jump(
+    operands: &mut Vec<Val>,
     function: &Func,
     block: &Block,
-) -> Result<Vec<Val>, AllocError> {
-    let mut operands = Vec::new(alloc);
+) -> Result<(), AllocError> {
     match &block.jump {
-        Some(
-            Lined {
-                item: Jump::Goto(label),
-                ..
-            },
-        ) => {
-            push_phis(&mut operands, function, block, *label)?;
-        }
-        Some(
-            Lined {
-                item: Jump::Branch {
-                    on,
-                    nonzero,
-                    otherwise,
-                },
-                ..
-            },
-        ) => {
-            operands.push(*on)?;
-            push_phis(&mut operands, function, block, *nonzero)?;
-            push_phis(&mut operands, function, block, *otherwise)?;
-        }
-        Some(
-            Lined {
-                item: Jump::Return(Some(value)),
-                ..
-            },
-        ) => operands.push(*value)?,
-        _ => {}
+        Some(jump) => push_jump(operands, function, block, &jump.item),
+        None => Ok(()),
     }
-    Ok(operands)
+}
+
+fn push_jump(
+    operands: &mut Vec<Val>,
+    function: &Func,
+    block: &Block,
+    jump: &Jump,
+) -> Result<(), AllocError> {
+    match jump {
+        Jump::Goto(label) => push_phis(operands, function, block, *label),
+        Jump::Branch {
+            on,
+            nonzero,
+            otherwise,
+        } => {
+            push(operands, *on)?;
+            push_phis(operands, function, block, *nonzero)?;
+            push_phis(operands, function, block, *otherwise)
+        }
+        Jump::Return(Some(value)) => push(operands, *value),
+        Jump::Return(None) | Jump::Halt => Ok(()),
+    }
 }
 
 /// Adds what the phis of the block of a label take where it is entered from this block.
@@ -100,7 +90,7 @@ fn push_phis(
 fn push_phi(operands: &mut Vec<Val>, phi: &Phi, from: Label) -> Result<(), AllocError> {
     for arg in phi.args.as_slice() {
         if arg.from == from {
-            operands.push(arg.value)?;
+            push(operands, arg.value)?;
         }
     }
     Ok(())

@@ -94,16 +94,18 @@ fn line_in(text: &[u8], number: usize) -> &[u8] {
             None => &[],
         };
     }
-    match memchr(b'\n', rest) {
-        Some(end) => rest.get(..end).unwrap_or(rest),
-        None => rest,
-    }
+    before(b'\n', rest)
 }
 
 /// A line up to its comment. Lines of functions have no strings.
 fn without_comment(line: &[u8]) -> &[u8] {
-    match memchr(b'#', line) {
-        Some(at) => line.get(..at).unwrap_or(line),
-        None => line,
+    before(b'#', line)
+}
+
+/// What stands before the first such byte, or all where there is none.
+fn before(byte: u8, bytes: &[u8]) -> &[u8] {
+    match memchr(byte, bytes) {
+        Some(end) => bytes.get(..end).unwrap_or(bytes),
+        None => bytes,
     }
 }

@@ -11,7 +11,12 @@ use text_maker::maker::TextMaker;
 /// The lines that tell of a run that was watched: the last turns, as many as are remembered; where the last one was due, or the next one where the run goes on; what
 /// its operands hold; and the calls that it stands in. No line, where memory for them was refused.
 pub fn story(alloc: Global, source: &Source<'_>, running: &Running<'_>) -> String {
-    match told(alloc, source, running) {
+    or_none(alloc, told(alloc, source, running))
+}
+
+/// The lines, or none where memory for them was refused.
+fn or_none(alloc: Global, lines: Result<String, AllocError>) -> String {
+    match lines {
         Ok(text) => text,
         Err(AllocError) => String::new(alloc),
     }
@@ -22,10 +27,7 @@ pub fn story_of_start(alloc: Global, source: &Source<'_>) -> String {
     let mut words = TextMaker::new(alloc);
     add_turn(&mut words, source, Place::start(source.linked));
     words.add("\n");
-    match words.finish() {
-        Ok(text) => text,
-        Err(AllocError) => String::new(alloc),
-    }
+    or_none(alloc, words.finish())
 }
 
 fn told(alloc: Global, source: &Source<'_>, running: &Running<'_>) -> Result<String, AllocError> {

@@ -1,5 +1,5 @@
 //! The turn that was the last.
-use crate::operands::{operands_of, operands_of_jump};
+use crate::operands::{push_operands, push_operands_of_jump};
 use crate::source::{Source, add_symbol, block_at, function_at, target_of};
 use crate::values::add_value;
 use diagnostics::name::add_temp;
@@ -26,29 +26,41 @@ pub fn add_operands(
         Some(function) => function,
         None => return Ok(()),
     };
-    let operands = read_at(alloc, source, function.item, place)?;
-    for (number, operand) in operands.iter().enumerate() {
-        if !is_before(operands.as_slice(), number, *operand) {
-            add_operand(words, source, running, function, *operand);
-        }
-    }
+    let mut operands = Vec::new(alloc);
+    push_read(&mut operands, source, function.item, place)?;
+    add_each(words, source, running, function, operands.as_slice());
     add_blank(words, source, running, place, function);
     Ok(())
 }
 
-/// The operands of a turn.
-fn read_at(
-    alloc: Global,
+/// Adds the operands of a turn.
+fn push_read(
+    operands: &mut Vec<Val>,
     source: &Source<'_>,
     function: &Func,
     place: Place,
-) -> Result<Vec<Val>, AllocError> {
+) -> Result<(), AllocError> {
     match block_at(source, place) {
         Some(block) => match block.insts.as_slice().get(place.next) {
-            Some(inst) => operands_of(alloc, &inst.item),
-            None => operands_of_jump(alloc, function, block),
+            Some(inst) => push_operands(operands, &inst.item),
+            None => push_operands_of_jump(operands, function, block),
         },
-        None => Ok(Vec::new(alloc)),
+        None => Ok(()),
+    }
+}
+
+/// Adds a line for each of these operands, once.
+fn add_each(
+    words: &mut TextMaker,
+    source: &Source<'_>,
+    running: &Running<'_>,
+    function: &InText<&Func>,
+    operands: &[Val],
+) {
+    for (number, operand) in operands.iter().enumerate() {
+        if !is_before(operands, number, *operand) {
+            add_operand(words, source, running, function, *operand);
+        }
     }
 }
 
@@ -69,24 +81,29 @@ fn add_operand(
         Val::Temp(temp) => {
             words.add("    ");
             add_temp(words, function.item, temp);
-            words.add(" is ");
-            add_value(words, source, running, running.value(temp.number()));
-            words.add("\n");
+            add_held(words, source, running, running.value(temp.number()));
         }
         Val::Global(symbol) => {
-            if let Some(Target::Object(number)) = target_of(source, function.text, symbol) {
+            let datum = value_of(source, running, function.text, operand);
+            if datum.is_some() {
                 words.add("    ");
                 add_symbol(words, source, function.text, symbol);
-                words.add(" is ");
-                let pointer = Value::Pointer {
-                    block: number as u128,
-                    offset: 0,
-                };
-                add_value(words, source, running, Some(pointer));
-                words.add("\n");
+                add_held(words, source, running, datum);
             }
         }
     }
+}
+
+/// Adds what an operand holds, and ends its line.
+fn add_held(
+    words: &mut TextMaker,
+    source: &Source<'_>,
+    running: &Running<'_>,
+    value: Option<Value>,
+) {
+    words.add(" is ");
+    add_value(words, source, running, value);
+    words.add("\n");
 }
 
 /// Adds a line for the first byte of a load that no number was stored to.
@@ -120,29 +137,22 @@ fn add_blank(
 /// What a load reads, where the turn is one: the operand, and how many bytes.
 fn loaded_at(source: &Source<'_>, place: Place) -> Option<(Val, u64)> {
     match place.instruction(source.linked) {
-        Some(
-            Inst::Unary {
-                op: UnaryOp::LoadLong,
-                value,
-                ..
-            },
-        ) => Some((*value, 8)),
-        Some(
-            Inst::Unary {
-                op: UnaryOp::Load(extension),
-                value,
-                ..
-            },
-        ) => Some((*value, bytes_of(*extension))),
+        Some(Inst::Unary { op, value, .. }) => match bytes_of(*op) {
+            Some(count) => Some((*value, count)),
+            None => None,
+        },
         _ => None,
     }
 }
 
-fn bytes_of(extension: Extension) -> u64 {
-    match extension {
-        Extension::SignedWord | Extension::UnsignedWord => 4,
-        Extension::SignedHalf | Extension::UnsignedHalf => 2,
-        Extension::SignedByte | Extension::UnsignedByte => 1,
+/// How many bytes an operation reads, where it is a load.
+fn bytes_of(op: UnaryOp) -> Option<u64> {
+    match op {
+        UnaryOp::LoadLong => Some(8),
+        UnaryOp::Load(Extension::SignedWord | Extension::UnsignedWord) => Some(4),
+        UnaryOp::Load(Extension::SignedHalf | Extension::UnsignedHalf) => Some(2),
+        UnaryOp::Load(Extension::SignedByte | Extension::UnsignedByte) => Some(1),
+        UnaryOp::Neg | UnaryOp::Copy | UnaryOp::Extend(_) => None,
     }
 }
 

@@ -80,9 +80,10 @@ fn add_maker(words: &mut TextMaker, source: &Source<'_>, running: &Running<'_>, 
         add_object(words, source, number_of(block));
         return;
     }
-    if block.saturating_add(1) == running.start_blocks() {
+    let start = running.start_blocks();
+    if block.saturating_add(1) == start {
         words.add(" of the list of argument words");
-    } else if block < running.start_blocks() {
+    } else if block < start {
         words.add(" of argument word ");
         words.add_number(number_of(block - count) as u64);
     } else if let Some(place) = running.maker(block) {

@@ -1,11 +1,12 @@
 //! Runs of files and of texts, whose output goes out while they run.
-ghost use Rattle.std.specs.Prelude.{◌≡◌, ◌↔◌, map, true, false, Err, IfOk, OnOk, IfErr};
+ghost use Rattle.std.specs.Prelude.{◌≡◌, ◌↔◌, ℕ, List, map, true, false, Err, IfOk, OnOk, IfErr};
 ghost use Rattle.il_ast.specs.Meaning.{meaning};
 ghost use Rattle.obj_link.specs.Arguments.{are_arguments};
 ghost use Rattle.obj_link.specs.ProgramOf.{program};
 ghost use Rattle.rv_machine.specs.declared.start.StartError.TheVariants.{Arguments};
 ghost use Rattle.rv_machine.specs.Machine.{view};
 ghost use Rattle.rv_machine.specs.Start.{start_state};
+ghost use Rattle.qbec.specs.Texts.{AreTexts};
 ghost use Rattle.commands.specs.Pieces.{FileFails, FileSends, LinkedFails, Sent, TextsFail, TextsSend};
 
 use crate::failure::Failure;
@@ -13,6 +14,7 @@ use crate::pieces::{run_machine, run_turns};
 use elf_file::{Loaded, read_image};
 use il_ast::value::End;
 use il_interp::pieces::begin_to_run;
+use il_types::checked::Checked;
 use obj_link::linking::linked::Linked;
 use obj_link::linking::resolve::resolve;
 use qbec::error::link_refusal;
@@ -84,6 +86,23 @@ fn interpret_linked<'a, O: Sink>(
     }
 }
 
+/// Interprets checked texts as [`interpret_texts`] does.
+fn interpret_checked<'a, O: Sink>(
+    alloc: Global,
+    checked: &[Checked],
+    words: &[&[u8]],
+    turns: u64,
+    out: &mut O,
+) -> Result<End, Failure<'a>>
+    ensures means { (texts : List (List ℕ)) → AreTexts texts checked.now → IfOk result (TextsSend texts (map (λ w. w.now) words.now) turns (O.told out.old) (O.told out.new)) }
+    ensures fails { (texts : List (List ℕ)) → AreTexts texts checked.now → IfErr result (TextsFail texts (map (λ w. w.now) words.now) turns (O.told out.old) (O.told out.new)) }
+{
+    match resolve(alloc, checked) {
+        Ok(linked) => interpret_linked(alloc, &linked, words, turns, out),
+        Err(error) => Err(Failure::from(link_refusal(alloc, error))),
+    }
+}
+
 /// Interprets texts with these argument words for at most `turns` turns, puts out what they put out while they run, and answers how they ended.
 ///
 /// # Errors
@@ -100,13 +119,8 @@ pub fn interpret_texts<'a, O: Sink>(
     ensures means { IfOk result (TextsSend (map (λ t. t.now) texts.now) (map (λ w. w.now) words.now) turns (O.told out.old) (O.told out.new)) }
     ensures fails { IfErr result (TextsFail (map (λ t. t.now) texts.now) (map (λ w. w.now) words.now) turns (O.told out.old) (O.told out.new)) }
 {
-    let checked = match checked_texts(alloc, texts) {
-        Ok(checked) => checked,
-        Err(error) => return Err(Failure::from(error)),
-    };
-    let linked = match resolve(alloc, checked.as_slice()) {
-        Ok(linked) => linked,
-        Err(error) => return Err(Failure::from(link_refusal(alloc, error))),
-    };
-    interpret_linked(alloc, &linked, words, turns, out)
+    match checked_texts(alloc, texts) {
+        Ok(checked) => interpret_checked(alloc, checked.as_slice(), words, turns, out),
+        Err(error) => Err(Failure::from(error)),
+    }
 }

@@ -40,17 +40,35 @@ fn shown(bytes: &[u8]) -> &str {
     str::from_utf8(bytes).unwrap_or("\"..\"")
 }
 
-/// What to know of a word that other dialects of the language have.
+/// Words that other dialects of the language have, or that stand elsewhere, and what to know of each.
+const HINTS: [(&[u8], &str); 17] = [
+    (b"s", "; there are no floating-point numbers"),
+    (b"d", "; there are no floating-point numbers"),
+    (b"sb", "; arguments and results are w or l"),
+    (b"ub", "; arguments and results are w or l"),
+    (b"sh", "; arguments and results are w or l"),
+    (b"uh", "; arguments and results are w or l"),
+    (b"env", "; a call has its arguments and no others"),
+    (b"vastart", "; a call has its arguments and no others"),
+    (b"vaarg", "; a call has its arguments and no others"),
+    (b"...", "; a call has its arguments and no others"),
+    (b"type", "; there are no aggregate types"),
+    (b"thread", "; leave it away"),
+    (b"section", "; leave it away"),
+    (b"dbgfile", "; leave it away"),
+    (b"dbgloc", "; leave it away"),
+    (b"common", "; leave it away"),
+    (b"phi", "; phis stand before the block's other lines"),
+];
+
+/// What to know of a word, where it is one of these.
 fn hint(token: &[u8]) -> &'static str {
-    match token {
-        b"s" | b"d" => "; there are no floating-point numbers",
-        b"sb" | b"ub" | b"sh" | b"uh" => "; arguments and results are w or l",
-        b"env" | b"vastart" | b"vaarg" | b"..." => "; a call has its arguments and no others",
-        b"type" => "; there are no aggregate types",
-        b"thread" | b"section" | b"dbgfile" | b"dbgloc" | b"common" => "; leave it away",
-        b"phi" => "; phis stand before the block's other lines",
-        _ => "",
+    for (word, what) in &HINTS {
+        if *word == token {
+            return what;
+        }
     }
+    ""
 }
 
 /// Says why no token begins behind the spacing.

@@ -19,16 +19,7 @@ impl<T> Model for Few<T> {
     ghost view = { λ s. s.items.items };
 }
 
-impl<T: Default + Drop> Few<T> {
-    /// The empty list, which takes no memory.
-    pub fn new(alloc: Global) -> Self
-        ensures { result ≡ [] }
-    {
-        Few {
-            items: SmallVec::new(alloc),
-        }
-    }
-
+impl<T> Few<T> {
     /// The number of items.
     pub fn len(&self) -> usize
         ensures { result ≡ length self.now }
@@ -41,6 +32,17 @@ impl<T: Default + Drop> Few<T> {
         ensures { result.now ≡ self.now }
     {
         self.items.as_slice()
+    }
+}
+
+impl<T: Default + Drop> Few<T> {
+    /// The empty list, which takes no memory.
+    pub fn new(alloc: Global) -> Self
+        ensures { result ≡ [] }
+    {
+        Few {
+            items: SmallVec::new(alloc),
+        }
     }
 
     /// Puts an item at the end. Where memory is refused the list stays as it was.

@@ -18,7 +18,7 @@ impl<T> Model for Seq<T> {
     ghost view = { λ s. s.items.items };
 }
 
-impl<T: Drop> Seq<T> {
+impl<T> Seq<T> {
     /// The empty list, which takes no memory.
     pub fn new(alloc: Global) -> Self
         ensures { result ≡ [] }
@@ -48,7 +48,9 @@ impl<T: Drop> Seq<T> {
     {
         self.items.as_slice()
     }
+}
 
+impl<T: Drop> Seq<T> {
     /// Puts an item at the end. Where memory is refused the list stays as it was.
     pub fn push(&mut self, item: T) -> Result<(), AllocError>
         ensures ok { OnOk result (self.new ≡ self.old ++ item ∷ []) }

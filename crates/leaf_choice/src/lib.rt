@@ -36,54 +36,22 @@ fn callee_of(targets: &[Target], inst: &Inst) -> Option<usize> {
     }
 }
 
-fn count_call(calls: &mut [u32], targets: &[Target], inst: &Inst) {
-    if let Some(number) = callee_of(targets, inst) {
-        if let Some(count) = calls.get_mut(number) {
-            *count = count.saturating_add(1);
-        }
-    }
+/// A function of a program, which may be worth doing in place where it is called.
+#[derive(Clone, Copy)]
+struct Candidate {
+    /// how many instructions it has
+    size: usize,
+    /// in how many places it is called by name
+    calls: u32,
+    /// whether one of these is in itself
+    is_recursive: bool,
 }
 
-fn count_in_block(calls: &mut [u32], targets: &[Target], block: &Block) {
-    for inst in block.insts.as_slice() {
-        count_call(calls, targets, &inst.item);
-    }
-}
-
-fn count_in_function(calls: &mut [u32], targets: &[Target], function: &Func) {
-    for block in function.blocks.as_slice() {
-        count_in_block(calls, targets, block);
-    }
-}
-
-/// For each function of a program, in how many places it is called by name.
-fn count_calls(alloc: Global, linked: &Linked<'_>) -> Result<Vec<u32>, AllocError> {
-    let mut calls = Vec::new(alloc);
-    calls.resize(linked.functions.len(), 0)?;
-    for function in linked.functions.as_slice() {
-        if let Some(targets) = linked.targets.as_slice().get(function.text) {
-            count_in_function(calls.as_mut_slice(), targets.as_slice(), function.item);
-        }
-    }
-    Ok(calls)
-}
-
-/// Whether the block calls the function with this number by name.
-fn calls_it(targets: &[Target], number: usize, block: &Block) -> bool {
-    block
-        .insts
-        .as_slice()
-        .iter()
-        .any(|inst| callee_of(targets, &inst.item) == Some(number))
-}
-
-fn calls_itself(targets: &[Target], number: usize, function: &Func) -> bool {
-    function
-        .blocks
-        .as_slice()
-        .iter()
-        .any(|block| calls_it(targets, number, block))
-}
+const UNMEASURED: Candidate = Candidate {
+    size: 0,
+    calls: 0,
+    is_recursive: false,
+};
 
 /// How many instructions the function has.
 fn size_of(function: &Func) -> usize {
@@ -94,43 +62,58 @@ fn size_of(function: &Func) -> usize {
     size
 }
 
-/// How many instructions each function of a program has.
-fn sizes_of(alloc: Global, linked: &Linked<'_>) -> Result<Vec<usize>, AllocError> {
-    let mut sizes = Vec::with_capacity(alloc, linked.functions.len())?;
-    for function in linked.functions.as_slice() {
-        sizes.push(size_of(function.item))?;
+/// Counts what an instruction of the function with the number `caller` calls by name.
+fn count_call(candidates: &mut [Candidate], targets: &[Target], caller: usize, inst: &Inst) {
+    if let Some(number) = callee_of(targets, inst) {
+        if let Some(candidate) = candidates.get_mut(number) {
+            candidate.calls = candidate.calls.saturating_add(1);
+            candidate.is_recursive = candidate.is_recursive || number == caller;
+        }
     }
-    Ok(sizes)
 }
 
-/// For each size, how many instructions come by all calls of functions of that size in place.
-#[derive(Drop)]
-struct Copies {
-    /// of those that are called in one place
-    once: Vec<usize>,
-    /// and of the others
-    often: Vec<usize>,
+fn count_in_block(candidates: &mut [Candidate], targets: &[Target], caller: usize, block: &Block) {
+    for inst in block.insts.as_slice() {
+        count_call(candidates, targets, caller, &inst.item);
+    }
+}
+
+fn count_in_function(
+    candidates: &mut [Candidate],
+    targets: &[Target],
+    caller: usize,
+    function: &Func,
+) {
+    for block in function.blocks.as_slice() {
+        count_in_block(candidates, targets, caller, block);
+    }
+}
+
+/// Measures all functions, and counts the calls by name in them.
+fn measure(candidates: &mut [Candidate], linked: &Linked<'_>) {
+    for (caller, function) in linked.functions.as_slice().iter().enumerate() {
+        if let Some(candidate) = candidates.get_mut(caller) {
+            candidate.size = size_of(function.item);
+        }
+        if let Some(targets) = linked.targets.as_slice().get(function.text) {
+            count_in_function(candidates, targets.as_slice(), caller, function.item);
+        }
+    }
+}
+
+/// Adds to the copies of each size how many instructions come by all calls in place of the candidates that are called in one place, or of the others.
+fn add_copies(copies: &mut [usize], candidates: &[Candidate], are_once: bool) {
+    for candidate in candidates {
+        if (candidate.calls == 1) == are_once {
+            add(copies, candidate.size, candidate.calls);
+        }
+    }
 }
 
 fn add(copies: &mut [usize], size: usize, count: u32) {
     if let Some(sum) = copies.get_mut(size) {
         *sum = sum.saturating_add(size.saturating_mul(count as usize));
     }
-}
-
-fn copies_of(alloc: Global, sizes: &[usize], calls: &[u32]) -> Result<Copies, AllocError> {
-    let mut once = Vec::new(alloc);
-    let mut often = Vec::new(alloc);
-    once.resize(LARGE + 1, 0)?;
-    often.resize(SMALL + 1, 0)?;
-    for (size, count) in sizes.iter().zip(calls.iter()) {
-        if *count == 1 {
-            add(once.as_mut_slice(), *size, 1);
-        } else {
-            add(often.as_mut_slice(), *size, *count);
-        }
-    }
-    Ok(Copies { once, often })
 }
 
 /// The first size at which too many instructions come by functions up to it.
@@ -145,12 +128,27 @@ fn limit(copies: &[usize], most: usize) -> usize {
     copies.len()
 }
 
-fn sum(sizes: &[usize]) -> usize {
+/// The same of the candidates that are called in one place, or of the others, which are below `end`.
+fn limit_below(
+    alloc: Global,
+    end: usize,
+    most: usize,
+    candidates: &[Candidate],
+    are_once: bool,
+) -> Result<usize, AllocError> {
+    let mut copies = Vec::new(alloc);
+    copies.resize(end, 0)?;
+    add_copies(copies.as_mut_slice(), candidates, are_once);
+    Ok(limit(copies.as_slice(), most))
+}
+
+/// How many instructions may come to a program by calls in place.
+fn most_copies(candidates: &[Candidate]) -> usize {
     let mut sum = 0usize;
-    for size in sizes {
-        sum = sum.saturating_add(*size);
+    for candidate in candidates {
+        sum = sum.saturating_add(candidate.size);
     }
-    sum
+    (sum / 2).saturating_add(FREE)
 }
 
 /// Functions of fewer instructions are done in place: those that are called in one place, and the others.
@@ -160,21 +158,30 @@ struct Limits {
     often: usize,
 }
 
-fn limits_of(alloc: Global, sizes: &[usize], calls: &[u32]) -> Result<Limits, AllocError> {
-    let most = (sum(sizes) / 2).saturating_add(FREE);
-    let copies = copies_of(alloc, sizes, calls)?;
+fn limits_of(alloc: Global, candidates: &[Candidate]) -> Result<Limits, AllocError> {
+    let most = most_copies(candidates);
     Ok(Limits {
-        once: limit(copies.once.as_slice(), most),
-        often: limit(copies.often.as_slice(), most),
+        once: limit_below(alloc, LARGE + 1, most, candidates, true)?,
+        often: limit_below(alloc, SMALL + 1, most, candidates, false)?,
     })
 }
 
-fn is_small(limits: Limits, size: usize, count: u32) -> bool {
-    match count {
+fn is_small(limits: Limits, candidate: &Candidate) -> bool {
+    match candidate.calls {
         0 => false,
-        1 => size < limits.once,
-        _ => size < limits.often,
+        1 => candidate.size < limits.once,
+        _ => candidate.size < limits.often,
     }
+}
+
+/// For each candidate, whether it is worth doing in place.
+fn worthy_of(alloc: Global, candidates: &[Candidate]) -> Result<Vec<bool>, AllocError> {
+    let limits = limits_of(alloc, candidates)?;
+    let mut worthy = Vec::with_capacity(alloc, candidates.len())?;
+    for candidate in candidates {
+        worthy.push(is_small(limits, candidate) && !candidate.is_recursive)?;
+    }
+    Ok(worthy)
 }
 
 /// For each function of a program, whether it is called by name, in so many places that not too many instructions come by that in all, and not by itself.
@@ -183,23 +190,8 @@ fn is_small(limits: Limits, size: usize, count: u32) -> bool {
 ///
 /// Only where memory was refused.
 pub fn worthy_functions(alloc: Global, linked: &Linked<'_>) -> Result<Vec<bool>, AllocError> {
-    let calls = count_calls(alloc, linked)?;
-    let sizes = sizes_of(alloc, linked)?;
-    let limits = limits_of(alloc, sizes.as_slice(), calls.as_slice())?;
-    let mut worthy = Vec::with_capacity(alloc, linked.functions.len())?;
-    for (number, (size, count)) in sizes.iter().zip(calls.iter()).enumerate() {
-        worthy.push(is_small(limits, *size, *count) && !is_recursive(linked, number))?;
-    }
-    Ok(worthy)
-}
-
-/// Whether the function with this number calls itself by name.
-fn is_recursive(linked: &Linked<'_>, number: usize) -> bool {
-    match linked.functions.as_slice().get(number) {
-        Some(function) => match linked.targets.as_slice().get(function.text) {
-            Some(targets) => calls_itself(targets.as_slice(), number, function.item),
-            None => false,
-        },
-        None => false,
-    }
+    let mut candidates = Vec::new(alloc);
+    candidates.resize(linked.functions.len(), UNMEASURED)?;
+    measure(candidates.as_mut_slice(), linked);
+    worthy_of(alloc, candidates.as_slice())
 }

@@ -1,6 +1,6 @@
 -- Code with calls of leaves in place, on its way through the passes.
 use Rattle.std.proofs.Common.{◌≡◌, ◌⊎◌, inl, inr, ℕ, zero, suc, nat_lt, true, List, [], ◌∷◌, ◌++◌, length, map, slice_get, Option, Some, None, refl, sym, ◌∙◌, ap, subst, arith, ◌+◌, Vec, Global}
-use Rattle.std.specs.Prelude.{Result, Ok, Err, IfOk, IfSome, slice_index_or}
+use Rattle.std.specs.Prelude.{IsTrue, Result, Ok, Err, IfOk, IfSome, slice_index_or}
 use Rattle.std.proofs.lemmas.List.{length-map}
 use Rattle.std.proofs.lemmas.Bool.Decides.{nat_tests}
 use Rattle.std.proofs.lemmas.Option.{slice_get-get_or}
@@ -20,6 +20,7 @@ use Rattle.vcode.specs.Places.{virtual}
 use Rattle.vcode.specs.Step.{begin, step}
 use Rattle.vcode.proofs.InPlace.{runs_stay}
 use Rattle.vcode.proofs.Lists.{one_more}
+use Rattle.inlining.specs.Leaves.{is_leaf}
 use Rattle.inlining.specs.Placed.{AreLeaves, KeepsCalls}
 use Rattle.headline.specs.InPlace.{calls_in}
 use Rattle.headline.specs.Functions.{body_of, IsCodeIn}
@@ -148,6 +149,12 @@ one_more_table p tables leaves is are text found here = elim (got_behind tables 
 
 pub got_at : {X : Type 0} (xs : List X) (k : ℕ) (x d : X) → true ≡ nat_lt k (length xs) → x ≡ slice_index_or xs k d → slice_get xs k ≡ Some x
 got_at xs k x d low is = slice_get-get_or xs k d (grind (arith, nat_tests)) ∙ ap (λ y. Some y) (sym is)
+
+pub leaf_code_answer : {E : Type 0} (below : List (Option VFunc)) (f promoted : Func) → IsPromoted f promoted → (r : Result (Option VFunc) E)
+    → IfOk r (λ o. IfSome o (λ v. IsCodeWith below promoted (virtual_code v) × IsTrue (is_leaf v.code))) → IfOk r (λ o. IfSome o (λ v. IsLeafCode below f v))
+leaf_code_answer below f promoted is (Ok None) h = tt
+leaf_code_answer below f promoted is (Ok (Some v)) h = record { promoted = promoted; is = is; code = h.0; calm = h.1 }
+leaf_code_answer below f promoted is (Err e) h = tt
 
 pub leaf_answer : {E : Type 0} (p : Program) (text number : ℕ) (below : List (Option VFunc)) (f : InText Func) → slice_get p.functions number ≡ Some f → f.text ≡ text → AreLeavesAt p text below → (r : Result (Option VFunc) E)
     → IfOk r (λ o. IfSome o (λ v. IsLeafCode below f.item v)) → IfOk r (λ o. IfSome o (λ v. IsLeafMeant p text (Code (Defined number)) v))

@@ -1,23 +1,38 @@
 -- What words of the pipeline stand for.
-use Rattle.std.proofs.Common.{◌≤◌}
+use Rattle.std.proofs.Common.{◌+◌, ◌*◌, ◌≤◌, List, [], length, Option, Some, None, arith}
+use Rattle.std.specs.Prelude.{Result, Ok, Err, IfOk, IfSome}
 use Rattle.il_ast.specs.declared.function.Func.{Func}
 use Rattle.il_ast.specs.declared.program.InText.{InText}
 use Rattle.il_ast.specs.declared.program.Program.{Program}
-use Rattle.il_ast.specs.Cost.{need}
+use Rattle.il_ast.specs.Cost.{need, weight}
 use Rattle.il_ast.specs.Passes.{IsCodeOf}
 use Rattle.vcode.specs.declared.function.LFunc.{LFunc}
+use Rattle.vcode.specs.declared.function.VFunc.{VFunc}
 use Rattle.vcode.specs.Coded.{location_code}
+use Rattle.vcode.specs.Regular.{code_weight}
 use Rattle.flat_code.specs.Laws.{FlatKept}
 use Rattle.abi_frames.specs.Layout.{frame_bound}
 use Rattle.rv_isa.specs.Words.{Words}
 use Rattle.headline.specs.Functions.{IsCodeIn}
-use Rattle.headline.specs.Compiled.{StandFor, StandIn}
-use Rattle.qbec.specs.Pipeline.{IsLaidOut}
-
-pub stands : (f : Func) (l : LFunc) (c : Words) → IsCodeOf f (location_code l) → FlatKept l.code → frame_bound l.code l.slots ≤ need f → IsLaidOut l c → StandFor f c
-stands f l c is bytes fits laid =
-    record { code = l.code; slots = l.slots; items = laid.items; is = is; fits = fits; bytes = bytes; machine = laid.machine; laid = laid.laid }
+use Rattle.headline.specs.Compiled.{StandIn}
+use Rattle.headline.proofs.InPlace.{code_is_in}
+use Rattle.qbec.specs.Pipeline.{IsCodeWith, IsLaidOut, StandWithin}
 
 pub stands_in : (p : Program) (f : InText Func) (l : LFunc) (c : Words) → IsCodeIn p f (location_code l) → FlatKept l.code → frame_bound l.code l.slots ≤ need f.item → IsLaidOut l c → StandIn p f c
 stands_in p f l c is bytes fits laid =
     record { code = l.code; slots = l.slots; items = laid.items; is = is; fits = fits; bytes = bytes; machine = laid.machine; laid = laid.laid }
+
+-- without leaves, and not too many
+pub stands_within : (f : Func) (l : LFunc) (c : Words) → IsCodeOf f (location_code l) → FlatKept l.code → frame_bound l.code l.slots ≤ need f → code_weight l.code ≤ weight f → IsLaidOut l c → StandWithin [] f c
+stands_within f l c is bytes fits weighs laid =
+    let few = laid.few in (
+      λ p text are. stands_in p (record { text = text; item = f }) l c (code_is_in p (record { text = text; item = f }) (location_code l) is) bytes fits laid,
+      omega (arith, few, weighs),
+    )
+
+-- with leaves, where they fit
+pub stand_within : {E : Type 0} (leaves : List (Option VFunc)) (f : Func) (l : LFunc) → IsCodeWith leaves f (location_code l) → FlatKept l.code → (r : Result (Option Words) E)
+    → IfOk r (λ o. IfSome o (λ c. IsLaidOut l c × (frame_bound l.code l.slots ≤ need f) × (length c.words ≤ 32 * weight f + 256))) → IfOk r (λ o. IfSome o (λ c. StandWithin leaves f c))
+stand_within leaves f l is bytes (Ok None) h = tt
+stand_within leaves f l is bytes (Ok (Some c)) h = (λ p text are. stands_in p (record { text = text; item = f }) l c (is p text are) bytes h.1 h.0, h.2)
+stand_within leaves f l is bytes (Err e) h = tt

@@ -10,7 +10,7 @@ ghost use Rattle.obj_link.specs.ProgramOf.{program};
 ghost use Rattle.rv_isa.specs.Words.{IsCode};
 ghost use Rattle.qbec.specs.Codes.{AreGood, AreWords, AreWordsIn};
 
-use crate::leaves::leaves_of;
+use crate::leaves::{leaves_in, leaves_of};
 use crate::pipeline::function_words;
 use certificates::strategy::Strategy;
 use il_ast::function::Func;
@@ -42,10 +42,7 @@ fn words_of(
     ensures stand { IfOk result (λ c. (p : Program) → AreLeavesIn p (map (λ t. t.items) tables.now) → StandPromoted p (record { text = text; item = func.now }) c) }
     ensures few { IfOk result (λ c. length c.words ≤ 32 * weight func.now + 256) }
 {
-    match tables.get(text) {
-        Some(leaves) => function_words(alloc, leaves.as_slice(), func, allocator),
-        None => function_words(alloc, &[], func, allocator),
-    }
+    function_words(alloc, leaves_in(tables, text), func, allocator)
 }
 
 /// The words of functions, in order, with calls of their texts' leaves in place.
@@ -81,6 +78,5 @@ pub fn codes_of(
 {
     let tables = leaves_of(alloc, linked)?;
     let functions = linked.functions.as_slice();
-    let codes = codes_with(alloc, tables.as_slice(), functions, allocator)?;
-    Ok(codes)
+    codes_with(alloc, tables.as_slice(), functions, allocator)
 }

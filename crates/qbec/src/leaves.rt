@@ -1,5 +1,6 @@
 //! The leaves of a program: small functions whose calls are done in place.
 ghost use Rattle.std.specs.Prelude.{◌≡◌, IfOk, IfSome, Some, map, slice_get};
+ghost use Rattle.il_ast.specs.declared.program.Program.{Program};
 ghost use Rattle.il_ast.specs.declared.program.Target.TheVariants.{Code};
 ghost use Rattle.il_ast.specs.declared.value.Callee.TheVariants.{Defined};
 ghost use Rattle.obj_link.specs.ProgramOf.{program};
@@ -84,6 +85,16 @@ fn leaves_meant(
     Ok(leaves)
 }
 
+/// The leaves of the text with this number, by a table for each text; none where there is no table for it.
+pub(crate) fn leaves_in(tables: &[Vec<Option<VFunc>>], text: usize) -> &[Option<VFunc>]
+    ensures { (p : Program) → AreLeavesIn p (map (λ t. t.items) tables.now) → AreLeavesAt p text result.now }
+{
+    match tables.get(text) {
+        Some(leaves) => leaves.as_slice(),
+        None => &[],
+    }
+}
+
 /// For each name of the text with this number, the leaf that it means, if it means one.
 fn leaves_at(
     alloc: Global,
@@ -98,16 +109,7 @@ fn leaves_at(
     requires targets { slice_get linked.now.targets text ≡ Some targets.now }
     ensures { IfOk result (λ v. AreLeavesAt (program linked.now) text v.items) }
 {
-    match below.get(text) {
-        Some(leaves) => {
-            let found = leaves_meant(alloc, linked, worthy, leaves.as_slice(), text, targets)?;
-            Ok(found)
-        }
-        None => {
-            let found = leaves_meant(alloc, linked, worthy, &[], text, targets)?;
-            Ok(found)
-        }
-    }
+    leaves_meant(alloc, linked, worthy, leaves_in(below, text), text, targets)
 }
 
 /// For each text of a program and each name of the text, the leaf that it means, if it means one: a function of the same text, with calls of the leaves that there
@@ -141,6 +143,5 @@ pub fn leaves_of(alloc: Global, linked: &Linked<'_>) -> Result<Vec<Vec<Option<VF
 {
     let worthy = worthy_functions(alloc, linked)?;
     let first = leaves_over(alloc, linked, worthy.as_slice(), &[])?;
-    let second = leaves_over(alloc, linked, worthy.as_slice(), first.as_slice())?;
-    Ok(second)
+    leaves_over(alloc, linked, worthy.as_slice(), first.as_slice())
 }

@@ -1,5 +1,5 @@
 //! The words of one function.
-ghost use Rattle.std.specs.Prelude.{◌≡◌, true, false, ◌+◌, ◌*◌, ◌≤◌, [], IfOk, IfSome, length};
+ghost use Rattle.std.specs.Prelude.{◌≡◌, true, false, ◌+◌, ◌*◌, ◌≤◌, [], IsTrue, IfOk, IfSome, length};
 ghost use Rattle.alloc_check.specs.Accepted.{is_accepted};
 ghost use Rattle.alloc_check.specs.Certified.{placed_by};
 ghost use Rattle.alloc_check.specs.Placed.{in_slots};
@@ -8,8 +8,10 @@ ghost use Rattle.il_ast.specs.declared.function.Func.{Func as PromotedFunc};
 ghost use Rattle.il_ast.specs.Passes.{Keeps, IsCodeOf};
 ghost use Rattle.phi_copies.specs.Good.{IsGoodFunction};
 ghost use Rattle.abi_frames.specs.Layout.{frame_bound};
+ghost use Rattle.flat_code.specs.Laws.{FlatKept};
+ghost use Rattle.inlining.specs.Leaves.{is_leaf};
+ghost use Rattle.vcode.specs.Regular.{code_weight};
 ghost use Rattle.vcode.specs.Coded.{virtual_code, location_code};
-ghost use Rattle.headline.specs.Compiled.{StandFor};
 ghost use Rattle.promote.specs.Promoted.{IsPromoted};
 ghost use Rattle.qbec.specs.Leaves.{IsLeafCode};
 ghost use Rattle.qbec.specs.Pipeline.{IsCodeWith, IsLaidOut, StandWith, StandWithin};
@@ -147,10 +149,13 @@ fn passed(alloc: Global, pass: Pass, function: VFunc) -> Result<VFunc, AllocErro
     }
 }
 
-/// The function as it is selected.
+/// The function as it is selected: with every register in a slot of its own, its frame takes no more of the stack than a call of the function is counted for, and
+/// its code is as light as the function.
 fn selected(alloc: Global, func: &Func) -> Result<VFunc, AllocError>
     requires { IsGoodFunction func.now }
-    ensures { IfOk result (λ v. IsCodeOf func.now (virtual_code v)) }
+    ensures is { IfOk result (λ v. IsCodeOf func.now (virtual_code v)) }
+    ensures takes { IfOk result (λ v. frame_bound v.code v.registers ≤ need func.now) }
+    ensures light { IfOk result (λ v. code_weight v.code ≤ weight func.now) }
 {
     let lowered = lower(alloc, func)?;
     let function = select(alloc, &lowered)?;
@@ -167,8 +172,7 @@ fn with_calls_placed(
     ensures { IfOk result (λ v. IsCodeWith leaves.now func.now (virtual_code v)) }
 {
     let function = selected(alloc, func)?;
-    let placed = place_calls(alloc, function, leaves)?;
-    Ok(placed)
+    place_calls(alloc, function, leaves)
 }
 
 /// The function in virtual code: with calls of these leaves in place, and by all passes in their order. `leaves` has for names of the function's text the code
@@ -186,8 +190,8 @@ pub fn virtual_code_of(
     ensures { IfOk result (λ v. IsCodeWith leaves.now func.now (virtual_code v)) }
 {
     let mut function = with_calls_placed(alloc, leaves, func)?;
-    for pass in PASSES {
-        let made = passed(alloc, pass, function)?;
+    for pass in &PASSES {
+        let made = passed(alloc, *pass, function)?;
         function = made;
     }
     Ok(function)
@@ -217,8 +221,42 @@ fn is_short(func: &Func, code: &MachineCode) -> bool
     code.words().len() as u64 <= most
 }
 
-/// By all passes, and as the strategy has it. None where its frame takes more of the stack than a call of the function is counted for, or where its words are
-/// more than its weight allows: passes may add registers and copy lines, and nothing else bounds how many.
+/// The function by all passes, and as the strategy has it.
+fn located(
+    alloc: Global,
+    leaves: &[Option<VFunc>],
+    func: &Func,
+    allocator: &mut dyn Strategy,
+) -> Result<FlatFunc, AllocError>
+    requires { IsGoodFunction func.now }
+    ensures is { IfOk result (λ p. IsCodeWith leaves.now func.now (location_code p.located)) }
+    ensures keeps { IfOk result (λ p. FlatKept p.located.code) }
+{
+    let function = virtual_code_of(alloc, leaves, func)?;
+    let located = allocated(alloc, &function, allocator)?;
+    Ok(flat(located))
+}
+
+/// The words of location code of a function. None where its frame takes more of the stack than a call of the function is counted for, or where its words are more
+/// than its weight allows.
+fn fitting(
+    alloc: Global,
+    func: &Func,
+    function: &FlatFunc,
+) -> Result<Option<MachineCode>, AllocError>
+    ensures { IfOk result (λ o. IfSome o (λ c. IsLaidOut function.now.located c
+        × (frame_bound function.now.located.code function.now.located.slots ≤ need func.now)
+        × (length c.words ≤ 32 * weight func.now + 256))) }
+{
+    let code = laid_out(alloc, function)?;
+    if is_small(func, function) && is_short(func, &code) {
+        Ok(Some(code))
+    } else {
+        Ok(None)
+    }
+}
+
+/// By all passes, and as the strategy has it. None where that doesn't fit: passes may add registers and copy lines, and nothing else bounds how many.
 fn optimized(
     alloc: Global,
     leaves: &[Option<VFunc>],
@@ -228,33 +266,31 @@ fn optimized(
     requires { IsGoodFunction func.now }
     ensures { IfOk result (λ o. IfSome o (λ c. StandWithin leaves.now func.now c)) }
 {
-    let function = virtual_code_of(alloc, leaves, func)?;
-    let located = allocated(alloc, &function, allocator)?;
-    drop(function);
-    let placed = flat(located);
-    let code = laid_out(alloc, &placed)?;
-    if is_small(func, &placed) && is_short(func, &code) {
-        Ok(Some(code))
-    } else {
-        Ok(None)
-    }
+    let placed = located(alloc, leaves, func, allocator)?;
+    fitting(alloc, func, &placed)
+}
+
+/// The function as it is selected, with every register in a slot of its own.
+fn spilled(alloc: Global, func: &Func) -> Result<FlatFunc, AllocError>
+    requires { IsGoodFunction func.now }
+    ensures is { IfOk result (λ p. IsCodeOf func.now (location_code p.located)) }
+    ensures keeps { IfOk result (λ p. FlatKept p.located.code) }
+    ensures fits { IfOk result (λ p. frame_bound p.located.code p.located.slots ≤ need func.now) }
+    ensures weighs { IfOk result (λ p. code_weight p.located.code ≤ weight func.now) }
+{
+    let selected = selected(alloc, func)?;
+    let located = spill_all(alloc, &selected)?;
+    Ok(flat(located))
 }
 
 /// As it is selected, with every register in a slot of its own: its frame takes no more of the stack than a call of the function is counted for, and its words
 /// are as few as its weight allows.
 fn unoptimized(alloc: Global, func: &Func) -> Result<MachineCode, AllocError>
     requires { IsGoodFunction func.now }
-    ensures stand { IfOk result (λ c. StandFor func.now c) }
-    ensures few { IfOk result (λ c. length c.words ≤ 32 * weight func.now + 256) }
+    ensures { IfOk result (λ c. StandWithin [] func.now c) }
 {
-    let lowered = lower(alloc, func)?;
-    let selected = select(alloc, &lowered)?;
-    drop(lowered);
-    let located = spill_all(alloc, &selected)?;
-    drop(selected);
-    let placed = flat(located);
-    let code = laid_out(alloc, &placed)?;
-    Ok(code)
+    let placed = spilled(alloc, func)?;
+    laid_out(alloc, &placed)
 }
 
 /// By all passes where that fits, else as it is selected.
@@ -268,10 +304,7 @@ fn without_calls_placed(
 {
     match optimized(alloc, &[], func, allocator)? {
         Some(code) => Ok(code),
-        None => {
-            let code = unoptimized(alloc, func)?;
-            Ok(code)
-        }
+        None => unoptimized(alloc, func),
     }
 }
 
@@ -287,10 +320,20 @@ fn promoted_words(
 {
     match optimized(alloc, leaves, func, allocator)? {
         Some(code) => Ok(code),
-        None => {
-            let code = without_calls_placed(alloc, func, allocator)?;
-            Ok(code)
-        }
+        None => without_calls_placed(alloc, func, allocator),
+    }
+}
+
+/// The function in virtual code, with calls of these leaves in place, if it is a leaf.
+fn leaf_of(alloc: Global, below: &[Option<VFunc>], func: &Func) -> Result<Option<VFunc>, AllocError>
+    requires { IsGoodFunction func.now }
+    ensures { IfOk result (λ o. IfSome o (λ v. IsCodeWith below.now func.now (virtual_code v) × IsTrue (is_leaf v.code))) }
+{
+    let function = with_calls_placed(alloc, below, func)?;
+    if is_leaf(&function) {
+        Ok(Some(function))
+    } else {
+        Ok(None)
     }
 }
 
@@ -308,12 +351,7 @@ pub fn leaf_code(
     ensures { IfOk result (λ o. IfSome o (λ v. IsLeafCode below.now func.now v)) }
 {
     let promoted = promote(alloc, func)?;
-    let function = with_calls_placed(alloc, below, &promoted)?;
-    if is_leaf(&function) {
-        Ok(Some(function))
-    } else {
-        Ok(None)
-    }
+    leaf_of(alloc, below, &promoted)
 }
 
 /// The words of a function, whose locals are taken out of memory first: by all passes, with calls of leaves in place where that fits, else without; and as it is
@@ -333,10 +371,8 @@ pub fn function_words(
     ensures few { IfOk result (λ c. length c.words ≤ 32 * weight func.now + 256) }
 {
     if !has_alloc(func) {
-        let code = promoted_words(alloc, leaves, func, allocator)?;
-        return Ok(code);
+        return promoted_words(alloc, leaves, func, allocator);
     }
     let promoted = promote(alloc, func)?;
-    let code = promoted_words(alloc, leaves, &promoted, allocator)?;
-    Ok(code)
+    promoted_words(alloc, leaves, &promoted, allocator)
 }

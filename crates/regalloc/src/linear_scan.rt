@@ -19,7 +19,7 @@ use interval_splitting::cutting::{Cutter, cut_all};
 use interval_splitting::rooms::{ROOMS, Rooms};
 use interval_splitting::slots::{Wish, shared_slots};
 use live_intervals::accesses::Accesses;
-use live_intervals::facts::facts_of;
+use live_intervals::facts::{Facts, facts_of};
 use live_intervals::groups::{Group, groups_of};
 use live_intervals::positions::Range;
 use std::alloc::{AllocError, Global};
@@ -299,8 +299,7 @@ fn all_in_slots(alloc: Global, registers: u32) -> Result<Vec<Location>, AllocErr
 pub fn scanned(alloc: Global, function: &VFunc, live: &Live) -> Result<Certificate, AllocError>
     ensures { IfOk result (λ c. IsScanned function.now.registers c) }
 {
-    let certificate = scanned_within(alloc, function, live, LIVE_A_LINE)?;
-    Ok(certificate)
+    scanned_within(alloc, function, live, LIVE_A_LINE)
 }
 
 /// The same, with so many live registers named where blocks begin, for each line and jump, at most.
@@ -317,24 +316,42 @@ pub(crate) fn scanned_within(
     ensures { IfOk result (λ c. IsScanned function.now.registers c) }
 {
     let mut facts = facts_of(alloc, function, live, live_a_line)?;
+    scanned_by(alloc, function, live, &mut facts)
+}
+
+/// The certificate by what is known of the function; where registers are accessed is taken out of that.
+fn scanned_by(
+    alloc: Global,
+    function: &VFunc,
+    live: &Live,
+    facts: &mut Facts,
+) -> Result<Certificate, AllocError>
+    ensures { IfOk result (λ c. IsScanned function.now.registers c) }
+{
     let groups = groups_of(
         alloc,
         function.registers,
         facts.lifetimes.as_slice(),
         &mut facts.demands,
     )?;
-    let mut list = all_in_slots(alloc, function.registers)?;
-    let groups = groups.groups.as_slice();
     let accesses = replace(&mut facts.accesses, Accesses::none(alloc));
     let ground = Ground {
         function,
-        facts: &facts,
+        facts: &*facts,
         live,
-        groups,
+        groups: groups.groups.as_slice(),
     };
-    let registers = function.registers;
+    scanned_on(alloc, accesses, ground)
+}
+
+/// The certificate of the places and cuts that are chosen on this ground.
+fn scanned_on(alloc: Global, accesses: Accesses, ground: Ground) -> Result<Certificate, AllocError>
+    ensures { IfOk result (λ c. IsScanned ground.entry.function.now.registers c) }
+{
+    let registers = ground.function.registers;
+    let mut list = all_in_slots(alloc, registers)?;
     let cuts = place_in(alloc, list.as_mut_slice(), registers, accesses, ground)?;
-    written(alloc, function, &facts, list.as_slice(), &cuts)
+    written(alloc, ground.function, ground.facts, list.as_slice(), &cuts)
 }
 
 impl Strategy for LinearScan {

@@ -70,9 +70,12 @@ fn place_at(list: &[Location], registers: u32, stays: &[Stay], register: u32) ->
 }
 
 fn has(equalities: &[Equality], register: u32) -> bool {
-    equalities
-        .iter()
-        .any(|equality| equality.register == register)
+    for equality in equalities {
+        if equality.register == register {
+            return true;
+        }
+    }
+    false
 }
 
 /// Adds it once.
@@ -133,7 +136,7 @@ fn push_args(
 /// How many registers a point names at most.
 fn most_named(reads: Reads, written: Option<u32>) -> usize {
     let mut most = reads.args.len();
-    for one in [reads.first, reads.second, written] {
+    for one in &[reads.first, reads.second, written] {
         if one.is_some() {
             most = most.saturating_add(1);
         }
@@ -465,61 +468,85 @@ fn push_params(
 
 // ---- the certificate
 
-/// What it names where blocks begin.
-#[derive(Drop)]
-struct AtStarts {
-    everywhere: Seq<Equality>,
-    starts: Seq<Seq<Equality>>,
-}
-
-fn starts_of(
+/// Writes what it names where blocks begin.
+fn write_starts(
     alloc: Global,
     function: &VFunc,
     live: &Starts,
     list: &[Location],
     cuts: &Cuts,
-) -> Result<AtStarts, AllocError>
-    requires { list_all (is_place function.now.registers) list.now ≡ true }
-    ensures everywhere { IfOk result (λ s. are_placed function.now.registers s.everywhere ≡ true) }
-    ensures starts { IfOk result (λ s. list_all (are_placed function.now.registers) s.starts ≡ true) }
+    certificate: &mut Certificate,
+) -> Result<(), AllocError>
+    requires list { list_all (is_place function.now.registers) list.now ≡ true }
+    requires scanned { IsScanned function.now.registers certificate.old }
+    ensures { OnOk result (IsScanned function.now.registers certificate.new) }
 {
     let registers = function.registers;
     let blocks = function.code.blocks.len();
     let begins = cuts.begins.as_slice();
-    let mut everywhere = Seq::new(alloc);
-    push_everywhere(&mut everywhere, list, registers, live)?;
-    let mut starts = Seq::from_vec(Vec::with_capacity(alloc, blocks)?);
-    push_starts(alloc, &mut starts, list, registers, begins, live, blocks)?;
-    Ok(AtStarts { everywhere, starts })
+    push_everywhere(&mut certificate.everywhere, list, registers, live)?;
+    certificate.starts = Seq::from_vec(Vec::with_capacity(alloc, blocks)?);
+    let starts = &mut certificate.starts;
+    push_starts(alloc, starts, list, registers, begins, live, blocks)
 }
 
-/// What it has for each point.
-#[derive(Drop)]
-struct AtPoints {
-    moves: Seq<Seq<Transfer>>,
-    places: Seq<Seq<Equality>>,
-}
-
-fn points_of(
+/// Writes what it has for each point.
+fn write_points(
     alloc: Global,
     function: &VFunc,
     points: usize,
     list: &[Location],
     cuts: &Cuts,
-) -> Result<AtPoints, AllocError>
-    requires { list_all (is_place function.now.registers) list.now ≡ true }
-    ensures moves { IfOk result (λ p. list_all (are_between function.now.registers) p.moves ≡ true) }
-    ensures places { IfOk result (λ p. list_all (are_placed function.now.registers) p.places ≡ true) }
+    certificate: &mut Certificate,
+) -> Result<(), AllocError>
+    requires list { list_all (is_place function.now.registers) list.now ≡ true }
+    requires scanned { IsScanned function.now.registers certificate.old }
+    ensures { OnOk result (IsScanned function.now.registers certificate.new) }
 {
     let registers = function.registers;
     let all = cuts.moves.as_slice();
-    let mut moves = Seq::from_vec(Vec::with_capacity(alloc, points)?);
-    push_moves(alloc, &mut moves, list, registers, all, points)?;
+    certificate.moves = Seq::from_vec(Vec::with_capacity(alloc, points)?);
+    push_moves(alloc, &mut certificate.moves, list, registers, all, points)?;
     let stays = cuts.stays.as_slice();
     let blocks = function.code.blocks.as_slice();
-    let mut places = Seq::from_vec(Vec::with_capacity(alloc, points)?);
-    push_places(alloc, &mut places, list, registers, stays, blocks)?;
-    Ok(AtPoints { moves, places })
+    certificate.places = Seq::from_vec(Vec::with_capacity(alloc, points)?);
+    push_places(
+        alloc,
+        &mut certificate.places,
+        list,
+        registers,
+        stays,
+        blocks,
+    )
+}
+
+/// Writes all of it, into an empty one.
+fn write(
+    alloc: Global,
+    function: &VFunc,
+    facts: &Facts,
+    list: &[Location],
+    cuts: &Cuts,
+    certificate: &mut Certificate,
+) -> Result<(), AllocError>
+    requires list { list_all (is_place function.now.registers) list.now ≡ true }
+    requires scanned { IsScanned function.now.registers certificate.old }
+    ensures { OnOk result (IsScanned function.now.registers certificate.new) }
+{
+    write_starts(alloc, function, &facts.starts, list, cuts, certificate)?;
+    write_points(
+        alloc,
+        function,
+        facts.text.points(),
+        list,
+        cuts,
+        certificate,
+    )?;
+    let entries = cuts.entries.as_slice();
+    let from = function.code.params.as_slice();
+    certificate.params = Seq::from_vec(Vec::with_capacity(alloc, from.len())?);
+    let params = &mut certificate.params;
+    push_params(params, list, function.registers, entries, from)
 }
 
 /// The certificate that has each register at its place, but where it is cut, with the moves for that; where a block begins it names the live registers alone, and
@@ -538,17 +565,13 @@ pub(crate) fn written(
     requires { list_all (is_place function.now.registers) list.now ≡ true }
     ensures { IfOk result (λ c. IsScanned function.now.registers c) }
 {
-    let at_starts = starts_of(alloc, function, &facts.starts, list, cuts)?;
-    let at_points = points_of(alloc, function, facts.text.points(), list, cuts)?;
-    let entries = cuts.entries.as_slice();
-    let from = function.code.params.as_slice();
-    let mut params = Seq::from_vec(Vec::with_capacity(alloc, from.len())?);
-    push_params(&mut params, list, function.registers, entries, from)?;
-    Ok(Certificate {
-        params,
-        everywhere: at_starts.everywhere,
-        starts: at_starts.starts,
-        moves: at_points.moves,
-        places: at_points.places,
-    })
+    let mut certificate = Certificate {
+        params: Seq::new(alloc),
+        everywhere: Seq::new(alloc),
+        starts: Seq::new(alloc),
+        moves: Seq::new(alloc),
+        places: Seq::new(alloc),
+    };
+    write(alloc, function, facts, list, cuts, &mut certificate)?;
+    Ok(certificate)
 }

@@ -38,7 +38,7 @@ fn operation_cost(operation: Operation) -> u128
 }
 
 /// At most how many instructions of the machine the line becomes, wherever its places are.
-pub fn line_cost<P: Drop>(line: &Line<P>) -> u128
+pub fn line_cost<P>(line: &Line<P>) -> u128
     ensures { result ≡ line_cost line.now }
 {
     match line {
@@ -85,7 +85,7 @@ fn jump_cost<P>(jump: &Jump<P>) -> u128
 }
 
 /// What is left of a credit after a line, if it affords that. A unit of weight pays for 32 instructions.
-fn spend<P: Drop>(credit: u128, line: &Line<P>) -> Option<u128>
+fn spend<P>(credit: u128, line: &Line<P>) -> Option<u128>
     requires { credit + 2 ^ 37 < 2 ^ 128 }
     ensures spent { result ≡ spent credit line.now }
     ensures small { IfSome result (λ left. left ≤ credit + 2 ^ 37) }
@@ -97,7 +97,7 @@ fn spend<P: Drop>(credit: u128, line: &Line<P>) -> Option<u128>
 }
 
 /// Whether the lines pay for themselves, each by the ticks before it, and then for the jump.
-pub fn affords<P: Drop>(lines: &[Line<P>], jump: &Jump<P>) -> bool
+pub fn affords<P>(lines: &[Line<P>], jump: &Jump<P>) -> bool
     ensures { result ≡ affords 0 jump.now lines.now }
 {
     let mut credit = 0u128;
@@ -111,7 +111,7 @@ pub fn affords<P: Drop>(lines: &[Line<P>], jump: &Jump<P>) -> bool
 }
 
 /// Whether the ticks of the block pay for its lines and its jump.
-pub fn is_paid<P: Drop>(block: &Block<P>) -> bool
+pub fn is_paid<P>(block: &Block<P>) -> bool
     ensures { result ≡ is_paid block.now }
 {
     affords(block.lines.as_slice(), &block.jump)

@@ -1,10 +1,12 @@
 use Rattle.std.proofs.Common.{List, Vec, Global, Option, Bor, map, sym, subst}
+use Rattle.std.proofs.lemmas.Result.{IfOk-weaker}
 use Rattle.il_ast.specs.declared.function.Func.{Func}
 use Rattle.il_ast.specs.declared.program.InText.{InText}
+use Rattle.il_ast.specs.declared.program.Program.{Program}
 use Rattle.obj_link.specs.ProgramOf.{program}
 use Rattle.obj_link.specs.Shown.{shown}
 use Rattle.vcode.specs.declared.function.VFunc.{VFunc}
-use Rattle.qbec.specs.Codes.{AreGood, AreWordsIn}
+use Rattle.qbec.specs.Codes.{AreGood, AreWords, AreWordsIn}
 use Rattle.qbec.specs.Leaves.{AreLeavesIn}
 use Rattle.qbec.proofs.codes.codes_of.Goals as goal
 
@@ -14,6 +16,8 @@ codes_with-requires g c = subst AreGood (sym c.as_slice-functions.ensures) c.req
 pub returns : goal.returns
 returns g c =
     let p = program c.args.linked.now in
-    subst (λ (fs : List (InText (Bor Func))). AreWordsIn p c.in_ok-codes.codes.items (map shown fs)) c.as_slice-functions.ensures
-    (c.in_ok-codes.ensures p
-    (subst (λ (ts : List (Vec (Option VFunc) Global)). AreLeavesIn p (map (λ t. t.items) ts)) (sym c.as_slice.ensures.value) c.in_ok-tables.ensures))
+    let tables = c.as_slice.result.now in
+    let are = subst (λ (ts : List (Vec (Option VFunc) Global)). AreLeavesIn p (map (λ t. t.items) ts)) (sym c.as_slice.ensures.value) c.in_ok-tables.ensures in
+    IfOk-weaker c.codes_with.result (λ v. (q : Program) → AreLeavesIn q (map (λ t. t.items) tables) → AreWordsIn q v.items (map shown c.as_slice-functions.result.now))
+    (λ v. AreWords v.items p)
+    (λ v each. subst (λ (fs : List (InText (Bor Func))). AreWordsIn p v.items (map shown fs)) c.as_slice-functions.ensures (each p are)) c.codes_with.ensures
