@@ -18,7 +18,7 @@ use std::alloc::{AllocError, Global};
 use vcode::function::{LFunc, VFunc};
 
 /// Why a certificate was not taken.
-#[derive(Clone, Copy, PartialEq, Eq)]
+#[derive(Clone, Copy)]
 pub enum Refused {
     /// It isn't accepted.
     No,

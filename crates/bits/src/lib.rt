@@ -31,7 +31,7 @@ pub fn low32(word: u64) -> u32
 }
 
 /// The fields of `lui` and `addiw` that make a 32-bit number.
-#[derive(Clone, Copy, PartialEq, Eq)]
+#[derive(Clone, Copy)]
 pub struct Fields {
     /// The field of `lui`, of 20 bits: it stands for 4096 times its value.
     pub upper: u32,

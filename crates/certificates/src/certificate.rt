@@ -3,14 +3,14 @@ use il_ast::list::Seq;
 use vcode::place::Location;
 
 /// Where the virtual register has a value, the place holds it.
-#[derive(Clone, Copy, PartialEq, Eq)]
+#[derive(Clone, Copy)]
 pub struct Equality {
     pub register: u32,
     pub place: Location,
 }
 
 /// A move of what a place holds to another.
-#[derive(Clone, Copy, PartialEq, Eq)]
+#[derive(Clone, Copy)]
 pub struct Transfer {
     pub from: Location,
     pub to: Location,

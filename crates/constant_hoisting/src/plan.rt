@@ -6,7 +6,7 @@ use il_ast::symbol::Symbol;
 use vcode::place::Operand;
 
 /// A constant that takes instructions where it is an operand.
-#[derive(Clone, Copy, PartialEq, Eq)]
+#[derive(Clone, Copy)]
 pub enum Constant {
     /// an integer modulo 2^64
     Number(u64),

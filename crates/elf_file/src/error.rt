@@ -2,7 +2,7 @@ use std::alloc::{AllocError, AllocFailed};
 use thiserror::Error;
 
 /// Why a file was refused. It is shown as its number, `L1` to `L6`.
-#[derive(Clone, Copy, PartialEq, Eq, Debug, Error)]
+#[derive(Clone, Copy, Debug, Error)]
 pub enum LoadError {
     /// The file is cut off: it has fewer than 64 bytes, or its program headers or the file bytes of a segment pass its end.
     #[error("L1")]

@@ -6,7 +6,7 @@ use crate::list::Seq;
 use crate::operand::{Dest, Val};
 
 /// The value that a phi takes where its block is entered from the block of this label.
-#[derive(Clone, Copy, PartialEq, Eq)]
+#[derive(Clone, Copy)]
 pub struct PhiArg {
     pub from: Label,
     pub value: Val,

@@ -12,7 +12,7 @@ use crate::symbol::Symbol;
 use crate::temp::Temp;
 
 /// A parameter.
-#[derive(Clone, Copy, PartialEq, Eq)]
+#[derive(Clone, Copy)]
 pub struct Param {
     pub line: usize,
     pub temp: Temp,

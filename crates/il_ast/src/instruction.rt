@@ -54,7 +54,7 @@ pub enum Inst {
 }
 
 /// What ends a block.
-#[derive(Clone, Copy, PartialEq, Eq)]
+#[derive(Clone, Copy)]
 pub enum Jump {
     /// `jmp`
     Goto(Label),

@@ -18,14 +18,14 @@ impl Default for Val {
 }
 
 /// The temporary that an instruction assigns, with the class that is written there.
-#[derive(Clone, Copy, PartialEq, Eq)]
+#[derive(Clone, Copy)]
 pub struct Dest {
     pub temp: Temp,
     pub class: Class,
 }
 
 /// An argument of a call, with its class.
-#[derive(Clone, Copy, PartialEq, Eq)]
+#[derive(Clone, Copy)]
 pub struct Arg {
     pub class: Class,
     pub value: Val,

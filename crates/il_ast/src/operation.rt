@@ -28,7 +28,7 @@ pub enum Extension {
 }
 
 /// An operation with one operand.
-#[derive(Clone, Copy, Debug, PartialEq, Eq)]
+#[derive(Clone, Copy, Debug)]
 pub enum UnaryOp {
     /// `neg`
     Neg,
@@ -58,7 +58,7 @@ pub enum Condition {
 }
 
 /// An operation with two operands.
-#[derive(Clone, Copy, Debug, PartialEq, Eq)]
+#[derive(Clone, Copy, Debug)]
 pub enum BinaryOp {
     Add,
     Sub,
@@ -82,7 +82,7 @@ pub enum BinaryOp {
 }
 
 /// The alignment that an `alloc` asks for; no program can see it.
-#[derive(Clone, Copy, Debug, PartialEq, Eq)]
+#[derive(Clone, Copy, Debug)]
 pub enum Alignment {
     Four,
     Eight,

@@ -5,7 +5,7 @@ use crate::list::Seq;
 use crate::value::Callee;
 
 /// What a global name means.
-#[derive(Clone, Copy, Debug, PartialEq, Eq)]
+#[derive(Clone, Copy, Debug)]
 pub enum Target {
     Code(Callee),
     /// a datum, by its number in the program

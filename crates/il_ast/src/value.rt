@@ -19,7 +19,7 @@ pub enum Value {
 }
 
 /// One byte's place in memory.
-#[derive(Clone, Copy, PartialEq, Eq)]
+#[derive(Clone, Copy)]
 pub enum Cell {
     /// a byte
     Plain(u8),

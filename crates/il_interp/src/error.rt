@@ -3,7 +3,7 @@ use std::alloc::AllocError;
 use thiserror::Error;
 
 /// Why a program was not run. It is shown as the refusal's number.
-#[derive(Clone, Copy, PartialEq, Eq, Debug, Error)]
+#[derive(Clone, Copy, Debug, Error)]
 pub enum RunError {
     /// The argument words pass a limit, or hold a zero byte.
     #[error("E8")]

@@ -18,7 +18,7 @@ use std::alloc::{AllocError, Global};
 const MOST_MAKERS: usize = 1_000_000;
 
 /// Where a turn is due.
-#[derive(Clone, Copy, PartialEq, Eq)]
+#[derive(Clone, Copy)]
 pub struct Place {
     /// the function by its number
     pub function: usize,
@@ -29,7 +29,7 @@ pub struct Place {
 }
 
 /// A turn that was done.
-#[derive(Clone, Copy, PartialEq, Eq)]
+#[derive(Clone, Copy)]
 pub struct Turn {
     pub place: Place,
     /// what its instruction assigned, where that is known at once: of a call it isn't

@@ -20,7 +20,7 @@ pub enum Symbol {
 }
 
 /// What a token is.
-#[derive(Clone, Copy, PartialEq, Eq, Debug)]
+#[derive(Clone, Copy, Debug)]
 pub enum Kind {
     Symbol(Symbol),
     /// The end of a line, byte 10.

@@ -12,7 +12,7 @@ use crate::kind::{Kind, Symbol};
 use crate::quoted::items_len;
 
 /// What stands next in a list of bytes.
-#[derive(Clone, Copy, PartialEq, Eq)]
+#[derive(Clone, Copy)]
 pub enum Ahead {
     /// No token: spacing at most, and perhaps a comment.
     End,

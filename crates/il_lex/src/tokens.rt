@@ -8,7 +8,7 @@ use crate::scan::{Ahead, scan};
 use std::marker::Model;
 
 /// The bytes of a text from `start` up to `end`.
-#[derive(Clone, Copy, PartialEq, Eq)]
+#[derive(Clone, Copy)]
 pub struct Span {
     pub start: usize,
     pub end: usize,
@@ -26,7 +26,7 @@ pub struct Token<'a> {
 }
 
 /// A line, from 1, on which something is no token.
-#[derive(Clone, Copy, PartialEq, Eq, Drop)]
+#[derive(Clone, Copy, Drop)]
 pub struct LexError {
     pub line: usize,
 }

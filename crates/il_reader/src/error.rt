@@ -2,7 +2,7 @@
 use thiserror::Error;
 
 /// Why a text was not read. A text outside the grammar is shown as `E1` and a line.
-#[derive(Clone, Copy, PartialEq, Eq, Debug, Error)]
+#[derive(Clone, Copy, Debug, Error)]
 pub enum ReadError {
     /// The text is not in the grammar. The line is from 1 to 1 more than its bytes 10.
     #[error("E1 line {line}")]

@@ -5,7 +5,7 @@ ghost use Rattle.il_reader.specs.declared.fault.Unread.TheVariants.{Memory};
 use std::alloc::AllocError;
 
 /// Why a part of a text was not read.
-#[derive(Clone, Copy, PartialEq, Eq)]
+#[derive(Clone, Copy)]
 pub(crate) enum Unread {
     /// It is not what the grammar wants there.
     Syntax,

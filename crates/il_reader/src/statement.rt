@@ -4,7 +4,7 @@ use il_ast::instruction::{Inst, Lined};
 use il_ast::operation::{Alignment, BinaryOp, UnaryOp};
 
 /// What the word behind a destination and `=` and a class asks for.
-#[derive(Clone, Copy, PartialEq, Eq)]
+#[derive(Clone, Copy)]
 pub enum Operation {
     /// `phi`
     Phi,

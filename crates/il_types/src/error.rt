@@ -4,7 +4,7 @@ use std::alloc::AllocError;
 use thiserror::Error;
 
 /// Why a text was refused. It is shown as the refusal's number.
-#[derive(Clone, Copy, PartialEq, Eq, Debug, Error)]
+#[derive(Clone, Copy, Debug, Error)]
 pub enum CheckError {
     /// A rule is broken, at a line.
     #[error("E2")]

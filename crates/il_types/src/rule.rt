@@ -1,7 +1,7 @@
 //! The rules of a good text.
 
 /// A rule that a text can break.
-#[derive(Clone, Copy, Debug, PartialEq, Eq)]
+#[derive(Clone, Copy, Debug)]
 pub enum Rule {
     DistinctGlobals,
     DistinctLocals,
@@ -47,7 +47,7 @@ impl Rule {
 }
 
 /// A rule that is broken, at a line.
-#[derive(Clone, Copy, Debug, PartialEq, Eq)]
+#[derive(Clone, Copy, Debug)]
 pub struct BrokenRule {
     pub rule: Rule,
     pub line: usize,

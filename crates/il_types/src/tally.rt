@@ -6,7 +6,7 @@ ghost use Rattle.il_types.specs.Tally.{named, once_more, often, is_never, is_onc
 use std::alloc::AllocError;
 
 /// How often a number is named.
-#[derive(Clone, Copy, PartialEq, Eq)]
+#[derive(Clone, Copy)]
 pub enum Often {
     Never,
     Once,

@@ -3,14 +3,14 @@ use il_ast::list::Seq;
 use il_ast::operand::{Dest, Val};
 
 /// A copy of an operand, read in a place of the destination's class, to a temporary.
-#[derive(Clone, Copy, PartialEq, Eq)]
+#[derive(Clone, Copy)]
 pub struct Assignment {
     pub to: Dest,
     pub value: Val,
 }
 
 /// Where a block goes. Blocks are named by their place in the function.
-#[derive(Clone, Copy, PartialEq, Eq)]
+#[derive(Clone, Copy)]
 pub enum Leave {
     Goto(usize),
     /// to `nonzero` where the word is not 0, else to `otherwise`

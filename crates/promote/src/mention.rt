@@ -3,7 +3,7 @@ use il_ast::operation::Size;
 use il_ast::temp::Temp;
 
 /// What a temporary is where a text mentions it.
-#[derive(Clone, Copy, PartialEq, Eq)]
+#[derive(Clone, Copy)]
 pub enum Role {
     /// the destination of an `alloc`
     Made,
@@ -14,7 +14,7 @@ pub enum Role {
 }
 
 /// A mention of a temporary.
-#[derive(Clone, Copy, PartialEq, Eq)]
+#[derive(Clone, Copy)]
 pub struct Mention {
     pub temp: Temp,
     pub role: Role,

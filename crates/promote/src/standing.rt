@@ -9,7 +9,7 @@ use il_ast::operation::Size;
 use std::alloc::{AllocError, Global};
 
 /// What is known of a temporary from its mentions so far.
-#[derive(Clone, Copy, PartialEq, Eq)]
+#[derive(Clone, Copy)]
 pub enum Standing {
     /// it wasn't mentioned
     Unseen,

@@ -3,7 +3,7 @@ use vcode::line::Comparison;
 use vcode::place::Operand;
 
 /// What a register holds.
-#[derive(Clone, Copy, PartialEq, Eq)]
+#[derive(Clone, Copy)]
 pub enum Fact {
     /// what the operand does
     Same(Operand<u32>),
@@ -14,7 +14,7 @@ pub enum Fact {
 }
 
 /// A fact, and the time since when it is known.
-#[derive(Clone, Copy, PartialEq, Eq)]
+#[derive(Clone, Copy)]
 pub struct DatedFact {
     pub fact: Fact,
     pub since: u128,

@@ -8,7 +8,7 @@ use vcode::line::Line;
 use vcode::place::Operand;
 
 /// A register that holds the same as another, its source.
-#[derive(Clone, Copy, PartialEq, Eq)]
+#[derive(Clone, Copy)]
 pub struct KnownCopy {
     pub source: u32,
     pub copy: u32,

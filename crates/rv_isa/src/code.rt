@@ -7,7 +7,7 @@ use crate::relocation::Relocation;
 use std::marker::Model;
 
 /// A word that waits for the address of a global.
-#[derive(Clone, Copy, PartialEq, Eq)]
+#[derive(Clone, Copy)]
 pub struct Hole {
     /// The number of the word.
     pub word: usize,

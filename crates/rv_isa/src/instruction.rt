@@ -102,7 +102,7 @@ pub enum Instr {
 }
 
 /// What a branch compares.
-#[derive(Clone, Copy, PartialEq, Eq)]
+#[derive(Clone, Copy)]
 pub enum BranchOp {
     Beq,
     Bne,
@@ -113,7 +113,7 @@ pub enum BranchOp {
 }
 
 /// How many bytes a load reads, and whether it extends them by sign or by zeros.
-#[derive(Clone, Copy, PartialEq, Eq, Debug)]
+#[derive(Clone, Copy, PartialEq, Eq)]
 pub enum LoadOp {
     Lb,
     Lh,
@@ -125,7 +125,7 @@ pub enum LoadOp {
 }
 
 /// How many bytes a store writes.
-#[derive(Clone, Copy, PartialEq, Eq)]
+#[derive(Clone, Copy)]
 pub enum StoreOp {
     Sb,
     Sh,
@@ -134,7 +134,7 @@ pub enum StoreOp {
 }
 
 /// Operations on a register and an immediate.
-#[derive(Clone, Copy, PartialEq, Eq)]
+#[derive(Clone, Copy)]
 pub enum ImmOp {
     Addi,
     Slti,
@@ -145,7 +145,7 @@ pub enum ImmOp {
 }
 
 /// Shifts by a fixed amount.
-#[derive(Clone, Copy, PartialEq, Eq)]
+#[derive(Clone, Copy)]
 pub enum ShiftOp {
     Slli,
     Srli,
@@ -153,7 +153,7 @@ pub enum ShiftOp {
 }
 
 /// Shifts of 32 bits by a fixed amount.
-#[derive(Clone, Copy, PartialEq, Eq)]
+#[derive(Clone, Copy)]
 pub enum ShiftWOp {
     Slliw,
     Srliw,

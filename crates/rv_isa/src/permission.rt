@@ -1,7 +1,7 @@
 //! What a program may do with a byte of memory.
 
 /// What is allowed at an address. Where no memory is, nothing is.
-#[derive(Clone, Copy, PartialEq, Eq)]
+#[derive(Clone, Copy)]
 pub struct Permission {
     /// Loads may read the byte.
     pub readable: bool,

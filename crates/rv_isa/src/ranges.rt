@@ -8,7 +8,7 @@ ghost use Rattle.std.specs.Int.RustNames.{unsigned_abs};
 ghost use Rattle.bits.specs.Words.{Fits12};
 
 /// One of the registers x0 to x31.
-#[derive(Clone, Copy, PartialEq, Eq)]
+#[derive(Clone, Copy)]
 pub struct Register {
     /// The number, from 0 to 31.
     pub number: u8,
@@ -16,7 +16,7 @@ pub struct Register {
 }
 
 /// The signed immediate of 12 bits of the I-type and S-type formats.
-#[derive(Clone, Copy, PartialEq, Eq)]
+#[derive(Clone, Copy)]
 pub struct Immediate {
     /// From -2048 to 2047.
     pub value: i16,
@@ -24,7 +24,7 @@ pub struct Immediate {
 }
 
 /// The distance in bytes from a branch to its target, of the B-type format.
-#[derive(Clone, Copy, PartialEq, Eq)]
+#[derive(Clone, Copy)]
 pub struct BranchOffset {
     /// An even number from -4096 to 4094.
     pub value: i16,
@@ -34,7 +34,7 @@ pub struct BranchOffset {
 }
 
 /// The distance in bytes from `jal` to its target, of the J-type format.
-#[derive(Clone, Copy, PartialEq, Eq)]
+#[derive(Clone, Copy)]
 pub struct JumpOffset {
     /// An even number from -1048576 to 1048574.
     pub value: i32,
@@ -44,7 +44,7 @@ pub struct JumpOffset {
 }
 
 /// The field of 20 bits of the U-type format; it stands for 4096 times its value.
-#[derive(Clone, Copy, PartialEq, Eq)]
+#[derive(Clone, Copy)]
 pub struct UpperField {
     /// From 0 to 1048575.
     pub value: u32,
@@ -52,7 +52,7 @@ pub struct UpperField {
 }
 
 /// By how many bits a 64-bit word is shifted.
-#[derive(Clone, Copy, PartialEq, Eq)]
+#[derive(Clone, Copy)]
 pub struct Amount {
     /// From 0 to 63.
     pub value: u8,
@@ -60,7 +60,7 @@ pub struct Amount {
 }
 
 /// By how many bits a 32-bit word is shifted.
-#[derive(Clone, Copy, PartialEq, Eq)]
+#[derive(Clone, Copy)]
 pub struct WordAmount {
     /// From 0 to 31.
     pub value: u8,

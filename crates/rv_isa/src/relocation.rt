@@ -11,7 +11,7 @@ use bits::{low32, split};
 /// An instruction without its immediate, which is a part of an address.
 ///
 /// The upper part, in the field of `lui`, and the lower part, a signed immediate of 12 bits, together make the address.
-#[derive(Clone, Copy, PartialEq, Eq)]
+#[derive(Clone, Copy)]
 pub enum Partial {
     /// `lui`, with the upper part.
     Upper(Register),
@@ -40,7 +40,7 @@ pub enum Partial {
 }
 
 /// An instruction that waits for the address of a global, and takes a part of it, or of an address beyond it.
-#[derive(Clone, Copy, PartialEq, Eq)]
+#[derive(Clone, Copy)]
 pub struct Relocation {
     /// The instruction.
     pub instruction: Partial,

@@ -11,7 +11,7 @@ use rv_isa::permission::Permission;
 use std::alloc::AllocError;
 
 /// What is done with bytes.
-#[derive(Clone, Copy, PartialEq, Eq)]
+#[derive(Clone, Copy)]
 pub(crate) enum Access {
     Read,
     Write,

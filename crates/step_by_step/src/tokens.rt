@@ -7,7 +7,7 @@ use std::alloc::{AllocError, Global};
 use text_maker::maker::TextMaker;
 
 /// What a call of `next` shows: a token with its line, an error on a line, or the end.
-#[derive(Clone, Copy, PartialEq, Eq)]
+#[derive(Clone, Copy)]
 enum Seen {
     Token(Kind, Span, usize),
     Error(usize),
@@ -22,10 +22,19 @@ fn next_of(tokens: &mut Tokens<'_>) -> Seen {
     }
 }
 
-/// Whether six calls more show the same.
+/// Whether both are the end, or both an error on the same line.
+fn is_same_end(one: Seen, other: Seen) -> bool {
+    match (one, other) {
+        (Seen::Error(line), Seen::Error(own)) => line == own,
+        (Seen::End, Seen::End) => true,
+        _ => false,
+    }
+}
+
+/// Whether six calls more show the same end.
 fn stays(tokens: &mut Tokens<'_>, last: Seen) -> bool {
     for _ in 0..6 {
-        if next_of(tokens) != last {
+        if !is_same_end(next_of(tokens), last) {
             return false;
         }
     }
@@ -57,7 +66,7 @@ fn add_seen(out: &mut TextMaker, alloc: Global, text: &[u8], seen: Seen) {
     match seen {
         Seen::Token(kind, span, line) => {
             add_token(out, line, span, kind);
-            if kind == Kind::Quoted {
+            if matches!(kind, Kind::Quoted) {
                 add_string(out, alloc, text.get(span.start..span.end).unwrap_or(&[]));
             }
         }

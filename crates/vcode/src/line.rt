@@ -125,7 +125,7 @@ impl<P: Copy> Line<P> {
 }
 
 /// A comparison of two values of a class, as the source makes it.
-#[derive(Clone, Copy, PartialEq, Eq)]
+#[derive(Copy)]
 pub struct Comparison<P> {
     pub condition: Condition,
     pub class: Class,
@@ -133,8 +133,14 @@ pub struct Comparison<P> {
     pub right: Operand<P>,
 }
 
+impl<P: Copy> Clone for Comparison<P> {
+    fn clone(&self) -> Result<Comparison<P>, AllocError> {
+        Ok(*self)
+    }
+}
+
 /// What ends a block. Blocks are named by their place in the function.
-#[derive(Clone, Copy, PartialEq, Eq)]
+#[derive(Copy)]
 pub enum Jump<P> {
     Goto(usize),
     /// to `met` where the comparison holds, else to `otherwise`
@@ -147,4 +153,10 @@ pub enum Jump<P> {
     Return(Option<ReturnValue<P>>),
     /// ends the run
     Halt,
+}
+
+impl<P: Copy> Clone for Jump<P> {
+    fn clone(&self) -> Result<Jump<P>, AllocError> {
+        Ok(*self)
+    }
 }

@@ -6,9 +6,10 @@ ghost use Rattle.vcode.specs.Addresses.{low, beyond, at_once};
 use il_ast::operation::Class;
 use il_ast::symbol::Symbol;
 use rv_isa::ranges::Immediate;
+use std::alloc::AllocError;
 
 /// Where location code has a value.
-#[derive(Clone, Copy, Debug, PartialEq, Eq)]
+#[derive(Clone, Copy, Debug)]
 pub enum Location {
     /// one of the machine's registers, by its number
     Register(u8),
@@ -17,7 +18,7 @@ pub enum Location {
 }
 
 /// An operand over places P.
-#[derive(Clone, Copy, PartialEq, Eq)]
+#[derive(Copy, PartialEq, Eq)]
 pub enum Operand<P> {
     /// what the place holds
     At(P),
@@ -27,11 +28,23 @@ pub enum Operand<P> {
     Name(Symbol),
 }
 
+impl<P: Copy> Clone for Operand<P> {
+    fn clone(&self) -> Result<Operand<P>, AllocError> {
+        Ok(*self)
+    }
+}
+
 /// Where a load or a store reaches memory: that many bytes beyond the base.
-#[derive(Clone, Copy, PartialEq, Eq)]
+#[derive(Copy)]
 pub struct Address<P> {
     pub base: Operand<P>,
     pub offset: Immediate,
+}
+
+impl<P: Copy> Clone for Address<P> {
+    fn clone(&self) -> Result<Address<P>, AllocError> {
+        Ok(*self)
+    }
 }
 
 fn signed_12(bits: u64) -> i16
@@ -71,14 +84,20 @@ impl<P> Address<P> {
 }
 
 /// A place that takes a value of this class: a parameter, or the result of a call.
-#[derive(Clone, Copy, PartialEq, Eq)]
+#[derive(Copy)]
 pub struct Destination<P> {
     pub place: P,
     pub class: Class,
 }
 
+impl<P: Copy> Clone for Destination<P> {
+    fn clone(&self) -> Result<Destination<P>, AllocError> {
+        Ok(*self)
+    }
+}
+
 /// Whether a word that is passed still has to be sign-extended.
-#[derive(Clone, Copy, PartialEq, Eq)]
+#[derive(Clone, Copy)]
 pub enum Extension {
     /// its low 32 bits are sign-extended when it is passed
     Made,
@@ -87,18 +106,30 @@ pub enum Extension {
 }
 
 /// An argument of a call, which is passed as a value of this class.
-#[derive(Clone, Copy, PartialEq, Eq)]
+#[derive(Copy)]
 pub struct Argument<P> {
     pub class: Class,
     pub value: Operand<P>,
     pub extension: Extension,
 }
 
+impl<P: Copy> Clone for Argument<P> {
+    fn clone(&self) -> Result<Argument<P>, AllocError> {
+        Ok(*self)
+    }
+}
+
 /// A value that a function returns, as one of the class of its result.
-#[derive(Clone, Copy, PartialEq, Eq)]
+#[derive(Copy)]
 pub struct ReturnValue<P> {
     pub value: Operand<P>,
     pub extension: Extension,
+}
+
+impl<P: Copy> Clone for ReturnValue<P> {
+    fn clone(&self) -> Result<ReturnValue<P>, AllocError> {
+        Ok(*self)
+    }
 }
 
 impl<P> ReturnValue<P> {
