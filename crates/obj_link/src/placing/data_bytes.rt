@@ -30,8 +30,7 @@ fn push_zeros(bytes: &mut Vec<u8>, count: u64) -> Result<(), AllocError>
 fn push_long(bytes: &mut Vec<u8>, number: u64) -> Result<(), AllocError>
     ensures { OnOk result (bytes.new.items ≡ bytes.old.items ++ to_le_bytes w64 number) }
 {
-    bytes.extend_from_slice(&number.to_le_bytes())?;
-    Ok(())
+    bytes.extend_from_slice(&number.to_le_bytes())
 }
 
 /// The low bytes of a number, lowest first.
@@ -41,12 +40,11 @@ fn push_low(bytes: &mut Vec<u8>, size: Size, number: u64) -> Result<(), AllocErr
 {
     let all = number.to_le_bytes();
     match size {
-        Size::Byte => bytes.extend_from_slice(&all[..1])?,
-        Size::Half => bytes.extend_from_slice(&all[..2])?,
-        Size::Word => bytes.extend_from_slice(&all[..4])?,
-        Size::Long => bytes.extend_from_slice(&all)?,
+        Size::Byte => bytes.extend_from_slice(&all[..1]),
+        Size::Half => bytes.extend_from_slice(&all[..2]),
+        Size::Word => bytes.extend_from_slice(&all[..4]),
+        Size::Long => bytes.extend_from_slice(&all),
     }
-    Ok(())
 }
 
 fn push_address(
@@ -58,20 +56,17 @@ fn push_address(
     ensures { OnOk result (bytes.new.items ≡ bytes.old.items ++ address_bytes addresses.now target offset) }
 {
     match target {
-        None => push_zeros(bytes, 8)?,
-        Some(Target::Code(callee)) => {
-            if offset == 0 {
-                push_long(bytes, u64::from(callee_address(addresses, callee)))?;
-            } else {
-                push_zeros(bytes, 8)?;
-            }
-        }
+        None => push_zeros(bytes, 8),
+        Some(Target::Code(callee)) => if offset == 0 {
+            push_long(bytes, u64::from(callee_address(addresses, callee)))
+        } else {
+            push_zeros(bytes, 8)
+        },
         Some(Target::Object(number)) => {
             let start = u64::from(object_address(addresses, number));
-            push_long(bytes, start.wrapping_add(offset))?;
+            push_long(bytes, start.wrapping_add(offset))
         }
     }
-    Ok(())
 }
 
 fn push_item(
@@ -85,14 +80,13 @@ fn push_item(
     ensures { OnOk result (bytes.new.items ≡ bytes.old.items ++ item_bytes addresses.now targets.now text size item.now) }
 {
     match item {
-        Item::Int(number) => push_low(bytes, size, *number)?,
-        Item::Bytes(string) => bytes.extend_from_slice(string.as_slice())?,
+        Item::Int(number) => push_low(bytes, size, *number),
+        Item::Bytes(string) => bytes.extend_from_slice(string.as_slice()),
         Item::Address { symbol, offset } => {
             let target = meaning(targets, text, symbol.number());
-            push_address(bytes, addresses, target, *offset)?;
+            push_address(bytes, addresses, target, *offset)
         }
     }
-    Ok(())
 }
 
 fn push_items(
@@ -122,11 +116,10 @@ fn push_field(
 {
     match field {
         Field::Items { size, items } => {
-            push_items(bytes, addresses, targets, text, *size, items.as_slice())?;
+            push_items(bytes, addresses, targets, text, *size, items.as_slice())
         }
-        Field::Zeros(count) => push_zeros(bytes, *count)?,
+        Field::Zeros(count) => push_zeros(bytes, *count),
     }
-    Ok(())
 }
 
 fn push_fields(
@@ -169,8 +162,7 @@ fn push_object(
         object.item.fields.as_slice(),
     )?;
     let size = bytes.len() - start;
-    push_zeros(bytes, padding(size))?;
-    Ok(())
+    push_zeros(bytes, padding(size))
 }
 
 /// Puts the data of a program at the end, each datum with zeros up to a multiple of 16.

@@ -57,8 +57,7 @@ fn push_function(
 {
     let mut own = code.words().to_vec(alloc)?;
     fill_all(own.as_mut_slice(), addresses, targets, text, code.holes());
-    words.extend_from_slice(own.as_slice())?;
-    Ok(())
+    words.extend_from_slice(own.as_slice())
 }
 
 /// Puts the words of all functions at the end.

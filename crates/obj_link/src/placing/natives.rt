@@ -112,24 +112,26 @@ fn add_lower(address: u32) -> u32
 pub fn push_start(words: &mut Vec<u32>, main: u32) -> Result<(), AllocError>
     ensures { OnOk result (words.new.items ≡ words.old.items ++ start_words main) }
 {
-    words.push(count_of_words())?;
-    words.push(add_immediate(SECOND_ARGUMENT, STACK_POINTER, Immediate { value: 8 }))?;
-    words.push(load_upper(main))?;
-    words.push(add_lower(main))?;
-    words.push(jump_to(RETURN_ADDRESS, TEMPORARY))?;
-    words.push(add_immediate(SYSTEM_CALL, ZERO, EXIT))?;
-    words.push(encode(Instr::Ecall))?;
-    Ok(())
+    words.extend_from_slice(&[
+        count_of_words(),
+        add_immediate(SECOND_ARGUMENT, STACK_POINTER, Immediate { value: 8 }),
+        load_upper(main),
+        add_lower(main),
+        jump_to(RETURN_ADDRESS, TEMPORARY),
+        add_immediate(SYSTEM_CALL, ZERO, EXIT),
+        encode(Instr::Ecall),
+    ])
 }
 
 /// Puts `write` and `exit` at the end.
 pub fn push_natives(words: &mut Vec<u32>) -> Result<(), AllocError>
     ensures { OnOk result (words.new.items ≡ words.old.items ++ (write_words ++ exit_words)) }
 {
-    words.push(add_immediate(SYSTEM_CALL, ZERO, WRITE))?;
-    words.push(encode(Instr::Ecall))?;
-    words.push(jump_to(ZERO, RETURN_ADDRESS))?;
-    words.push(add_immediate(SYSTEM_CALL, ZERO, EXIT))?;
-    words.push(encode(Instr::Ecall))?;
-    Ok(())
+    words.extend_from_slice(&[
+        add_immediate(SYSTEM_CALL, ZERO, WRITE),
+        encode(Instr::Ecall),
+        jump_to(ZERO, RETURN_ADDRESS),
+        add_immediate(SYSTEM_CALL, ZERO, EXIT),
+        encode(Instr::Ecall),
+    ])
 }

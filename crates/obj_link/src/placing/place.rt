@@ -129,6 +129,8 @@ pub fn place<'a>(
     requires fits { FitsBelow (program linked.now) codes.now }
     ensures { MatchResult result (λ image. image ≡ contents_of (program linked.now) codes.now) (λ error. error ≡ Memory) }
 {
-    let image = image_of(alloc, codes, linked)?;
-    Ok(image)
+    match image_of(alloc, codes, linked) {
+        Ok(image) => Ok(image),
+        Err(_) => Err(LinkError::Memory),
+    }
 }
