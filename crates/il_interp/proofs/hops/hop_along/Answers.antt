@@ -35,3 +35,27 @@ returns-in-None-clause-few c = grind (arith, common_steps)
 
 pub overflow_sub-result : goal.overflow_sub-result
 overflow_sub-result c = grind (arith, common_steps)
+
+pub returns-in-None-get-clause-few : goal.returns-in-None-get-clause-few
+returns-in-None-get-clause-few c = grind (arith, common_steps)
+
+pub overflow_sub-left : goal.overflow_sub-left
+overflow_sub-left c = grind (arith, common_steps)
+
+pub overflow_sub-result-then-not-goes_on : goal.overflow_sub-result-then-not-goes_on
+overflow_sub-result-then-not-goes_on c = grind (arith, common_steps)
+
+pub returns-then-not-goes_on-clause-few : goal.returns-then-not-goes_on-clause-few
+returns-then-not-goes_on-clause-few c = grind (arith, common_steps)
+
+pub returns-clause-few : goal.returns-clause-few
+returns-clause-few c = grind (arith, common_steps)
+
+pub returns-clause-means : goal.returns-clause-means
+returns-clause-means c = grind (arith, common_steps)
+
+pub returns-in-None-get-clause-means : goal.returns-in-None-get-clause-means
+returns-in-None-get-clause-means c = grind (arith, common_steps)
+
+pub returns-in-None-clause-means : goal.returns-in-None-clause-means
+returns-in-None-clause-means c = grind (arith, common_steps)

@@ -10,3 +10,9 @@ returns-in_err-push-in-Some-phi_value c = grind (arith, common_steps)
 
 pub returns-in_err-push-in-Some : goal.returns-in_err-push-in-Some
 returns-in_err-push-in-Some c = grind (arith, common_steps)
+
+pub returns-in-None-phi_value : goal.returns-in-None-phi_value
+returns-in-None-phi_value c = grind (arith, common_steps)
+
+pub returns : goal.returns
+returns c = grind (arith, common_steps)

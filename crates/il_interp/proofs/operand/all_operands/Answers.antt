@@ -10,3 +10,9 @@ returns-in_err-push-in-Some c = grind (arith, common_steps)
 
 pub returns-in_err-values : goal.returns-in_err-values
 returns-in_err-values c = grind (arith, common_steps)
+
+pub returns-in-None : goal.returns-in-None
+returns-in-None c = grind (arith, common_steps)
+
+pub returns : goal.returns
+returns c = grind (arith, common_steps)
