@@ -39,7 +39,12 @@ fn owner_at(params: &[Destination<u32>], places: &[Location], place: Location) -
 fn is_param(params: &[Destination<u32>], register: u32) -> bool
     ensures { result ≡ is_param params.now register }
 {
-    params.iter().any(|param| register == param.place)
+    for param in params {
+        if register == param.place {
+            return true;
+        }
+    }
+    false
 }
 
 /// Whether the place holds the parameter, if the register is one. Other registers have no value yet.
@@ -55,9 +60,12 @@ fn is_entered(params: &[Destination<u32>], places: &[Location], equality: Equali
 fn all_entered(params: &[Destination<u32>], places: &[Location], starts: &[Equality]) -> bool
     ensures { result ≡ entry_holds params.now starts.now (own_params params.now places.now nobody) }
 {
-    starts
-        .iter()
-        .all(|equality| is_entered(params, places, *equality))
+    for equality in starts {
+        if !is_entered(params, places, *equality) {
+            return false;
+        }
+    }
+    true
 }
 
 /// Whether each parameter has a place.

@@ -56,7 +56,12 @@ fn made(slots: u32, to: &Option<Location>) -> bool
 fn args(slots: u32, args: &[Argument<Location>]) -> bool
     ensures { result ≡ list_all (λ a. operand_keeps (is_place slots) a.value) args.now }
 {
-    args.iter().all(|arg| operand(slots, &arg.value))
+    for arg in args {
+        if !operand(slots, &arg.value) {
+            return false;
+        }
+    }
+    true
 }
 
 fn line(slots: u32, line: &Line<Location>) -> bool
@@ -98,7 +103,12 @@ fn jump(slots: u32, jump: &Jump<Location>) -> bool
 fn lines(slots: u32, lines: &[Line<Location>]) -> bool
     ensures { result ≡ list_all (line_keeps (is_place slots)) lines.now }
 {
-    lines.iter().all(|from| line(slots, from))
+    for from in lines {
+        if !line(slots, from) {
+            return false;
+        }
+    }
+    true
 }
 
 fn block(slots: u32, block: &Block<Location>) -> bool
@@ -110,13 +120,23 @@ fn block(slots: u32, block: &Block<Location>) -> bool
 fn blocks(slots: u32, blocks: &[Block<Location>]) -> bool
     ensures { result ≡ list_all (block_keeps (is_place slots)) blocks.now }
 {
-    blocks.iter().all(|from| block(slots, from))
+    for from in blocks {
+        if !block(slots, from) {
+            return false;
+        }
+    }
+    true
 }
 
 fn params(slots: u32, params: &[Destination<Location>]) -> bool
     ensures { result ≡ list_all (λ d. is_place slots d.place) params.now }
 {
-    params.iter().all(|param| is_place(slots, param.place))
+    for param in params {
+        if !is_place(slots, param.place) {
+            return false;
+        }
+    }
+    true
 }
 
 /// Whether all places that the code names exist, with so many slots.
@@ -138,13 +158,23 @@ fn is_near(place: Location) -> bool
 fn are_near(params: &[Destination<Location>]) -> bool
     ensures { result ≡ are_near params.now }
 {
-    params.iter().all(|param| is_near(param.place))
+    for param in params {
+        if !is_near(param.place) {
+            return false;
+        }
+    }
+    true
 }
 
 fn is_among(place: Location, params: &[Destination<Location>]) -> bool
     ensures { result ≡ list_any (λ e. same_location place e.place) params.now }
 {
-    params.iter().any(|param| is_same(place, param.place))
+    for param in params {
+        if is_same(place, param.place) {
+            return true;
+        }
+    }
+    false
 }
 
 fn are_distinct(params: &[Destination<Location>]) -> bool
@@ -161,7 +191,12 @@ fn are_distinct(params: &[Destination<Location>]) -> bool
 fn are_paid(blocks: &[Block<Location>]) -> bool
     ensures { result ≡ list_all is_paid blocks.now }
 {
-    blocks.iter().all(|block| is_paid(block))
+    for block in blocks {
+        if !is_paid(block) {
+            return false;
+        }
+    }
+    true
 }
 
 /// Whether location code with so many slots may be a function's: its places exist, its parameters are near and apart, and its ticks pay for its lines.
@@ -184,16 +219,22 @@ fn exists(registers: u32, equality: Equality) -> bool
 pub(crate) fn all_exist(registers: u32, equalities: &[Equality]) -> bool
     ensures { result ≡ list_all (exists_in registers) equalities.now }
 {
-    equalities
-        .iter()
-        .all(|equality| exists(registers, *equality))
+    for equality in equalities {
+        if !exists(registers, *equality) {
+            return false;
+        }
+    }
+    true
 }
 
 /// Whether those of all these lists do.
 pub(crate) fn equalities_exist(registers: u32, starts: &[Seq<Equality>]) -> bool
     ensures { result ≡ equalities_exist registers starts.now }
 {
-    starts
-        .iter()
-        .all(|equalities| all_exist(registers, equalities.as_slice()))
+    for equalities in starts {
+        if !all_exist(registers, equalities.as_slice()) {
+            return false;
+        }
+    }
+    true
 }

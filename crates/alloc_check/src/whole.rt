@@ -14,7 +14,12 @@ use vcode::function::VFunc;
 fn has(equalities: &[Equality], register: u32) -> bool
     ensures { result ≡ has equalities.now register }
 {
-    equalities.iter().any(|e| e.register == register)
+    for equality in equalities {
+        if equality.register == register {
+            return true;
+        }
+    }
+    false
 }
 
 fn names_once(equalities: &[Equality]) -> bool
@@ -31,9 +36,12 @@ fn names_once(equalities: &[Equality]) -> bool
 fn all_once(lists: &[Seq<Equality>]) -> bool
     ensures { result ≡ list_all names_once lists.now }
 {
-    lists
-        .iter()
-        .all(|equalities| names_once(equalities.as_slice()))
+    for equalities in lists {
+        if !names_once(equalities.as_slice()) {
+            return false;
+        }
+    }
+    true
 }
 
 fn has_lengths(code: &Code<u32>, certificate: &Certificate) -> bool
