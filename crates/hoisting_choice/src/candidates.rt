@@ -95,8 +95,31 @@ fn is_part(line: &Line<u32>) -> bool {
     }
 }
 
+fn have_part(lines: &[Line<u32>]) -> bool {
+    for line in lines {
+        if is_part(line) {
+            return true;
+        }
+    }
+    false
+}
+
 fn has_part(blocks: &[Block<u32>]) -> bool {
-    blocks.iter().any(|block| block.lines.as_slice().iter().any(|line| is_part(line)))
+    for block in blocks {
+        if have_part(block.lines.as_slice()) {
+            return true;
+        }
+    }
+    false
+}
+
+fn read_outside(written: LowRegisters, lines: &[Line<u32>]) -> bool {
+    for line in lines {
+        if reads_outside(written, line) {
+            return true;
+        }
+    }
+    false
 }
 
 /// Whether a line of the only loop operates on a register that neither its first nor its last block writes.
@@ -107,12 +130,7 @@ fn loop_reads_outside(blocks: &[Block<u32>], back: Back) -> bool {
         .take(back.last.saturating_add(1))
         .skip(back.head)
     {
-        if block
-            .lines
-            .as_slice()
-            .iter()
-            .any(|line| reads_outside(written, line))
-        {
+        if read_outside(written, block.lines.as_slice()) {
             return true;
         }
     }

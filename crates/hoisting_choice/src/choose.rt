@@ -3,8 +3,7 @@ use crate::candidates::may_plan;
 use crate::credit::credit;
 use crate::growing::{Linear, find_growth, plan_steps, product_of};
 use crate::halves::plan_halves;
-use crate::nests::{Nest, nests_of};
-use crate::reads::count_reads;
+use crate::nests::{Nest, find_nests, order};
 use crate::written::{Spot, Written};
 use rv_isa::instruction::RegOp;
 use std::alloc::{AllocError, Global};
@@ -106,8 +105,10 @@ fn push_plan(plans: &mut Plans, plan: Plan) -> Result<Option<u32>, AllocError> {
         return Ok(None);
     }
     plans.next = plan.register.saturating_add(1);
-    plans.list.extend_from_slice(&[plan])?;
-    Ok(Some(plan.register))
+    match plans.list.extend_from_slice(&[plan]) {
+        Ok(()) => Ok(Some(plan.register)),
+        Err(error) => Err(error),
+    }
 }
 
 /// A plan for an operation on these operands, if there are both and it is worth that.
@@ -133,18 +134,26 @@ fn plan_of(
     }
 }
 
-/// The computation of a line in front of a loop, if its operands have their values there.
-fn wanted(register: u32, written: &Written, before: usize, line: &Line<u32>) -> Option<Plan> {
+/// The computation of a line in front of a loop, if its operands have their values there, and the register that the line writes.
+fn wanted(
+    register: u32,
+    written: &Written,
+    before: usize,
+    line: &Line<u32>,
+) -> Option<(u32, Plan)> {
     match line {
         Line::Operate {
+            to,
             operation,
             left,
             right,
-            ..
         } => {
             let one = written.in_front(*left);
             let other = written.in_front(*right);
-            plan_of(before, register, *operation, one, other)
+            match plan_of(before, register, *operation, one, other) {
+                Some(plan) => Some((*to, plan)),
+                None => None,
+            }
         }
         _ => None,
     }
@@ -185,24 +194,31 @@ fn part_of_sum(
     sum: u32,
     added: Operand<u32>,
 ) -> Option<Part> {
-    let (left, right) = written.summands(sum)?;
+    let Some((left, right)) = written.summands(sum) else {
+        return None;
+    };
     let (one, rest) = unchanged(written, &left, &right);
     let other = written.in_front(added);
-    let plan = plan_of(before, register, Operation::Reg(RegOp::Add), one, other)?;
-    Some(Part { plan, sum, rest })
+    match plan_of(before, register, Operation::Reg(RegOp::Add), one, other) {
+        Some(plan) => Some(Part { plan, sum, rest }),
+        None => None,
+    }
 }
 
-fn wanted_part(register: u32, written: &Written, before: usize, line: &Line<u32>) -> Option<Part> {
-    match line {
-        Line::Operate {
-            operation: Operation::Reg(RegOp::Add),
-            left: Operand::At(left),
-            right: Operand::At(right),
-            ..
-        } => match part_of_sum(register, written, before, *left, Operand::At(*right)) {
-            Some(part) => Some(part),
-            None => part_of_sum(register, written, before, *right, Operand::At(*left)),
-        },
+fn wanted_part(
+    register: u32,
+    written: &Written,
+    before: usize,
+    left: &Operand<u32>,
+    right: &Operand<u32>,
+) -> Option<Part> {
+    match (left, right) {
+        (Operand::At(one), Operand::At(other)) => {
+            match part_of_sum(register, written, before, *one, *right) {
+                Some(part) => Some(part),
+                None => part_of_sum(register, written, before, *other, *left),
+            }
+        }
         _ => None,
     }
 }
@@ -214,26 +230,6 @@ struct Place {
     at: Spot,
 }
 
-/// The sum with a product of a register that grows, of which that of the sum of the other two is planned.
-fn linear_part(
-    written: &Written,
-    place: Place,
-    to: u32,
-    part: &Part,
-    register: u32,
-) -> Option<Linear> {
-    let product = written.product(part.rest)?;
-    Some(Linear {
-        at: place.at,
-        to,
-        base: Operand::At(register),
-        factor: part.rest,
-        product,
-        is_direct: false,
-        is_part: false,
-    })
-}
-
 /// The sum of a product of a register that grows and of what the loop doesn't change.
 fn linear_of(
     written: &Written,
@@ -242,23 +238,17 @@ fn linear_of(
     base: &Operand<u32>,
     factor: &Operand<u32>,
 ) -> Option<Linear> {
-    let product = written.product(*factor)?;
-    let base = written.in_front(*base)?;
-    Some(Linear {
-        at: place.at,
-        to,
-        base,
-        factor: *factor,
-        product,
-        is_direct: true,
-        is_part: false,
-    })
-}
-
-fn push_linear(plans: &mut Plans, linear: Option<Linear>) -> Result<(), AllocError> {
-    match linear {
-        Some(linear) => plans.sums.extend_from_slice(&[linear]),
-        None => Ok(()),
+    match (written.product(*factor), written.in_front(*base)) {
+        (Some(product), Some(base)) => Some(Linear {
+            at: place.at,
+            to,
+            base,
+            factor: *factor,
+            product,
+            is_direct: true,
+            is_part: false,
+        }),
+        _ => None,
     }
 }
 
@@ -271,29 +261,66 @@ fn take_part(sums: &mut [Linear], sum: u32) {
     }
 }
 
-/// Plans the part of a sum that doesn't change; notes sums with products.
+/// Notes the sum with a product of a register that grows, if it is one; the sum of the other two is planned.
+fn push_part(
+    plans: &mut Plans,
+    written: &Written,
+    place: Place,
+    to: u32,
+    part: &Part,
+    register: u32,
+) -> Result<(), AllocError> {
+    match written.product(part.rest) {
+        Some(product) => {
+            take_part(plans.sums.as_mut_slice(), part.sum);
+            plans.sums.extend_from_slice(&[Linear {
+                at: place.at,
+                to,
+                base: Operand::At(register),
+                factor: part.rest,
+                product,
+                is_direct: false,
+                is_part: false,
+            }])
+        }
+        None => Ok(()),
+    }
+}
+
+/// Notes the sum with a product of a register that grows, if it is one.
+fn push_linear(
+    plans: &mut Plans,
+    written: &Written,
+    place: Place,
+    to: u32,
+    left: &Operand<u32>,
+    right: &Operand<u32>,
+) -> Result<(), AllocError> {
+    let linear = match linear_of(written, place, to, left, right) {
+        Some(linear) => Some(linear),
+        None => linear_of(written, place, to, right, left),
+    };
+    match linear {
+        Some(linear) => plans.sums.extend_from_slice(&[linear]),
+        None => Ok(()),
+    }
+}
+
+/// Plans the part of a sum that doesn't change, and notes the sum if it has a product.
 fn plan_part(
     plans: &mut Plans,
     written: &Written,
     place: Place,
     to: u32,
-    line: &Line<u32>,
-) -> Result<bool, AllocError> {
-    let part = match wanted_part(plans.next, written, place.before, line) {
-        Some(part) => part,
-        None => return Ok(false),
-    };
-    match put_plan(plans, part.plan)? {
-        Some(register) => {
-            let linear = linear_part(written, place, to, &part, register);
-            if linear.is_some() {
-                take_part(plans.sums.as_mut_slice(), part.sum);
-            }
-            push_linear(plans, linear)?;
-            Ok(true)
+    left: &Operand<u32>,
+    right: &Operand<u32>,
+) -> Result<(), AllocError> {
+    if let Some(part) = wanted_part(plans.next, written, place.before, left, right) {
+        if let Some(register) = put_plan(plans, part.plan)? {
+            return push_part(plans, written, place, to, &part, register);
         }
-        None => Ok(false),
     }
+    push_linear(plans, written, place, to, left, right)
 }
 
 /// Plans the part of a sum that doesn't change, and notes what the line adds or multiplies.
@@ -303,26 +330,21 @@ fn plan_sum(
     place: Place,
     line: &Line<u32>,
 ) -> Result<(), AllocError> {
-    if let Line::Operate {
-        to,
-        operation: Operation::Reg(RegOp::Add),
-        left,
-        right,
-    } = line
-    {
-        if !plan_part(plans, written, place, *to, line)? {
-            let linear = match linear_of(written, place, *to, left, right) {
-                Some(linear) => Some(linear),
-                None => linear_of(written, place, *to, right, left),
-            };
-            push_linear(plans, linear)?;
+    match line {
+        Line::Operate {
+            to,
+            operation: Operation::Reg(RegOp::Add),
+            left,
+            right,
+        } => {
+            plan_part(plans, written, place, *to, left, right)?;
+            written.add(*to, *left, *right)
         }
-        written.add(*to, *left, *right)?;
+        _ => match product_of(written, line) {
+            Some((to, product)) => written.multiply(to, product),
+            None => Ok(()),
+        },
     }
-    if let Some((to, product)) = product_of(written, line) {
-        written.multiply(to, product)?;
-    }
-    Ok(())
 }
 
 fn plan_line(
@@ -331,20 +353,15 @@ fn plan_line(
     place: Place,
     line: &Line<u32>,
 ) -> Result<(), AllocError> {
-    let plan = match wanted(plans.next, written, place.before, line) {
-        Some(plan) => plan,
-        None => return plan_sum(plans, written, place, line),
-    };
-    let register = match planned(plans, &plan) {
-        Some(register) => Some(register),
-        None => push_plan(plans, plan)?,
-    };
-    if let Some(instead) = register {
-        if let Line::Operate { to, .. } = line {
-            written.stand(*to, instead);
+    match wanted(plans.next, written, place.before, line) {
+        Some((to, plan)) => {
+            if let Some(instead) = put_plan(plans, plan)? {
+                written.stand(to, instead);
+            }
+            Ok(())
         }
+        None => plan_sum(plans, written, place, line),
     }
-    Ok(())
 }
 
 fn plan_block(
@@ -376,7 +393,6 @@ fn count_writes(written: &mut Written, blocks: &[Block<u32>], nest: &Nest) {
 fn plan_nest(
     plans: &mut Plans,
     written: &mut Written,
-    reads: &[u32],
     blocks: &[Block<u32>],
     nest: &Nest,
 ) -> Result<(), AllocError> {
@@ -389,42 +405,40 @@ fn plan_nest(
             plan_block(plans, written, nest.before, *number, block)?;
         }
     }
-    plan_steps(plans, written, reads, nest)
+    plan_steps(plans, written, nest)
 }
 
-/// Plans for the loops in this order.
+/// Plans for these loops, the outer ones before the inner ones.
 fn plan_in_order(
+    alloc: Global,
     plans: &mut Plans,
-    written: &mut Written,
-    reads: &[u32],
-    blocks: &[Block<u32>],
+    function: &VFunc,
     nests: &[Nest],
-    order: &[(usize, usize)],
 ) -> Result<(), AllocError> {
-    for (_, number) in order {
+    let blocks = function.code.blocks.as_slice();
+    let mut written = Written::new(alloc, function.registers, blocks)?;
+    for (_, number) in order(alloc, nests)?.iter() {
         if let Some(nest) = nests.get(*number) {
-            plan_nest(plans, written, reads, blocks, nest)?;
+            plan_nest(plans, &mut written, blocks, nest)?;
         }
     }
     Ok(())
 }
 
-/// Plans for the loops, the outer ones before the inner ones.
 fn plan_nests(alloc: Global, plans: &mut Plans, function: &VFunc) -> Result<(), AllocError> {
-    let blocks = function.code.blocks.as_slice();
-    let (nests, order) = nests_of(alloc, blocks)?;
+    let mut nests = Vec::new(alloc);
+    find_nests(alloc, &mut nests, function.code.blocks.as_slice())?;
     if nests.is_empty() {
-        return Ok(());
+        Ok(())
+    } else {
+        plan_in_order(alloc, plans, function, nests.as_slice())
     }
-    let mut written = Written::new(alloc, function.registers)?;
-    let reads = count_reads(alloc, function.registers, blocks)?;
-    plan_in_order(plans, &mut written, &reads, blocks, &nests, &order)
 }
 
 fn credits(alloc: Global, blocks: &[Block<u32>]) -> Result<Vec<u128>, AllocError> {
-    let mut credits = Vec::with_capacity(alloc, blocks.len())?;
-    for block in blocks {
-        credits.push(credit(block))?;
+    let mut credits = vec![in alloc; 0u128; blocks.len()]?;
+    for (left, block) in credits.iter_mut().zip(blocks) {
+        *left = credit(block);
     }
     Ok(credits)
 }
@@ -479,25 +493,30 @@ fn push_plans(blocks: &mut [BlockPlans], plans: &[Plan]) -> Result<(), AllocErro
 
 /// No plans yet, and what the ticks of each block leave.
 fn no_plans(alloc: Global, function: &VFunc) -> Result<Plans, AllocError> {
-    let credits = credits(alloc, function.code.blocks.as_slice())?;
     Ok(Plans {
         list: Vec::new(alloc),
         first: 0,
         next: function.registers,
-        credits,
+        credits: credits(alloc, function.code.blocks.as_slice())?,
         sums: Vec::new(alloc),
     })
 }
 
-/// What the plans choose for the blocks.
+/// What the plans choose for the blocks, and what is planned for their own lines; nothing where no plan is made.
 fn choice_of(
     alloc: Global,
     plans: &mut Plans,
-    blocks: &[Block<u32>],
-) -> Result<Vec<BlockPlans>, AllocError> {
-    let mut lists = by_block(alloc, plans, blocks)?;
-    push_plans(lists.as_mut_slice(), plans.list.as_slice())?;
-    Ok(lists)
+    function: &VFunc,
+) -> Result<Option<Choice>, AllocError> {
+    let mut blocks = by_block(alloc, plans, function.code.blocks.as_slice())?;
+    if plans.next == function.registers {
+        return Ok(None);
+    }
+    push_plans(blocks.as_mut_slice(), plans.list.as_slice())?;
+    Ok(Some(Choice {
+        blocks,
+        registers: plans.next,
+    }))
 }
 
 /// Computations for the ends of blocks in front of loops, and for extensions that are shifted to the left; none where there is nothing to do.
@@ -511,12 +530,5 @@ pub fn choose_plans(alloc: Global, function: &VFunc) -> Result<Option<Choice>, A
     }
     let mut plans = no_plans(alloc, function)?;
     plan_nests(alloc, &mut plans, function)?;
-    let blocks = choice_of(alloc, &mut plans, function.code.blocks.as_slice())?;
-    if plans.next == function.registers {
-        return Ok(None);
-    }
-    Ok(Some(Choice {
-        blocks,
-        registers: plans.next,
-    }))
+    choice_of(alloc, &mut plans, function)
 }

@@ -6,13 +6,6 @@ use vcode::line::{Jump, Line};
 /// The most that a branch costs.
 const BRANCH: u128 = 25;
 
-fn jump_cost(jump: &Jump<u32>) -> u128 {
-    match jump {
-        Jump::Goto(_) => 2,
-        _ => BRANCH,
-    }
-}
-
 /// What the ticks of a block leave, when its lines and its jump are paid.
 pub(crate) fn credit(block: &Block<u32>) -> u128 {
     let mut credit = 0u128;
@@ -22,5 +15,8 @@ pub(crate) fn credit(block: &Block<u32>) -> u128 {
             _ => credit.saturating_sub(line_cost(line)),
         };
     }
-    credit.saturating_sub(jump_cost(&block.jump))
+    match block.jump {
+        Jump::Goto(_) => credit.saturating_sub(2),
+        _ => credit.saturating_sub(BRANCH),
+    }
 }

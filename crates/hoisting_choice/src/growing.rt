@@ -34,10 +34,6 @@ const MOST: usize = 4;
 
 // ---- registers that grow
 
-fn has(nest: &Nest, block: usize) -> bool {
-    nest.blocks.iter().any(|own| *own == block)
-}
-
 /// What is more than the register, as a signed number, where the comparison holds or doesn't.
 fn more_than(on: &Comparison<u32>, register: u32, holds: bool) -> Option<Operand<u32>> {
     let (less, more) = match (on.condition, holds) {
@@ -86,8 +82,11 @@ fn is_tested(blocks: &[Block<u32>], nest: &Nest, register: u32) -> bool {
                 ..
             },
         ) => {
-            (has(nest, *met) && !has(nest, *otherwise) && is_less(on, register, true))
-                || (has(nest, *otherwise) && !has(nest, *met) && is_less(on, register, false))
+            match (nest.blocks.contains(met), nest.blocks.contains(otherwise)) {
+                (true, false) => is_less(on, register, true),
+                (false, true) => is_less(on, register, false),
+                _ => false,
+            }
         }
         _ => false,
     }
@@ -119,28 +118,23 @@ fn leaves_word(lines: &[Line<u32>], register: u32) -> bool {
     leaves
 }
 
-fn is_word(line: &Line<u32>, register: u32) -> bool {
-    match line {
-        Line::Operate {
-            to,
-            operation: Operation::RegW(_),
-            ..
-        } => *to == register,
-        _ => false,
-    }
-}
-
 /// Whether one of the first lines leaves a word in the register.
 fn from_word(lines: &[Line<u32>], number: usize, register: u32) -> bool {
-    let mut leaves = false;
     for line in lines.iter().take(number) {
-        leaves |= is_word(line, register);
+        match line {
+            Line::Operate {
+                to,
+                operation: Operation::RegW(_),
+                ..
+            } if *to == register => return true,
+            _ => {}
+        }
     }
-    leaves
+    false
 }
 
-/// A register that takes the sum of a register and a number.
-fn growth_of(line: &Line<u32>, at: Spot) -> Option<(u32, Growth)> {
+/// A register that takes the sum of a register and a number, or takes back such a sum of its own.
+fn growth_of(written: &Written, line: &Line<u32>, at: Spot) -> Option<(u32, Growth)> {
     match line {
         Line::Operate {
             to,
@@ -163,6 +157,13 @@ fn growth_of(line: &Line<u32>, at: Spot) -> Option<(u32, Growth)> {
                 },
             ))
         }
+        Line::Set {
+            to,
+            value: Operand::At(from),
+        } => match written.growth(*from) {
+            Some(growth) if growth.from == *to => Some((*to, Growth { at, ..growth })),
+            _ => None,
+        },
         _ => None,
     }
 }
@@ -186,24 +187,11 @@ fn note_growth(
     line: &Line<u32>,
     at: Spot,
 ) -> Result<(), AllocError> {
-    if let Some((to, growth)) = growth_of(line, at) {
-        if to != growth.from || grows_long(blocks, nest, to, &growth) {
-            written.grow(to, growth)?;
+    match growth_of(written, line, at) {
+        Some((to, growth)) if to != growth.from || grows_long(blocks, nest, to, &growth) => {
+            written.grow(to, growth)
         }
-    }
-    if let Line::Set {
-        to,
-        value: Operand::At(from),
-    } = line
-    {
-        match written.growth(*from) {
-            Some(growth) if growth.from == *to && grows_long(blocks, nest, *to, &growth) => {
-                written.grow(*to, Growth { at, ..growth })
-            }
-            _ => Ok(()),
-        }
-    } else {
-        Ok(())
+        _ => Ok(()),
     }
 }
 
@@ -251,17 +239,21 @@ pub(crate) fn product_of(written: &Written, line: &Line<u32>) -> Option<(u32, Pr
             left: Operand::At(index),
             right: Operand::Number(number),
         } => {
-            let factor = factor_of(*operation, *number)?;
-            written.own_growth(*index)?;
-            Some((
-                *to,
-                Product {
-                    index: *index,
-                    operation: *operation,
-                    number: *number,
-                    factor,
-                },
-            ))
+            let Some(factor) = factor_of(*operation, *number) else {
+                return None;
+            };
+            match written.own_growth(*index) {
+                Some(_) => Some((
+                    *to,
+                    Product {
+                        index: *index,
+                        operation: *operation,
+                        number: *number,
+                        factor,
+                    },
+                )),
+                None => None,
+            }
         }
         _ => None,
     }
@@ -275,35 +267,20 @@ fn is_before(one: Spot, other: Spot) -> bool {
 
 /// Whether each round comes to the sum, before the register grows.
 fn is_steady(written: &Written, nest: &Nest, linear: &Linear) -> bool {
-    let comes = nest.always.iter().any(|block| *block == linear.at.block);
     match written.own_growth(linear.product.index) {
-        Some(growth) => comes && is_before(linear.at, growth.at),
+        Some(growth) => {
+            nest.always.contains(&linear.at.block) && is_before(linear.at, growth.at)
+        }
         None => false,
     }
 }
 
-fn reads_of(reads: &[u32], operand: Operand<u32>) -> u32 {
-    match operand {
-        Operand::At(register) => match reads.get(register as usize) {
-            Some(read) => *read,
-            None => 0,
-        },
-        _ => 0,
-    }
-}
-
 /// Whether the product is read by nothing but such sums.
-fn is_spared(
-    written: &Written,
-    reads: &[u32],
-    nest: &Nest,
-    sums: &[Linear],
-    factor: Operand<u32>,
-) -> bool {
+fn is_spared(written: &Written, nest: &Nest, sums: &[Linear], factor: Operand<u32>) -> bool {
     let mut direct = 0u32;
     for linear in sums {
         if linear.factor == factor {
-            let is_read = linear.is_part && reads_of(reads, Operand::At(linear.to)) != 1;
+            let is_read = linear.is_part && written.reads(linear.to) != 1;
             if is_read || !is_steady(written, nest, linear) {
                 return false;
             }
@@ -312,7 +289,10 @@ fn is_spared(
             }
         }
     }
-    direct == reads_of(reads, factor)
+    match factor {
+        Operand::At(register) => direct == written.reads(register),
+        _ => direct == 0,
+    }
 }
 
 fn is_same(one: &Linear, other: &Linear) -> bool {
@@ -372,47 +352,34 @@ fn plan_step(
         return Ok(false);
     }
     plans.next = sum.register.saturating_add(1);
-    plans.list.extend_from_slice(&[product, sum, step])?;
-    Ok(true)
+    match plans.list.extend_from_slice(&[product, sum, step]) {
+        Ok(()) => Ok(true),
+        Err(error) => Err(error),
+    }
+}
+
+/// Whether one of the first sums is the same, and isn't planned in another's place.
+fn is_planned(sums: &[Linear], number: usize, linear: &Linear) -> bool {
+    for one in sums.iter().take(number) {
+        if !one.is_part && is_same(one, linear) {
+            return true;
+        }
+    }
+    false
 }
 
 /// Whether a sum is worth a register that is added to: where its product is then read by nothing, and it isn't planned already.
 fn is_wanted(
-    plans: &Plans,
+    sums: &[Linear],
     written: &Written,
-    reads: &[u32],
     nest: &Nest,
     number: usize,
     linear: &Linear,
 ) -> bool {
-    let sums = plans.sums.as_slice();
-    let is_first = !sums
-        .iter()
-        .take(number)
-        .any(|one| !one.is_part && is_same(one, linear));
     !linear.is_part
-        && is_first
+        && !is_planned(sums, number, linear)
         && is_steady(written, nest, linear)
-        && is_spared(written, reads, nest, sums, linear.factor)
-}
-
-/// Plans what is added to in the place of the sum of that number, if it is worth that; says whether it does.
-fn plan_if_wanted(
-    plans: &mut Plans,
-    written: &Written,
-    reads: &[u32],
-    nest: &Nest,
-    number: usize,
-) -> Result<bool, AllocError> {
-    let linear = match plans.sums.get(number) {
-        Some(linear) => *linear,
-        None => return Ok(false),
-    };
-    if is_wanted(plans, written, reads, nest, number, &linear) {
-        plan_step(plans, written, nest.before, &linear)
-    } else {
-        Ok(false)
-    }
+        && is_spared(written, nest, sums, linear.factor)
 }
 
 /// Plans what is added to in the place of sums with products.
@@ -423,12 +390,18 @@ fn plan_if_wanted(
 pub(crate) fn plan_steps(
     plans: &mut Plans,
     written: &Written,
-    reads: &[u32],
     nest: &Nest,
 ) -> Result<(), AllocError> {
     let mut made = 0usize;
     for number in 0..plans.sums.len() {
-        if made < MOST && plan_if_wanted(plans, written, reads, nest, number)? {
+        let sums = plans.sums.as_slice();
+        let Some(linear) = sums.get(number).copied() else {
+            return Ok(());
+        };
+        if made < MOST
+            && is_wanted(sums, written, nest, number, &linear)
+            && plan_step(plans, written, nest.before, &linear)?
+        {
             made = made.saturating_add(1);
         }
     }

@@ -26,32 +26,23 @@ fn shift(line: &Line<u32>, by: RegOp) -> Option<Pair> {
             operation: Operation::Reg(op),
             left: Operand::At(from),
             right: Operand::Number(bits),
-        } => {
-            if *op == by {
-                Some(Pair {
-                    to: *to,
-                    from: *from,
-                    bits: *bits,
-                })
-            } else {
-                None
-            }
-        }
+        } if *op == by => Some(Pair {
+            to: *to,
+            from: *from,
+            bits: *bits,
+        }),
         _ => None,
     }
 }
 
 fn pair_of(first: &Line<u32>, second: &Line<u32>) -> Option<Pair> {
-    let left = shift(first, RegOp::Sll)?;
-    let back = shift(second, RegOp::Srl)?;
-    if left.to == back.from
-        && back.to == back.from
-        && left.bits == back.bits
-        && left.from != left.to
-    {
-        Some(left)
-    } else {
-        None
+    match (shift(first, RegOp::Sll), shift(second, RegOp::Srl)) {
+        (Some(left), Some(back))
+            if left.to == back.from
+                && back.to == back.from
+                && left.bits == back.bits
+                && left.from != left.to => { Some(left) }
+        _ => None,
     }
 }
 
@@ -68,13 +59,13 @@ fn is_shifted(lines: &[Line<u32>], from: usize, pair: &Pair) -> bool {
 }
 
 fn pair_at(lines: &[Line<u32>], number: usize) -> Option<Pair> {
-    let first = lines.get(number)?;
-    let second = lines.get(number.saturating_add(1))?;
-    let pair = pair_of(first, second)?;
-    if is_shifted(lines, number.saturating_add(2), &pair) {
-        Some(pair)
-    } else {
-        None
+    let behind = number.saturating_add(1);
+    let (Some(first), Some(second)) = (lines.get(number), lines.get(behind)) else {
+        return None;
+    };
+    match pair_of(first, second) {
+        Some(pair) if is_shifted(lines, behind.saturating_add(1), &pair) => Some(pair),
+        _ => None,
     }
 }
 

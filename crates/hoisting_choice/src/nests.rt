@@ -52,51 +52,51 @@ fn find_all(
 ) -> Result<(), AllocError> {
     for block in sources {
         if find(found, *block, number) {
-            blocks.push(*block)?;
+            blocks.extend_from_slice(&[*block])?;
         }
     }
     Ok(())
 }
 
-/// The blocks from which the jump back is reached without passing the head; none where they are too many.
-fn members(
-    alloc: Global,
+/// The blocks that lead to this one.
+fn sources_of(sources: &[Few<usize>], block: usize) -> &[usize] {
+    match sources.get(block) {
+        Some(sources) => sources.as_slice(),
+        None => &[],
+    }
+}
+
+/// Adds the blocks that lead to those of a loop without passing its head, the first of them; says whether they aren't too many.
+fn find_members(
     search: &mut Search,
-    head: usize,
-    last: usize,
+    blocks: &mut Vec<usize>,
     number: usize,
-) -> Result<Option<Vec<usize>>, AllocError> {
-    let mut blocks = Vec::new(alloc);
-    blocks.push(head)?;
-    find(search.found.as_mut_slice(), head, number);
-    find_all(search.found.as_mut_slice(), &mut blocks, &[last], number)?;
+) -> Result<bool, AllocError> {
     for next in 1..search.steps {
         match blocks.get(next).copied() {
-            Some(block) => match search.sources.get(block) {
-                Some(sources) => find_all(
-                    search.found.as_mut_slice(),
-                    &mut blocks,
-                    sources.as_slice(),
-                    number,
-                )?,
-                None => {}
-            },
+            Some(block) => {
+                let sources = sources_of(search.sources.as_slice(), block);
+                find_all(search.found.as_mut_slice(), blocks, sources, number)?;
+            }
             None => {
                 search.steps = search.steps.saturating_sub(next);
-                blocks.sort()?;
-                return Ok(Some(blocks));
+                return Ok(true);
             }
         }
     }
     search.steps = 0;
-    Ok(None)
+    Ok(false)
+}
+
+fn is_found(search: &Search, block: usize, number: usize) -> bool {
+    search.found.get(block) == Some(&number)
 }
 
 /// The only block outside a loop that leads to its head.
 fn before(search: &Search, head: usize, number: usize) -> Option<usize> {
     let mut before = None;
-    for source in search.sources.get(head)?.as_slice() {
-        if search.found.get(*source) != Some(&number) {
+    for source in sources_of(search.sources.as_slice(), head) {
+        if !is_found(search, *source, number) {
             if before.is_some() {
                 return None;
             }
@@ -106,29 +106,17 @@ fn before(search: &Search, head: usize, number: usize) -> Option<usize> {
     before
 }
 
-fn is_found(search: &Search, block: usize, number: usize) -> bool {
-    search.found.get(block) == Some(&number)
-}
-
 /// The only block of the loop that leads to a block, if there is one.
 fn only_source(search: &Search, block: usize) -> Option<usize> {
-    let sources = search.sources.get(block)?;
-    if sources.len() == 1 {
-        sources.as_slice().get(0).copied()
-    } else {
-        None
+    match sources_of(search.sources.as_slice(), block) {
+        [source] => Some(*source),
+        _ => None,
     }
 }
 
 /// The only block of the loop that a block leads to, if nothing else leads there.
-fn only_target(
-    search: &Search,
-    blocks: &[Block<u32>],
-    block: usize,
-    number: usize,
-) -> Option<usize> {
-    let jump = &blocks.get(block)?.jump;
-    let inside = match (target(jump, 0), target(jump, 1)) {
+fn only_target(search: &Search, block: &Block<u32>, number: usize) -> Option<usize> {
+    let inside = match (target(&block.jump, 0), target(&block.jump, 1)) {
         (Some(first), None) => first,
         (Some(first), Some(second)) => {
             if !is_found(search, second, number) {
@@ -141,47 +129,76 @@ fn only_target(
         }
         _ => return None,
     };
-    only_source(search, inside)?;
-    if is_found(search, inside, number) {
+    if is_found(search, inside, number) && only_source(search, inside).is_some() {
         Some(inside)
     } else {
         None
     }
 }
 
-/// The blocks in a row behind the head, and those in a row in front of the jump back.
-fn in_rows(
-    alloc: Global,
+/// Adds the head of a loop and the blocks in a row behind it.
+fn add_behind(
+    always: &mut Vec<usize>,
     search: &Search,
     blocks: &[Block<u32>],
     head: usize,
+    number: usize,
+) -> Result<(), AllocError> {
+    let mut behind = head;
+    for _ in 0..=ROW {
+        always.extend_from_slice(&[behind])?;
+        let Some(block) = blocks.get(behind) else {
+            return Ok(());
+        };
+        match only_target(search, block, number) {
+            Some(next) => behind = next,
+            None => return Ok(()),
+        }
+    }
+    Ok(())
+}
+
+/// Adds the block that jumps back and those in a row in front of it, up to the head.
+fn add_in_front(
+    always: &mut Vec<usize>,
+    search: &Search,
+    head: usize,
+    last: usize,
+) -> Result<(), AllocError> {
+    let mut in_front = last;
+    for _ in 0..=ROW {
+        always.extend_from_slice(&[in_front])?;
+        match only_source(search, in_front) {
+            Some(next) if in_front != head => in_front = next,
+            _ => return Ok(()),
+        }
+    }
+    Ok(())
+}
+
+/// Finds the blocks of a loop besides its head, and that in front of it; says whether the loop is one with a single block in front of it, and not too large.
+fn complete(
+    nest: &mut Nest,
+    search: &mut Search,
+    code: &[Block<u32>],
     last: usize,
     number: usize,
-) -> Result<Vec<usize>, AllocError> {
-    let mut always = Vec::new(alloc);
-    always.push(head)?;
-    let mut behind = head;
-    for _ in 0..ROW {
-        match only_target(search, blocks, behind, number) {
-            Some(next) => {
-                always.push(next)?;
-                behind = next;
-            }
-            None => break,
-        }
+) -> Result<bool, AllocError> {
+    let head = nest.head;
+    let found = search.found.as_mut_slice();
+    find(found, head, number);
+    find_all(found, &mut nest.blocks, &[last], number)?;
+    if !find_members(search, &mut nest.blocks, number)? {
+        return Ok(false);
     }
-    always.push(last)?;
-    let mut in_front = last;
-    for _ in 0..ROW {
-        match only_source(search, in_front) {
-            Some(next) if in_front != head => {
-                always.push(next)?;
-                in_front = next;
-            }
-            _ => break,
-        }
+    match before(search, head, number) {
+        Some(before) => nest.before = before,
+        None => return Ok(false),
     }
-    Ok(always)
+    nest.blocks.sort()?;
+    add_behind(&mut nest.always, search, code, head, number)?;
+    add_in_front(&mut nest.always, search, head, last)?;
+    Ok(true)
 }
 
 fn push_nest(
@@ -192,17 +209,15 @@ fn push_nest(
     head: usize,
     last: usize,
 ) -> Result<(), AllocError> {
+    let mut nest = Nest {
+        blocks: vec![in alloc; head; 1]?,
+        before: 0,
+        head,
+        always: Vec::new(alloc),
+    };
     let number = nests.len().saturating_add(1);
-    if let Some(blocks) = members(alloc, search, head, last, number)? {
-        if let Some(before) = before(search, head, number) {
-            let always = in_rows(alloc, search, code, head, last, number)?;
-            nests.push(Nest {
-                blocks,
-                before,
-                head,
-                always,
-            })?;
-        }
+    if complete(&mut nest, search, code, last, number)? {
+        nests.push(nest)?;
     }
     Ok(())
 }
@@ -238,11 +253,9 @@ fn push_nests(
 
 /// No block is found yet.
 fn no_search(alloc: Global, blocks: &[Block<u32>]) -> Result<Search, AllocError> {
-    let mut found = Vec::new(alloc);
-    found.resize(blocks.len(), 0usize)?;
     Ok(Search {
         sources: sources(alloc, blocks)?,
-        found,
+        found: vec![in alloc; 0usize; blocks.len()]?,
         steps: blocks.len().saturating_mul(STEPS_A_BLOCK),
     })
 }
@@ -265,7 +278,12 @@ fn leads_back(blocks: &[Block<u32>]) -> bool {
     false
 }
 
-fn find_nests(
+/// Adds the loops that one block alone leads into.
+///
+/// # Errors
+///
+/// Only where memory was refused.
+pub(crate) fn find_nests(
     alloc: Global,
     nests: &mut Vec<Nest>,
     blocks: &[Block<u32>],
@@ -277,27 +295,16 @@ fn find_nests(
     push_nests(alloc, &mut search, blocks, nests)
 }
 
-/// The order of the loops by their sizes, the largest first.
-fn order(alloc: Global, nests: &[Nest]) -> Result<Vec<(usize, usize)>, AllocError> {
-    let mut order = Vec::with_capacity(alloc, nests.len())?;
-    for (number, nest) in nests.iter().enumerate() {
-        order.push((usize::MAX - nest.blocks.len(), number))?;
-    }
-    order.sort()?;
-    Ok(order)
-}
-
-/// The loops that one block alone leads into, and the numbers of the outer ones before those of the inner ones.
+/// The numbers of the loops by their sizes, the largest first, each behind what it is sorted by.
 ///
 /// # Errors
 ///
 /// Only where memory was refused.
-pub(crate) fn nests_of(
-    alloc: Global,
-    blocks: &[Block<u32>],
-) -> Result<(Vec<Nest>, Vec<(usize, usize)>), AllocError> {
-    let mut nests = Vec::new(alloc);
-    find_nests(alloc, &mut nests, blocks)?;
-    let order = order(alloc, nests.as_slice())?;
-    Ok((nests, order))
+pub(crate) fn order(alloc: Global, nests: &[Nest]) -> Result<Vec<(usize, usize)>, AllocError> {
+    let mut order = Vec::with_capacity(alloc, nests.len())?;
+    for (number, nest) in nests.iter().enumerate() {
+        order.extend_from_slice(&[(usize::MAX - nest.blocks.len(), number)])?;
+    }
+    order.sort()?;
+    Ok(order)
 }

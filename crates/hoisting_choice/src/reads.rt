@@ -66,8 +66,7 @@ pub(crate) fn count_reads(
     registers: u32,
     blocks: &[Block<u32>],
 ) -> Result<Vec<u32>, AllocError> {
-    let mut reads = Vec::new(alloc);
-    reads.resize(registers as usize, 0u32)?;
+    let mut reads = vec![in alloc; 0u32; registers as usize]?;
     for block in blocks {
         count_block(reads.as_mut_slice(), block);
     }

@@ -1,6 +1,8 @@
 //! What a loop writes, and what stands in front of it for that.
+use crate::reads::count_reads;
 use cfg_live::uses::line_writes;
 use std::alloc::{AllocError, Global};
+use vcode::code::Block;
 use vcode::line::{Line, Operation};
 use vcode::place::Operand;
 
@@ -66,22 +68,33 @@ pub(crate) struct Written {
     writes: Vec<Writes>,
     more: Vec<More>,
     nest: usize,
+
+    /// how often the function reads each register
+    reads: Vec<u32>,
 }
 
 impl Written {
-    /// Of so many registers.
+    /// Of so many registers, which these blocks read.
     ///
     /// # Errors
     ///
     /// Only where memory was refused.
-    pub(crate) fn new(alloc: Global, registers: u32) -> Result<Written, AllocError> {
-        let mut writes = Vec::new(alloc);
-        writes.resize(registers as usize, NOTHING)?;
+    pub(crate) fn new(
+        alloc: Global,
+        registers: u32,
+        blocks: &[Block<u32>],
+    ) -> Result<Written, AllocError> {
         Ok(Written {
-            writes,
+            writes: vec![in alloc; NOTHING; registers as usize]?,
             more: Vec::new(alloc),
             nest: 0,
+            reads: count_reads(alloc, registers, blocks)?,
         })
+    }
+
+    /// How often the function reads the register.
+    pub(crate) fn reads(&self, register: u32) -> u32 {
+        self.reads.get(register as usize).copied().unwrap_or(0)
     }
 
     /// The next loop is looked at.
@@ -115,7 +128,7 @@ impl Written {
 
     /// That more is known of the register, if the loop writes it once.
     fn set_more(&mut self, register: u32, more: More) -> Result<(), AllocError> {
-        let writes = self.of(register);
+        let mut writes = self.of(register);
         if writes.count != 1 {
             return Ok(());
         }
@@ -125,14 +138,8 @@ impl Written {
             }
             return Ok(());
         }
-        let number = Some(self.more.len());
-        self.set(
-            register,
-            Writes {
-                more: number,
-                ..writes
-            },
-        );
+        writes.more = Some(self.more.len());
+        self.set(register, writes);
         self.more.extend_from_slice(&[more])
     }
 
@@ -140,29 +147,19 @@ impl Written {
     pub(crate) fn count(&mut self, lines: &[Line<u32>]) {
         for line in lines {
             if let Some(register) = line_writes(line) {
-                let writes = self.of(register);
-                self.set(
-                    register,
-                    Writes {
-                        count: writes.count.saturating_add(1),
-                        ..writes
-                    },
-                );
+                let mut writes = self.of(register);
+                writes.count = writes.count.saturating_add(1);
+                self.set(register, writes);
             }
         }
     }
 
     /// The register that the loop writes once holds what another does that is set in front of it.
     pub(crate) fn stand(&mut self, register: u32, instead: u32) {
-        let writes = self.of(register);
+        let mut writes = self.of(register);
         if writes.count == 1 {
-            self.set(
-                register,
-                Writes {
-                    instead: Some(instead),
-                    ..writes
-                },
-            );
+            writes.instead = Some(instead);
+            self.set(register, writes);
         }
     }
 
@@ -177,14 +174,9 @@ impl Written {
         left: Operand<u32>,
         right: Operand<u32>,
     ) -> Result<(), AllocError> {
-        let more = self.more(register);
-        self.set_more(
-            register,
-            More {
-                sum: Some((left, right)),
-                ..more
-            },
-        )
+        let mut more = self.more(register);
+        more.sum = Some((left, right));
+        self.set_more(register, more)
     }
 
     /// The register, which the loop writes once, takes the sum of a number and of another, or of itself.
@@ -193,14 +185,9 @@ impl Written {
     ///
     /// Only where memory was refused.
     pub(crate) fn grow(&mut self, register: u32, growth: Growth) -> Result<(), AllocError> {
-        let more = self.more(register);
-        self.set_more(
-            register,
-            More {
-                growth: Some(growth),
-                ..more
-            },
-        )
+        let mut more = self.more(register);
+        more.growth = Some(growth);
+        self.set_more(register, more)
     }
 
     /// What the loop adds to, where the register takes that.
@@ -222,14 +209,9 @@ impl Written {
     ///
     /// Only where memory was refused.
     pub(crate) fn multiply(&mut self, register: u32, product: Product) -> Result<(), AllocError> {
-        let more = self.more(register);
-        self.set_more(
-            register,
-            More {
-                product: Some(product),
-                ..more
-            },
-        )
+        let mut more = self.more(register);
+        more.product = Some(product);
+        self.set_more(register, more)
     }
 
     /// The product of a register that grows which the operand is.
