@@ -105,9 +105,7 @@ pub fn is_over_call(calls: &[usize], range: Range) -> bool {
 /// What is found on the way through the text.
 #[derive(Drop)]
 struct Counting {
-    registers: Vec<Demand>,
-    copies: Vec<Copying>,
-    calls: Vec<usize>,
+    demands: Demands,
 
     /// the number of the next point, and how many calls stand before it
     point: usize,
@@ -127,22 +125,21 @@ fn push_access(
     let point = counting.point;
     match counting.accesses.as_mut() {
         Some(accesses) => {
-            accesses.push(Access {
+            accesses.extend_from_slice(&[Access {
                 register,
                 kind,
                 argument: through.argument,
                 point,
                 weight,
                 through: through.weight,
-            })?;
-            Ok(())
+            }])
         }
         None => Ok(()),
     }
 }
 
 fn add(counting: &mut Counting, register: u32, kind: Kind, weight: u64) -> Result<(), AllocError> {
-    match counting.registers.get_mut(register as usize) {
+    match counting.demands.registers.get_mut(register as usize) {
         Some(demand) => demand.weight = demand.weight.saturating_add(weight),
         None => {}
     }
@@ -151,7 +148,7 @@ fn add(counting: &mut Counting, register: u32, kind: Kind, weight: u64) -> Resul
 
 /// It goes through the register of this argument, so often.
 fn add_hint(counting: &mut Counting, register: u32, argument: u8, weight: u64) {
-    match counting.registers.get_mut(register as usize) {
+    match counting.demands.registers.get_mut(register as usize) {
         Some(demand) => demand.hint = demand.hint.joined(Hint { argument, weight }),
         None => {}
     }
@@ -176,6 +173,16 @@ fn read(counting: &mut Counting, operand: &Operand<u32>, weight: u64) -> Result<
         Operand::At(register) => add(counting, *register, Kind::Read, weight),
         _ => Ok(()),
     }
+}
+
+fn read_both(
+    counting: &mut Counting,
+    left: &Operand<u32>,
+    right: &Operand<u32>,
+    weight: u64,
+) -> Result<(), AllocError> {
+    read(counting, left, weight)?;
+    read(counting, right, weight)
 }
 
 /// What the register of an argument saves where values come or go by it, so often.
@@ -221,7 +228,7 @@ fn pass_args(
 }
 
 fn param(counting: &mut Counting, register: u32, argument: u8) -> Result<(), AllocError> {
-    match counting.registers.get_mut(register as usize) {
+    match counting.demands.registers.get_mut(register as usize) {
         Some(demand) => {
             demand.is_param = true;
         }
@@ -266,8 +273,7 @@ fn receive(
 fn jump(counting: &mut Counting, jump: &Jump<u32>, often: u64) -> Result<(), AllocError> {
     match jump {
         Jump::Branch { on, .. } => {
-            read(counting, &on.left, often.saturating_mul(2))?;
-            read(counting, &on.right, often.saturating_mul(2))
+            read_both(counting, &on.left, &on.right, often.saturating_mul(2))
         }
         Jump::Return(Some(returned)) => pass(counting, &returned.value, 0, often),
         _ => Ok(()),
@@ -285,12 +291,11 @@ fn copy(
         Operand::At(from) => {
             add(counting, *from, Kind::Read, often)?;
             add(counting, to, Kind::Write, often)?;
-            counting.copies.push(Copying {
+            counting.demands.copies.extend_from_slice(&[Copying {
                 weight: often,
                 to,
                 from: *from,
-            })?;
-            Ok(())
+            }])
         }
         _ => add(counting, to, Kind::Write, often.saturating_mul(2)),
     }
@@ -308,23 +313,16 @@ fn line(counting: &mut Counting, line: &Line<u32>, often: u64) -> Result<(), All
             right,
             ..
         } => {
-            read(counting, left, weight)?;
-            read(counting, right, weight)?;
+            read_both(counting, left, right, weight)?;
             add(counting, *to, Kind::Write, weight)
         }
         Line::Load { to, at, .. } => {
             read(counting, &at.base, weight)?;
             add(counting, *to, Kind::Write, weight)
         }
-        Line::Store { value, at, .. } => {
-            read(counting, value, weight)?;
-            read(counting, &at.base, weight)
-        }
+        Line::Store { value, at, .. } => read_both(counting, value, &at.base, weight),
         Line::Alloc { to: Some(to), .. } => add(counting, *to, Kind::Write, weight),
-        Line::Blit { from, to, .. } => {
-            read(counting, from, 0)?;
-            read(counting, to, 0)
-        }
+        Line::Blit { from, to, .. } => read_both(counting, from, to, 0),
         Line::Call { to, callee, args } => {
             read(counting, callee, weight)?;
             keep_from_arguments(counting, callee, often);
@@ -334,45 +332,38 @@ fn line(counting: &mut Counting, line: &Line<u32>, often: u64) -> Result<(), All
     }
 }
 
-/// Goes on behind a point. A call has the calls before it noted for it and the points before it that follow the last one.
-fn pass_point(counting: &mut Counting, is_call: bool) -> Result<(), AllocError> {
-    counting.point = counting.point.saturating_add(1);
-    if is_call {
-        counting.calls.resize(counting.point, counting.called)?;
-        counting.called = counting.called.saturating_add(1);
-    }
-    Ok(())
+/// A call has the calls before it noted for it and the points before it that follow the last one.
+fn pass_call(counting: &mut Counting) -> Result<(), AllocError> {
+    let before = counting.called;
+    counting.called = before.saturating_add(1);
+    counting.demands.calls.resize(counting.point, before)
 }
 
+/// Goes on behind the point of the line, if it has one.
 fn pass_line(counting: &mut Counting, from: &Line<u32>, often: u64) -> Result<(), AllocError> {
+    if let Line::Tick { .. } = from {
+        return Ok(());
+    }
+    line(counting, from, often)?;
+    counting.point = counting.point.saturating_add(1);
     match from {
-        Line::Tick { .. } => Ok(()),
-        Line::Call { .. } => {
-            line(counting, from, often)?;
-            pass_point(counting, true)
-        }
-        _ => {
-            line(counting, from, often)?;
-            pass_point(counting, false)
-        }
+        Line::Call { .. } => pass_call(counting),
+        _ => Ok(()),
     }
-}
-
-fn lines(counting: &mut Counting, lines: &[Line<u32>], often: u64) -> Result<(), AllocError> {
-    for from in lines {
-        pass_line(counting, from, often)?;
-    }
-    Ok(())
 }
 
 fn block(counting: &mut Counting, block: &Block<u32>, often: u64) -> Result<(), AllocError> {
-    lines(counting, block.lines.as_slice(), often)?;
+    for from in block.lines.as_slice() {
+        pass_line(counting, from, often)?;
+    }
     jump(counting, &block.jump, often)?;
-    pass_point(counting, false)
+    counting.point = counting.point.saturating_add(1);
+    Ok(())
 }
 
-fn blocks(counting: &mut Counting, blocks: &[Block<u32>], text: &Text) -> Result<(), AllocError> {
-    for (k, from) in blocks.iter().enumerate() {
+fn code(counting: &mut Counting, code: &Code<u32>, text: &Text) -> Result<(), AllocError> {
+    params(counting, code.params.as_slice())?;
+    for (k, from) in code.blocks.as_slice().iter().enumerate() {
         block(counting, from, text.often(k))?;
     }
     Ok(())
@@ -381,36 +372,32 @@ fn blocks(counting: &mut Counting, blocks: &[Block<u32>], text: &Text) -> Result
 /// All of the code.
 fn counted(
     alloc: Global,
-    code: &Code<u32>,
+    from: &Code<u32>,
     registers: u32,
     text: &Text,
     with_accesses: bool,
 ) -> Result<Counting, AllocError> {
-    let accesses = if with_accesses {
-        Some(Vec::with_capacity(alloc, text.points().saturating_mul(2))?)
-    } else {
-        None
-    };
     let mut counting = Counting {
-        registers: vec![in alloc; Demand::none(); registers as usize]?,
-        copies: Vec::new(alloc),
-        calls: Vec::new(alloc),
+        demands: Demands {
+            registers: vec![in alloc; Demand::none(); registers as usize]?,
+            copies: Vec::new(alloc),
+            calls: Vec::new(alloc),
+        },
         point: 0,
         called: 0,
-        accesses,
+        accesses: None,
     };
-    params(&mut counting, code.params.as_slice())?;
-    blocks(&mut counting, code.blocks.as_slice(), text)?;
+    if with_accesses {
+        let most = text.points().saturating_mul(2);
+        counting.accesses = Some(Vec::with_capacity(alloc, most)?);
+    }
+    code(&mut counting, from, text)?;
     Ok(counting)
 }
 
-fn accesses_in(
-    alloc: Global,
-    found: Option<Vec<Access>>,
-    registers: u32,
-) -> Result<Accesses, AllocError> {
-    match found {
-        Some(accesses) => sorted(alloc, accesses, registers),
+fn accesses_in(alloc: Global, counting: &Counting, registers: u32) -> Result<Accesses, AllocError> {
+    match counting.accesses.as_ref() {
+        Some(accesses) => sorted(alloc, accesses.as_slice(), registers),
         None => Ok(Accesses::none(alloc)),
     }
 }
@@ -430,15 +417,10 @@ pub(crate) fn demands_of(
     let mut counting = counted(alloc, code, registers, text, with_accesses)?;
     if 0 < counting.called {
         let behind = counting.point.saturating_add(1);
-        counting.calls.resize(behind, counting.called)?;
+        counting.demands.calls.resize(behind, counting.called)?;
     }
-    let accesses = accesses_in(alloc, counting.accesses, registers)?;
-    let demands = Demands {
-        registers: counting.registers,
-        copies: counting.copies,
-        calls: counting.calls,
-    };
-    Ok((demands, accesses))
+    let accesses = accesses_in(alloc, &counting, registers)?;
+    Ok((counting.demands, accesses))
 }
 
 /// All accesses of the registers of this code.
@@ -453,5 +435,5 @@ pub fn accesses_of(
     text: &Text,
 ) -> Result<Accesses, AllocError> {
     let counting = counted(alloc, code, registers, text, true)?;
-    accesses_in(alloc, counting.accesses, registers)
+    accesses_in(alloc, &counting, registers)
 }

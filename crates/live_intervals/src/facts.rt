@@ -2,7 +2,7 @@
 use crate::accesses::Accesses;
 use crate::demands::{Demands, demands_of};
 use crate::lifetimes::{Lifetime, lifetimes};
-use crate::starts::{self, Starts, line_count, starts_of};
+use crate::starts::{Ground, Starts, line_count, starts_of};
 use crate::text::{Text, text_of};
 use cfg_live::sets::Live;
 use loops::depths::{depths_along, sources};
@@ -38,6 +38,26 @@ fn text(alloc: Global, blocks: &[Block<u32>]) -> Result<Text, AllocError> {
 /// So many registers are mostly enough for some of them to be cut, which asks for all accesses.
 const FEW: u32 = 64;
 
+/// Finds what is live where blocks begin, and the lifetimes by that.
+fn find_lifetimes(
+    alloc: Global,
+    facts: &mut Facts,
+    function: &VFunc,
+    live: &Live,
+    most: usize,
+) -> Result<(), AllocError> {
+    let registers = function.registers;
+    let ground = Ground {
+        text: &facts.text,
+        live,
+        accesses: &facts.accesses,
+        registers,
+    };
+    facts.starts = starts_of(alloc, ground, most)?;
+    facts.lifetimes = lifetimes(alloc, registers, &function.code, &facts.starts, &facts.text)?;
+    Ok(())
+}
+
 /// The facts of the function, with so many live registers named where blocks begin, for each line and jump, at most.
 ///
 /// # Errors
@@ -56,19 +76,13 @@ pub fn facts_of(
     let asked = text.stretches.len().saturating_mul(registers as usize);
     let with_accesses = FEW < registers || most < asked;
     let (demands, accesses) = demands_of(alloc, code, registers, &text, with_accesses)?;
-    let ground = starts::Ground {
-        text: &text,
-        live,
-        accesses: &accesses,
-        registers,
-    };
-    let starts = starts_of(alloc, ground, most)?;
-    let lifetimes = lifetimes(alloc, registers, code, &starts, &text)?;
-    Ok(Facts {
+    let mut facts = Facts {
         text,
-        starts,
-        lifetimes,
+        starts: Starts::none(alloc),
+        lifetimes: Vec::new(alloc),
         demands,
         accesses,
-    })
+    };
+    find_lifetimes(alloc, &mut facts, function, live, most)?;
+    Ok(facts)
 }

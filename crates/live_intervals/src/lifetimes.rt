@@ -6,7 +6,7 @@ use crate::text::{Stretch, Text};
 use cfg_live::uses::line_writes;
 use smallvec::SmallVec;
 use std::alloc::{AllocError, Global};
-use vcode::code::{Block, Code};
+use vcode::code::Code;
 use vcode::line::Line;
 use vcode::place::Destination;
 
@@ -150,38 +150,24 @@ pub(crate) fn jump_point(first: usize, lines: &[Line<u32>]) -> usize {
     point
 }
 
-fn use_blocks(
+fn use_code(
     lifetimes: &mut [Lifetime],
-    blocks: &[Block<u32>],
+    code: &Code<u32>,
     starts: &Starts,
     text: &Text,
 ) -> Result<(), AllocError> {
-    for (number, block) in blocks.iter().enumerate() {
-        match text.stretch(number) {
-            Some(stretch) => {
-                begin_all(lifetimes, starts.of(number), stretch.first)?;
-                use_lines(lifetimes, block.lines.as_slice(), stretch.first)?;
-                reach_jump(lifetimes, starts, stretch, jump_reads(&block.jump));
-            }
-            None => {}
+    begin_params(lifetimes, code.params.as_slice())?;
+    for (number, block) in code.blocks.as_slice().iter().enumerate() {
+        if let Some(stretch) = text.stretch(number) {
+            begin_all(lifetimes, starts.of(number), stretch.first)?;
+            use_lines(lifetimes, block.lines.as_slice(), stretch.first)?;
+            reach_jump(lifetimes, starts, stretch, jump_reads(&block.jump));
         }
     }
     Ok(())
 }
 
 /// All positions for a register that has a value throughout, none yet for any other.
-fn first_ranges(
-    alloc: Global,
-    is_throughout: bool,
-    end: usize,
-) -> Result<SmallVec<Range, 2, Global>, AllocError> {
-    let mut ranges = SmallVec::new(alloc);
-    if is_throughout {
-        ranges.push(Range { start: 0, end })?;
-    }
-    Ok(ranges)
-}
-
 fn first_lifetimes(
     alloc: Global,
     registers: u32,
@@ -190,8 +176,13 @@ fn first_lifetimes(
 ) -> Result<Vec<Lifetime>, AllocError> {
     let mut lifetimes = Vec::with_capacity(alloc, registers as usize)?;
     for register in 0..registers {
-        let ranges = first_ranges(alloc, starts.is_throughout(register), end)?;
-        lifetimes.push(Lifetime { ranges })?;
+        lifetimes.push(Lifetime {
+            ranges: SmallVec::new(alloc),
+        })?;
+        if starts.is_throughout(register) {
+            begin_at(lifetimes.as_mut_slice(), register, 0)?;
+            reach_at(lifetimes.as_mut_slice(), register, end);
+        }
     }
     Ok(lifetimes)
 }
@@ -210,8 +201,6 @@ pub(crate) fn lifetimes(
 ) -> Result<Vec<Lifetime>, AllocError> {
     let end = right_after(text.points().saturating_sub(1));
     let mut lifetimes = first_lifetimes(alloc, registers, starts, end)?;
-    let list = lifetimes.as_mut_slice();
-    begin_params(list, code.params.as_slice())?;
-    use_blocks(list, code.blocks.as_slice(), starts, text)?;
+    use_code(lifetimes.as_mut_slice(), code, starts, text)?;
     Ok(lifetimes)
 }

@@ -1,8 +1,9 @@
 //! Which registers are live where blocks begin, and which are so at so many blocks that they are taken to be so throughout.
-use crate::accesses::{Accesses, Kind, part};
+use crate::accesses::{Accesses, Kind, add_one, items_of, sum_up};
 use crate::text::Text;
 use cfg_live::sets::Live;
 use std::alloc::{AllocError, Global};
+use std::mem;
 use vcode::code::Block;
 
 /// The registers that are live where blocks begin. A register that is live at the starts of too many blocks is named for none of them: it is taken to have a
@@ -20,12 +21,18 @@ pub struct Starts {
 }
 
 impl Starts {
+    /// No registers at all.
+    pub(crate) fn none(alloc: Global) -> Starts {
+        Starts {
+            list: Vec::new(alloc),
+            firsts: Vec::new(alloc),
+            throughout: Vec::new(alloc),
+        }
+    }
+
     /// The registers that are live where the block begins, but for those that have a value throughout.
     pub fn of(&self, block: usize) -> &[u32] {
-        let from = self.firsts.get(block).copied().unwrap_or(0);
-        let next = block.saturating_add(1);
-        let to = self.firsts.get(next).copied().unwrap_or(0);
-        part(self.list.as_slice(), from, to)
+        items_of(self.list.as_slice(), self.firsts.as_slice(), block)
     }
 
     /// Whether the register is taken to have a value throughout.
@@ -65,7 +72,7 @@ fn nothing_found(alloc: Global, blocks: usize, registers: u32) -> Result<Search,
     Ok(Search {
         starts: Vec::with_capacity(alloc, registers as usize)?,
         last: vec![in alloc; None; blocks]?,
-        throughout: Vec::with_capacity(alloc, registers as usize)?,
+        throughout: vec![in alloc; false; registers as usize]?,
     })
 }
 
@@ -84,16 +91,14 @@ fn find(
     register: u32,
 ) -> Result<(), AllocError> {
     match search.last.get_mut(block) {
-        Some(last) => {
-            if *last == Some(register) || !is_live(ground, block, register) {
-                return Ok(());
-            }
+        Some(last) if *last != Some(register) && is_live(ground, block, register) => {
             *last = Some(register);
+            search
+                .starts
+                .extend_from_slice(&[Start { block, register }])
         }
-        None => return Ok(()),
+        _ => Ok(()),
     }
-    search.starts.push(Start { block, register })?;
-    Ok(())
 }
 
 /// The blocks that the register is read in.
@@ -148,7 +153,6 @@ fn find_within(search: &mut Search, ground: Ground, most: usize) -> Result<bool,
         if !find_all(search, ground, register, left)? {
             return Ok(false);
         }
-        search.throughout.push(false)?;
     }
     Ok(true)
 }
@@ -157,11 +161,12 @@ fn find_within(search: &mut Search, ground: Ground, most: usize) -> Result<bool,
 fn find_few(search: &mut Search, ground: Ground, each: usize) -> Result<(), AllocError> {
     for register in 0..ground.registers {
         let first = search.starts.len();
-        let is_few = find_all(search, ground, register, each)?;
-        if !is_few {
+        if !find_all(search, ground, register, each)? {
             search.starts.truncate(first);
+            if let Some(is_throughout) = search.throughout.get_mut(register as usize) {
+                *is_throughout = true;
+            }
         }
-        search.throughout.push(!is_few)?;
     }
     Ok(())
 }
@@ -177,35 +182,22 @@ pub(crate) fn line_count(blocks: &[Block<u32>]) -> usize {
 
 fn searched(alloc: Global, ground: Ground, most: usize) -> Result<Search, AllocError> {
     let blocks = ground.text.stretches.len();
-    let mut all = nothing_found(alloc, blocks, ground.registers)?;
-    if find_within(&mut all, ground, most)? {
-        return Ok(all);
+    let mut search = nothing_found(alloc, blocks, ground.registers)?;
+    if !find_within(&mut search, ground, most)? {
+        search = nothing_found(alloc, blocks, ground.registers)?;
+        let each = most / (ground.registers as usize).max(1);
+        find_few(&mut search, ground, each)?;
     }
-    let mut few = nothing_found(alloc, blocks, ground.registers)?;
-    let each = most / (ground.registers as usize).max(1);
-    find_few(&mut few, ground, each)?;
-    Ok(few)
+    Ok(search)
 }
 
-fn add_one(counts: &mut [usize], at: usize) {
-    match counts.get_mut(at) {
-        Some(count) => *count = count.saturating_add(1),
-        None => {}
-    }
-}
-
-/// For each block how many registers are live where it or a block before it begins.
+/// For each block how many registers are live where it or a block before it begins, and at the end once more those of all.
 fn ends(alloc: Global, starts: &[Start], blocks: usize) -> Result<Vec<usize>, AllocError> {
-    let mut ends = Vec::with_capacity(alloc, blocks.saturating_add(1))?;
-    ends.resize(blocks, 0usize)?;
+    let mut ends = vec![in alloc; 0usize; blocks.saturating_add(1)]?;
     for start in starts {
         add_one(ends.as_mut_slice(), start.block);
     }
-    let mut before = 0usize;
-    for end in ends.iter_mut() {
-        before = before.saturating_add(*end);
-        *end = before;
-    }
+    sum_up(ends.as_mut_slice());
     Ok(ends)
 }
 
@@ -223,20 +215,30 @@ fn place(list: &mut [u32], firsts: &mut [usize], start: Start) {
     }
 }
 
+/// The registers, block by block; none has a value throughout.
+fn by_block(alloc: Global, found: &[Start], blocks: usize) -> Result<Starts, AllocError> {
+    let mut starts = Starts {
+        list: vec![in alloc; 0u32; found.len()]?,
+        firsts: ends(alloc, found, blocks)?,
+        throughout: Vec::new(alloc),
+    };
+    for start in found.iter().rev() {
+        place(
+            starts.list.as_mut_slice(),
+            starts.firsts.as_mut_slice(),
+            *start,
+        );
+    }
+    Ok(starts)
+}
+
 /// They are found back from where registers are read.
 fn starts_by_search(alloc: Global, ground: Ground, most: usize) -> Result<Starts, AllocError> {
-    let found = searched(alloc, ground, most)?;
-    let mut firsts = ends(alloc, found.starts.as_slice(), ground.text.stretches.len())?;
-    let mut list = vec![in alloc; 0u32; found.starts.len()]?;
-    for start in found.starts.iter().rev() {
-        place(list.as_mut_slice(), firsts.as_mut_slice(), *start);
-    }
-    firsts.push(found.starts.len())?;
-    Ok(Starts {
-        list,
-        firsts,
-        throughout: found.throughout,
-    })
+    let mut found = searched(alloc, ground, most)?;
+    let blocks = ground.text.stretches.len();
+    let mut starts = by_block(alloc, found.starts.as_slice(), blocks)?;
+    mem::swap(&mut starts.throughout, &mut found.throughout);
+    Ok(starts)
 }
 
 fn push_live(
@@ -247,26 +249,34 @@ fn push_live(
 ) -> Result<(), AllocError> {
     for register in 0..registers {
         if live.holds(first, register) {
-            list.push(register)?;
+            list.extend_from_slice(&[register])?;
         }
     }
     Ok(())
 }
 
 /// Each register is asked for at each block.
-fn starts_by_asking(alloc: Global, ground: Ground) -> Result<Starts, AllocError> {
-    let mut list = Vec::with_capacity(alloc, ground.registers as usize)?;
-    let mut firsts = Vec::with_capacity(alloc, ground.text.stretches.len().saturating_add(1))?;
+fn ask_all(starts: &mut Starts, ground: Ground) -> Result<(), AllocError> {
     for stretch in ground.text.stretches.iter() {
-        firsts.push(list.len())?;
-        push_live(&mut list, ground.live, stretch.first, ground.registers)?;
+        starts.firsts.extend_from_slice(&[starts.list.len()])?;
+        push_live(
+            &mut starts.list,
+            ground.live,
+            stretch.first,
+            ground.registers,
+        )?;
     }
-    firsts.push(list.len())?;
-    Ok(Starts {
-        list,
-        firsts,
+    starts.firsts.extend_from_slice(&[starts.list.len()])
+}
+
+fn starts_by_asking(alloc: Global, ground: Ground) -> Result<Starts, AllocError> {
+    let mut starts = Starts {
+        list: Vec::with_capacity(alloc, ground.registers as usize)?,
+        firsts: Vec::with_capacity(alloc, ground.text.stretches.len().saturating_add(1))?,
         throughout: Vec::new(alloc),
-    })
+    };
+    ask_all(&mut starts, ground)?;
+    Ok(starts)
 }
 
 /// Which registers are live where the blocks begin. Where no accesses are known each register is asked for at each block.
