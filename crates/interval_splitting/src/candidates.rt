@@ -58,15 +58,24 @@ fn length(ranges: &[Range]) -> usize {
     length
 }
 
+/// Whether one of the ranges is over a call.
+fn are_over_call(calls: &[usize], ranges: &[Range]) -> bool {
+    for range in ranges {
+        if is_over_call(calls, *range) {
+            return true;
+        }
+    }
+    false
+}
+
 fn candidate_of(group: &Group, ranges: &[Range], number: usize, demands: &Demands) -> Candidate {
     let demand = demand_of(demands.registers.as_slice(), group.members.as_slice());
-    let calls = demands.calls.as_slice();
     let length = length(ranges) as u64;
     Candidate {
         priority: demand.weight.saturating_mul(1024) / length.max(1),
         weight: demand.weight,
         group: number,
-        over_call: ranges.iter().any(|range| is_over_call(calls, *range)),
+        over_call: are_over_call(demands.calls.as_slice(), ranges),
         hint: if 0 < demand.hint.weight {
             Some(demand.hint.argument)
         } else {
@@ -97,7 +106,8 @@ pub fn candidates(
     for (number, group) in groups.iter().enumerate() {
         let ranges = group.ranges(facts.lifetimes.as_slice());
         if ranges.len() > 0 {
-            candidates.push(candidate_of(group, ranges, number, &facts.demands))?;
+            let candidate = candidate_of(group, ranges, number, &facts.demands);
+            candidates.extend_from_slice(&[candidate])?;
         }
     }
     if 1 < candidates.len() {
@@ -170,12 +180,11 @@ fn left_over(list: &[Location], demands: &[Demand], members: &[u32]) -> Option<D
 }
 
 fn push_wish(wishes: &mut Vec<Wish>, group: usize, demand: Demand) -> Result<(), AllocError> {
-    wishes.push(Wish {
+    wishes.extend_from_slice(&[Wish {
         group,
         weight: demand.weight,
         is_param: demand.is_param,
-    })?;
-    Ok(())
+    }])
 }
 
 /// The groups of which some register has no register of the machine.

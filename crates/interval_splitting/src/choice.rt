@@ -8,9 +8,12 @@ use std::alloc::{AllocError, Global};
 
 /// Whether some of the registers has a value throughout. Those aren't cut.
 fn is_throughout(facts: &Facts, members: &[u32]) -> bool {
-    members
-        .iter()
-        .any(|register| facts.starts.is_throughout(*register))
+    for register in members {
+        if facts.starts.is_throughout(*register) {
+            return true;
+        }
+    }
+    false
 }
 
 /// The register of the machine for a candidate, by its number among the rooms; none where cutting it costs less.
@@ -31,9 +34,13 @@ pub fn choice(
         Some(Choice::Free(k)) => Ok(Some(k)),
         Some(Choice::Unused(k)) if 4 < candidate.weight => {
             let members = group.members.as_slice();
-            let keeps = is_throughout(ground.facts, members)
-                || should_keep(alloc, cutter, ground, members)?;
-            Ok(if keeps { Some(k) } else { None })
+            if is_throughout(ground.facts, members)
+                || should_keep(alloc, cutter, ground, members)?
+            {
+                Ok(Some(k))
+            } else {
+                Ok(None)
+            }
         }
         _ => Ok(None),
     }

@@ -69,28 +69,21 @@ fn jump_cost(jump: &Jump<u32>) -> u64 {
     }
 }
 
-/// The credit behind a line, which is noted unless the line is a tick.
-fn spend(left: &mut Vec<u64>, credit: u64, line: &Line<u32>) -> Result<u64, AllocError> {
-    match line {
-        Line::Tick { weight, .. } => {
-            Ok(credit.saturating_add(UNIT.saturating_mul(u64::from(*weight))))
-        }
-        _ => {
-            let after = credit.saturating_sub(line_cost(line));
-            left.push(after)?;
-            Ok(after)
-        }
-    }
-}
-
 /// The credit behind each point of the block.
 fn spend_block(left: &mut Vec<u64>, block: &Block<u32>) -> Result<(), AllocError> {
     let mut credit = 0u64;
     for line in block.lines.as_slice() {
-        credit = spend(left, credit, line)?;
+        match line {
+            Line::Tick { weight, .. } => {
+                credit = credit.saturating_add(UNIT.saturating_mul(u64::from(*weight)));
+            }
+            _ => {
+                credit = credit.saturating_sub(line_cost(line));
+                left.extend_from_slice(&[credit])?;
+            }
+        }
     }
-    left.push(credit.saturating_sub(jump_cost(&block.jump)))?;
-    Ok(())
+    left.extend_from_slice(&[credit.saturating_sub(jump_cost(&block.jump))])
 }
 
 fn spend_blocks(alloc: Global, blocks: &[Block<u32>]) -> Result<Vec<u64>, AllocError> {
@@ -115,19 +108,20 @@ fn settle(left: &mut [u64], stretch: Stretch) {
     }
 }
 
-fn push_moves(credit: &mut Credit, left: &[u64], stretch: Stretch) -> Result<(), AllocError> {
+/// Of what is left behind each point of a block the moves that it pays for and no point before it does.
+fn set_moves(credit: &mut Credit, stretch: Stretch) {
     let mut paid = 0u64;
     for point in stretch.first..stretch.jump.saturating_add(1) {
-        let all = left.get(point).copied().unwrap_or(0) / MOVE;
-        credit.moves.push(all.saturating_sub(paid))?;
-        credit.before.push(if stretch.first < point {
-            Some(point.saturating_sub(1))
-        } else {
-            None
-        })?;
-        paid = all;
+        if let Some(moves) = credit.moves.get_mut(point) {
+            let all = *moves / MOVE;
+            *moves = all.saturating_sub(paid);
+            paid = all;
+        }
+        match credit.before.get_mut(point) {
+            Some(before) if stretch.first < point => *before = Some(point.saturating_sub(1)),
+            _ => {}
+        }
     }
-    Ok(())
 }
 
 impl Credit {
@@ -150,14 +144,12 @@ pub(crate) fn credit_of(
     blocks: &[Block<u32>],
     text: &Text,
 ) -> Result<Credit, AllocError> {
-    let mut left = spend_blocks(alloc, blocks)?;
-    let mut credit = Credit {
-        moves: Vec::with_capacity(alloc, left.len())?,
-        before: Vec::with_capacity(alloc, left.len())?,
-    };
+    let moves = spend_blocks(alloc, blocks)?;
+    let before = vec![in alloc; None; moves.len()]?;
+    let mut credit = Credit { moves, before };
     for stretch in text.stretches.iter() {
-        settle(left.as_mut_slice(), *stretch);
-        push_moves(&mut credit, left.as_slice(), *stretch)?;
+        settle(credit.moves.as_mut_slice(), *stretch);
+        set_moves(&mut credit, *stretch);
     }
     Ok(credit)
 }
@@ -165,12 +157,13 @@ pub(crate) fn credit_of(
 impl Credit {
     /// A point before this one that may pay for something; the way there is shortened.
     fn step(&mut self, point: usize) -> Option<usize> {
-        let before = self.before.get(point).copied().flatten()?;
+        let Some(Some(before)) = self.before.get(point).copied() else {
+            return None;
+        };
         let over = self.before.get(before).copied().flatten();
         if self.moves.get(before) == Some(&0) && over.is_some() {
-            match self.before.get_mut(point) {
-                Some(at) => *at = over,
-                None => {}
+            if let Some(at) = self.before.get_mut(point) {
+                *at = over;
             }
         }
         Some(before)

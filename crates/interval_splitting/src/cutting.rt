@@ -212,11 +212,11 @@ fn give_all(
             _ => break,
         }
     }
-    if depth_left(subject, nodes).is_some() {
-        give_within(alloc, subject, nodes, rooms, Reach::Accessed)?;
-        give_within(alloc, subject, nodes, rooms, Reach::Alone)?;
+    if depth_left(subject, nodes).is_none() {
+        return Ok(());
     }
-    Ok(())
+    give_within(alloc, subject, nodes, rooms, Reach::Accessed)?;
+    give_within(alloc, subject, nodes, rooms, Reach::Alone)
 }
 
 fn pay_all(credit: &mut Credit, moves: &[Move]) -> bool {
@@ -259,9 +259,10 @@ fn cut(
     let none = [];
     let own = cuts_of(alloc, view(subject, none.as_slice()), nodes)?;
     if pay_all(credit, own.moves.as_slice()) {
-        cuts.append(&own)?;
+        cuts.append(&own)
+    } else {
+        Ok(())
     }
-    Ok(())
 }
 
 fn cut_members(
@@ -308,12 +309,9 @@ pub fn cut_all(
     let blocks = ground.function.code.blocks.as_slice();
     cutter.credit = credit_of(alloc, blocks, &ground.facts.text)?;
     for candidate in candidates {
-        match ground.groups.get(candidate.group) {
-            Some(group) => {
-                let members = group.members.as_slice();
-                cut_members(alloc, cutter, rooms, list, ground, members)?;
-            }
-            None => {}
+        if let Some(group) = ground.groups.get(candidate.group) {
+            let members = group.members.as_slice();
+            cut_members(alloc, cutter, rooms, list, ground, members)?;
         }
     }
     Ok(())

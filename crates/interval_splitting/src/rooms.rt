@@ -143,18 +143,16 @@ fn hinted(hint: u8) -> usize {
     7usize.checked_sub(hint).unwrap_or(hint)
 }
 
-/// The register that the candidate would save moves in, if it may stand there.
-fn room_by_hint(rooms: &Rooms, candidate: &Candidate, ranges: &[Range]) -> Option<usize> {
-    let k = hinted(candidate.hint?);
-    if may_hold(k, candidate) && rooms.is_free(k, ranges) {
-        Some(k)
-    } else {
-        None
+/// The register that the hint names, if it is free.
+fn room_by_hint(rooms: &Rooms, hint: Option<u8>, ranges: &[Range]) -> Option<usize> {
+    match hint {
+        Some(hint) if rooms.is_free(hinted(hint), ranges) => Some(hinted(hint)),
+        _ => None,
     }
 }
 
 /// A register that is free.
-#[derive(Clone, Copy, PartialEq, Eq)]
+#[derive(Clone, Copy)]
 pub enum Choice {
     /// it costs nothing
     Free(usize),
@@ -165,9 +163,9 @@ pub enum Choice {
 
 /// The register that the candidate would save moves in, or else the first one that is free for the ranges of the candidate, one that needs no saving if there is one.
 pub fn room_for(rooms: &Rooms, candidate: &Candidate, ranges: &[Range]) -> Option<Choice> {
-    match room_by_hint(rooms, candidate, ranges) {
-        Some(k) => return Some(Choice::Free(k)),
-        None => {}
+    match room_by_hint(rooms, candidate.hint, ranges) {
+        Some(k) if may_hold(k, candidate) => return Some(Choice::Free(k)),
+        _ => {}
     }
     let mut unused = None;
     for k in 0..ROOMS {
@@ -191,7 +189,7 @@ fn part_by_argument(rooms: &Rooms, balance: Balance, ranges: &[Range]) -> Option
         let number = usize::from(argument);
         let through = balance.through(number);
         if most < through && 0 < balance.net_in(number) {
-            match part_by_hint(rooms, Some(argument), ranges) {
+            match room_by_hint(rooms, Some(argument), ranges) {
                 Some(k) => {
                     most = through;
                     best = Some(k);
@@ -201,16 +199,6 @@ fn part_by_argument(rooms: &Rooms, balance: Balance, ranges: &[Range]) -> Option
         }
     }
     best
-}
-
-/// The register that the hint names, if it is free.
-fn part_by_hint(rooms: &Rooms, hint: Option<u8>, ranges: &[Range]) -> Option<usize> {
-    let k = hinted(hint?);
-    if rooms.is_free(k, ranges) {
-        Some(k)
-    } else {
-        None
-    }
 }
 
 /// A register for a part of a lifetime, over no call: one that the value comes or goes in, or another that is free at these positions and saves something.
@@ -227,7 +215,7 @@ pub(crate) fn room_for_part(
     if balance.net() == 0 {
         return None;
     }
-    match part_by_hint(rooms, hint, ranges) {
+    match room_by_hint(rooms, hint, ranges) {
         Some(k) => return Some(k),
         None => {}
     }

@@ -33,46 +33,41 @@ struct Shared {
 fn push_events(events: &mut Vec<Event>, wish: usize, ranges: &[Range]) -> Result<(), AllocError> {
     match (ranges.first(), ranges.last()) {
         (Some(first), Some(last)) => {
-            events.push(Event {
+            let taken = Event {
                 at: first.start,
                 takes: true,
                 wish,
-            })?;
-            events.push(Event {
+            };
+            let freed = Event {
                 at: last.end.saturating_add(1),
                 takes: false,
                 wish,
-            })?;
-            Ok(())
+            };
+            events.extend_from_slice(&[taken, freed])
         }
         _ => Ok(()),
     }
 }
 
-fn all_events(
-    alloc: Global,
+/// The events of all wishes, in order.
+fn push_all_events(
+    events: &mut Vec<Event>,
     groups: &[Group],
     lifetimes: &[Lifetime],
     wishes: &[Wish],
-) -> Result<Vec<Event>, AllocError> {
-    let mut events = Vec::with_capacity(alloc, wishes.len().saturating_mul(2))?;
+) -> Result<(), AllocError> {
     for (k, wish) in wishes.iter().enumerate() {
-        match groups.get(wish.group) {
-            Some(group) => push_events(&mut events, k, group.ranges(lifetimes))?,
-            None => {}
+        if let Some(group) = groups.get(wish.group) {
+            push_events(events, k, group.ranges(lifetimes))?;
         }
     }
-    events.sort()?;
-    Ok(events)
+    events.sort()
 }
 
 #[derive(Drop)]
 struct Sharing {
     shared: Vec<Shared>,
     free: Vec<usize>,
-
-    /// the slot of each wish, before slots are numbered by weight
-    slots: Vec<usize>,
 }
 
 /// A slot that is free, or one more.
@@ -81,75 +76,99 @@ fn free_slot(sharing: &mut Sharing) -> Result<usize, AllocError> {
         Some(slot) => Ok(slot),
         None => {
             let slot = sharing.shared.len();
-            sharing.shared.push(Shared {
+            let shared = Shared {
                 has_param: false,
                 weight: 0,
                 slot,
-            })?;
-            Ok(slot)
+            };
+            match sharing.shared.extend_from_slice(&[shared]) {
+                Ok(()) => Ok(slot),
+                Err(error) => Err(error),
+            }
         }
     }
 }
 
-fn stand(sharing: &mut Sharing, k: usize, wish: Wish) -> Result<(), AllocError> {
-    let slot = free_slot(sharing)?;
-    match sharing.shared.get_mut(slot) {
-        Some(shared) => {
-            shared.weight = shared.weight.saturating_add(wish.weight);
-            shared.has_param = shared.has_param || wish.is_param;
-        }
-        None => {}
-    }
-    match sharing.slots.get_mut(k) {
-        Some(at) => *at = slot,
-        None => {}
+fn stand(sharing: &mut Sharing, at: &mut usize, wish: Wish) -> Result<(), AllocError> {
+    *at = free_slot(sharing)?;
+    if let Some(shared) = sharing.shared.get_mut(*at) {
+        shared.weight = shared.weight.saturating_add(wish.weight);
+        shared.has_param = shared.has_param || wish.is_param;
     }
     Ok(())
 }
 
-fn follow(sharing: &mut Sharing, wishes: &[Wish], event: Event) -> Result<(), AllocError> {
-    if event.takes {
-        return match wishes.get(event.wish) {
-            Some(wish) => stand(sharing, event.wish, *wish),
-            None => Ok(()),
-        };
-    }
-    match sharing.slots.get(event.wish).copied() {
-        Some(slot) => {
-            sharing.free.push(slot)?;
-            Ok(())
+fn follow(
+    sharing: &mut Sharing,
+    slots: &mut [usize],
+    wishes: &[Wish],
+    event: Event,
+) -> Result<(), AllocError> {
+    match (slots.get_mut(event.wish), wishes.get(event.wish)) {
+        (Some(at), Some(wish)) => {
+            if event.takes {
+                stand(sharing, at, *wish)
+            } else {
+                sharing.free.extend_from_slice(&[*at])
+            }
         }
-        None => Ok(()),
+        _ => Ok(()),
     }
 }
 
+/// The slot of each wish, before slots are numbered by weight.
 fn follow_all(
     alloc: Global,
     sharing: &mut Sharing,
+    slots: &mut [usize],
     groups: &[Group],
     lifetimes: &[Lifetime],
     wishes: &[Wish],
 ) -> Result<(), AllocError> {
-    let events = all_events(alloc, groups, lifetimes, wishes)?;
+    let mut events = Vec::with_capacity(alloc, wishes.len().saturating_mul(2))?;
+    push_all_events(&mut events, groups, lifetimes, wishes)?;
     for event in events.as_slice() {
-        follow(sharing, wishes, *event)?;
+        follow(sharing, slots, wishes, *event)?;
     }
     Ok(())
 }
 
-/// For each slot its number: those of parameters first, the busiest first.
-fn numbers(alloc: Global, sharing: &mut Sharing) -> Result<Vec<usize>, AllocError> {
-    let mut numbers = vec![in alloc; 0usize; sharing.shared.len()]?;
-    sharing.shared.sort()?;
-    let mut number = numbers.len();
-    for shared in sharing.shared.as_slice() {
+/// For each slot its number, by all slots in their order: those of parameters first, the busiest first.
+fn numbers(alloc: Global, all: &[Shared]) -> Result<Vec<usize>, AllocError> {
+    let mut numbers = vec![in alloc; 0usize; all.len()]?;
+    let mut number = all.len();
+    for shared in all {
         number = number.saturating_sub(1);
-        match numbers.get_mut(shared.slot) {
-            Some(at) => *at = number,
-            None => {}
+        if let Some(at) = numbers.get_mut(shared.slot) {
+            *at = number;
         }
     }
     Ok(numbers)
+}
+
+/// Numbers the slots.
+fn number_all(alloc: Global, all: &[Shared], slots: &mut [usize]) -> Result<(), AllocError> {
+    let numbers = numbers(alloc, all)?;
+    for slot in slots.iter_mut() {
+        *slot = numbers.get(*slot).copied().unwrap_or(0);
+    }
+    Ok(())
+}
+
+fn share(
+    alloc: Global,
+    slots: &mut [usize],
+    groups: &[Group],
+    lifetimes: &[Lifetime],
+    wishes: &[Wish],
+) -> Result<(), AllocError> {
+    let mut sharing = Sharing {
+        shared: Vec::new(alloc),
+        free: Vec::new(alloc),
+    };
+    follow_all(alloc, &mut sharing, slots, groups, lifetimes, wishes)?;
+    sharing.shared.sort()?;
+    number_all(alloc, sharing.shared.as_slice(), slots)
 }
 
 /// A slot for each wish, in order. Groups that have values at the same time have different ones.
@@ -163,15 +182,7 @@ pub fn shared_slots(
     lifetimes: &[Lifetime],
     wishes: &[Wish],
 ) -> Result<Vec<usize>, AllocError> {
-    let mut sharing = Sharing {
-        shared: Vec::new(alloc),
-        free: Vec::new(alloc),
-        slots: vec![in alloc; 0usize; wishes.len()]?,
-    };
-    follow_all(alloc, &mut sharing, groups, lifetimes, wishes)?;
-    let numbers = numbers(alloc, &mut sharing)?;
-    for slot in sharing.slots.iter_mut() {
-        *slot = numbers.get(*slot).copied().unwrap_or(0);
-    }
-    Ok(sharing.slots)
+    let mut slots = vec![in alloc; 0usize; wishes.len()]?;
+    share(alloc, slots.as_mut_slice(), groups, lifetimes, wishes)?;
+    Ok(slots)
 }
