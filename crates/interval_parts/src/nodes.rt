@@ -91,7 +91,7 @@ struct Piece {
 
 fn push(nodes: &mut Nodes, node: Node) -> Result<(), AllocError> {
     let number = nodes.list.len();
-    nodes.list.push(node)?;
+    nodes.list.extend_from_slice(&[node])?;
     if node.enters {
         match nodes.entering.get_mut(node.block) {
             Some(at) => *at = Some(number),
@@ -202,18 +202,17 @@ fn close(
             let passes = piece.enters
                 && piece.leaves
                 && !is_cut(ground, piece.range.start, piece.range.end);
-            if passes {
-                let node = empty_node(piece, number);
-                push(
-                    nodes,
-                    Node {
-                        enters: true,
-                        leaves: true,
-                        ..node
-                    },
-                )?;
+            if !passes {
+                return Ok(());
             }
-            Ok(())
+            push(
+                nodes,
+                Node {
+                    enters: true,
+                    leaves: true,
+                    ..empty_node(piece, number)
+                },
+            )
         }
     }
 }
@@ -311,12 +310,12 @@ fn push_ranges(ground: Ground, nodes: &mut Nodes, ranges: &[Range]) -> Result<()
 
 /// A part at the end of a block that is only passed through, and isn't known to be wanted.
 fn new_passed(nodes: &Nodes, wanted: &[bool], block: usize) -> Option<usize> {
-    let number = nodes.leaving.get(block).copied().flatten()?;
-    let node = nodes.list.get(number)?;
-    if node.is_passed() && wanted.get(number) == Some(&false) {
-        Some(number)
-    } else {
-        None
+    let Some(number) = nodes.leaving(block) else {
+        return None;
+    };
+    match nodes.list.get(number) {
+        Some(node) if node.is_passed() && wanted.get(number) == Some(&false) => Some(number),
+        _ => None,
     }
 }
 
@@ -324,42 +323,42 @@ fn new_passed(nodes: &Nodes, wanted: &[bool], block: usize) -> Option<usize> {
 fn want_sources(
     text: &Text,
     nodes: &Nodes,
-    wanted: &mut Vec<bool>,
+    wanted: &mut [bool],
     open: &mut Vec<usize>,
     block: usize,
 ) -> Result<(), AllocError> {
     for source in text.sources(block) {
-        match new_passed(nodes, wanted.as_slice(), *source) {
-            Some(number) => {
-                match wanted.get_mut(number) {
-                    Some(at) => *at = true,
-                    None => {}
-                }
-                open.push(*source)?;
+        if let Some(number) = new_passed(nodes, wanted, *source) {
+            if let Some(at) = wanted.get_mut(number) {
+                *at = true;
             }
-            None => {}
+            open.extend_from_slice(&[*source])?;
         }
     }
     Ok(())
 }
 
 /// Those that an access may come behind, without one between. Each is found once.
-fn wanted_nodes(alloc: Global, text: &Text, nodes: &Nodes) -> Result<Vec<bool>, AllocError> {
-    let mut wanted = Vec::new(alloc);
+fn want_nodes(
+    alloc: Global,
+    text: &Text,
+    nodes: &Nodes,
+    wanted: &mut [bool],
+) -> Result<(), AllocError> {
     let mut open = Vec::new(alloc);
-    for node in nodes.list.iter() {
-        wanted.push(!node.is_passed())?;
-        if node.enters && !node.is_passed() {
-            open.push(node.block)?;
+    for (node, at) in nodes.list.iter().zip(wanted.iter_mut()) {
+        *at = !node.is_passed();
+        if node.enters && *at {
+            open.extend_from_slice(&[node.block])?;
         }
     }
     for _ in 0..nodes.list.len().saturating_mul(2) {
         match open.pop() {
-            Some(block) => want_sources(text, nodes, &mut wanted, &mut open, block)?,
-            None => break,
+            Some(block) => want_sources(text, nodes, wanted, &mut open, block)?,
+            None => return Ok(()),
         }
     }
-    Ok(wanted)
+    Ok(())
 }
 
 fn forget(list: &mut [Option<usize>], block: usize) {
@@ -398,9 +397,10 @@ impl Nodes {
         if self.entering.len() < blocks {
             self.entering.resize(blocks, None)?;
             self.leaving.resize(blocks, None)?;
-            self.landing.resize(blocks, None)?;
+            self.landing.resize(blocks, None)
+        } else {
+            Ok(())
         }
-        Ok(())
     }
 
     fn clear_landings(&mut self) {
@@ -443,7 +443,8 @@ impl Nodes {
             None => &[],
         };
         push_ranges(ground, self, ranges)?;
-        let wanted = wanted_nodes(alloc, &facts.text, self)?;
+        let mut wanted = vec![in alloc; false; self.list.len()]?;
+        want_nodes(alloc, &facts.text, self, wanted.as_mut_slice())?;
         drop_unwanted(self, wanted.as_slice());
         Ok(())
     }
@@ -464,14 +465,15 @@ impl Nodes {
     ///
     /// Only where memory was refused.
     pub fn land(&mut self, block: usize, room: usize) -> Result<(), AllocError> {
-        if self.landing(block).is_none() {
-            self.landings.push(Landing { block, room })?;
+        let is_new = self.landing(block).is_none();
+        if let Some(at) = self.landing.get_mut(block) {
+            *at = Some(room);
         }
-        match self.landing.get_mut(block) {
-            Some(at) => *at = Some(room),
-            None => {}
+        if is_new {
+            self.landings.extend_from_slice(&[Landing { block, room }])
+        } else {
+            Ok(())
         }
-        Ok(())
     }
 
     /// The number of the part that the block begins with.

@@ -7,7 +7,7 @@ use live_intervals::text::{Stretch, Text};
 use std::alloc::{AllocError, Global};
 
 /// Which parts go together.
-#[derive(Clone, Copy, PartialEq, Eq)]
+#[derive(Clone, Copy)]
 pub enum Reach {
     /// those that lie in so many loops, and lead to one another
     Loops(u32),
@@ -152,14 +152,17 @@ fn is_eligible(text: &Text, node: &Node, reach: Reach) -> bool {
 fn leader_of(leaders: &mut [Option<usize>], number: usize) -> Option<usize> {
     let mut at = number;
     for _ in 0..leaders.len() {
-        let next = leaders.get(at).copied().flatten()?;
+        let Some(Some(next)) = leaders.get(at).copied() else {
+            return None;
+        };
         if next == at {
             return Some(at);
         }
-        let over = leaders.get(next).copied().flatten()?;
-        match leaders.get_mut(at) {
-            Some(leader) => *leader = Some(over),
-            None => {}
+        let Some(Some(over)) = leaders.get(next).copied() else {
+            return None;
+        };
+        if let Some(leader) = leaders.get_mut(at) {
+            *leader = Some(over);
         }
         at = over;
     }
@@ -224,17 +227,19 @@ pub fn leaders(
     nodes: &Nodes,
     reach: Reach,
 ) -> Result<Vec<Option<usize>>, AllocError> {
-    let mut leaders = Vec::new(alloc);
-    for (number, node) in nodes.list.iter().enumerate() {
-        leaders.push(if is_eligible(text, node, reach) {
-            Some(number)
-        } else {
-            None
-        })?;
+    let mut leaders = vec![in alloc; None; nodes.list.len()]?;
+    for (number, leader) in leaders.iter_mut().enumerate() {
+        match nodes.list.get(number) {
+            Some(node) if is_eligible(text, node, reach) => *leader = Some(number),
+            _ => {}
+        }
     }
-    if reach != Reach::Alone {
-        join_all(leaders.as_mut_slice(), text, nodes);
-        settle(leaders.as_mut_slice());
+    match reach {
+        Reach::Loops(_) | Reach::Accessed => {
+            join_all(leaders.as_mut_slice(), text, nodes);
+            settle(leaders.as_mut_slice());
+        }
+        Reach::Alone => {}
     }
     Ok(leaders)
 }
@@ -254,12 +259,11 @@ pub struct Member {
 pub fn members(alloc: Global, leaders: &[Option<usize>]) -> Result<Vec<Member>, AllocError> {
     let mut members = Vec::new(alloc);
     for (node, leader) in leaders.iter().enumerate() {
-        match leader {
-            Some(leader) => members.push(Member {
+        if let Some(leader) = leader {
+            members.extend_from_slice(&[Member {
                 leader: *leader,
                 node,
-            })?,
-            None => {}
+            }])?;
         }
     }
     members.sort()?;
@@ -369,12 +373,15 @@ fn is_brought(view: View, nodes: &Nodes, leader: usize, block: usize) -> bool {
 }
 
 fn is_left_for(view: View, nodes: &Nodes, leader: usize, block: usize) -> bool {
-    block != 0
-        && view
-            .text
-            .sources(block)
-            .iter()
-            .all(|source| is_brought(view, nodes, leader, *source))
+    if block == 0 {
+        return false;
+    }
+    for source in view.text.sources(block) {
+        if !is_brought(view, nodes, leader, *source) {
+            return false;
+        }
+    }
+    true
 }
 
 fn exit_of(view: View, nodes: &Nodes, leader: usize, from: usize, to: Option<usize>) -> Exit {
@@ -525,20 +532,25 @@ pub fn balance_of(view: View, nodes: &Nodes, members: &[Member]) -> Balance {
 
 // ---- where its register of the machine must be free
 
+fn stays(exit: Exit, is_saved: bool) -> bool {
+    match exit {
+        Exit::Met => true,
+        Exit::Landing => !is_saved,
+        Exit::Gone | Exit::Slot => false,
+    }
+}
+
 /// Whether the value stays in the register of the machine up to the end of the block, for one of these exits.
 fn is_held(exits: [Exit; 2], is_saved: bool) -> bool {
-    exits.iter().any(|exit| *exit == Exit::Met || (*exit == Exit::Landing && !is_saved))
+    stays(exits[0], is_saved) || stays(exits[1], is_saved)
 }
 
 fn push_jump(ranges: &mut Vec<Range>, text: &Text, block: usize) -> Result<(), AllocError> {
     match text.stretch(block) {
-        Some(stretch) => {
-            ranges.push(Range {
-                start: right_before(stretch.jump),
-                end: right_after(stretch.jump),
-            })?;
-            Ok(())
-        }
+        Some(stretch) => ranges.extend_from_slice(&[Range {
+            start: right_before(stretch.jump),
+            end: right_after(stretch.jump),
+        }]),
         None => Ok(()),
     }
 }
@@ -569,8 +581,7 @@ fn push_landing(
         (Exit::Landing, Some(block)) => match view.text.stretch(block) {
             Some(stretch) => {
                 let at = right_before(stretch.first);
-                ranges.push(Range { start: at, end: at })?;
-                Ok(())
+                ranges.extend_from_slice(&[Range { start: at, end: at }])
             }
             None => Ok(()),
         },
@@ -611,7 +622,8 @@ fn push_ranges(
         None => return Ok(()),
     };
     let exits = exits(view, nodes, member.leader, &node);
-    ranges.push(own_range(view, &node, is_held(exits, is_saved)))?;
+    let own = own_range(view, &node, is_held(exits, is_saved));
+    ranges.extend_from_slice(&[own])?;
     if node.is_entered {
         push_outside(ranges, view, nodes, member.leader, node.block)?;
     }
