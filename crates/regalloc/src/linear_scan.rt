@@ -261,6 +261,27 @@ fn place_singles(
 }
 
 /// Registers of the machine for groups, then for single registers of those that got none, and slots for what is left; that is cut where it can be.
+fn place_in_rooms(
+    alloc: Global,
+    list: &mut [Location],
+    registers: u32,
+    rooms: &mut Rooms,
+    cutter: &mut Cutter,
+    ground: Ground,
+) -> Result<(), AllocError>
+    requires { list_all (is_place registers) list.old ≡ true }
+    ensures places { list_all (is_place registers) list.new ≡ true }
+    ensures long { length list.new ≡ length list.old }
+{
+    place_groups(alloc, list, registers, rooms, cutter, ground)?;
+    if is_left_over(list, ground.facts) {
+        place_singles(alloc, list, registers, rooms, cutter, ground)
+    } else {
+        Ok(())
+    }
+}
+
+/// The same, with what is done where registers are cut.
 fn place_in(
     alloc: Global,
     list: &mut [Location],
@@ -274,10 +295,7 @@ fn place_in(
 {
     let mut rooms = Rooms::new(alloc, ground.facts.text.points())?;
     let mut cutter = Cutter::new(alloc, accesses);
-    place_groups(alloc, list, registers, &mut rooms, &mut cutter, ground)?;
-    if is_left_over(list, ground.facts) {
-        place_singles(alloc, list, registers, &mut rooms, &mut cutter, ground)?;
-    }
+    place_in_rooms(alloc, list, registers, &mut rooms, &mut cutter, ground)?;
     cutter.finish()
 }
 
@@ -287,8 +305,7 @@ fn all_in_slots(alloc: Global, registers: u32) -> Result<Vec<Location>, AllocErr
     ensures places { IfOk result (λ v. list_all (is_place registers) v.items ≡ true) }
     ensures long { IfOk result (λ v. length v.items ≡ registers) }
 {
-    let list = slots(alloc, registers)?;
-    Ok(list)
+    slots(alloc, registers)
 }
 
 /// The certificate that linear scan has for the function.

@@ -144,6 +144,25 @@ fn most_named(reads: Reads, written: Option<u32>) -> usize {
     most
 }
 
+/// Adds the registers that a point names, each once.
+fn push_named(
+    equalities: &mut Seq<Equality>,
+    list: &[Location],
+    registers: u32,
+    stays: &[Stay],
+    reads: Reads,
+    written: Option<u32>,
+) -> Result<(), AllocError>
+    requires list { list_all (is_place registers) list.now ≡ true }
+    requires placed { are_placed registers equalities.old ≡ true }
+    ensures { are_placed registers equalities.new ≡ true }
+{
+    push_some(equalities, list, registers, stays, reads.first)?;
+    push_some(equalities, list, registers, stays, reads.second)?;
+    push_args(equalities, list, registers, stays, reads.args)?;
+    push_some(equalities, list, registers, stays, written)
+}
+
 /// The places of the registers that a point names, each once.
 fn places_of(
     alloc: Global,
@@ -158,10 +177,7 @@ fn places_of(
 {
     let most = most_named(reads, written);
     let mut equalities = Seq::from_vec(Vec::with_capacity(alloc, most)?);
-    push_some(&mut equalities, list, registers, stays, reads.first)?;
-    push_some(&mut equalities, list, registers, stays, reads.second)?;
-    push_args(&mut equalities, list, registers, stays, reads.args)?;
-    push_some(&mut equalities, list, registers, stays, written)?;
+    push_named(&mut equalities, list, registers, stays, reads, written)?;
     Ok(equalities)
 }
 
