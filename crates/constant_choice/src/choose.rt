@@ -68,11 +68,7 @@ fn worthy_uses(
         if let Some(region) = regions.list.get(one.region) {
             let gain = net(one, region);
             if 0 < gain {
-                worthy.push(Use {
-                    key: one.key,
-                    region: one.region,
-                    gain,
-                })?;
+                worthy.extend_from_slice(&[Use { gain, ..*one }])?;
             }
         }
     }
@@ -85,10 +81,10 @@ fn choices(alloc: Global, worthy: &[Use]) -> Result<Vec<Choice>, AllocError> {
     for one in worthy {
         match choices.last_mut() {
             Some(last) if last.key == one.key => last.gain = last.gain.saturating_add(one.gain),
-            _ => choices.push(Choice {
+            _ => choices.extend_from_slice(&[Choice {
                 gain: one.gain,
                 key: one.key,
-            })?,
+            }])?,
         }
     }
     choices.sort()?;
@@ -102,13 +98,11 @@ fn held_regions(
     key: Key,
     count: usize,
 ) -> Result<Vec<bool>, AllocError> {
-    let mut held = Vec::new(alloc);
-    held.resize(count, false)?;
+    let mut held = vec![in alloc; false; count]?;
     for one in worthy {
         if one.key == key {
-            match held.get_mut(one.region) {
-                Some(mark) => *mark = true,
-                None => {}
+            if let Some(mark) = held.get_mut(one.region) {
+                *mark = true;
             }
         }
     }
@@ -128,24 +122,20 @@ fn holding(
     regions: &Regions,
     held: &[bool],
 ) -> Result<Vec<bool>, AllocError> {
-    let mut holds = Vec::new(alloc);
-    for number in 0..blocks.len() {
-        let region = regions.number(number);
-        holds.push(held.get(region).copied().unwrap_or(false))?;
+    let mut holds = vec![in alloc; false; blocks.len()]?;
+    for (number, mark) in holds.iter_mut().enumerate() {
+        *mark = held.get(regions.number(number)).copied().unwrap_or(false);
     }
     Ok(holds)
 }
 
 /// The blocks that lead from elsewhere to one that holds it.
 fn setting(alloc: Global, blocks: &[Block<u32>], holds: &[bool]) -> Result<Vec<bool>, AllocError> {
-    let mut sets = Vec::new(alloc);
-    for (number, block) in blocks.iter().enumerate() {
+    let mut sets = vec![in alloc; false; blocks.len()]?;
+    for (number, (mark, block)) in sets.iter_mut().zip(blocks).enumerate() {
         let is_outside = !leads_in(holds, Some(number));
-        sets.push(
-            is_outside
-                && (leads_in(holds, target(&block.jump, 0))
-                    || leads_in(holds, target(&block.jump, 1))),
-        )?;
+        *mark = is_outside
+            && (leads_in(holds, target(&block.jump, 0)) || leads_in(holds, target(&block.jump, 1)));
     }
     Ok(sets)
 }
@@ -171,8 +161,10 @@ fn chosen_for(
 
 /// The k-th choice from the last.
 fn from_last(choices: &[Choice], k: usize) -> Option<Choice> {
-    let place = choices.len().checked_sub(k.saturating_add(1))?;
-    choices.get(place).copied()
+    match choices.len().checked_sub(k.saturating_add(1)) {
+        Some(place) => choices.get(place).copied(),
+        None => None,
+    }
 }
 
 fn has_loops(depths: &[u32]) -> bool {
@@ -214,7 +206,7 @@ fn chosen_in_loops(
     depths: &[u32],
 ) -> Result<Vec<Chosen>, AllocError> {
     let blocks = function.code.blocks.as_slice();
-    let regions = regions_of(alloc, blocks, Vec::from_slice(alloc, depths)?)?;
+    let regions = regions_of(alloc, blocks, depths)?;
     let worthy = worthy_uses(alloc, blocks, depths, &regions)?;
     let choices = choices(alloc, worthy.as_slice())?;
     chosen_in(

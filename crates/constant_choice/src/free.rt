@@ -3,7 +3,7 @@ use std::alloc::{AllocError, Global};
 use vcode::code::Block;
 use vcode::function::VFunc;
 use vcode::line::{Jump, Line};
-use vcode::place::{Argument, Destination, Operand};
+use vcode::place::{Argument, Operand};
 
 fn mark(named: &mut [bool], register: u32) {
     match named.get_mut(register as usize) {
@@ -22,13 +22,6 @@ fn mark_operand(named: &mut [bool], operand: &Operand<u32>) {
 fn mark_arguments(named: &mut [bool], args: &[Argument<u32>]) {
     for arg in args {
         mark_operand(named, &arg.value);
-    }
-}
-
-fn mark_destination(named: &mut [bool], to: &Option<Destination<u32>>) {
-    match to {
-        Some(to) => mark(named, to.place),
-        None => {}
     }
 }
 
@@ -63,7 +56,9 @@ fn mark_line(named: &mut [bool], line: &Line<u32>) {
             mark_operand(named, to);
         }
         Line::Call { to, callee, args } => {
-            mark_destination(named, to);
+            if let Some(to) = to {
+                mark(named, to.place);
+            }
             mark_operand(named, callee);
             mark_arguments(named, args.as_slice());
         }
@@ -95,8 +90,7 @@ fn mark_blocks(named: &mut [bool], blocks: &[Block<u32>]) {
 }
 
 fn named_registers(alloc: Global, function: &VFunc) -> Result<Vec<bool>, AllocError> {
-    let mut named = Vec::new(alloc);
-    named.resize(function.registers as usize, false)?;
+    let mut named = vec![in alloc; false; function.registers as usize]?;
     for param in function.code.params.as_slice() {
         mark(named.as_mut_slice(), param.place);
     }
@@ -119,7 +113,7 @@ pub(crate) fn free_registers(
     for register in 0..function.registers {
         let is_free = named.get(register as usize).copied() == Some(false);
         if is_free && free.len() < most {
-            free.push(register)?;
+            free.extend_from_slice(&[register])?;
         }
     }
     Ok(free)

@@ -42,14 +42,11 @@ fn join(
         return Ok(());
     }
     match numbers.get_mut(block) {
-        Some(number) => {
-            if *number == 0 {
-                *number = region;
-                way.push(block)?;
-            }
-            Ok(())
+        Some(number) if *number == 0 => {
+            *number = region;
+            way.extend_from_slice(&[block])
         }
-        None => Ok(()),
+        _ => Ok(()),
     }
 }
 
@@ -79,31 +76,27 @@ fn join_all(
     Ok(())
 }
 
-/// Where ways between blocks lead, and from where they come.
-#[derive(Drop)]
-struct Ways {
-    depths: Vec<u32>,
-    sources: Vec<Few<usize>>,
+/// The blocks, in how many loops each lies, and from where ways come to it.
+#[derive(Clone, Copy)]
+struct Ways<'a> {
+    blocks: &'a [Block<u32>],
+    depths: &'a [u32],
+    sources: &'a [Few<usize>],
 }
 
 fn join_neighbours(
     numbers: &mut [usize],
     way: &mut Vec<usize>,
-    blocks: &[Block<u32>],
-    ways: &Ways,
+    ways: Ways,
     block: usize,
     region: usize,
 ) -> Result<(), AllocError> {
-    let depths = ways.depths.as_slice();
-    match blocks.get(block) {
-        Some(from) => {
-            join_target(numbers, way, depths, target(&from.jump, 0), region)?;
-            join_target(numbers, way, depths, target(&from.jump, 1), region)?;
-        }
-        None => {}
+    if let Some(from) = ways.blocks.get(block) {
+        join_target(numbers, way, ways.depths, target(&from.jump, 0), region)?;
+        join_target(numbers, way, ways.depths, target(&from.jump, 1), region)?;
     }
     match ways.sources.get(block) {
-        Some(sources) => join_all(numbers, way, depths, sources.as_slice(), region),
+        Some(sources) => join_all(numbers, way, ways.depths, sources.as_slice(), region),
         None => Ok(()),
     }
 }
@@ -112,16 +105,15 @@ fn join_neighbours(
 fn spread(
     alloc: Global,
     numbers: &mut [usize],
-    blocks: &[Block<u32>],
-    ways: &Ways,
+    ways: Ways,
     first: usize,
     region: usize,
 ) -> Result<(), AllocError> {
     let mut way = Vec::new(alloc);
-    join(numbers, &mut way, ways.depths.as_slice(), first, region)?;
-    for _ in 0..blocks.len() {
+    join(numbers, &mut way, ways.depths, first, region)?;
+    for _ in 0..ways.blocks.len() {
         match way.pop() {
-            Some(block) => join_neighbours(numbers, &mut way, blocks, ways, block, region)?,
+            Some(block) => join_neighbours(numbers, &mut way, ways, block, region)?,
             None => return Ok(()),
         }
     }
@@ -133,24 +125,24 @@ fn is_alone(numbers: &[usize], depths: &[u32], block: usize) -> bool {
 }
 
 /// The regions, of which nothing is known yet.
-fn joined(alloc: Global, blocks: &[Block<u32>], ways: &Ways) -> Result<Regions, AllocError> {
+fn joined(alloc: Global, ways: Ways) -> Result<Regions, AllocError> {
     let none = Region {
         entries: 0,
         has_calls: false,
         blocks: 0,
     };
-    let mut numbers = Vec::new(alloc);
-    numbers.resize(blocks.len(), 0usize)?;
-    let mut list = Vec::new(alloc);
-    list.push(none)?;
-    for block in 0..blocks.len() {
-        if is_alone(numbers.as_slice(), ways.depths.as_slice(), block) {
-            let region = list.len();
-            spread(alloc, numbers.as_mut_slice(), blocks, ways, block, region)?;
-            list.push(none)?;
+    let mut regions = Regions {
+        numbers: vec![in alloc; 0usize; ways.blocks.len()]?,
+        list: vec![in alloc; none; 1]?,
+    };
+    for block in 0..ways.blocks.len() {
+        if is_alone(regions.numbers.as_slice(), ways.depths, block) {
+            let region = regions.list.len();
+            spread(alloc, regions.numbers.as_mut_slice(), ways, block, region)?;
+            regions.list.extend_from_slice(&[none])?;
         }
     }
-    Ok(Regions { numbers, list })
+    Ok(regions)
 }
 
 fn count_entry(list: &mut [Region], region: usize) {
@@ -204,13 +196,15 @@ fn count_entries(regions: &mut Regions, block: &Block<u32>) {
 pub(crate) fn regions_of(
     alloc: Global,
     blocks: &[Block<u32>],
-    depths: Vec<u32>,
+    depths: &[u32],
 ) -> Result<Regions, AllocError> {
+    let sources = sources(alloc, blocks)?;
     let ways = Ways {
+        blocks,
         depths,
-        sources: sources(alloc, blocks)?,
+        sources: sources.as_slice(),
     };
-    let mut regions = joined(alloc, blocks, &ways)?;
+    let mut regions = joined(alloc, ways)?;
     for (number, block) in blocks.iter().enumerate() {
         let region = regions.number(number);
         if region == 0 {

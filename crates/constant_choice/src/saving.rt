@@ -59,7 +59,10 @@ fn has_form(operation: Operation, number: u64) -> bool {
 
 /// The same on its left.
 fn has_left_form(operation: Operation, number: u64) -> bool {
-    swapped(&operation).is_some_and(|exchanged| has_form(exchanged, number))
+    match swapped(&operation) {
+        Some(exchanged) => has_form(exchanged, number),
+        None => false,
+    }
 }
 
 /// What it saves where an instruction has the number in it: a shift in place of a product, and an extension of the other operand alone, are lost.

@@ -60,17 +60,12 @@ struct Uses {
 impl Uses {
     fn push(&mut self, operand: &Operand<u32>, saved: i64) -> Result<(), AllocError> {
         match Key::of(operand) {
-            Some(key) => {
-                if saved != 0 {
-                    self.list.push(Use {
-                        key,
-                        region: self.region,
-                        gain: saved.saturating_mul(self.times),
-                    })?;
-                }
-                Ok(())
-            }
-            None => Ok(()),
+            Some(key) if saved != 0 => self.list.extend_from_slice(&[Use {
+                key,
+                region: self.region,
+                gain: saved.saturating_mul(self.times),
+            }]),
+            _ => Ok(()),
         }
     }
 
@@ -142,7 +137,7 @@ fn merged(alloc: Global, uses: &[Use]) -> Result<Vec<Use>, AllocError> {
             Some(last) if last.key == one.key && last.region == one.region => {
                 last.gain = last.gain.saturating_add(one.gain);
             }
-            _ => all.push(*one)?,
+            _ => all.extend_from_slice(&[*one])?,
         }
     }
     Ok(all)
