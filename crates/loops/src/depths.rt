@@ -15,7 +15,7 @@ struct Edge {
 }
 
 /// How far the search for ways back has come with a block.
-#[derive(Clone, Copy, PartialEq, Eq)]
+#[derive(Clone, Copy)]
 enum Visit {
     New,
     Open,
@@ -66,17 +66,13 @@ fn mark(visits: &mut [Visit], block: usize, visit: Visit) {
 
 fn enter(search: &mut Search, block: usize) -> Result<(), AllocError> {
     mark(search.visits.as_mut_slice(), block, Visit::Open);
-    search.way.push(Step { block, tried: 0 })?;
-    Ok(())
+    search.way.extend_from_slice(&[Step { block, tried: 0 }])
 }
 
 fn follow(search: &mut Search, from: usize, to: usize) -> Result<(), AllocError> {
     match search.visits.get(to).copied() {
         Some(Visit::New) => enter(search, to),
-        Some(Visit::Open) => {
-            search.back.push(Edge { to, from })?;
-            Ok(())
-        }
+        Some(Visit::Open) => search.back.extend_from_slice(&[Edge { to, from }]),
         _ => Ok(()),
     }
 }
@@ -89,10 +85,10 @@ fn search_on(search: &mut Search, blocks: &[Block<u32>]) -> Result<(), AllocErro
     };
     match target_of(blocks, step) {
         Some(to) => {
-            search.way.push(Step {
+            search.way.extend_from_slice(&[Step {
                 block: step.block,
                 tried: step.tried.saturating_add(1),
-            })?;
+            }])?;
             follow(search, step.block, to)
         }
         None => {
@@ -103,21 +99,26 @@ fn search_on(search: &mut Search, blocks: &[Block<u32>]) -> Result<(), AllocErro
 }
 
 /// Each block is entered and left once, and has at most two ways on.
+fn search_all(search: &mut Search, blocks: &[Block<u32>]) -> Result<(), AllocError> {
+    enter(search, 0)?;
+    for _ in 0..blocks.len().saturating_mul(3) {
+        search_on(search, blocks)?;
+    }
+    if 1 < search.back.len() {
+        search.back.sort()
+    } else {
+        Ok(())
+    }
+}
+
+/// The edges to blocks that lie on the way to their own beginning, in order.
 fn back_edges(alloc: Global, blocks: &[Block<u32>]) -> Result<Vec<Edge>, AllocError> {
-    let mut visits = Vec::new(alloc);
-    visits.resize(blocks.len(), Visit::New)?;
     let mut search = Search {
-        visits,
+        visits: vec![in alloc; Visit::New; blocks.len()]?,
         way: Vec::with_capacity(alloc, blocks.len())?,
         back: Vec::new(alloc),
     };
-    enter(&mut search, 0)?;
-    for _ in 0..blocks.len().saturating_mul(3) {
-        search_on(&mut search, blocks)?;
-    }
-    if 1 < search.back.len() {
-        search.back.sort()?;
-    }
+    search_all(&mut search, blocks)?;
     Ok(search.back)
 }
 
@@ -185,7 +186,7 @@ fn push_new(
 ) -> Result<(), AllocError> {
     for block in sources {
         if count(nests, *block, head) {
-            found.push(*block)?;
+            found.extend_from_slice(&[*block])?;
         }
     }
     Ok(())
@@ -232,9 +233,9 @@ fn count_loops(
 }
 
 fn depths_of(alloc: Global, nests: &[Nest]) -> Result<Vec<u32>, AllocError> {
-    let mut depths = Vec::with_capacity(alloc, nests.len())?;
-    for nest in nests {
-        depths.push(nest.depth)?;
+    let mut depths = vec![in alloc; 0u32; nests.len()]?;
+    for (depth, nest) in depths.iter_mut().zip(nests) {
+        *depth = nest.depth;
     }
     Ok(depths)
 }
