@@ -38,14 +38,11 @@ fn reach(
     block: Option<usize>,
 ) -> Result<(), AllocError> {
     match block {
-        Some(block) => {
-            if !is_marked(reached, block) {
-                mark(reached, block);
-                found.push(block)?;
-            }
-            Ok(())
+        Some(block) if !is_marked(reached, block) => {
+            mark(reached, block);
+            found.extend_from_slice(&[block])
         }
-        None => Ok(()),
+        _ => Ok(()),
     }
 }
 
@@ -63,34 +60,40 @@ fn reach_targets(
     }
 }
 
+/// Each is found once.
+fn reach_all(alloc: Global, reached: &mut [bool], blocks: &[Block<u32>]) -> Result<(), AllocError> {
+    let mut found = Vec::with_capacity(alloc, blocks.len())?;
+    reach(reached, &mut found, Some(0))?;
+    for _ in 0..blocks.len() {
+        match found.pop() {
+            Some(block) => reach_targets(reached, &mut found, blocks.get(block))?,
+            None => return Ok(()),
+        }
+    }
+    Ok(())
+}
+
 /// Marks of the blocks to which a way leads from the first. It takes time and memory as there are blocks.
 ///
 /// # Errors
 ///
 /// Only where memory was refused.
 pub fn reached(alloc: Global, blocks: &[Block<u32>]) -> Result<Vec<bool>, AllocError> {
-    // each is found once
     let mut reached = vec![in alloc; false; blocks.len()]?;
-    let mut found = Vec::with_capacity(alloc, blocks.len())?;
-    reach(reached.as_mut_slice(), &mut found, Some(0))?;
-    for _ in 0..blocks.len() {
-        match found.pop() {
-            Some(block) => { reach_targets(reached.as_mut_slice(), &mut found, blocks.get(block))? }
-            None => return Ok(reached),
-        }
-    }
+    reach_all(alloc, reached.as_mut_slice(), blocks)?;
     Ok(reached)
 }
 
 /// A chain for each block.
 fn single_links(alloc: Global, blocks: usize) -> Result<Vec<Link>, AllocError> {
-    let mut links = Vec::with_capacity(alloc, blocks)?;
-    for block in 0..blocks {
-        links.push(Link {
-            before: None,
-            behind: None,
-            end: block,
-        })?;
+    let alone = Link {
+        before: None,
+        behind: None,
+        end: 0,
+    };
+    let mut links = vec![in alloc; alone; blocks]?;
+    for (block, link) in links.iter_mut().enumerate() {
+        link.end = block;
     }
     Ok(links)
 }
@@ -220,32 +223,16 @@ fn join_branches(
     }
 }
 
-/// Joins blocks along ways that lie in so many loops, those first that leave no choice.
-fn join_ways(
-    links: &mut [Link],
-    blocks: &[Block<u32>],
-    reached: &[bool],
-    depths: &[u32],
-    depth: u32,
-) {
-    join_gotos(links, blocks, reached, depths, depth);
-    join_branches(links, blocks, reached, depths, depth);
-}
-
 /// Chains of blocks that are reached: first those ways are taken that lie in the most loops, and of these the ones that leave no choice.
 fn chains(alloc: Global, blocks: &[Block<u32>], reached: &[bool]) -> Result<Vec<Link>, AllocError> {
-    let depths = depths(alloc, blocks)?;
-    let most = most_depth(depths.as_slice());
+    let all = depths(alloc, blocks)?;
+    let depths = all.as_slice();
+    let most = most_depth(depths);
     let mut links = single_links(alloc, blocks.len())?;
     for depth in (0..DEEPEST + 1).rev() {
         if depth <= most {
-            join_ways(
-                links.as_mut_slice(),
-                blocks,
-                reached,
-                depths.as_slice(),
-                depth,
-            );
+            join_gotos(links.as_mut_slice(), blocks, reached, depths, depth);
+            join_branches(links.as_mut_slice(), blocks, reached, depths, depth);
         }
     }
     Ok(links)
@@ -300,10 +287,7 @@ fn close(is_open: &mut [bool], block: usize) {
 
 fn push_target(placing: &mut Placing, block: Option<usize>) -> Result<(), AllocError> {
     match block {
-        Some(block) => {
-            placing.next.push(block)?;
-            Ok(())
-        }
+        Some(block) => placing.next.extend_from_slice(&[block]),
         None => Ok(()),
     }
 }
@@ -317,7 +301,7 @@ fn place_block(
 ) -> Result<(), AllocError> {
     close(placing.is_open.as_mut_slice(), number);
     if !is_last {
-        placing.order.push(number)?;
+        placing.order.extend_from_slice(&[number])?;
     }
     match blocks.get(number) {
         Some(block) => {
@@ -377,13 +361,24 @@ fn place_last(
     for _ in 0..links.len() {
         match next {
             Some(number) => {
-                placing.order.push(number)?;
+                placing.order.extend_from_slice(&[number])?;
                 next = behind(links, number);
             }
             None => return Ok(()),
         }
     }
     Ok(())
+}
+
+fn place_all(
+    placing: &mut Placing,
+    links: &[Link],
+    blocks: &[Block<u32>],
+    last: Option<usize>,
+) -> Result<(), AllocError> {
+    push_target(placing, Some(0))?;
+    place_chains(placing, links, blocks, last)?;
+    place_last(placing, links, last)
 }
 
 /// An order of the blocks in which often run jumps lead to the next block, without those to which no way leads. It takes time and memory as there are blocks,
@@ -401,8 +396,6 @@ pub fn chained(alloc: Global, blocks: &[Block<u32>]) -> Result<Vec<usize>, Alloc
         is_open: reached,
         next: Vec::with_capacity(alloc, blocks.len())?,
     };
-    push_target(&mut placing, Some(0))?;
-    place_chains(&mut placing, links.as_slice(), blocks, last)?;
-    place_last(&mut placing, links.as_slice(), last)?;
+    place_all(&mut placing, links.as_slice(), blocks, last)?;
     Ok(placing.order)
 }
