@@ -1,7 +1,7 @@
 //! Calls by name of functions that have other classes.
 use crate::name::{add_class, add_global};
-use crate::note::{Note, make_note};
-use il_ast::function::{Func, Param};
+use crate::note::Notes;
+use il_ast::function::Func;
 use il_ast::instruction::Inst;
 use il_ast::operand::{Arg, Dest, Val};
 use il_ast::operation::Class;
@@ -9,65 +9,50 @@ use il_ast::program::{InText, Target};
 use il_ast::symbol::Symbol;
 use il_ast::value::Callee;
 use obj_link::linking::linked::Linked;
-use std::alloc::{AllocError, Global};
+use std::alloc::Global;
 use text_maker::maker::TextMaker;
 
 /// A call by name.
 #[derive(Drop)]
 struct Call<'a> {
-    line: usize,
     to: Option<Dest>,
     name: Symbol,
     args: &'a [Arg],
 }
 
 /// The calls of a function that are undefined, since the callee has other classes.
-pub fn push_wrong_calls(
+pub fn add_wrong_calls(
     alloc: Global,
-    found: &mut Vec<Note>,
+    notes: &mut Notes,
     linked: &Linked<'_>,
     function: &InText<&Func>,
-) -> Result<(), AllocError> {
+) {
     for block in function.item.blocks.as_slice() {
         for inst in block.insts.as_slice() {
-            if let Some(call) = call_by_name(inst.line, &inst.item) {
-                push_wrong_call(alloc, found, linked, function.text, &call)?;
+            if let Some(call) = call_by_name(&inst.item) {
+                let mut words = TextMaker::new(alloc);
+                add_callee(&mut words, linked, function.text, call.name);
+                if add_mistake(&mut words, linked, function.text, &call) {
+                    notes.add(function.text, inst.line, words);
+                }
             }
         }
     }
-    Ok(())
 }
 
-fn call_by_name(line: usize, inst: &Inst) -> Option<Call<'_>> {
+fn call_by_name(inst: &Inst) -> Option<Call<'_>> {
     match inst {
         Inst::Call {
             to,
             callee: Val::Global(name),
             args,
         } => Some(Call {
-            line,
             to: *to,
             name: *name,
             args: args.as_slice(),
         }),
         _ => None,
     }
-}
-
-fn push_wrong_call(
-    alloc: Global,
-    found: &mut Vec<Note>,
-    linked: &Linked<'_>,
-    text: usize,
-    call: &Call<'_>,
-) -> Result<(), AllocError> {
-    let mut words = TextMaker::new(alloc);
-    add_callee(&mut words, linked, text, call.name);
-    let is_wrong = add_mistake(alloc, &mut words, linked, text, call)?;
-    if is_wrong {
-        found.push(make_note(text, call.line, words)?)?;
-    }
-    Ok(())
 }
 
 fn add_callee(words: &mut TextMaker, linked: &Linked<'_>, text: usize, name: Symbol) {
@@ -77,38 +62,14 @@ fn add_callee(words: &mut TextMaker, linked: &Linked<'_>, text: usize, name: Sym
 }
 
 /// Says of a call what is wrong with it. Answers whether anything is.
-fn add_mistake(
-    alloc: Global,
-    words: &mut TextMaker,
-    linked: &Linked<'_>,
-    text: usize,
-    call: &Call<'_>,
-) -> Result<bool, AllocError> {
+fn add_mistake(words: &mut TextMaker, linked: &Linked<'_>, text: usize, call: &Call<'_>) -> bool {
     match target(linked, text, call.name) {
-        Some(Target::Code(Callee::Defined(number))) => {
-            match linked.functions.as_slice().get(number) {
-                Some(function) => {
-                    let takes = classes(alloc, function.item.params.as_slice())?;
-                    Ok(add_difference(words, call, takes.as_slice(), function.item.result))
-                }
-                None => Ok(false),
-            }
-        }
-        Some(Target::Code(Callee::SystemWrite)) => {
-            let takes = [Class::W, Class::L, Class::L];
-            Ok(add_difference(words, call, &takes, Some(Class::L)))
-        }
-        Some(Target::Code(Callee::SystemExit)) => Ok(add_difference(
-            words,
-            call,
-            &[Class::W],
-            None,
-        )),
+        Some(Target::Code(callee)) => add_difference(words, linked, call, callee),
         Some(Target::Object(_)) => {
             words.add(" is data, and no function");
-            Ok(true)
+            true
         }
-        None => Ok(false),
+        None => false,
     }
 }
 
@@ -120,71 +81,101 @@ fn target(linked: &Linked<'_>, text: usize, name: Symbol) -> Option<Target> {
     }
 }
 
-fn classes(alloc: Global, params: &[Param]) -> Result<Vec<Class>, AllocError> {
-    let mut list = Vec::new(alloc);
-    for param in params {
-        list.push(param.class)?;
+/// How many arguments a callee takes, and what it gives.
+fn form(linked: &Linked<'_>, callee: Callee) -> Option<(usize, Option<Class>)> {
+    match callee {
+        Callee::Defined(number) => match linked.functions.as_slice().get(number) {
+            Some(function) => Some((function.item.params.len(), function.item.result)),
+            None => None,
+        },
+        Callee::SystemWrite => Some((3, Some(Class::L))),
+        Callee::SystemExit => Some((1, None)),
     }
-    Ok(list)
+}
+
+/// The class of an argument that a callee takes.
+fn taken(linked: &Linked<'_>, callee: Callee, number: usize) -> Option<Class> {
+    match callee {
+        Callee::Defined(function) => match linked.functions.as_slice().get(function) {
+            Some(function) => match function.item.params.as_slice().get(number) {
+                Some(param) => Some(param.class),
+                None => None,
+            },
+            None => None,
+        },
+        Callee::SystemWrite if number > 0 => Some(Class::L),
+        Callee::SystemWrite | Callee::SystemExit => Some(Class::W),
+    }
 }
 
 /// Says how a call differs from what the callee takes and gives. Answers whether it does.
 fn add_difference(
     words: &mut TextMaker,
+    linked: &Linked<'_>,
     call: &Call<'_>,
-    takes: &[Class],
-    gives: Option<Class>,
+    callee: Callee,
 ) -> bool {
-    if call.args.len() != takes.len() {
-        words.add(" is given ");
-        words.add_number(call.args.len() as u64);
-        words.add(if call.args.len() == 1 {
-            " argument, and takes "
-        } else {
-            " arguments, and takes "
-        });
-        words.add_number(takes.len() as u64);
-        return true;
+    match form(linked, callee) {
+        Some((count, gives)) => {
+            add_wrong_count(words, call.args.len(), count)
+                || add_wrong_argument(words, linked, call.args, callee)
+                || add_wrong_result(words, call.to, gives)
+        }
+        None => false,
     }
-    add_wrong_argument(words, call.args, takes) || add_wrong_result(words, call.to, gives)
 }
 
-fn add_wrong_argument(words: &mut TextMaker, args: &[Arg], takes: &[Class]) -> bool {
-    for (arg, class) in args.iter().zip(takes) {
-        if arg.class != *class {
+fn add_wrong_count(words: &mut TextMaker, given: usize, count: usize) -> bool {
+    if given == count {
+        return false;
+    }
+    words.add(" is given ");
+    words.add_number(given as u64);
+    words.add(if given == 1 {
+        " argument, and takes "
+    } else {
+        " arguments, and takes "
+    });
+    words.add_number(count as u64);
+    true
+}
+
+fn add_wrong_argument(
+    words: &mut TextMaker,
+    linked: &Linked<'_>,
+    args: &[Arg],
+    callee: Callee,
+) -> bool {
+    for (number, arg) in args.iter().enumerate() {
+        if let Some(class) = taken(linked, callee, number)
+            && class != arg.class
+        {
             words.add(" is given class ");
             add_class(words, arg.class);
             words.add(" where it takes ");
-            add_class(words, *class);
+            add_class(words, class);
             return true;
         }
     }
     false
 }
 
-fn add_wrong_result(words: &mut TextMaker, to: Option<Dest>, gives: Option<Class>) -> bool {
-    match to {
-        Some(to) => add_unwanted(words, to.class, gives),
-        None => false,
-    }
-}
-
 /// Says how a result differs from what is wanted. Answers whether it does.
-fn add_unwanted(words: &mut TextMaker, wanted: Class, gives: Option<Class>) -> bool {
+fn add_wrong_result(words: &mut TextMaker, to: Option<Dest>, gives: Option<Class>) -> bool {
+    let wanted = match to {
+        Some(to) => to.class,
+        None => return false,
+    };
     match gives {
+        Some(class) if class == wanted => return false,
         Some(class) => {
-            if class != wanted {
-                words.add(" gives class ");
-                add_class(words, class);
-                words.add(", and ");
-                add_class(words, wanted);
-                words.add(" is wanted");
-            }
-            class != wanted
+            words.add(" gives class ");
+            add_class(words, class);
+            words.add(", and ");
+            add_class(words, wanted);
+            words.add(" is wanted");
         }
-        None => {
-            words.add(" gives no result, and one is wanted");
-            true
-        }
+        None => words.add(" gives no result, and one is wanted"),
     }
+    true
 }

@@ -1,6 +1,6 @@
 //! What is wrong with the labels of a function, and with its parameters.
 use crate::name::{add_label, add_line, add_temp};
-use il_ast::block::Block;
+use il_ast::block::{Block, Phi};
 use il_ast::function::{Func, Param};
 use il_ast::instruction::Jump;
 use il_ast::label::Label;
@@ -68,16 +68,19 @@ pub fn has_label(blocks: &[Block], label: Label) -> bool {
     false
 }
 
-/// The labels that a jump names; two where it is a branch.
-pub fn targets(jump: Jump) -> (Option<Label>, Option<Label>) {
-    match jump {
-        Jump::Goto(label) => (Some(label), None),
-        Jump::Branch {
-            on: _,
-            nonzero,
-            otherwise,
-        } => (Some(nonzero), Some(otherwise)),
-        Jump::Return(_) | Jump::Halt => (None, None),
+/// The labels that a block's jump names; two where it is a branch.
+pub fn targets(block: &Block) -> (Option<Label>, Option<Label>) {
+    match &block.jump {
+        Some(jump) => match jump.item {
+            Jump::Goto(label) => (Some(label), None),
+            Jump::Branch {
+                on: _,
+                nonzero,
+                otherwise,
+            } => (Some(nonzero), Some(otherwise)),
+            Jump::Return(_) | Jump::Halt => (None, None),
+        },
+        None => (None, None),
     }
 }
 
@@ -103,25 +106,30 @@ fn unknown_label(blocks: &[Block], line: usize) -> Option<Label> {
 }
 
 fn unknown_in(blocks: &[Block], block: &Block, line: usize) -> Option<Label> {
-    if let Some(jump) = &block.jump {
-        if jump.line == line {
-            return unknown_target(blocks, jump.item);
-        }
+    if let Some(jump) = &block.jump
+        && jump.line == line
+    {
+        return unknown_target(blocks, block);
     }
     for phi in block.phis.as_slice() {
         if phi.line == line {
-            for arg in phi.args.as_slice() {
-                if !has_label(blocks, arg.from) {
-                    return Some(arg.from);
-                }
-            }
+            return unknown_source(blocks, phi);
         }
     }
     None
 }
 
-fn unknown_target(blocks: &[Block], jump: Jump) -> Option<Label> {
-    match targets(jump) {
+fn unknown_source(blocks: &[Block], phi: &Phi) -> Option<Label> {
+    for arg in phi.args.as_slice() {
+        if !has_label(blocks, arg.from) {
+            return Some(arg.from);
+        }
+    }
+    None
+}
+
+fn unknown_target(blocks: &[Block], block: &Block) -> Option<Label> {
+    match targets(block) {
         (Some(label), _) if !has_label(blocks, label) => Some(label),
         (_, Some(label)) if !has_label(blocks, label) => Some(label),
         _ => None,

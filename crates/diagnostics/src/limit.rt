@@ -18,21 +18,22 @@ use text_maker::maker::TextMaker;
 /// Which limit of one text the text passes.
 pub(crate) fn text_limit(alloc: Global, number: usize, text: &Text) -> Result<Note, AllocError> {
     let mut words = TextMaker::new(alloc);
+    let line = add_text_limit(&mut words, text);
+    make_note(number, line, words)
+}
+
+/// Says which limit a text passes. Answers the line.
+fn add_text_limit(words: &mut TextMaker, text: &Text) -> usize {
     for definition in text.definitions.as_slice() {
-        if let Definition::Function(function) = definition {
-            let line = add_function_limit(&mut words, text, function);
-            if let Some(line) = line {
-                return make_note(number, line, words);
-            }
+        if let Definition::Function(function) = definition
+            && let Some(line) = add_function_limit(words, text, function)
+        {
+            return line;
         }
     }
-    add_limit(
-        &mut words,
-        text.bytes as u64,
-        " bytes in the text",
-        TEXT_BYTES as u64,
-    );
-    make_note(number, 1, words)
+    let bytes = text.bytes as u64;
+    add_limit(words, bytes, " bytes in the text", TEXT_BYTES as u64);
+    1
 }
 
 /// Says which limit a function passes. Answers the line, where it passes one.

@@ -40,30 +40,37 @@ fn defined<'a>(text: &'a Text, name: &[u8]) -> Option<&'a Definition> {
 
 /// A name that means nothing in a text that mentions it.
 fn unknown(alloc: Global, texts: &[Checked], name: &[u8]) -> Result<Note, AllocError> {
+    let (text, line) = unknown_at(alloc, texts, name)?;
     let mut words = TextMaker::new(alloc);
     add_name(&mut words, name);
     words.add(" is defined nowhere that this text sees");
+    make_note(text, line, words)
+}
+
+/// The first text that mentions a name and doesn't define it, and the line.
+fn unknown_at(alloc: Global, texts: &[Checked], name: &[u8]) -> Result<(usize, usize), AllocError> {
     for (number, checked) in texts.iter().enumerate() {
-        if defined(&checked.text, name).is_none() {
-            if let Some(symbol) = symbol_in(&checked.text, name) {
-                let line = line_in(alloc, &checked.text, symbol)?.unwrap_or(1);
-                return make_note(number, line, words);
-            }
+        if defined(&checked.text, name).is_none()
+            && let Some(symbol) = symbol_in(&checked.text, name)
+        {
+            return match line_in(alloc, &checked.text, symbol) {
+                Ok(line) => Ok((number, line.unwrap_or(1))),
+                Err(error) => Err(error),
+            };
         }
     }
-    make_note(0, 1, words)
+    Ok((0, 1))
 }
 
 /// The last text that exports a name, and the line.
 fn exported(texts: &[Checked], name: &[u8], below: usize) -> Option<(usize, usize)> {
     let mut found = None;
     for (number, checked) in texts.iter().enumerate() {
-        if number < below {
-            if let Some(definition) = defined(&checked.text, name) {
-                if is_exported(definition) {
-                    found = Some((number, line_of(definition)));
-                }
-            }
+        if number < below
+            && let Some(definition) = defined(&checked.text, name)
+            && is_exported(definition)
+        {
+            found = Some((number, line_of(definition)));
         }
     }
     found
@@ -94,16 +101,29 @@ fn exported_twice(
 /// No `main` of either form is exported.
 fn no_main(alloc: Global, texts: &[Checked]) -> Result<Note, AllocError> {
     let mut words = TextMaker::new(alloc);
+    let (text, line) = match main_in(texts) {
+        Some((text, definition)) => {
+            add_no_main(&mut words, definition);
+            (text, line_of(definition))
+        }
+        None => {
+            words.add("no function $main is exported");
+            (0, 1)
+        }
+    };
+    make_note(text, line, words)
+}
+
+/// The first `main` that is exported, or the first one where none is, and its text.
+fn main_in(texts: &[Checked]) -> Option<(usize, &Definition)> {
     for (number, checked) in texts.iter().enumerate() {
-        if let Some(definition) = defined(&checked.text, b"main") {
-            if is_exported(definition) || exported(texts, b"main", texts.len()).is_none() {
-                add_no_main(&mut words, definition);
-                return make_note(number, line_of(definition), words);
-            }
+        if let Some(definition) = defined(&checked.text, b"main")
+            && (is_exported(definition) || exported(texts, b"main", texts.len()).is_none())
+        {
+            return Some((number, definition));
         }
     }
-    words.add("no function $main is exported");
-    make_note(0, 1, words)
+    None
 }
 
 /// Why this definition of `main` is none that a program begins with.

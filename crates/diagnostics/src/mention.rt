@@ -1,8 +1,6 @@
 //! Where a text first mentions a global name.
-use crate::definition::line_of;
-use crate::place::{returned, uses};
+use crate::place::{Does, Step, steps};
 use il_ast::datum::{DataDef, Field, Item};
-use il_ast::function::Func;
 use il_ast::operand::Val;
 use il_ast::symbol::Symbol;
 use il_ast::text::{Definition, Text};
@@ -21,41 +19,44 @@ pub fn symbol_in(text: &Text, name: &[u8]) -> Option<Symbol> {
 /// The line of the first definition that mentions a name besides its own; within a function that of the value.
 pub fn line_in(alloc: Global, text: &Text, symbol: Symbol) -> Result<Option<usize>, AllocError> {
     for definition in text.definitions.as_slice() {
-        let found = match definition {
-            Definition::Function(function) => used_in(alloc, function, symbol)?,
-            Definition::Object(object) => {
-                if has_address(object, symbol) {
-                    Some(line_of(definition))
-                } else {
-                    None
-                }
-            }
-        };
-        if found.is_some() {
-            return Ok(found);
+        match mentioned(alloc, definition, symbol) {
+            Ok(None) => {}
+            found => return found,
         }
     }
     Ok(None)
 }
 
-fn used_in(alloc: Global, function: &Func, symbol: Symbol) -> Result<Option<usize>, AllocError> {
-    for one in &uses(alloc, function)? {
-        if one.value == Val::Global(symbol) {
-            return Ok(Some(one.line));
-        }
+fn mentioned(
+    alloc: Global,
+    definition: &Definition,
+    symbol: Symbol,
+) -> Result<Option<usize>, AllocError> {
+    match definition {
+        Definition::Function(function) => match steps(alloc, function) {
+            Ok(steps) => Ok(read_in(steps.as_slice(), Val::Global(symbol))),
+            Err(error) => Err(error),
+        },
+        Definition::Object(object) if has_address(object, symbol) => Ok(Some(object.line)),
+        Definition::Object(_) => Ok(None),
     }
-    Ok(returned_in(function, symbol))
 }
 
-fn returned_in(function: &Func, symbol: Symbol) -> Option<usize> {
-    for block in function.blocks.as_slice() {
-        if let Some((line, value)) = returned(block) {
-            if value == Val::Global(symbol) {
-                return Some(line);
+/// The line that first reads a value, or else the one that first returns it.
+fn read_in(steps: &[Step], wanted: Val) -> Option<usize> {
+    let mut returned = None;
+    for step in steps {
+        match step.does {
+            Does::Reads(value) | Does::Takes(_, value) if value == wanted => {
+                return Some(step.line);
             }
+            Does::Returns(value) if value == wanted && returned.is_none() => {
+                returned = Some(step.line);
+            }
+            _ => {}
         }
     }
-    None
+    returned
 }
 
 fn has_address(object: &DataDef, name: Symbol) -> bool {

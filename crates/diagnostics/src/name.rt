@@ -63,12 +63,12 @@ const UNITS: [u64; 7] = [
 /// A number, with a comma before each three of its digits.
 pub fn add_count(words: &mut TextMaker, number: u64) {
     let mut begun = false;
-    for unit in UNITS {
-        let group = number.checked_div(unit).unwrap_or(0) % 1000;
+    for unit in &UNITS {
+        let group = number.checked_div(*unit).unwrap_or(0) % 1000;
         if begun {
             words.add(",");
             add_three(words, group);
-        } else if group > 0 || unit == 1 {
+        } else if group > 0 || *unit == 1 {
             words.add_number(group);
             begun = true;
         }

@@ -49,13 +49,8 @@ fn other_phi(block: &Block, phi: &Phi) -> Option<usize> {
 
 /// Whether a block's jump names a label.
 pub fn leads_to(block: &Block, label: Label) -> bool {
-    match &block.jump {
-        Some(jump) => {
-            let (one, other) = targets(jump.item);
-            one == Some(label) || other == Some(label)
-        }
-        None => false,
-    }
+    let (one, other) = targets(block);
+    one == Some(label) || other == Some(label)
 }
 
 /// A predecessor that the phi leaves out.

@@ -1,107 +1,157 @@
-//! Where values stand in a function, and where temporaries are assigned.
+//! What the lines of a function do: which values they read, and which temporaries they assign.
 use il_ast::block::{Block, Phi};
 use il_ast::function::Func;
 use il_ast::instruction::{Inst, Jump, Lined};
+use il_ast::label::Label;
 use il_ast::operand::{Dest, Val};
 use il_ast::operation::{BinaryOp, Class, Size, UnaryOp};
 use il_ast::temp::Temp;
 use std::alloc::{AllocError, Global};
 
-/// A value at a line, in a place of a class.
+/// What a line does in a place of a class. The block is that with this number, and for parameters the first one.
 #[derive(Clone, Copy)]
-pub struct Use {
+pub struct Step {
+    pub block: usize,
     pub line: usize,
     pub class: Class,
-    pub value: Val,
+    pub does: Does,
 }
 
-/// A temporary that is assigned at a line, with a class.
+/// What is done with a value or a temporary.
 #[derive(Clone, Copy)]
-pub struct Definer {
-    pub line: usize,
-    pub temp: Temp,
-    pub class: Class,
+pub enum Does {
+    /// The value is read.
+    Reads(Val),
+    /// The value is read where the block is entered from that of the label.
+    Takes(Label, Val),
+    /// The value is returned.
+    Returns(Val),
+    /// The temporary is assigned.
+    Assigns(Temp),
 }
 
-/// All values of a function but those that it returns.
-pub fn uses(alloc: Global, function: &Func) -> Result<Vec<Use>, AllocError> {
-    let mut found = Vec::new(alloc);
-    for block in function.blocks.as_slice() {
-        push_block(&mut found, block)?;
-    }
-    Ok(found)
+/// StepList in the order of the text. Once memory is refused there will be none, and whoever makes them is told at the end.
+#[derive(Drop)]
+pub struct StepList {
+    list: Vec<Step>,
+    block: usize,
+    is_refused: bool,
 }
 
-fn push_block(found: &mut Vec<Use>, block: &Block) -> Result<(), AllocError> {
-    for phi in block.phis.as_slice() {
-        push_phi(found, phi)?;
-    }
-    for inst in block.insts.as_slice() {
-        push_inst(found, inst)?;
-    }
-    match &block.jump {
-        Some(jump) => push_jump(found, jump),
-        None => Ok(()),
-    }
-}
-
-fn push_phi(found: &mut Vec<Use>, phi: &Phi) -> Result<(), AllocError> {
-    for arg in phi.args.as_slice() {
-        found.push(Use {
-            line: phi.line,
-            class: phi.to.class,
-            value: arg.value,
-        })?;
-    }
-    Ok(())
-}
-
-pub fn push_inst(found: &mut Vec<Use>, inst: &Lined<Inst>) -> Result<(), AllocError> {
-    let line = inst.line;
-    match &inst.item {
-        Inst::Unary { to, op, value } => push(found, line, unary_class(*op, *to), *value),
-        Inst::Binary {
-            to,
-            op,
-            left,
-            right,
-        } => {
-            push(found, line, left_class(*op, *to), *left)?;
-            push(found, line, right_class(*op, *to), *right)
+impl StepList {
+    /// No step yet.
+    pub fn new(alloc: Global) -> StepList {
+        StepList {
+            list: Vec::new(alloc),
+            block: 0,
+            is_refused: false,
         }
-        Inst::Alloc { .. } => Ok(()),
-        Inst::Store { size, value, at } => {
-            push(found, line, stored_class(*size), *value)?;
-            push(found, line, Class::L, *at)
+    }
+
+    fn add(&mut self, line: usize, class: Class, does: Does) {
+        let block = self.block;
+        let step = Step {
+            block,
+            line,
+            class,
+            does,
+        };
+        if self.list.push(step).is_err() {
+            self.is_refused = true;
         }
-        Inst::Blit { from, to, count: _ } => {
-            push(found, line, Class::L, *from)?;
-            push(found, line, Class::L, *to)
+    }
+
+    fn add_block(&mut self, block: &Block) {
+        for phi in block.phis.as_slice() {
+            self.add_phi(phi);
         }
-        Inst::Call {
-            to: _,
-            callee,
-            args,
-        } => {
-            push(found, line, Class::L, *callee)?;
-            for arg in args.as_slice() {
-                push(found, line, arg.class, arg.value)?;
+        for inst in block.insts.as_slice() {
+            self.add_inst(inst);
+        }
+        if let Some(jump) = &block.jump {
+            self.add_jump(jump);
+        }
+    }
+
+    /// Adds what a phi does.
+    pub fn add_phi(&mut self, phi: &Phi) {
+        for arg in phi.args.as_slice() {
+            self.add(phi.line, phi.to.class, Does::Takes(arg.from, arg.value));
+        }
+        self.add(phi.line, phi.to.class, Does::Assigns(phi.to.temp));
+    }
+
+    /// Adds what an instruction does: it reads its operands in order, and assigns.
+    pub fn add_inst(&mut self, inst: &Lined<Inst>) {
+        let line = inst.line;
+        match &inst.item {
+            Inst::Unary { to, op, value } => {
+                self.add(line, unary_class(*op, *to), Does::Reads(*value))
             }
-            Ok(())
+            Inst::Binary {
+                to,
+                op,
+                left,
+                right,
+            } => {
+                let (one, other) = binary_classes(*op, *to);
+                self.add(line, one, Does::Reads(*left));
+                self.add(line, other, Does::Reads(*right));
+            }
+            Inst::Alloc { .. } => {}
+            Inst::Store { size, value, at } => {
+                self.add(line, stored_class(*size), Does::Reads(*value));
+                self.add(line, Class::L, Does::Reads(*at));
+            }
+            Inst::Blit { from, to, count: _ } => {
+                self.add(line, Class::L, Does::Reads(*from));
+                self.add(line, Class::L, Does::Reads(*to));
+            }
+            Inst::Call {
+                to: _,
+                callee,
+                args,
+            } => {
+                self.add(line, Class::L, Does::Reads(*callee));
+                for arg in args.as_slice() {
+                    self.add(line, arg.class, Does::Reads(arg.value));
+                }
+            }
+        }
+        if let Some(to) = destination(&inst.item) {
+            self.add(line, to.class, Does::Assigns(to.temp));
         }
     }
-}
 
-pub fn push_jump(found: &mut Vec<Use>, jump: &Lined<Jump>) -> Result<(), AllocError> {
-    match jump.item {
-        Jump::Branch { on, .. } => push(found, jump.line, Class::W, on),
-        Jump::Goto(_) | Jump::Return(_) | Jump::Halt => Ok(()),
+    /// Adds what a jump decides on or returns. Nothing is asked of the class of what is returned.
+    pub fn add_jump(&mut self, jump: &Lined<Jump>) {
+        match jump.item {
+            Jump::Branch { on, .. } => self.add(jump.line, Class::W, Does::Reads(on)),
+            Jump::Return(Some(value)) => self.add(jump.line, Class::L, Does::Returns(value)),
+            Jump::Goto(_) | Jump::Return(None) | Jump::Halt => {}
+        }
+    }
+
+    /// The steps, where memory was given for all of them.
+    pub fn finish(self) -> Result<Vec<Step>, AllocError> {
+        if self.is_refused {
+            return Err(AllocError);
+        }
+        Ok(self.list)
     }
 }
 
-fn push(found: &mut Vec<Use>, line: usize, class: Class, value: Val) -> Result<(), AllocError> {
-    found.push(Use { line, class, value })?;
-    Ok(())
+/// All that a function does: its parameters are assigned, and then block by block.
+pub fn steps(alloc: Global, function: &Func) -> Result<Vec<Step>, AllocError> {
+    let mut steps = StepList::new(alloc);
+    for param in function.params.as_slice() {
+        steps.add(param.line, param.class, Does::Assigns(param.temp));
+    }
+    for (number, block) in function.blocks.as_slice().iter().enumerate() {
+        steps.block = number;
+        steps.add_block(block);
+    }
+    steps.finish()
 }
 
 fn unary_class(op: UnaryOp, to: Dest) -> Class {
@@ -112,18 +162,11 @@ fn unary_class(op: UnaryOp, to: Dest) -> Class {
     }
 }
 
-fn left_class(op: BinaryOp, to: Dest) -> Class {
+fn binary_classes(op: BinaryOp, to: Dest) -> (Class, Class) {
     match op {
-        BinaryOp::Compare(_, class) => class,
-        _ => to.class,
-    }
-}
-
-fn right_class(op: BinaryOp, to: Dest) -> Class {
-    match op {
-        BinaryOp::Compare(_, class) => class,
-        BinaryOp::Sar | BinaryOp::Shr | BinaryOp::Shl => Class::W,
-        _ => to.class,
+        BinaryOp::Compare(_, class) => (class, class),
+        BinaryOp::Sar | BinaryOp::Shr | BinaryOp::Shl => (to.class, Class::W),
+        _ => (to.class, to.class),
     }
 }
 
@@ -134,57 +177,8 @@ fn stored_class(size: Size) -> Class {
     }
 }
 
-/// The value that a block returns, with its line.
-pub fn returned(block: &Block) -> Option<(usize, Val)> {
-    match &block.jump {
-        Some(jump) => match jump.item {
-            Jump::Return(Some(value)) => Some((jump.line, value)),
-            _ => None,
-        },
-        None => None,
-    }
-}
-
-/// All places of a function that assign a temporary: parameters, phis and instructions.
-pub fn definers(alloc: Global, function: &Func) -> Result<Vec<Definer>, AllocError> {
-    let mut found = Vec::new(alloc);
-    for param in function.params.as_slice() {
-        found.push(Definer {
-            line: param.line,
-            temp: param.temp,
-            class: param.class,
-        })?;
-    }
-    for block in function.blocks.as_slice() {
-        push_definers(&mut found, block)?;
-    }
-    Ok(found)
-}
-
-fn push_definers(found: &mut Vec<Definer>, block: &Block) -> Result<(), AllocError> {
-    for phi in block.phis.as_slice() {
-        push_definer(found, phi.line, phi.to)?;
-    }
-    for inst in block.insts.as_slice() {
-        match destination(&inst.item) {
-            Some(to) => push_definer(found, inst.line, to)?,
-            None => {}
-        }
-    }
-    Ok(())
-}
-
-fn push_definer(found: &mut Vec<Definer>, line: usize, to: Dest) -> Result<(), AllocError> {
-    found.push(Definer {
-        line,
-        temp: to.temp,
-        class: to.class,
-    })?;
-    Ok(())
-}
-
 /// Where the result of an instruction goes.
-pub fn destination(inst: &Inst) -> Option<Dest> {
+fn destination(inst: &Inst) -> Option<Dest> {
     match inst {
         Inst::Unary { to, .. } | Inst::Binary { to, .. } | Inst::Alloc { to, .. } => Some(*to),
         Inst::Call { to, .. } => *to,
@@ -193,10 +187,11 @@ pub fn destination(inst: &Inst) -> Option<Dest> {
 }
 
 /// The class of a temporary, where it is assigned.
-pub fn class_of(definers: &[Definer], temp: Temp) -> Option<Class> {
-    for definer in definers {
-        if definer.temp == temp {
-            return Some(definer.class);
+pub fn class_of(steps: &[Step], temp: Temp) -> Option<Class> {
+    for step in steps {
+        match step.does {
+            Does::Assigns(other) if other == temp => return Some(step.class),
+            _ => {}
         }
     }
     None

@@ -1,44 +1,40 @@
 //! What is wrong with the temporaries of a function.
 use crate::name::{add_class, add_global, add_line, add_temp};
-use crate::place::{Definer, Use, class_of, definers, returned, uses};
+use crate::place::{Does, Step, class_of};
 use il_ast::function::Func;
 use il_ast::operand::Val;
 use il_ast::operation::Class;
 use il_ast::temp::Temp;
 use il_ast::text::Text;
-use std::alloc::{AllocError, Global};
 use text_maker::maker::TextMaker;
 
 /// A temporary of two classes.
-pub fn add_two_classes(
-    alloc: Global,
-    words: &mut TextMaker,
-    function: &Func,
-    line: usize,
-) -> Result<(), AllocError> {
-    let all = definers(alloc, function)?;
-    for definer in &all {
-        if definer.line == line {
-            if let Some(other) = other_class(all.as_slice(), definer) {
-                add_temp(words, function, definer.temp);
-                words.add(" has class ");
-                add_class(words, definer.class);
-                words.add(" here and class ");
-                add_class(words, other.class);
-                words.add(" at ");
-                add_line(words, other.line);
-                return Ok(());
+pub fn add_two_classes(words: &mut TextMaker, function: &Func, steps: &[Step], line: usize) {
+    for step in steps {
+        match step.does {
+            Does::Assigns(temp) if step.line == line => {
+                if let Some(other) = other_class(steps, temp, step.class) {
+                    add_temp(words, function, temp);
+                    words.add(" has class ");
+                    add_class(words, step.class);
+                    words.add(" here and class ");
+                    add_class(words, other.class);
+                    words.add(" at ");
+                    add_line(words, other.line);
+                    return;
+                }
             }
+            _ => {}
         }
     }
-    Ok(())
 }
 
-/// Another place that assigns the temporary, with another class.
-fn other_class(definers: &[Definer], definer: &Definer) -> Option<Definer> {
-    for other in definers {
-        if other.temp == definer.temp && other.class != definer.class {
-            return Some(*other);
+/// Another step that assigns the temporary, with another class.
+fn other_class(steps: &[Step], temp: Temp, class: Class) -> Option<&Step> {
+    for step in steps {
+        match step.does {
+            Does::Assigns(other) if other == temp && step.class != class => return Some(step),
+            _ => {}
         }
     }
     None
@@ -46,20 +42,18 @@ fn other_class(definers: &[Definer], definer: &Definer) -> Option<Definer> {
 
 /// An operand that doesn't fit its place, or a result of a class that its operation hasn't.
 pub fn add_misfit(
-    alloc: Global,
     words: &mut TextMaker,
     text: &Text,
     function: &Func,
+    steps: &[Step],
     line: usize,
-) -> Result<(), AllocError> {
-    let assigned = definers(alloc, function)?;
-    for one in &uses(alloc, function)? {
-        if one.line == line && add_wrong_use(words, text, function, assigned.as_slice(), one) {
-            return Ok(());
+) {
+    for step in steps {
+        if step.line == line && add_wrong_use(words, text, function, steps, step) {
+            return;
         }
     }
     words.add("the result of this operation has class l, and not w");
-    Ok(())
 }
 
 /// Says of a value that doesn't fit its place what it is. Answers whether it doesn't.
@@ -67,26 +61,26 @@ fn add_wrong_use(
     words: &mut TextMaker,
     text: &Text,
     function: &Func,
-    definers: &[Definer],
-    one: &Use,
+    steps: &[Step],
+    step: &Step,
 ) -> bool {
-    match one.value {
-        Val::Temp(temp) if one.class == Class::L && is_word(definers, temp) => {
+    let value = match step.does {
+        Does::Reads(value) | Does::Takes(_, value) => value,
+        Does::Returns(_) | Does::Assigns(_) => return false,
+    };
+    match value {
+        Val::Temp(temp) if step.class == Class::L && class_of(steps, temp) == Some(Class::W) => {
             add_temp(words, function, temp);
             words.add(" has class w and stands in an l place");
             true
         }
-        Val::Global(symbol) if one.class == Class::W => {
+        Val::Global(symbol) if step.class == Class::W => {
             add_global(words, text, symbol);
             words.add(" is an address and stands in a w place");
             true
         }
         _ => false,
     }
-}
-
-fn is_word(definers: &[Definer], temp: Temp) -> bool {
-    class_of(definers, temp) == Some(Class::W)
 }
 
 /// A value that is returned from a function of another class, or of none.
@@ -101,41 +95,26 @@ pub fn add_wrong_return(words: &mut TextMaker, function: &Func) {
 }
 
 /// A temporary that is used and assigned nowhere.
-pub fn add_undefined(
-    alloc: Global,
-    words: &mut TextMaker,
-    function: &Func,
-    line: usize,
-) -> Result<(), AllocError> {
-    let assigned = definers(alloc, function)?;
-    let mut found = undefined_return(function, assigned.as_slice(), line);
-    for one in &uses(alloc, function)? {
-        if one.line == line && found.is_none() {
-            found = undefined(assigned.as_slice(), one.value);
-        }
-    }
-    match found {
+pub fn add_undefined(words: &mut TextMaker, function: &Func, steps: &[Step], line: usize) {
+    match undefined(steps, line) {
         Some(temp) => add_temp(words, function, temp),
         None => words.add("a temporary"),
     }
     words.add(" is used, and assigned nowhere in the function");
-    Ok(())
 }
 
-/// The temporary that a value is, where nothing assigns it.
-fn undefined(definers: &[Definer], value: Val) -> Option<Temp> {
-    match value {
-        Val::Temp(temp) if class_of(definers, temp).is_none() => Some(temp),
-        _ => None,
-    }
-}
-
-fn undefined_return(function: &Func, definers: &[Definer], line: usize) -> Option<Temp> {
-    for block in function.blocks.as_slice() {
-        if let Some((at, value)) = returned(block) {
-            if at == line {
-                return undefined(definers, value);
+/// The first temporary in a line that nothing assigns.
+fn undefined(steps: &[Step], line: usize) -> Option<Temp> {
+    for step in steps {
+        match step.does {
+            Does::Reads(Val::Temp(temp))
+            | Does::Takes(_, Val::Temp(temp))
+            | Does::Returns(Val::Temp(temp)) => {
+                if step.line == line && class_of(steps, temp).is_none() {
+                    return Some(temp);
+                }
             }
+            _ => {}
         }
     }
     None

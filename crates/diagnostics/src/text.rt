@@ -5,6 +5,7 @@ use crate::label::{add_jump_to_entry, add_open_end, add_repeated_local, add_unkn
 use crate::limit::text_limit;
 use crate::note::{Note, make_note};
 use crate::phi::add_uncovered;
+use crate::place::steps;
 use crate::size::{add_long_blit, add_wrong_alloc};
 use crate::syntax::add_unexpected;
 use crate::temporary::{add_misfit, add_two_classes, add_undefined, add_wrong_return};
@@ -25,12 +26,10 @@ pub fn syntax(alloc: Global, bytes: &[u8]) -> Result<String, AllocError> {
 
 /// Which names break a rule at a line.
 pub fn rule(alloc: Global, bytes: &[u8], fault: BrokenRule) -> Result<String, AllocError> {
-    let mut words = TextMaker::new(alloc);
     match read(alloc, bytes) {
-        Ok(text) => add_rule(alloc, &mut words, &text, fault)?,
-        Err(_) => return Err(AllocError),
+        Ok(text) => rule_of(alloc, &text, fault),
+        Err(_) => Err(AllocError),
     }
-    words.finish()
 }
 
 /// Which limit the text with this number passes, and where.
@@ -38,6 +37,14 @@ pub fn limit(alloc: Global, number: usize, bytes: &[u8]) -> Result<Note, AllocEr
     match read(alloc, bytes) {
         Ok(text) => text_limit(alloc, number, &text),
         Err(_) => Err(AllocError),
+    }
+}
+
+fn rule_of(alloc: Global, text: &Text, fault: BrokenRule) -> Result<String, AllocError> {
+    let mut words = TextMaker::new(alloc);
+    match add_rule(alloc, &mut words, text, fault) {
+        Ok(()) => words.finish(),
+        Err(error) => Err(error),
     }
 }
 
@@ -52,10 +59,11 @@ fn add_rule(
         Rule::DistinctGlobals => add_repeated_global(words, text, line),
         Rule::DataFields => add_wrong_fields(words, text, line),
         Rule::Alignment => add_wrong_alignment(words, text, line),
-        _ => match function_at(text, line) {
-            Some(function) => add_local_rule(alloc, words, text, function, fault)?,
-            None => {}
-        },
+        _ => {
+            if let Some(function) = function_at(text, line) {
+                return add_local_rule(alloc, words, text, function, fault);
+            }
+        }
     }
     Ok(())
 }
@@ -74,14 +82,32 @@ fn add_local_rule(
         Rule::KnownLabels => add_unknown_label(words, function, line),
         Rule::EntryNotTarget => add_jump_to_entry(words, function),
         Rule::LastBlockEnds => add_open_end(words, function, line),
-        Rule::OneType => return add_two_classes(alloc, words, function, line),
-        Rule::OperandFits => return add_misfit(alloc, words, text, function, line),
         Rule::PhiCoversPredecessors => add_uncovered(words, function, line),
         Rule::AllocInEntry => add_wrong_alloc(words, function, line),
         Rule::ReturnFits => add_wrong_return(words, function),
-        Rule::DefinedTemporaries => return add_undefined(alloc, words, function, line),
         Rule::BlitSize => add_long_blit(words, function, line),
+        Rule::OneType | Rule::OperandFits | Rule::DefinedTemporaries => {
+            return add_rule_of_steps(alloc, words, text, function, fault);
+        }
         Rule::DistinctGlobals | Rule::DataFields | Rule::Alignment => {}
+    }
+    Ok(())
+}
+
+/// Which temporaries of a function break a rule.
+fn add_rule_of_steps(
+    alloc: Global,
+    words: &mut TextMaker,
+    text: &Text,
+    function: &Func,
+    fault: BrokenRule,
+) -> Result<(), AllocError> {
+    let line = fault.line;
+    let steps = steps(alloc, function)?;
+    match fault.rule {
+        Rule::OneType => add_two_classes(words, function, steps.as_slice(), line),
+        Rule::OperandFits => add_misfit(words, text, function, steps.as_slice(), line),
+        _ => add_undefined(words, function, steps.as_slice(), line),
     }
     Ok(())
 }
