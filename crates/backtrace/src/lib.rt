@@ -8,7 +8,6 @@
 #![tactic(auto)]
 
 mod calls;
-mod operands;
 pub mod source;
 pub mod story;
 mod turn;

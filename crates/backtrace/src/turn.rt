@@ -1,10 +1,13 @@
 //! The turn that was the last.
-use crate::operands::{push_operands, push_operands_of_jump};
 use crate::source::{Source, add_symbol, block_at, function_at, target_of};
 use crate::values::add_value;
+use diagnostics::label::targets;
 use diagnostics::name::add_temp;
+use diagnostics::place::{Does, Step, StepList};
+use il_ast::block::Block;
 use il_ast::function::Func;
 use il_ast::instruction::Inst;
+use il_ast::label::Label;
 use il_ast::operand::Val;
 use il_ast::operation::{Extension, UnaryOp};
 use il_ast::program::{InText, Target};
@@ -22,51 +25,101 @@ pub fn add_operands(
     running: &Running<'_>,
     place: Place,
 ) -> Result<(), AllocError> {
-    let function = match function_at(source, place.function) {
-        Some(function) => function,
-        None => return Ok(()),
-    };
-    let mut operands = Vec::new(alloc);
-    push_read(&mut operands, source, function.item, place)?;
-    add_each(words, source, running, function, operands.as_slice());
-    add_blank(words, source, running, place, function);
+    if let Some(function) = function_at(source, place.function)
+        && let Some(block) = block_at(source, place)
+    {
+        let steps = steps_of(alloc, function.item, block, place.next)?;
+        add_each(
+            words,
+            source,
+            running,
+            function,
+            block.label,
+            steps.as_slice(),
+        );
+        add_blank(words, source, running, place, function);
+    }
     Ok(())
 }
 
-/// Adds the operands of a turn.
-fn push_read(
-    operands: &mut Vec<Val>,
-    source: &Source<'_>,
+/// What a turn of a block does: an instruction, or the jump with the phis of the blocks that it may lead to.
+fn steps_of(
+    alloc: Global,
     function: &Func,
-    place: Place,
-) -> Result<(), AllocError> {
-    match block_at(source, place) {
-        Some(block) => match block.insts.as_slice().get(place.next) {
-            Some(inst) => push_operands(operands, &inst.item),
-            None => push_operands_of_jump(operands, function, block),
-        },
-        None => Ok(()),
+    block: &Block,
+    next: usize,
+) -> Result<Vec<Step>, AllocError> {
+    let mut steps = StepList::new(alloc);
+    match block.insts.as_slice().get(next) {
+        Some(inst) => steps.add_inst(inst),
+        None => {
+            if let Some(jump) = &block.jump {
+                steps.add_jump(jump);
+            }
+            let (one, other) = targets(block);
+            add_phis(&mut steps, function.blocks.as_slice(), one);
+            add_phis(&mut steps, function.blocks.as_slice(), other);
+        }
+    }
+    steps.finish()
+}
+
+fn add_phis(steps: &mut StepList, blocks: &[Block], label: Option<Label>) {
+    for block in blocks {
+        if label == Some(block.label) {
+            for phi in block.phis.as_slice() {
+                steps.add_phi(phi);
+            }
+        }
     }
 }
 
-/// Adds a line for each of these operands, once.
+/// Adds a line for each value that a turn of the block of a label reads, once.
 fn add_each(
     words: &mut TextMaker,
     source: &Source<'_>,
     running: &Running<'_>,
     function: &InText<&Func>,
-    operands: &[Val],
+    label: Label,
+    steps: &[Step],
 ) {
-    for (number, operand) in operands.iter().enumerate() {
-        if !is_before(operands, number, *operand) {
-            add_operand(words, source, running, function, *operand);
+    for number in 0..steps.len() {
+        if let Some(operand) = first_read(steps, number, label) {
+            add_operand(words, source, running, function, operand);
         }
     }
 }
 
-/// Whether an operand stands among the first ones.
-fn is_before(operands: &[Val], count: usize, operand: Val) -> bool {
-    operands.get(..count).unwrap_or(&[]).contains(&operand)
+/// The value that the step of this number reads, where none before it does.
+fn first_read(steps: &[Step], number: usize, label: Label) -> Option<Val> {
+    match steps.get(number) {
+        Some(step) => match value_read(step, label) {
+            Some(operand) => unread(steps, number, label, operand),
+            None => None,
+        },
+        None => None,
+    }
+}
+
+/// The value that a step reads in the block of a label, or behind it.
+fn value_read(step: &Step, label: Label) -> Option<Val> {
+    match step.does {
+        Does::Reads(value) | Does::Returns(value) => Some(value),
+        Does::Takes(from, value) if from == label => Some(value),
+        Does::Takes(..) | Does::Assigns(_) => None,
+    }
+}
+
+/// The value, where none of the first steps reads it.
+fn unread(steps: &[Step], count: usize, label: Label, operand: Val) -> Option<Val> {
+    for step in steps.get(..count).unwrap_or(&[]) {
+        if let Some(value) = value_read(step, label) {
+            if value == operand {
+                return None;
+            }
+        }
+    }
+    Some(operand)
 }
 
 fn add_operand(
