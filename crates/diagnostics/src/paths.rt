@@ -23,6 +23,10 @@ pub struct Paths<'a> {
     assigned: Vec<BitSet>,
     /// what is handed on; then what was told
     spare: BitSet,
+    /// the places of the blocks that haven't handed on yet what came in
+    waiting: Vec<usize>,
+    /// for each block whether it is one of them
+    waits: Vec<bool>,
 }
 
 impl<'a> Paths<'a> {
@@ -44,18 +48,22 @@ impl<'a> Paths<'a> {
             entered,
             assigned: no_temps(alloc, length, blocks.len())?,
             spare: BitSet::new(alloc, length)?,
+            waiting: vec![in alloc; 0usize; 1]?,
+            waits: vec![in alloc; false; blocks.len()]?,
         })
     }
 
-    /// Hands what a block leaves unassigned to the blocks behind it, until nothing more comes in.
-    pub fn settle(&mut self, steps: &[Step]) {
+    /// Hands what blocks leave unassigned to the blocks behind them, until nothing more comes in anywhere.
+    pub fn settle(&mut self, steps: &[Step]) -> Result<(), AllocError> {
         self.assign(steps);
         for _ in 0..usize::MAX {
-            if !self.hand_all_on() {
-                self.spare.clear();
-                return;
+            match self.waiting.pop() {
+                Some(place) => self.hand_on(place)?,
+                None => break,
             }
         }
+        self.spare.clear();
+        Ok(())
     }
 
     fn assign(&mut self, steps: &[Step]) {
@@ -68,21 +76,25 @@ impl<'a> Paths<'a> {
         }
     }
 
-    /// Answers whether a block is entered with more than before.
-    fn hand_all_on(&mut self) -> bool {
-        let mut grew = false;
+    /// Hands what the block at a place leaves unassigned to the blocks behind it.
+    fn hand_on(&mut self, place: usize) -> Result<(), AllocError> {
+        self.leave(place);
         let blocks = self.blocks;
-        for (place, block) in blocks.iter().enumerate() {
-            self.leave(place);
-            let (one, other) = targets(block);
-            grew = self.enter(one) || grew;
-            grew = self.enter(other) || grew;
+        match blocks.get(place) {
+            Some(block) => {
+                let (one, other) = targets(block);
+                self.enter(one)?;
+                self.enter(other)
+            }
+            None => Ok(()),
         }
-        grew
     }
 
     /// Takes what the block at a place leaves unassigned.
     fn leave(&mut self, place: usize) {
+        if let Some(waits) = self.waits.get_mut(place) {
+            *waits = false;
+        }
         self.spare.clear();
         if let Some(entered) = self.entered.get(place) {
             let _ = join(&mut self.spare, entered);
@@ -94,15 +106,26 @@ impl<'a> Paths<'a> {
         }
     }
 
-    /// Hands it to the block of a label. Answers whether more comes in.
-    fn enter(&mut self, label: Option<Label>) -> bool {
+    /// Hands it to the block of a label, which waits where more comes in.
+    fn enter(&mut self, label: Option<Label>) -> Result<(), AllocError> {
         if let Some(label) = label
             && let Some(place) = self.place(label)
             && let Some(set) = self.entered.get_mut(place)
+            && join(set, &self.spare)
         {
-            return join(set, &self.spare);
+            return self.wait(place);
         }
-        false
+        Ok(())
+    }
+
+    fn wait(&mut self, place: usize) -> Result<(), AllocError> {
+        match self.waits.get_mut(place) {
+            Some(waits) if !*waits => {
+                *waits = true;
+                self.waiting.extend_from_slice(&[place])
+            }
+            _ => Ok(()),
+        }
     }
 
     /// The place of a label's block.

@@ -30,7 +30,7 @@ pub enum Does {
     Assigns(Temp),
 }
 
-/// StepList in the order of the text. Once memory is refused there will be none, and whoever makes them is told at the end.
+/// Steps in the order of the text. Once memory is refused there will be none, and whoever makes them is told at the end.
 #[derive(Drop)]
 pub struct StepList {
     list: Vec<Step>,

@@ -30,11 +30,13 @@ fn add_warnings(alloc: Global, notes: &mut Notes, function: &InText<&Func>) {
 
 fn add_of_steps(alloc: Global, notes: &mut Notes, function: &InText<&Func>, steps: &[Step]) {
     match Paths::of(alloc, function.item) {
-        Ok(mut paths) => {
-            paths.settle(steps);
-            add_unreached(alloc, notes, function, &paths);
-            add_reads(alloc, notes, function, &mut paths, steps);
-        }
+        Ok(mut paths) => match paths.settle(steps) {
+            Ok(()) => {
+                add_unreached(alloc, notes, function, &paths);
+                add_reads(alloc, notes, function, &mut paths, steps);
+            }
+            Err(_) => notes.refuse(),
+        },
         Err(_) => notes.refuse(),
     }
 }
