@@ -1,3 +1,4 @@
+pub mod Kept
 pub mod Mentions
 pub mod Symbols
 pub mod Values

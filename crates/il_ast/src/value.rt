@@ -18,6 +18,12 @@ pub enum Value {
     Function(Callee),
 }
 
+impl Default for Value {
+    fn default() -> Self {
+        Value::Integer(0)
+    }
+}
+
 /// One byte's place in memory.
 #[derive(Clone, Copy)]
 pub enum Cell {

@@ -18,8 +18,8 @@
 //! it stands, what it did last, and what the operands of the turn hold that is due (`trace`), which no contract promises.
 //!
 //! `operate::operate_one` and `operate::operate_two` are exactly the operations of the language
-//! (`il_ast`, `specs/Operations`). The crate stands on `il_ast`, `il_mem`, `il_types` and `obj_link`, and
-//! on `thiserror` for the texts of refusals.
+//! (`il_ast`, `specs/Operations`). The crate stands on `il_ast`, `il_mem`, `il_types` and `obj_link`, on
+//! `smallvec` for the arguments of a call, and on `thiserror` for the texts of refusals.
 #![tactic(auto)]
 
 mod call;

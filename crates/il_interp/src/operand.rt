@@ -14,6 +14,7 @@ use il_ast::operation::Class;
 use il_ast::program::{InText, Target};
 use il_ast::value::Value;
 use obj_link::linking::linked::Linked;
+use smallvec::SmallVec;
 use std::alloc::{AllocError, Global};
 
 /// A function of the program by its number.
@@ -98,10 +99,10 @@ pub fn all_operands(
     text: usize,
     temps: &Slots,
     args: &[Arg],
-) -> Result<Option<Vec<Value>>, AllocError>
+) -> Result<Option<SmallVec<Value, 4, Global>>, AllocError>
     ensures { IfOk result (λ found. MatchOption found (all_operands (globals_of (program linked.now) text) temps.now args.now ≡ None) (λ values. all_operands (globals_of (program linked.now) text) temps.now args.now ≡ Some values.items)) }
 {
-    let mut values = Vec::with_capacity(alloc, args.len())?;
+    let mut values = SmallVec::new(alloc);
     for arg in args {
         match operand(linked, text, temps, arg.class, arg.value) {
             Some(value) => values.push(value)?,

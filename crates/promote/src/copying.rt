@@ -1,7 +1,6 @@
 //! Copies of lists.
 ghost use Rattle.std.specs.Prelude.{◌≡◌, IfOk};
 
-use il_ast::few::Few;
 use il_ast::list::Seq;
 use il_ast::name::Name;
 use std::alloc::{AllocError, Global};
@@ -15,20 +14,6 @@ pub fn copied<T: Copy + Drop>(alloc: Global, items: &[T]) -> Result<Seq<T>, Allo
         copy.push(*item)?;
     }
     Ok(Seq::from_vec(copy))
-}
-
-/// A short list with the same items.
-pub fn copied_few<T: Copy + Default + Drop>(
-    alloc: Global,
-    items: &[T],
-) -> Result<Few<T>, AllocError>
-    ensures { IfOk result (λ copy. copy ≡ items.now) }
-{
-    let mut copy = Few::new(alloc);
-    for item in items {
-        copy.push(*item)?;
-    }
-    Ok(copy)
 }
 
 /// The same names.

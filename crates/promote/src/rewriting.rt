@@ -3,9 +3,9 @@ ghost use Rattle.std.specs.Prelude.{◌≡◌, map, IfOk};
 ghost use Rattle.promote.specs.Promoted.{storing, extending, loading, made_in, promoted_store, promoted_unary, promoted, promoted_line, promoted_block};
 ghost use Rattle.promote.specs.Tables.{widths_by};
 
-use crate::copying::copied_few;
 use crate::standing::{Standing, width_at};
 use il_ast::block::{Block, Phi};
+use il_ast::few::Few;
 use il_ast::instruction::{Inst, Jump, Lined};
 use il_ast::list::Seq;
 use il_ast::operand::{Dest, Val};
@@ -61,7 +61,7 @@ fn copied_phis(alloc: Global, phis: &[Phi]) -> Result<Seq<Phi>, AllocError>
         copy.push(Phi {
             line: phi.line,
             to: phi.to,
-            args: copied_few(alloc, phi.args.as_slice())?,
+            args: Few::from_slice(alloc, phi.args.as_slice())?,
         })?;
     }
     Ok(Seq::from_vec(copy))
@@ -115,7 +115,7 @@ fn promoted(alloc: Global, table: &[Standing], inst: &Inst) -> Result<Inst, Allo
         Inst::Call { to, callee, args } => Inst::Call {
             to: *to,
             callee: *callee,
-            args: copied_few(alloc, args.as_slice())?,
+            args: Few::from_slice(alloc, args.as_slice())?,
         },
     })
 }

@@ -8,9 +8,6 @@ loop-arg-preserved c = grind (arith, common_steps)
 pub returns-in_err-push-in-Some : goal.returns-in_err-push-in-Some
 returns-in_err-push-in-Some c = grind (arith, common_steps)
 
-pub returns-in_err-values : goal.returns-in_err-values
-returns-in_err-values c = grind (arith, common_steps)
-
 pub returns-in-None : goal.returns-in-None
 returns-in-None c = grind (arith, common_steps)
 
