@@ -20,7 +20,7 @@ PROGRAM = OUT / NAME
 # What the program was built of: the folders, one a line. It is as old as the begin of the build, so that a later edit is newer.
 STAMP = OUT / "stamp"
 
-# How many minutes of processor time all libraries take: 70 to 110 were measured.
+# How many minutes of processor time all libraries take: 70 to 155 were measured, as fast as machines are.
 ALL_MINUTES = 90
 
 
