@@ -97,11 +97,13 @@ enum Pass {
     BlockOrder,
 }
 
-/// All of them, in the order in which they go over a function.
-const PASSES: [Pass; 10] = [
+/// All of them, in the order in which they go over a function. Dead lines go before values are looked for, since they would count as readers of these, and once
+/// more behind that.
+const PASSES: [Pass; 11] = [
     Pass::SignExtensions,
     Pass::Joining,
     Pass::Propagation,
+    Pass::DeadCode,
     Pass::ValueNumbering,
     Pass::Sinking,
     Pass::DeadCode,

@@ -349,7 +349,7 @@ fn scanned_by(
         alloc,
         function.registers,
         facts.lifetimes.as_slice(),
-        &mut facts.demands,
+        &facts.demands,
     )?;
     let accesses = replace(&mut facts.accesses, Accesses::none(alloc));
     let ground = Ground {

@@ -1,12 +1,40 @@
 //! Which blocks are worth copies: a guess that nothing proved rests on.
 use block_chains::chains::reached;
-use loops::depths::target;
+use loops::depths::{depths, target};
 use std::alloc::{AllocError, Global};
 use vcode::code::Block;
 use vcode::line::{Jump, Line};
 
 /// As many lines as a block that isn't worth a copy has.
 const MANY: u64 = 100;
+
+/// A short block has fewer lines of code.
+const SHORT: u64 = 8;
+
+/// Which blocks are worth copies, besides those to which nothing else leads.
+#[derive(Clone, Copy)]
+pub(crate) enum Worth {
+    /// those that do nothing but branch or return, where they begin no loop
+    Bare,
+
+    /// those that branch or return behind few lines
+    Short,
+}
+
+/// The jumps that lead to a block.
+#[derive(Clone, Copy)]
+struct Sources {
+    /// how many they are, as far as a byte goes
+    count: u8,
+
+    /// whether one of them comes from a block in fewer loops
+    is_entry: bool,
+}
+
+const NONE: Sources = Sources {
+    count: 0,
+    is_entry: false,
+};
 
 /// So many blocks are counted without memory from the heap.
 const FEW: usize = 64;
@@ -40,6 +68,14 @@ fn is_short(block: &Block<u32>, most: u64) -> bool {
     }
 }
 
+/// Whether a block to which several jumps lead is worth copies.
+fn is_copied(block: &Block<u32>, sources: Sources, worth: Worth) -> bool {
+    match worth {
+        Worth::Bare => !sources.is_entry && is_short(block, 1),
+        Worth::Short => is_short(block, SHORT),
+    }
+}
+
 /// Whether the block counts: where there are no marks, all do.
 fn is_marked(marks: &[bool], block: usize) -> bool {
     match marks.get(block) {
@@ -48,12 +84,18 @@ fn is_marked(marks: &[bool], block: usize) -> bool {
     }
 }
 
-fn is_worth(blocks: &[Block<u32>], sources: &[u8], from: usize, to: usize, most: u64) -> bool {
+fn is_worth(
+    blocks: &[Block<u32>],
+    sources: &[Sources],
+    from: usize,
+    to: usize,
+    worth: Worth,
+) -> bool {
     if from == to {
         return false;
     }
     match (blocks.get(to), sources.get(to)) {
-        (Some(block), Some(count)) => *count == 1 || is_short(block, most),
+        (Some(block), Some(sources)) => sources.count == 1 || is_copied(block, *sources, worth),
         _ => false,
     }
 }
@@ -61,39 +103,94 @@ fn is_worth(blocks: &[Block<u32>], sources: &[u8], from: usize, to: usize, most:
 /// Whether the block goes to one that is worth a copy.
 fn is_chosen(
     blocks: &[Block<u32>],
-    sources: &[u8],
+    sources: &[Sources],
     number: usize,
     block: &Block<u32>,
-    most: u64,
+    worth: Worth,
 ) -> bool {
     match &block.jump {
-        Jump::Goto(to) => is_worth(blocks, sources, number, *to, most),
+        Jump::Goto(to) => is_worth(blocks, sources, number, *to, worth),
         Jump::Branch { .. } | Jump::Return(_) | Jump::Halt => false,
     }
 }
 
-fn count(counts: &mut [u8], to: Option<usize>) {
+fn count(sources: &mut [Sources], to: Option<usize>) {
     if let Some(to) = to {
-        if let Some(count) = counts.get_mut(to) {
-            *count = count.saturating_add(1);
+        if let Some(of) = sources.get_mut(to) {
+            of.count = of.count.saturating_add(1);
         }
     }
 }
 
-/// Counts the jumps from marked blocks that lead to each block, as far as a byte goes: a branch with both its targets the same counts twice.
-fn count_sources(counts: &mut [u8], blocks: &[Block<u32>], marks: &[bool]) {
+/// Counts the jumps from marked blocks that lead to each block: a branch with both its targets the same counts twice.
+fn count_sources(sources: &mut [Sources], blocks: &[Block<u32>], marks: &[bool]) {
     for (number, block) in blocks.iter().enumerate() {
         if is_marked(marks, number) {
-            count(counts, target(&block.jump, 0));
-            count(counts, target(&block.jump, 1));
+            count(sources, target(&block.jump, 0));
+            count(sources, target(&block.jump, 1));
         }
+    }
+}
+
+fn note_entry(sources: &mut [Sources], depths: &[u32], from: usize, to: Option<usize>) {
+    if let Some(to) = to {
+        match (sources.get_mut(to), depths.get(from), depths.get(to)) {
+            (Some(of), Some(outer), Some(inner)) => of.is_entry = of.is_entry || outer < inner,
+            _ => {}
+        }
+    }
+}
+
+/// Notes where jumps lead into loops.
+fn note_entries(
+    alloc: Global,
+    sources: &mut [Sources],
+    blocks: &[Block<u32>],
+) -> Result<(), AllocError> {
+    let depths = depths(alloc, blocks)?;
+    for (number, block) in blocks.iter().enumerate() {
+        note_entry(sources, depths.as_slice(), number, target(&block.jump, 0));
+        note_entry(sources, depths.as_slice(), number, target(&block.jump, 1));
+    }
+    Ok(())
+}
+
+/// Whether several jumps lead to a block that does nothing but branch.
+fn has_bare_branch(sources: &[Sources], blocks: &[Block<u32>]) -> bool {
+    for (of, block) in sources.iter().zip(blocks) {
+        if let Jump::Branch { .. } = &block.jump {
+            if 1 < of.count && are_few(block.lines.as_slice(), 1) {
+                return true;
+            }
+        }
+    }
+    false
+}
+
+/// Notes the jumps from marked blocks that lead to each block.
+fn note_sources(
+    alloc: Global,
+    sources: &mut [Sources],
+    blocks: &[Block<u32>],
+    marks: &[bool],
+    worth: Worth,
+) -> Result<(), AllocError> {
+    count_sources(sources, blocks, marks);
+    match worth {
+        Worth::Bare if has_bare_branch(sources, blocks) => note_entries(alloc, sources, blocks),
+        _ => Ok(()),
     }
 }
 
 /// The first block that is chosen, from this one on.
-fn first_chosen(blocks: &[Block<u32>], marks: &[bool], sources: &[u8], most: u64) -> Option<usize> {
+fn first_chosen(
+    blocks: &[Block<u32>],
+    marks: &[bool],
+    sources: &[Sources],
+    worth: Worth,
+) -> Option<usize> {
     for (number, block) in blocks.iter().enumerate() {
-        if is_marked(marks, number) && is_chosen(blocks, sources, number, block, most) {
+        if is_marked(marks, number) && is_chosen(blocks, sources, number, block, worth) {
             return Some(number);
         }
     }
@@ -101,9 +198,15 @@ fn first_chosen(blocks: &[Block<u32>], marks: &[bool], sources: &[u8], most: u64
 }
 
 /// Says of each block whether it is chosen; the first that is, is known.
-fn choose(chosen: &mut [bool], blocks: &[Block<u32>], marks: &[bool], sources: &[u8], most: u64) {
+fn choose(
+    chosen: &mut [bool],
+    blocks: &[Block<u32>],
+    marks: &[bool],
+    sources: &[Sources],
+    worth: Worth,
+) {
     for (number, block) in blocks.iter().enumerate() {
-        if is_marked(marks, number) && is_chosen(blocks, sources, number, block, most) {
+        if is_marked(marks, number) && is_chosen(blocks, sources, number, block, worth) {
             if let Some(is_this) = chosen.get_mut(number) {
                 *is_this = true;
             }
@@ -115,13 +218,13 @@ fn chosen_by(
     alloc: Global,
     blocks: &[Block<u32>],
     marks: &[bool],
-    sources: &[u8],
-    most: u64,
+    sources: &[Sources],
+    worth: Worth,
 ) -> Result<Option<Vec<bool>>, AllocError> {
-    match first_chosen(blocks, marks, sources, most) {
+    match first_chosen(blocks, marks, sources, worth) {
         Some(_) => {
             let mut chosen = vec![in alloc; false; blocks.len()]?;
-            choose(chosen.as_mut_slice(), blocks, marks, sources, most);
+            choose(chosen.as_mut_slice(), blocks, marks, sources, worth);
             Ok(Some(chosen))
         }
         None => Ok(None),
@@ -137,16 +240,16 @@ pub(crate) fn chosen_tails(
     alloc: Global,
     blocks: &[Block<u32>],
     marks: &[bool],
-    most: u64,
+    worth: Worth,
 ) -> Result<Option<Vec<bool>>, AllocError> {
     if blocks.len() <= FEW {
-        let mut counts = [0u8; FEW];
-        count_sources(&mut counts, blocks, marks);
-        return chosen_by(alloc, blocks, marks, &counts, most);
+        let mut sources = [NONE; FEW];
+        note_sources(alloc, &mut sources, blocks, marks, worth)?;
+        return chosen_by(alloc, blocks, marks, &sources, worth);
     }
-    let mut counts = vec![in alloc; 0u8; blocks.len()]?;
-    count_sources(counts.as_mut_slice(), blocks, marks);
-    chosen_by(alloc, blocks, marks, counts.as_slice(), most)
+    let mut sources = vec![in alloc; NONE; blocks.len()]?;
+    note_sources(alloc, sources.as_mut_slice(), blocks, marks, worth)?;
+    chosen_by(alloc, blocks, marks, sources.as_slice(), worth)
 }
 
 /// The numbers of the blocks to which a way leads from the first, in their order.

@@ -6,7 +6,7 @@ ghost use Rattle.il_ast.specs.Passes.{Keeps};
 ghost use Rattle.vcode.specs.Coded.{virtual_code};
 ghost use Rattle.tail_copies.specs.Joined.{joined, longer, AllLonger, block_burden};
 
-use crate::choice::{chosen_tails, reached_blocks};
+use crate::choice::{Worth, chosen_tails, reached_blocks};
 use crate::weigh::are_light;
 use block_chains::chains::reached;
 use block_order::order::in_order;
@@ -15,9 +15,6 @@ use std::alloc::{AllocError, Global};
 use vcode::code::Block;
 use vcode::function::VFunc;
 use vcode::line::{Jump, Line};
-
-/// A short block has fewer lines of code.
-const SHORT: u64 = 8;
 
 fn push_lines(alloc: Global, to: &mut Vec<Line<u32>>, lines: &[Line<u32>]) -> Result<(), AllocError>
     ensures { OnOk result (to.new.items ≡ to.old.items ++ lines.now) }
@@ -154,22 +151,22 @@ fn with_chosen(
     alloc: Global,
     function: &VFunc,
     marks: &[bool],
-    most: u64,
+    worth: Worth,
 ) -> Result<Option<VFunc>, AllocError>
     ensures { IfOk result (λ o. IfSome o (λ w. Keeps (virtual_code function.now) (virtual_code w))) }
 {
-    match chosen_tails(alloc, function.code.blocks.as_slice(), marks, most)? {
+    match chosen_tails(alloc, function.code.blocks.as_slice(), marks, worth)? {
         Some(chosen) => with_copies(alloc, function, chosen.as_slice()),
         None => Ok(None),
     }
 }
 
 /// Copies come to stand where other copies were chosen: so it is done again, of the blocks to which a way leads then.
-fn copied_again(alloc: Global, function: VFunc, most: u64) -> Result<VFunc, AllocError>
+fn copied_again(alloc: Global, function: VFunc, worth: Worth) -> Result<VFunc, AllocError>
     ensures { IfOk result (λ w. Keeps (virtual_code function) (virtual_code w)) }
 {
     let marks = reached(alloc, function.code.blocks.as_slice())?;
-    match with_chosen(alloc, &function, marks.as_slice(), most)? {
+    match with_chosen(alloc, &function, marks.as_slice(), worth)? {
         Some(made) => Ok(made),
         None => Ok(function),
     }
@@ -177,20 +174,21 @@ fn copied_again(alloc: Global, function: VFunc, most: u64) -> Result<VFunc, Allo
 
 /// The function with copies, if some are chosen.
 #[tactic(auto, using(il_ast::proofs::Passing::keeps_compose))]
-fn copied_twice(alloc: Global, function: &VFunc, most: u64) -> Result<Option<VFunc>, AllocError>
+fn copied_twice(alloc: Global, function: &VFunc, worth: Worth) -> Result<Option<VFunc>, AllocError>
     ensures { IfOk result (λ o. IfSome o (λ w. Keeps (virtual_code function.now) (virtual_code w))) }
 {
-    match with_chosen(alloc, function, &[], most)? {
+    match with_chosen(alloc, function, &[], worth)? {
         Some(once) => {
-            let twice = copied_again(alloc, once, most)?;
+            let twice = copied_again(alloc, once, worth)?;
             Ok(Some(twice))
         }
         None => Ok(None),
     }
 }
 
-/// The function in which blocks that go to one to which nothing else leads are one with it, without those to which no way leads. It takes time and memory as the
-/// text is long.
+/// The function in which blocks that go to one to which nothing else leads are one with it, and so are those that go to one that does nothing but branch or return,
+/// where that begins no loop: what is known where a jump comes from can say where it leads. It is without the blocks to which no way leads. It takes time and memory
+/// as the text is long.
 ///
 /// # Errors
 ///
@@ -199,7 +197,7 @@ fn copied_twice(alloc: Global, function: &VFunc, most: u64) -> Result<Option<VFu
 pub fn join_blocks(alloc: Global, function: VFunc) -> Result<VFunc, AllocError>
     ensures { IfOk result (λ w. Keeps (virtual_code function) (virtual_code w)) }
 {
-    match copied_twice(alloc, &function, 0)? {
+    match copied_twice(alloc, &function, Worth::Bare)? {
         Some(made) => {
             let reached = without_unreached(alloc, made)?;
             Ok(reached)
@@ -217,7 +215,7 @@ pub fn join_blocks(alloc: Global, function: VFunc) -> Result<VFunc, AllocError>
 pub fn copy_tails(alloc: Global, function: VFunc) -> Result<VFunc, AllocError>
     ensures { IfOk result (λ w. Keeps (virtual_code function) (virtual_code w)) }
 {
-    match copied_twice(alloc, &function, SHORT)? {
+    match copied_twice(alloc, &function, Worth::Short)? {
         Some(made) => Ok(made),
         None => Ok(function),
     }

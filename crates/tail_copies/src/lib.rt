@@ -1,7 +1,7 @@
 //! # Tail duplication
 //!
-//! A pass on virtual code. [`copy::join_blocks`] makes one block of two where the one goes to the other and nothing else leads there, so that passes along blocks see both. [`copy::copy_tails`] also puts copies of short blocks that branch
-//! in the place of jumps to them (`specs/Joined`): the test of a loop comes to stand in front of it and at its end, and no jump leads back to it.
+//! A pass on virtual code. [`copy::join_blocks`] makes one block of two where the one goes to the other and nothing else leads there, so that passes along blocks see both, and threads jumps: a
+//! branch without lines is copied to where jumps to it come from, since there it may be known where it leads. [`copy::copy_tails`] also puts copies of short blocks that branch in the place of jumps to them (`specs/Joined`): the test of a loop comes to stand in front of it and at its end, and no jump leads back to it.
 //!
 //! Which blocks are copied is a guess (`choice`). That all ticks together are few is tested; else the function stays as it is. [`copy::join_blocks`] leaves out blocks to which nothing leads any more; behind [`copy::copy_tails`] `block_order` does.
 //!
