@@ -1,4 +1,3 @@
-pub mod Kept
 pub mod Mentions
 pub mod Symbols
 pub mod Values

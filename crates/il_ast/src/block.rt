@@ -12,6 +12,15 @@ pub struct PhiArg {
     pub value: Val,
 }
 
+impl Default for PhiArg {
+    fn default() -> Self {
+        PhiArg {
+            from: Label::at(0),
+            value: Val::Int(0),
+        }
+    }
+}
+
 /// A phi: at the entry of its block the temporary takes the value of the block come from.
 #[derive(Drop)]
 pub struct Phi {

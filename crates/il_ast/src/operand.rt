@@ -11,6 +11,12 @@ pub enum Val {
     Global(Symbol),
 }
 
+impl Default for Val {
+    fn default() -> Self {
+        Val::Int(0)
+    }
+}
+
 /// The temporary that an instruction assigns, with the class that is written there.
 #[derive(Clone, Copy)]
 pub struct Dest {
@@ -23,4 +29,13 @@ pub struct Dest {
 pub struct Arg {
     pub class: Class,
     pub value: Val,
+}
+
+impl Default for Arg {
+    fn default() -> Self {
+        Arg {
+            class: Class::W,
+            value: Val::Int(0),
+        }
+    }
 }

@@ -4,7 +4,7 @@ use crate::reads::{Reads, jump_reads, line_reads, register_of};
 use crate::starts::Starts;
 use crate::text::{Stretch, Text};
 use cfg_live::uses::line_writes;
-use il_ast::few::Few;
+use smallvec::SmallVec;
 use std::alloc::{AllocError, Global};
 use vcode::code::Code;
 use vcode::line::Line;
@@ -14,48 +14,37 @@ use vcode::place::Destination;
 /// throughout.
 #[derive(Drop)]
 pub struct Lifetime {
-    pub ranges: Few<Range>,
-    /// the last range, while it may still become longer
-    last: Option<Range>,
+    pub ranges: SmallVec<Range, 2, Global>,
 }
 
-fn reach(lifetime: &mut Lifetime, at: usize) {
-    match &mut lifetime.last {
+fn reach(ranges: &mut SmallVec<Range, 2, Global>, at: usize) {
+    match ranges.as_mut_slice().last_mut() {
         Some(last) => last.end = last.end.max(at),
         None => {}
     }
 }
 
 /// Whether a position is in a range, or opens the block right behind it.
-fn joins(range: Option<Range>, at: usize) -> bool {
+fn joins(range: Option<&Range>, at: usize) -> bool {
     match range {
         Some(range) => at <= range.end || (at % 2 == 0 && at == range.end.saturating_add(1)),
         None => false,
     }
 }
 
-/// The last range becomes no longer.
-fn close(lifetime: &mut Lifetime) -> Result<(), AllocError> {
-    match lifetime.last.take() {
-        Some(last) => lifetime.ranges.push(last),
-        None => Ok(()),
-    }
-}
-
-fn begin(lifetime: &mut Lifetime, at: usize) -> Result<(), AllocError> {
-    if joins(lifetime.last, at) {
-        reach(lifetime, at);
+fn begin(ranges: &mut SmallVec<Range, 2, Global>, at: usize) -> Result<(), AllocError> {
+    if joins(ranges.as_slice().last(), at) {
+        reach(ranges, at);
         return Ok(());
     }
-    close(lifetime)?;
-    lifetime.last = Some(Range { start: at, end: at });
+    ranges.push(Range { start: at, end: at })?;
     Ok(())
 }
 
 /// From there on the register is live.
 fn begin_at(lifetimes: &mut [Lifetime], register: u32, at: usize) -> Result<(), AllocError> {
     match lifetimes.get_mut(register as usize) {
-        Some(lifetime) => begin(lifetime, at),
+        Some(lifetime) => begin(&mut lifetime.ranges, at),
         None => Ok(()),
     }
 }
@@ -63,7 +52,7 @@ fn begin_at(lifetimes: &mut [Lifetime], register: u32, at: usize) -> Result<(), 
 /// Up to there the register is live.
 fn reach_at(lifetimes: &mut [Lifetime], register: u32, at: usize) {
     match lifetimes.get_mut(register as usize) {
-        Some(lifetime) => reach(lifetime, at),
+        Some(lifetime) => reach(&mut lifetime.ranges, at),
         None => {}
     }
 }
@@ -188,8 +177,7 @@ fn first_lifetimes(
     let mut lifetimes = Vec::with_capacity(alloc, registers as usize)?;
     for register in 0..registers {
         lifetimes.push(Lifetime {
-            ranges: Few::new(alloc),
-            last: None,
+            ranges: SmallVec::new(alloc),
         })?;
         if starts.is_throughout(register) {
             begin_at(lifetimes.as_mut_slice(), register, 0)?;
@@ -197,13 +185,6 @@ fn first_lifetimes(
         }
     }
     Ok(lifetimes)
-}
-
-fn close_all(lifetimes: &mut [Lifetime]) -> Result<(), AllocError> {
-    for lifetime in lifetimes {
-        close(lifetime)?;
-    }
-    Ok(())
 }
 
 /// The lifetime of each of so many registers; those of parameters start with the code.
@@ -221,6 +202,5 @@ pub(crate) fn lifetimes(
     let end = right_after(text.points().saturating_sub(1));
     let mut lifetimes = first_lifetimes(alloc, registers, starts, end)?;
     use_code(lifetimes.as_mut_slice(), code, starts, text)?;
-    close_all(lifetimes.as_mut_slice())?;
     Ok(lifetimes)
 }

@@ -11,7 +11,7 @@ pub fn right_after(point: usize) -> usize {
 }
 
 /// The positions from `start` to `end`, both with it.
-#[derive(Clone, Copy)]
+#[derive(Clone, Copy, Default)]
 pub struct Range {
     pub start: usize,
     pub end: usize,
