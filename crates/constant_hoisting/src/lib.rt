@@ -9,9 +9,9 @@
 //! way of one that sets it, and the ticks of each block have to pay for it as before. Its contract says that the code is kept, in the words of every pass, and which
 //! code it makes. Only these tests carry the proof.
 //!
-//! Which plans are made is a guess at what saves most, which the crate `constant_choice` makes (`chosen`).
+//! Which plans are made is a guess at what saves most, which the crate `constant_hoisting` makes (`chosen`).
 //!
-//! The crate stands on `vcode` for code, on `loops` for where jumps lead and on `constant_choice` for the guess.
+//! The crate stands on `vcode` for code, on `flow` for where jumps lead and on `constant_hoisting` for the guess.
 #![tactic(auto)]
 
 mod chosen;

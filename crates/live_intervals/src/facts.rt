@@ -5,7 +5,7 @@ use crate::lifetimes::{Lifetime, lifetimes};
 use crate::starts::{Ground, Starts, line_count, starts_of};
 use crate::text::{Text, text_of};
 use cfg_live::sets::Live;
-use loops::depths::{depths_along, sources};
+use flow::depths::{depths_along, sources};
 use std::alloc::{AllocError, Global};
 use vcode::code::Block;
 use vcode::function::VFunc;

@@ -1,7 +1,7 @@
 //! The blocks of a function: where they stand in its text, how often they run, and which lead to which.
 use crate::lifetimes::jump_point;
 use il_ast::few::Few;
-use loops::depths::{frequency, target};
+use flow::depths::{frequency, target};
 use std::alloc::{AllocError, Global};
 use vcode::code::Block;
 

@@ -3,6 +3,6 @@ pub mod Refusals
 pub mod Laws
 pub mod Promoted
 pub mod Pipeline
-pub mod Leaves
+pub mod Candidates
 pub mod Codes
 pub mod Compile

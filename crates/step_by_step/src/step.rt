@@ -4,6 +4,7 @@ use crate::{
     allocation, back_end, files, frames, front_end, graphs, linking, machine, nests, orders,
     passes, phis, plans, tokens,
 };
+use qbec::passes::Pass;
 use std::alloc::Global;
 
 /// A step of the compiler, or a part of one.
@@ -16,21 +17,12 @@ pub enum Step {
     Promoting,
     Phis,
     Selection,
-    CallsInPlace,
-    SignExtensions,
-    Joining,
-    Propagation,
-    Hoisting,
-    ValueNumbering,
-    Sinking,
-    DeadCode,
-    ReadCopies,
+    Inlining,
+    /// a pass of the compiler
+    Pass(Pass),
     Loops,
-    ConstantHoisting,
     ConstantPlans,
-    TailCopies,
-    BlockChains,
-    BlockOrder,
+    ChosenOrders,
     GivenOrders,
     Points,
     Liveness,
@@ -49,8 +41,8 @@ pub enum Step {
     Machine,
 }
 
-/// All of them, in the order of the compiler.
-pub const STEPS: [Step; 38] = [
+/// The steps in front of the passes, in the order of the compiler.
+pub const FRONT_END: [Step; 8] = [
     Step::Tokens,
     Step::Reading,
     Step::Checking,
@@ -58,22 +50,19 @@ pub const STEPS: [Step; 38] = [
     Step::Promoting,
     Step::Phis,
     Step::Selection,
-    Step::CallsInPlace,
-    Step::SignExtensions,
-    Step::Joining,
-    Step::Propagation,
-    Step::Hoisting,
-    Step::ValueNumbering,
-    Step::Sinking,
-    Step::DeadCode,
-    Step::ReadCopies,
+    Step::Inlining,
+];
+
+/// What passes ask of a function, and what is done by given plans of theirs.
+pub const PARTS_OF_PASSES: [Step; 4] = [
     Step::Loops,
-    Step::ConstantHoisting,
     Step::ConstantPlans,
-    Step::TailCopies,
-    Step::BlockChains,
-    Step::BlockOrder,
+    Step::ChosenOrders,
     Step::GivenOrders,
+];
+
+/// The steps behind the passes.
+pub const BACK_END: [Step; 15] = [
     Step::Points,
     Step::Liveness,
     Step::SpillAll,
@@ -102,21 +91,11 @@ impl Step {
             Step::Promoting => "promoting",
             Step::Phis => "phis",
             Step::Selection => "selection",
-            Step::CallsInPlace => "calls_in_place",
-            Step::SignExtensions => "sign_extensions",
-            Step::Joining => "joining",
-            Step::Propagation => "propagation",
-            Step::Hoisting => "hoisting",
-            Step::ValueNumbering => "value_numbering",
-            Step::Sinking => "sinking",
-            Step::DeadCode => "dead_code",
-            Step::ReadCopies => "read_copies",
+            Step::Inlining => "inlining",
+            Step::Pass(pass) => pass.name(),
             Step::Loops => "loops",
-            Step::ConstantHoisting => "constant_hoisting",
             Step::ConstantPlans => "constant_plans",
-            Step::TailCopies => "tail_copies",
-            Step::BlockChains => "block_chains",
-            Step::BlockOrder => "block_order",
+            Step::ChosenOrders => "chosen_orders",
             Step::GivenOrders => "given_orders",
             Step::Points => "points",
             Step::Liveness => "liveness",
@@ -146,21 +125,11 @@ impl Step {
             Step::Promoting => front_end::promoted(alloc, case.given),
             Step::Phis => phis::copies(alloc, case.given),
             Step::Selection => phis::selected(alloc, case.given),
-            Step::CallsInPlace => passes::with_calls_in_place(alloc, case.given, case.with),
-            Step::SignExtensions => passes::with_whole_words(alloc, case.given),
-            Step::Joining => passes::with_blocks_joined(alloc, case.given),
-            Step::Propagation => passes::forwarded(alloc, case.given),
-            Step::Hoisting => passes::with_computations_hoisted(alloc, case.given),
-            Step::ValueNumbering => passes::with_values_reused(alloc, case.given),
-            Step::Sinking => passes::with_numbers_sunk(alloc, case.given),
-            Step::DeadCode => passes::without_dead_lines(alloc, case.given),
-            Step::ReadCopies => passes::with_copies_read(alloc, case.given),
+            Step::Inlining => passes::with_calls_inlined(alloc, case.given, case.with),
+            Step::Pass(pass) => passes::by_pass(alloc, pass, case.given),
             Step::Loops => nests::nests(alloc, case.given),
-            Step::ConstantHoisting => passes::with_constants_held(alloc, case.given),
             Step::ConstantPlans => plans::by_plan(alloc, case.given, case.with),
-            Step::TailCopies => passes::with_tails_copied(alloc, case.given),
-            Step::BlockChains => orders::chosen(alloc, case.given),
-            Step::BlockOrder => passes::with_blocks_ordered(alloc, case.given),
+            Step::ChosenOrders => orders::chosen(alloc, case.given),
             Step::GivenOrders => orders::in_given_order(alloc, case.given, case.with),
             Step::Points => graphs::points_of(alloc, case.given),
             Step::Liveness => graphs::live_registers(alloc, case.given, case.with),

@@ -2,24 +2,9 @@
 use crate::case::Case;
 use crate::step::Step;
 use crate::{allocation, frames, phis};
+use qbec::passes::PASSES;
 use std::alloc::Global;
 use text_maker::maker::TextMaker;
-
-/// The passes on virtual code, in the order of the compiler, which leaves the second propagation out where no value was used again.
-const PASSES: [Step; 12] = [
-    Step::SignExtensions,
-    Step::Joining,
-    Step::Propagation,
-    Step::Hoisting,
-    Step::ValueNumbering,
-    Step::Propagation,
-    Step::Sinking,
-    Step::DeadCode,
-    Step::ReadCopies,
-    Step::ConstantHoisting,
-    Step::TailCopies,
-    Step::BlockOrder,
-];
 
 /// What a step makes of this text.
 fn made_of(alloc: Global, step: Step, given: &str) -> Option<String> {
@@ -53,9 +38,9 @@ fn add_pass(out: &mut TextMaker, name: &str, before: &str, made: &str) {
 /// Adds what each pass makes of virtual code. What the last one made is answered.
 fn add_passes(out: &mut TextMaker, alloc: Global, selected: String) -> Option<String> {
     let mut text = selected;
-    for step in PASSES {
-        let made = made_of(alloc, step, text.as_str())?;
-        add_pass(out, step.name(), text.as_str(), made.as_str());
+    for pass in PASSES {
+        let made = made_of(alloc, Step::Pass(pass), text.as_str())?;
+        add_pass(out, pass.name(), text.as_str(), made.as_str());
         text = made;
     }
     Some(text)

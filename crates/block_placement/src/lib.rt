@@ -1,0 +1,15 @@
+//! # Blocks in another order
+//!
+//! A pass on virtual code. A jump to the block that stands next takes no instruction, and a branch takes no jump beside it where one of its targets stands next.
+//! [`order::place_blocks`] puts the blocks of a function so that fewer jumps are taken, and leaves out those to which nothing leads.
+//!
+//! The order is a guess at what runs often, which the crate `block_placement` makes. Nothing that is proved rests on it: [`order::in_order`] puts blocks in any order that is one (`is_order` in `specs/Ordered`), and leads jumps to where their targets stand then.
+//!
+//! The contract says that the code is kept, in the words of every pass, and that it is the code in some order.
+//!
+//! The crate stands on `vcode` for code, on `flow` for where jumps lead and on `block_placement` for the guess.
+#![tactic(auto)]
+
+mod blocks;
+pub mod order;
+mod places;
