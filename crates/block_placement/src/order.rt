@@ -6,8 +6,8 @@ ghost use Rattle.block_placement.specs.Ordered.{in_order, is_order, IsOrdered};
 ghost use Rattle.block_placement.specs.Placed.{ArePlaces};
 
 use crate::blocks::blocks_in_order;
-use crate::places::{begins, is_closed, places};
 use crate::choice::chains::chained;
+use crate::places::{begins, is_closed, places};
 use std::alloc::{AllocError, Global};
 use vcode::function::VFunc;
 

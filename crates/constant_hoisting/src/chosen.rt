@@ -1,6 +1,6 @@
 //! Plans for the constants that are chosen.
-use crate::plan::{Constant, Plan};
 use crate::choice::choose::{Chosen, choose_constants};
+use crate::plan::{Constant, Plan};
 use std::alloc::{AllocError, Global};
 use vcode::function::VFunc;
 use vcode::place::Operand;

@@ -78,7 +78,11 @@ fn as_it_is(alloc: Global, function: &VFunc, weight_left: u64) -> Result<Growth,
 }
 
 /// The function with calls done in place in each block, also in those that come by that.
-fn all_placed(alloc: Global, growth: Growth, candidates: &[Option<VFunc>]) -> Result<Growth, AllocError>
+fn all_placed(
+    alloc: Global,
+    growth: Growth,
+    candidates: &[Option<VFunc>],
+) -> Result<Growth, AllocError>
     ensures { IfOk result (λ g. (v : VFuncOf) → IsGrowth candidates.now v growth → IsGrowth candidates.now v g) }
 {
     let mut growth = growth;

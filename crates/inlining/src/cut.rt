@@ -10,8 +10,8 @@ ghost use Rattle.inlining.specs.Placed.{site_of};
 ghost use Rattle.inlining.specs.Growth.{StandsAt, IsMade, IsCut};
 
 use crate::blocks::{CallSite, behind_call, push_candidate, up_to_call};
-use crate::growth::{Cut, Growth, Room, room_behind};
 use crate::candidate::begins_turn;
+use crate::growth::{Cut, Growth, Room, room_behind};
 use crate::limits::TRIES;
 use crate::site::{answers, are_paid, is_call_of, up_to_allocs};
 use std::alloc::{AllocError, Global};
@@ -67,7 +67,14 @@ fn cut_for(
         Some(room) => room,
         None => return Ok(None),
     };
-    let up_to = up_to_call(alloc, count, base, line, candidate.code.params.as_slice(), site)?;
+    let up_to = up_to_call(
+        alloc,
+        count,
+        base,
+        line,
+        candidate.code.params.as_slice(),
+        site,
+    )?;
     let behind = blocks_behind(alloc, count, base, line, site, candidate)?;
     if is_paid(&up_to) && are_paid(behind.as_slice()) {
         Ok(Some(Cut {

@@ -88,7 +88,12 @@ fn lines_behind(whole: usize, blocks: &[Block<u32>]) -> Option<usize> {
 }
 
 /// The room that is left of a function with so many blocks where one of so many lines is cut for the candidate's code, if it is enough for that.
-pub(crate) fn room_behind(room: Room, blocks: usize, lines: usize, candidate: &VFunc) -> Option<Room>
+pub(crate) fn room_behind(
+    room: Room,
+    blocks: usize,
+    lines: usize,
+    candidate: &VFunc,
+) -> Option<Room>
     ensures { IfSome result (λ left. Takes room blocks candidate.now left) }
 {
     let more = candidate.code.blocks.as_slice();

@@ -18,11 +18,11 @@
 mod blocks;
 mod brought;
 pub mod calls;
+pub mod candidate;
+pub mod choice;
 mod cut;
 mod growth;
 pub mod laws;
-pub mod candidate;
-pub mod choice;
 mod limits;
 mod moved;
 mod site;

@@ -109,7 +109,14 @@ fn candidates_at(
     requires targets { slice_get linked.now.targets text ≡ Some targets.now }
     ensures { IfOk result (λ v. AreCandidatesAt (program linked.now) text v.items) }
 {
-    candidates_meant(alloc, linked, worthy, candidates_in(below, text), text, targets)
+    candidates_meant(
+        alloc,
+        linked,
+        worthy,
+        candidates_in(below, text),
+        text,
+        targets,
+    )
 }
 
 /// For each text of a program and each name of the text, the candidate that it means, if it means one: a function of the same text, with calls of the candidates that there
@@ -137,7 +144,10 @@ fn candidates_over(
 /// # Errors
 ///
 /// Only where memory was refused.
-pub fn candidates_of(alloc: Global, linked: &Linked<'_>) -> Result<Vec<Vec<Option<VFunc>>>, AllocError>
+pub fn candidates_of(
+    alloc: Global,
+    linked: &Linked<'_>,
+) -> Result<Vec<Vec<Option<VFunc>>>, AllocError>
     requires { AreGood linked.now.functions }
     ensures { IfOk result (λ v. AreCandidatesIn (program linked.now) (map (λ t. t.items) v.items)) }
 {

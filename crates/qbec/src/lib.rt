@@ -14,11 +14,11 @@
 //! | `specs/Pipeline`, `specs/Candidates`, `specs/Promoted`, `specs/Codes` | functions on their way to words; the program that is compiled in a program's place |
 #![tactic(auto)]
 
+pub mod candidates;
 pub mod codes;
 pub mod compile;
 pub mod error;
 pub mod laws;
-pub mod candidates;
 pub mod passes;
 pub mod pipeline;
 pub mod texts;

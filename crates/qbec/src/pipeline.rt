@@ -249,7 +249,11 @@ fn promoted_words(
 }
 
 /// The function in virtual code, with calls of these candidates in place, if it is a candidate.
-fn candidate_of(alloc: Global, below: &[Option<VFunc>], func: &Func) -> Result<Option<VFunc>, AllocError>
+fn candidate_of(
+    alloc: Global,
+    below: &[Option<VFunc>],
+    func: &Func,
+) -> Result<Option<VFunc>, AllocError>
     requires { IsGoodFunction func.now }
     ensures { IfOk result (λ o. IfSome o (λ v. IsCodeWith below.now func.now (virtual_code v) × IsTrue (is_candidate v.code))) }
 {

@@ -98,7 +98,10 @@ fn check_steps<R: Files + AllocGlobal>(
 fn pass_steps(alloc: Global) -> Result<Vec<Step>, AllocError> {
     let mut steps = Vec::new(alloc);
     for (place, pass) in PASSES.iter().enumerate() {
-        if !PASSES[..place].iter().any(|before| before.name() == pass.name()) {
+        if !PASSES[..place]
+            .iter()
+            .any(|before| before.name() == pass.name())
+        {
             steps.push(Step::Pass(*pass))?;
         }
     }

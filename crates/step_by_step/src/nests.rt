@@ -1,9 +1,9 @@
 //! Loops of functions.
 use crate::lists::add_numbers;
 use code_text::function::virtual_function;
-use il_ast::few::Few;
 use flow::depths::{depths, frequency};
 use flow::graph::predecessors;
+use il_ast::few::Few;
 use std::alloc::{AllocError, Global};
 use text_maker::maker::TextMaker;
 

@@ -149,8 +149,18 @@ fn note_entries(
 ) -> Result<(), AllocError> {
     let depths = depths(alloc, blocks)?;
     for (number, block) in blocks.iter().enumerate() {
-        note_entry(sources, depths.as_slice(), number, successor(&block.jump, 0));
-        note_entry(sources, depths.as_slice(), number, successor(&block.jump, 1));
+        note_entry(
+            sources,
+            depths.as_slice(),
+            number,
+            successor(&block.jump, 0),
+        );
+        note_entry(
+            sources,
+            depths.as_slice(),
+            number,
+            successor(&block.jump, 1),
+        );
     }
     Ok(())
 }

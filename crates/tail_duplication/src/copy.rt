@@ -128,11 +128,7 @@ fn without_unreached(alloc: Global, function: VFunc) -> Result<VFunc, AllocError
 /// # Errors
 ///
 /// Only where memory was refused.
-pub fn apply(
-    alloc: Global,
-    function: &VFunc,
-    chosen: &[bool],
-) -> Result<Option<VFunc>, AllocError>
+pub fn apply(alloc: Global, function: &VFunc, chosen: &[bool]) -> Result<Option<VFunc>, AllocError>
     ensures { IfOk result (λ o. IfSome o (λ w. Keeps (virtual_code function.now) (virtual_code w))) }
 {
     let blocks = all_longer(alloc, chosen, function.code.blocks.as_slice())?;

@@ -86,11 +86,7 @@ fn blocks(
 /// # Errors
 ///
 /// Only where memory was refused.
-fn apply(
-    alloc: Global,
-    function: &VFunc,
-    claims: &[Seq<Fact>],
-) -> Result<Option<VFunc>, AllocError>
+fn apply(alloc: Global, function: &VFunc, claims: &[Seq<Fact>]) -> Result<Option<VFunc>, AllocError>
     ensures { IfOk result (λ o. IfSome o (λ w. Keeps (virtual_code function.now) (virtual_code w))) }
 {
     if claims_at(claims, 0).len() != 0 {

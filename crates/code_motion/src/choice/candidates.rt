@@ -1,8 +1,8 @@
 //! Whether there may be anything to do in front of loops: a look at the lines, before the loops are found.
-use flow::loops::is_back;
 use cfg_live::low_registers::LowRegisters;
 use cfg_live::uses::line_writes;
 use flow::graph::successor;
+use flow::loops::is_back;
 use rv_isa::instruction::RegOp;
 use vcode::code::Block;
 use vcode::line::{Line, Operation};

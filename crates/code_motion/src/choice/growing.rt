@@ -1,8 +1,8 @@
 //! Registers that a loop adds a number to, and sums with products of them, which are added to in their place.
 use crate::choice::choose::{Plans, pay};
-use flow::loops::Loop;
 use crate::choice::written::{Growth, Product, Spot, Written};
 use crate::plan::Computation;
+use flow::loops::Loop;
 use il_ast::operation::{Class, Condition};
 use rv_isa::instruction::{RegOp, RegWOp};
 use std::alloc::AllocError;

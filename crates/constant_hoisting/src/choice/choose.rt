@@ -136,7 +136,8 @@ fn setting(alloc: Global, blocks: &[Block<u32>], holds: &[bool]) -> Result<Vec<b
     for (number, (mark, block)) in sets.iter_mut().zip(blocks).enumerate() {
         let is_outside = !leads_in(holds, Some(number));
         *mark = is_outside
-            && (leads_in(holds, successor(&block.jump, 0)) || leads_in(holds, successor(&block.jump, 1)));
+            && (leads_in(holds, successor(&block.jump, 0))
+                || leads_in(holds, successor(&block.jump, 1)));
     }
     Ok(sets)
 }

@@ -1,6 +1,6 @@
 //! Loops that hang together.
-use il_ast::few::Few;
 use flow::graph::{predecessors, predecessors_of, successor};
+use il_ast::few::Few;
 use std::alloc::{AllocError, Global};
 use vcode::code::Block;
 use vcode::line::Line;

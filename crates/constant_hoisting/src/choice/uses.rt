@@ -1,8 +1,8 @@
 //! What it would save to hold constants in registers.
 use crate::choice::regions::Regions;
 use crate::choice::saving::{where_branching, where_copied, where_operating, where_read};
-use il_ast::symbol::Symbol;
 use flow::depths::frequency;
+use il_ast::symbol::Symbol;
 use std::alloc::{AllocError, Global};
 use vcode::code::Block;
 use vcode::line::{Jump, Line};
