@@ -1,4 +1,4 @@
-//! # Forwarding
+//! # Constant propagation
 //!
 //! A pass on virtual code. [`propagate::propagate_constants`] carries what is known of registers along each block: that one holds what another or a number is, or what a
 //! comparison gives. An operand that is a known copy becomes what it is a copy of, where that is a register or fits an immediate; a branch that compares a

@@ -1,4 +1,4 @@
-//! # Reads of copies
+//! # Copy propagation
 //!
 //! A pass on virtual code. Behind a line that copies a register into another, both hold the same until one of them is written.
 //! [`read::propagate_copies`] lets the lines in between, and the block's jump, read the copy in place of its source. So the source is often used no more behind the

@@ -1,7 +1,4 @@
-//! # Functions whose calls are worth doing in place
-//!
-//! [`worthy_functions`] chooses them by how many instructions they have, and in how many places they are called by name. It promises nothing of what it answers: what is
-//! done with the answer is proved of any.
+//! Functions whose calls are worth doing in place, by how many instructions they have, and in how many places they are called by name: a guess that nothing proved rests on.
 
 use il_ast::block::Block;
 use il_ast::function::Func;

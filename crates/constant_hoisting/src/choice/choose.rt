@@ -1,10 +1,11 @@
 //! Which constants are worth a register.
 use crate::choice::free::free_registers;
-use crate::choice::regions::{Region, Regions, regions_of};
+use crate::choice::regions::{Region, Regions, find_regions};
 use crate::choice::saving::where_read;
 use crate::choice::uses::{Key, Use, may_save, uses_of};
-use flow::depths::depths;
-use flow::graph::successor;
+use flow::depths::loop_depths;
+use flow::graph::{predecessors, successor};
+use il_ast::few::Few;
 use std::alloc::{AllocError, Global};
 use vcode::code::Block;
 use vcode::function::VFunc;
@@ -205,10 +206,11 @@ fn chosen_in(
 fn chosen_in_loops(
     alloc: Global,
     function: &VFunc,
+    predecessors: &[Few<usize>],
     depths: &[u32],
 ) -> Result<Vec<Chosen>, AllocError> {
     let blocks = function.code.blocks.as_slice();
-    let regions = regions_of(alloc, blocks, depths)?;
+    let regions = find_regions(alloc, blocks, predecessors, depths)?;
     let worthy = worthy_uses(alloc, blocks, depths, &regions)?;
     let choices = choices(alloc, worthy.as_slice())?;
     chosen_in(
@@ -230,9 +232,10 @@ pub fn choose_constants(alloc: Global, function: &VFunc) -> Result<Vec<Chosen>, 
     if !may_save(alloc, blocks)? {
         return Ok(Vec::new(alloc));
     }
-    let depths = depths(alloc, blocks)?;
+    let predecessors = predecessors(alloc, blocks)?;
+    let depths = loop_depths(alloc, blocks, predecessors.as_slice())?;
     if has_loops(depths.as_slice()) {
-        chosen_in_loops(alloc, function, depths.as_slice())
+        chosen_in_loops(alloc, function, predecessors.as_slice(), depths.as_slice())
     } else {
         Ok(Vec::new(alloc))
     }

@@ -1,5 +1,5 @@
 //! Loops that hang together.
-use flow::graph::{predecessors, predecessors_of, successor};
+use flow::graph::{predecessors_of, successor};
 use il_ast::few::Few;
 use std::alloc::{AllocError, Global};
 use vcode::code::Block;
@@ -76,12 +76,12 @@ fn join_all(
     Ok(())
 }
 
-/// The blocks, in how many loops each lies, and from where ways come to it.
+/// The blocks, in how many loops each lies, and which blocks lead to it.
 #[derive(Clone, Copy)]
 struct Ways<'a> {
     blocks: &'a [Block<u32>],
     depths: &'a [u32],
-    sources: &'a [Few<usize>],
+    predecessors: &'a [Few<usize>],
 }
 
 fn join_neighbours(
@@ -95,10 +95,13 @@ fn join_neighbours(
         join_target(numbers, way, ways.depths, successor(&from.jump, 0), region)?;
         join_target(numbers, way, ways.depths, successor(&from.jump, 1), region)?;
     }
-    match ways.sources.get(block) {
-        Some(sources) => join_all(numbers, way, ways.depths, sources.as_slice(), region),
-        None => Ok(()),
-    }
+    join_all(
+        numbers,
+        way,
+        ways.depths,
+        predecessors_of(ways.predecessors, block),
+        region,
+    )
 }
 
 /// Each block of the region is left once.
@@ -188,21 +191,21 @@ fn count_entries(regions: &mut Regions, block: &Block<u32>) {
     }
 }
 
-/// The regions of a function whose blocks lie in so many loops.
+/// The regions of a function, by the blocks that lead to each of its blocks and by how many loops each lies in.
 ///
 /// # Errors
 ///
 /// Only where memory was refused.
-pub(crate) fn regions_of(
+pub(crate) fn find_regions(
     alloc: Global,
     blocks: &[Block<u32>],
+    predecessors: &[Few<usize>],
     depths: &[u32],
 ) -> Result<Regions, AllocError> {
-    let sources = sources(alloc, blocks)?;
     let ways = Ways {
         blocks,
         depths,
-        sources: sources.as_slice(),
+        predecessors,
     };
     let mut regions = joined(alloc, ways)?;
     for (number, block) in blocks.iter().enumerate() {

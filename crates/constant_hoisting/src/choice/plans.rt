@@ -29,7 +29,7 @@ fn plan_of(chosen: Chosen) -> Option<Plan> {
 /// # Errors
 ///
 /// Only where memory was refused.
-pub(crate) fn plans(alloc: Global, function: &VFunc) -> Result<Vec<Plan>, AllocError> {
+pub fn choose_plans(alloc: Global, function: &VFunc) -> Result<Vec<Plan>, AllocError> {
     let mut plans = Vec::new(alloc);
     for chosen in choose_constants(alloc, function)? {
         if let Some(plan) = plan_of(chosen) {
