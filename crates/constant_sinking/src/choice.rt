@@ -234,7 +234,7 @@ fn all_plans(
 /// # Errors
 ///
 /// Only where memory was refused.
-pub(crate) fn choose(alloc: Global, function: &VFunc) -> Result<Option<Vec<Plan>>, AllocError> {
+pub fn choose(alloc: Global, function: &VFunc) -> Result<Option<Vec<Plan>>, AllocError> {
     let blocks = function.code.blocks.as_slice();
     if !blocks.iter().any(|block| may_sink(block)) {
         return Ok(None);

@@ -8,6 +8,7 @@ mod allocation;
 mod back_end;
 mod case;
 mod certified;
+mod chosen;
 mod files;
 mod frames;
 mod front_end;

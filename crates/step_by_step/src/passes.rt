@@ -6,7 +6,7 @@ use std::alloc::{AllocError, Global};
 use vcode::function::VFunc;
 
 /// The text of what a pass made.
-fn shown(alloc: Global, made: Result<VFunc, AllocError>) -> Option<String> {
+pub fn shown(alloc: Global, made: Result<VFunc, AllocError>) -> Option<String> {
     let function = made.ok()?;
     virtual_text(alloc, &function).ok()
 }

@@ -21,7 +21,10 @@ pub enum Step {
     /// a pass of the compiler
     Pass(Pass),
     Loops,
-    ConstantPlans,
+    CodeMotionPlans,
+    ConstantSinkingPlans,
+    ConstantHoistingPlans,
+    TailDuplicationPlans,
     ChosenOrders,
     GivenOrders,
     Points,
@@ -54,9 +57,12 @@ pub const FRONT_END: [Step; 8] = [
 ];
 
 /// What passes ask of a function, and what is done by given plans of theirs.
-pub const PARTS_OF_PASSES: [Step; 4] = [
+pub const PARTS_OF_PASSES: [Step; 7] = [
     Step::Loops,
-    Step::ConstantPlans,
+    Step::CodeMotionPlans,
+    Step::ConstantSinkingPlans,
+    Step::ConstantHoistingPlans,
+    Step::TailDuplicationPlans,
     Step::ChosenOrders,
     Step::GivenOrders,
 ];
@@ -94,7 +100,10 @@ impl Step {
             Step::Inlining => "inlining",
             Step::Pass(pass) => pass.name(),
             Step::Loops => "loops",
-            Step::ConstantPlans => "constant_plans",
+            Step::CodeMotionPlans => "code_motion_plans",
+            Step::ConstantSinkingPlans => "constant_sinking_plans",
+            Step::ConstantHoistingPlans => "constant_hoisting_plans",
+            Step::TailDuplicationPlans => "tail_duplication_plans",
             Step::ChosenOrders => "chosen_orders",
             Step::GivenOrders => "given_orders",
             Step::Points => "points",
@@ -128,7 +137,10 @@ impl Step {
             Step::Inlining => passes::with_calls_inlined(alloc, case.given, case.with),
             Step::Pass(pass) => passes::by_pass(alloc, pass, case.given),
             Step::Loops => nests::nests(alloc, case.given),
-            Step::ConstantPlans => plans::by_plan(alloc, case.given, case.with),
+            Step::CodeMotionPlans => plans::with_computations(alloc, case.given, case.with),
+            Step::ConstantSinkingPlans => plans::with_sets(alloc, case.given, case.with),
+            Step::ConstantHoistingPlans => plans::with_held_constant(alloc, case.given, case.with),
+            Step::TailDuplicationPlans => plans::with_tails(alloc, case.given, case.with),
             Step::ChosenOrders => orders::chosen(alloc, case.given),
             Step::GivenOrders => orders::in_given_order(alloc, case.given, case.with),
             Step::Points => graphs::points_of(alloc, case.given),

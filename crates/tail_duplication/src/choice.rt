@@ -13,7 +13,7 @@ const SHORT: u64 = 8;
 
 /// Which blocks are worth copies, besides those to which nothing else leads.
 #[derive(Clone, Copy)]
-pub(crate) enum Worth {
+pub enum Worth {
     /// those that do nothing but branch or return, where they begin no loop
     Bare,
 
@@ -246,7 +246,7 @@ fn chosen_by(
 /// # Errors
 ///
 /// Only where memory was refused.
-pub(crate) fn chosen_tails(
+pub fn chosen_tails(
     alloc: Global,
     blocks: &[Block<u32>],
     marks: &[bool],
