@@ -228,10 +228,10 @@ fn close(is_open: &mut [bool], block: usize) {
 }
 
 fn push_target(placing: &mut Placing, block: Option<usize>) -> Result<(), AllocError> {
-    match block {
-        Some(block) => placing.next.extend_from_slice(&[block]),
-        None => Ok(()),
+    if let Some(block) = block {
+        placing.next.push(block)?;
     }
+    Ok(())
 }
 
 /// Places a block, and then those to which it leads. One of the chain that comes last waits for its place.
@@ -243,7 +243,7 @@ fn place_block(
 ) -> Result<(), AllocError> {
     close(placing.is_open.as_mut_slice(), number);
     if !is_last {
-        placing.order.extend_from_slice(&[number])?;
+        placing.order.push(number)?;
     }
     match blocks.get(number) {
         Some(block) => {
@@ -303,7 +303,7 @@ fn place_last(
     for _ in 0..links.len() {
         match next {
             Some(number) => {
-                placing.order.extend_from_slice(&[number])?;
+                placing.order.push(number)?;
                 next = behind(links, number);
             }
             None => return Ok(()),

@@ -84,10 +84,8 @@ fn push_plan(plans: &mut Plans, plan: Computation) -> Result<Option<u32>, AllocE
         return Ok(None);
     }
     plans.next = plan.register.saturating_add(1);
-    match plans.list.extend_from_slice(&[plan]) {
-        Ok(()) => Ok(Some(plan.register)),
-        Err(error) => Err(error),
-    }
+    plans.list.push(plan)?;
+    Ok(Some(plan.register))
 }
 
 /// A plan for an operation on these operands, if there are both and it is worth that.
@@ -249,21 +247,19 @@ fn push_part(
     part: &Part,
     register: u32,
 ) -> Result<(), AllocError> {
-    match written.product(part.rest) {
-        Some(product) => {
-            take_part(plans.sums.as_mut_slice(), part.sum);
-            plans.sums.extend_from_slice(&[Linear {
-                at: place.at,
-                to,
-                base: Operand::At(register),
-                factor: part.rest,
-                product,
-                is_direct: false,
-                is_part: false,
-            }])
-        }
-        None => Ok(()),
+    if let Some(product) = written.product(part.rest) {
+        take_part(plans.sums.as_mut_slice(), part.sum);
+        plans.sums.push(Linear {
+            at: place.at,
+            to,
+            base: Operand::At(register),
+            factor: part.rest,
+            product,
+            is_direct: false,
+            is_part: false,
+        })?;
     }
+    Ok(())
 }
 
 /// Notes the sum with a product of a register that grows, if it is one.
@@ -279,10 +275,10 @@ fn push_linear(
         Some(linear) => Some(linear),
         None => linear_of(written, place, to, right, left),
     };
-    match linear {
-        Some(linear) => plans.sums.extend_from_slice(&[linear]),
-        None => Ok(()),
+    if let Some(linear) = linear {
+        plans.sums.push(linear)?;
     }
+    Ok(())
 }
 
 /// Plans the part of a sum that doesn't change, and notes the sum if it has a product.
@@ -423,10 +419,10 @@ fn credits(alloc: Global, blocks: &[Block<u32>]) -> Result<Vec<u128>, AllocError
 }
 
 fn push_to(blocks: &mut [BlockPlan], plan: Computation) -> Result<(), AllocError> {
-    match blocks.get_mut(plan.block) {
-        Some(plans) => plans.behind.extend_from_slice(&[plan]),
-        None => Ok(()),
+    if let Some(plans) = blocks.get_mut(plan.block) {
+        plans.behind.push(plan)?;
     }
+    Ok(())
 }
 
 /// The plans, block by block; with those for the lines of each block.

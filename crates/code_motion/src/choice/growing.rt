@@ -358,10 +358,8 @@ fn plan_step(
         return Ok(false);
     }
     plans.next = sum.register.saturating_add(1);
-    match plans.list.extend_from_slice(&[product, sum, step]) {
-        Ok(()) => Ok(true),
-        Err(error) => Err(error),
-    }
+    plans.list.extend_from_slice(&[product, sum, step])?;
+    Ok(true)
 }
 
 /// Whether one of the first sums is the same, and isn't planned in another's place.

@@ -140,7 +140,8 @@ impl Written {
         }
         writes.more = Some(self.more.len());
         self.set(register, writes);
-        self.more.extend_from_slice(&[more])
+        self.more.push(more)?;
+        Ok(())
     }
 
     /// Counts what the lines write.

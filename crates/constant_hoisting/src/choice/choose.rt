@@ -70,7 +70,7 @@ fn worthy_uses(
         if let Some(region) = regions.list.get(one.region) {
             let gain = net(one, region);
             if 0 < gain {
-                worthy.extend_from_slice(&[Use { gain, ..*one }])?;
+                worthy.push(Use { gain, ..*one })?;
             }
         }
     }
@@ -83,10 +83,10 @@ fn choices(alloc: Global, worthy: &[Use]) -> Result<Vec<Choice>, AllocError> {
     for one in worthy {
         match choices.last_mut() {
             Some(last) if last.key == one.key => last.gain = last.gain.saturating_add(one.gain),
-            _ => choices.extend_from_slice(&[Choice {
+            _ => choices.push(Choice {
                 gain: one.gain,
                 key: one.key,
-            }])?,
+            })?,
         }
     }
     choices.sort()?;

@@ -113,7 +113,7 @@ pub(crate) fn free_registers(
     for register in 0..function.registers {
         let is_free = named.get(register as usize).copied() == Some(false);
         if is_free && free.len() < most {
-            free.extend_from_slice(&[register])?;
+            free.push(register)?;
         }
     }
     Ok(free)

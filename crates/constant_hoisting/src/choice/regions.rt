@@ -44,7 +44,8 @@ fn join(
     match numbers.get_mut(block) {
         Some(number) if *number == 0 => {
             *number = region;
-            way.extend_from_slice(&[block])
+            way.push(block)?;
+            Ok(())
         }
         _ => Ok(()),
     }
@@ -142,7 +143,7 @@ fn joined(alloc: Global, ways: Ways) -> Result<Regions, AllocError> {
         if is_alone(regions.numbers.as_slice(), ways.depths, block) {
             let region = regions.list.len();
             spread(alloc, regions.numbers.as_mut_slice(), ways, block, region)?;
-            regions.list.extend_from_slice(&[none])?;
+            regions.list.push(none)?;
         }
     }
     Ok(regions)

@@ -60,11 +60,14 @@ struct Uses {
 impl Uses {
     fn push(&mut self, operand: &Operand<u32>, saved: i64) -> Result<(), AllocError> {
         match Key::of(operand) {
-            Some(key) if saved != 0 => self.list.extend_from_slice(&[Use {
-                key,
-                region: self.region,
-                gain: saved.saturating_mul(self.times),
-            }]),
+            Some(key) if saved != 0 => {
+                self.list.push(Use {
+                    key,
+                    region: self.region,
+                    gain: saved.saturating_mul(self.times),
+                })?;
+                Ok(())
+            }
             _ => Ok(()),
         }
     }
@@ -137,7 +140,7 @@ fn merged(alloc: Global, uses: &[Use]) -> Result<Vec<Use>, AllocError> {
             Some(last) if last.key == one.key && last.region == one.region => {
                 last.gain = last.gain.saturating_add(one.gain);
             }
-            _ => all.extend_from_slice(&[*one])?,
+            _ => all.push(*one)?,
         }
     }
     Ok(all)
