@@ -5,7 +5,7 @@ use Rattle.vcode.specs.declared.code.Block.{Block}
 use Rattle.vcode.specs.declared.place.Destination.{Destination}
 use Rattle.vcode.specs.Named.{are_distinct}
 use Rattle.vcode.specs.Regular.{weight_of}
-use Rattle.code_rules.proofs.check.is_function.Goals as goal
+use Rattle.code_text.proofs.rules.check.is_function.Goals as goal
 
 pub returns : goal.returns
 returns g c =

@@ -1,7 +1,7 @@
 use Rattle.std.proofs.Common.{◌≡◌, ◌+◌, drop}
 use Rattle.std.specs.List.{sum_by}
 use Rattle.vcode.specs.Regular.{alloc_bytes}
-use Rattle.code_rules.proofs.check.is_small.Given as goal
+use Rattle.code_text.proofs.rules.check.is_small.Given as goal
 
 abbrev pub invariant-loop-block : goal.invariant-loop-block
 invariant-loop-block g l =

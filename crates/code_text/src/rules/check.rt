@@ -1,13 +1,13 @@
-//! Whether a code may be a function's.
+//! The test of a code that may be a function's.
 ghost use Rattle.std.specs.Prelude.{◌≡◌, ◌+◌, ◌≤◌, true, not, nat_le, length, IfSome};
 ghost use Rattle.std.specs.List.{list_all, list_any, sum_by};
 ghost use Rattle.il_ast.specs.declared.limits.TheConstants.{ALLOC_BYTES, FUNCTION_WEIGHT};
 ghost use Rattle.vcode.specs.Cost.{is_paid};
 ghost use Rattle.vcode.specs.Named.{operand_keeps, wanted_keeps, made_keeps, line_keeps, jump_keeps, block_keeps, keeps_places, are_distinct};
 ghost use Rattle.vcode.specs.Regular.{IsRegular, is_target, leads_inside, is_alloc, allocs_first, alloc_bytes, passes_few, weight_of};
-ghost use Rattle.code_rules.specs.Function.{IsFunction};
+ghost use Rattle.code_text.specs.Function.{IsFunction};
 
-use crate::place::CodePlace;
+use crate::rules::place::CodePlace;
 use il_ast::limits::{ALLOC_BYTES, ARGUMENTS, FUNCTION_WEIGHT};
 use vcode::code::{Block, Code};
 use vcode::cost::is_paid;
@@ -185,23 +185,23 @@ fn allocates<P: CodePlace>(lines: &[Line<P>]) -> bool
     lines.iter().any(|line| is_alloc(line))
 }
 
-fn makes_none<P: CodePlace>(block: &Block<P>) -> bool
+fn block_has_no_alloc<P: CodePlace>(block: &Block<P>) -> bool
     ensures { result ≡ not (list_any is_alloc block.now.lines) }
 {
     !allocates(block.lines.as_slice())
 }
 
-fn make_none<P: CodePlace>(blocks: &[Block<P>]) -> bool
+fn blocks_have_no_alloc<P: CodePlace>(blocks: &[Block<P>]) -> bool
     ensures { result ≡ list_all (λ b. not (list_any is_alloc b.lines)) blocks.now }
 {
-    blocks.iter().all(|block| makes_none(block))
+    blocks.iter().all(|block| block_has_no_alloc(block))
 }
 
 fn allocs_first<P: CodePlace>(blocks: &[Block<P>]) -> bool
     ensures { result ≡ allocs_first blocks.now }
 {
     match blocks.split_first() {
-        Some((_, rest)) => make_none(rest),
+        Some((_, rest)) => blocks_have_no_alloc(rest),
         None => true,
     }
 }
@@ -305,16 +305,16 @@ fn passes_few<P: CodePlace>(line: &Line<P>) -> bool
     }
 }
 
-fn pass_few<P: CodePlace>(block: &Block<P>) -> bool
+fn block_passes_few<P: CodePlace>(block: &Block<P>) -> bool
     ensures { result ≡ list_all passes_few block.now.lines }
 {
     block.lines.as_slice().iter().all(|line| passes_few(line))
 }
 
-fn all_pass_few<P: CodePlace>(blocks: &[Block<P>]) -> bool
+fn blocks_pass_few<P: CodePlace>(blocks: &[Block<P>]) -> bool
     ensures { result ≡ list_all (λ b. list_all passes_few b.lines) blocks.now }
 {
-    blocks.iter().all(|block| pass_few(block))
+    blocks.iter().all(|block| block_passes_few(block))
 }
 
 fn are_paid<P: CodePlace>(blocks: &[Block<P>]) -> bool
@@ -345,7 +345,7 @@ fn is_regular<P: CodePlace>(code: &Code<P>) -> bool
     if !are_short(blocks) {
         return false;
     }
-    all_pass_few(blocks)
+    blocks_pass_few(blocks)
 }
 
 /// Whether the code may be that of a function with so many registers or slots.

@@ -5,8 +5,8 @@ use Rattle.il_ast.specs.declared.limits.TheConstants.{FUNCTION_WEIGHT}
 use Rattle.vcode.specs.declared.code.Block.{Block}
 use Rattle.vcode.specs.Cost.{is_paid}
 use Rattle.vcode.specs.Regular.{leads_inside, allocs_first, alloc_bytes, passes_few}
-use Rattle.code_rules.proofs.Turns.{are_paced}
-use Rattle.code_rules.proofs.check.is_regular.Goals as goal
+use Rattle.code_text.proofs.Turns.{are_paced}
+use Rattle.code_text.proofs.rules.check.is_regular.Goals as goal
 
 pub returns : goal.returns
 returns g c =
@@ -20,5 +20,5 @@ returns g c =
           (subst (λ (bs : Blocks). sum_by (λ (b : Block g.row.P.Denot). sum_by alloc_bytes b.lines) bs ≤ 1048576) c.as_slice-blocks.ensures (c.is_small.ensures c.if-not-is_small.false));
       paid = ap (λ (bs : Blocks). list_all is_paid bs) same ∙ sym c.are_paid.ensures ∙ c.if-not-are_paid.false;
       paced = are_paced c.args.code.now.blocks (ap (λ (bs : Blocks). list_all (λ b. nat_le (length b.lines) FUNCTION_WEIGHT) bs) same ∙ sym c.are_short.ensures ∙ c.if-not-are_short.false);
-      few_args = ap (λ (bs : Blocks). list_all (λ b. list_all passes_few b.lines) bs) same ∙ sym c.all_pass_few.ensures ∙ few;
+      few_args = ap (λ (bs : Blocks). list_all (λ b. list_all passes_few b.lines) bs) same ∙ sym c.blocks_pass_few.ensures ∙ few;
     }

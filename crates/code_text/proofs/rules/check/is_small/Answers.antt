@@ -4,7 +4,7 @@ use Rattle.std.proofs.lemmas.List.Sums.{sum_by-drop_more}
 use Rattle.vcode.specs.declared.line.Line.{Line}
 use Rattle.vcode.specs.declared.code.Block.{Block}
 use Rattle.vcode.specs.Regular.{alloc_bytes}
-use Rattle.code_rules.proofs.check.is_small.Goals as goal
+use Rattle.code_text.proofs.rules.check.is_small.Goals as goal
 
 pub loop-block-preserved : goal.loop-block-preserved
 loop-block-preserved g c =
