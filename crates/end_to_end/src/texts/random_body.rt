@@ -1,6 +1,6 @@
 //! The body of a random function. All its temporaries are assigned and all bytes of its blocks written before anything else, divisors are odd and small, places
 //! lie inside their blocks, and loops are counted: so all of it has a meaning.
-use crate::random_text::{Random, Signature};
+use crate::texts::random_text::{Random, Signature};
 use text_maker::maker::TextMaker;
 
 const BOTH: [&str; 6] = ["add", "sub", "mul", "and", "or", "xor"];

@@ -1,5 +1,5 @@
 //! The text of a random program: functions, a datum, and `main`.
-use crate::random_body::push_body;
+use crate::texts::random_body::push_body;
 use std::alloc::{AllocError, Global};
 use text_maker::maker::TextMaker;
 

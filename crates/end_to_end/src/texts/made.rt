@@ -1,5 +1,5 @@
 //! Texts that are made by a rule: too long to be written down, or one beside a limit.
-use crate::branches::push_branches;
+use crate::texts::branches::push_branches;
 use std::alloc::{AllocError, Global};
 use text_maker::maker::TextMaker;
 

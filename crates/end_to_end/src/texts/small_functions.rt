@@ -1,7 +1,7 @@
 //! Random programs of many small functions. What is called is small, and calls stand in loops: so most calls of leaves can be done in place. Half of the leaves make
 //! calls themselves, of leaves before them, by name and by pointer, and of `write`. As in other random programs, all temporaries are assigned before anything else,
 //! divisors are odd and small, places lie inside the datum, and loops are counted.
-use crate::random_text::{Random, Signature, random_signature};
+use crate::texts::random_text::{Random, Signature, random_signature};
 use std::alloc::{AllocError, Global};
 use text_maker::maker::TextMaker;
 
