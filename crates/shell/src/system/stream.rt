@@ -2,10 +2,10 @@
 ghost use Rattle.std.specs.Prelude.{◌≡◌, ◌≤◌, length, IfOk};
 ghost use Rattle.std.specs.Io.KnownBytes.{WriteAppends};
 
-use shell::sink::{Sink, SinkFault, counted};
+use crate::sink::{Sink, SinkFault, counted};
 use std::io::{ErrorKind, Write};
 
-/// A file or a standard stream, with the count of its calls that failed. It tells what its writer holds, where that is known: of those of the system it isn't.
+/// A file or a standard stream, with the count of its calls that failed. It tells what its writer holds, where that is known; of the writers of the system it is not known.
 #[derive(Drop)]
 pub struct Stream<W: Write> {
     pub writer: W,

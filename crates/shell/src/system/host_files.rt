@@ -3,11 +3,11 @@ ghost use Rattle.std.specs.Prelude.{◌≡◌, IfOk};
 ghost use Rattle.std.specs.Io.KnownBytes.{Appends};
 ghost use Rattle.std.specs.IoError.{error_kind};
 ghost use Rattle.shell.specs.Disk.{no_failed_calls, told_faults};
-ghost use Rattle.host.specs.Faults.{fault_of};
+ghost use Rattle.shell.specs.SystemFaults.{fault_of};
 
-use crate::stream::Stream;
-use shell::disk::{Access, Disk, Faults, FileFault};
-use shell::write_exe::write_exe;
+use crate::disk::{Access, Disk, Faults, FileFault};
+use crate::system::stream::Stream;
+use crate::write_exe::write_exe;
 use std::alloc::Global;
 use std::io::{Error, ErrorKind, Read, Write};
 use std::os::unix::fs::{MetadataExt, PermissionsExt};
