@@ -1,8 +1,8 @@
 //! All that is told of a run.
-use crate::calls::add_calls;
-use crate::source::{Source, add_function, add_place, add_written};
-use crate::turn::add_operands;
-use crate::values::add_value;
+use crate::trace::calls::add_calls;
+use crate::trace::source::{Source, add_function, add_place, add_written};
+use crate::trace::turn::add_operands;
+use crate::trace::values::add_value;
 use il_interp::pieces::Running;
 use il_interp::trace::{Place, Turn};
 use std::alloc::{AllocError, Global};

@@ -1,5 +1,5 @@
 //! Values, as they are told.
-use crate::source::{Source, add_function, add_place, add_symbol};
+use crate::trace::source::{Source, add_function, add_place, add_symbol};
 use il_ast::value::{Callee, Value};
 use il_interp::pieces::Running;
 use text_maker::maker::TextMaker;

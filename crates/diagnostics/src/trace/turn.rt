@@ -1,9 +1,9 @@
 //! The turn that was the last.
-use crate::source::{Source, add_symbol, block_at, function_at, target_of};
-use crate::values::add_value;
-use diagnostics::label::targets;
-use diagnostics::name::add_temp;
-use diagnostics::place::{Does, Step, StepList};
+use crate::label::targets;
+use crate::name::add_temp;
+use crate::place::{Does, Step, StepList};
+use crate::trace::source::{Source, add_symbol, block_at, function_at, target_of};
+use crate::trace::values::add_value;
 use il_ast::block::Block;
 use il_ast::function::Func;
 use il_ast::instruction::Inst;

@@ -1,5 +1,5 @@
 //! The calls that a turn stands in.
-use crate::source::{Source, add_function, add_place, add_written};
+use crate::trace::source::{Source, add_function, add_place, add_written};
 use il_interp::pieces::Running;
 use il_interp::trace::Place;
 use text_maker::maker::TextMaker;

@@ -1,5 +1,5 @@
 //! Lines and names of the texts that are run.
-use diagnostics::name::add_name;
+use crate::name::add_name;
 use il_ast::block::Block;
 use il_ast::function::Func;
 use il_ast::program::{InText, Target};
