@@ -9,16 +9,16 @@ ghost use Rattle.qbec.specs.declared.error.CompileError.TheVariants.{Memory};
 ghost use Rattle.qbec.specs.Codes.{AreGood};
 ghost use Rattle.qbec.specs.Refusals.{Refuses};
 ghost use Rattle.qbec.specs.Texts.{AreProgram};
-ghost use Rattle.symbols.specs.Listing.{IsListed, ListsProgram, letter, symbol_line};
-ghost use Rattle.symbols.specs.Symbols.{entry};
+ghost use Rattle.qbec.specs.Listing.{IsListed, ListsProgram, letter, symbol_line};
+ghost use Rattle.qbec.specs.Symbols.{entry};
 
-use crate::symbol::{Kind, Symbol};
-use crate::symbols::symbols;
+use crate::error::{CompileError, link_refusal};
+use crate::symbols::symbol::{Kind, Symbol};
+use crate::symbols::table::symbols;
+use crate::texts::checked_texts;
 use certificates::strategy::Strategy;
 use obj_link::linking::linked::Linked;
 use obj_link::linking::resolve::resolve;
-use qbec::error::{CompileError, link_refusal};
-use qbec::texts::checked_texts;
 use shell::digits::sixteen_digits;
 use std::alloc::{AllocError, Global};
 
@@ -95,7 +95,7 @@ fn listed(
 ///
 /// # Errors
 ///
-/// Those of [`qbec::compile::compile`], for the same texts.
+/// Those of [`crate::compile::compile`], for the same texts.
 pub fn listing(
     alloc: Global,
     texts: &[&[u8]],

@@ -1,6 +1,6 @@
 use Rattle.std.proofs.Common.{length, ap, arith}
 use Rattle.obj_link.proofs.AddressLemmas.{function_room}
-use Rattle.symbols.proofs.symbols.push_functions.Goals as goal
+use Rattle.qbec.proofs.symbols.table.push_functions.Goals as goal
 
 pub overflow_add-at : goal.overflow_add-at
 overflow_add-at c =

@@ -9,7 +9,7 @@ use Rattle.obj_link.proofs.AddressLemmas.{functions_rise}
 use Rattle.obj_link.proofs.ImageLemmas.{ends}
 use Rattle.qbec.proofs.FileLemmas.{fits_below}
 use Rattle.qbec.proofs.PromotedFunctions.{one_each}
-use Rattle.symbols.proofs.symbols.symbols_with.Goals as goal
+use Rattle.qbec.proofs.symbols.table.symbols_with.Goals as goal
 
 pub push_functions-requires-clause-one_each : goal.push_functions-requires-clause-one_each
 push_functions-requires-clause-one_each c =

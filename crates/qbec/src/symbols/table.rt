@@ -9,9 +9,10 @@ ghost use Rattle.obj_link.specs.Program.{IsProgram};
 ghost use Rattle.obj_link.specs.ProgramOf.{program};
 ghost use Rattle.obj_link.specs.Shown.{shown};
 ghost use Rattle.qbec.specs.Codes.{AreGood, AreWords};
-ghost use Rattle.symbols.specs.Symbols.{AreSymbols, entry, function_entries, object_entries, symbols_of};
+ghost use Rattle.qbec.specs.Symbols.{AreSymbols, entry, function_entries, object_entries, symbols_of};
 
-use crate::symbol::{Kind, Symbol, name_in};
+use crate::codes::codes_of;
+use crate::symbols::symbol::{Kind, Symbol, name_in};
 use certificates::strategy::Strategy;
 use il_ast::datum::DataDef;
 use il_ast::function::Func;
@@ -20,7 +21,6 @@ use il_types::checked::Checked;
 use obj_link::linking::limits::object_size;
 use obj_link::linking::linked::Linked;
 use obj_link::{CODE_START, PAGE};
-use qbec::codes::codes_of;
 use rv_isa::code::MachineCode;
 use std::alloc::{AllocError, Global};
 

@@ -4,9 +4,9 @@ use Rattle.std.specs.List.{concat}
 use Rattle.std.proofs.lemmas.Simd.{map-map}
 use Rattle.il_ast.specs.declared.program.Program.{Program}
 use Rattle.il_types.specs.declared.checked.Checked.{Checked}
-use Rattle.symbols.specs.declared.symbol.Symbol.{Symbol}
-use Rattle.symbols.specs.Listing.{ListsProgram, symbol_line}
-use Rattle.symbols.specs.Symbols.{AreSymbols, entry}
+use Rattle.qbec.specs.declared.symbols.symbol.Symbol.{Symbol}
+use Rattle.qbec.specs.Listing.{ListsProgram, symbol_line}
+use Rattle.qbec.specs.Symbols.{AreSymbols, entry}
 
 pub lists : {E : Type 0} (texts : List Checked) (p : Program) (found same : List Symbol) (r : Result (Vec ℕ Global) E) → AreSymbols texts p (map entry found) → same ≡ found
     → IfOk r (λ v. v.items ≡ concat (map (λ s. symbol_line (entry s)) same)) → IfOk r (λ v. ListsProgram texts p v.items)

@@ -1,6 +1,6 @@
 use Rattle.obj_link.specs.ProgramOf.{program}
-use Rattle.symbols.proofs.ListingLemmas.{lists}
-use Rattle.symbols.proofs.listing.linked_listing.Goals as goal
+use Rattle.qbec.proofs.ListingLemmas.{lists}
+use Rattle.qbec.proofs.symbols.listing.linked_listing.Goals as goal
 
 pub returns : goal.returns
 returns g c =

@@ -1,8 +1,8 @@
 use Rattle.std.proofs.Common.{◌≡◌, ◌++◌, drop, map}
 use Rattle.std.specs.List.{concat}
-use Rattle.symbols.specs.Listing.{symbol_line}
-use Rattle.symbols.specs.Symbols.{entry}
-use Rattle.symbols.proofs.listing.lines_of.Given as goal
+use Rattle.qbec.specs.Listing.{symbol_line}
+use Rattle.qbec.specs.Symbols.{entry}
+use Rattle.qbec.proofs.symbols.listing.lines_of.Given as goal
 
 abbrev pub invariant-loop-symbol : goal.invariant-loop-symbol
 invariant-loop-symbol l =

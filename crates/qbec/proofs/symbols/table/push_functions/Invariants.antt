@@ -2,8 +2,8 @@ use Rattle.std.proofs.Common.{◌≡◌, ◌++◌, drop, map}
 use Rattle.obj_link.specs.Natives.{functions_start}
 use Rattle.obj_link.specs.Placed.{function_addresses, functions_end}
 use Rattle.obj_link.specs.Shown.{shown}
-use Rattle.symbols.specs.Symbols.{entry, function_entries}
-use Rattle.symbols.proofs.symbols.push_functions.Given as goal
+use Rattle.qbec.specs.Symbols.{entry, function_entries}
+use Rattle.qbec.proofs.symbols.table.push_functions.Given as goal
 
 abbrev pub invariant-loop-k : goal.invariant-loop-k
 invariant-loop-k l = record {

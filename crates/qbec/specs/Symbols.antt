@@ -10,9 +10,9 @@ use Rattle.obj_link.specs.Names.{symbol_name}
 use Rattle.obj_link.specs.Placed.{addresses_of}
 use Rattle.rv_isa.specs.Words.{Words}
 use Rattle.qbec.specs.Codes.{AreWords}
-use Rattle.symbols.specs.declared.symbol.Kind.{Kind}
-use Rattle.symbols.specs.declared.symbol.Kind.TheVariants.{Function, Object}
-use Rattle.symbols.specs.declared.symbol.Symbol.{Symbol}
+use Rattle.qbec.specs.declared.symbols.symbol.Kind.{Kind}
+use Rattle.qbec.specs.declared.symbols.symbol.Kind.TheVariants.{Function, Object}
+use Rattle.qbec.specs.declared.symbols.symbol.Symbol.{Symbol}
 
 -- a symbol, with the bytes of its name
 pub record Entry : Type 0 where

@@ -1,6 +1,6 @@
 use Rattle.std.proofs.Common.{arith}
 use Rattle.obj_link.proofs.AddressLemmas.{object_room}
-use Rattle.symbols.proofs.symbols.push_objects.Goals as goal
+use Rattle.qbec.proofs.symbols.table.push_objects.Goals as goal
 
 pub slot_size-at-requires : goal.slot_size-at-requires
 slot_size-at-requires c =

@@ -6,9 +6,9 @@ use Rattle.il_types.specs.declared.checked.Checked.{Checked}
 use Rattle.obj_link.specs.Program.{IsProgram}
 use Rattle.shell.specs.Digits.{sixteen_digits}
 use Rattle.qbec.specs.Texts.{AreTexts}
-use Rattle.symbols.specs.declared.symbol.Kind.{Kind}
-use Rattle.symbols.specs.declared.symbol.Kind.TheVariants.{Function, Object}
-use Rattle.symbols.specs.Symbols.{AreSymbols, Entry}
+use Rattle.qbec.specs.declared.symbols.symbol.Kind.{Kind}
+use Rattle.qbec.specs.declared.symbols.symbol.Kind.TheVariants.{Function, Object}
+use Rattle.qbec.specs.Symbols.{AreSymbols, Entry}
 
 -- T for a function and D for a datum, in lower case where the name isn't exported
 abbrev pub letter : Kind → (is_exported : Bool) → ℕ

@@ -1,8 +1,8 @@
 use Rattle.std.proofs.Common.{◌≡◌, ◌++◌, drop, map}
 use Rattle.obj_link.specs.Placed.{object_addresses, objects_end}
 use Rattle.obj_link.specs.Shown.{shown}
-use Rattle.symbols.specs.Symbols.{entry, object_entries}
-use Rattle.symbols.proofs.symbols.push_objects.Given as goal
+use Rattle.qbec.specs.Symbols.{entry, object_entries}
+use Rattle.qbec.proofs.symbols.table.push_objects.Given as goal
 
 abbrev pub invariant-loop-object : goal.invariant-loop-object
 invariant-loop-object l = record {
