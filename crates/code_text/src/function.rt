@@ -1,8 +1,8 @@
 //! Functions from texts, and as texts.
 use crate::place::Place;
 use crate::read::read;
+use crate::rules::check::is_function;
 use crate::write::written;
-use code_rules::check::is_function;
 use std::alloc::{AllocError, Global};
 use vcode::code::Code;
 use vcode::function::{LFunc, VFunc};

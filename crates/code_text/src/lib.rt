@@ -29,15 +29,19 @@
 //! An operand is a place, a number, or `$N`, the global name with that number. A virtual register is `%N`; in location code a place is a register `xN` or a slot `[N]`, and the first
 //! line says how many slots there are.
 //!
-//! [`function`] reads functions, with the invariants of their types checked, and writes them. A text that is read is what is written of the function, but for the spacing around lines,
-//! so that each function has one text.
+//! [`function`] reads functions, with the invariants of their types checked ([`rules`]), and writes them. A text that is read is what is written of the function, but for the spacing
+//! around lines, so that each function has one text.
 //!
-//! The crate stands on `vcode` for the codes, and on `code_rules` for what a code has to keep.
+//! The crate promises by contract that what [`rules::check::is_function`] accepts is a function (`IsFunction` of `specs/Function`); what is read and written has no contract, and is for
+//! tests alone.
+//!
+//! The crate stands on `vcode` for the codes, on `il_ast` and `rv_isa` for names and limits, and on `text_maker` for texts.
 #![tactic(auto)]
 
 pub mod function;
 mod names;
 pub mod place;
 mod read;
+pub mod rules;
 pub mod words;
 mod write;

@@ -1,6 +1,6 @@
 //! Places as words.
+use crate::rules::place::CodePlace;
 use crate::words::number_behind;
-use code_rules::place::CodePlace;
 use text_maker::maker::TextMaker;
 use vcode::place::Location;
 

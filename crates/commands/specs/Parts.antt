@@ -16,7 +16,7 @@ use Rattle.shell.specs.Lines.{dis_lines}
 use Rattle.qbec.specs.declared.error.CompileError.{CompileError}
 use Rattle.qbec.specs.Compile.{IsCompiled}
 use Rattle.qbec.specs.Refusals.{Refuses as RefusesTexts}
-use Rattle.symbols.specs.Listing.{IsListed}
+use Rattle.qbec.specs.Listing.{IsListed}
 use Rattle.commands.specs.declared.refusal.Refusal.TheVariants.{File}
 use Rattle.commands.specs.declared.failure.Failure.{Failure}
 use Rattle.commands.specs.declared.failure.Failure.TheVariants.{Memory, Refused, Unread, Unwritten, Output}

@@ -4,11 +4,11 @@ ghost use Rattle.commands.specs.Parts.{AreShown, SymbolsFail};
 
 use crate::failure::Failure;
 use crate::files::{put_out, read_all, slices};
+use qbec::symbols::listing::listing;
 use regalloc::strategy::Strategy;
 use shell::disk::Disk;
 use shell::sink::Sink;
 use std::alloc::Global;
-use symbols::listing::listing;
 
 /// Puts out where the names of the files stand, as texts, in an executable of them.
 #[tactic(auto, unfolding(crate::specs::Parts::SymbolsFail))]

@@ -9,8 +9,8 @@ ghost use Rattle.commands.specs.Pieces.{LinkedFails, SendingFails, Sent, TextsFa
 
 use crate::failure::Failure;
 use crate::pieces::run_turns;
-use backtrace::source::Source;
-use backtrace::story::{story, story_of_start};
+use diagnostics::trace::source::Source;
+use diagnostics::trace::story::{story, story_of_start};
 use il_ast::value::End;
 use il_interp::pieces::{Running, begin_to_run};
 use il_types::checked::Checked;

@@ -1,4 +1,4 @@
-//! # What is wrong with texts, in words
+//! # What is wrong with texts and runs, in words
 //!
 //! For whoever wrote a text that is refused: what stands where the reading of it ended, which names break which rule, which limit is passed and by how much, and which
 //! definitions stand in each other's way. Why a text is refused, and at which line, is decided by `il_reader`, `il_types` and `obj_link`; here it is only explained.
@@ -6,24 +6,28 @@
 //! - [`text::syntax`], [`text::rule`] and [`text::limit`] explain why one text is refused.
 //! - [`linking::link`] explains why texts that keep the rules are no program.
 //! - [`warning::warnings`] finds what is likely a mistake in a program.
+//! - [`trace::story::story`] tells where and why a run of a program ended that is undefined, runs out of stack or comes to its limit.
 //!
 //! No function has a contract: the words are for people, and nothing that is proved rests on them. Each is safe and ends.
+//!
+//! The crate stands on `il_reader`, `il_types` and `obj_link` for refusals, on `il_interp` for runs that were watched, and on `text_maker` for the words.
 #![tactic(auto)]
 
 mod call;
 mod data;
 mod definition;
-pub mod label;
+mod label;
 mod limit;
 pub mod linking;
 mod mention;
-pub mod name;
+mod name;
 pub mod note;
 mod paths;
 mod phi;
-pub mod place;
+mod place;
 mod size;
 mod syntax;
 mod temporary;
 pub mod text;
+pub mod trace;
 pub mod warning;

@@ -4,7 +4,7 @@
 //!
 //! The programs stand in `programs.cases`, with what is known of each from outside; `files.cases` has changes of an executable file, with their refusals, and `lines.cases`
 //! what is shown for words of the command line: in the folder where the program that asks for them runs, which is `crates/bench`, whose `data` holds them.
-//! [`programs_told`] says how each came out.
+//! [`programs_told`] says how each came out. Further programs are made by a rule or at random (`texts`).
 #![tactic(auto)]
 
 mod broken_disk;
@@ -23,6 +23,7 @@ mod random;
 mod sizes;
 mod strategies;
 mod table;
+mod texts;
 mod told;
 mod watched;
 

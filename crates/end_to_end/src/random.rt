@@ -2,6 +2,8 @@
 use crate::compiled::{Compiled, compile_with, ran};
 use crate::interpreted::interpreted;
 use crate::strategies::{Answer, Fixed};
+use crate::texts::random_text::random_text;
+use crate::texts::small_functions::small_functions;
 use crate::watched::Watched;
 use regalloc::spill_all::SpillAll;
 use regalloc::strategy::Strategy;
@@ -11,8 +13,6 @@ use rv_machine::ram::Ram;
 use std::alloc::{AllocError, Global};
 use test_report::report::Report;
 use test_report::told::Told;
-use test_texts::random_text::random_text;
-use test_texts::small_functions::small_functions;
 
 /// More turns than any of the programs takes.
 const PLENTY: u64 = 1 << 20;

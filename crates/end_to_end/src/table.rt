@@ -17,10 +17,10 @@
 //! | `registers N` | at least so often linear scan names a register of the machine for a line or a jump |
 //! | `tried`, `differs`, `cut`, `large` | strategies of every kind are tried; the bytes by both strategies differ; linear scan moves a value; it is compiled once |
 use crate::case::{Bounds, Case, Marks};
+use crate::texts::made::push_made;
 use std::alloc::{AllocError, Global};
 use std::rt::Files;
 use std::{fs, io};
-use test_texts::made::push_made;
 
 /// What the next lines are.
 #[derive(Clone, Copy, PartialEq, Eq)]

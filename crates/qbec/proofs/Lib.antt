@@ -9,3 +9,4 @@ pub mod ExecutableBytes
 pub mod PromotedRuns
 pub mod FileLemmas
 pub mod CompileLemmas
+pub mod ListingLemmas

@@ -6,3 +6,5 @@ pub mod Pipeline
 pub mod Candidates
 pub mod Codes
 pub mod Compile
+pub mod Symbols
+pub mod Listing

@@ -7,11 +7,14 @@
 //!
 //! Before it, [`texts::checked_texts`] reads and checks texts; [`laws`] says that texts are at most one program, and that what a refusal says is true of no program.
 //!
+//! [`symbols::listing::listing`] says where the names of texts stand in an executable of the program that they are: the addresses of its image.
+//!
 //! | Definitions | Subject |
 //! |---|---|
 //! | `specs/Texts`, `specs/Compile` | the program that texts are; what an executable file of a program is |
 //! | `specs/Refusals` | what each refusal says |
 //! | `specs/Pipeline`, `specs/Candidates`, `specs/Promoted`, `specs/Codes` | functions on their way to words; the program that is compiled in a program's place |
+//! | `specs/Symbols`, `specs/Listing` | where the names of a program stand in an executable of it; the lines that show it |
 #![tactic(auto)]
 
 pub mod candidates;
@@ -21,4 +24,5 @@ pub mod error;
 pub mod laws;
 pub mod passes;
 pub mod pipeline;
+pub mod symbols;
 pub mod texts;

@@ -4,9 +4,9 @@
 #![tactic(auto)]
 
 use commands::invoke::invoke;
-use host::host_files::HostFiles;
-use host::stream::Stream;
 use regalloc::linear_scan::LinearScan;
+use shell::system::host_files::HostFiles;
+use shell::system::stream::Stream;
 use std::process::ExitCode;
 use std::rt::Env;
 use std::{env, io};

@@ -3,3 +3,4 @@ pub mod Disk
 pub mod MemoryDisk
 pub mod Digits
 pub mod Lines
+pub mod SystemFaults

@@ -9,6 +9,8 @@
 //! - [`disk::Disk`] reads and writes files. Its laws say what it read and wrote, as far as it tells what its files hold, and which
 //!   calls failed.
 //! - [`memory_disk::MemoryDisk`] is one in memory, which tells.
+//! - [`system::host_files::HostFiles`] is the disk of the system. The files of the system tell nothing of what they hold, so its laws say which calls failed, and no more.
+//! - [`system::stream::Stream`] is any writer as a sink, as a stream of the system: it tells what the writer holds, where that is known.
 //! - [`digits::sixteen_digits`] shows a number in hexadecimal.
 //! - [`dis_lines::dis_lines`] gives exactly the lines of a disassembly, as `specs/Lines.antt` says them.
 //!
@@ -21,4 +23,5 @@ pub mod disk;
 pub mod memory;
 pub mod memory_disk;
 pub mod sink;
+pub mod system;
 pub mod write_exe;

@@ -1,0 +1,10 @@
+//! Where and why a run ended, in words.
+//!
+//! [`story::story`] tells of a run of the interpreter that was watched which turn was the last, with its line of the text, what its operands hold, for pointers the block of memory (how
+//! many bytes it has, and where it was made), and which calls it stands in.
+
+mod calls;
+pub mod source;
+pub mod story;
+mod turn;
+mod values;

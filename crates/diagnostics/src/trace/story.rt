@@ -1,0 +1,71 @@
+//! All that is told of a run.
+use crate::trace::calls::add_calls;
+use crate::trace::source::{Source, add_function, add_place, add_written};
+use crate::trace::turn::add_operands;
+use crate::trace::values::add_value;
+use il_interp::pieces::Running;
+use il_interp::trace::{Place, Turn};
+use std::alloc::{AllocError, Global};
+use text_maker::maker::TextMaker;
+
+/// The lines that tell of a run that was watched: the last turns, as many as are remembered; where the last one was due, or the next one where the run goes on; what
+/// its operands hold; and the calls that it stands in. No line, where memory for them was refused.
+pub fn story(alloc: Global, source: &Source<'_>, running: &Running<'_>) -> String {
+    or_none(alloc, told(alloc, source, running))
+}
+
+/// The lines, or none where memory for them was refused.
+fn or_none(alloc: Global, lines: Result<String, AllocError>) -> String {
+    match lines {
+        Ok(text) => text,
+        Err(AllocError) => String::new(alloc),
+    }
+}
+
+/// The line that tells of a program which came to no turn.
+pub fn story_of_start(alloc: Global, source: &Source<'_>) -> String {
+    let mut words = TextMaker::new(alloc);
+    add_turn(&mut words, source, Place::start(source.linked));
+    words.add("\n");
+    or_none(alloc, words.finish())
+}
+
+fn told(alloc: Global, source: &Source<'_>, running: &Running<'_>) -> Result<String, AllocError> {
+    let mut words = TextMaker::new(alloc);
+    add_last(&mut words, source, running);
+    if let Some(place) = running.place() {
+        add_turn(&mut words, source, place);
+        words.add("\n");
+        add_operands(alloc, &mut words, source, running, place)?;
+    }
+    add_calls(&mut words, source, running);
+    words.finish()
+}
+
+/// Adds a line for each of the last turns.
+fn add_last(words: &mut TextMaker, source: &Source<'_>, running: &Running<'_>) {
+    for number in 0..running.turns() {
+        if let Some(turn) = running.turn(number) {
+            add_done(words, source, running, turn);
+        }
+    }
+}
+
+/// Adds a turn that was done, with what it assigned.
+fn add_done(words: &mut TextMaker, source: &Source<'_>, running: &Running<'_>, turn: Turn) {
+    add_turn(words, source, turn.place);
+    if turn.assigned.is_some() {
+        words.add(" => ");
+        add_value(words, source, running, turn.assigned);
+    }
+    words.add("\n");
+}
+
+/// Adds where a turn is due, and what stands there.
+fn add_turn(words: &mut TextMaker, source: &Source<'_>, place: Place) {
+    add_place(words, source, place);
+    words.add(": in ");
+    add_function(words, source, place.function);
+    words.add(": ");
+    add_written(words, source, place);
+}

@@ -1,0 +1,115 @@
+//! The symbols of texts as lines, in the form in which `nm -S` prints them.
+ghost use Rattle.std.specs.Prelude.{◌≡◌, ◌++◌, map, IfOk, IfErr, OnOk};
+ghost use Rattle.std.specs.List.{concat};
+ghost use Rattle.std.specs.Result.{MatchResult};
+ghost use Rattle.il_ast.specs.declared.program.Program.{Program};
+ghost use Rattle.obj_link.specs.Program.{IsProgram};
+ghost use Rattle.obj_link.specs.ProgramOf.{program};
+ghost use Rattle.qbec.specs.declared.error.CompileError.TheVariants.{Memory};
+ghost use Rattle.qbec.specs.Codes.{AreGood};
+ghost use Rattle.qbec.specs.Refusals.{Refuses};
+ghost use Rattle.qbec.specs.Texts.{AreProgram};
+ghost use Rattle.qbec.specs.Listing.{IsListed, ListsProgram, letter, symbol_line};
+ghost use Rattle.qbec.specs.Symbols.{entry};
+
+use crate::error::{CompileError, link_refusal};
+use crate::symbols::symbol::{Kind, Symbol};
+use crate::symbols::table::symbols;
+use crate::texts::checked_texts;
+use certificates::strategy::Strategy;
+use obj_link::linking::linked::Linked;
+use obj_link::linking::resolve::resolve;
+use shell::digits::sixteen_digits;
+use std::alloc::{AllocError, Global};
+
+/// The letter of what a name stands for: `T` for a function and `D` for a datum, in lower case where it isn't exported.
+fn letter(kind: Kind, is_exported: bool) -> u8
+    ensures { result ≡ letter kind is_exported }
+{
+    match kind {
+        Kind::Function if is_exported => b'T',
+        Kind::Function => b't',
+        Kind::Object if is_exported => b'D',
+        Kind::Object => b'd',
+    }
+}
+
+/// Adds the line of a symbol.
+fn push_line(listing: &mut Vec<u8>, symbol: &Symbol<'_>) -> Result<(), AllocError>
+    ensures { OnOk result (listing.new.items ≡ listing.old.items ++ symbol_line (entry symbol.now)) }
+{
+    listing.extend_from_slice(&sixteen_digits(symbol.address))?;
+    listing.extend_from_slice(b" ")?;
+    listing.extend_from_slice(&sixteen_digits(symbol.size))?;
+    listing.extend_from_slice(&[b' ', letter(symbol.kind, symbol.is_exported), b' '])?;
+    listing.extend_from_slice(symbol.name)?;
+    listing.extend_from_slice(b"\n")
+}
+
+/// The lines of symbols, one after another.
+fn lines_of(alloc: Global, symbols: &[Symbol<'_>]) -> Result<Vec<u8>, AllocError>
+    ensures { IfOk result (λ v. v.items ≡ concat (map (λ s. symbol_line (entry s)) symbols.now)) }
+{
+    let mut listing = Vec::new(alloc);
+    for symbol in symbols {
+        push_line(&mut listing, symbol)?;
+    }
+    Ok(listing)
+}
+
+/// The lines of the symbols of a program.
+fn linked_listing(
+    alloc: Global,
+    linked: &Linked<'_>,
+    allocator: &mut dyn Strategy,
+) -> Result<Vec<u8>, AllocError>
+    requires program { IsProgram linked.now.texts.now (program linked.now) }
+    requires good { AreGood linked.now.functions }
+    ensures { IfOk result (λ v. ListsProgram linked.now.texts.now (program linked.now) v.items) }
+{
+    let found = symbols(alloc, linked, allocator)?;
+    lines_of(alloc, found.as_slice())
+}
+
+/// The same, of a program that memory alone can refuse.
+fn listed(
+    alloc: Global,
+    linked: &Linked<'_>,
+    allocator: &mut dyn Strategy,
+) -> Result<Vec<u8>, CompileError>
+    requires program { IsProgram linked.now.texts.now (program linked.now) }
+    requires good { AreGood linked.now.functions }
+    ensures { MatchResult result (λ v. ListsProgram linked.now.texts.now (program linked.now) v.items) (λ e. e ≡ Memory) }
+{
+    match linked_listing(alloc, linked, allocator) {
+        Ok(listing) => Ok(listing),
+        Err(error) => Err(CompileError::from(error)),
+    }
+}
+
+/// Where the names of texts stand in an executable of the program that they are, with the registers that the strategy chooses: a line for each function, and behind
+/// them one for each datum, in the order of addresses.
+///
+/// A line has the address and the size, each as sixteen hexadecimal digits, the letter of what stands there, and the name without its `$`. `nm -S` prints such lines of
+/// other executables. Sizes are in bytes; that of a datum leaves out the zeros behind it.
+///
+/// # Errors
+///
+/// Those of [`crate::compile::compile`], for the same texts.
+pub fn listing(
+    alloc: Global,
+    texts: &[&[u8]],
+    allocator: &mut dyn Strategy,
+) -> Result<Vec<u8>, CompileError>
+    ensures listed { IfOk result (λ v. IsListed (map (λ t. t.now) texts.now) v.items) }
+    ensures refused { IfErr result (λ e. Refuses e (map (λ t. t.now) texts.now)) }
+    ensures only { (p : Program) → AreProgram (map (λ t. t.now) texts.now) p → IfErr result (λ e. e ≡ Memory) }
+{
+    match checked_texts(alloc, texts) {
+        Ok(checked) => match resolve(alloc, checked.as_slice()) {
+            Ok(linked) => listed(alloc, &linked, allocator),
+            Err(error) => Err(link_refusal(alloc, error)),
+        },
+        Err(error) => Err(error),
+    }
+}

@@ -1,0 +1,162 @@
+//! The files of the system.
+ghost use Rattle.std.specs.Prelude.{◌≡◌, IfOk};
+ghost use Rattle.std.specs.Io.KnownBytes.{Appends};
+ghost use Rattle.std.specs.IoError.{error_kind};
+ghost use Rattle.shell.specs.Disk.{no_failed_calls, told_faults};
+ghost use Rattle.shell.specs.SystemFaults.{fault_of};
+
+use crate::disk::{Access, Disk, Faults, FileFault};
+use crate::system::stream::Stream;
+use crate::write_exe::write_exe;
+use std::alloc::Global;
+use std::io::{Error, ErrorKind, Read, Write};
+use std::os::unix::fs::{MetadataExt, PermissionsExt};
+use std::rt::Files;
+use std::{fs, io};
+
+/// What stands for standard input in the place of a file that is read.
+const STANDARD_INPUT: &str = "-";
+
+/// How many bytes are read of what is no plain file, and may have no end: more than any text has, and any executable that is built.
+const LONGEST_STREAM: u64 = 0x400_0000;
+
+/// The files of the system, and which calls failed. A file that was read isn't written.
+#[derive(Drop)]
+pub struct HostFiles<'r, R> {
+    rt: &'r R,
+    faults: Faults,
+    /// the plain files that were read, by their devices and numbers
+    inputs: Vec<(u64, u64)>,
+}
+
+impl<'r, R: Files + Input + AllocGlobal> HostFiles<'r, R> {
+    /// Those of this process, of which no call has failed so far.
+    pub fn new(rt: &'r R) -> HostFiles<'r, R>
+        ensures { told_faults result.faults ≡ no_failed_calls }
+    {
+        HostFiles {
+            rt,
+            faults: Faults::none(rt.alloc()),
+            inputs: Vec::new(rt.alloc()),
+        }
+    }
+
+    /// All bytes of a file, or of standard input.
+    fn read_input(&mut self, path: &str) -> io::Result<Vec<u8>>
+        ensures { self.new.faults ≡ self.old.faults }
+    {
+        if path == STANDARD_INPUT {
+            return read_stream(self.rt.alloc(), self.rt.reader());
+        }
+        let metadata = fs::metadata(self.rt, path)?;
+        if !metadata.is_file() {
+            return read_stream(self.rt.alloc(), fs::open(self.rt, path)?);
+        }
+        if self.inputs.push((metadata.dev(), metadata.ino())).is_err() {
+            return Err(Error::from(ErrorKind::OutOfMemory));
+        }
+        fs::read(self.rt, path)
+    }
+
+    /// Writes a file, if it isn't one that was read.
+    fn write_output(&self, path: &str, bytes: &[u8]) -> Result<(), FileFault> {
+        if self.is_input(path) {
+            return Err(FileFault::Device);
+        }
+        write_file(self.rt, path, bytes)
+    }
+
+    /// Whether a path leads to a file that was read.
+    fn is_input(&self, path: &str) -> bool {
+        match fs::metadata(self.rt, path) {
+            Ok(metadata) => self.inputs.contains(&(metadata.dev(), metadata.ino())),
+            Err(_) => false,
+        }
+    }
+}
+
+/// All bytes of a stream. One with too many is an error, since it may have no end.
+fn read_stream<S: Read + Drop>(alloc: Global, stream: S) -> io::Result<Vec<u8>> {
+    let mut bytes = Vec::new(alloc);
+    let mut start = stream.take(LONGEST_STREAM + 1);
+    start.read_to_end(&mut bytes)?;
+    if bytes.len() as u64 > LONGEST_STREAM {
+        return Err(Error::from(ErrorKind::FileTooLarge));
+    }
+    Ok(bytes)
+}
+
+/// Memory or the device, by the kind of an error.
+fn fault_of(error: &Error) -> FileFault
+    ensures { result ≡ fault_of (error_kind error.now) }
+{
+    match error.kind() {
+        ErrorKind::OutOfMemory => FileFault::Memory,
+        _ => FileFault::Device,
+    }
+}
+
+/// Lets those who may read a file execute it, as other compilers do. What is no plain file, as a device, stays as it is.
+fn make_executable<R: Files>(rt: &R, path: &str) -> io::Result<()> {
+    let metadata = fs::metadata(rt, path)?;
+    if metadata.is_file() {
+        let mut permissions = metadata.permissions();
+        let mode = permissions.mode();
+        permissions.set_mode(mode | (mode & 0o444) >> 2);
+        fs::set_permissions(rt, path, permissions)?;
+    }
+    Ok(())
+}
+
+/// The answer of a disk, from that of the system.
+fn answered<T>(answer: io::Result<T>) -> Result<T, FileFault> {
+    match answer {
+        Ok(value) => Ok(value),
+        Err(error) => Err(fault_of(&error)),
+    }
+}
+
+/// Writes all bytes to a new file, and answers the stream that took them.
+fn write_to<W: Write + Drop>(file: W, bytes: &[u8]) -> Result<Stream<W>, FileFault>
+    ensures { IfOk result (λ stream. Appends (W.contents file) (W.contents stream.writer) bytes.now) }
+{
+    let mut stream = Stream::new(file);
+    match write_exe(bytes, &mut stream) {
+        Ok(()) => Ok(stream),
+        Err(_) => Err(FileFault::Device),
+    }
+}
+
+fn write_file<R: Files + AllocGlobal>(rt: &R, path: &str, bytes: &[u8]) -> Result<(), FileFault> {
+    match fs::create(rt, path) {
+        Ok(file) => {
+            let _file = write_to(file, bytes)?;
+            // The file is whole; on a file system that has no such permissions it can be executed or not as it is.
+            let _ = make_executable(rt, path);
+            Ok(())
+        }
+        Err(error) => Err(fault_of(&error)),
+    }
+}
+
+impl<R: Files + Input + AllocGlobal> Disk for HostFiles<'_, R> {
+    ghost use Rattle.std.specs.Prelude.{None};
+
+    ghost told = { λ s. record { files = None; faults = told_faults s.faults } };
+
+    fn read(&mut self, path: &str) -> Result<Vec<u8>, FileFault> {
+        let alloc = self.rt.alloc();
+        match answered(self.read_input(path)) {
+            Ok(bytes) => Ok(bytes),
+            Err(fault) => Err(self.faults.note(alloc, Access::Read, path, fault)),
+        }
+    }
+
+    fn write(&mut self, path: &str, bytes: &[u8]) -> Result<(), FileFault> {
+        let alloc = self.rt.alloc();
+        match self.write_output(path, bytes) {
+            Ok(()) => Ok(()),
+            Err(fault) => Err(self.faults.note(alloc, Access::Write, path, fault)),
+        }
+    }
+}
