@@ -41,17 +41,11 @@ fn single_links(alloc: Global, blocks: usize) -> Result<Vec<Link>, AllocError> {
 }
 
 fn behind(links: &[Link], block: usize) -> Option<usize> {
-    match links.get(block) {
-        Some(link) => link.behind,
-        None => None,
-    }
+    links.get(block)?.behind
 }
 
 fn before(links: &[Link], block: usize) -> Option<usize> {
-    match links.get(block) {
-        Some(link) => link.before,
-        None => None,
-    }
+    links.get(block)?.before
 }
 
 fn end(links: &[Link], block: usize) -> usize {

@@ -127,10 +127,7 @@ fn wanted(
         } => {
             let one = written.in_front(*left);
             let other = written.in_front(*right);
-            match plan_of(before, register, *operation, one, other) {
-                Some(plan) => Some((*to, plan)),
-                None => None,
-            }
+            Some((*to, plan_of(before, register, *operation, one, other)?))
         }
         _ => None,
     }
@@ -171,15 +168,11 @@ fn part_of_sum(
     sum: u32,
     added: Operand<u32>,
 ) -> Option<Part> {
-    let Some((left, right)) = written.summands(sum) else {
-        return None;
-    };
+    let (left, right) = written.summands(sum)?;
     let (one, rest) = unchanged(written, &left, &right);
     let other = written.in_front(added);
-    match plan_of(before, register, Operation::Reg(RegOp::Add), one, other) {
-        Some(plan) => Some(Part { plan, sum, rest }),
-        None => None,
-    }
+    let plan = plan_of(before, register, Operation::Reg(RegOp::Add), one, other)?;
+    Some(Part { plan, sum, rest })
 }
 
 fn wanted_part(
