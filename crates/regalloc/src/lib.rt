@@ -1,15 +1,15 @@
 //! # Register allocation by linear scan
 //!
-//! [`linear_scan::LinearScan`] gives registers of the machine to those virtual registers that are used most often for their length, and shared spill slots to the
-//! others. Those it splits: in parts of their lifetimes they stand in registers of the machine, and certificates move them there and to their slots.
+//! [`linear_scan::LinearScan`] gives registers of the machine to those virtual registers that are used most often for the length of their live intervals, and shared
+//! spill slots to the others. Those it splits: in parts of their live intervals they stand in registers of the machine, and certificates move them there and to their slots.
 //!
 //! The layers, in the order of the work:
 //!
 //! | Layer | What it finds |
 //! |---|---|
-//! | `intervals` | where registers have values, what they are used for, which may share one place |
-//! | `places` | which of them gets which register of the machine, or which slot |
-//! | `parts` | the parts of a lifetime, which of them go together, and what that saves |
+//! | `intervals` | where registers have values (their live intervals), what they are used for (their spill weights), which may have one place (coalescing) |
+//! | `places` | which of them gets which register of the machine, or which spill slot |
+//! | `parts` | the parts of a live interval, which of them one register of the machine serves together, and what that saves |
 //! | `splitting` | which parts of what has a slot stand in a register of the machine, and the moves for that |
 //! | `linear_scan` | the place of each register, by all of these |
 //! | `written` | the certificate of the places and the moves |

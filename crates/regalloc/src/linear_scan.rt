@@ -6,8 +6,8 @@ ghost use Rattle.vcode.specs.Named.{is_place};
 ghost use Rattle.regalloc.specs.Scanned.{IsScanned};
 
 use crate::intervals::accesses::Accesses;
+use crate::intervals::coalescing::{Group, groups_of};
 use crate::intervals::facts::{Facts, facts_of};
-use crate::intervals::groups::{Group, groups_of};
 use crate::intervals::positions::Range;
 use crate::places::candidates::{
     Candidate, Ground, candidates, is_left_over, is_unplaced, singles, wishes,
@@ -119,7 +119,7 @@ fn place_candidate(
     match ground.groups.get(candidate.group) {
         Some(group) => match choice(alloc, rooms, splitter, ground, candidate, group)? {
             Some(k) => {
-                let ranges = group.ranges(ground.facts.lifetimes.as_slice());
+                let ranges = group.ranges(ground.facts.intervals.as_slice());
                 take(list, registers, rooms, k, group, ranges);
             }
             None => {}
@@ -229,8 +229,8 @@ fn place_in_slots(
     ensures long { length list.new ≡ length list.old }
 {
     let wishes = wishes(alloc, ground.groups, list, ground.facts)?;
-    let lifetimes = ground.facts.lifetimes.as_slice();
-    let slots = shared_slots(alloc, ground.groups, lifetimes, wishes.as_slice())?;
+    let intervals = ground.facts.intervals.as_slice();
+    let slots = shared_slots(alloc, ground.groups, intervals, wishes.as_slice())?;
     give_slots(
         list,
         registers,
@@ -323,8 +323,8 @@ pub fn scanned(alloc: Global, function: &VFunc, live: &Live) -> Result<Certifica
     ensures { IfOk result (λ c. IsScanned function.now.registers c) }
 {
     let mut facts = facts_of(alloc, function, live, LIVE_A_LINE)?;
-    let lifetimes = facts.lifetimes.as_slice();
-    let groups = groups_of(alloc, function.registers, lifetimes, &facts.demands)?;
+    let intervals = facts.intervals.as_slice();
+    let groups = groups_of(alloc, function.registers, intervals, &facts.demands)?;
     let accesses = replace(&mut facts.accesses, Accesses::none(alloc));
     let ground = Ground {
         function,

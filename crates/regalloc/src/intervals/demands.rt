@@ -12,7 +12,7 @@ use vcode::place::{Argument, Destination, Operand};
 /// What a register is used for.
 #[derive(Clone, Copy)]
 pub(crate) struct Demand {
-    /// twice the number of instructions that a register of the machine saves over a slot, where a block in a loop counts ten times as often
+    /// the spill weight: twice the number of instructions that a register of the machine saves over a slot, where a block in a loop counts ten times as often
     pub(crate) weight: u64,
 
     pub(crate) is_param: bool,

@@ -1,7 +1,7 @@
 //! All that is known of a function before registers are given.
 use crate::intervals::accesses::Accesses;
 use crate::intervals::demands::{Demands, demands_of};
-use crate::intervals::lifetimes::{Lifetime, lifetimes};
+use crate::intervals::live_intervals::{LiveInterval, live_intervals};
 use crate::intervals::starts::{Known, Starts, line_count, starts_of};
 use crate::intervals::text::{Text, text_of};
 use cfg_live::sets::Live;
@@ -19,8 +19,8 @@ pub(crate) struct Facts {
     /// what is live where blocks begin
     pub(crate) starts: Starts,
 
-    /// the lifetime of each register
-    pub(crate) lifetimes: Vec<Lifetime>,
+    /// the live interval of each register
+    pub(crate) intervals: Vec<LiveInterval>,
 
     /// what registers are used for
     pub(crate) demands: Demands,
@@ -39,8 +39,8 @@ fn text(alloc: Global, blocks: &[Block<u32>]) -> Result<Text, AllocError> {
 /// With more registers than this some of them are mostly split, for which all accesses have to be found.
 const FEW: u32 = 64;
 
-/// Finds what is live where blocks begin, and by that the lifetimes.
-fn find_lifetimes(
+/// Finds what is live where blocks begin, and by that the live intervals.
+fn find_intervals(
     alloc: Global,
     facts: &mut Facts,
     function: &VFunc,
@@ -55,7 +55,7 @@ fn find_lifetimes(
         registers,
     };
     facts.starts = starts_of(alloc, known, most)?;
-    facts.lifetimes = lifetimes(alloc, registers, &function.code, &facts.starts, &facts.text)?;
+    facts.intervals = live_intervals(alloc, registers, &function.code, &facts.starts, &facts.text)?;
     Ok(())
 }
 
@@ -80,10 +80,10 @@ pub(crate) fn facts_of(
     let mut facts = Facts {
         text,
         starts: Starts::none(alloc),
-        lifetimes: Vec::new(alloc),
+        intervals: Vec::new(alloc),
         demands,
         accesses,
     };
-    find_lifetimes(alloc, &mut facts, function, live, most)?;
+    find_intervals(alloc, &mut facts, function, live, most)?;
     Ok(facts)
 }

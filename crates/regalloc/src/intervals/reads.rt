@@ -18,6 +18,7 @@ pub(crate) fn register_of(operand: &Operand<u32>) -> Option<u32> {
     }
 }
 
+/// Up to two registers, and no arguments.
 fn both(first: Option<u32>, second: Option<u32>) -> Reads<'static> {
     Reads {
         first,

@@ -1,7 +1,7 @@
-//! A register's lifetime, cut at the ends of blocks and at calls.
+//! A register's live interval, cut at the ends of blocks and at calls.
 use crate::intervals::accesses::Access;
 use crate::intervals::facts::Facts;
-use crate::intervals::lifetimes::ranges_of;
+use crate::intervals::live_intervals::ranges_of;
 use crate::lists::set;
 use crate::parts::pieces::{Outline, push_ranges};
 use crate::parts::wanted::wanted;
@@ -136,7 +136,7 @@ impl Nodes {
         push_ranges(
             outline,
             self,
-            ranges_of(facts.lifetimes.as_slice(), register),
+            ranges_of(facts.intervals.as_slice(), register),
         )?;
         let wanted = wanted(alloc, &facts.text, self)?;
         self.drop_unwanted(wanted.as_slice());

@@ -7,7 +7,7 @@ use crate::lists::rest;
 use crate::parts::nodes::{Node, Nodes};
 use std::alloc::AllocError;
 
-/// What a register's lifetime is cut by.
+/// What a register's live interval is cut by.
 #[derive(Clone, Copy)]
 pub(crate) struct Outline<'a> {
     /// the blocks

@@ -1,4 +1,4 @@
-//! Parts of a register's lifetime that one register of the machine may serve together, and what that saves.
+//! Parts of a register's live interval that one register of the machine may serve together, and what that saves.
 use crate::intervals::accesses::Access;
 use crate::intervals::text::Text;
 use crate::lists::{part, rest, set};

@@ -1,7 +1,7 @@
 //! What stands for registers of the machine, and in which order.
+use crate::intervals::coalescing::Group;
 use crate::intervals::demands::{Demand, Demands, is_over_call};
 use crate::intervals::facts::Facts;
-use crate::intervals::groups::Group;
 use crate::intervals::positions::Range;
 use crate::places::slots::Wish;
 use cfg_live::sets::Live;
@@ -99,7 +99,7 @@ pub(crate) fn candidates(
 ) -> Result<Vec<Candidate>, AllocError> {
     let mut candidates = Vec::with_capacity(alloc, groups.len())?;
     for (number, group) in groups.iter().enumerate() {
-        let ranges = group.ranges(facts.lifetimes.as_slice());
+        let ranges = group.ranges(facts.intervals.as_slice());
         if ranges.len() > 0 {
             let candidate = candidate_of(group, ranges, number, &facts.demands);
             candidates.push(candidate)?;
@@ -114,9 +114,9 @@ pub(crate) fn candidates(
 
 /// Whether some register that has values has no register of the machine yet.
 pub(crate) fn is_left_over(list: &[Location], facts: &Facts) -> bool {
-    for (register, lifetime) in facts.lifetimes.iter().enumerate() {
+    for (register, interval) in facts.intervals.iter().enumerate() {
         if let Some(Location::Slot(_)) = list.get(register) {
-            if lifetime.ranges.len() > 0 {
+            if interval.ranges.len() > 0 {
                 return true;
             }
         }

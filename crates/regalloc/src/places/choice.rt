@@ -1,8 +1,8 @@
 //! Whether a candidate gets a register of the machine, and which one.
+use crate::intervals::coalescing::Group;
 use crate::intervals::facts::Facts;
-use crate::intervals::groups::Group;
 use crate::places::candidates::{Candidate, Ground};
-use crate::places::rooms::{Choice, Rooms, room_for};
+use crate::places::rooms::{Choice, Rooms, room_for_candidate};
 use crate::splitting::splitter::{Splitter, should_keep};
 use std::alloc::{AllocError, Global};
 
@@ -29,8 +29,8 @@ pub(crate) fn choice(
     candidate: &Candidate,
     group: &Group,
 ) -> Result<Option<usize>, AllocError> {
-    let ranges = group.ranges(ground.facts.lifetimes.as_slice());
-    match room_for(rooms, candidate, ranges) {
+    let ranges = group.ranges(ground.facts.intervals.as_slice());
+    match room_for_candidate(rooms, candidate, ranges) {
         Some(Choice::Free(k)) => Ok(Some(k)),
         Some(Choice::Unused(k)) if 4 < candidate.weight => {
             let members = group.members.as_slice();

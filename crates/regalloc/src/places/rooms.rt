@@ -4,8 +4,11 @@ use crate::parts::balance::Balance;
 use crate::places::candidates::Candidate;
 use std::alloc::{AllocError, Global};
 
-/// How many registers of the machine there are.
+/// How many registers of the machine there are: the first eight are those of arguments, the last argument's first.
 pub(crate) const ROOMS: usize = 23;
+
+/// How many of them come first that callees don't keep.
+const SCRATCH: usize = 11;
 
 /// The positions at which each register of the machine is taken, one bit each.
 #[derive(Drop)]
@@ -85,6 +88,7 @@ impl Rooms {
         }
     }
 
+    /// Whether the k-th register is free at all positions of the range.
     fn is_free_at(&self, k: usize, range: Range) -> bool {
         for w in range.start / 64..range.end / 64 + 1 {
             match self.word(k, w) {
@@ -99,6 +103,7 @@ impl Rooms {
         true
     }
 
+    /// Takes the k-th register at all positions of the range.
     fn take_at(&mut self, k: usize, range: Range) {
         for w in range.start / 64..range.end / 64 + 1 {
             self.add(k, w, mask(range, w));
@@ -131,19 +136,19 @@ impl Rooms {
     }
 }
 
-/// The first eight are those of arguments, the last argument's first; and the first eleven are not kept by callees.
-fn may_hold(k: usize, candidate: &Candidate) -> bool {
-    11 <= k || !candidate.over_call
+/// Whether the k-th register may hold a value, also over a call if it must.
+fn may_hold(k: usize, over_call: bool) -> bool {
+    SCRATCH <= k || !over_call
 }
 
-/// The register that saves moves, by the number of its argument; behind those of arguments for what is called.
+/// The register that saves moves, by the number of its argument; the one behind those of arguments for what is called.
 fn hinted(hint: u8) -> usize {
     let hint = usize::from(hint);
     7usize.checked_sub(hint).unwrap_or(hint)
 }
 
 /// The register that the hint names, if it is free.
-fn room_by_hint(rooms: &Rooms, hint: Option<u8>, ranges: &[Range]) -> Option<usize> {
+fn hinted_room(rooms: &Rooms, hint: Option<u8>, ranges: &[Range]) -> Option<usize> {
     match hint {
         Some(hint) if rooms.is_free(hinted(hint), ranges) => Some(hinted(hint)),
         _ => None,
@@ -160,16 +165,12 @@ pub(crate) enum Choice {
     Unused(usize),
 }
 
-/// The register that the candidate would save moves in, or else the first one that is free for the ranges of the candidate, one that needs no saving if there is one.
-pub(crate) fn room_for(rooms: &Rooms, candidate: &Candidate, ranges: &[Range]) -> Option<Choice> {
-    match room_by_hint(rooms, candidate.hint, ranges) {
-        Some(k) if may_hold(k, candidate) => return Some(Choice::Free(k)),
-        _ => {}
-    }
+/// The first register that is free for the ranges and costs nothing, or else the first one that is free.
+fn free_room(rooms: &Rooms, over_call: bool, ranges: &[Range]) -> Option<Choice> {
     let mut unused = None;
     for k in 0..ROOMS {
-        if may_hold(k, candidate) && rooms.is_free(k, ranges) {
-            if k < 11 || rooms.is_used(k) {
+        if may_hold(k, over_call) && rooms.is_free(k, ranges) {
+            if k < SCRATCH || rooms.is_used(k) {
                 return Some(Choice::Free(k));
             }
             if unused.is_none() {
@@ -180,15 +181,27 @@ pub(crate) fn room_for(rooms: &Rooms, candidate: &Candidate, ranges: &[Range]) -
     unused
 }
 
-/// The register of the argument by which the value comes or goes, the one that saves most among those that are free.
-fn part_by_argument(rooms: &Rooms, balance: Balance, ranges: &[Range]) -> Option<usize> {
+/// The register for a candidate with these ranges: the one that it would save moves in, or else the first one that is free, one that costs nothing if there is one.
+pub(crate) fn room_for_candidate(
+    rooms: &Rooms,
+    candidate: &Candidate,
+    ranges: &[Range],
+) -> Option<Choice> {
+    match hinted_room(rooms, candidate.hint, ranges) {
+        Some(k) if may_hold(k, candidate.over_call) => Some(Choice::Free(k)),
+        _ => free_room(rooms, candidate.over_call, ranges),
+    }
+}
+
+/// Of the registers of arguments by which the value of a part comes or goes the one that saves most, among those that are free.
+fn argument_room(rooms: &Rooms, balance: Balance, ranges: &[Range]) -> Option<usize> {
     let mut most = 0u64;
     let mut best = None;
     for argument in 0..8u8 {
         let number = usize::from(argument);
         let through = balance.through(number);
         if most < through && 0 < balance.net_in(number) {
-            if let Some(k) = room_by_hint(rooms, Some(argument), ranges) {
+            if let Some(k) = hinted_room(rooms, Some(argument), ranges) {
                 most = through;
                 best = Some(k);
             }
@@ -197,32 +210,25 @@ fn part_by_argument(rooms: &Rooms, balance: Balance, ranges: &[Range]) -> Option
     best
 }
 
-/// A register for a part of a lifetime, over no call: one that the value comes or goes in, or another that is free at these positions and saves something.
+/// The register for a part of a live interval, over no call: one that the value comes or goes in, or another that is free at these positions and saves something.
 pub(crate) fn room_for_part(
     rooms: &Rooms,
     hint: Option<u8>,
     balance: Balance,
     ranges: &[Range],
 ) -> Option<usize> {
-    if let Some(k) = part_by_argument(rooms, balance, ranges) {
+    if let Some(k) = argument_room(rooms, balance, ranges) {
         return Some(k);
     }
     if balance.net() == 0 {
         return None;
     }
-    if let Some(k) = room_by_hint(rooms, hint, ranges) {
+    if let Some(k) = hinted_room(rooms, hint, ranges) {
         return Some(k);
     }
-    let mut unused = None;
-    for k in 0..ROOMS {
-        if rooms.is_free(k, ranges) {
-            if k < 11 || rooms.is_used(k) {
-                return Some(k);
-            }
-            if unused.is_none() && 4 < balance.net() {
-                unused = Some(k);
-            }
-        }
+    match free_room(rooms, false, ranges) {
+        Some(Choice::Free(k)) => Some(k),
+        Some(Choice::Unused(k)) if 4 < balance.net() => Some(k),
+        _ => None,
     }
-    unused
 }

@@ -1,6 +1,6 @@
 //! Slots that are shared by groups that never have values at the same time.
-use crate::intervals::groups::Group;
-use crate::intervals::lifetimes::Lifetime;
+use crate::intervals::coalescing::Group;
+use crate::intervals::live_intervals::LiveInterval;
 use crate::intervals::positions::Range;
 use crate::lists::set;
 use std::alloc::{AllocError, Global};
@@ -57,12 +57,12 @@ fn push_events(events: &mut Vec<Event>, wish: usize, ranges: &[Range]) -> Result
 fn push_all_events(
     events: &mut Vec<Event>,
     groups: &[Group],
-    lifetimes: &[Lifetime],
+    intervals: &[LiveInterval],
     wishes: &[Wish],
 ) -> Result<(), AllocError> {
     for (k, wish) in wishes.iter().enumerate() {
         if let Some(group) = groups.get(wish.group) {
-            push_events(events, k, group.ranges(lifetimes))?;
+            push_events(events, k, group.ranges(intervals))?;
         }
     }
     events.sort()
@@ -130,11 +130,11 @@ fn follow_all(
     sharing: &mut Sharing,
     slots: &mut [usize],
     groups: &[Group],
-    lifetimes: &[Lifetime],
+    intervals: &[LiveInterval],
     wishes: &[Wish],
 ) -> Result<(), AllocError> {
     let mut events = Vec::with_capacity(alloc, wishes.len().saturating_mul(2))?;
-    push_all_events(&mut events, groups, lifetimes, wishes)?;
+    push_all_events(&mut events, groups, intervals, wishes)?;
     for event in events.as_slice() {
         follow(sharing, slots, wishes, *event)?;
     }
@@ -166,14 +166,14 @@ fn share(
     alloc: Global,
     slots: &mut [usize],
     groups: &[Group],
-    lifetimes: &[Lifetime],
+    intervals: &[LiveInterval],
     wishes: &[Wish],
 ) -> Result<(), AllocError> {
     let mut sharing = Sharing {
         shared: Vec::new(alloc),
         free: Vec::new(alloc),
     };
-    follow_all(alloc, &mut sharing, slots, groups, lifetimes, wishes)?;
+    follow_all(alloc, &mut sharing, slots, groups, intervals, wishes)?;
     sharing.shared.sort()?;
     number_all(alloc, sharing.shared.as_slice(), slots)
 }
@@ -186,10 +186,10 @@ fn share(
 pub(crate) fn shared_slots(
     alloc: Global,
     groups: &[Group],
-    lifetimes: &[Lifetime],
+    intervals: &[LiveInterval],
     wishes: &[Wish],
 ) -> Result<Vec<usize>, AllocError> {
     let mut slots = vec![in alloc; 0usize; wishes.len()]?;
-    share(alloc, slots.as_mut_slice(), groups, lifetimes, wishes)?;
+    share(alloc, slots.as_mut_slice(), groups, intervals, wishes)?;
     Ok(slots)
 }

@@ -1,5 +1,6 @@
 //! How many moves the ticks of a block pay for, and where.
 use crate::intervals::text::{Stretch, Text};
+use crate::lists::set;
 use std::alloc::{AllocError, Global};
 use vcode::code::Block;
 use vcode::cost::is_immediate;
@@ -21,6 +22,7 @@ pub(crate) struct Credit {
     before: Vec<Option<usize>>,
 }
 
+/// At most what reading the operand costs.
 fn operand_cost(operand: &Operand<u32>) -> u64 {
     match operand {
         Operand::At(_) => 3,
@@ -29,10 +31,12 @@ fn operand_cost(operand: &Operand<u32>) -> u64 {
     }
 }
 
+/// At most what reading both operands costs.
 fn operands_cost(left: &Operand<u32>, right: &Operand<u32>) -> u64 {
     operand_cost(left).saturating_add(operand_cost(right))
 }
 
+/// At most what the operation costs besides its operands.
 fn operation_cost(operation: Operation) -> u64 {
     match operation {
         Operation::Reg(_) | Operation::RegW(_) => 4,
@@ -61,6 +65,7 @@ fn line_cost(line: &Line<u32>) -> u64 {
     }
 }
 
+/// At most what the jump costs with any places.
 fn jump_cost(jump: &Jump<u32>) -> u64 {
     match jump {
         Jump::Goto(_) | Jump::Halt | Jump::Return(None) => 2,
@@ -69,7 +74,7 @@ fn jump_cost(jump: &Jump<u32>) -> u64 {
     }
 }
 
-/// The credit behind each point of the block.
+/// Adds the credit that is left behind each point of the block.
 fn spend_block(left: &mut Vec<u64>, block: &Block<u32>) -> Result<(), AllocError> {
     let mut credit = 0u64;
     for line in block.lines.as_slice() {
@@ -87,6 +92,7 @@ fn spend_block(left: &mut Vec<u64>, block: &Block<u32>) -> Result<(), AllocError
     Ok(())
 }
 
+/// The credit that is left behind each point.
 fn spend_blocks(alloc: Global, blocks: &[Block<u32>]) -> Result<Vec<u64>, AllocError> {
     let mut left = Vec::new(alloc);
     for block in blocks {
@@ -95,8 +101,8 @@ fn spend_blocks(alloc: Global, blocks: &[Block<u32>]) -> Result<Vec<u64>, AllocE
     Ok(left)
 }
 
-/// A move before a point must be paid for there and at all points behind it: the least credit of those.
-fn settle(left: &mut [u64], stretch: Stretch) {
+/// Lowers what is left behind each point of a block to the least of it and of all points behind, since a move before a point is paid for at all of those.
+fn lower(left: &mut [u64], stretch: Stretch) {
     let mut least = u64::MAX;
     for back in 0..stretch.jump.saturating_sub(stretch.first).saturating_add(1) {
         if let Some(at) = left.get_mut(stretch.jump.saturating_sub(back)) {
@@ -106,8 +112,8 @@ fn settle(left: &mut [u64], stretch: Stretch) {
     }
 }
 
-/// Of what is left behind each point of a block the moves that it pays for and no point before it does.
-fn set_moves(credit: &mut Credit, stretch: Stretch) {
+/// Counts for each point of a block the moves that what is left behind it pays for, but not what is left behind the point before it.
+fn count_moves(credit: &mut Credit, stretch: Stretch) {
     let mut paid = 0u64;
     for point in stretch.first..stretch.jump.saturating_add(1) {
         if let Some(moves) = credit.moves.get_mut(point) {
@@ -118,16 +124,6 @@ fn set_moves(credit: &mut Credit, stretch: Stretch) {
         match credit.before.get_mut(point) {
             Some(before) if stretch.first < point => *before = Some(point.saturating_sub(1)),
             _ => {}
-        }
-    }
-}
-
-impl Credit {
-    /// Nothing is paid for.
-    pub(crate) fn none(alloc: Global) -> Credit {
-        Credit {
-            moves: Vec::new(alloc),
-            before: Vec::new(alloc),
         }
     }
 }
@@ -146,23 +142,27 @@ pub(crate) fn credit_of(
     let before = vec![in alloc; None; moves.len()]?;
     let mut credit = Credit { moves, before };
     for stretch in text.stretches.iter() {
-        settle(credit.moves.as_mut_slice(), *stretch);
-        set_moves(&mut credit, *stretch);
+        lower(credit.moves.as_mut_slice(), *stretch);
+        count_moves(&mut credit, *stretch);
     }
     Ok(credit)
 }
 
 impl Credit {
+    /// Nothing is paid for.
+    pub(crate) fn none(alloc: Global) -> Credit {
+        Credit {
+            moves: Vec::new(alloc),
+            before: Vec::new(alloc),
+        }
+    }
+
     /// A point before this one that may pay for something; the way there is shortened.
     fn step(&mut self, point: usize) -> Option<usize> {
-        let Some(Some(before)) = self.before.get(point).copied() else {
-            return None;
-        };
+        let before = self.before.get(point).copied().flatten()?;
         let over = self.before.get(before).copied().flatten();
         if self.moves.get(before) == Some(&0) && over.is_some() {
-            if let Some(at) = self.before.get_mut(point) {
-                *at = over;
-            }
+            set(self.before.as_mut_slice(), point, over);
         }
         Some(before)
     }

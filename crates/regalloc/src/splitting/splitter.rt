@@ -1,4 +1,4 @@
-//! Splits the registers that no register of the machine is free for: in parts of their lifetimes one may be.
+//! Splits the registers that no register of the machine is free for: in parts of their live intervals one may be.
 use crate::intervals::accesses::Accesses;
 use crate::intervals::demands::accesses_of;
 use crate::parts::nodes::Nodes;

@@ -1,13 +1,13 @@
-//! Registers that are copied to one another and never have values at the same time: they may have one place, and then the copy is none.
+//! Coalescing: registers that are copied to one another and never have values at the same time may have one place, and then the copy is none.
 use crate::intervals::demands::{Copying, Demands};
-use crate::intervals::lifetimes::{Lifetime, ranges_of};
+use crate::intervals::live_intervals::{LiveInterval, ranges_of};
 use crate::intervals::positions::Range;
 use crate::lists::set;
 use il_ast::few::Few;
 use std::alloc::{AllocError, Global};
 use std::mem;
 
-/// Registers that may have one place.
+/// Coalesced registers, which have one place.
 #[derive(Drop)]
 pub(crate) struct Group {
     pub(crate) members: Few<u32>,
@@ -36,10 +36,10 @@ impl Group {
         Ok(group)
     }
 
-    /// The ranges of its registers in the order of the text, by the lifetimes of all registers.
-    pub(crate) fn ranges<'a>(&'a self, lifetimes: &'a [Lifetime]) -> &'a [Range] {
+    /// The ranges of its registers in the order of the text, by the live intervals of all registers.
+    pub(crate) fn ranges<'a>(&'a self, intervals: &'a [LiveInterval]) -> &'a [Range] {
         match self.members.as_slice() {
-            [register] => ranges_of(lifetimes, *register),
+            [register] => ranges_of(intervals, *register),
             _ => self.joined.as_slice(),
         }
     }
@@ -49,7 +49,7 @@ impl Group {
 #[derive(Drop)]
 pub(crate) struct Groups {
     pub(crate) groups: Vec<Group>,
-    pub(crate) of: Vec<usize>,
+    pub(crate) of_registers: Vec<usize>,
 }
 
 /// Of the next range on the left and on the right the one that starts first, and whether it is the left one.
@@ -93,7 +93,11 @@ fn join_ranges(
 /// Puts the registers into the group.
 fn push_members(groups: &mut Groups, group: usize, members: &[u32]) -> Result<(), AllocError> {
     for register in members {
-        set(groups.of.as_mut_slice(), *register as usize, group);
+        set(
+            groups.of_registers.as_mut_slice(),
+            *register as usize,
+            group,
+        );
         if let Some(into) = groups.groups.get_mut(group) {
             into.members.push(*register)?;
         }
@@ -113,15 +117,15 @@ fn size(groups: &Groups, group: usize) -> usize {
 fn joined(
     alloc: Global,
     groups: &Groups,
-    lifetimes: &[Lifetime],
+    intervals: &[LiveInterval],
     left: usize,
     right: usize,
 ) -> Result<Option<Vec<Range>>, AllocError> {
     let (Some(left), Some(right)) = (groups.groups.get(left), groups.groups.get(right)) else {
         return Ok(None);
     };
-    let left = left.ranges(lifetimes);
-    let right = right.ranges(lifetimes);
+    let left = left.ranges(intervals);
+    let right = right.ranges(intervals);
     let mut ranges = Vec::with_capacity(alloc, left.len().saturating_add(right.len()))?;
     if join_ranges(&mut ranges, left, right)? {
         Ok(Some(ranges))
@@ -154,11 +158,11 @@ fn join(
 fn try_join(
     alloc: Global,
     groups: &mut Groups,
-    lifetimes: &[Lifetime],
+    intervals: &[LiveInterval],
     left: usize,
     right: usize,
 ) -> Result<(), AllocError> {
-    match joined(alloc, groups, lifetimes, left, right)? {
+    match joined(alloc, groups, intervals, left, right)? {
         Some(ranges) => {
             if size(groups, left) < size(groups, right) {
                 join(alloc, groups, right, left, ranges)
@@ -173,8 +177,8 @@ fn try_join(
 /// The two groups that a copy leads between, if they are two.
 fn groups_between(groups: &Groups, copying: &Copying) -> Option<(usize, usize)> {
     match (
-        groups.of.get(copying.to as usize),
-        groups.of.get(copying.from as usize),
+        groups.of_registers.get(copying.to as usize),
+        groups.of_registers.get(copying.from as usize),
     ) {
         (Some(to), Some(from)) if to != from => Some((*to, *from)),
         _ => None,
@@ -182,9 +186,9 @@ fn groups_between(groups: &Groups, copying: &Copying) -> Option<(usize, usize)> 
 }
 
 /// How many ranges the group has.
-fn range_count(groups: &Groups, lifetimes: &[Lifetime], group: usize) -> usize {
+fn range_count(groups: &Groups, intervals: &[LiveInterval], group: usize) -> usize {
     match groups.groups.get(group) {
-        Some(group) => group.ranges(lifetimes).len(),
+        Some(group) => group.ranges(intervals).len(),
         None => 0,
     }
 }
@@ -196,17 +200,17 @@ const RANGES_A_REGISTER: usize = 256;
 fn join_copies(
     alloc: Global,
     groups: &mut Groups,
-    lifetimes: &[Lifetime],
+    intervals: &[LiveInterval],
     copies: &[Copying],
 ) -> Result<(), AllocError> {
-    let mut left = groups.of.len().saturating_mul(RANGES_A_REGISTER);
+    let mut left = groups.of_registers.len().saturating_mul(RANGES_A_REGISTER);
     for copying in copies.iter().rev() {
         if let Some((to, from)) = groups_between(groups, copying) {
-            let ranges = range_count(groups, lifetimes, to);
-            let cost = ranges.saturating_add(range_count(groups, lifetimes, from));
+            let ranges = range_count(groups, intervals, to);
+            let cost = ranges.saturating_add(range_count(groups, intervals, from));
             if cost <= left {
                 left = left - cost;
-                try_join(alloc, groups, lifetimes, to, from)?;
+                try_join(alloc, groups, intervals, to, from)?;
             }
         }
     }
@@ -217,7 +221,7 @@ fn join_copies(
 fn push_singles(alloc: Global, groups: &mut Groups, registers: u32) -> Result<(), AllocError> {
     for register in 0..registers {
         groups.groups.push(Group::single(alloc, register)?)?;
-        groups.of.push(register as usize)?;
+        groups.of_registers.push(register as usize)?;
     }
     Ok(())
 }
@@ -281,15 +285,15 @@ fn copies_by_pair(alloc: Global, copies: &[Copying]) -> Result<Vec<Copying>, All
 pub(crate) fn groups_of(
     alloc: Global,
     registers: u32,
-    lifetimes: &[Lifetime],
+    intervals: &[LiveInterval],
     demands: &Demands,
 ) -> Result<Groups, AllocError> {
     let mut groups = Groups {
         groups: Vec::with_capacity(alloc, registers as usize)?,
-        of: Vec::with_capacity(alloc, registers as usize)?,
+        of_registers: Vec::with_capacity(alloc, registers as usize)?,
     };
     push_singles(alloc, &mut groups, registers)?;
     let copies = copies_by_pair(alloc, demands.copies.as_slice())?;
-    join_copies(alloc, &mut groups, lifetimes, copies.as_slice())?;
+    join_copies(alloc, &mut groups, intervals, copies.as_slice())?;
     Ok(groups)
 }
