@@ -20,7 +20,7 @@
 //! `written` keep that. The layers above them in the table guess, and have no contracts: that no two registers meet in a place, and that moves are right, is for the
 //! checker (`alloc_check`) to see, which stands on `certificates` and knows nothing of this crate.
 //!
-//! The crate stands on `cfg_live` for liveness, on `loops` for the depths of blocks, on `vcode` for the code and its places, and on `certificates`, whose modules are
+//! The crate stands on `cfg_live` for liveness, on `flow` for the depths of blocks, on `vcode` for the code and its places, and on `certificates`, whose modules are
 //! here by the same names.
 #![tactic(auto)]
 
