@@ -412,10 +412,10 @@ fn credits(alloc: Global, blocks: &[Block<u32>]) -> Result<Vec<u128>, AllocError
 }
 
 fn push_to(blocks: &mut [BlockPlan], plan: Computation) -> Result<(), AllocError> {
-    if let Some(plans) = blocks.get_mut(plan.block) {
-        plans.behind.push(plan)?;
+    match blocks.get_mut(plan.block) {
+        Some(plans) => plans.behind.extend_from_slice(&[plan]),
+        None => Ok(()),
     }
-    Ok(())
 }
 
 /// The plans, block by block; with those for the lines of each block.
