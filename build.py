@@ -198,13 +198,13 @@ class Build:
         if not self.left and not self.running:
             return
         minutes = self.minutes_left()
-        rest = "" if minutes is None else ", less than a minute is left" if minutes == 0 else f", about {minutes} min are left"
+        rest = "" if minutes is None else ", less than a minute left" if minutes == 0 else f", about {minutes} min left"
         say(f"{len(self.proved)} of {self.count}: {crate.name} is proved{rest}")
 
     def run(self):
         """Proves and builds all that is left."""
         if self.left:
-            say(f"proving {len(self.left)} crates and building the program, {self.lanes} side by side")
+            say(f"proving {len(self.left)} of {self.count} crates, the program's among them, {self.lanes} side by side")
         try:
             while self.left or self.running:
                 self.start_ready()
