@@ -31,6 +31,9 @@ READING, COMPILING = 400, 2000
 # More jobs than this don't make a check faster.
 JOBS = 4
 
+# The crate in whose processor time that of a build is told too, so that builds on two machines can be compared.
+YARDSTICK = "bits"
+
 
 def say(*words):
     print("qbec:", *words, file=sys.stderr, flush=True)
@@ -145,8 +148,8 @@ class Build:
         self.chain = {}
         for crate in reversed(crates):
             self.chain[crate] = crate.weight + max((self.chain[it] for it in crates if crate in it.on), default=0)
-        # Of the checks that have ended: seconds, and weights.
-        self.seconds, self.weight = 0, 0
+        # Of the checks that have ended: seconds, weights, and for each crate the processor time.
+        self.seconds, self.weight, self.spent = 0, 0, {}
 
     def start(self, crate, jobs):
         crate.make_room()
@@ -176,9 +179,10 @@ class Build:
         whole = sum(crate.weight - done.get(crate, 0) for crate in left) / self.lanes
         return round(pace * max(whole, max(self.chain[crate] - done.get(crate, 0) for crate in left)) / 60)
 
-    def take(self, process, status):
+    def take(self, process, status, spent):
         """Takes the crate of a check that has ended for proved, or tries it once more where it was killed, most likely for memory."""
         crate, jobs, begun = self.running.pop(process)
+        self.spent[crate.name] = self.spent.get(crate.name, 0) + spent
         if status == -signal.SIGKILL and jobs > 1:
             self.start(crate, 1)
             return
@@ -205,15 +209,26 @@ class Build:
         """Proves and builds all that is left."""
         if self.left:
             say(f"proving {len(self.left)} of {self.count} crates, the program's among them, {self.lanes} side by side")
+        begun = time.monotonic()
         try:
             while self.left or self.running:
                 self.start_ready()
                 time.sleep(0.1)
                 for process in [*self.running]:
-                    if (status := process.poll()) is not None:
-                        self.take(process, status)
+                    ended, status, usage = os.wait4(process.pid, os.WNOHANG)
+                    if ended:
+                        process.returncode = os.waitstatus_to_exitcode(status)
+                        self.take(process, process.returncode, usage.ru_utime + usage.ru_stime)
         finally:
             self.stop()
+        if self.spent:
+            self.tell_times(time.monotonic() - begun)
+
+    def tell_times(self, seconds):
+        """Says how long the build took by the clock and in processor time, of a whole one also in times of the yardstick."""
+        spent = sum(self.spent.values())
+        unit = f", {spent / self.spent[YARDSTICK]:.0f} times that of {YARDSTICK}" if len(self.spent) == self.count and YARDSTICK in self.spent else ""
+        say(f"built in {seconds / 60:.1f} min by the clock, with {spent / 60:.1f} min of processor time{unit}")
 
     def stop(self):
         """Ends all checks, and what they started."""
