@@ -45,13 +45,13 @@ def fail(why):
 
 
 class Kit:
-    """The toolchain's folder, which has the command rt in bin/."""
+    """The toolchain's folder, in which the page is that `rt doc` names."""
 
     def __init__(self):
-        rt = shutil.which("rt")
-        if not rt:
-            fail("the program has to be built by rt of the Rattle toolchain, which is not on the PATH")
-        self.folder = pathlib.Path(rt).resolve().parent.parent
+        if not shutil.which("rt"):
+            fail("the program has to be built by the Rattle toolchain, whose command rt is not on the PATH")
+        page = subprocess.run(["rt", "doc"], check=True, stdout=subprocess.PIPE, text=True).stdout.strip()
+        self.folder = pathlib.Path(page).parent
         self.rattle = self.folder / "bin" / "rattle"
         self.library = self.folder / "rlibs"
         self.named = (self.folder / "WHAT").read_bytes()
