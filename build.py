@@ -31,6 +31,9 @@ READING, COMPILING = 400, 2000
 # More jobs than this don't make a check faster.
 JOBS = 4
 
+# The memory that a check may take, of those of the program.
+GIGABYTES = 4
+
 # The crate in whose processor time that of a build is told too, so that builds on two machines can be compared.
 YARDSTICK = "bits"
 
@@ -145,6 +148,8 @@ class Build:
         self.proved = [crate for crate in crates if crate.is_kept()]
         self.left = [crate for crate in crates if not crate.is_kept()]
         self.count, self.running = len(crates), {}
+        # Those that were killed, which get one job.
+        self.single = set()
         self.chain = {}
         for crate in reversed(crates):
             self.chain[crate] = crate.weight + max((self.chain[it] for it in crates if crate in it.on), default=0)
@@ -163,10 +168,10 @@ class Build:
         ready.sort(key=lambda crate: -self.chain[crate])
         for at, crate in enumerate(ready):
             idle = self.lanes - sum(jobs for _, jobs, _ in self.running.values())
-            if idle == 0:
+            if idle <= 0:
                 return
             self.left.remove(crate)
-            self.start(crate, min(JOBS, max(1, idle // (len(ready) - at))))
+            self.start(crate, 1 if crate in self.single else min(JOBS, max(1, idle // (len(ready) - at))))
 
     def minutes_left(self):
         """The minutes that the build still takes, by how long the checks took that have ended: those of all that is left, or of its longest chain. None where too little has ended."""
@@ -180,11 +185,14 @@ class Build:
         return round(pace * max(whole, max(self.chain[crate] - done.get(crate, 0) for crate in left)) / 60)
 
     def take(self, process, status, spent):
-        """Takes the crate of a check that has ended for proved, or tries it once more where it was killed, most likely for memory."""
+        """Takes the crate of a check that has ended for proved. One that was killed, most likely for memory, is tried once more, with one job, or with fewer checks side by side."""
         crate, jobs, begun = self.running.pop(process)
         self.spent[crate.name] = self.spent.get(crate.name, 0) + spent
-        if status == -signal.SIGKILL and jobs > 1:
-            self.start(crate, 1)
+        if status == -signal.SIGKILL and (jobs > 1 or self.lanes > 1):
+            say(f"the check of {crate.name} was killed, most likely for memory: once more")
+            self.lanes -= jobs == 1
+            self.left.append(crate)
+            self.single.add(crate)
             return
         if status == 0 and crate.is_program:
             status = subprocess.run(self.kit.linked(crate.made), stdin=subprocess.DEVNULL).returncode
@@ -242,7 +250,7 @@ class Build:
 
 def build():
     kit = Kit()
-    lanes = int(subprocess.run([ROOT / ".ci" / "lanes"], check=True, stdout=subprocess.PIPE, text=True).stdout)
+    lanes = int(subprocess.run([ROOT / ".ci" / "lanes", str(GIGABYTES)], check=True, stdout=subprocess.PIPE, text=True).stdout)
     begun = time.time()
     crates = read_crates()
     Build(kit, crates, lanes).run()
