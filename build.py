@@ -195,7 +195,8 @@ class Build:
             self.single.add(crate)
             return
         if status == 0 and crate.is_program:
-            status = subprocess.run(self.kit.linked(crate.made), stdin=subprocess.DEVNULL).returncode
+            with open(crate.log, "ab") as log:
+                status = subprocess.run(self.kit.linked(crate.made), stdin=subprocess.DEVNULL, stdout=log, stderr=subprocess.STDOUT).returncode
         if status:
             sys.stderr.write("".join(crate.log.read_text(errors="replace").splitlines(keepends=True)[-30:]))
             fail(f"{crate.name} is not proved: {crate.log} has all that its check said")
